@@ -1,0 +1,4 @@
+pub mod Sets
+pub mod Closed
+pub mod Machine
+pub mod Writes
