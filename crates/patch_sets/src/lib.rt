@@ -4,4 +4,6 @@
 //! each id p that is in it.
 #![tactic(auto)]
 
+pub mod order;
+pub mod set;
 pub mod write;
