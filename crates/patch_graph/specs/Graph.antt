@@ -3,6 +3,7 @@ use Rattle.std.specs.Prelude.{◌≡◌, ℕ, ◌+◌, ◌<◌, ◌≤◌, ◌�
 use Rattle.std.specs.List.{All}
 use Rattle.patch_sets.specs.Sets.{Has}
 use Rattle.patch_sets.specs.Closed.{AreEarlier}
+use Rattle.patch_graph.specs.declared.graph.TheConstants.{MAX_PATCHES}
 use Rattle.patch_graph.specs.declared.patch.Patch.{Patch}
 
 -- for each id the set of the patches that its patch depends on
@@ -35,7 +36,7 @@ OverlapsAt patches patch id = (earlier : Patch) × IsAt patches id earlier × Ov
 
 -- what each graph keeps
 pub record IsGraph (patches : List Patch) : Type 0 where
-  pub few : length patches ≤ 124
+  pub few : length patches ≤ MAX_PATCHES
   pub each : All IsPatch patches
   pub earlier : AreEarlier (deps_of patches)
   pub ordered : (p q : ℕ) (later : Patch) → p < q → IsAt patches q later → OverlapsAt patches later p → Has later.deps p

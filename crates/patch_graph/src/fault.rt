@@ -1,3 +1,7 @@
+ghost use Rattle.std.specs.Prelude.{◌≡◌};
+ghost use Rattle.patch_graph.specs.declared.fault.GraphFault.TheVariants as fault;
+
+use std::alloc::AllocFailed;
 use thiserror::Error;
 
 /// Why a graph takes no further patch.
@@ -8,4 +12,12 @@ pub enum GraphFault {
     TooManyPatches,
     #[error("99 out of memory")]
     OutOfMemory,
+}
+
+impl<T: Drop> From<AllocFailed<T>> for GraphFault {
+    ghost from_gives = { λ _ e. e ≡ fault.OutOfMemory };
+
+    fn from(_failed: AllocFailed<T>) -> GraphFault {
+        GraphFault::OutOfMemory
+    }
 }
