@@ -1,0 +1,50 @@
+-- A disk image as a value: its numbers of blocks, and its bytes, block after block.
+use Rattle.std.specs.Prelude.{◌≡◌, ℕ, ◌+◌, ◌*◌, ◌≤◌, List, [], ◌∷◌, ◌++◌, length, take, drop, slice_index, replicate}
+
+pub record Disk : Type 0 where
+  pub blocks : ℕ
+  pub journal : ℕ
+  pub bytes : List ℕ
+
+-- the numbers of blocks that a disk may have
+pub record IsGeometry (blocks journal : ℕ) : Type 0 where
+  pub least : 16 ≤ blocks
+  pub most : blocks ≤ 128
+  pub room : journal + 6 ≤ blocks
+
+-- 16 to 128 blocks of 128 bytes, of which the journal leaves at least six
+pub record IsDisk (d : Disk) : Type 0 where
+  pub least : 16 ≤ d.blocks
+  pub most : d.blocks ≤ 128
+  pub room : d.journal + 6 ≤ d.blocks
+  pub whole : length d.bytes ≡ 128 * d.blocks
+
+-- the byte of a block at an offset
+abbrev pub byte : Disk → ℕ → ℕ → ℕ
+byte d block offset = slice_index d.bytes (128 * block + offset)
+
+-- a block's bytes
+abbrev pub block_of : Disk → ℕ → List ℕ
+block_of d block = take 128 (drop (128 * block) d.bytes)
+
+-- the list with the new bytes in the place of those from `at` on
+unfoldable pub overwrite : List ℕ → ℕ → List ℕ → List ℕ
+overwrite xs at new = take at xs ++ new ++ drop (at + length new) xs
+
+-- the disk with the new bytes in a block from an offset on
+abbrev pub put : Disk → ℕ → ℕ → List ℕ → Disk
+put d block offset new = record d { bytes = overwrite d.bytes (128 * block + offset) new }
+
+-- all bytes 0
+abbrev pub blank : ℕ → ℕ → Disk
+blank blocks journal = record { blocks = blocks; journal = journal; bytes = replicate (128 * blocks) 0 }
+
+-- A new disk: the superblock; in use are the blocks up to the root's; inode 0 is a directory
+-- with one link and the root's block; the root's block is marked as that of inode 0; all else is 0.
+abbrev pub formatted : ℕ → ℕ → Disk
+formatted blocks journal =
+    put (put (put (put (blank blocks journal)
+    0 0 (0x53 ∷ blocks ∷ journal ∷ []))
+    1 0 (replicate (5 + journal) 1))
+    2 0 (2 ∷ 1 ∷ 0 ∷ 0 ∷ (4 + journal) ∷ []))
+    (4 + journal) 0 (0x44 ∷ 0 ∷ [])

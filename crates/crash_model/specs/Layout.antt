@@ -1,0 +1,56 @@
+-- What the bytes of a disk mean. Inodes are in blocks 2 and 3, 16 bytes each, so inode i begins at byte 256 + 16 * i.
+use Rattle.std.specs.Prelude.{ℕ, ◌+◌, ◌-◌, ◌*◌, List, take, drop, slice_index, Bool, ◌&&◌, ◌==◌, not, nat_le, nat_lt}
+use Rattle.crash_model.specs.Disk.{Disk, byte}
+
+-- 0 free, 1 file, 2 directory
+abbrev pub kind_of : Disk → ℕ → ℕ
+kind_of d inode = slice_index d.bytes (256 + 16 * inode)
+
+abbrev pub links_of : Disk → ℕ → ℕ
+links_of d inode = slice_index d.bytes (257 + 16 * inode)
+
+-- the block in a slot, or 0
+abbrev pub pointer_of : Disk → ℕ → ℕ → ℕ
+pointer_of d inode slot = slice_index d.bytes (260 + 16 * inode + slot)
+
+-- the allocation map's byte of a block
+abbrev pub map_of : Disk → ℕ → ℕ
+map_of d block = slice_index d.bytes (128 + block)
+
+-- inodes 0 to 15 whose kind is not 0
+abbrev pub is_live : Disk → ℕ → Bool
+is_live d inode = nat_lt inode 16 && not (kind_of d inode == 0)
+
+-- a block of the data area
+abbrev pub is_data : Disk → ℕ → Bool
+is_data d block = nat_le (4 + d.journal) block && nat_lt block d.blocks
+
+-- a directory whose slot 0 names a block of the data area that is marked as its own
+abbrev pub counts : Disk → ℕ → Bool
+counts d dir =
+    let block = pointer_of d dir 0 in
+    kind_of d dir == 2 && is_data d block && byte d block 0 == 0x44 && byte d block 1 == dir
+
+-- where entry k of a directory begins in its block
+abbrev pub entry_offset : ℕ → ℕ
+entry_offset k = 8 + 12 * k
+
+-- byte 0 of entry k: 0, or the inode's number + 1
+abbrev pub entry_of : Disk → ℕ → ℕ → ℕ
+entry_of d dir k = byte d (pointer_of d dir 0) (entry_offset k)
+
+-- an entry of a directory that counts, which is not free
+abbrev pub is_entry : Disk → ℕ → ℕ → Bool
+is_entry d dir k = counts d dir && not (entry_of d dir k == 0)
+
+-- the inode that an entry names
+abbrev pub target_of : Disk → ℕ → ℕ → ℕ
+target_of d dir k = entry_of d dir k - 1
+
+-- an entry's name with its length before it and zeros behind it
+abbrev pub spelling_of : Disk → ℕ → ℕ → List ℕ
+spelling_of d dir k = take 11 (drop (128 * pointer_of d dir 0 + entry_offset k + 1) d.bytes)
+
+-- a slot of a live inode that is not 0
+abbrev pub is_pointer : Disk → ℕ → ℕ → Bool
+is_pointer d inode slot = is_live d inode && not (pointer_of d inode slot == 0)

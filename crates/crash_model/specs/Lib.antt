@@ -1,0 +1,17 @@
+pub mod Lists
+pub mod Names
+pub mod Refusals
+pub mod Disk
+pub mod Layout
+pub mod Faults
+pub mod Plan
+pub mod View
+pub mod Sound
+pub mod Meaning
+pub mod Patches
+pub mod Replay
+pub mod Trace
+pub mod Failing
+pub mod Report
+pub mod Script
+pub mod Answer

@@ -1,0 +1,185 @@
+-- What each operation means for a disk's view, and when it is refused.
+use Rattle.std.specs.Prelude.{◌≡◌, ◌≢◌, ℕ, ◌+◌, ◌<◌, ◌≤◌, ◌⊎◌, ◌↔◌, List, [], ◌∷◌}
+use Rattle.crash_model.specs.View.{View}
+use Rattle.crash_model.specs.declared.names.Path.{Path}
+use Rattle.crash_model.specs.declared.names.Op.{Op}
+use Rattle.crash_model.specs.declared.names.Op.TheVariants.{Create, Write, Link, Unlink, Rename, Mkdir, Rmdir}
+use Rattle.crash_model.specs.declared.refusals.FsFault.{FsFault}
+use Rattle.crash_model.specs.declared.refusals.FsFault.TheVariants.{NotFound, NotADirectory, Exists, NotAFile, NotEmpty, NoInode, NoBlock, DirectoryFull, FileFull, LinksFull}
+
+-- ---- what is gained and lost
+
+abbrev pub nothing : View
+nothing = record { name = λ _ _ _. ⊥; inode = λ _ _ _. ⊥; pointer = λ _ _ _. ⊥; used = λ _. ⊥ }
+
+abbrev pub with_name : View → ℕ → List ℕ → ℕ → View
+with_name v dir name inode = record v { name = λ d n i. (d ≡ dir) × (n ≡ name) × (i ≡ inode) }
+
+abbrev pub with_inode : View → ℕ → ℕ → ℕ → View
+with_inode v inode kind links = record v { inode = λ i k l. (i ≡ inode) × (k ≡ kind) × (l ≡ links) }
+
+abbrev pub with_block : View → ℕ → ℕ → ℕ → View
+with_block v inode slot block = record v { pointer = λ i s b. (i ≡ inode) × (s ≡ slot) × (b ≡ block); used = λ b. b ≡ block }
+
+-- an inode with all that it has, in a view
+abbrev pub with_all_of : View → View → ℕ → View
+with_all_of v old inode = record v {
+  inode = λ i _ _. i ≡ inode;
+  pointer = λ i _ _. i ≡ inode;
+  used = λ b. (s : ℕ) × old.pointer inode s b;
+}
+
+-- the new set has what the old one had and was not lost, and what was gained
+pub record Becomes (old new gained lost : View) : Type 0 where
+  pub names : (dir : ℕ) (name : List ℕ) (i : ℕ) → (new.name dir name i ↔ ((old.name dir name i × (¬ (lost.name dir name i))) ⊎ gained.name dir name i))
+  pub inodes : (i kind links : ℕ) → (new.inode i kind links ↔ ((old.inode i kind links × (¬ (lost.inode i kind links))) ⊎ gained.inode i kind links))
+  pub pointers : (i s b : ℕ) → (new.pointer i s b ↔ ((old.pointer i s b × (¬ (lost.pointer i s b))) ⊎ gained.pointer i s b))
+  pub used_blocks : (b : ℕ) → (new.used b ↔ ((old.used b × (¬ (lost.used b))) ⊎ gained.used b))
+
+pub record IsLowest (P : ℕ → Type 0) (n : ℕ) : Type 0 where
+  pub here : P n
+  pub lower : (m : ℕ) → m < n → ¬ (P m)
+
+abbrev pub IsInode : View → ℕ → Type 0
+IsInode v i = (kind : ℕ) × (links : ℕ) × v.inode i kind links
+
+abbrev pub IsFreeInode : View → ℕ → Type 0
+IsFreeInode v i = (i < 16) × (¬ (IsInode v i))
+
+abbrev pub IsFreeBlock : ℕ → ℕ → View → ℕ → Type 0
+IsFreeBlock blocks journal v b = (4 + journal ≤ b) × (b < blocks) × (¬ (v.used b))
+
+abbrev pub IsFreeSlot : View → ℕ → ℕ → Type 0
+IsFreeSlot v i s = (s < 4) × ((b : ℕ) → ¬ (v.pointer i s b))
+
+-- ---- the eight rows
+
+pub record MeansCreate (old new : View) (dir : ℕ) (name : List ℕ) : Type 0 where
+  pub inode : ℕ
+  pub lowest : IsLowest (IsFreeInode old) inode
+  pub becomes : Becomes old new (with_inode (with_name nothing dir name inode) inode 1 1) nothing
+
+pub record MeansWrite (blocks journal : ℕ) (old new : View) (target : ℕ) : Type 0 where
+  pub slot : ℕ
+  pub block : ℕ
+  pub lowest_slot : IsLowest (IsFreeSlot old target) slot
+  pub lowest_block : IsLowest (IsFreeBlock blocks journal old) block
+  pub becomes : Becomes old new (with_block nothing target slot block) nothing
+
+pub record MeansLink (old new : View) (target dir : ℕ) (name : List ℕ) : Type 0 where
+  pub links : ℕ
+  pub had : old.inode target 1 links
+  pub becomes : Becomes old new (with_inode (with_name nothing dir name target) target 1 (links + 1)) (with_inode nothing target 1 links)
+
+-- `unlink` where other names are left
+pub record MeansUnlinkOne (old new : View) (dir : ℕ) (name : List ℕ) (target : ℕ) : Type 0 where
+  pub left : ℕ
+  pub some : 0 < left
+  pub had : old.inode target 1 (left + 1)
+  pub becomes : Becomes old new (with_inode nothing target 1 left) (with_inode (with_name nothing dir name target) target 1 (left + 1))
+
+-- `unlink` of the last name
+pub record MeansUnlinkLast (old new : View) (dir : ℕ) (name : List ℕ) (target : ℕ) : Type 0 where
+  pub had : old.inode target 1 1
+  pub becomes : Becomes old new nothing (with_all_of (with_name nothing dir name target) old target)
+
+pub record MeansRename (old new : View) (old_dir : ℕ) (old_name : List ℕ) (target dir : ℕ) (name : List ℕ) : Type 0 where
+  pub becomes : Becomes old new (with_name nothing dir name target) (with_name nothing old_dir old_name target)
+
+pub record MeansMkdir (blocks journal : ℕ) (old new : View) (dir : ℕ) (name : List ℕ) : Type 0 where
+  pub inode : ℕ
+  pub block : ℕ
+  pub lowest_inode : IsLowest (IsFreeInode old) inode
+  pub lowest_block : IsLowest (IsFreeBlock blocks journal old) block
+  pub becomes : Becomes old new (with_block (with_inode (with_name nothing dir name inode) inode 2 1) inode 0 block) nothing
+
+pub record MeansRmdir (old new : View) (dir : ℕ) (name : List ℕ) (target : ℕ) : Type 0 where
+  pub had : old.inode target 2 1
+  pub becomes : Becomes old new nothing (with_all_of (with_name nothing dir name target) old target)
+
+-- ---- where paths lead
+
+abbrev pub IsKind : View → ℕ → ℕ → Type 0
+IsKind v i kind = (links : ℕ) × v.inode i kind links
+
+abbrev pub LeadsTo : View → ℕ → List ℕ → Type 0
+LeadsTo v dir name = (i : ℕ) × v.name dir name i
+
+abbrev pub Walks : View → ℕ → List (List ℕ) → ℕ → Type 0
+Walks v from [] to = to ≡ from
+Walks v from (name ∷ names) to = (child : ℕ) × v.name from name child × IsKind v child 2 × Walks v child names to
+
+-- the first name that fails decides
+abbrev pub WalkFails : View → ℕ → List (List ℕ) → FsFault → Type 0
+WalkFails v from [] fault = ⊥
+WalkFails v from (name ∷ names) fault =
+    ((¬ (LeadsTo v from name)) × (fault ≡ NotFound))
+    ⊎ ((child : ℕ) × v.name from name child × (((¬ (IsKind v child 2)) × (fault ≡ NotADirectory)) ⊎ (IsKind v child 2 × WalkFails v child names fault)))
+
+-- ---- what an operation means, from the directories that its paths lead to
+
+-- the directory that a path's names but the last lead to
+abbrev pub IsParent : View → Path → ℕ → Type 0
+IsParent v path dir = Walks v 0 path.through.items dir
+
+-- the inode that a path leads to, and its directory
+abbrev pub IsTarget : View → Path → ℕ → ℕ → Type 0
+IsTarget v path dir inode = IsParent v path dir × v.name dir path.last inode
+
+abbrev pub Means : ℕ → ℕ → View → View → Op → Type 0
+Means blocks journal old new (Create path) = (dir : ℕ) × IsParent old path dir × MeansCreate old new dir path.last
+Means blocks journal old new (Write path) = (dir : ℕ) × (target : ℕ) × IsTarget old path dir target × MeansWrite blocks journal old new target
+Means blocks journal old new (Link path link) = (old_dir : ℕ) × (target : ℕ) × (dir : ℕ) × IsTarget old path old_dir target × IsParent old link dir × MeansLink old new target dir link.last
+Means blocks journal old new (Unlink path) = (dir : ℕ) × (target : ℕ) × IsTarget old path dir target × (MeansUnlinkOne old new dir path.last target ⊎ MeansUnlinkLast old new dir path.last target)
+Means blocks journal old new (Rename path link) = (old_dir : ℕ) × (target : ℕ) × (dir : ℕ) × IsTarget old path old_dir target × IsParent old link dir × MeansRename old new old_dir path.last target dir link.last
+Means blocks journal old new (Mkdir path) = (dir : ℕ) × IsParent old path dir × MeansMkdir blocks journal old new dir path.last
+Means blocks journal old new (Rmdir path) = (dir : ℕ) × (target : ℕ) × IsTarget old path dir target × MeansRmdir old new dir path.last target
+
+-- ---- refusals: the first test that fails decides
+
+pub record Test : Type 1 where
+  pub fails : Type 0
+  pub fault : FsFault
+
+abbrev pub RefusedBy : List Test → FsFault → Type 0
+RefusedBy [] fault = ⊥
+RefusedBy (test ∷ tests) fault = (test.fails × (fault ≡ test.fault)) ⊎ ((¬ test.fails) × RefusedBy tests fault)
+
+abbrev pub test : Type 0 → FsFault → Test
+test fails fault = record { fails = fails; fault = fault }
+
+-- ten different names
+abbrev pub IsFull : View → ℕ → Type 0
+IsFull v dir = (name : ℕ → List ℕ) × ((k : ℕ) → k < 10 → LeadsTo v dir (name k)) × ((j k : ℕ) → j < k → k < 10 → name j ≢ name k)
+
+abbrev pub NoInodeLeft : View → Type 0
+NoInodeLeft v = (i : ℕ) → i < 16 → IsInode v i
+
+abbrev pub NoBlockLeft : ℕ → ℕ → View → Type 0
+NoBlockLeft blocks journal v = (b : ℕ) → ¬ (IsFreeBlock blocks journal v b)
+
+-- at the directory and the name of a path
+abbrev pub AtPath : View → Path → (ℕ → FsFault → Type 0) → FsFault → Type 0
+AtPath v path Then fault = WalkFails v 0 path.through.items fault ⊎ ((dir : ℕ) × IsParent v path dir × Then dir fault)
+
+-- and at the inode that it leads to
+abbrev pub AtName : View → Path → (ℕ → ℕ → FsFault → Type 0) → FsFault → Type 0
+AtName v path Then fault = AtPath v path (λ dir f. ((¬ (LeadsTo v dir path.last)) × (f ≡ NotFound)) ⊎ ((i : ℕ) × v.name dir path.last i × Then dir i f)) fault
+
+abbrev pub Relinks : View → Path → Path → FsFault → Type 0
+Relinks v old new = AtName v old (λ _ i. AtPath v new (λ dir. RefusedBy
+    (test (LeadsTo v dir new.last) Exists ∷ test (¬ (IsKind v i 1)) NotAFile ∷ test (IsFull v dir) DirectoryFull
+    ∷ test (v.inode i 1 8) LinksFull ∷ [])))
+
+abbrev pub IsRefused : ℕ → ℕ → View → Op → FsFault → Type 0
+IsRefused blocks journal v (Create path) = AtPath v path (λ dir. RefusedBy
+    (test (LeadsTo v dir path.last) Exists ∷ test (NoInodeLeft v) NoInode ∷ test (IsFull v dir) DirectoryFull ∷ []))
+IsRefused blocks journal v (Write path) = AtName v path (λ _ i. RefusedBy
+    (test (¬ (IsKind v i 1)) NotAFile ∷ test (NoBlockLeft blocks journal v) NoBlock ∷ test ((s : ℕ) → ¬ (IsFreeSlot v i s)) FileFull ∷ []))
+IsRefused blocks journal v (Link old new) = Relinks v old new
+IsRefused blocks journal v (Unlink path) = AtName v path (λ _ i. RefusedBy (test (¬ (IsKind v i 1)) NotAFile ∷ []))
+IsRefused blocks journal v (Rename old new) = Relinks v old new
+IsRefused blocks journal v (Mkdir path) = AtPath v path (λ dir. RefusedBy
+    (test (LeadsTo v dir path.last) Exists ∷ test (NoInodeLeft v) NoInode ∷ test (NoBlockLeft blocks journal v) NoBlock ∷ test (IsFull v dir) DirectoryFull ∷ []))
+IsRefused blocks journal v (Rmdir path) = AtName v path (λ _ i. RefusedBy
+    (test (¬ (IsKind v i 2)) NotADirectory ∷ test ((name : List ℕ) × LeadsTo v i name) NotEmpty ∷ []))

@@ -1,0 +1,61 @@
+//! What a checker can find wrong with an image.
+
+use std::fmt;
+
+/// A fault of an image. Its text is what a report shows of it.
+///
+/// `dir` and `inode` are inode numbers, `entry` a place in a directory from 0 to 9, `slot` a pointer's place from 0
+/// to 3, `block` a block number, `entries` the number of directory entries that name the inode and `links` its link
+/// count.
+#[derive(Clone, Copy, Debug, PartialEq, Eq, Drop)]
+pub enum Fault {
+    /// A directory entry that names no live inode.
+    Dangling { dir: u8, entry: u8, inode: u8 },
+    /// A block that two pointers name.
+    Twice { block: u8 },
+    /// A pointer to a block that is not marked as the inode's.
+    Unwritten { inode: u8, slot: u8, block: u8 },
+    /// An inode that more entries name than its link count says.
+    LowLinks { inode: u8, entries: u8, links: u8 },
+    /// A pointer to a block that the allocation map has as free.
+    MarkedFree { inode: u8, slot: u8, block: u8 },
+    /// A pointer that names no block of the data area.
+    Wild { inode: u8, slot: u8, block: u8 },
+}
+
+impl fmt::Display for Fault {
+    ghost use Rattle.std.specs.Prelude.{Some};
+    ghost use Rattle.crash_model.specs.Report.{fault_text};
+
+    ghost output = { λ f. Some (fault_text f) };
+
+    #[tactic(auto, unfolding(crate::specs::Report::fault_text))]
+    fn fmt<W: fmt::Write>(&self, f: &mut fmt::Formatter<W>) -> fmt::Result {
+        match *self {
+            Fault::Dangling { dir, entry, inode } => write!(
+                f,
+                "1 dangling entry: directory {dir} entry {entry} inode {inode}"
+            ),
+            Fault::Twice { block } => write!(f, "2 block used twice: block {block}"),
+            Fault::Unwritten { inode, slot, block } => write!(
+                f,
+                "3 unwritten pointer: inode {inode} slot {slot} block {block}"
+            ),
+            Fault::LowLinks {
+                inode,
+                entries,
+                links,
+            } => write!(
+                f,
+                "4 low link count: inode {inode} entries {entries} links {links}"
+            ),
+            Fault::MarkedFree { inode, slot, block } => write!(
+                f,
+                "5 used block marked free: inode {inode} slot {slot} block {block}"
+            ),
+            Fault::Wild { inode, slot, block } => {
+                write!(f, "6 wild pointer: inode {inode} slot {slot} block {block}")
+            }
+        }
+    }
+}

@@ -1,0 +1,14 @@
+//! What crashmap speaks of: names, operations, changes, patches, steps, faults and refusals.
+//!
+//! The definitions that contracts cite stand in `specs/`: the disk and its layout, what operations change, the
+//! patches of a script and their dependencies, replay, the checker's faults, the sets that fail, the script, the
+//! report and the answer. None of them is code; the crates above are proved to meet them.
+#![tactic(auto)]
+
+pub mod fault;
+pub mod names;
+pub mod patches;
+pub mod plans;
+pub mod refusals;
+pub mod settings;
+pub mod steps;

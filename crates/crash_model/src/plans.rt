@@ -1,0 +1,36 @@
+//! Changes that operations make.
+
+use arrayvec::ArrayVec;
+
+/// What a change is for.
+///
+/// `InodeInit` and `InodeFree` write a whole inode, `EntrySet` and `EntryClear` a directory entry, `MapSet` and
+/// `MapClear` a block's byte of the allocation map, `InitFile` and `InitDir` a new block, `Ptr` a block pointer,
+/// `LinkUp` and `LinkDown` a link count.
+#[derive(Clone, Copy, Debug, PartialEq, Eq, Default)]
+pub enum Role {
+    #[default]
+    InodeInit,
+    EntrySet,
+    EntryClear,
+    MapSet,
+    MapClear,
+    InitFile,
+    InitDir,
+    Ptr,
+    LinkUp,
+    LinkDown,
+    InodeFree,
+}
+
+/// New bytes for a range of one block: those from byte `offset` of block `block` on.
+#[derive(Default, Drop)]
+pub struct Change {
+    pub block: u8,
+    pub offset: u8,
+    pub new: ArrayVec<u8, 128>,
+    pub role: Role,
+}
+
+/// The changes of an operation, in the order in which they are emitted.
+pub type Plan = ArrayVec<Change, 8>;

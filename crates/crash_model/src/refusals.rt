@@ -1,0 +1,295 @@
+//! Refusals. Each has a number, a name and a text; its `Display` writes the number, a space and the text.
+
+ghost use Rattle.std.specs.Prelude.{◌≡◌, ℕ, Some, None};
+ghost use Rattle.crash_model.specs.Refusals.{trace_fault, run_line};
+
+use std::alloc::{AllocError, AllocFailed};
+use thiserror::Error;
+
+/// Why an operation is refused on an image.
+#[derive(Clone, Copy, Debug, PartialEq, Eq, Error)]
+pub enum FsFault {
+    #[error("10 not found")]
+    NotFound,
+    #[error("11 not a directory")]
+    NotADirectory,
+    #[error("12 exists")]
+    Exists,
+    #[error("13 not a file")]
+    NotAFile,
+    #[error("14 not empty")]
+    NotEmpty,
+    #[error("15 no free inode")]
+    NoInode,
+    #[error("16 no free block")]
+    NoBlock,
+    #[error("17 directory full")]
+    DirectoryFull,
+    #[error("18 file full")]
+    FileFull,
+    #[error("19 too many links")]
+    LinksFull,
+}
+
+impl FsFault {
+    /// The same refusal, of a step on this line.
+    pub fn at_line(self, line: usize) -> TraceFault
+        ensures { result ≡ trace_fault line self }
+    {
+        match self {
+            FsFault::NotFound => TraceFault::NotFound { line },
+            FsFault::NotADirectory => TraceFault::NotADirectory { line },
+            FsFault::Exists => TraceFault::Exists { line },
+            FsFault::NotAFile => TraceFault::NotAFile { line },
+            FsFault::NotEmpty => TraceFault::NotEmpty { line },
+            FsFault::NoInode => TraceFault::NoInode { line },
+            FsFault::NoBlock => TraceFault::NoBlock { line },
+            FsFault::DirectoryFull => TraceFault::DirectoryFull { line },
+            FsFault::FileFull => TraceFault::FileFull { line },
+            FsFault::LinksFull => TraceFault::LinksFull { line },
+        }
+    }
+}
+
+/// Why a step is refused, and its line, from 1; or want of memory.
+#[derive(Clone, Copy, Debug, PartialEq, Eq, Error)]
+pub enum TraceFault {
+    #[error("2 too many patches")]
+    TooManyPatches { line: usize },
+    #[error("10 not found")]
+    NotFound { line: usize },
+    #[error("11 not a directory")]
+    NotADirectory { line: usize },
+    #[error("12 exists")]
+    Exists { line: usize },
+    #[error("13 not a file")]
+    NotAFile { line: usize },
+    #[error("14 not empty")]
+    NotEmpty { line: usize },
+    #[error("15 no free inode")]
+    NoInode { line: usize },
+    #[error("16 no free block")]
+    NoBlock { line: usize },
+    #[error("17 directory full")]
+    DirectoryFull { line: usize },
+    #[error("18 file full")]
+    FileFull { line: usize },
+    #[error("19 too many links")]
+    LinksFull { line: usize },
+    #[error("20 journal full")]
+    JournalFull { line: usize },
+    #[error("21 group fault")]
+    GroupFault { line: usize },
+    #[error("99 out of memory")]
+    OutOfMemory,
+}
+
+/// Why a script is refused, and the first refused line, from 1; or want of memory.
+///
+/// A script without a start line is refused at the number of its lines plus 1.
+#[derive(Clone, Copy, Debug, PartialEq, Eq, Error)]
+pub enum ScriptFault {
+    #[error("40 not UTF-8")]
+    BadUtf8 { line: usize },
+    #[error("41 bad line")]
+    BadLine { line: usize },
+    #[error("42 bad path")]
+    BadPath { line: usize },
+    #[error("43 no start line")]
+    NoStart { line: usize },
+    #[error("99 out of memory")]
+    OutOfMemory,
+}
+
+/// Why a run is refused: a variant for each refusal of the product.
+#[derive(Clone, Copy, Debug, PartialEq, Eq, Error)]
+pub enum RunFault {
+    #[error("1 bad geometry")]
+    BadGeometry,
+    #[error("2 too many patches")]
+    TooManyPatches { line: usize },
+    #[error("10 not found")]
+    NotFound { line: usize },
+    #[error("11 not a directory")]
+    NotADirectory { line: usize },
+    #[error("12 exists")]
+    Exists { line: usize },
+    #[error("13 not a file")]
+    NotAFile { line: usize },
+    #[error("14 not empty")]
+    NotEmpty { line: usize },
+    #[error("15 no free inode")]
+    NoInode { line: usize },
+    #[error("16 no free block")]
+    NoBlock { line: usize },
+    #[error("17 directory full")]
+    DirectoryFull { line: usize },
+    #[error("18 file full")]
+    FileFull { line: usize },
+    #[error("19 too many links")]
+    LinksFull { line: usize },
+    #[error("20 journal full")]
+    JournalFull { line: usize },
+    #[error("21 group fault")]
+    GroupFault { line: usize },
+    #[error("30 too many closed sets")]
+    TooMany,
+    #[error("40 not UTF-8")]
+    BadUtf8 { line: usize },
+    #[error("41 bad line")]
+    BadLine { line: usize },
+    #[error("42 bad path")]
+    BadPath { line: usize },
+    #[error("43 no start line")]
+    NoStart { line: usize },
+    #[error("50 cannot read the script")]
+    CannotRead,
+    #[error("51 cannot write the report")]
+    CannotWrite,
+    #[error("52 script too long")]
+    ScriptTooLong,
+    #[error("99 out of memory")]
+    OutOfMemory,
+}
+
+impl RunFault {
+    /// The number of the line that is refused, from 1, where the refusal has one.
+    pub fn line(&self) -> Option<usize>
+        ensures { result ≡ run_line self.now }
+    {
+        match *self {
+            RunFault::TooManyPatches { line }
+            | RunFault::NotFound { line }
+            | RunFault::NotADirectory { line }
+            | RunFault::Exists { line }
+            | RunFault::NotAFile { line }
+            | RunFault::NotEmpty { line }
+            | RunFault::NoInode { line }
+            | RunFault::NoBlock { line }
+            | RunFault::DirectoryFull { line }
+            | RunFault::FileFull { line }
+            | RunFault::LinksFull { line }
+            | RunFault::JournalFull { line }
+            | RunFault::GroupFault { line }
+            | RunFault::BadUtf8 { line }
+            | RunFault::BadLine { line }
+            | RunFault::BadPath { line }
+            | RunFault::NoStart { line } => Some(line),
+            RunFault::BadGeometry
+            | RunFault::TooMany
+            | RunFault::CannotRead
+            | RunFault::CannotWrite
+            | RunFault::ScriptTooLong
+            | RunFault::OutOfMemory => None,
+        }
+    }
+}
+
+impl From<ScriptFault> for RunFault {
+    ghost use Rattle.std.specs.Prelude.{◌≡◌};
+    ghost use Rattle.crash_model.specs.Refusals.{run_of_script};
+
+    ghost from_gives = { λ fault run_fault. run_fault ≡ run_of_script fault };
+
+    fn from(fault: ScriptFault) -> RunFault {
+        match fault {
+            ScriptFault::BadUtf8 { line } => RunFault::BadUtf8 { line },
+            ScriptFault::BadLine { line } => RunFault::BadLine { line },
+            ScriptFault::BadPath { line } => RunFault::BadPath { line },
+            ScriptFault::NoStart { line } => RunFault::NoStart { line },
+            ScriptFault::OutOfMemory => RunFault::OutOfMemory,
+        }
+    }
+}
+
+impl From<TraceFault> for RunFault {
+    ghost use Rattle.std.specs.Prelude.{◌≡◌};
+    ghost use Rattle.crash_model.specs.Refusals.{run_of_trace};
+
+    ghost from_gives = { λ fault run_fault. run_fault ≡ run_of_trace fault };
+
+    fn from(fault: TraceFault) -> RunFault {
+        match fault {
+            TraceFault::TooManyPatches { line } => RunFault::TooManyPatches { line },
+            TraceFault::NotFound { line } => RunFault::NotFound { line },
+            TraceFault::NotADirectory { line } => RunFault::NotADirectory { line },
+            TraceFault::Exists { line } => RunFault::Exists { line },
+            TraceFault::NotAFile { line } => RunFault::NotAFile { line },
+            TraceFault::NotEmpty { line } => RunFault::NotEmpty { line },
+            TraceFault::NoInode { line } => RunFault::NoInode { line },
+            TraceFault::NoBlock { line } => RunFault::NoBlock { line },
+            TraceFault::DirectoryFull { line } => RunFault::DirectoryFull { line },
+            TraceFault::FileFull { line } => RunFault::FileFull { line },
+            TraceFault::LinksFull { line } => RunFault::LinksFull { line },
+            TraceFault::JournalFull { line } => RunFault::JournalFull { line },
+            TraceFault::GroupFault { line } => RunFault::GroupFault { line },
+            TraceFault::OutOfMemory => RunFault::OutOfMemory,
+        }
+    }
+}
+
+impl From<AllocError> for TraceFault {
+    ghost use Rattle.std.specs.Prelude.{◌≡◌};
+    ghost use Rattle.crash_model.specs.declared.refusals.TraceFault.TheVariants.{OutOfMemory};
+
+    ghost from_gives = { λ _ fault. fault ≡ OutOfMemory };
+
+    fn from(_error: AllocError) -> TraceFault {
+        TraceFault::OutOfMemory
+    }
+}
+
+impl<T: Drop> From<AllocFailed<T>> for TraceFault {
+    ghost use Rattle.std.specs.Prelude.{◌≡◌};
+    ghost use Rattle.crash_model.specs.declared.refusals.TraceFault.TheVariants.{OutOfMemory};
+
+    ghost from_gives = { λ _ fault. fault ≡ OutOfMemory };
+
+    fn from(_error: AllocFailed<T>) -> TraceFault {
+        TraceFault::OutOfMemory
+    }
+}
+
+impl From<AllocError> for ScriptFault {
+    ghost use Rattle.std.specs.Prelude.{◌≡◌};
+    ghost use Rattle.crash_model.specs.declared.refusals.ScriptFault.TheVariants.{OutOfMemory};
+
+    ghost from_gives = { λ _ fault. fault ≡ OutOfMemory };
+
+    fn from(_error: AllocError) -> ScriptFault {
+        ScriptFault::OutOfMemory
+    }
+}
+
+impl<T: Drop> From<AllocFailed<T>> for ScriptFault {
+    ghost use Rattle.std.specs.Prelude.{◌≡◌};
+    ghost use Rattle.crash_model.specs.declared.refusals.ScriptFault.TheVariants.{OutOfMemory};
+
+    ghost from_gives = { λ _ fault. fault ≡ OutOfMemory };
+
+    fn from(_error: AllocFailed<T>) -> ScriptFault {
+        ScriptFault::OutOfMemory
+    }
+}
+
+impl From<AllocError> for RunFault {
+    ghost use Rattle.std.specs.Prelude.{◌≡◌};
+    ghost use Rattle.crash_model.specs.declared.refusals.RunFault.TheVariants.{OutOfMemory};
+
+    ghost from_gives = { λ _ fault. fault ≡ OutOfMemory };
+
+    fn from(_error: AllocError) -> RunFault {
+        RunFault::OutOfMemory
+    }
+}
+
+impl<T: Drop> From<AllocFailed<T>> for RunFault {
+    ghost use Rattle.std.specs.Prelude.{◌≡◌};
+    ghost use Rattle.crash_model.specs.declared.refusals.RunFault.TheVariants.{OutOfMemory};
+
+    ghost from_gives = { λ _ fault. fault ≡ OutOfMemory };
+
+    fn from(_error: AllocFailed<T>) -> RunFault {
+        RunFault::OutOfMemory
+    }
+}

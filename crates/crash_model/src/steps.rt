@@ -1,0 +1,33 @@
+//! Ordering modules and the steps of a script.
+
+use crate::names::{GroupName, Op};
+
+/// What orders the patches of an operation.
+///
+/// `Async` adds no order, `Soft` the rules of soft updates (Ganger and Patt, 1994), `Meta` a journal of metadata
+/// with file data written ahead (ordered mode), `Full` a journal of metadata and file data.
+#[derive(Clone, Copy, Debug, PartialEq, Eq)]
+pub enum Module {
+    Async,
+    Soft,
+    Meta,
+    Full,
+}
+
+/// What a line of a script asks for.
+///
+/// `Depend(b, a)` makes each patch that group b gets depend on every patch of group a.
+#[derive(Drop)]
+pub enum Act {
+    Do(Op),
+    Group(GroupName),
+    End,
+    Depend(GroupName, GroupName),
+}
+
+/// An act with the number of its line, from 1.
+#[derive(Drop)]
+pub struct Step {
+    pub line: usize,
+    pub act: Act,
+}
