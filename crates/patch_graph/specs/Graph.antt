@@ -1,18 +1,11 @@
 -- A graph of patches as the list of its patches. A patch's id is its place, from 0 on.
-use Rattle.std.specs.Prelude.{◌≡◌, ℕ, ◌+◌, ◌<◌, ◌≤◌, ◌⊎◌, ◌↔◌, List, length, map, Some, slice_get, slice_index}
+use Rattle.std.specs.Prelude.{◌≡◌, ℕ, ◌+◌, ◌<◌, ◌≤◌, ◌⊎◌, ◌↔◌, List, length, Some, slice_get}
 use Rattle.std.specs.List.{All}
 use Rattle.patch_sets.specs.Sets.{Has}
 use Rattle.patch_sets.specs.Closed.{AreEarlier}
 use Rattle.patch_graph.specs.declared.graph.TheConstants.{MAX_PATCHES}
-use Rattle.patch_graph.specs.declared.patch.Patch.{Patch}
-
--- for each id the set of the patches that its patch depends on
-abbrev pub deps_of : List Patch → List ℕ
-deps_of = map (λ p. p.deps)
-
--- for each id the block of its patch
-abbrev pub homes_of : List Patch → List ℕ
-homes_of = map (λ p. p.block)
+use Rattle.crash_model.specs.Patches.{deps_of}
+use Rattle.crash_model.specs.declared.patches.Patch.{Patch}
 
 -- the patch of an id
 abbrev pub IsAt : List Patch → ℕ → Patch → Type 0

@@ -4,11 +4,12 @@ ghost use Rattle.patch_sets.specs.Sets.{Has, has as is_in};
 ghost use Rattle.patch_sets.specs.Closed.{IsClosed, IsReady, successors_of};
 ghost use Rattle.patch_sets.specs.Machine.{CanLeave, LeadTo};
 ghost use Rattle.patch_sets.specs.Writes.{AreRuns, events_of};
-ghost use Rattle.patch_graph.specs.declared.patch.Patch.{Patch};
-ghost use Rattle.patch_graph.specs.Graph.{deps_of, homes_of, IsAt, IsPatch, IsGraph, AddsOverlaps, Overlaps, OverlapsAt};
+ghost use Rattle.crash_model.specs.declared.patches.Patch.{Patch};
+ghost use Rattle.crash_model.specs.Patches.{deps_of, homes_of};
+ghost use Rattle.patch_graph.specs.Graph.{IsAt, IsPatch, IsGraph, AddsOverlaps, Overlaps, OverlapsAt};
 
 use crate::fault::GraphFault;
-use crate::patch::Patch;
+use crash_model::patches::Patch;
 use patch_sets::set::{has, is_below, is_subset, with};
 use patch_sets::write::BlockWrite;
 use std::alloc::{AllocError, Allocator};
@@ -28,7 +29,7 @@ pub struct Graph<A: Allocator + Copy> {
 
 impl<A: Allocator + Copy> Model for Graph<A> {
     ghost use Rattle.std.specs.Prelude.{List};
-    ghost use Rattle.patch_graph.specs.declared.patch.Patch.{Patch};
+    ghost use Rattle.crash_model.specs.declared.patches.Patch.{Patch};
 
     ghost Value = { List Patch };
 

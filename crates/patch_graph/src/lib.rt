@@ -7,9 +7,8 @@
 
 pub mod fault;
 pub mod graph;
-pub mod patch;
 
+pub use crash_model::patches::Patch;
 pub use fault::GraphFault;
 pub use graph::{Graph, MAX_PATCHES};
-pub use patch::Patch;
 pub use patch_sets::write::BlockWrite;
