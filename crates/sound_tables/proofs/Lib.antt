@@ -1,0 +1,9 @@
+pub mod Searches
+pub mod Answered
+pub mod Sums
+pub mod Names
+pub mod Puts
+pub mod OnTables
+pub mod ByTables
+pub mod Creates
+pub mod Unlinks
