@@ -1,0 +1,6 @@
+pub mod Applied
+pub mod Cells
+pub mod Fronts
+pub mod ImageBytes
+pub mod Moved
+pub mod PutSteps
