@@ -1,0 +1,10 @@
+//! The checker of a file system: whether an image has a fault, and which faults it has.
+//!
+//! The six faults and their order are defined in the crate `crash_model`, in `specs/Faults.antt`. They are defined of
+//! every image, whatever its bytes.
+#![tactic(auto)]
+
+pub mod clean;
+
+pub use clean::is_clean;
+pub use crash_model::fault::Fault;
