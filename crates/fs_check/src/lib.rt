@@ -5,6 +5,9 @@
 #![tactic(auto)]
 
 pub mod clean;
+pub mod list;
+mod tally;
 
 pub use clean::is_clean;
 pub use crash_model::fault::Fault;
+pub use list::faults;
