@@ -1,11 +1,11 @@
 -- Canonical order, and the list in this order being the only one.
-use Rattle.std.proofs.Common.{◌≡◌, ◌≢◌, ℕ, zero, suc, ◌+◌, ◌<◌, ◌≤◌, List, [], ◌∷◌, length, get_or, arith, refl, sym, subst, ap, ap₂, ◌∙◌, inl, inr, add-one, is_lt, nat_cmp, false}
-use Rattle.std.specs.Prelude.{◌⊎◌, ◌↔◌, count_ones}
-use Rattle.std.specs.List.{All, AllPairs, Contains}
+use Rattle.std.proofs.Common.{◌≡◌, ◌≢◌, ℕ, zero, suc, ◌+◌, ◌<◌, List, length, get_or, arith, sym, subst, inl, inr, add-one, is_lt, nat_cmp, false}
+use Rattle.std.specs.Prelude.{◌⊎◌, count_ones}
+use Rattle.std.specs.List.{AllPairs, Contains}
 use Rattle.std.specs.Ordering.{ordering_then}
 use Rattle.std.proofs.lemmas.Bool.Decides.{nat_tests}
 use Rattle.std.proofs.lemmas.List.{get_or_default}
-use Rattle.state_space.proofs.Counting.{Order, below, same, above, order_of}
+use Rattle.state_space.proofs.Counting.{below, same, above, order_of}
 use Rattle.patch_sets.specs.Sets.{IsBefore, AreAllInOrder}
 use Rattle.patch_sets.proofs.Bits.{eq_or_not}
 use Rattle.patch_sets.proofs.Lists as lists

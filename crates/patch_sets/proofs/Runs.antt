@@ -1,5 +1,5 @@
 -- What runs of the disk commit: exactly the closed sets, and a closed set by its writes.
-use Rattle.std.proofs.Common.{◌≡◌, ◌≢◌, ℕ, zero, suc, ◌+◌, ◌^◌, ◌<◌, ◌≤◌, Bool, true, false, cond, List, [], ◌∷◌, ◌++◌, map, length, get_or, ◌⊎◌, inl, inr, bit_or, nat_eq, eq-eqb, arith, refl, sym, subst, ap, ap₂, ◌∙◌, append_assoc, append-nil}
+use Rattle.std.proofs.Common.{◌≡◌, ◌≢◌, ℕ, ◌<◌, Bool, true, false, cond, List, [], ◌∷◌, ◌++◌, map, length, get_or, ◌⊎◌, inl, inr, bit_or, nat_eq, eq-eqb, arith, refl, sym, subst, ap, ap₂, ◌∙◌, append_assoc, append-nil}
 use Rattle.std.specs.Prelude.{slice_index, flat_map}
 use Rattle.std.specs.List.{AllPairs, Contains}
 use Rattle.std.proofs.lemmas.List.Elements.{Contains-append_cases, Contains-append_left, Contains-append_right}
@@ -8,9 +8,9 @@ use Rattle.patch_sets.specs.Closed.{AreEarlier, IsClosed}
 use Rattle.patch_sets.specs.Machine.{Event, Begin, End, State, at_rest, after, CanBegin, IsAllowed, IsRun, state_after, LeadTo, CanLeave}
 use Rattle.patch_sets.specs.Writes.{AreRuns, events_of}
 use Rattle.patch_sets.specs.declared.write.BlockWrite.{BlockWrite}
-use Rattle.patch_sets.proofs.Bits.{eq_or_not, none_in_empty, same_set, in_with_same, in_with_cases, in_or_cases, in_or_left, in_or_right}
+use Rattle.patch_sets.proofs.Bits.{none_in_empty, same_set, in_with_same, in_with_cases, in_or_cases, in_or_left, in_or_right}
 use Rattle.patch_sets.proofs.Ids.{from_ids_of, to_ids_of, ids_ascend}
-use Rattle.patch_sets.proofs.Lists.{in_none, across, front_or_rest, in_front, in_rest}
+use Rattle.patch_sets.proofs.Lists.{in_none, across, in_front, in_rest}
 use Rattle.patch_sets.proofs.Writes as writes
 
 -- what holds of both holds of the one that is chosen

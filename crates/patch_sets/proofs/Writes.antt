@@ -1,16 +1,15 @@
 -- Writes of blocks that carry the ids of a set in ascending order.
-use Rattle.std.proofs.Common.{◌≡◌, ◌≢◌, ℕ, zero, suc, ◌+◌, ◌^◌, ◌<◌, ◌≤◌, Bool, true, false, cond, List, [], ◌∷◌, ◌++◌, map, length, get_or, arith, refl, sym, subst, ap, ap₂, ◌∙◌, inl, inr, append_assoc, append-nil}
-use Rattle.std.specs.Prelude.{◌⊎◌, slice_index, flat_map}
-use Rattle.std.specs.Int.{bit_at}
-use Rattle.std.specs.List.{AllPairs, Contains}
-use Rattle.std.proofs.lemmas.List.Elements.{Contains-append_cases, Contains-append_left, Contains-append_right, Contains-push, Contains-push_cases}
+use Rattle.std.proofs.Common.{◌≡◌, ◌≢◌, ℕ, zero, suc, ◌+◌, ◌<◌, cond, List, [], ◌∷◌, ◌++◌, length, arith, refl, sym, subst, ap, ap₂, ◌∙◌, inl, inr, append_assoc, append-nil}
+use Rattle.std.specs.Prelude.{slice_index, flat_map}
+use Rattle.std.specs.List.{Contains}
+use Rattle.std.proofs.lemmas.List.Elements.{Contains-append_left, Contains-append_right, Contains-push, Contains-push_cases}
 use Rattle.std.proofs.lemmas.List.Concat.{flat_map-append}
 use Rattle.patch_sets.specs.Sets.{Has, has, with_id, ids_of}
 use Rattle.patch_sets.specs.Writes.{AreRuns, ids_at, block_at}
 use Rattle.patch_sets.specs.declared.write.BlockWrite.{BlockWrite}
-use Rattle.patch_sets.proofs.Bits.{eq_or_not, none_in_empty, same_set, in_with_same, in_with_old, in_with_cases}
-use Rattle.patch_sets.proofs.Ids.{has_true, has_false, from_has, ids_more, ids_push, from_ids_of, to_ids_of, ids_ascend}
-use Rattle.patch_sets.proofs.Lists.{in_front, in_none, one_ascending, ascends_push, Cuts, same, longer, shorter, cuts_of}
+use Rattle.patch_sets.proofs.Bits.{none_in_empty, same_set, in_with_same, in_with_old, in_with_cases}
+use Rattle.patch_sets.proofs.Ids.{has_true, has_false, ids_more, ids_push, from_ids_of, to_ids_of, ids_ascend}
+use Rattle.patch_sets.proofs.Lists.{in_front, in_none, one_ascending, ascends_push, same, longer, shorter, cuts_of}
 
 -- a set with an id has a first one
 pub first_of : (n set id : ℕ) → id < n → Has set id → (x : ℕ) × (xs : List ℕ) × (ids_of n set ≡ x ∷ xs)
