@@ -14,7 +14,7 @@ is_dangling d dir k = is_entry d dir k && not (is_live d (target_of d dir k))
 abbrev pub is_tame : Disk → ℕ → ℕ → Bool
 is_tame d inode slot = is_pointer d inode slot && is_data d (pointer_of d inode slot)
 
--- 6
+-- 6: a pointer to no block of the data area
 abbrev pub is_wild : Disk → ℕ → ℕ → Bool
 is_wild d inode slot = is_pointer d inode slot && not (is_data d (pointer_of d inode slot))
 

@@ -1,5 +1,5 @@
 -- What each operation changes, and when it is refused.
-use Rattle.std.specs.Prelude.{ℕ, ◌+◌, ◌-◌, ◌*◌, ◌/◌, ◌%◌, List, [], ◌∷◌, ◌++◌, length, replicate, Bool, ◌&&◌, ◌==◌, not, nat_le, nat_lt, if◌then◌else◌, Option, Some, None, is_some, is_none, unwrap_or, ok_or, option_map, Result, Ok, Err, bytes_eq}
+use Rattle.std.specs.Prelude.{ℕ, ◌+◌, ◌-◌, ◌*◌, ◌/◌, ◌%◌, List, [], ◌∷◌, ◌++◌, length, replicate, Bool, ◌&&◌, ◌==◌, not, nat_le, nat_lt, if◌then◌else◌, Option, Some, None, is_some, is_none, unwrap_or, ok_or, option_map, option_to_list, Result, Ok, Err, bytes_eq}
 use Rattle.crash_model.specs.Lists.{first_below, some_below, when}
 use Rattle.crash_model.specs.Disk.{Disk, put}
 use Rattle.crash_model.specs.Layout.{kind_of, links_of, pointer_of, map_of, is_live, is_data, counts, entry_of, is_entry, target_of, spelling_of, entry_offset}
@@ -63,8 +63,11 @@ has_no_kind d i = kind_of d i == 0
 abbrev pub free_inode : Disk → Option ℕ
 free_inode d = first_below 16 (has_no_kind d)
 
+abbrev pub is_free_block : Disk → ℕ → Bool
+is_free_block d b = is_data d b && map_of d b == 0
+
 abbrev pub free_block : Disk → Option ℕ
-free_block d = first_below d.blocks (λ b. is_data d b && map_of d b == 0)
+free_block d = first_below d.blocks (is_free_block d)
 
 abbrev pub is_free_entry : Disk → ℕ → ℕ → Bool
 is_free_entry d dir k = counts d dir && entry_of d dir k == 0
@@ -72,8 +75,11 @@ is_free_entry d dir k = counts d dir && entry_of d dir k == 0
 abbrev pub free_entry : Disk → ℕ → Option ℕ
 free_entry d dir = first_below 10 (is_free_entry d dir)
 
+abbrev pub is_free_slot : Disk → ℕ → ℕ → Bool
+is_free_slot d inode s = pointer_of d inode s == 0
+
 abbrev pub free_slot : Disk → ℕ → Option ℕ
-free_slot d inode = first_below 4 (λ s. pointer_of d inode s == 0)
+free_slot d inode = first_below 4 (is_free_slot d inode)
 
 -- ---- the changes
 
@@ -179,7 +185,7 @@ plan_of d (Rmdir path) =
     at_entry d path (λ dir k.
     let target = target_of d dir k in
     unless ((not (kind_of d target == 2), NotADirectory) ∷ (has_entries d target, NotEmpty) ∷ [])
-    (entry_clear d dir k ∷ inode_free target ∷ map_clears d target))
+    (entry_clear d dir k ∷ inode_free target ∷ option_to_list (map_clear_at d target 0)))
 
 -- the disk with a list of changes made, the first first
 abbrev pub applied : Disk → List Change → Disk
