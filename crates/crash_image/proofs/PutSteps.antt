@@ -99,14 +99,14 @@ module _ (d after whole : Disk) (ps : List Patch) (set k rest : ℕ) (p : Patch)
   redo_step lowest put_is was =
       ap (λ (e : Disk). image_of e ps rest) put_is
       ∙ sym (image-lowest k 0 d ps set k rest p (omega arith) is (rest_of set k rest lowest.inside without)
-        (λ q below. has_false set q (λ has. let least = lowest.least q has in omega arith)))
+      (λ q below. has_false set q (λ has. let least = lowest.least q has in omega arith)))
       ∙ was
 
   pub undo_step : IsHighest set k → after ≡ put d p.block p.offset p.undo.items → undone_of d ps set ≡ whole → undone_of after ps rest ≡ whole
   undo_step highest put_is was =
       ap (λ (e : Disk). undone_of e ps rest) put_is
       ∙ sym (undone-highest k 0 d ps set k rest p (omega arith) is (rest_of set k rest highest.inside without)
-        (λ q above. has_false set q (λ has. let most = highest.most q has in omega arith)))
+      (λ q above. has_false set q (λ has. let most = highest.most q has in omega arith)))
       ∙ was
 
 none_has : (q : ℕ) → has 0 q ≡ false

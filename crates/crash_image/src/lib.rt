@@ -1,33 +1,19 @@
-//! Crash images: the disk that a set of patches leaves.
+//! Crash images: the disk that a set of patches leaves, and the space of the sets that a crash can leave.
 //!
 //! [`build`] makes the image of a set anew. A [`Mover`] brings one image from set to set by undo and redo, so that
-//! neighbouring sets cost little.
+//! neighbouring sets cost little. A [`PatchSpace`] has the sets that a crash can leave as its words; a set is good where
+//! its image is clean after replay of the journal.
 #![tactic(auto)]
 
 mod images;
+mod laws;
 mod mover;
 mod puts;
+mod space;
+#[cfg(test)]
+mod tests;
 
 pub use images::build;
+pub use laws::{exploring_finds_the_failing_sets, reach_is_the_closed_sets};
 pub use mover::Mover;
-
-#[cfg(test)]
-mod tests {
-    use crate::{Mover, build};
-    use disk_image::Image;
-    use patch_graph::Graph;
-    use std::test::Fail;
-
-    #[test]
-    fn a_graph_with_no_patch_leaves_the_base(rt: HostRuntime) -> Result<(), Fail> {
-        let base = Image::formatted(rt.alloc(), 16, 2)?;
-        let graph = Graph::new(rt.alloc());
-        let built = build(&base, &graph, 0)?;
-        assert_eq!(rt; built.block(2), base.block(2));
-        let mut mover = Mover::new(base, &graph);
-        mover.move_to(0);
-        assert_eq!(rt; mover.set(), 0);
-        assert_eq!(rt; mover.image().block(2), built.block(2));
-        Ok(())
-    }
-}
+pub use space::{PatchSpace, Scratch};
