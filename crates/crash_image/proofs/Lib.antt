@@ -1,5 +1,6 @@
 pub mod Applied
 pub mod Cells
+pub mod FailingSets
 pub mod Fronts
 pub mod ImageBytes
 pub mod Moved

@@ -93,14 +93,21 @@ undone-highest (suc r) id d (x ∷ ps) set k rest p at is less high =
 
 -- ---- the loops' steps
 
-module _ (d : Disk) (ps : List Patch) (set k rest : ℕ) (p : Patch) (is : slice_get ps k ≡ Some p) (without : IsWithout set k rest) where
-  pub redo_step : IsLowest set k → image_of (put d p.block p.offset p.new.items) ps rest ≡ image_of d ps set
-  redo_step lowest = sym (image-lowest k 0 d ps set k rest p (omega arith) is (rest_of set k rest lowest.inside without)
+-- what a set makes of a disk, its lowest patch and then the rest make of it, and taken back its highest and then the rest
+module _ (d after whole : Disk) (ps : List Patch) (set k rest : ℕ) (p : Patch) (is : slice_get ps k ≡ Some p) (without : IsWithout set k rest) where
+  pub redo_step : IsLowest set k → after ≡ put d p.block p.offset p.new.items → image_of d ps set ≡ whole → image_of after ps rest ≡ whole
+  redo_step lowest put_is was =
+      ap (λ (e : Disk). image_of e ps rest) put_is
+      ∙ sym (image-lowest k 0 d ps set k rest p (omega arith) is (rest_of set k rest lowest.inside without)
       (λ q below. has_false set q (λ has. let least = lowest.least q has in omega arith)))
+      ∙ was
 
-  pub undo_step : IsHighest set k → undone_of (put d p.block p.offset p.undo.items) ps rest ≡ undone_of d ps set
-  undo_step highest = sym (undone-highest k 0 d ps set k rest p (omega arith) is (rest_of set k rest highest.inside without)
+  pub undo_step : IsHighest set k → after ≡ put d p.block p.offset p.undo.items → undone_of d ps set ≡ whole → undone_of after ps rest ≡ whole
+  undo_step highest put_is was =
+      ap (λ (e : Disk). undone_of e ps rest) put_is
+      ∙ sym (undone-highest k 0 d ps set k rest p (omega arith) is (rest_of set k rest highest.inside without)
       (λ q above. has_false set q (λ has. let most = highest.most q has in omega arith)))
+      ∙ was
 
 none_has : (q : ℕ) → has 0 q ≡ false
 none_has q = has_false 0 q (none_in_empty q)

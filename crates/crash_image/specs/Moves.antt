@@ -6,6 +6,8 @@ use Rattle.patch_sets.specs.Closed.{IsClosed}
 use Rattle.patch_graph.specs.Graph.{IsGraph}
 use Rattle.crash_model.specs.Disk.{Disk, IsDisk, put}
 use Rattle.crash_model.specs.Patches.{deps_of, image_of, AreUndo}
+use Rattle.crash_model.specs.Replay.{replayed}
+use Rattle.crash_model.specs.Faults.{IsClean}
 use Rattle.crash_model.specs.declared.patches.Patch.{Patch}
 
 -- the disk with the undo bytes of a set put in descending order of their ids, of which the first is `id`
@@ -36,3 +38,12 @@ pub record IsApplied (a : Applied) (image : Disk) : Type 0 where
   pub over : AreOver a.base a.patches
   pub closed : IsClosed (deps_of a.patches) a.set
   pub holds : image ≡ image_of a.base a.patches a.set
+
+-- a base and patches over it, of which a crash can leave some
+pub record Crashes : Type 0 where
+  pub base : Disk
+  pub patches : List Patch
+
+-- the image that a set leaves is clean after replay
+abbrev pub IsGood : Crashes → ℕ → Type 0
+IsGood crashes set = IsClean (replayed (image_of crashes.base crashes.patches set))

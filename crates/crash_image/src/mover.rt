@@ -4,9 +4,11 @@ ghost use Rattle.std.specs.Prelude.{◌≡◌, ◌<◌};
 ghost use Rattle.std.specs.List.{All};
 ghost use Rattle.patch_sets.specs.Closed.{IsClosed};
 ghost use Rattle.crash_model.specs.Patches.{deps_of, image_of, AreUndo};
+ghost use Rattle.crash_model.specs.Replay.{replayed};
 
 use crate::puts::{redo, undo};
 use disk_image::Image;
+use journal_replay::replay;
 use patch_graph::Graph;
 use patch_sets::ends::difference;
 use std::alloc::Allocator;
@@ -73,5 +75,14 @@ impl<'a, A: Allocator + Copy> Mover<'a, A> {
         ensures { result.now ≡ image_of self.now.base self.now.patches self.now.set }
     {
         &self.image
+    }
+
+    /// Makes of another image of the base's size the image of the set after replay of the journal.
+    pub fn replayed(&self, into: &mut Image<A>)
+        requires { into.old.blocks ≡ self.now.base.blocks }
+        ensures { into.new ≡ replayed (image_of self.now.base self.now.patches self.now.set) }
+    {
+        into.copy_from(&self.image);
+        replay(into);
     }
 }

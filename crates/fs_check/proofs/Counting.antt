@@ -92,9 +92,9 @@ pub tally-empty_row : {X : Type 0} (width : ℕ) (at : ℕ → ℕ → ℕ → O
 tally-empty_row width at row counts none tally =
     tally-row width at row width counts refl (λ key below. tally key below ∙ sym (count_before-empty_row width (at key) row width (none key)))
 
-pub tally-none : {X : Type 0} (width : ℕ) (at : ℕ → ℕ → ℕ → Option X) (row column : ℕ) (counts : List ℕ) → ((key : ℕ) → at key row column ≡ None) → IsTally width at row column counts → IsTally width at row (column + 1) counts
+pub tally-none : {X : Type 0} (width : ℕ) (at : ℕ → ℕ → ℕ → Option X) (row column : ℕ) (counts : List ℕ) → ((key : ℕ) → key < length counts → at key row column ≡ None) → IsTally width at row column counts → IsTally width at row (column + 1) counts
 tally-none width at row column counts none tally key below =
-    omega (arith, tally key below, count_before-more width (at key) row column, ap (λ (o : Option _). length (option_to_list o)) (none key))
+    omega (arith, tally key below, count_before-more width (at key) row column, ap (λ (o : Option _). length (option_to_list o)) (none key below))
 
 -- one more of one key
 pub tally-one : {X : Type 0} (width : ℕ) (at : ℕ → ℕ → ℕ → Option X) (row column : ℕ) (counts : List ℕ) (p v : ℕ) (x : X) → at p row column ≡ Some x → ((key : ℕ) → key ≢ p → at key row column ≡ None) → p < length counts → v ≡ get_or counts p 0 + 1 → IsTally width at row column counts → IsTally width at row (column + 1) (set counts p v)

@@ -9,7 +9,7 @@ use Rattle.crash_model.specs.Layout.{is_live, links_of, counts, entry_of, is_ent
 use Rattle.crash_model.specs.Faults.{is_dangling, leads_to, entry_leading, entries_in, entries_to, has_low_links}
 use Rattle.fs_check.specs.Tally.{count_before, IsTally}
 use Rattle.fs_check.specs.Passed.{HasCleanEntries, HavePassedEntries}
-use Rattle.fs_check.proofs.Counting.{tally-start, tally-row, tally-empty_row, tally-none, tally-one, count_before-grows, count_before-more}
+use Rattle.fs_check.proofs.Counting.{tally-start, tally-row, tally-empty_row, tally-none, tally-one, count_before-grows, count_before-more, count_before-most}
 
 -- ---- one entry
 
@@ -79,7 +79,7 @@ entries-free d dir k entries zero passed =
       rows = passed.rows;
       row = below_more _ _ passed.row (dangling-free d dir k free);
       size = passed.size;
-      tally = tally-none 10 (entry_leading d) dir k entries (λ inode. leading-free d inode dir k free) passed.tally;
+      tally = tally-none 10 (entry_leading d) dir k entries (λ inode below. leading-free d inode dir k free) passed.tally;
       few = passed.few;
     }
 
@@ -102,7 +102,7 @@ entries-leading d dir k inode entries counted some leads live room passed =
 
 -- ---- the end, and the first fault
 
-entries-total : (d : Disk) (inode dir : ℕ) → dir ≡ 16 → count_before 10 (entry_leading d inode) dir 0 ≡ length (entries_to d inode)
+pub entries-total : (d : Disk) (inode dir : ℕ) → dir ≡ 16 → count_before 10 (entry_leading d inode) dir 0 ≡ length (entries_to d inode)
 unfolding count_before entries_in entries_to
 entries-total d inode dir end = rw end (omega (arith, ap length (some_below-zero (entry_leading d inode 16))))
 
@@ -136,3 +136,28 @@ faulty-links d dir k inode entries a b counted some leads live full passed clean
     let many : links_of d inode < length (entries_to d inode) =
     omega (arith, entries-total d inode 16 refl, passed.tally inode (omega (arith, passed.size)), count_before-more 10 (entry_leading d inode) dir k, ap (λ (o : Option (ℕ × ℕ)). length (option_to_list o)) here, count_before-grows 10 (entry_leading d inode) 16 dir (k + 1) a (omega arith)) in
     false≢true (sym (clean.no_low_links inode below) ∙ low_links-many d inode live many)
+
+-- ---- counting alone
+
+pub count-free : (d : Disk) (dir k : ℕ) (entries : List ℕ) → entry_of d dir k ≡ 0 → IsTally 10 (entry_leading d) dir k entries → IsTally 10 (entry_leading d) dir (k + 1) entries
+count-free d dir k entries zero tally =
+    tally-none 10 (entry_leading d) dir k entries (λ inode below. leading-free d inode dir k (entry-zero d dir k zero)) tally
+
+-- an entry to no inode that is counted
+pub count-beyond : (d : Disk) (dir k inode : ℕ) (entries : List ℕ) → target_of d dir k ≡ inode → length entries ≤ inode → IsTally 10 (entry_leading d) dir k entries → IsTally 10 (entry_leading d) dir (k + 1) entries
+count-beyond d dir k inode entries leads beyond tally =
+    tally-none 10 (entry_leading d) dir k entries (λ i below. leading-other d i dir k inode leads (λ e. absurd (omega arith))) tally
+
+pub count-leading : (d : Disk) (dir k inode : ℕ) (entries : List ℕ) → counts d dir ≡ true → entry_of d dir k ≢ 0 → target_of d dir k ≡ inode → inode < length entries → IsTally 10 (entry_leading d) dir k entries → IsTally 10 (entry_leading d) dir (k + 1) (set entries inode (get_or entries inode 0 + 1))
+count-leading d dir k inode entries counted some leads within tally =
+    let used = entry-some d dir k counted some in
+    tally-one 10 (entry_leading d) dir k entries inode (get_or entries inode 0 + 1) (dir, k) (leading-here d dir k inode used leads) (λ i differ. leading-other d i dir k inode leads differ) within refl tally
+
+pub count-uncounted : (d : Disk) (dir : ℕ) (entries : List ℕ) → counts d dir ≡ false → IsTally 10 (entry_leading d) dir 0 entries → IsTally 10 (entry_leading d) (dir + 1) 0 entries
+count-uncounted d dir entries uncounted tally =
+    tally-empty_row 10 (entry_leading d) dir entries (λ inode k. leading-free d inode dir k (entry-uncounted d dir k uncounted)) tally
+
+-- 16 directories have 160 entries
+pub count-fits : (d : Disk) (dir k inode : ℕ) (entries : List ℕ) → dir < 16 → k < 10 → inode < length entries → IsTally 10 (entry_leading d) dir k entries → get_or entries inode 0 < 160
+count-fits d dir k inode entries a b within tally =
+    omega (arith, tally inode within, count_before-most 10 (entry_leading d inode) dir k)

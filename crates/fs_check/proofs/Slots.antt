@@ -10,7 +10,7 @@ use Rattle.crash_model.specs.Layout.{is_live, is_data, map_of, pointer_of, is_po
 use Rattle.crash_model.specs.Faults.{is_tame, is_wild, is_unwritten, is_marked_free, is_twice, names_block, namer_at, namers_in, namers}
 use Rattle.fs_check.specs.Tally.{count_before, IsTally}
 use Rattle.fs_check.specs.Passed.{IsCleanSlot, HasCleanPointers, HavePassedSlots, is_marked, is_right_block}
-use Rattle.fs_check.proofs.Counting.{tally-start, tally-row, tally-empty_row, tally-none, tally-one, count_before-grows, count_before-more}
+use Rattle.fs_check.proofs.Counting.{tally-start, tally-row, tally-empty_row, tally-none, tally-one, count_before-grows, count_before-more, count_before-most}
 
 -- ---- one slot
 
@@ -65,8 +65,11 @@ pointer-some d inode slot live some = rw (live, ne_eqb (pointer_of d inode slot)
 right-area : (d : Disk) (inode block : ℕ) → is_right_block d inode block ≡ true → is_data d block ≡ true
 right-area d inode block right = (and_parts (is_data d block) _ (and_parts (is_data d block && not (map_of d block == 0)) _ right).0).0
 
+tame-parts : (d : Disk) (inode slot block : ℕ) → is_live d inode ≡ true → pointer_of d inode slot ≡ block → block ≢ 0 → is_data d block ≡ true → is_tame d inode slot ≡ true
+tame-parts d inode slot block live points some area = rw (pointer-some d inode slot live (rw points some), points, area) refl
+
 tame-right : (d : Disk) (inode slot block : ℕ) → is_live d inode ≡ true → pointer_of d inode slot ≡ block → block ≢ 0 → is_right_block d inode block ≡ true → is_tame d inode slot ≡ true
-tame-right d inode slot block live points some right = rw (pointer-some d inode slot live (rw points some), points, right-area d inode block right) refl
+tame-right d inode slot block live points some right = tame-parts d inode slot block live points some (right-area d inode block right)
 
 namer-some : (d : Disk) (inode slot block : ℕ) → is_tame d inode slot ≡ true → pointer_of d inode slot ≡ block → namer_at d block inode slot ≡ Some (inode, slot)
 namer-some d inode slot block tame points = rw (tame, eq-eqb (pointer_of d inode slot) block points) refl
@@ -111,7 +114,7 @@ slots-empty d inode slot named zero passed =
       rows = passed.rows;
       row = below_more _ _ passed.row (clean-empty d inode slot empty);
       size = passed.size;
-      tally = tally-none 4 (namer_at d) inode slot named (λ block. namer-none d block inode slot (tame-empty d inode slot empty)) passed.tally;
+      tally = tally-none 4 (namer_at d) inode slot named (λ block below. namer-none d block inode slot (tame-empty d inode slot empty)) passed.tally;
       once = passed.once;
     }
 
@@ -132,7 +135,7 @@ slots-named d inode slot block named live points some right within unnamed passe
 
 -- ---- the end, and the first fault
 
-namers-all : (d : Disk) (block inode : ℕ) → inode ≡ 16 → count_before 4 (namer_at d block) inode 0 ≡ length (namers d block)
+pub namers-all : (d : Disk) (block inode : ℕ) → inode ≡ 16 → count_before 4 (namer_at d block) inode 0 ≡ length (namers d block)
 unfolding count_before namers_in namers
 namers-all d block inode end = rw end (omega (arith, ap length (some_below-zero (namer_at d block 16))))
 
@@ -160,3 +163,28 @@ faulty-twice d inode slot block named a b live points some right within again pa
     let two : 1 < length (namers d block) =
     omega (arith, namers-all d block 16 refl, passed.tally block (omega (arith, passed.size)), count_before-more 4 (namer_at d block) inode slot, ap (λ (o : Option (ℕ × ℕ)). length (option_to_list o)) here, count_before-grows 4 (namer_at d block) 16 inode (slot + 1) a (omega arith)) in
     false≢true (sym (clean.no_twice block area) ∙ lt-ltb 1 (length (namers d block)) two)
+
+-- ---- counting alone
+
+pub count-empty : (d : Disk) (inode slot : ℕ) (named : List ℕ) → pointer_of d inode slot ≡ 0 → IsTally 4 (namer_at d) inode slot named → IsTally 4 (namer_at d) inode (slot + 1) named
+count-empty d inode slot named zero tally =
+    tally-none 4 (namer_at d) inode slot named (λ block below. namer-none d block inode slot (tame-empty d inode slot (pointer-zero d inode slot zero))) tally
+
+pub count-wild : (d : Disk) (inode slot block : ℕ) (named : List ℕ) → pointer_of d inode slot ≡ block → is_data d block ≡ false → IsTally 4 (namer_at d) inode slot named → IsTally 4 (namer_at d) inode (slot + 1) named
+count-wild d inode slot block named points wild tally =
+    let wild_there : is_data d (pointer_of d inode slot) ≡ false = rw points wild in
+    tally-none 4 (namer_at d) inode slot named (λ b below. namer-none d b inode slot (rw wild_there (and_right (is_pointer d inode slot) false refl))) tally
+
+pub count-tame : (d : Disk) (inode slot block : ℕ) (named : List ℕ) → is_live d inode ≡ true → pointer_of d inode slot ≡ block → block ≢ 0 → is_data d block ≡ true → block < length named → IsTally 4 (namer_at d) inode slot named → IsTally 4 (namer_at d) inode (slot + 1) (set named block (get_or named block 0 + 1))
+count-tame d inode slot block named live points some area within tally =
+    let tame = tame-parts d inode slot block live points some area in
+    tally-one 4 (namer_at d) inode slot named block (get_or named block 0 + 1) (inode, slot) (namer-some d inode slot block tame points) (λ b differ. namer-other d b inode slot block points differ) within refl tally
+
+pub count-dead : (d : Disk) (inode : ℕ) (named : List ℕ) → is_live d inode ≡ false → IsTally 4 (namer_at d) inode 0 named → IsTally 4 (namer_at d) (inode + 1) 0 named
+count-dead d inode named dead tally =
+    tally-empty_row 4 (namer_at d) inode named (λ block s. namer-none d block inode s (tame-empty d inode s (pointer-dead d inode s dead))) tally
+
+-- 16 inodes have 64 slots
+pub count-fits : (d : Disk) (inode slot block : ℕ) (named : List ℕ) → inode < 16 → slot < 4 → block < length named → IsTally 4 (namer_at d) inode slot named → get_or named block 0 < 64
+count-fits d inode slot block named a b within tally =
+    omega (arith, tally block within, count_before-most 4 (namer_at d block) inode slot)

@@ -4,7 +4,14 @@
 //! every image, whatever its bytes.
 #![tactic(auto)]
 
-pub mod clean;
+mod clean;
+mod laws;
+mod list;
+mod tally;
+#[cfg(test)]
+mod tests;
 
 pub use clean::is_clean;
 pub use crash_model::fault::Fault;
+pub use laws::clean_is_faultless;
+pub use list::faults;

@@ -67,7 +67,7 @@ entry-bytes d dir k i spelling e = elim (cases_lt dir 16) [
     go true p (suc m) q less small r = let same : m ≡ i = cc in record { in_dir = less; in_place = small; counting = p; first = q ∙ ap suc same; spelt = cc }
 
 -- a directory of the tables counts
-mark_directory : (d : Disk) (b i : ℕ) → mark_at (is_data d b) (byte d b 0) (byte d b 1) ≡ DirectoryOf i → (is_data d b ≡ true) × (byte d b 0 ≡ 0x44) × (byte d b 1 ≡ i)
+pub mark_directory : (d : Disk) (b i : ℕ) → mark_at (is_data d b) (byte d b 0) (byte d b 1) ≡ DirectoryOf i → (is_data d b ≡ true) × (byte d b 0 ≡ 0x44) × (byte d b 1 ≡ i)
 mark_directory d b i e = go (is_data d b) refl (byte d b 0) (byte d b 1) e
   where
     go : (inside : Bool) → is_data d b ≡ inside → (x y : ℕ) → mark_at inside x y ≡ DirectoryOf i → (inside ≡ true) × (x ≡ 0x44) × (y ≡ i)

@@ -5,5 +5,10 @@ pub mod Names
 pub mod Puts
 pub mod OnTables
 pub mod ByTables
+pub mod Views
+pub mod Becomes
+pub mod Places
+pub mod ToTables
+pub mod FromTables
 pub mod Creates
 pub mod Unlinks

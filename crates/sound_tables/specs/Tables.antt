@@ -1,9 +1,10 @@
 -- What an image says, as functions of numbers: no bytes and no offsets.
-use Rattle.std.specs.Prelude.{◌≡◌, ◌≢◌, ℕ, zero, suc, ◌+◌, ◌-◌, ◌<◌, ◌≤◌, List, Bool, true, false, ◌&&◌, ◌==◌, not, nat_lt, if◌then◌else◌}
+use Rattle.std.specs.Prelude.{◌≡◌, ◌≢◌, ℕ, zero, suc, ◌+◌, ◌-◌, ◌<◌, ◌≤◌, ◌↔◌, List, Bool, true, false, ◌&&◌, ◌==◌, not, nat_lt, if◌then◌else◌}
 use Rattle.crash_model.specs.Disk.{Disk, byte}
 use Rattle.crash_model.specs.Names.{IsName}
 use Rattle.crash_model.specs.Layout.{kind_of, links_of, pointer_of, map_of, is_data, counts, entry_of, target_of, spelling_of}
 use Rattle.crash_model.specs.Plan.{spelled}
+use Rattle.crash_model.specs.View.{View}
 
 -- a place of a directory: free, or an entry that leads to an inode under a spelling
 pub data Place : Type 0 where
@@ -81,16 +82,37 @@ with_place entry dir k place = changed entry dir (changed (entry dir) k place)
 abbrev pub with_entry : Tables → ℕ → ℕ → Place → Tables
 with_entry t dir k place = record t { entry = with_place t.entry dir k place }
 
+-- ---- the view of tables, as that of a disk
+
+abbrev pub NameIn : Tables → ℕ → List ℕ → ℕ → Type 0
+NameIn t dir name inode = (place : ℕ) × (t.entry dir place ≡ Leads inode (spelled name))
+
+abbrev pub InodeIn : Tables → ℕ → ℕ → ℕ → Type 0
+InodeIn t inode kind links = (t.kind inode ≡ kind) × (t.links inode ≡ links) × (kind ≢ 0)
+
+-- a slot of a live inode names a block
+abbrev pub HasPointer : (ℕ → ℕ) → (ℕ → ℕ → ℕ) → ℕ → ℕ → ℕ → Type 0
+HasPointer kind pointer i s b = (kind i ≢ 0) × (pointer i s ≡ b) × (b ≢ 0)
+
+abbrev pub UsedIn : Tables → ℕ → Type 0
+UsedIn t block = (4 + t.journal ≤ block) × (t.used block ≡ true)
+
+abbrev pub view : Tables → View
+view t = record { name = NameIn t; inode = InodeIn t; pointer = HasPointer t.kind t.pointer; used = UsedIn t }
+
+-- two views have the same members
+pub record SameView (v w : View) : Type 0 where
+  pub names : (dir : ℕ) (name : List ℕ) (i : ℕ) → (v.name dir name i ↔ w.name dir name i)
+  pub inodes : (i kind links : ℕ) → (v.inode i kind links ↔ w.inode i kind links)
+  pub pointers : (i s b : ℕ) → (v.pointer i s b ↔ w.pointer i s b)
+  pub used_blocks : (b : ℕ) → (v.used b ↔ w.used b)
+
 -- ---- what operations make of them
 
 abbrev pub created : Tables → ℕ → ℕ → ℕ → List ℕ → Tables
 created t dir k i name = with_entry (with_inode t i 1 1) dir k (Leads i (spelled name))
 
 -- ---- sound tables: four groups of facts, each said of the tables that it needs and of no other
-
--- a slot of a live inode names a block
-abbrev pub HasPointer : (ℕ → ℕ) → (ℕ → ℕ → ℕ) → ℕ → ℕ → ℕ → Type 0
-HasPointer kind pointer i s b = (kind i ≢ 0) × (pointer i s ≡ b) × (b ≢ 0)
 
 -- 1 where the place leads to the inode
 abbrev pub leads : Place → ℕ → ℕ
