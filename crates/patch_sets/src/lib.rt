@@ -7,4 +7,6 @@
 pub mod laws;
 pub mod order;
 pub mod set;
+#[cfg(test)]
+mod tests;
 pub mod write;
