@@ -1,9 +1,8 @@
 -- How far a space has been explored.
-use Rattle.std.proofs.Common.{◌≡◌, ◌≢◌, ℕ, zero, suc, ◌+◌, ◌<◌, ◌≤◌, List, [], ◌∷◌, ◌++◌, length, get_or, arith, length-append, refl, sym, subst, ap, ◌∙◌, below_more, inl, inr}
-use Rattle.std.specs.List.{All, AllPairs, Contains}
+use Rattle.std.proofs.Common.{◌≡◌, ℕ, ◌+◌, ◌<◌, ◌≤◌, List, [], ◌∷◌, ◌++◌, length, get_or, arith, sym, subst, ap, ◌∙◌, below_more, inl, inr}
+use Rattle.std.specs.List.{All, Contains}
 use Rattle.std.proofs.lemmas.List.{get_or_default, get_or_append_left}
-use Rattle.std.proofs.lemmas.List.Elements.{All-contains, All-from_get_or, All-get_or, Contains-append_left, Contains-push, Contains-push_cases, Contains-get_or}
-use Rattle.std.specs.Prelude.{◌⊎◌}
+use Rattle.std.proofs.lemmas.List.Elements.{All-contains, All-get_or, Contains-append_left, Contains-push, Contains-push_cases}
 use Rattle.state_space.specs.Reach.{IsReached}
 use Rattle.state_space.specs.Counts.{IsSome, IsListOf}
 use Rattle.state_space.proofs.Runs.{along}

@@ -1,8 +1,10 @@
-use Rattle.std.proofs.Common.{ℕ, List, IsTrue, subst, sym}
+use Rattle.std.proofs.Common.{IsTrue, subst, sym}
 use Rattle.std.specs.Prelude.{◌↔◌, Contains}
-use Rattle.plain_explorer.proofs.Known.{known_iff}
+use Rattle.plain_explorer.proofs.Known.{HaveSame, known_iff}
 use Rattle.plain_explorer.proofs.found.Found.has.Goals as goal
 
 pub returns : goal.returns
-returns g c = subst (λ b. IsTrue b ↔ Contains c.args.self.now c.args.word) (sym c.contains.ensures)
-    (subst (λ (xs : List ℕ). IsTrue _ ↔ Contains xs c.args.word) c.self.view_is (known_iff c.self.inside.known c.self.inside.words.items c.args.word c.self.invariant))
+returns g c =
+    let words = c.args.self.now in
+    let same : HaveSame c.self.inside.known.keys words = subst (HaveSame c.self.inside.known.keys) c.self.view_is c.self.invariant in
+    subst (λ b. IsTrue b ↔ Contains words c.args.word) (sym c.contains.ensures) (known_iff c.self.inside.known words c.args.word same)

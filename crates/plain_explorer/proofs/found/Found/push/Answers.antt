@@ -1,4 +1,4 @@
-use Rattle.std.proofs.Common.{◌≡◌, ℕ, List, [], ◌∷◌, ◌++◌, rules, subst, sym, refl}
+use Rattle.std.proofs.Common.{◌≡◌, [], ◌∷◌, ◌++◌, rules, subst, sym, refl}
 use Rattle.plain_explorer.proofs.Known.{HaveSame, same_still, same_after}
 use Rattle.plain_explorer.proofs.found.Found.push.Goals as goal
 
