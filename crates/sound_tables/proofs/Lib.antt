@@ -10,6 +10,7 @@ pub mod Becomes
 pub mod Places
 pub mod Steps
 pub mod Kept
+pub mod Meant
 pub mod Counts
 pub mod ToTables
 pub mod FromTables
