@@ -14,7 +14,7 @@ use Rattle.sound_tables.specs.Tables.{Tables, Place, Mark, tables_of, place_of, 
 use Rattle.sound_tables.specs.Tables.Place.{Free, Leads}
 use Rattle.sound_tables.specs.Tables.Mark.{Plain, FileOf, DirectoryOf}
 use Rattle.sound_tables.proofs.Places.{one_if, sum_below-one_pair, sum_below-zero}
-use Rattle.sound_tables.proofs.Creates.{count_to-none}
+use Rattle.sound_tables.proofs.Counts.{count_to-none}
 use Rattle.sound_tables.proofs.Puts.{data-block}
 use Rattle.sound_tables.proofs.ByTables.{kind-at, pointer-at, entry-at, live-at, EntryBytes, entry-bytes, counts-by_tables, mark_directory}
 use Rattle.sound_tables.proofs.Views.{links-at, used-at, used-below, pointer-below, place-leads, entry-is, same-view}

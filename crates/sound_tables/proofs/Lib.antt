@@ -8,7 +8,11 @@ pub mod ByTables
 pub mod Views
 pub mod Becomes
 pub mod Places
+pub mod Steps
+pub mod Kept
+pub mod Meant
+pub mod Counts
 pub mod ToTables
 pub mod FromTables
-pub mod Creates
-pub mod Unlinks
+pub mod Inodes
+pub mod Blocks
