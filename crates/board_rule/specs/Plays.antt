@@ -20,8 +20,12 @@ pub record IsIdle (v : View) : Type 0 where
   pub uncounted : v.count.uncounted ≡ 0
 
 -- a right of shard q, whose whole row is seen
-abbrev pub Takes : View → ℕ → ℕ → View → Type 0
-Takes v right q w = (row : List ℕ) × (marks : List ℕ) × (w ≡ with_right v q row marks right) × StartsWith row (row_of v.rows.seen q) × (length row ≤ v.limit)
+pub record Takes (v : View) (right q : ℕ) (w : View) : Type 0 where
+  pub row : List ℕ
+  pub marks : List ℕ
+  pub is : w ≡ with_right v q row marks right
+  pub more : StartsWith row (row_of v.rows.seen q)
+  pub short : length row ≤ v.limit
 
 module _ {S : Type 0} where
   abbrev pub peeked : Step S → Me S View → ℕ → Me S View → Type 0
