@@ -1,2 +1,6 @@
-pub mod Opening
-pub mod Rights
+pub mod AfterClaims
+pub mod AfterJoins
+pub mod AfterOpening
+pub mod AfterRights
+pub mod AfterScans
+pub mod Chains

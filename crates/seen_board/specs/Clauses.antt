@@ -1,9 +1,16 @@
 -- What clauses say of seats and places.
-use Rattle.std.specs.Prelude.{◌≡◌, ◌≢◌, ℕ, ◌<◌, List, length, slice_index}
-use Rattle.board_rule.specs.Layout.{writer}
+use Rattle.std.specs.Prelude.{◌≡◌, ◌≢◌, ℕ, ◌<◌, Bool, cond, List, [], ◌∷◌, ◌++◌, length, slice_index}
+use Rattle.board_rule.specs.Layout.{writer, place_of}
+use Rattle.board_rule.specs.Changes.{either_one}
+use Rattle.board_rule.specs.declared.life.Life.{Life}
+use Rattle.board_rule.specs.declared.life.Life.TheVariants.{Clean, Broken}
 use Rattle.board_rule.specs.Lists.{row_of, StartsWith}
 use Rattle.seen_board.specs.Known.{Shown, Known}
 use Rattle.seen_board.specs.declared.answers.Place.{Place}
+
+-- one number for a place
+abbrev pub number : Place → ℕ
+number place = place_of place.shard place.at
 
 -- the seat is of this board
 abbrev pub IsOf : {S : Type 0} → Shown S → Known → Type 0
@@ -17,6 +24,9 @@ Reads s q = (s.held ≡ q) × (s.right ≡ 1)
 
 abbrev pub Writes : Known → ℕ → Type 0
 Writes s q = (s.held ≡ q) × (s.right ≡ writer)
+
+abbrev pub HasClaim : Known → Place → Type 0
+HasClaim s place = (s.claims ≡ 1) × (s.place ≡ number place)
 
 -- what was seen is a beginning of what is seen now
 abbrev pub SeesOn : List (List ℕ) → List (List ℕ) → Type 0
@@ -33,6 +43,17 @@ Sees v w = (w ≡ record v { seen = w.seen }) × SeesOn v.seen w.seen
 -- the row lacks the word
 abbrev pub Lacks : List ℕ → ℕ → Type 0
 Lacks row word = (k : ℕ) → k < length row → slice_index row k ≢ word
+
+-- the seat learned that the place has had this life
+abbrev pub having_met : Known → Place → Life → Known
+having_met s place life = record s { learned = s.learned ++ (number place, life) ∷ [] }
+
+abbrev pub settled_as : Bool → Life
+settled_as good = cond good Clean Broken
+
+-- what two seats know together, with what they have seen
+abbrev pub both_known : Known → Known → List (List ℕ) → Known
+both_known s u seen = record s { seen = seen; learned = s.learned ++ u.learned; added = s.added ++ u.added; finished = either_one s.finished u.finished; over = either_one s.over u.over }
 
 -- the rows have the place
 abbrev pub HasPlace : List (List ℕ) → Place → Type 0

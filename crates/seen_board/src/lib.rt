@@ -3,10 +3,14 @@
 
 mod answers;
 mod board;
+mod ends;
+mod finds;
+mod lives;
 mod locks;
 mod plays;
 mod rows;
 mod seat;
+mod seats;
 
 pub use answers::{Got, Place, Put};
 pub use board::Board;

@@ -1,7 +1,7 @@
 use Rattle.std.proofs.Common.{refl, arith, ◌≡◌, ◌∙◌}
 use Rattle.board_rule.specs.Changes.{opening_words}
 use Rattle.board_rule.proofs.Opens.{opens}
-use Rattle.seen_board.proofs.Opening.{opening_counts, opening_is}
+use Rattle.seen_board.proofs.AfterOpening.{opening_counts, opening_is}
 use Rattle.seen_board.proofs.board.Board.open.Goals as goal
 
 pub of_words-requires : goal.of_words-requires

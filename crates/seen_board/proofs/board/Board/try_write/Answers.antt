@@ -2,7 +2,7 @@ use Rattle.std.proofs.Common.{rules, arith, refl, ◌∙◌}
 use Rattle.board_rule.specs.Layout.{writer}
 use Rattle.board_rule.specs.Plays.{Takes}
 use Rattle.board_rule.proofs.LockSteps.{seizes}
-use Rattle.seen_board.proofs.Rights.{takes_right, takes_held, takes_limit, takes_gains, takes_ok}
+use Rattle.seen_board.proofs.AfterRights.{takes_right, takes_held, takes_limit, takes_gains, takes_ok}
 use Rattle.seen_board.proofs.board.Board.try_write.Goals as goal
 
 pub compare_exchange-requires : goal.compare_exchange-requires

@@ -4,7 +4,7 @@ use Rattle.board_rule.specs.Lists.{row_of}
 use Rattle.board_rule.specs.Layout.{half, size_for, length_word, low_word, high_word, index_word, slot}
 use Rattle.board_rule.specs.Changes.{opening_rows, opening_words}
 use Rattle.seen_board.specs.Known.{Counts}
-use Rattle.seen_board.proofs.Rights.{counts_set}
+use Rattle.seen_board.proofs.AfterRights.{counts_set}
 
 nil_at : (n q : ℕ) → row_of (replicate n []) q ≡ []
 nil_at zero q = refl
