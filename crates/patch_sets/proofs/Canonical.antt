@@ -1,0 +1,98 @@
+-- Canonical order, and the list in this order being the only one.
+use Rattle.std.proofs.Common.{◌≡◌, ◌≢◌, ℕ, zero, suc, ◌+◌, ◌<◌, ◌≤◌, List, [], ◌∷◌, length, get_or, arith, refl, sym, subst, ap, ap₂, ◌∙◌, inl, inr, add-one, is_lt, nat_cmp, false}
+use Rattle.std.specs.Prelude.{◌⊎◌, ◌↔◌, count_ones}
+use Rattle.std.specs.List.{All, AllPairs, Contains}
+use Rattle.std.specs.Ordering.{ordering_then}
+use Rattle.std.proofs.lemmas.Bool.Decides.{nat_tests}
+use Rattle.std.proofs.lemmas.List.{get_or_default}
+use Rattle.state_space.proofs.Counting.{Order, below, same, above, order_of}
+use Rattle.patch_sets.specs.Sets.{IsBefore, AreAllInOrder}
+use Rattle.patch_sets.proofs.Bits.{eq_or_not}
+
+pub before_trans : (a b c : ℕ) → IsBefore a b → IsBefore b c → IsBefore a c
+before_trans a b c (inl p) (inl q) = inl (omega arith)
+before_trans a b c (inl p) (inr (q, r)) = inl (omega arith)
+before_trans a b c (inr (p, s)) (inl q) = inl (omega arith)
+before_trans a b c (inr (p, s)) (inr (q, r)) = inr (omega arith, omega arith)
+
+pub before_self : (a : ℕ) → IsBefore a a → ⊥
+before_self a (inl p) = omega arith
+before_self a (inr (p, s)) = omega arith
+
+-- the order of the keys by which sets are sorted, of two different sets
+by_keys : (m n a b : ℕ) → is_lt (ordering_then (nat_cmp n m) (nat_cmp b a)) ≡ false → a ≢ b → (m < n) ⊎ ((m ≡ n) × (a < b))
+by_keys m n a b = elim (order_of m n) [
+  | below h ↦ λ up apart. inl h
+  | same e ↦ elim (order_of a b) [
+    | below h ↦ λ up apart. inr (e, h)
+    | same f ↦ λ up apart. absurd (apart f)
+    | above h ↦ λ up apart. grind (arith, nat_tests)
+  ]
+  | above h ↦ λ up apart. grind (arith, nat_tests)
+]
+
+pub before_by_keys : (a b : ℕ) → is_lt (ordering_then (nat_cmp (count_ones b) (count_ones a)) (nat_cmp b a)) ≡ false → a ≢ b → IsBefore a b
+before_by_keys a b = by_keys (count_ones a) (count_ones b) a b
+
+-- what comes right after each is after all
+pub ordered_from_next : (xs : List ℕ) → ((k : ℕ) → k + 1 < length xs → IsBefore (get_or xs k 0) (get_or xs (k + 1) 0)) → AllPairs IsBefore xs
+ordered_from_next xs next i j d lt within =
+    let far = reach_on j i lt within in
+    subst (λ w. IsBefore w (get_or xs j d)) (get_or_default xs i 0 d (omega arith)) (subst (IsBefore (get_or xs i 0)) (get_or_default xs j 0 d within) far)
+  where
+    reach_on : (j i : ℕ) → i < j → j < length xs → IsBefore (get_or xs i 0) (get_or xs j 0)
+    reach_on zero i lt within = absurd (omega arith)
+    reach_on (suc j) i lt within =
+        let one : IsBefore (get_or xs j 0) (get_or xs (suc j) 0) = rw add-one at (next j (omega arith)) in
+        elim (eq_or_not i j) [
+          | inl e ↦ subst (λ n. IsBefore (get_or xs n 0) (get_or xs (suc j) 0)) (sym e) one
+          | inr ne ↦ before_trans (get_or xs i 0) (get_or xs j 0) (get_or xs (suc j) 0) (reach_on j i (omega arith) (omega arith)) one
+        ]
+
+-- where a word of x ∷ xs is
+pub front_or_rest : (x : ℕ) (xs : List ℕ) (z : ℕ) → Contains (x ∷ xs) z → (x ≡ z) ⊎ Contains xs z
+front_or_rest x xs z (zero, within, is) = inl is
+front_or_rest x xs z (suc k, within, is) = inr (k, omega arith, is)
+
+pub in_front : (x : ℕ) (xs : List ℕ) → Contains (x ∷ xs) x
+in_front x xs = (zero, omega arith, refl)
+
+pub in_rest : (x : ℕ) (xs : List ℕ) (z : ℕ) → Contains xs z → Contains (x ∷ xs) z
+in_rest x xs z (k, within, is) = (suc k, omega arith, is)
+
+-- the first comes before each later one
+front_before : (x : ℕ) (xs : List ℕ) → AllPairs IsBefore (x ∷ xs) → (z : ℕ) → Contains xs z → IsBefore x z
+front_before x xs up z (k, within, is) = subst (IsBefore x) is (up zero (suc k) z (omega arith) (omega arith))
+
+rest_ordered : (x : ℕ) (xs : List ℕ) → AllPairs IsBefore (x ∷ xs) → AllPairs IsBefore xs
+rest_ordered x xs up i j d lt within = up (suc i) (suc j) d (omega arith) (omega arith)
+
+-- two lists in order with the same sets are equal
+pub one_order : (xs ys : List ℕ) → AllPairs IsBefore xs → AllPairs IsBefore ys → ((z : ℕ) → Contains xs z → Contains ys z) → ((z : ℕ) → Contains ys z → Contains xs z) → xs ≡ ys
+one_order [] [] up rise there back = refl
+one_order [] (y ∷ ys) up rise there back = let no = back y (in_front y ys) in absurd (omega (arith, no.1))
+one_order (x ∷ xs) [] up rise there back = let no = there x (in_front x xs) in absurd (omega (arith, no.1))
+one_order (x ∷ xs) (y ∷ ys) up rise there back =
+    let same : x ≡ y = elim (front_or_rest y ys x (there x (in_front x xs))) [
+      | inl e ↦ sym e
+      | inr later ↦ elim (front_or_rest x xs y (back y (in_front y ys))) [
+        | inl e ↦ e
+        | inr after ↦ absurd (before_self x (before_trans x y x (front_before x xs up y after) (front_before y ys rise x later)))
+      ]
+    ] in
+    let rests : xs ≡ ys = one_order xs ys (rest_ordered x xs up) (rest_ordered y ys rise)
+    (λ z is. elim (front_or_rest y ys z (there z (in_rest x xs z is))) [
+      | inl e ↦ absurd (before_self x (subst (IsBefore x) (sym (same ∙ e)) (front_before x xs up z is)))
+      | inr it ↦ it
+    ])
+    (λ z is. elim (front_or_rest x xs z (back z (in_rest y ys z is))) [
+      | inl e ↦ absurd (before_self y (subst (IsBefore y) (sym (sym same ∙ e)) (front_before y ys rise z is)))
+      | inr it ↦ it
+    ]) in
+    ap₂ (λ z zs. z ∷ zs) same rests
+
+-- there is one list of all sets with a property in order
+pub one_list : (P : ℕ → Type 0) (xs ys : List ℕ) → AreAllInOrder P xs → AreAllInOrder P ys → xs ≡ ys
+one_list P xs ys a b = one_order xs ys a.ordered b.ordered
+    (λ z is. (b.exactly z).1 ((a.exactly z).0 is))
+    (λ z is. (a.exactly z).1 ((b.exactly z).0 is))

@@ -1,0 +1,4 @@
+pub mod Bits
+pub mod Canonical
+pub mod Ids
+pub mod Successors
