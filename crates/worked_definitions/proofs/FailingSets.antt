@@ -1,0 +1,144 @@
+-- The computed failing sets are all sets that a crash can leave and that fail.
+use Rattle.std.proofs.Common.{◌≡◌, ◌≢◌, ℕ, zero, suc, ◌+◌, ◌*◌, ◌/◌, ◌%◌, ◌^◌, ◌<◌, ◌≤◌, List, [], ◌∷◌, length, Bool, true, false, not, ◌&&◌, ◌||◌, nat_lt, arith, refl, sym, subst, ap, ap₂, ◌∙◌, pow-suc, inl, inr, get_or, add-one}
+use Rattle.std.specs.Prelude.{◌⊎◌, ◌↔◌, ◌==◌, count_ones, Ok}
+use Rattle.std.specs.List.{All, AllPairs, Contains, filter, list_any, list_all}
+use Rattle.std.proofs.lemmas.Bool.Decides.{eqb_tells}
+use Rattle.std.proofs.lemmas.List.{get_or_default}
+use Rattle.std.proofs.lemmas.Bool.{and_parts, ltb-true}
+use Rattle.std.proofs.lemmas.Nat.{ones_le_self}
+use lib.Count.{ones_step}
+use Rattle.state_space.specs.Counts.{IsListOf, HoldsOf}
+use Rattle.patch_sets.specs.Sets.{Has, IsBefore, AreAllInOrder}
+use Rattle.patch_sets.specs.Closed.{AreEarlier, IsClosed}
+use Rattle.patch_sets.proofs.Bits.{small_from_below}
+use Rattle.patch_sets.proofs.Canonical.{ordered_from_next}
+use Rattle.patch_sets.proofs.Ids.{eq_from_true}
+use Rattle.crash_model.specs.Disk.{Disk}
+use Rattle.crash_model.specs.Patches.{deps_of, image_of}
+use Rattle.crash_model.specs.Faults.{IsClean, faults}
+use Rattle.crash_model.specs.Replay.{replayed}
+use Rattle.crash_model.specs.Failing.{IsFailing, CountsClosed}
+use Rattle.crash_model.proofs.Clean.{no_faults, clean_without}
+use Rattle.crash_model.specs.declared.fault.Fault.{Fault}
+use Rattle.crash_model.specs.Trace.{begun, traced}
+use Rattle.crash_model.specs.declared.patches.Patch.{Patch}
+use Rattle.crash_model.specs.declared.steps.Module.{Module}
+use Rattle.crash_model.specs.declared.steps.Step.{Step}
+use Rattle.worked_definitions.proofs.Graphs.{earlier, has_graph}
+use Rattle.worked_definitions.specs.Computed.{closed_sets, is_none_found, fails, failing_sets, ones_below, is_before, is_ordered, is_in, are_in_order, graph_of, trace_of, Explored}
+use Rattle.worked_definitions.proofs.ClosedSets.{AreApart, HasClosed, closed_are_all, pairs_apart, apart_filter, from_filter, to_filter}
+
+-- ---- how many
+
+list_of : (P : ℕ → Type 0) (xs : List ℕ) → AreApart xs → ((x : ℕ) → Contains xs x → P x) → ((x : ℕ) → P x → Contains xs x) → IsListOf P xs
+list_of P xs apart each every = record {
+  distinct = pairs_apart xs apart;
+  each = λ k d within. each (get_or xs k d) (k, within, get_or_default xs k (get_or xs k d) d within);
+  every = every;
+}
+
+pub counts_closed : (patches : List Patch) (n : ℕ) → AreEarlier (deps_of patches) → length (closed_sets (deps_of patches)) ≡ n → CountsClosed patches n
+counts_closed patches n before many =
+    let all = closed_are_all (deps_of patches) before in
+    (closed_sets (deps_of patches), list_of (IsClosed (deps_of patches)) (closed_sets (deps_of patches)) all.apart all.each all.every, many)
+
+-- ---- which fail
+
+no_fault : (found : List Fault) → not (is_none_found found) ≡ false → found ≡ []
+no_fault [] e = refl
+no_fault (f ∷ found) e = cc
+
+none_at_true : (found : List Fault) → not (is_none_found found) ≡ true → found ≡ [] → ⊥
+none_at_true [] e none = cc
+none_at_true (f ∷ found) e none = cc
+
+by_fault : (found : List Fault) → (found ≡ [] → ⊥) → not (is_none_found found) ≡ true
+by_fault [] some = absurd (some refl)
+by_fault (f ∷ found) some = refl
+
+module _ (base : Disk) (patches : List Patch) (before : AreEarlier (deps_of patches)) where
+  failing_at : (set : ℕ) → Contains (failing_sets base patches) set → IsFailing base patches set
+  failing_at set is =
+      let it = from_filter (fails base patches) (closed_sets (deps_of patches)) set is in
+      record {
+        closed = (closed_are_all (deps_of patches) before).each set it.0;
+        unclean = λ clean. none_at_true (faults (replayed (image_of base patches set))) it.1 (no_faults (replayed (image_of base patches set)) clean);
+      }
+
+  in_failing : (set : ℕ) → IsFailing base patches set → Contains (failing_sets base patches) set
+  in_failing set failing = to_filter (fails base patches) (closed_sets (deps_of patches)) set
+      ((closed_are_all (deps_of patches) before).every set failing.closed)
+      (by_fault (faults (replayed (image_of base patches set))) (λ none. failing.unclean (clean_without (replayed (image_of base patches set)) none)))
+
+  pub counts_failing : (n : ℕ) → length (failing_sets base patches) ≡ n → HoldsOf (IsFailing base patches) n
+  counts_failing n many = (failing_sets base patches,
+      list_of (IsFailing base patches) (failing_sets base patches)
+        (apart_filter (fails base patches) (closed_sets (deps_of patches)) ((closed_are_all (deps_of patches) before).apart)) failing_at in_failing,
+      many)
+
+-- ---- in order
+
+ones_are : (n set : ℕ) → set < 2 ^ n → count_ones set ≡ ones_below n set
+ones_are zero set small = omega (arith, ones_le_self set)
+ones_are (suc n) set small = ones_step set ∙ ap (λ k. set % 2 + k) (ones_are n (set / 2) (half (2 ^ n) set (omega (arith, small, pow-suc 2 n))))
+  where
+    half : (top set : ℕ) → set < top * 2 → set / 2 < top
+    half top set small = omega arith
+
+either : (a b : Bool) → (a || b) ≡ true → (a ≡ true) ⊎ (b ≡ true)
+either true b e = inl refl
+either false b e = inr e
+
+before_if : (n a b : ℕ) → a < 2 ^ n → b < 2 ^ n → is_before n a b ≡ true → IsBefore a b
+before_if n a b small_a small_b e = elim (either (nat_lt (ones_below n a) (ones_below n b)) _ e) [
+  | inl fewer ↦ inl (rw (ones_are n a small_a, ones_are n b small_b) (ltb-true _ _ fewer))
+  | inr same ↦ let parts = and_parts (ones_below n a == ones_below n b) (nat_lt a b) same in
+      inr (ones_are n a small_a ∙ (eq_from_true _ _ parts.0 ∙ sym (ones_are n b small_b)), ltb-true a b parts.1)
+]
+
+next_if : (n : ℕ) (sets : List ℕ) → ((set : ℕ) → Contains sets set → set < 2 ^ n) → is_ordered n sets ≡ true
+    → (k : ℕ) → k + 1 < length sets → IsBefore (get_or sets k 0) (get_or sets (k + 1) 0)
+next_if n [] small e k within = absurd (omega arith)
+next_if n (a ∷ []) small e k within = absurd (omega arith)
+next_if n (a ∷ b ∷ sets) small e zero within = before_if n a b (small a (zero, omega arith, refl)) (small b (1, omega arith, refl)) (and_parts (is_before n a b) _ e).0
+next_if n (a ∷ b ∷ sets) small e (suc k) within =
+    let rest : IsBefore (get_or (b ∷ sets) k 0) (get_or (b ∷ sets) (suc k) 0) =
+        subst (λ (m : ℕ). IsBefore (get_or (b ∷ sets) k 0) (get_or (b ∷ sets) m 0)) (add-one k)
+          (next_if n (b ∷ sets) (λ set is. small set (suc is.0, omega (arith, is.1), is.2)) (and_parts (is_before n a b) _ e).1 k (omega arith)) in
+    subst (λ (m : ℕ). IsBefore (get_or (b ∷ sets) k 0) (get_or (a ∷ b ∷ sets) m 0)) (sym (add-one (suc k))) rest
+
+in_if : (sets : List ℕ) (set : ℕ) → is_in sets set ≡ true → Contains sets set
+in_if [] set e = cc
+in_if (s ∷ sets) set e = elim (either (s == set) (list_any (λ t. t == set) sets) e) [
+  | inl same ↦ (zero, omega arith, eq_from_true s set same)
+  | inr more ↦ let it = in_if sets set more in (suc it.0, omega (arith, it.1), it.2)
+]
+
+all_if : (test : ℕ → Bool) (sets : List ℕ) → list_all test sets ≡ true → (set : ℕ) → Contains sets set → test set ≡ true
+all_if test [] e set is = absurd (omega (arith, is.1))
+all_if test (s ∷ sets) e set (zero, within, is) = ap test (sym is) ∙ (and_parts (test s) (list_all test sets) e).0
+all_if test (s ∷ sets) e set (suc k, within, is) = all_if test sets (and_parts (test s) (list_all test sets) e).1 set (k, omega arith, is)
+
+-- these sets are all that fail, in canonical order
+pub all_failing : (base : Disk) (patches : List Patch) (sets : List ℕ) → AreEarlier (deps_of patches)
+    → are_in_order (length (deps_of patches)) sets (failing_sets base patches) ≡ true → AreAllInOrder (IsFailing base patches) sets
+all_failing base patches sets before e =
+    let ordered = and_parts (is_ordered (length (deps_of patches)) sets) _ e in
+    let same = and_parts (list_all (is_in (failing_sets base patches)) sets) (list_all (is_in sets) (failing_sets base patches)) ordered.1 in
+    let fails_at = λ (set : ℕ) (is : Contains sets set).
+        failing_at base patches before set (in_if (failing_sets base patches) set (all_if (is_in (failing_sets base patches)) sets same.0 set is)) in
+    record {
+      ordered = ordered_from_next sets (next_if (length (deps_of patches)) sets (λ set is. small_from_below set (length (deps_of patches)) (fails_at set is).closed.known) ordered.0);
+      exactly = λ set. (fails_at set, λ failing. in_if sets set (all_if (is_in sets) (failing_sets base patches) same.1 set (in_failing base patches before set failing)));
+    }
+
+pub explored : (kind : Module) (base : Disk) (steps : List Step) (closed : ℕ) (failing : List ℕ)
+    → traced kind (begun base) steps ≡ Ok (trace_of kind base steps)
+    → length (closed_sets (deps_of (graph_of kind base (trace_of kind base steps)))) ≡ closed
+    → are_in_order (length (deps_of (graph_of kind base (trace_of kind base steps)))) failing (failing_sets base (graph_of kind base (trace_of kind base steps))) ≡ true
+    → Explored kind base steps closed failing
+explored kind base steps closed failing run many found =
+    let patches = graph_of kind base (trace_of kind base steps) in
+    let before = earlier kind base (trace_of kind base steps) in
+    has_graph kind base steps (λ ps. CountsClosed ps closed × AreAllInOrder (IsFailing base ps) failing) run
+      (counts_closed patches closed before many, all_failing base patches failing before found)

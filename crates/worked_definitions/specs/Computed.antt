@@ -1,0 +1,115 @@
+-- The graph of a trace, its closed sets and those that fail, computed. That these are the defined ones is proved for
+-- every trace; a worked example then only computes.
+use Rattle.std.specs.Prelude.{◌≡◌, ℕ, zero, suc, ◌+◌, ◌*◌, ◌/◌, ◌%◌, List, [], ◌∷◌, ◌++◌, length, map, filter, Bool, true, false, not, ◌==◌, ◌&&◌, ◌||◌, nat_lt, if◌then◌else◌, Option, Some, None, Result, Ok, Err, slice_get, slice_range, bit_and}
+use Rattle.std.specs.List.{list_any, list_all}
+use Rattle.patch_sets.specs.Sets.{with_id, AreAllInOrder}
+use Rattle.crash_model.specs.Failing.{IsFailing, CountsClosed}
+use Rattle.crash_model.specs.Disk.{Disk, put}
+use Rattle.crash_model.specs.Patches.{deps_of, image_of}
+use Rattle.crash_model.specs.Faults.{faults}
+use Rattle.crash_model.specs.Replay.{replayed}
+use Rattle.crash_model.specs.Trace.{Emitted, Tracing, begun, traced, depends, IsGraphOf}
+use Rattle.crash_model.specs.declared.fault.Fault.{Fault}
+use Rattle.crash_model.specs.declared.patches.Patch.{Patch}
+use Rattle.crash_model.specs.declared.refusals.TraceFault.{TraceFault}
+use Rattle.crash_model.specs.declared.steps.Module.{Module}
+use Rattle.crash_model.specs.declared.steps.Step.{Step}
+
+-- the set of the ids below n that pass a test
+abbrev pub set_below : ℕ → (ℕ → Bool) → ℕ
+set_below zero passes = 0
+set_below (suc n) passes = if passes n then with_id (set_below n passes) n else set_below n passes
+
+-- whether the patch at one place depends on the one at another
+abbrev pub depends_if : Module → List (List ℕ × List ℕ) → Option Emitted → Option Emitted → Bool
+depends_if kind links None p = false
+depends_if kind links (Some q) None = false
+depends_if kind links (Some q) (Some p) = depends kind links q p
+
+abbrev pub needs : Module → List (List ℕ × List ℕ) → List Emitted → ℕ → ℕ
+needs kind links all q = set_below q (λ p. depends_if kind links (slice_get all q) (slice_get all p))
+
+-- the patches from place q on, on the disk after those before it
+abbrev pub patches_from : Module → List (List ℕ × List ℕ) → List Emitted → ℕ → Disk → List Emitted → List Patch
+patches_from kind links all q d [] = []
+patches_from kind links all q d (e ∷ es) =
+    record {
+      block = e.place.block;
+      offset = e.place.offset;
+      new = record { items = e.place.new };
+      undo = record { items = slice_range d.bytes (128 * e.place.block + e.place.offset) (128 * e.place.block + e.place.offset + length e.place.new) };
+      deps = needs kind links all q;
+    }
+    ∷ patches_from kind links all (q + 1) (put d e.place.block e.place.offset e.place.new) es
+
+abbrev pub graph_of : Module → Disk → Tracing → List Patch
+graph_of kind base s = patches_from kind s.links s.emitted 0 base s.emitted
+
+-- the closed sets, patch by patch: those so far, and with the next patch those that have what it depends on
+abbrev pub closed_from : ℕ → List ℕ → List ℕ → List ℕ
+closed_from id [] sets = sets
+closed_from id (need ∷ deps) sets = closed_from (id + 1) deps (sets ++ map (λ set. with_id set id) (filter (λ set. bit_and need set == need) sets))
+
+abbrev pub closed_sets : List ℕ → List ℕ
+closed_sets deps = closed_from 0 deps (0 ∷ [])
+
+abbrev pub is_none_found : List Fault → Bool
+is_none_found [] = true
+is_none_found (f ∷ fs) = false
+
+abbrev pub fails : Disk → List Patch → ℕ → Bool
+fails base patches set = not (is_none_found (faults (replayed (image_of base patches set))))
+
+abbrev pub failing_sets : Disk → List Patch → List ℕ
+failing_sets base patches = filter (fails base patches) (closed_sets (deps_of patches))
+
+-- the ids of a set below 2 ^ n are so many
+abbrev pub ones_below : ℕ → ℕ → ℕ
+ones_below zero set = 0
+ones_below (suc n) set = set % 2 + ones_below n (set / 2)
+
+-- canonical order, of sets below 2 ^ n
+abbrev pub is_before : ℕ → ℕ → ℕ → Bool
+is_before n a b = nat_lt (ones_below n a) (ones_below n b) || (ones_below n a == ones_below n b && nat_lt a b)
+
+abbrev pub is_ordered : ℕ → List ℕ → Bool
+is_ordered n [] = true
+is_ordered n (a ∷ []) = true
+is_ordered n (a ∷ b ∷ sets) = is_before n a b && is_ordered n (b ∷ sets)
+
+abbrev pub is_in : List ℕ → ℕ → Bool
+is_in sets set = list_any (λ s. s == set) sets
+
+-- two lists have the same sets, and those of the first ascend
+abbrev pub are_in_order : ℕ → List ℕ → List ℕ → Bool
+are_in_order n sets found = is_ordered n sets && (list_all (is_in found) sets && list_all (is_in sets) found)
+
+-- the set of these ids
+abbrev pub set_of : List ℕ → ℕ
+set_of [] = 0
+set_of (id ∷ ids) = with_id (set_of ids) id
+
+-- the sets of these ids
+abbrev pub sets : List (List ℕ) → List ℕ
+sets each = map set_of each
+
+-- what the steps emit, or nothing where one is refused
+abbrev pub accepted : Disk → Result Tracing TraceFault → Tracing
+accepted base (Err fault) = begun base
+accepted base (Ok s) = s
+
+abbrev pub trace_of : Module → Disk → List Step → Tracing
+trace_of kind base steps = accepted base (traced kind (begun base) steps)
+
+-- the steps are accepted, and their graph has the property
+pub record HasGraph (kind : Module) (base : Disk) (steps : List Step) (P : List Patch → Type 0) : Type 0 where
+  pub last : Tracing
+  pub run : traced kind (begun base) steps ≡ Ok last
+  pub patches : List Patch
+  pub graph : IsGraphOf kind base last patches
+  pub holds : P patches
+
+-- the steps are accepted, so many sets are closed, and these are all that fail, in canonical order
+abbrev pub Explored : Module → Disk → List Step → ℕ → List ℕ → Type 0
+Explored kind base steps closed failing =
+    HasGraph kind base steps (λ patches. CountsClosed patches closed × AreAllInOrder (IsFailing base patches) failing)

@@ -1,0 +1,7 @@
+//! The definitions of `crash_model` and `patch_sets` on worked examples.
+//!
+//! Each function has an empty body: its contract is a fact about the definitions, and the check computes it.
+#![tactic(auto)]
+
+pub mod crashes;
+pub mod operations;
