@@ -1,6 +1,6 @@
 -- The computed failing sets are all sets that a crash can leave and that fail.
 use Rattle.std.proofs.Common.{◌≡◌, ◌≢◌, ℕ, zero, suc, ◌+◌, ◌*◌, ◌/◌, ◌%◌, ◌^◌, ◌<◌, ◌≤◌, List, [], ◌∷◌, length, Bool, true, false, not, ◌&&◌, ◌||◌, nat_lt, arith, refl, sym, subst, ap, ap₂, ◌∙◌, pow-suc, inl, inr, get_or, add-one}
-use Rattle.std.specs.Prelude.{◌⊎◌, ◌↔◌, ◌==◌, count_ones, Ok}
+use Rattle.std.specs.Prelude.{◌⊎◌, ◌↔◌, ◌==◌, count_ones, Ok, Err, Result}
 use Rattle.std.specs.List.{All, AllPairs, Contains, filter, list_any, list_all}
 use Rattle.std.proofs.lemmas.Bool.Decides.{eqb_tells}
 use Rattle.std.proofs.lemmas.List.{get_or_default}
@@ -8,11 +8,11 @@ use Rattle.std.proofs.lemmas.Bool.{and_parts, ltb-true}
 use Rattle.std.proofs.lemmas.Nat.{ones_le_self}
 use lib.Count.{ones_step}
 use Rattle.state_space.specs.Counts.{IsListOf, HoldsOf}
-use Rattle.patch_sets.specs.Sets.{Has, IsBefore, AreAllInOrder}
+use Rattle.patch_sets.specs.Sets.{Has, has, IsBefore, AreAllInOrder}
 use Rattle.patch_sets.specs.Closed.{AreEarlier, IsClosed}
 use Rattle.patch_sets.proofs.Bits.{small_from_below}
 use Rattle.patch_sets.proofs.Canonical.{ordered_from_next}
-use Rattle.patch_sets.proofs.Ids.{eq_from_true}
+use Rattle.patch_sets.proofs.Ids.{eq_from_true, true_from_eq}
 use Rattle.crash_model.specs.Disk.{Disk}
 use Rattle.crash_model.specs.Patches.{deps_of, image_of}
 use Rattle.crash_model.specs.Faults.{IsClean, faults}
@@ -20,12 +20,13 @@ use Rattle.crash_model.specs.Replay.{replayed}
 use Rattle.crash_model.specs.Failing.{IsFailing, CountsClosed}
 use Rattle.crash_model.proofs.Clean.{no_faults, clean_without}
 use Rattle.crash_model.specs.declared.fault.Fault.{Fault}
-use Rattle.crash_model.specs.Trace.{begun, traced}
+use Rattle.crash_model.specs.Trace.{Tracing, begun, traced}
 use Rattle.crash_model.specs.declared.patches.Patch.{Patch}
+use Rattle.crash_model.specs.declared.refusals.TraceFault.{TraceFault}
 use Rattle.crash_model.specs.declared.steps.Module.{Module}
 use Rattle.crash_model.specs.declared.steps.Step.{Step}
 use Rattle.worked_definitions.proofs.Graphs.{earlier, has_graph}
-use Rattle.worked_definitions.specs.Computed.{closed_sets, is_none_found, fails, failing_sets, ones_below, is_before, is_ordered, is_in, are_in_order, graph_of, trace_of, Explored}
+use Rattle.worked_definitions.specs.Computed.{closed_sets, is_none_found, fails, failing_sets, ones_below, is_before, is_ordered, is_in, are_in_order, graph_of, trace_of, HasGraph, Explored, is_accepted, accepted, explores, CountsWith}
 use Rattle.worked_definitions.proofs.ClosedSets.{AreApart, HasClosed, closed_are_all, pairs_apart, apart_filter, from_filter, to_filter}
 
 -- ---- how many
@@ -41,6 +42,19 @@ pub counts_closed : (patches : List Patch) (n : ℕ) → AreEarlier (deps_of pat
 counts_closed patches n before many =
     let all = closed_are_all (deps_of patches) before in
     (closed_sets (deps_of patches), list_of (IsClosed (deps_of patches)) (closed_sets (deps_of patches)) all.apart all.each all.every, many)
+
+-- with so many of these ids
+counts_with : (patches : List Patch) (ids : List ℕ) (held n : ℕ) → AreEarlier (deps_of patches)
+    → length (filter (λ set. length (filter (has set) ids) == held) (closed_sets (deps_of patches))) ≡ n → CountsWith patches ids held n
+counts_with patches ids held n before many =
+    let all = closed_are_all (deps_of patches) before in
+    let test = λ (set : ℕ). length (filter (has set) ids) == held in
+    (filter test (closed_sets (deps_of patches)),
+     list_of (λ set. IsClosed (deps_of patches) set × (length (filter (has set) ids) ≡ held)) (filter test (closed_sets (deps_of patches)))
+       (apart_filter test (closed_sets (deps_of patches)) all.apart)
+       (λ set is. let it = from_filter test (closed_sets (deps_of patches)) set is in (all.each set it.0, eq_from_true _ held it.1))
+       (λ set is. to_filter test (closed_sets (deps_of patches)) set (all.every set is.0) (true_from_eq _ held is.1)),
+     many)
 
 -- ---- which fail
 
@@ -132,13 +146,57 @@ all_failing base patches sets before e =
       exactly = λ set. (fails_at set, λ failing. in_if sets set (all_if (is_in sets) (failing_sets base patches) same.1 set (in_failing base patches before set failing)));
     }
 
-pub explored : (kind : Module) (base : Disk) (steps : List Step) (closed : ℕ) (failing : List ℕ)
-    → traced kind (begun base) steps ≡ Ok (trace_of kind base steps)
+accepted_is : (base : Disk) (r : Result Tracing TraceFault) → is_accepted r ≡ true → r ≡ Ok (accepted base r)
+accepted_is base (Err fault) e = cc
+accepted_is base (Ok s) e = refl
+
+-- a computed graph that has a property
+pub graph_if : (kind : Module) (base : Disk) (steps : List Step) (P : List Patch → Type 0)
+    → is_accepted (traced kind (begun base) steps) ≡ true → P (graph_of kind base (trace_of kind base steps)) → HasGraph kind base steps P
+graph_if kind base steps P run holds = has_graph kind base steps P (accepted_is base (traced kind (begun base) steps) run) holds
+
+pub counted_if : (kind : Module) (base : Disk) (steps : List Step) (closed : ℕ)
+    → is_accepted (traced kind (begun base) steps) ≡ true
     → length (closed_sets (deps_of (graph_of kind base (trace_of kind base steps)))) ≡ closed
-    → are_in_order (length (deps_of (graph_of kind base (trace_of kind base steps)))) failing (failing_sets base (graph_of kind base (trace_of kind base steps))) ≡ true
-    → Explored kind base steps closed failing
-explored kind base steps closed failing run many found =
+    → HasGraph kind base steps (λ patches. CountsClosed patches closed)
+counted_if kind base steps closed run many =
+    graph_if kind base steps (λ patches. CountsClosed patches closed) run
+      (counts_closed (graph_of kind base (trace_of kind base steps)) closed (earlier kind base (trace_of kind base steps)) many)
+
+pub number_if : (kind : Module) (base : Disk) (steps : List Step) (many : ℕ)
+    → is_accepted (traced kind (begun base) steps) ≡ true
+    → length (failing_sets base (graph_of kind base (trace_of kind base steps))) ≡ many
+    → HasGraph kind base steps (λ patches. HoldsOf (IsFailing base patches) many)
+number_if kind base steps many run is =
+    graph_if kind base steps (λ patches. HoldsOf (IsFailing base patches) many) run
+      (counts_failing base (graph_of kind base (trace_of kind base steps)) (earlier kind base (trace_of kind base steps)) many is)
+
+pub counted_with_if : (kind : Module) (base : Disk) (steps : List Step) (ids : List ℕ) (held count : ℕ)
+    → is_accepted (traced kind (begun base) steps) ≡ true
+    → length (filter (λ set. length (filter (has set) ids) == held) (closed_sets (deps_of (graph_of kind base (trace_of kind base steps))))) ≡ count
+    → HasGraph kind base steps (λ patches. CountsWith patches ids held count)
+counted_with_if kind base steps ids held count run many =
+    graph_if kind base steps (λ patches. CountsWith patches ids held count) run
+      (counts_with (graph_of kind base (trace_of kind base steps)) ids held count (earlier kind base (trace_of kind base steps)) many)
+
+-- one of the closed sets fails
+pub failing_if : (kind : Module) (base : Disk) (steps : List Step) (set : ℕ)
+    → is_accepted (traced kind (begun base) steps) ≡ true
+    → is_in (closed_sets (deps_of (graph_of kind base (trace_of kind base steps)))) set ≡ true
+    → fails base (graph_of kind base (trace_of kind base steps)) set ≡ true
+    → HasGraph kind base steps (λ patches. IsFailing base patches set)
+failing_if kind base steps set run is_closed is_failing =
+    let patches = graph_of kind base (trace_of kind base steps) in
+    graph_if kind base steps (λ ps. IsFailing base ps set) run
+      (failing_at base patches (earlier kind base (trace_of kind base steps)) set
+        (to_filter (fails base patches) (closed_sets (deps_of patches)) set (in_if (closed_sets (deps_of patches)) set is_closed) is_failing))
+
+pub explored_if : (kind : Module) (base : Disk) (steps : List Step) (closed : ℕ) (failing : List ℕ)
+    → explores kind base steps closed failing ≡ true → Explored kind base steps closed failing
+explored_if kind base steps closed failing e =
     let patches = graph_of kind base (trace_of kind base steps) in
     let before = earlier kind base (trace_of kind base steps) in
-    has_graph kind base steps (λ ps. CountsClosed ps closed × AreAllInOrder (IsFailing base ps) failing) run
-      (counts_closed patches closed before many, all_failing base patches failing before found)
+    let first = and_parts (is_accepted (traced kind (begun base) steps)) _ e in
+    let more = and_parts (length (closed_sets (deps_of (graph_of kind base (trace_of kind base steps)))) == closed) _ first.1 in
+    graph_if kind base steps (λ ps. CountsClosed ps closed × AreAllInOrder (IsFailing base ps) failing) first.0
+      (counts_closed patches closed before (eq_from_true _ _ more.0), all_failing base patches failing before more.1)

@@ -2,7 +2,9 @@
 -- every trace; a worked example then only computes.
 use Rattle.std.specs.Prelude.{◌≡◌, ℕ, zero, suc, ◌+◌, ◌*◌, ◌/◌, ◌%◌, List, [], ◌∷◌, ◌++◌, length, map, filter, Bool, true, false, not, ◌==◌, ◌&&◌, ◌||◌, nat_lt, if◌then◌else◌, Option, Some, None, Result, Ok, Err, slice_get, slice_range, bit_and}
 use Rattle.std.specs.List.{list_any, list_all}
-use Rattle.patch_sets.specs.Sets.{with_id, AreAllInOrder}
+use Rattle.state_space.specs.Counts.{HoldsOf}
+use Rattle.patch_sets.specs.Sets.{has, with_id, ids_of, AreAllInOrder}
+use Rattle.patch_sets.specs.Closed.{IsClosed}
 use Rattle.crash_model.specs.Failing.{IsFailing, CountsClosed}
 use Rattle.crash_model.specs.Disk.{Disk, put}
 use Rattle.crash_model.specs.Patches.{deps_of, image_of}
@@ -98,6 +100,10 @@ abbrev pub accepted : Disk → Result Tracing TraceFault → Tracing
 accepted base (Err fault) = begun base
 accepted base (Ok s) = s
 
+abbrev pub is_accepted : Result Tracing TraceFault → Bool
+is_accepted (Err fault) = false
+is_accepted (Ok s) = true
+
 abbrev pub trace_of : Module → Disk → List Step → Tracing
 trace_of kind base steps = accepted base (traced kind (begun base) steps)
 
@@ -113,3 +119,18 @@ pub record HasGraph (kind : Module) (base : Disk) (steps : List Step) (P : List 
 abbrev pub Explored : Module → Disk → List Step → ℕ → List ℕ → Type 0
 Explored kind base steps closed failing =
     HasGraph kind base steps (λ patches. CountsClosed patches closed × AreAllInOrder (IsFailing base patches) failing)
+
+-- the same as a test
+abbrev pub explores : Module → Disk → List Step → ℕ → List ℕ → Bool
+explores kind base steps closed failing =
+    let patches = graph_of kind base (trace_of kind base steps) in
+    is_accepted (traced kind (begun base) steps) && ((length (closed_sets (deps_of patches)) == closed)
+    && are_in_order (length (deps_of patches)) failing (failing_sets base patches))
+
+-- so many closed sets have exactly `many` of these ids
+abbrev pub CountsWith : List Patch → List ℕ → ℕ → ℕ → Type 0
+CountsWith patches ids many count = HoldsOf (λ set. IsClosed (deps_of patches) set × (length (filter (has set) ids) ≡ many)) count
+
+-- each patch's block, offset and dependencies
+abbrev pub table : List Patch → List (ℕ × ℕ × List ℕ)
+table patches = map (λ p. (p.block, p.offset, ids_of (length patches) p.deps)) patches

@@ -1,56 +1,102 @@
--- The disks and operations of the worked examples.
-use Rattle.std.specs.Prelude.{ℕ, ◌+◌, List, [], ◌∷◌, Result, Ok, Err, codes}
-use Rattle.crash_model.specs.declared.steps.Act.TheVariants.{Do}
-use Rattle.crash_model.specs.declared.steps.Step.{Step}
-use Rattle.crash_model.specs.Disk.{Disk, formatted}
+-- The disks and steps of the worked examples.
+use Rattle.std.specs.Prelude.{ℕ, ◌+◌, List, [], ◌∷◌, replicate, codes}
+use Rattle.crash_model.specs.Disk.{Disk, formatted, put}
 use Rattle.crash_model.specs.Plan.{plan_of, result_applied}
 use Rattle.crash_model.specs.declared.names.Op.{Op}
 use Rattle.crash_model.specs.declared.names.Op.TheVariants.{Create, Write, Link, Unlink, Rename, Mkdir, Rmdir}
 use Rattle.crash_model.specs.declared.names.Path.{Path}
+use Rattle.crash_model.specs.declared.steps.Act.{Act}
+use Rattle.crash_model.specs.declared.steps.Act.TheVariants.{Do, Group, End, Depend}
+use Rattle.crash_model.specs.declared.steps.Step.{Step}
 
--- the path of a name in the root directory
+-- the path of a name in the root directory, and in a directory of it
 abbrev pub root : List ℕ → Path
 root name = record { through = record { items = [] }; last = name }
 
--- the path of a name in a directory of the root
 abbrev pub inside : List ℕ → List ℕ → Path
 inside dir name = record { through = record { items = dir ∷ [] }; last = name }
 
--- the smallest new disk, without a journal
-abbrev pub fresh : Disk
-fresh = formatted 16 0
-
--- the disk after these operations, of which those that are refused change nothing
-abbrev pub after : Disk → List Op → Disk
-after d [] = d
-after d (op ∷ ops) = after (result_applied d (plan_of d op)) ops
-
--- the steps of these operations, line by line
-abbrev pub steps_from : ℕ → List Op → List Step
-steps_from line [] = []
-steps_from line (op ∷ ops) = record { line = line; act = Do op } ∷ steps_from (line + 1) ops
-
--- the paths /a and /b
+-- /a, /b, /c, /d, /f, /x, /d/x
 abbrev pub a : Path
 a = root (codes "a")
 
 abbrev pub b : Path
 b = root (codes "b")
 
--- `create /a`, `write /a`
-abbrev pub new_file : List Step
-new_file = steps_from 2 (Create a ∷ Write a ∷ [])
+abbrev pub c : Path
+c = root (codes "c")
 
--- `rename /a /b`, where /a is there
+abbrev pub d : Path
+d = root (codes "d")
+
+abbrev pub f : Path
+f = root (codes "f")
+
+abbrev pub x : Path
+x = root (codes "x")
+
+abbrev pub d_x : Path
+d_x = inside (codes "d") (codes "x")
+
+-- the smallest new disk, without a journal and with one of six blocks
+abbrev pub fresh : Disk
+fresh = formatted 16 0
+
+abbrev pub fresh_with_journal : Disk
+fresh_with_journal = formatted 16 6
+
+-- the disk after these operations; one that is refused changes nothing
+abbrev pub after : Disk → List Op → Disk
+after disk [] = disk
+after disk (op ∷ ops) = after (result_applied disk (plan_of disk op)) ops
+
+-- these acts, one a line
+abbrev pub numbered : ℕ → List Act → List Step
+numbered line [] = []
+numbered line (act ∷ acts) = record { line = line; act = act } ∷ numbered (line + 1) acts
+
+abbrev pub steps_from : ℕ → List Op → List Step
+steps_from line [] = []
+steps_from line (op ∷ ops) = record { line = line; act = Do op } ∷ steps_from (line + 1) ops
+
+-- ---- on a new disk
+
+abbrev pub one_file : List Step
+one_file = steps_from 2 (Create a ∷ [])
+
+abbrev pub two_files : List Step
+two_files = steps_from 2 (Create a ∷ Create b ∷ [])
+
+abbrev pub written_file : List Step
+written_file = steps_from 2 (Create a ∷ Write a ∷ [])
+
+-- each file in a group of its own, the second group after the first
+abbrev pub grouped_files : List Step
+grouped_files = numbered 2 (Group (codes "A") ∷ Do (Create a) ∷ End ∷ Depend (codes "B") (codes "A") ∷ Group (codes "B") ∷ Do (Create b) ∷ End ∷ [])
+
+-- ---- where /a is there
+
 abbrev pub with_file : Disk
 with_file = after fresh (Create a ∷ [])
 
-abbrev pub renaming : List Step
-renaming = steps_from 3 (Rename a b ∷ [])
+abbrev pub second_link : List Step
+second_link = steps_from 3 (Link a b ∷ [])
 
--- `unlink /a`, whose block `write /b` takes
+abbrev pub renamed : List Step
+renamed = steps_from 3 (Rename a b ∷ [])
+
+-- ---- where /a has a block and /b has none: the block of /a goes to /b
+
 abbrev pub with_files : Disk
 with_files = after fresh (Create a ∷ Write a ∷ Create b ∷ [])
 
-abbrev pub reuse : List Step
-reuse = steps_from 5 (Unlink a ∷ Write b ∷ [])
+abbrev pub reused_block : List Step
+reused_block = steps_from 5 (Unlink a ∷ Write b ∷ [])
+
+-- ---- where the directory /d has the file /d/x, and /f has no block: the block of /d goes to /f
+
+abbrev pub with_directory : Disk
+with_directory = after (formatted 24 12) (Mkdir d ∷ Create d_x ∷ Create f ∷ [])
+
+abbrev pub reused_directory : List Step
+reused_directory = steps_from 5 (Unlink d_x ∷ Rmdir d ∷ Write f ∷ [])
