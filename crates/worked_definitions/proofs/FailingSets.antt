@@ -1,5 +1,5 @@
 -- The computed failing sets are all sets that a crash can leave and that fail.
-use Rattle.std.proofs.Common.{◌≡◌, ◌≢◌, ℕ, zero, suc, ◌+◌, ◌*◌, ◌/◌, ◌%◌, ◌^◌, ◌<◌, ◌≤◌, List, [], ◌∷◌, length, Bool, true, false, not, ◌&&◌, ◌||◌, nat_lt, arith, refl, sym, subst, ap, ap₂, ◌∙◌, pow-suc, inl, inr, get_or, add-one}
+use Rattle.std.proofs.Common.{◌≡◌, ◌≢◌, ℕ, zero, suc, ◌+◌, ◌*◌, ◌/◌, ◌%◌, ◌^◌, ◌<◌, ◌≤◌, List, [], ◌∷◌, length, take, drop, Bool, true, false, not, ◌&&◌, ◌||◌, nat_lt, arith, refl, sym, subst, ap, ap₂, ◌∙◌, pow-suc, inl, inr, get_or, add-one}
 use Rattle.std.specs.Prelude.{◌⊎◌, ◌↔◌, ◌==◌, count_ones, Ok, Err, Result}
 use Rattle.std.specs.List.{All, AllPairs, Contains, filter, list_any, list_all}
 use Rattle.std.proofs.lemmas.Bool.Decides.{eqb_tells}
@@ -26,7 +26,7 @@ use Rattle.crash_model.specs.declared.refusals.TraceFault.{TraceFault}
 use Rattle.crash_model.specs.declared.steps.Module.{Module}
 use Rattle.crash_model.specs.declared.steps.Step.{Step}
 use Rattle.worked_definitions.proofs.Graphs.{earlier, has_graph}
-use Rattle.worked_definitions.specs.Computed.{closed_sets, is_none_found, fails, failing_sets, ones_below, is_before, is_ordered, is_in, are_in_order, graph_of, trace_of, HasGraph, Explored, is_accepted, accepted, explores, CountsWith}
+use Rattle.worked_definitions.specs.Computed.{closed_sets, is_none_found, fails, failing_sets, ones_below, is_before, is_ordered, is_in, are_in_order, graph_of, trace_of, HasGraph, Explored, is_accepted, accepted, explores, CountsWith, none_fails}
 use Rattle.worked_definitions.proofs.ClosedSets.{AreApart, HasClosed, closed_are_all, pairs_apart, apart_filter, from_filter, to_filter}
 
 -- ---- how many
@@ -200,3 +200,42 @@ explored_if kind base steps closed failing e =
     let more = and_parts (length (closed_sets (deps_of (graph_of kind base (trace_of kind base steps)))) == closed) _ first.1 in
     graph_if kind base steps (λ ps. CountsClosed ps closed × AreAllInOrder (IsFailing base ps) failing) first.0
       (counts_closed patches closed before (eq_from_true _ _ more.0), all_failing base patches failing before more.1)
+
+-- ---- in parts, where a declaration's steps don't suffice
+
+none_filtered : (base : Disk) (patches : List Patch) (some : List ℕ) → none_fails base patches some ≡ true → filter (fails base patches) some ≡ []
+none_filtered base patches [] e = refl
+none_filtered base patches (set ∷ some) e =
+    let parts = and_parts (not (fails base patches set)) (none_fails base patches some) e in
+    rw (not_true _ parts.0) (none_filtered base patches some parts.1)
+  where
+    not_true : (b : Bool) → not b ≡ true → b ≡ false
+    not_true false e = refl
+    not_true true e = cc
+
+pub none_in_parts : (n : ℕ) (base : Disk) (patches : List Patch) (some : List ℕ)
+    → none_fails base patches (take n some) ≡ true → none_fails base patches (drop n some) ≡ true → none_fails base patches some ≡ true
+none_in_parts zero base patches some low high = high
+none_in_parts (suc n) base patches [] low high = refl
+none_in_parts (suc n) base patches (set ∷ some) low high =
+    let parts = and_parts (not (fails base patches set)) (none_fails base patches (take n some)) low in
+    let rest : none_fails base patches some ≡ true = none_in_parts n base patches some parts.1 high in
+    and_of (not (fails base patches set)) (none_fails base patches some) parts.0 rest
+  where
+    and_of : (a b : Bool) → a ≡ true → b ≡ true → (a && b) ≡ true
+    and_of a b p q = rw (p, q) refl
+
+pub all_clean_if : (kind : Module) (base : Disk) (steps : List Step) (closed : ℕ)
+    → is_accepted (traced kind (begun base) steps) ≡ true
+    → length (closed_sets (deps_of (graph_of kind base (trace_of kind base steps)))) ≡ closed
+    → none_fails base (graph_of kind base (trace_of kind base steps)) (closed_sets (deps_of (graph_of kind base (trace_of kind base steps)))) ≡ true
+    → Explored kind base steps closed []
+all_clean_if kind base steps closed run many clean =
+    let patches = graph_of kind base (trace_of kind base steps) in
+    let before = earlier kind base (trace_of kind base steps) in
+    graph_if kind base steps (λ ps. CountsClosed ps closed × AreAllInOrder (IsFailing base ps) []) run
+      (counts_closed patches closed before many, all_failing base patches [] before (none_in_order base patches clean))
+  where
+    none_in_order : (base : Disk) (patches : List Patch) → none_fails base patches (closed_sets (deps_of patches)) ≡ true
+        → are_in_order (length (deps_of patches)) [] (failing_sets base patches) ≡ true
+    none_in_order base patches clean = rw (none_filtered base patches (closed_sets (deps_of patches)) clean) refl

@@ -134,3 +134,13 @@ CountsWith patches ids many count = HoldsOf (λ set. IsClosed (deps_of patches) 
 -- each patch's block, offset and dependencies
 abbrev pub table : List Patch → List (ℕ × ℕ × List ℕ)
 table patches = map (λ p. (p.block, p.offset, ids_of (length patches) p.deps)) patches
+
+-- the new bytes of the patch with an id
+abbrev pub new_bytes : List Patch → ℕ → List ℕ
+new_bytes [] id = []
+new_bytes (p ∷ ps) zero = p.new.items
+new_bytes (p ∷ ps) (suc id) = new_bytes ps id
+
+-- none of these sets fails
+abbrev pub none_fails : Disk → List Patch → List ℕ → Bool
+none_fails base patches some = list_all (λ set. not (fails base patches set)) some

@@ -100,3 +100,37 @@ with_directory = after (formatted 24 12) (Mkdir d ∷ Create d_x ∷ Create f �
 
 abbrev pub reused_directory : List Step
 reused_directory = steps_from 5 (Unlink d_x ∷ Rmdir d ∷ Write f ∷ [])
+
+-- ---- disks that are full
+
+-- ten files in /d
+abbrev pub full_directory : Disk
+full_directory = after fresh (Mkdir d ∷ Create (inside (codes "d") (codes "0")) ∷ Create (inside (codes "d") (codes "1")) ∷ Create (inside (codes "d") (codes "2"))
+    ∷ Create (inside (codes "d") (codes "3")) ∷ Create (inside (codes "d") (codes "4")) ∷ Create (inside (codes "d") (codes "5")) ∷ Create (inside (codes "d") (codes "6"))
+    ∷ Create (inside (codes "d") (codes "7")) ∷ Create (inside (codes "d") (codes "8")) ∷ Create (inside (codes "d") (codes "9")) ∷ [])
+
+-- and four in the root: all 16 inodes
+abbrev pub few_inodes : Disk
+few_inodes = after full_directory (Create a ∷ Create b ∷ Create c ∷ Create (root (codes "e")) ∷ [])
+
+-- /a with eight links
+abbrev pub linked : Disk
+linked = after with_file (Link a b ∷ Link a c ∷ Link a d ∷ Link a (root (codes "e")) ∷ Link a f ∷ Link a (root (codes "g")) ∷ Link a (root (codes "h")) ∷ [])
+
+-- /a with four blocks
+abbrev pub full_file : Disk
+full_file = after with_file (Write a ∷ Write a ∷ Write a ∷ Write a ∷ [])
+
+-- two blocks for data, both taken
+abbrev pub no_blocks : Disk
+no_blocks = after (formatted 16 10) (Create a ∷ Write a ∷ [])
+
+-- ---- disks that no operation leaves
+
+-- the root's block without its mark
+abbrev pub unmarked_root : Disk
+unmarked_root = put fresh 4 0 (0 ∷ [])
+
+-- the inodes' two blocks all of one byte
+abbrev pub with_inode_bytes : ℕ → Disk
+with_inode_bytes byte = put (put fresh 2 0 (replicate 128 byte)) 3 0 (replicate 128 byte)

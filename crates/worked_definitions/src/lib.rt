@@ -4,4 +4,6 @@
 #![tactic(auto)]
 
 pub mod crashes;
+pub mod images;
+pub mod journals;
 pub mod operations;
