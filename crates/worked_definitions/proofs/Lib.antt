@@ -1,3 +1,4 @@
 pub mod Graphs
 pub mod ClosedSets
 pub mod FailingSets
+pub mod Sound

@@ -1,12 +1,13 @@
 -- The graph of a trace, its closed sets and those that fail, computed. That these are the defined ones is proved for
 -- every trace; a worked example then only computes.
-use Rattle.std.specs.Prelude.{◌≡◌, ℕ, zero, suc, ◌+◌, ◌*◌, ◌/◌, ◌%◌, List, [], ◌∷◌, ◌++◌, length, map, filter, Bool, true, false, not, ◌==◌, ◌&&◌, ◌||◌, nat_lt, if◌then◌else◌, Option, Some, None, Result, Ok, Err, slice_get, slice_range, bit_and}
+use Rattle.std.specs.Prelude.{◌≡◌, ℕ, zero, suc, ◌+◌, ◌*◌, ◌/◌, ◌%◌, List, [], ◌∷◌, ◌++◌, length, map, filter, Bool, true, false, not, ◌==◌, ◌&&◌, ◌||◌, nat_lt, nat_le, if◌then◌else◌, Option, Some, None, Result, Ok, Err, slice_get, slice_range, bit_and}
 use Rattle.std.specs.List.{list_any, list_all}
 use Rattle.state_space.specs.Counts.{HoldsOf}
 use Rattle.patch_sets.specs.Sets.{has, with_id, ids_of, AreAllInOrder}
 use Rattle.patch_sets.specs.Closed.{IsClosed}
 use Rattle.crash_model.specs.Failing.{IsFailing, CountsClosed}
-use Rattle.crash_model.specs.Disk.{Disk, put}
+use Rattle.crash_model.specs.Disk.{Disk, byte, put}
+use Rattle.crash_model.specs.Layout.{kind_of, links_of, pointer_of, map_of, is_live, counts, is_entry}
 use Rattle.crash_model.specs.Patches.{deps_of, image_of}
 use Rattle.crash_model.specs.Faults.{faults}
 use Rattle.crash_model.specs.Replay.{replayed}
@@ -144,3 +145,30 @@ new_bytes (p ∷ ps) (suc id) = new_bytes ps id
 -- none of these sets fails
 abbrev pub none_fails : Disk → List Patch → List ℕ → Bool
 none_fails base patches some = list_all (λ set. not (fails base patches set)) some
+
+-- ---- sound images
+
+-- the test passes at 0, 1, .. and n - 1
+abbrev pub all_below : ℕ → (ℕ → Bool) → Bool
+all_below zero test = true
+all_below (suc n) test = all_below n test && test n
+
+-- no directory has an entry
+abbrev pub has_no_entries : Disk → Bool
+has_no_entries d = all_below 16 (λ dir. all_below 10 (λ k. not (is_entry d dir k)))
+
+-- no inode is live but the root's, which is a directory with one link
+abbrev pub has_root_alone : Disk → Bool
+has_root_alone d = all_below 16 (λ i. not (is_live d i) || i == 0) && (kind_of d 0 == 2 && links_of d 0 == 1)
+
+-- the root has its block alone
+abbrev pub has_root_block : Disk → Bool
+has_root_block d = counts d 0 && (pointer_of d 0 0 == 4 + d.journal && (pointer_of d 0 1 == 0 && (pointer_of d 0 2 == 0 && pointer_of d 0 3 == 0)))
+
+-- the blocks up to the root's are in use, and no other
+abbrev pub is_root_mapped : Disk → Bool
+is_root_mapped d = all_below d.blocks (λ b. (nat_le b (4 + d.journal) && not (map_of d b == 0)) || (nat_lt (4 + d.journal) b && map_of d b == 0))
+
+-- no journal block has a byte that is not 0
+abbrev pub is_zero_journal : Disk → Bool
+is_zero_journal d = all_below (4 + d.journal) (λ b. nat_lt b 4 || all_below 128 (λ offset. byte d b offset == 0))

@@ -6,12 +6,20 @@ ghost use Rattle.std.specs.List.{range_with_len};
 ghost use Rattle.crash_model.specs.Disk.{Disk, block_of, put, formatted};
 ghost use Rattle.crash_model.specs.Faults.{IsClean, faults};
 ghost use Rattle.crash_model.specs.Replay.{replayed};
+ghost use Rattle.crash_model.specs.Sound.{IsSound, HasZeroJournal};
 ghost use Rattle.crash_model.specs.declared.fault.Fault.TheVariants.{Dangling, Twice, Unwritten, LowLinks, MarkedFree, Wild};
 ghost use Rattle.worked_definitions.specs.Examples.{fresh, fresh_with_journal, with_inode_bytes};
 
 /// An image is clean exactly where its list of faults is empty.
 pub fn clean_is_faultless()
     ensures { (d : Disk) → (IsClean d ↔ (faults d ≡ [])) }
+{}
+
+/// New disks are sound, without a journal and with one, and their journals are zero.
+pub fn a_new_disk_is_sound()
+    ensures least { IsSound fresh }
+    ensures journal { IsSound fresh_with_journal }
+    ensures zero { HasZeroJournal fresh_with_journal }
 {}
 
 /// Inodes of 255s: each of their 64 pointers is wild.
