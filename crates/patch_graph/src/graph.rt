@@ -1,6 +1,6 @@
-ghost use Rattle.std.specs.Prelude.{◌≡◌, ℕ, ◌<◌, ◌≤◌, ◌↔◌, ◌&&◌, ◌==◌, not, bit_and, [], ◌∷◌, ◌++◌, length, slice_index, IsTrue, IfOk, OnOk, OnErr, IsErrOf};
+ghost use Rattle.std.specs.Prelude.{◌≡◌, ℕ, ◌<◌, ◌≤◌, ◌↔◌, [], ◌∷◌, ◌++◌, length, slice_index, IsTrue, IfOk, OnOk, OnErr, IsErrOf};
 ghost use Rattle.std.specs.List.{All};
-ghost use Rattle.patch_sets.specs.Sets.{Has, has as is_in};
+ghost use Rattle.patch_sets.specs.Sets.{Has, IsSubset};
 ghost use Rattle.patch_sets.specs.Closed.{IsClosed, IsReady, successors_of};
 ghost use Rattle.patch_sets.specs.Machine.{CanLeave, LeadTo};
 ghost use Rattle.patch_sets.specs.Writes.{AreRuns, events_of};
@@ -166,12 +166,15 @@ impl<A: Allocator + Copy> Graph<A> {
             if !has(set, id) {
                 continue;
             }
-            match writes.last_mut() {
-                Some(last) if last.block == patch.block => last.ids = with(last.ids, id),
-                _ => writes.push(BlockWrite {
+            let len = writes.len();
+            if len > 0 && writes[len - 1].block == patch.block {
+                let last = &mut writes[len - 1];
+                last.ids = with(last.ids, id);
+            } else {
+                writes.push(BlockWrite {
                     block: patch.block,
                     ids: with(0, id),
-                })?,
+                })?;
             }
         }
         Ok(writes)
@@ -209,7 +212,7 @@ fn overlapped_by(later: &Patch, patches: &[Patch]) -> u128
 /// Whether the id of a patch is outside the set, with its dependencies inside.
 fn is_ready(patch: &Patch, id: usize, set: u128) -> bool
     requires { id < 128 }
-    ensures { result ≡ (not (is_in set id) && (bit_and patch.now.deps set == patch.now.deps)) }
+    ensures { IsTrue result ↔ (¬ (Has set id) × IsSubset patch.now.deps set) }
 {
     !has(set, id) && is_subset(patch.deps, set)
 }

@@ -1,13 +1,14 @@
 -- Canonical order, and the list in this order being the only one.
-use Rattle.std.proofs.Common.{◌≡◌, ◌≢◌, ℕ, zero, suc, ◌+◌, ◌<◌, ◌≤◌, List, [], ◌∷◌, length, get_or, arith, refl, sym, subst, ap, ap₂, ◌∙◌, inl, inr, add-one, is_lt, nat_cmp, false}
-use Rattle.std.specs.Prelude.{◌⊎◌, ◌↔◌, count_ones}
-use Rattle.std.specs.List.{All, AllPairs, Contains}
+use Rattle.std.proofs.Common.{◌≡◌, ◌≢◌, ℕ, zero, suc, ◌+◌, ◌<◌, List, length, get_or, arith, sym, subst, inl, inr, add-one, is_lt, nat_cmp, false}
+use Rattle.std.specs.Prelude.{◌⊎◌, count_ones}
+use Rattle.std.specs.List.{AllPairs, Contains}
 use Rattle.std.specs.Ordering.{ordering_then}
 use Rattle.std.proofs.lemmas.Bool.Decides.{nat_tests}
 use Rattle.std.proofs.lemmas.List.{get_or_default}
-use Rattle.state_space.proofs.Counting.{Order, below, same, above, order_of}
+use Rattle.state_space.proofs.Counting.{below, same, above, order_of}
 use Rattle.patch_sets.specs.Sets.{IsBefore, AreAllInOrder}
 use Rattle.patch_sets.proofs.Bits.{eq_or_not}
+use Rattle.patch_sets.proofs.Lists as lists
 
 pub before_trans : (a b c : ℕ) → IsBefore a b → IsBefore b c → IsBefore a c
 before_trans a b c (inl p) (inl q) = inl (omega arith)
@@ -49,47 +50,9 @@ ordered_from_next xs next i j d lt within =
           | inr ne ↦ before_trans (get_or xs i 0) (get_or xs j 0) (get_or xs (suc j) 0) (reach_on j i (omega arith) (omega arith)) one
         ]
 
--- where a word of x ∷ xs is
-pub front_or_rest : (x : ℕ) (xs : List ℕ) (z : ℕ) → Contains (x ∷ xs) z → (x ≡ z) ⊎ Contains xs z
-front_or_rest x xs z (zero, within, is) = inl is
-front_or_rest x xs z (suc k, within, is) = inr (k, omega arith, is)
-
-pub in_front : (x : ℕ) (xs : List ℕ) → Contains (x ∷ xs) x
-in_front x xs = (zero, omega arith, refl)
-
-pub in_rest : (x : ℕ) (xs : List ℕ) (z : ℕ) → Contains xs z → Contains (x ∷ xs) z
-in_rest x xs z (k, within, is) = (suc k, omega arith, is)
-
--- the first comes before each later one
-front_before : (x : ℕ) (xs : List ℕ) → AllPairs IsBefore (x ∷ xs) → (z : ℕ) → Contains xs z → IsBefore x z
-front_before x xs up z (k, within, is) = subst (IsBefore x) is (up zero (suc k) z (omega arith) (omega arith))
-
-rest_ordered : (x : ℕ) (xs : List ℕ) → AllPairs IsBefore (x ∷ xs) → AllPairs IsBefore xs
-rest_ordered x xs up i j d lt within = up (suc i) (suc j) d (omega arith) (omega arith)
-
 -- two lists in order with the same sets are equal
 pub one_order : (xs ys : List ℕ) → AllPairs IsBefore xs → AllPairs IsBefore ys → ((z : ℕ) → Contains xs z → Contains ys z) → ((z : ℕ) → Contains ys z → Contains xs z) → xs ≡ ys
-one_order [] [] up rise there back = refl
-one_order [] (y ∷ ys) up rise there back = let no = back y (in_front y ys) in absurd (omega (arith, no.1))
-one_order (x ∷ xs) [] up rise there back = let no = there x (in_front x xs) in absurd (omega (arith, no.1))
-one_order (x ∷ xs) (y ∷ ys) up rise there back =
-    let same : x ≡ y = elim (front_or_rest y ys x (there x (in_front x xs))) [
-      | inl e ↦ sym e
-      | inr later ↦ elim (front_or_rest x xs y (back y (in_front y ys))) [
-        | inl e ↦ e
-        | inr after ↦ absurd (before_self x (before_trans x y x (front_before x xs up y after) (front_before y ys rise x later)))
-      ]
-    ] in
-    let rests : xs ≡ ys = one_order xs ys (rest_ordered x xs up) (rest_ordered y ys rise)
-    (λ z is. elim (front_or_rest y ys z (there z (in_rest x xs z is))) [
-      | inl e ↦ absurd (before_self x (subst (IsBefore x) (sym (same ∙ e)) (front_before x xs up z is)))
-      | inr it ↦ it
-    ])
-    (λ z is. elim (front_or_rest x xs z (back z (in_rest y ys z is))) [
-      | inl e ↦ absurd (before_self y (subst (IsBefore y) (sym (sym same ∙ e)) (front_before y ys rise z is)))
-      | inr it ↦ it
-    ]) in
-    ap₂ (λ z zs. z ∷ zs) same rests
+one_order = lists.one_order IsBefore before_trans before_self
 
 -- there is one list of all sets with a property in order
 pub one_list : (P : ℕ → Type 0) (xs ys : List ℕ) → AreAllInOrder P xs → AreAllInOrder P ys → xs ≡ ys

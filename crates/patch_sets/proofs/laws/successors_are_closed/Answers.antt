@@ -4,5 +4,5 @@ use Rattle.patch_sets.proofs.laws.successors_are_closed.Goals as goal
 pub returns-clause-empty : goal.returns-clause-empty
 returns-clause-empty c = empty_closed c.args.deps.now
 
-pub returns-clause-next : goal.returns-clause-next
-returns-clause-next c = λ set after closed is. successor_closed c.args.deps.now set closed after is
+pub returns-clause-more : goal.returns-clause-more
+returns-clause-more c = λ set after closed is. successor_closed c.args.deps.now set closed after is

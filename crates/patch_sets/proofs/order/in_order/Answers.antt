@@ -1,4 +1,4 @@
-use Rattle.std.proofs.Common.{◌≡◌, ◌≢◌, ℕ, ◌+◌, ◌<◌, List, length, get_or, arith, rules}
+use Rattle.std.proofs.Common.{◌≢◌, ◌+◌, get_or, arith, rules}
 use Rattle.std.specs.Prelude.{count_ones}
 use Rattle.std.specs.List.{AllPairs, Contains}
 use Rattle.std.proofs.lemmas.List.Sorted.{answers_always, Contains-permutation, length_permutation}
