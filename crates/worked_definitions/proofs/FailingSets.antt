@@ -128,7 +128,7 @@ in_if (s ∷ sets) set e = elim (either (s == set) (list_any (λ t. t == set) se
   | inr more ↦ let it = in_if sets set more in (suc it.0, omega (arith, it.1), it.2)
 ]
 
-all_if : (test : ℕ → Bool) (sets : List ℕ) → list_all test sets ≡ true → (set : ℕ) → Contains sets set → test set ≡ true
+pub all_if : (test : ℕ → Bool) (sets : List ℕ) → list_all test sets ≡ true → (set : ℕ) → Contains sets set → test set ≡ true
 all_if test [] e set is = absurd (omega (arith, is.1))
 all_if test (s ∷ sets) e set (zero, within, is) = ap test (sym is) ∙ (and_parts (test s) (list_all test sets) e).0
 all_if test (s ∷ sets) e set (suc k, within, is) = all_if test sets (and_parts (test s) (list_all test sets) e).1 set (k, omega arith, is)

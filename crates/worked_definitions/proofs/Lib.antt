@@ -2,3 +2,4 @@ pub mod Graphs
 pub mod ClosedSets
 pub mod FailingSets
 pub mod Sound
+pub mod Runs

@@ -1,14 +1,16 @@
 -- The graph of a trace, its closed sets and those that fail, computed. That these are the defined ones is proved for
 -- every trace; a worked example then only computes.
-use Rattle.std.specs.Prelude.{◌≡◌, ℕ, zero, suc, ◌+◌, ◌*◌, ◌/◌, ◌%◌, List, [], ◌∷◌, ◌++◌, length, map, filter, Bool, true, false, not, ◌==◌, ◌&&◌, ◌||◌, nat_lt, nat_le, if◌then◌else◌, Option, Some, None, Result, Ok, Err, slice_get, slice_range, bit_and}
+use Rattle.std.specs.Prelude.{◌≡◌, ℕ, zero, suc, ◌+◌, ◌*◌, ◌/◌, ◌%◌, List, [], ◌∷◌, ◌++◌, length, map, filter, Bool, true, false, not, ◌==◌, ◌&&◌, ◌||◌, nat_lt, nat_le, if◌then◌else◌, Option, Some, None, Result, Ok, Err, slice_get, slice_index, slice_range, bit_and, bytes_eq, flat_map, ◌^◌}
 use Rattle.std.specs.List.{list_any, list_all}
 use Rattle.state_space.specs.Counts.{HoldsOf}
 use Rattle.patch_sets.specs.Sets.{has, with_id, ids_of, AreAllInOrder}
 use Rattle.patch_sets.specs.Closed.{IsClosed}
 use Rattle.crash_model.specs.Failing.{IsFailing, CountsClosed}
+use Rattle.patch_sets.specs.declared.write.BlockWrite.{BlockWrite}
+use Rattle.crash_model.specs.Report.{Section}
 use Rattle.crash_model.specs.Disk.{Disk, byte, put}
 use Rattle.crash_model.specs.Layout.{kind_of, links_of, pointer_of, map_of, is_live, counts, is_entry}
-use Rattle.crash_model.specs.Patches.{deps_of, image_of}
+use Rattle.crash_model.specs.Patches.{deps_of, homes_of, image_of}
 use Rattle.crash_model.specs.Faults.{faults}
 use Rattle.crash_model.specs.Replay.{replayed}
 use Rattle.crash_model.specs.Trace.{Emitted, Tracing, begun, traced, depends, IsGraphOf}
@@ -172,3 +174,41 @@ is_root_mapped d = all_below d.blocks (λ b. (nat_le b (4 + d.journal) && not (m
 -- no journal block has a byte that is not 0
 abbrev pub is_zero_journal : Disk → Bool
 is_zero_journal d = all_below (4 + d.journal) (λ b. nat_lt b 4 || all_below 128 (λ offset. byte d b offset == 0))
+
+-- ---- block writes and reports
+
+-- a patch ahead of the block writes behind it
+abbrev pub ahead : List ℕ → ℕ → List BlockWrite → List BlockWrite
+ahead homes id [] = record { block = slice_index homes id; ids = with_id 0 id } ∷ []
+ahead homes id (w ∷ writes) =
+    if w.block == slice_index homes id then record { block = w.block; ids = with_id w.ids id } ∷ writes
+    else (record { block = slice_index homes id; ids = with_id 0 id } ∷ w ∷ writes)
+
+-- ascending ids cut where the block changes
+abbrev pub cut : List ℕ → List ℕ → List BlockWrite
+cut homes [] = []
+cut homes (id ∷ ids) = ahead homes id (cut homes ids)
+
+abbrev pub writes_of : List ℕ → ℕ → List BlockWrite
+writes_of homes set = cut homes (ids_of (length homes) set)
+
+-- a write of some ids of its block, with another block behind it
+abbrev pub is_own : List ℕ → BlockWrite → Bool
+is_own homes w = not (w.ids == 0) && (nat_lt w.ids (2 ^ length homes) && list_all (λ id. slice_index homes id == w.block) (ids_of (length homes) w.ids))
+
+abbrev pub is_other : ℕ → List BlockWrite → Bool
+is_other block [] = true
+is_other block (w ∷ writes) = not (block == w.block)
+
+abbrev pub are_cut : List ℕ → List BlockWrite → Bool
+are_cut homes [] = true
+are_cut homes (w ∷ writes) = is_own homes w && (is_other w.block writes && are_cut homes writes)
+
+abbrev pub are_runs : List ℕ → ℕ → List BlockWrite → Bool
+are_runs homes set writes = bytes_eq (flat_map (λ w. ids_of (length homes) w.ids) writes) (ids_of (length homes) set) && are_cut homes writes
+
+abbrev pub section_of : Disk → List Patch → ℕ → Section
+section_of base patches set = record { set = set; writes = writes_of (homes_of patches) set; found = faults (replayed (image_of base patches set)) }
+
+abbrev pub have_runs : List Patch → List ℕ → Bool
+have_runs patches some = list_all (λ set. are_runs (homes_of patches) set (writes_of (homes_of patches) set)) some
