@@ -146,7 +146,7 @@ all_failing base patches sets before e =
       exactly = λ set. (fails_at set, λ failing. in_if sets set (all_if (is_in sets) (failing_sets base patches) same.1 set (in_failing base patches before set failing)));
     }
 
-accepted_is : (base : Disk) (r : Result Tracing TraceFault) → is_accepted r ≡ true → r ≡ Ok (accepted base r)
+pub accepted_is : (base : Disk) (r : Result Tracing TraceFault) → is_accepted r ≡ true → r ≡ Ok (accepted base r)
 accepted_is base (Err fault) e = cc
 accepted_is base (Ok s) e = refl
 

@@ -3,3 +3,5 @@ pub mod ClosedSets
 pub mod FailingSets
 pub mod Sound
 pub mod Runs
+pub mod Spelling
+pub mod Answering

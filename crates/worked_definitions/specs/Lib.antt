@@ -1,2 +1,3 @@
 pub mod Computed
 pub mod Examples
+pub mod Spelled
