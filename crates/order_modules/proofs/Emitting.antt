@@ -4,6 +4,7 @@ use Rattle.std.specs.Prelude.{◌==◌, ◌↔◌, IsTrue, slice_index, slice_ge
 use Rattle.std.specs.List.{list_any}
 use Rattle.std.proofs.lemmas.List.{get_or_append_left, get_or_push, get_or_past, length-map, map_push, drop-take, drop-drop, take-take}
 use Rattle.std.proofs.lemmas.List.Folds.{list_any-append}
+use Rattle.std.proofs.lemmas.List.Elements.{All-push}
 use Rattle.std.proofs.lemmas.Option.{slice_get_within, get_or_from_slice_get, slice_get-get_or}
 use Rattle.std.proofs.lemmas.Bool.{cases_lt}
 use Rattle.arrayvec.specs.ArrayVec.{ArrayVec}
@@ -155,9 +156,10 @@ module _ (log : Log) (labels : List Label) (label : Label) (patch : Patch) (set 
       patch_same : {l m : Patch} → Some l ≡ Some m → l ≡ m
       patch_same h = cc
 
-  emit_core : patch.undo.items ≡ slice_range log.written.bytes (128 * patch.block + patch.offset) (128 * patch.block + patch.offset + length patch.new.items)
+  emit_core : patch.block < log.base.blocks → patch.undo.items ≡ slice_range log.written.bytes (128 * patch.block + patch.offset) (128 * patch.block + patch.offset + length patch.new.items)
       → IsLog (record log { written = put log.written patch.block patch.offset patch.new.items; emitted = log.emitted ++ emitted_patch patch label ∷ []; patches = log.patches ++ record patch { deps = set } ∷ [] })
-  emit_core undo = record {
+  emit_core known undo = record {
+      known = All-push (λ p. p.block < log.base.blocks) log.patches (record patch { deps = set }) is.known known;
       written = ap (λ (d : Disk). put d patch.block patch.offset patch.new.items) is.written
           ∙ sym (all_put-push log.base (places_of log.patches) (place patch.block patch.offset patch.new.items))
           ∙ ap (λ (ps : List Place). all_put log.base ps) (sym placed);
@@ -176,8 +178,8 @@ module _ (log : Log) (labels : List Label) (label : Label) (patch : Patch) (set 
       deps_long = length-map log.patches (λ p. p.deps)
       deps_push : deps_of (log.patches ++ record patch { deps = set } ∷ []) ≡ deps_of log.patches ++ set ∷ []
       deps_push = map_push (λ (p : Patch). p.deps) log.patches (record patch { deps = set })
-      known : (p : ℕ) → Has set p → p < length log.patches
-      known p has = elim ((adds p).0 has) [
+      before : (p : ℕ) → Has set p → p < length log.patches
+      before p has = elim ((adds p).0 has) [
         | inl own ↦ let w = (waits p).0 own in let inside : p < length labels = slice_get_within labels p w.0 w.1 in omega (arith, inside, labelled)
         | inr over ↦ slice_get_within log.patches p over.0 over.1
       ]
@@ -185,7 +187,7 @@ module _ (log : Log) (labels : List Label) (label : Label) (patch : Patch) (set 
       earlier q p has = elim (cases_lt q (length (deps_of log.patches))) [
         | inl old ↦ is.graph.earlier q p (subst (λ (s : ℕ). Has s p) (get_or_append_left (deps_of log.patches) (set ∷ []) 0 q old) has)
         | inr from ↦ elim (eq_or_not q (length (deps_of log.patches))) [
-          | inl e ↦ let less : p < length log.patches = known p (subst (λ (s : ℕ). Has s p) (get_or_push (deps_of log.patches) set 0 q (sym e)) has) in omega (arith, less, e, deps_long)
+          | inl e ↦ let less : p < length log.patches = before p (subst (λ (s : ℕ). Has s p) (get_or_push (deps_of log.patches) set 0 q (sym e)) has) in omega (arith, less, e, deps_long)
           | inr ne ↦
               let past : length (deps_of log.patches ++ set ∷ []) ≤ q = omega (arith, length-append (deps_of log.patches) (set ∷ [])) in
               absurd (none_in_empty p (subst (λ (s : ℕ). Has s p) (get_or_past (deps_of log.patches ++ set ∷ []) q 0 past) has))
@@ -229,12 +231,12 @@ same_patch patches patch added adds =
 pub log-emit : (log : Log) (labels : List Label) (label : Label) (patch added : Patch)
     → IsLog log → length labels ≡ length log.patches → log.emitted ≡ emitted_by (places_of log.patches) labels
     → AddsOverlaps log.patches patch added → ((id : ℕ) → Has patch.deps id ↔ WaitsAt log.kind log.links labels label id)
-    → patch.undo.items ≡ slice_range log.written.bytes (128 * patch.block + patch.offset) (128 * patch.block + patch.offset + length patch.new.items)
+    → patch.block < log.base.blocks → patch.undo.items ≡ slice_range log.written.bytes (128 * patch.block + patch.offset) (128 * patch.block + patch.offset + length patch.new.items)
     → IsLog (record log { written = put log.written patch.block patch.offset patch.new.items; emitted = log.emitted ++ emitted_patch patch label ∷ []; patches = log.patches ++ added ∷ [] })
-log-emit log labels label patch added is labelled emitted adds waits undo =
+log-emit log labels label patch added is labelled emitted adds waits known undo =
     let eq : added ≡ record patch { deps = added.deps } = same_patch log.patches patch added adds in
     subst (λ (a : Patch). IsLog (record log { written = put log.written patch.block patch.offset patch.new.items; emitted = log.emitted ++ emitted_patch patch label ∷ []; patches = log.patches ++ a ∷ [] })) (sym eq)
-      (emit_core log labels label patch added.deps is labelled emitted adds.deps waits undo)
+      (emit_core log labels label patch added.deps is labelled emitted adds.deps waits known undo)
 
 pub written_blocks : (log : Log) → IsLog log → log.written.blocks ≡ log.base.blocks
 written_blocks log is = ap (λ (d : Disk). d.blocks) is.written ∙ all_put-blocks log.base (places_of log.patches)
@@ -261,11 +263,11 @@ module _ (base written : Disk) (kind : Module) (links : List (List ℕ × List �
 
   pub emit_fields : (new : List Patch) (labels' : List Label) (written' : Disk)
       → IsLog log_before → length labels ≡ length patches → AddsOverlaps patches patch added → ((id : ℕ) → Has patch.deps id ↔ WaitsAt kind links labels label id)
-      → patch.undo.items ≡ slice_range written.bytes (128 * patch.block + patch.offset) (128 * patch.block + patch.offset + length patch.new.items)
+      → patch.block < base.blocks → patch.undo.items ≡ slice_range written.bytes (128 * patch.block + patch.offset) (128 * patch.block + patch.offset + length patch.new.items)
       → new ≡ patches ++ added ∷ [] → labels' ≡ labels ++ label ∷ [] → written' ≡ put written patch.block patch.offset patch.new.items
       → IsLog (record { base = base; written = written'; kind = kind; links = links; emitted = emitted_by (places_of new) labels'; patches = new }) × (length labels' ≡ length new)
-  emit_fields new labels' written' is labelled adds waits undo new_is labels_is written_is =
-      let last = log-emit log_before labels label patch added is labelled refl adds waits undo in
+  emit_fields new labels' written' is labelled adds waits known undo new_is labels_is written_is =
+      let last = log-emit log_before labels label patch added is labelled refl adds waits known undo in
       let make : List Patch → List Emitted → Disk → Log = λ ps es d. record { base = base; written = d; kind = kind; links = links; emitted = es; patches = ps } in
       let es : emitted_by (places_of new) labels' ≡ emitted_by (places_of patches) labels ++ emitted_patch patch label ∷ [] =
           emitted_new new labels' labelled adds new_is labels_is in
@@ -321,7 +323,7 @@ waits_read kind set links links' labels labels' label same_links same_labels wai
 
 pub log-link : (log : Log) (later earlier : List ℕ) → IsLog log → list_any (λ e. is_same_group e.group later) log.emitted ≡ false → IsLog (record log { links = log.links ++ (later, earlier) ∷ [] })
 log-link log later earlier is none = record {
-    written = is.written;
+    written = is.written; known = is.known;
     graph = record {
       places = is.graph.places; undo = is.graph.undo; earlier = is.graph.earlier;
       exactly = λ q p l b less at_q at_p.

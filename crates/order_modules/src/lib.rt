@@ -6,11 +6,15 @@
 #![tactic(auto)]
 
 pub mod base;
+mod groups;
 pub mod labels;
 mod log;
+pub mod tracer;
+mod transactions;
 
 pub use base::build_base;
 pub use crash_model::names::GroupName;
 pub use crash_model::refusals::TraceFault;
 pub use crash_model::steps::{Act, Module, Step};
 pub use journal_replay::replay;
+pub use tracer::trace;

@@ -40,6 +40,7 @@ invariant_of-self-2 g c =
     emit_fields i.base.now i.written i.module (links_by i.links.items) i.labels.items c.args.label i.graph patch ok.0 c.push.new.self c.push-2.new.self.items c.put.new.self
       c.self.invariant.0 c.self.invariant.1 ok.1
       (waits_read i.module c.dependencies-deps.result i.links.items c.as_slice.result.now i.labels.items c.as_slice-2.result.now c.args.label c.as_slice.ensures.value c.as_slice-2.ensures.value c.dependencies-deps.ensures)
+      (omega (arith, c.requires.block, ap (λ (l : Log). l.base.blocks) c.self.view_is))
       (undo_read i.written c.args.block c.args.offset c.from.result c.from-from.result c.block.result.now c.bytes_of-2.result.items c.args.bytes.now c.bytes_of.result.items
         c.from.ensures c.from-from.ensures c.requires.inside c.block.ensures.bytes c.bytes_of-2.ensures c.bytes_of.ensures)
       ok.2 c.push-2.ensures.items
