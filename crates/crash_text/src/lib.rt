@@ -4,3 +4,4 @@
 mod explored;
 pub mod run;
 pub mod serve;
+mod stubs;
