@@ -1,3 +1,6 @@
 pub mod Accepted
 pub mod Lands
 pub mod Counts
+pub mod Searched
+pub mod Clears
+pub mod Changed

@@ -9,7 +9,7 @@ use Rattle.crash_model.specs.Layout.{kind_of, links_of, pointer_of, map_of, is_d
 use Rattle.crash_model.specs.Plan.{inode_init, inode_free, link_count, pointer_set, map_set, map_clear, init_block, entry_set, entry_clear, spelled, applied}
 use Rattle.crash_model.specs.declared.plans.Change.{Change}
 use Rattle.crash_model.specs.declared.plans.Role.{Role}
-use Rattle.sound_tables.specs.Tables.{Tables, Place, Mark, tables_of, place_of, mark_at, within, changed, with_inode, with_links, with_pointer, with_used, with_mark, with_entry}
+use Rattle.sound_tables.specs.Tables.{Tables, Place, Mark, tables_of, place_at, place_of, mark_at, within, changed, with_inode, with_links, with_pointer, with_used, with_mark, with_entry}
 use Rattle.sound_tables.specs.Tables.Place.{Free, Leads}
 use Rattle.sound_tables.specs.Tables.Mark.{FileOf, DirectoryOf}
 use Rattle.sound_tables.proofs.Puts.{written, SameBlock, same-block, byte-outside, place-same, mark-same, data-block, within-changed, within-same, changed-kept, same_tables, tables-inode, inode-other}
@@ -94,6 +94,32 @@ pointer-makes d i s b disk below small own =
     row d i below = rw (lt-ltb i 16 below) refl
     links_row : (d : Disk) (i : ℕ) → i < 16 → within 0 16 (links_of d) i ≡ links_of d i
     links_row d i below = rw (lt-ltb i 16 below) refl
+
+-- the kind stays as it was
+pub pointer-kind : (d : Disk) (i s b : ℕ) → IsDisk d → i < 16 → s < 4 → kind_of (written d (256 + 16 * i + (4 + s)) (b ∷ [])) i ≡ kind_of d i
+pointer-kind d i s b disk below small = byte-outside d.bytes (256 + 16 * i + (4 + s)) (b ∷ []) (256 + 16 * i) (omega (arith, disk.whole, disk.least)) (inl (omega arith))
+
+-- a block that has a directory's mark and nothing else has no entries, whichever directory it is given to
+pub empty-place : (d : Disk) (role : Role) (i b mark : ℕ) → IsDisk d → i < 16 → 4 ≤ b → b < d.blocks → (m : ℕ) → m < 10
+    → (let e = applied d (init_block role b mark i ∷ []) in place_of (written e (256 + 16 * i + (4 + 0)) (b ∷ [])) i m ≡ Free)
+empty-place d role i b mark disk below low high m small =
+    let new = mark ∷ i ∷ replicate 126 0 in
+    let e : Disk = written d (128 * b + 0) new in
+    let at = 256 + 16 * i + (4 + 0) in
+    let f = written e at (b ∷ []) in
+    let fits : 128 * b + 0 + length new ≤ length d.bytes = omega (arith, disk.whole) in
+    let disk_e : IsDisk e = disk-written d (128 * b + 0) new disk fits in
+    let inside : at + 1 ≤ length e.bytes = omega (arith, disk_e.whole, disk_e.least) in
+    let here : pointer_of f i 0 ≡ b = byte-inside e.bytes at (b ∷ []) 0 (260 + 16 * i + 0) inside (omega arith) (omega arith) in
+    let old : byte f b (8 + 12 * m) ≡ byte e b (8 + 12 * m) = byte-outside e.bytes at (b ∷ []) (128 * b + (8 + 12 * m)) inside (inr (omega arith)) in
+    let none : byte e b (8 + 12 * m) ≡ 0 =
+      byte-inside d.bytes (128 * b + 0) new (8 + 12 * m) (128 * b + (8 + 12 * m)) fits (omega arith) (omega arith) ∙ behind_two mark i 126 (8 + 12 * m) (omega arith) in
+    let entry : entry_of f i m ≡ 0 = ap (λ (x : ℕ). byte f x (8 + 12 * m)) here ∙ old ∙ none in
+    free_place (counts f i) (entry_of f i m) _ entry
+  where
+    free_place : (b : Bool) (n : ℕ) (sp : List ℕ) → n ≡ 0 → place_at b n sp ≡ Free
+    free_place true n sp e = rw e refl
+    free_place false n sp e = refl
 
 -- ---- the allocation map
 
