@@ -4,3 +4,5 @@ pub mod Counts
 pub mod Searched
 pub mod Clears
 pub mod Changed
+pub mod Sounds
+pub mod Means
