@@ -6,3 +6,4 @@ pub mod Clears
 pub mod Changed
 pub mod Sounds
 pub mod Means
+pub mod Tests
