@@ -7,3 +7,4 @@ pub mod Changed
 pub mod Sounds
 pub mod Means
 pub mod Tests
+pub mod Refused

@@ -199,3 +199,62 @@ test-full d dir sound walk = (
         let same : entry_of d dir (spot full k (inl less)) ≡ entry_of d dir m = ap (entry_of d dir) at in
         omega arith
     held full k (inr more) small m at free = omega arith
+
+-- ---- 11 and 13: the kind is another
+
+pub test-kind : (d : Disk) (i kind : ℕ) → i < 16 → kind ≢ 0 → ((not (eqb (kind_of d i) kind) ≡ true) ↔ (¬ (IsKind (view_of d) i kind)))
+test-kind d i kind below some = (
+  λ e w.
+    let in_tables = ((same-view d).inodes i kind w.0).0 w.1 in
+    opposite (eqb (kind_of d i) kind) e (eq-eqb (kind_of d i) kind (sym (kind-at d i below) ∙ in_tables.0)),
+  λ none. elim (cases_eq (kind_of d i) kind) [
+    | inl same ↦ absurd (none (kind-of d i kind (kind-at d i below ∙ same) some))
+    | inr other ↦ rw (ne_eqb (kind_of d i) kind other) refl
+  ]
+)
+  where
+    opposite : (b : Bool) → not b ≡ true → b ≡ true → ⊥
+    opposite true e f = cc
+    opposite false e f = cc
+
+-- ---- 19: a file has eight names
+
+pub test-links : (d : Disk) (i : ℕ) → Sound (tables_of d) → i < 16 → (tables_of d).kind i ≢ 0 → ((leb 8 (links_of d i) ≡ true) ↔ (view_of d).inode i 1 8)
+test-links d i sound below live = (
+  λ e.
+    let t = tables_of d in
+    let many = leb-true 8 (links_of d i) e in
+    let links = links-at d i below in
+    let small = sound.inodes.kinds i in
+    elim (cases_eq (t.kind i) 1) [
+      | inl one ↦
+          let few = sound.inodes.few_names i one in
+          ((same-view d).inodes i 1 8).1 (one, omega (arith, few.1), λ z. omega arith)
+      | inr other ↦ absurd (
+          let two : t.kind i ≡ 2 = pick (t.kind i) live other small in
+          let one_link = sound.inodes.one_name i two in
+          omega arith)
+    ],
+  λ w.
+    let in_tables = ((same-view d).inodes i 1 8).0 w in
+    let links = links-at d i below in
+    le-leb 8 (links_of d i) (omega (arith, in_tables.1))
+)
+  where
+    pick : (k : ℕ) → k ≢ 0 → k ≢ 1 → k < 3 → k ≡ 2
+    pick k a b c = omega arith
+
+-- ---- 14: the directory has a name
+
+pub test-entries : (d : Disk) (i : ℕ) → Sound (tables_of d) → i < 16 → ((has_entries d i ≡ true) ↔ ((name : List ℕ) × LeadsTo (view_of d) i name))
+test-entries d i sound below = (
+  λ e.
+    let found = is_some-is (first_below 10 (is_entry d i)) e in
+    let f = first_below-is_some 10 (is_entry d i) found.0 found.1 in
+    let u = used-entry d i found.0 sound below f.below f.holds in
+    (u.name, (u.inode, name-of d i found.0 u.inode u.name u.leads)),
+  λ w. some-is (first_below 10 (is_entry d i)) (λ none.
+    let place = ((same-view d).names i w.0 w.1.0).0 w.1.1 in
+    let b = entry-bytes d i place.0 w.1.0 (spelled w.0) place.1 in
+    false≢true (sym (first_below-is_none 10 (is_entry d i) none place.0 b.in_place) ∙ (entry-is d i place.0 w.1.0 (spelled w.0) b).0))
+)
