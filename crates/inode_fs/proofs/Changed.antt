@@ -116,14 +116,14 @@ write-made d path changes disk sound f =
     let d1 = applied d (map_set f.b ∷ []) in
     let inside : is_data d f.b ≡ true = area d f.b (can.low, can.high) in
     let two = block-makes d1 InitFile f.b 0x46 target one.disk inside (λ dir in_dir kind.
-      let old_kind : t.kind dir ≡ 2 = ap (λ (x : Tables). x.kind dir) (sym one.tables) ∙ kind-at d1 dir in_dir ∙ kind in
-      λ same. block-apart t dir f.b sound old_kind can.free (ap (λ (x : Tables). x.pointer dir 0) (sym one.tables) ∙ pointer-at d1 dir 0 in_dir (omega arith) ∙ same)) in
+    let old_kind : t.kind dir ≡ 2 = ap (λ (x : Tables). x.kind dir) (sym one.tables) ∙ kind-at d1 dir in_dir ∙ kind in
+    λ same. block-apart t dir f.b sound old_kind can.free (ap (λ (x : Tables). x.pointer dir 0) (sym one.tables) ∙ pointer-at d1 dir 0 in_dir (omega arith) ∙ same)) in
     let d2 = applied d1 (init_block InitFile f.b 0x46 target ∷ []) in
     let tables : tables_of d2 ≡ with_mark (with_used t f.b true) f.b (FileOf target) = two.tables ∙ ap (λ (x : Tables). with_mark x f.b (FileOf target)) one.tables in
     let kind : kind_of d2 target ≡ 1 = sym (kind-at d2 target below) ∙ ap (λ (x : Tables). x.kind target) tables ∙ can.file in
     let after = pointer-kind d2 target f.s f.b two.disk below can.slot in
     let three = pointer-makes d2 target f.s f.b two.disk below can.slot (λ m small.
-      place-no_directory _ target m (no_directory _ (after ∙ kind)) ∙ sym (place-no_directory d2 target m (no_directory _ kind))) in
+    place-no_directory _ target m (no_directory _ (after ∙ kind)) ∙ sym (place-no_directory d2 target m (no_directory _ kind))) in
     along d changes _ _ f.are (record { disk = three.disk; tables = three.tables ∙ ap (λ (x : Tables). with_pointer x target f.s f.b) tables })
 
 -- ---- link
@@ -181,8 +181,8 @@ rename-made d old new changes disk sound is_name found =
     along d changes _ _ found.are (record {
       disk = four.disk;
       tables = four.tables
-        ∙ ap (λ (x : Tables). with_links x target (links_of d target)) (three.tables ∙ ap (λ (x : Tables). with_entry x f.old_dir f.old_k Free) two.tables)
-        ∙ ap (λ (x : ℕ). with_links (with_entry (linked t f.dir f.k target new.last) f.old_dir f.old_k Free) target x) (sym (links-at d target entry.target_below));
+          ∙ ap (λ (x : Tables). with_links x target (links_of d target)) (three.tables ∙ ap (λ (x : Tables). with_entry x f.old_dir f.old_k Free) two.tables)
+          ∙ ap (λ (x : ℕ). with_links (with_entry (linked t f.dir f.k target new.last) f.old_dir f.old_k Free) target x) (sym (links-at d target entry.target_below));
     })
 
 -- ---- unlink
@@ -199,16 +199,17 @@ remove-made d dir k i n name disk sound walk in_place below there leaf few slots
     let one = clear-makes d d dir k disk s in_place in
     let d1 = applied d (entry_clear d dir k ∷ []) in
     let two = free-makes d1 i one.disk below (λ m small.
-      sym (entry-at d1 i m below small) ∙ ap (λ (x : Tables). x.entry i m) one.tables ∙ empty (with_place t.entry dir k Free i m) (λ j sp e. leaf m j sp (left_back t.entry dir k i m j sp e).1)) in
+    sym (entry-at d1 i m below small) ∙ ap (λ (x : Tables). x.entry i m) one.tables ∙ empty (with_place t.entry dir k Free i m) (λ j sp e. leaf m j sp (left_back t.entry dir k i m j sp e).1)) in
     let d2 = applied d1 (inode_free i ∷ []) in
     let cleared = clears-make d d2 i n two.disk refl in
     let tables : tables_of d2 ≡ removed t dir k i t.used = two.tables
-      ∙ ap (λ (x : Tables). record x { kind = changed x.kind i 0; links = changed x.links i 0; pointer = changed x.pointer i (λ _. 0) }) one.tables in
+    ∙ ap (λ (x : Tables). record x { kind = changed x.kind i 0; links = changed x.links i 0; pointer = changed x.pointer i (λ _. 0) }) one.tables in
     let live : t.kind i ≢ 0 = sound.names.no_dangling dir k i (spelled name) there in
-    let same : (tables_of d2).used ≡ t.used = ap (λ (x : Tables). x.used) tables in
-    (cleared.used,
-    record { disk = cleared.disk; tables = cleared.tables ∙ ap (λ (x : Tables). record x { used = cleared.used }) tables },
-    clears-free d d2 (applied d2 (some_below n (map_clear_at d i))) i n sound live few same cleared slots)
+    let same : (tables_of d2).used ≡ t.used = ap (λ (x : Tables). x.used) tables in (
+      cleared.used,
+      record { disk = cleared.disk; tables = cleared.tables ∙ ap (λ (x : Tables). record x { used = cleared.used }) tables },
+      clears-free d d2 (applied d2 (some_below n (map_clear_at d i))) i n sound live few same cleared slots,
+    )
   where
     empty : (p : Place) → ((j : ℕ) (sp : List ℕ) → p ≢ Leads j sp) → p ≡ Free
     empty Free none = refl
@@ -316,27 +317,27 @@ mkdir-made d path changes disk sound is_name f =
     let inside : is_data d b ≡ true = area d b (can.low, can.high) in
     let own_none : t2.pointer i 0 ≡ 0 = ap (λ (row : ℕ → ℕ). row 0) (changed-same t.pointer i (λ _. 0)) in
     let three = block-makes d2 InitDir b 0x44 i two.disk inside (λ dir in_dir kind same.
-      let pointer : t2.pointer dir 0 ≡ b = ap (λ (x : Tables). x.pointer dir 0) (sym tables2) ∙ pointer-at d2 dir 0 in_dir (omega arith) ∙ same in
-      elim (cases_eq dir i) [
-        | inl e ↦ let none : b ≡ 0 = sym pointer ∙ ap (λ (x : ℕ). t2.pointer x 0) e ∙ own_none in omega arith
-        | inr n ↦ block-apart t dir b sound
-            (sym (changed-other t.kind i 2 dir n) ∙ ap (λ (x : Tables). x.kind dir) (sym tables2) ∙ kind-at d2 dir in_dir ∙ kind)
-            can.free
-            (ap (λ (row : ℕ → ℕ). row 0) (sym (changed-other t.pointer i (λ _. 0) dir n)) ∙ pointer)
-      ]) in
+    let pointer : t2.pointer dir 0 ≡ b = ap (λ (x : Tables). x.pointer dir 0) (sym tables2) ∙ pointer-at d2 dir 0 in_dir (omega arith) ∙ same in
+    elim (cases_eq dir i) [
+      | inl e ↦ let none : b ≡ 0 = sym pointer ∙ ap (λ (x : ℕ). t2.pointer x 0) e ∙ own_none in omega arith
+      | inr n ↦ block-apart t dir b sound
+          (sym (changed-other t.kind i 2 dir n) ∙ ap (λ (x : Tables). x.kind dir) (sym tables2) ∙ kind-at d2 dir in_dir ∙ kind)
+          can.free
+          (ap (λ (row : ℕ → ℕ). row 0) (sym (changed-other t.pointer i (λ _. 0) dir n)) ∙ pointer)
+    ]) in
     let t3 = with_mark t2 b (DirectoryOf i) in
     let d3 = applied d2 (init_block InitDir b 0x44 i ∷ []) in
     let tables3 : tables_of d3 ≡ t3 = three.tables ∙ ap (λ (x : Tables). with_mark x b (DirectoryOf i)) tables2 in
     let no_block : pointer_of d3 i 0 ≡ 0 = sym (pointer-at d3 i 0 below (omega arith)) ∙ ap (λ (x : Tables). x.pointer i 0) tables3 ∙ own_none in
     let four = pointer-makes d3 i 0 b three.disk below (omega arith) (λ m small.
-      empty-place d2 InitDir i b 0x44 two.disk below low block.high m small ∙ sym (place-no_block d3 i m no_block)) in
+    empty-place d2 InitDir i b 0x44 two.disk below low block.high m small ∙ sym (place-no_block d3 i m no_block)) in
     let t4 = with_pointer t3 i 0 b in
     let d4 = applied d3 (pointer_set i 0 b ∷ []) in
     let tables4 : tables_of d4 ≡ t4 = four.tables ∙ ap (λ (x : Tables). with_pointer x i 0 b) tables3 in
     let pointer : t4.pointer f.dir 0 ≡ t.pointer f.dir 0 =
-      ap (λ (row : ℕ → ℕ). row 0) (changed-other t3.pointer i (changed (t3.pointer i) 0 b) f.dir other ∙ changed-other t.pointer i (λ _. 0) f.dir other) in
+    ap (λ (row : ℕ → ℕ). row 0) (changed-other t3.pointer i (changed (t3.pointer i) 0 b) f.dir other ∙ changed-other t.pointer i (λ _. 0) f.dir other) in
     let mark : t4.mark (t.pointer f.dir 0) ≡ t.mark (t.pointer f.dir 0) =
-      changed-other t.mark b (DirectoryOf i) (t.pointer f.dir 0) (block-apart t f.dir b sound walk.kind can.free) in
+    changed-other t.mark b (DirectoryOf i) (t.pointer f.dir 0) (block-apart t f.dir b sound walk.kind can.free) in
     let s = stands d d4 f.dir t4 sound walk tables4 (changed-other t.kind i 2 f.dir other) pointer mark in
     let five = set-makes d d4 f.dir f.k i path.last four.disk s can.place.in_place is_name.few in
     along d changes _ _ f.are (record { disk = five.disk; tables = five.tables ∙ ap (λ (x : Tables). with_entry x f.dir f.k (Leads i (spelled path.last))) tables4 })

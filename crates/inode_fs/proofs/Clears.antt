@@ -51,10 +51,13 @@ clears-make d e i (suc n) disk same =
       used = c.used;
       disk = c.disk;
       tables = c.tables;
-      left = λ b u. let old = c.left b u in (old.0, λ s below inside. elim (below_suc s n below) [
-        | inl less ↦ old.1 s less inside
-        | inr at ↦ absurd (let both : true ≡ false = sym inside ∙ ap (λ (x : ℕ). is_data d (pointer_of d i x)) at ∙ outside in cc)
-      ]);
+      left = λ b u. let old = c.left b u in (
+        old.0,
+        λ s below inside. elim (below_suc s n below) [
+          | inl less ↦ old.1 s less inside
+          | inr at ↦ absurd (let both : true ≡ false = sym inside ∙ ap (λ (x : ℕ). is_data d (pointer_of d i x)) at ∙ outside in cc)
+        ],
+      );
       kept = λ b u none. c.kept b u (λ s below. none s (omega arith));
     }
     go true inside c =
@@ -70,15 +73,17 @@ clears-make d e i (suc n) disk same =
           left = λ a u. elim (cases_eq a b) [
             | inl at ↦ absurd (let both : true ≡ false = sym u ∙ ap (changed c.used b false) at ∙ changed-same c.used b false in cc)
             | inr other ↦
-                let old = c.left a (sym (changed-other c.used b false a other) ∙ u) in
-                (old.0, λ s below data_area. elim (below_suc s n below) [
-                  | inl less ↦ old.1 s less data_area
-                  | inr at ↦ λ named. other (sym named ∙ ap (pointer_of d i) at)
-                ])
+                let old = c.left a (sym (changed-other c.used b false a other) ∙ u) in (
+                  old.0,
+                  λ s below data_area. elim (below_suc s n below) [
+                    | inl less ↦ old.1 s less data_area
+                    | inr at ↦ λ named. other (sym named ∙ ap (pointer_of d i) at)
+                  ],
+                )
           ];
           kept = λ a u none.
-            let other : a ≢ b = λ at. none n (omega arith) inside (sym at) in
-            changed-other c.used b false a other ∙ c.kept a u (λ s below. none s (omega arith));
+              let other : a ≢ b = λ at. none n (omega arith) inside (sym at) in
+              changed-other c.used b false a other ∙ c.kept a u (λ s below. none s (omega arith));
         }
 
 -- all slots that name a block are among the first n
@@ -88,13 +93,13 @@ clears-free d e after i n sound live small same c few =
     let t = tables_of d in
     let bytes = pointer-bytes d i in
     let inside : (s b : ℕ) → HasPointer t.kind t.pointer i s b → is_data d (pointer_of d i s) ≡ true = λ s b h.
-      ap (is_data d) (bytes s b h).is ∙ area d b (sound.blocks.in_data_area i s b h) in
+    ap (is_data d) (bytes s b h).is ∙ area d b (sound.blocks.in_data_area i s b h) in
     record {
       cleared = λ b u.
-        let old = c.left b u in
-        (sym (ap (λ (f : ℕ → Bool). f b) same) ∙ old.0, λ s h. old.1 s (few s b h) (inside s b h) (bytes s b h).is);
+          let old = c.left b u in
+          (sym (ap (λ (f : ℕ → Bool). f b) same) ∙ old.0, λ s h. old.1 s (few s b h) (inside s b h) (bytes s b h).is);
       kept = λ b u none. c.kept b (ap (λ (f : ℕ → Bool). f b) same ∙ u) (λ s below data_area named.
-        let in_i = live-at d i live in
-        let low = (data-block d (pointer_of d i s) data_area).0 in
-        none s (live, pointer-at d i s in_i.0 (omega arith) ∙ named, λ z. omega arith));
+          let in_i = live-at d i live in
+          let low = (data-block d (pointer_of d i s) data_area).0 in
+          none s (live, pointer-at d i s in_i.0 (omega arith) ∙ named, λ z. omega arith));
     }

@@ -62,9 +62,10 @@ entered-ok d dir name child e = go (entry_named d dir name) refl e
 
 pub entered-name : (d : Disk) (dir : ℕ) (name : List ℕ) (child : ℕ) → dir < 16 → Entered d dir name child → (view_of d).name dir name child × Walked d child
 entered-name d dir name child below e =
-    let n = named-found d dir name e.k below e.named in
-    (name-of d dir e.k child name (n.leads ∙ ap (λ (x : ℕ). Leads x (spelled name)) e.target),
-    record { below = subst (λ (x : ℕ). x < 16) e.target n.target_below; kind = kind-at d child (subst (λ (x : ℕ). x < 16) e.target n.target_below) ∙ e.kind })
+    let n = named-found d dir name e.k below e.named in (
+      name-of d dir e.k child name (n.leads ∙ ap (λ (x : ℕ). Leads x (spelled name)) e.target),
+      record { below = subst (λ (x : ℕ). x < 16) e.target n.target_below; kind = kind-at d child (subst (λ (x : ℕ). x < 16) e.target n.target_below) ∙ e.kind },
+    )
 
 pub walks : (d : Disk) (names : List (List ℕ)) (from to : ℕ) → Walked d from → walked d from names ≡ Ok to → Walks (view_of d) from names to
 walks d [] from to at e = cc
@@ -124,37 +125,50 @@ after d changes t gained lost lost' made same becomes =
 pub plan-means : (d : Disk) (op : Op) (changes : List Change) → IsDisk d → IsSound d → GivesName op → plan_of d op ≡ Ok changes → Means d.blocks d.journal (view_of d) (view_of (applied d changes)) op
 plan-means d (Create path) changes disk sound name e =
     let t = sound-tables d disk sound in
-    let f = create-ok d path changes e in
-    (f.dir, parent-is d path f.dir t f.walk, record {
-      inode = f.i;
-      lowest = lowest-inode d f.i f.inode;
-      becomes = after d changes _ _ _ _ (create-made d path changes disk t name f) (same-self nothing) (created-becomes (tables_of d) f.dir f.k f.i path.last (can-create d path changes t name f));
-    })
+    let f = create-ok d path changes e in (
+      f.dir,
+      parent-is d path f.dir t f.walk,
+      record {
+        inode = f.i;
+        lowest = lowest-inode d f.i f.inode;
+        becomes = after d changes _ _ _ _ (create-made d path changes disk t name f) (same-self nothing) (created-becomes (tables_of d) f.dir f.k f.i path.last (can-create d path changes t name f));
+      },
+    )
 plan-means d (Write path) changes disk sound name e =
     let t = sound-tables d disk sound in
     let f = write-ok d path changes e in
     let target = target_of d f.dir f.k in
     let can = can-grow d path changes disk t f in
     let walk = walk-found d path.through.items f.dir t f.walk in
-    let below = (named-found d f.dir path.last f.k walk.below f.named).target_below in
-    (f.dir, target, target-is d path f.dir f.k t f.walk f.named, record {
-      slot = f.s;
-      block = f.b;
-      lowest_slot = lowest-slot d target f.s below (λ z. let one = can.file in omega arith) f.slot;
-      lowest_block = lowest-block d f.b f.block;
-      becomes = after d changes _ _ _ _ (write-made d path changes disk t f) (same-self nothing) (grown-becomes (tables_of d) target f.s f.b t can);
-    })
+    let below = (named-found d f.dir path.last f.k walk.below f.named).target_below in (
+      f.dir,
+      target,
+      target-is d path f.dir f.k t f.walk f.named,
+      record {
+        slot = f.s;
+        block = f.b;
+        lowest_slot = lowest-slot d target f.s below (λ z. let one = can.file in omega arith) f.slot;
+        lowest_block = lowest-block d f.b f.block;
+        becomes = after d changes _ _ _ _ (write-made d path changes disk t f) (same-self nothing) (grown-becomes (tables_of d) target f.s f.b t can);
+      },
+    )
 plan-means d (Link old new) changes disk sound name e =
     let t = sound-tables d disk sound in
     let found = link-ok d old new changes e in
     let f = found.at in
     let target = target_of d f.old_dir f.old_k in
-    let can = can-link d old new t name f in
-    (f.old_dir, target, f.dir, target-is d old f.old_dir f.old_k t f.walk f.named, parent-is d new f.dir t f.new_walk, record {
-      links = (tables_of d).links target;
-      had = ((same-view d).inodes target 1 ((tables_of d).links target)).1 (can.file, refl, λ z. omega arith);
-      becomes = after d changes _ _ _ _ (link-made d old new changes disk t name found) (same-self _) (linked-becomes (tables_of d) f.dir f.k target new.last can);
-    })
+    let can = can-link d old new t name f in (
+      f.old_dir,
+      target,
+      f.dir,
+      target-is d old f.old_dir f.old_k t f.walk f.named,
+      parent-is d new f.dir t f.new_walk,
+      record {
+        links = (tables_of d).links target;
+        had = ((same-view d).inodes target 1 ((tables_of d).links target)).1 (can.file, refl, λ z. omega arith);
+        becomes = after d changes _ _ _ _ (link-made d old new changes disk t name found) (same-self _) (linked-becomes (tables_of d) f.dir f.k target new.last can);
+      },
+    )
 plan-means d (Unlink path) changes disk sound name e =
     let t = sound-tables d disk sound in
     let f = unlink-ok d path changes e in
@@ -162,47 +176,60 @@ plan-means d (Unlink path) changes disk sound name e =
     let walk = walk-found d path.through.items f.dir t f.walk in
     let file = kind-at d target (named-found d f.dir path.last f.k walk.below f.named).target_below ∙ f.file in
     let means : MeansUnlinkOne (view_of d) (view_of (applied d changes)) f.dir path.last target ⊎ MeansUnlinkLast (view_of d) (view_of (applied d changes)) f.dir path.last target =
-      elim (unlink-made d path changes disk t f) [
-        | Named left can made ↦ inl (record {
-            left = left;
-            some = can.some;
-            had = ((same-view d).inodes target 1 (left + 1)).1 (can.file, can.links, λ z. omega arith);
-            becomes = after d changes _ _ _ _ made (same-self _) (unlinked-becomes (tables_of d) f.dir f.k target path.last left t can);
-          })
-        | Gone used can made ↦ inr (record {
-            had = ((same-view d).inodes target 1 1).1 (file, can.last, λ z. omega arith);
-            becomes = after d changes _ _ _ _ made (same-all_of (with_name nothing f.dir path.last target) (view_of d) (view (tables_of d)) target (same-view d)) (removed-becomes (tables_of d) f.dir f.k target path.last used t can);
-          })
-      ] in
+    elim (unlink-made d path changes disk t f) [
+      | Named left can made ↦ inl (record {
+        left = left;
+        some = can.some;
+        had = ((same-view d).inodes target 1 (left + 1)).1 (can.file, can.links, λ z. omega arith);
+        becomes = after d changes _ _ _ _ made (same-self _) (unlinked-becomes (tables_of d) f.dir f.k target path.last left t can);
+      })
+      | Gone used can made ↦ inr (record {
+        had = ((same-view d).inodes target 1 1).1 (file, can.last, λ z. omega arith);
+        becomes = after d changes _ _ _ _ made (same-all_of (with_name nothing f.dir path.last target) (view_of d) (view (tables_of d)) target (same-view d)) (removed-becomes (tables_of d) f.dir f.k target path.last used t can);
+      })
+    ] in
     (f.dir, target, target-is d path f.dir f.k t f.walk f.named, means)
 plan-means d (Rename old new) changes disk sound name e =
     let t = sound-tables d disk sound in
     let found = rename-ok d old new changes e in
     let f = found.at in
     let target = target_of d f.old_dir f.old_k in
-    let can = can-link d old new t name f in
-    (f.old_dir, target, f.dir, target-is d old f.old_dir f.old_k t f.walk f.named, parent-is d new f.dir t f.new_walk, record {
-      becomes = after d changes _ _ _ _ (rename-made d old new changes disk t name found) (same-self _)
-        (renamed-becomes (tables_of d) f.old_dir f.old_k f.dir f.k target old.last new.last (linked-sound (tables_of d) f.dir f.k target new.last t can) can (old-entry d old new t f));
-    })
+    let can = can-link d old new t name f in (
+      f.old_dir,
+      target,
+      f.dir,
+      target-is d old f.old_dir f.old_k t f.walk f.named,
+      parent-is d new f.dir t f.new_walk,
+      record {
+        becomes = after d changes _ _ _ _ (rename-made d old new changes disk t name found) (same-self _)
+            (renamed-becomes (tables_of d) f.old_dir f.old_k f.dir f.k target old.last new.last (linked-sound (tables_of d) f.dir f.k target new.last t can) can (old-entry d old new t f));
+      },
+    )
 plan-means d (Mkdir path) changes disk sound name e =
     let t = sound-tables d disk sound in
-    let f = mkdir-ok d path changes e in
-    (f.dir, parent-is d path f.dir t f.walk, record {
-      inode = f.i;
-      block = f.b;
-      lowest_inode = lowest-inode d f.i f.inode;
-      lowest_block = lowest-block d f.b f.block;
-      becomes = after d changes _ _ _ _ (mkdir-made d path changes disk t name f) (same-self nothing) (made-becomes (tables_of d) f.dir f.k f.i f.b path.last t (can-make d path changes t name f));
-    })
+    let f = mkdir-ok d path changes e in (
+      f.dir,
+      parent-is d path f.dir t f.walk,
+      record {
+        inode = f.i;
+        block = f.b;
+        lowest_inode = lowest-inode d f.i f.inode;
+        lowest_block = lowest-block d f.b f.block;
+        becomes = after d changes _ _ _ _ (mkdir-made d path changes disk t name f) (same-self nothing) (made-becomes (tables_of d) f.dir f.k f.i f.b path.last t (can-make d path changes t name f));
+      },
+    )
 plan-means d (Rmdir path) changes disk sound name e =
     let t = sound-tables d disk sound in
     let f = rmdir-ok d path changes e in
     let target = target_of d f.dir f.k in
     let walk = walk-found d path.through.items f.dir t f.walk in
     let directory = kind-at d target (named-found d f.dir path.last f.k walk.below f.named).target_below ∙ f.directory in
-    let r = rmdir-made d path changes disk t f in
-    (f.dir, target, target-is d path f.dir f.k t f.walk f.named, record {
-      had = ((same-view d).inodes target 2 1).1 (directory, r.can.last, λ z. omega arith);
-      becomes = after d changes _ _ _ _ r.made (same-all_of (with_name nothing f.dir path.last target) (view_of d) (view (tables_of d)) target (same-view d)) (removed-becomes (tables_of d) f.dir f.k target path.last r.used t r.can);
-    })
+    let r = rmdir-made d path changes disk t f in (
+      f.dir,
+      target,
+      target-is d path f.dir f.k t f.walk f.named,
+      record {
+        had = ((same-view d).inodes target 2 1).1 (directory, r.can.last, λ z. omega arith);
+        becomes = after d changes _ _ _ _ r.made (same-all_of (with_name nothing f.dir path.last target) (view_of d) (view (tables_of d)) target (same-view d)) (removed-becomes (tables_of d) f.dir f.k target path.last r.used t r.can);
+      },
+    )

@@ -32,11 +32,11 @@ one : {B : Type 0} (b : Bool) (P : Type 0) (fault : FsFault) (rest : Result B Fs
     → Refuses (if b then Err fault else rest) (λ f. (P × (f ≡ fault)) ⊎ ((¬ P) × R f))
 one {B = B} true P fault rest R test others f = (
   λ e. inl (test.0 refl, cc),
-  λ h. elim h [ inl w ↦ ap (λ (x : FsFault). Err x) (sym w.1) | inr w ↦ absurd (w.0 (test.0 refl)) ]
+  λ h. elim h [ inl w ↦ ap (λ (x : FsFault). Err x) (sym w.1) | inr w ↦ absurd (w.0 (test.0 refl)) ],
 )
 one {B = B} false P fault rest R test others f = (
   λ e. inr ((λ p. let no : false ≡ true = test.1 p in cc), (others f).0 e),
-  λ h. elim h [ inl w ↦ absurd (let no : false ≡ true = test.1 w.0 in cc) | inr w ↦ (others f).1 w.1 ]
+  λ h. elim h [ inl w ↦ absurd (let no : false ≡ true = test.1 w.0 in cc) | inr w ↦ (others f).1 w.1 ],
 )
 
 accepted : {B : Type 0} (answer : B) → Refuses {B = B} (Ok answer) (λ _. ⊥)
@@ -114,7 +114,7 @@ walks-as d (name ∷ names) from sound at = go (turn d from name sound at.below)
         λ h. elim h [
           | inl w ↦ ap (λ (x : Result ℕ FsFault). then_ok x (λ child. walked d child names)) e ∙ ap (λ (x : FsFault). Err x) (sym w.1)
           | inr w ↦ absurd (none (w.0, w.1))
-        ]
+        ],
       );
     }
     go (Other child h other e) rest = record {
@@ -127,7 +127,7 @@ walks-as d (name ∷ names) from sound at = go (turn d from name sound at.below)
             | inl x ↦ ap (λ (x : Result ℕ FsFault). then_ok x (λ child. walked d child names)) e ∙ ap (λ (x : FsFault). Err x) (sym x.1)
             | inr x ↦ absurd (other (subst (λ (x : ℕ). IsKind (view_of d) x 2) (one-inode d from name w.0 child sound at.below w.1 h) x.0))
           ]
-        ]
+        ],
       );
     }
     go (Directory child h kind walk e) rest =
@@ -145,7 +145,7 @@ walks-as d (name ∷ names) from sound at = go (turn d from name sound at.below)
                     | inl x ↦ absurd (x.0 (subst (λ (x : ℕ). IsKind (view_of d) x 2) (sym same) kind))
                     | inr x ↦ opens ∙ (r.fails f).1 (subst (λ (y : ℕ). WalkFails (view_of d) y names f) same x.1)
                   ]
-            ]
+            ],
           );
         }
 
@@ -157,13 +157,14 @@ at-path {B = B} d path plan Then sound next f = go (walked d 0 path.through.item
   where
     w : WalksAs d 0 path.through.items
     w = walks-as d path.through.items 0 sound (root-walked d sound)
+
     go : (r : Result ℕ FsFault) → walked d 0 path.through.items ≡ r → ((then_ok r plan ≡ Err f) ↔ AtPath (view_of d) path Then f)
     go (Err g) e = (
       λ q. let same : Err g ≡ Err f = cc in inl ((w.fails f).0 (e ∙ same)),
       λ h. elim h [
         | inl x ↦ let same : Err g ≡ Err f = sym e ∙ (w.fails f).1 x in cc
         | inr x ↦ absurd (let no : ◌≡◌ {A = Result ℕ FsFault} (Err g) (Ok x.0) = sym e ∙ w.ends x.0 x.1 in cc)
-      ]
+      ],
     )
     go (Ok dir) e = (
       λ q. inr (dir, walks d path.through.items 0 dir (root-walked d sound) e, (next dir (walk-found d path.through.items dir sound e) f).0 q),
@@ -173,7 +174,7 @@ at-path {B = B} d path plan Then sound next f = go (walked d 0 path.through.item
             let both : ◌≡◌ {A = Result ℕ FsFault} (Ok dir) (Ok x.0) = sym e ∙ w.ends x.0 x.1 in
             let same : dir ≡ x.0 = cc in
             (next dir (walk-found d path.through.items dir sound e) f).1 (subst (λ (y : ℕ). Then y f) (sym same) x.2)
-      ]
+      ],
     )
 
 at-name : {B : Type 0} (d : Disk) (path : Path) (plan : ℕ → ℕ → Result B FsFault) (Then : ℕ → ℕ → FsFault → Type 0) → Sound (tables_of d)
@@ -186,21 +187,19 @@ at-name {B = B} d path plan Then sound next =
     here : (dir : ℕ) → Walked d dir → (o : Option ℕ) → entry_named d dir path.last ≡ o
         → Refuses (then_ok (ok_or o NotFound) (λ k. plan dir k)) (λ f. ((¬ (LeadsTo (view_of d) dir path.last)) × (f ≡ NotFound)) ⊎ ((i : ℕ) × (view_of d).name dir path.last i × Then dir i f))
     here dir walk None e f =
-        let absent : ¬ (LeadsTo (view_of d) dir path.last) = λ h. let by = named-by d dir path.last h.0 sound walk.below h.1 in let no : None ≡ Some by.k = sym e ∙ by.named in cc in
-        (
+        let absent : ¬ (LeadsTo (view_of d) dir path.last) = λ h. let by = named-by d dir path.last h.0 sound walk.below h.1 in let no : None ≡ Some by.k = sym e ∙ by.named in cc in (
           λ q. inl (absent, cc),
-          λ h. elim h [ inl x ↦ ap (λ (y : FsFault). Err y) (sym x.1) | inr x ↦ absurd (absent (x.0, x.1)) ]
+          λ h. elim h [ inl x ↦ ap (λ (y : FsFault). Err y) (sym x.1) | inr x ↦ absurd (absent (x.0, x.1)) ],
         )
     here dir walk (Some k) e f =
         let n = named-found d dir path.last k walk.below e in
         let i = target_of d dir k in
-        let name = name-of d dir k i path.last n.leads in
-        (
+        let name = name-of d dir k i path.last n.leads in (
           λ q. inr (i, name, (next dir k walk n f).0 q),
           λ h. elim h [
             | inl x ↦ absurd (x.0 (i, name))
             | inr x ↦ (next dir k walk n f).1 (subst (λ (y : ℕ). Then dir y f) (sym (one-inode d dir path.last i x.0 sound walk.below name x.1)) x.2)
-          ]
+          ],
         )
 
 -- ---- the operations

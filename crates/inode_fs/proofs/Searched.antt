@@ -48,16 +48,18 @@ block-found d b e =
       low = own.0;
       high = own.1;
       lower = λ c low less.
-        let below : c < d.blocks = omega (arith, own.1) in
-        used-at d c below ∙ ap not (used (map_of d c) c low below (f.lower c less));
+          let below : c < d.blocks = omega (arith, own.1) in
+          used-at d c below ∙ ap not (used (map_of d c) c low below (f.lower c less));
     }
   where
     left : (a b : Bool) → (a && b) ≡ true → a ≡ true
     left true b e = refl
     left false b e = cc
+
     right : (a b : Bool) → (a && b) ≡ true → b ≡ true
     right true b e = e
     right false b e = cc
+
     used : (byte c : ℕ) → 4 + d.journal ≤ c → c < d.blocks → (is_data d c && eqb byte 0) ≡ false → eqb byte 0 ≡ false
     used byte c low below e = grind (arith, nat_tests)
 

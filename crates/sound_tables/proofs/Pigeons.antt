@@ -40,6 +40,6 @@ each-taken (suc n) f within apart m below = go (each-taken n (λ k. squeeze m (f
         let avoids : (k : ℕ) → k < suc n → f k ≢ m = λ k less. eqb-false (f k) m (first_below-is_none (suc n) (λ k. eqb (f k) m) e k less) in
         let last : squeeze m (f n) < n = squeeze-below n m (f n) below (within n (omega arith)) (avoids n (omega arith)) in
         let taken = rec (λ k less. squeeze-below n m (f k) below (within k (omega arith)) (avoids k (omega arith)))
-          (λ j k less small. squeeze-apart m (f j) (f k) (avoids j (omega arith)) (avoids k (omega arith)) (apart j k less (omega arith)))
-          (squeeze m (f n)) last in
+        (λ j k less small. squeeze-apart m (f j) (f k) (avoids j (omega arith)) (avoids k (omega arith)) (apart j k less (omega arith)))
+        (squeeze m (f n)) last in
         absurd (squeeze-apart m (f taken.0) (f n) (avoids taken.0 (omega arith)) (avoids n (omega arith)) (apart taken.0 n taken.1 (omega arith)) taken.2)
