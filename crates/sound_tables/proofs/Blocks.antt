@@ -79,7 +79,6 @@ blocks-freed t i used' sound not_root f =
           (w.0, w.1, (λ z. w.2.0 (sym (kinds w.0 n) ∙ z), pointers w.0 w.1 n ∙ w.2.1, w.2.2));
     }
 
-
 -- ---- an inode gains a block
 
 -- the inode is a file, or a directory that is new; the block was free, and is marked as the inode's
@@ -129,8 +128,8 @@ blocks-gained t kind' pointer' mark i s b sound g =
     let used' = changed t.used b true in
     -- no pointer named the block
     let apart : (j r c : ℕ) → HasPointer t.kind t.pointer j r c → c ≢ b = λ j r c h same.
-      let one : t.used b ≡ true = ap t.used (sym same) ∙ sound.named_used j r c h in
-      let both : true ≡ false = sym one ∙ g.free in cc in
+    let one : t.used b ≡ true = ap t.used (sym same) ∙ sound.named_used j r c h in
+    let both : true ≡ false = sym one ∙ g.free in cc in
     let old_mark : (j r c : ℕ) → HasPointer t.kind t.pointer j r c → changed t.mark b mark c ≡ t.mark c = λ j r c h. changed-other t.mark b mark c (apart j r c h) in
     let old_used : (c : ℕ) → t.used c ≡ true → used' c ≡ true = λ c u. elim (cases_eq c b) [ inl same ↦ rw (eq-eqb c b same) refl | inr other ↦ changed-other t.used b true c other ∙ u ] in
     let old_kind : (j r c : ℕ) → HasPointer t.kind t.pointer j r c → kind' j ≡ t.kind j = λ j r c h. elim (cases_eq j i) [
@@ -174,9 +173,10 @@ blocks-gained t kind' pointer' mark i s b sound g =
       root_block = g.rows 0 0 root_other ∙ sound.root_block;
       one_block = λ j two. elim (cases_eq j i) [
         | inl same ↦
-            let d = g.directory (ap kind' (sym same) ∙ two) in
-            (λ z. let low = g.low in let at : b ≡ 0 = sym g.here ∙ ap (pointer' i) d.1 ∙ ap (λ (x : ℕ). pointer' x 0) (sym same) ∙ z in omega arith,
-            λ r other. ap (λ (x : ℕ). pointer' x r) same ∙ d.2 r other)
+            let d = g.directory (ap kind' (sym same) ∙ two) in (
+              λ z. let low = g.low in let at : b ≡ 0 = sym g.here ∙ ap (pointer' i) d.1 ∙ ap (λ (x : ℕ). pointer' x 0) (sym same) ∙ z in omega arith,
+              λ r other. ap (λ (x : ℕ). pointer' x r) same ∙ d.2 r other,
+            )
         | inr other ↦
             let o = sound.one_block j (sym (g.kinds j other) ∙ two) in
             (λ z. o.0 (sym (g.rows j 0 other) ∙ z), λ r some. g.rows j r other ∙ o.1 r some)

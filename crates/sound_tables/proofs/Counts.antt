@@ -89,20 +89,20 @@ pub counts-gained : (kind kind' links links' : ℕ → ℕ) (entry : ℕ → ℕ
     → SoundCounts kind' links' (with_place entry dir k (Leads i spelling))
 counts-gained kind kind' links links' entry dir k i spelling sound g = record {
   counted = λ j not_root live.
-    let more = count_to-gained entry dir k i spelling j g.in_dir g.in_place g.free in
-    elim (cases_eq j i) [
-      | inl e ↦
-          let own = g.own in
-          let one = leads-self i spelling in
-          let at_i = count_to-gained entry dir k i spelling i g.in_dir g.in_place g.free in
-          rw e (omega arith)
-      | inr n ↦
-          let old = g.others j n live in
-          let before = sound.counted j not_root old.0 in
-          let same = old.1 in
-          let none = leads-other i j spelling n in
-          omega arith
-    ];
+      let more = count_to-gained entry dir k i spelling j g.in_dir g.in_place g.free in
+      elim (cases_eq j i) [
+        | inl e ↦
+            let own = g.own in
+            let one = leads-self i spelling in
+            let at_i = count_to-gained entry dir k i spelling i g.in_dir g.in_place g.free in
+            rw e (omega arith)
+        | inr n ↦
+            let old = g.others j n live in
+            let before = sound.counted j not_root old.0 in
+            let same = old.1 in
+            let none = leads-other i j spelling n in
+            omega arith
+      ];
 }
 
 -- an inode with one entry less, and one link less if it stays
@@ -117,18 +117,18 @@ pub counts-lost : (kind kind' links links' : ℕ → ℕ) (entry : ℕ → ℕ �
     → SoundCounts kind' links' (with_place entry dir k Free)
 counts-lost kind kind' links links' entry dir k i spelling sound l = record {
   counted = λ j not_root live.
-    let less = count_to-lost entry dir k i spelling j l.in_dir l.in_place l.there in
-    elim (cases_eq j i) [
-      | inl e ↦
-          let own = l.own (λ z. live (ap kind' e ∙ z)) in
-          let one = leads-self i spelling in
-          let at_i = count_to-lost entry dir k i spelling i l.in_dir l.in_place l.there in
-          rw e (omega arith)
-      | inr n ↦
-          let old = l.others j n live in
-          let before = sound.counted j not_root old.0 in
-          let same = old.1 in
-          let none = leads-other i j spelling n in
-          omega arith
-    ];
+      let less = count_to-lost entry dir k i spelling j l.in_dir l.in_place l.there in
+      elim (cases_eq j i) [
+        | inl e ↦
+            let own = l.own (λ z. live (ap kind' e ∙ z)) in
+            let one = leads-self i spelling in
+            let at_i = count_to-lost entry dir k i spelling i l.in_dir l.in_place l.there in
+            rw e (omega arith)
+        | inr n ↦
+            let old = l.others j n live in
+            let before = sound.counted j not_root old.0 in
+            let same = old.1 in
+            let none = leads-other i j spelling n in
+            omega arith
+      ];
 }

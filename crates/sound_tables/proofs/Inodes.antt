@@ -45,7 +45,6 @@ inodes-freed t i sound not_root =
       few_names = λ j one. let n = apart j (λ z. omega arith) in rw (ne_eqb j i n) (sound.few_names j (sym (kinds j n) ∙ one));
     }
 
-
 -- ---- a file with another link count
 
 pub inodes-linked : (t : Tables) (i links : ℕ) → SoundInodes t.kind t.links → t.kind i ≡ 1 → (1 ≤ links) × (links ≤ 8) → SoundInodes t.kind (changed t.links i links)

@@ -147,12 +147,15 @@ grown-gains t i s b sound can =
       free = can.free;
       low = can.low;
       high = can.high;
-      file = λ _. (refl, λ r none.
-        let low = can.low in
-        let other : r ≢ s = λ same. let at : b ≡ 0 = sym here ∙ ap (pointer i) (sym same) ∙ none in omega arith in
-        let old : t.pointer i r ≡ 0 = sym (others r other) ∙ none in
-        let next : r + 1 ≢ s = λ same. can.lower r (omega arith) old in
-        others (r + 1) next ∙ sound.blocks.packed i r one old);
+      file = λ _. (
+        refl,
+        λ r none.
+            let low = can.low in
+            let other : r ≢ s = λ same. let at : b ≡ 0 = sym here ∙ ap (pointer i) (sym same) ∙ none in omega arith in
+            let old : t.pointer i r ≡ 0 = sym (others r other) ∙ none in
+            let next : r + 1 ≢ s = λ same. can.lower r (omega arith) old in
+            others (r + 1) next ∙ sound.blocks.packed i r one old,
+      );
       directory = λ two. absurd (omega arith);
     }
 

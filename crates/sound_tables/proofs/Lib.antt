@@ -1,4 +1,5 @@
 pub mod Searches
+pub mod Pigeons
 pub mod Answered
 pub mod Sums
 pub mod Names

@@ -9,7 +9,7 @@ use Rattle.crash_model.specs.Layout.{kind_of, links_of, pointer_of, map_of, is_d
 use Rattle.crash_model.specs.Plan.{inode_init, inode_free, link_count, pointer_set, map_set, map_clear, init_block, entry_set, entry_clear, spelled, applied}
 use Rattle.crash_model.specs.declared.plans.Change.{Change}
 use Rattle.crash_model.specs.declared.plans.Role.{Role}
-use Rattle.sound_tables.specs.Tables.{Tables, Place, Mark, tables_of, place_of, mark_at, within, changed, with_inode, with_links, with_pointer, with_used, with_mark, with_entry}
+use Rattle.sound_tables.specs.Tables.{Tables, Place, Mark, tables_of, place_at, place_of, mark_at, within, changed, with_inode, with_links, with_pointer, with_used, with_mark, with_entry}
 use Rattle.sound_tables.specs.Tables.Place.{Free, Leads}
 use Rattle.sound_tables.specs.Tables.Mark.{FileOf, DirectoryOf}
 use Rattle.sound_tables.proofs.Puts.{written, SameBlock, same-block, byte-outside, place-same, mark-same, data-block, within-changed, within-same, changed-kept, same_tables, tables-inode, inode-other}
@@ -45,12 +45,12 @@ links-makes d role i links disk below =
     let own_links : links_of e i ≡ links = byte-inside d.bytes at (links ∷ []) 0 (257 + 16 * i) inside (omega arith) (omega arith) in
     let pointer : (s : ℕ) → s < 4 → pointer_of e i s ≡ pointer_of d i s = λ s small. byte-outside d.bytes at (links ∷ []) (260 + 16 * i + s) inside (inr (omega arith)) in
     let own : (m : ℕ) → m < 10 → place_of e i m ≡ place_of d i m = λ m small.
-      place-same d e.bytes i m small kind (pointer 0 (omega arith)) (λ h. same-block d at (links ∷ []) (pointer_of d i 0) inside (inr (let p = data-block d (pointer_of d i 0) h in omega arith))) in
+    place-same d e.bytes i m small kind (pointer 0 (omega arith)) (λ h. same-block d at (links ∷ []) (pointer_of d i 0) inside (inr (let p = data-block d (pointer_of d i 0) h in omega arith))) in
     record {
       disk = inode-disk d i 1 (links ∷ []) disk below (omega arith);
       tables = ap (λ (x : ℕ). tables_of (written d x (links ∷ []))) spot
-        ∙ tables-inode d i 1 (links ∷ []) disk below (omega arith) own
-        ∙ same_tables t.blocks t.journal _ _ _ _ _ _ _ _ _ _ _ _
+          ∙ tables-inode d i 1 (links ∷ []) disk below (omega arith) own
+          ∙ same_tables t.blocks t.journal _ _ _ _ _ _ _ _ _ _ _ _
           (changed-kept t.kind i (kind_of e i) (kind ∙ sym (kind-at d i below)))
           (ap (changed t.links i) own_links)
           (changed-kept t.pointer i (within 0 4 (pointer_of e i)) (within-same 0 4 (pointer_of d i) (pointer_of e i) pointer ∙ sym (row d i below)))
@@ -78,12 +78,12 @@ pointer-makes d i s b disk below small own =
       | inr ne ↦ elim ne [ inl h ↦ inl (omega arith) | inr h ↦ inr (omega arith) ]
     ]) in
     let own_row : within 0 4 (pointer_of e i) ≡ changed (t.pointer i) s b =
-      within-changed 0 4 s (pointer_of d i) (pointer_of e i) small others ∙ ap (λ (x : ℕ). changed (within 0 4 (pointer_of d i)) s x) here ∙ ap (λ (f : ℕ → ℕ). changed f s b) (sym (row d i below)) in
+    within-changed 0 4 s (pointer_of d i) (pointer_of e i) small others ∙ ap (λ (x : ℕ). changed (within 0 4 (pointer_of d i)) s x) here ∙ ap (λ (f : ℕ → ℕ). changed f s b) (sym (row d i below)) in
     record {
       disk = inode-disk d i (4 + s) (b ∷ []) disk below (omega arith);
       tables = ap (λ (x : ℕ). tables_of (written d x (b ∷ []))) spot
-        ∙ tables-inode d i (4 + s) (b ∷ []) disk below (omega arith) own
-        ∙ same_tables t.blocks t.journal _ _ _ _ _ _ _ _ _ _ _ _
+          ∙ tables-inode d i (4 + s) (b ∷ []) disk below (omega arith) own
+          ∙ same_tables t.blocks t.journal _ _ _ _ _ _ _ _ _ _ _ _
           (changed-kept t.kind i (kind_of e i) (kind ∙ sym (kind-at d i below)))
           (changed-kept t.links i (links_of e i) (links ∙ sym (links_row d i below)))
           (ap (changed t.pointer i) own_row)
@@ -92,8 +92,35 @@ pointer-makes d i s b disk below small own =
   where
     row : (d : Disk) (i : ℕ) → i < 16 → within (λ _. 0) 16 (λ j. within 0 4 (pointer_of d j)) i ≡ within 0 4 (pointer_of d i)
     row d i below = rw (lt-ltb i 16 below) refl
+
     links_row : (d : Disk) (i : ℕ) → i < 16 → within 0 16 (links_of d) i ≡ links_of d i
     links_row d i below = rw (lt-ltb i 16 below) refl
+
+-- the kind stays as it was
+pub pointer-kind : (d : Disk) (i s b : ℕ) → IsDisk d → i < 16 → s < 4 → kind_of (written d (256 + 16 * i + (4 + s)) (b ∷ [])) i ≡ kind_of d i
+pointer-kind d i s b disk below small = byte-outside d.bytes (256 + 16 * i + (4 + s)) (b ∷ []) (256 + 16 * i) (omega (arith, disk.whole, disk.least)) (inl (omega arith))
+
+-- a block that has a directory's mark and nothing else has no entries, whichever directory it is given to
+pub empty-place : (d : Disk) (role : Role) (i b mark : ℕ) → IsDisk d → i < 16 → 4 ≤ b → b < d.blocks → (m : ℕ) → m < 10
+    → (let e = applied d (init_block role b mark i ∷ []) in place_of (written e (256 + 16 * i + (4 + 0)) (b ∷ [])) i m ≡ Free)
+empty-place d role i b mark disk below low high m small =
+    let new = mark ∷ i ∷ replicate 126 0 in
+    let e : Disk = written d (128 * b + 0) new in
+    let at = 256 + 16 * i + (4 + 0) in
+    let f = written e at (b ∷ []) in
+    let fits : 128 * b + 0 + length new ≤ length d.bytes = omega (arith, disk.whole) in
+    let disk_e : IsDisk e = disk-written d (128 * b + 0) new disk fits in
+    let inside : at + 1 ≤ length e.bytes = omega (arith, disk_e.whole, disk_e.least) in
+    let here : pointer_of f i 0 ≡ b = byte-inside e.bytes at (b ∷ []) 0 (260 + 16 * i + 0) inside (omega arith) (omega arith) in
+    let old : byte f b (8 + 12 * m) ≡ byte e b (8 + 12 * m) = byte-outside e.bytes at (b ∷ []) (128 * b + (8 + 12 * m)) inside (inr (omega arith)) in
+    let none : byte e b (8 + 12 * m) ≡ 0 =
+    byte-inside d.bytes (128 * b + 0) new (8 + 12 * m) (128 * b + (8 + 12 * m)) fits (omega arith) (omega arith) ∙ behind_two mark i 126 (8 + 12 * m) (omega arith) in
+    let entry : entry_of f i m ≡ 0 = ap (λ (x : ℕ). byte f x (8 + 12 * m)) here ∙ old ∙ none in
+    free_place (counts f i) (entry_of f i m) _ entry
+  where
+    free_place : (b : Bool) (n : ℕ) (sp : List ℕ) → n ≡ 0 → place_at b n sp ≡ Free
+    free_place true n sp e = rw e refl
+    free_place false n sp e = refl
 
 -- ---- the allocation map
 
@@ -128,18 +155,18 @@ block-makes d role b mark owner disk inside none =
     record {
       disk = disk-written d at new disk fits;
       tables = same_tables t.blocks t.journal _ _ _ _ _ _ _ _ _ _ _ _
-        (within-same 0 16 (kind_of d) (kind_of e) kinds)
-        (within-same 0 16 (links_of d) (links_of e) (λ j less. early (257 + 16 * j) (omega arith)))
-        (within-same (λ _. 0) 16 (λ h. within 0 4 (pointer_of d h)) (λ h. within 0 4 (pointer_of e h)) (λ j less. within-same 0 4 (pointer_of d j) (pointer_of e j) (λ s small. pointers j s less small)))
-        (within-same false d.blocks (λ c. not (eqb (map_of d c) 0)) (λ c. not (eqb (map_of e c) 0)) (λ c less. ap (λ (x : ℕ). not (eqb x 0)) (early (128 + c) (omega (arith, disk.most)))))
-        (fun_ext (λ c. elim (cases_eq c b) [
-          | inl here ↦ rw (eq-eqb c b here, here, inside, first, second) refl
-          | inr other ↦ rw (ne_eqb c b other) (mark-same d e.bytes c (λ _. blocks c other))
-        ]))
-        (within-same (λ _. Free) 16 (λ dir. within Free 10 (place_of d dir)) (λ dir. within Free 10 (place_of e dir)) (λ dir less. within-same Free 10 (place_of d dir) (place_of e dir) (λ k small. elim (cases_eq (kind_of d dir) 2) [
-          | inl two ↦ place-same d e.bytes dir k small (kinds dir less) (pointers dir 0 less (omega arith)) (λ _. blocks (pointer_of d dir 0) (none dir less two))
-          | inr other ↦ place-no_directory e dir k (λ z. other (sym (kinds dir less) ∙ z)) ∙ sym (place-no_directory d dir k other)
-        ])));
+          (within-same 0 16 (kind_of d) (kind_of e) kinds)
+          (within-same 0 16 (links_of d) (links_of e) (λ j less. early (257 + 16 * j) (omega arith)))
+          (within-same (λ _. 0) 16 (λ h. within 0 4 (pointer_of d h)) (λ h. within 0 4 (pointer_of e h)) (λ j less. within-same 0 4 (pointer_of d j) (pointer_of e j) (λ s small. pointers j s less small)))
+          (within-same false d.blocks (λ c. not (eqb (map_of d c) 0)) (λ c. not (eqb (map_of e c) 0)) (λ c less. ap (λ (x : ℕ). not (eqb x 0)) (early (128 + c) (omega (arith, disk.most)))))
+          (fun_ext (λ c. elim (cases_eq c b) [
+            | inl here ↦ rw (eq-eqb c b here, here, inside, first, second) refl
+            | inr other ↦ rw (ne_eqb c b other) (mark-same d e.bytes c (λ _. blocks c other))
+          ]))
+          (within-same (λ _. Free) 16 (λ dir. within Free 10 (place_of d dir)) (λ dir. within Free 10 (place_of e dir)) (λ dir less. within-same Free 10 (place_of d dir) (place_of e dir) (λ k small. elim (cases_eq (kind_of d dir) 2) [
+            | inl two ↦ place-same d e.bytes dir k small (kinds dir less) (pointers dir 0 less (omega arith)) (λ _. blocks (pointer_of d dir 0) (none dir less two))
+            | inr other ↦ place-no_directory e dir k (λ z. other (sym (kinds dir less) ∙ z)) ∙ sym (place-no_directory d dir k other)
+          ])));
     }
 
 -- ---- entries
@@ -167,12 +194,12 @@ set-makes d e dir k i name disk s small short =
     record {
       disk = entry-disk d e dir k ((i + 1) ∷ spelled name) disk s small twelve;
       tables = ap (λ (p : ℕ). tables_of (written e (128 * p + entry_offset k) ((i + 1) ∷ spelled name))) (sym (stands-block d e dir s))
-        ∙ tables-entry_set e dir k i name disk s.below small (counts-by_tables e dir s.below s.kind s.mark) short;
+          ∙ tables-entry_set e dir k i name disk s.below small (counts-by_tables e dir s.below s.kind s.mark) short;
     }
 
 pub clear-makes : (d e : Disk) (dir k : ℕ) → IsDisk e → Stands d e dir → k < 10 → Makes e (entry_clear d dir k) (with_entry (tables_of e) dir k Free)
 clear-makes d e dir k disk s small = record {
   disk = entry-disk d e dir k (replicate 12 0) disk s small (omega arith);
   tables = ap (λ (p : ℕ). tables_of (written e (128 * p + entry_offset k) (replicate 12 0))) (sym (stands-block d e dir s))
-    ∙ tables-entry_clear e dir k disk s.below small (counts-by_tables e dir s.below s.kind s.mark);
+      ∙ tables-entry_clear e dir k disk s.below small (counts-by_tables e dir s.below s.kind s.mark);
 }

@@ -131,7 +131,7 @@ removed t dir k i used = record t {
   links = changed t.links i 0;
   pointer = changed t.pointer i (λ _. 0);
   used = used;
-  entry = with_place t.entry dir k Free
+  entry = with_place t.entry dir k Free;
 }
 
 -- a new directory with its block
