@@ -1,7 +1,7 @@
 -- Logs with patches more, some after others.
 use Rattle.std.proofs.Common.{◌≡◌, ℕ, zero, suc, ◌+◌, ◌<◌, ◌≤◌, List, [], ◌∷◌, ◌++◌, length, map, take, drop, get_or, Bool, true, false, cond, not, ◌||◌, arith, refl, sym, ◌∙◌, ap, subst, append_assoc, append-nil, length-append}
-use Rattle.std.specs.Prelude.{◌==◌, Option}
-use Rattle.std.specs.List.{filter, list_any, range_with_len}
+use Rattle.std.specs.Prelude.{Option}
+use Rattle.std.specs.List.{filter, list_any}
 use Rattle.std.proofs.lemmas.List.{take_more, length-map, length-take-le, map_push, take-append-drop, take_all}
 use Rattle.crash_model.specs.Disk.{Disk, block_of}
 use Rattle.crash_model.specs.Trace.{Emitted, Copy, Commit, Done, part_of, copies, plain}
@@ -15,7 +15,9 @@ adds-none log = record { base = refl; kind = refl; links = refl; emitted = sym (
 
 pub adds-then : (a b c : Log) (xs ys : List Emitted) → Adds a b xs → Adds b c ys → Adds a c (xs ++ ys)
 adds-then a b c xs ys one two = record {
-  base = two.base ∙ one.base; kind = two.kind ∙ one.kind; links = two.links ∙ one.links;
+  base = two.base ∙ one.base;
+  kind = two.kind ∙ one.kind;
+  links = two.links ∙ one.links;
   emitted = two.emitted ∙ ap (λ (es : List Emitted). es ++ ys) one.emitted ∙ append_assoc a.emitted xs ys;
 }
 
@@ -86,8 +88,8 @@ pub copies-push : (after : Disk) (turn j : ℕ) (group : Option (List ℕ)) (bs 
 copies-push after turn j group [] b = ap (λ (k : ℕ). part_of turn group Copy k 0 (block_of after b) ∷ []) (omega arith)
 copies-push after turn j group (x ∷ bs) b =
     ap (λ (es : List Emitted). part_of turn group Copy j 0 (block_of after x) ∷ es)
-      (copies-push after turn (j + 1) group bs b
-      ∙ ap (λ (k : ℕ). copies after turn (j + 1) group bs ++ part_of turn group Copy k 0 (block_of after b) ∷ []) (omega arith))
+    (copies-push after turn (j + 1) group bs b
+    ∙ ap (λ (k : ℕ). copies after turn (j + 1) group bs ++ part_of turn group Copy k 0 (block_of after b) ∷ []) (omega arith))
 
 pub length-copies : (after : Disk) (turn j : ℕ) (group : Option (List ℕ)) (bs : List ℕ) → length (copies after turn j group bs) ≡ length bs
 length-copies after turn j group [] = refl
@@ -127,13 +129,13 @@ module _ (a b : Log) (after : Disk) (turn j : ℕ) (group : Option (List ℕ)) (
       let front : length (take i bs) ≡ i = length-take-le i bs (omega arith) in
       let more : take (i + 1) bs ≡ take i bs ++ get_or bs i 0 ∷ [] = take_more bs i 0 inside in
       let is : copies after turn j group (take (i + 1) bs) ≡ copies after turn j group (take i bs) ++ part_of turn group Copy (j + length (take i bs)) 0 (block_of after (get_or bs i 0)) ∷ [] =
-          ap (λ (xs : List ℕ). copies after turn j group xs) more ∙ copies-push after turn j group (take i bs) (get_or bs i 0) in
+      ap (λ (xs : List ℕ). copies after turn j group xs) more ∙ copies-push after turn j group (take i bs) (get_or bs i 0) in
       let one : part_of turn group Copy block 0 bytes ≡ part_of turn group Copy (j + length (take i bs)) 0 (block_of after (get_or bs i 0)) =
-          ap (λ (k : ℕ). part_of turn group Copy k 0 bytes) (at ∙ ap (λ (k : ℕ). j + k) (sym front))
-          ∙ ap (λ (xs : List ℕ). part_of turn group Copy (j + length (take i bs)) 0 xs) (copied ∙ ap (λ (k : ℕ). block_of after k) (cast ∙ read)) in
+      ap (λ (k : ℕ). part_of turn group Copy k 0 bytes) (at ∙ ap (λ (k : ℕ). j + k) (sym front))
+      ∙ ap (λ (xs : List ℕ). part_of turn group Copy (j + length (take i bs)) 0 xs) (copied ∙ ap (λ (k : ℕ). block_of after k) (cast ∙ read)) in
       adds-same a d (copies after turn j group (take i bs) ++ part_of turn group Copy block 0 bytes ∷ []) (copies after turn j group (take (i + 1) bs))
-        (ap (λ (e : Emitted). copies after turn j group (take i bs) ++ e ∷ []) one ∙ sym is)
-        (adds-then a b d (copies after turn j group (take i bs)) (part_of turn group Copy block 0 bytes ∷ []) so_far adds)
+      (ap (λ (e : Emitted). copies after turn j group (take i bs) ++ e ∷ []) one ∙ sym is)
+      (adds-then a b d (copies after turn j group (take i bs)) (part_of turn group Copy block 0 bytes ∷ []) so_far adds)
 
 -- ---- what is touched
 
@@ -171,9 +173,9 @@ transaction_adds kind after turn j group targets changes a b c d e f same first 
     let same_kind : d.kind ≡ a.kind = third.kind ∙ second.kind ∙ first.kind in
     let fourth' : Adds d e ws = subst (λ (k : Module). Adds d e (map (plain turn group) (placed k changes))) same_kind fourth in
     adds-then a b f xs (ys ++ (z ∷ (ws ++ v ∷ []))) first
-      (adds-then b c f ys (z ∷ (ws ++ v ∷ [])) second
-        (adds-then c d f (z ∷ []) (ws ++ v ∷ []) third
-          (adds-then d e f ws (v ∷ []) fourth' fifth)))
+    (adds-then b c f ys (z ∷ (ws ++ v ∷ [])) second
+    (adds-then c d f (z ∷ []) (ws ++ v ∷ []) third
+    (adds-then d e f ws (v ∷ []) fourth' fifth)))
 
 pub adds-map : (a b : Log) (f : Change → Emitted) (xs : List Change) → Adds a b (map f xs) → length b.emitted ≡ length a.emitted + length xs
 adds-map a b f xs adds = adds-long a b (map f xs) adds ∙ ap (λ (n : ℕ). length a.emitted + n) (length-map xs f)

@@ -2,7 +2,7 @@
 use Rattle.std.specs.Prelude.{◌≡◌, ℕ, ◌<◌, All, List, [], ◌∷◌, ◌++◌, ◌||◌, Some, slice_get, IsTrue}
 use Rattle.crash_model.specs.Disk.{Disk, put}
 use Rattle.crash_model.specs.Patches.{Place, places_of}
-use Rattle.crash_model.specs.Trace.{Emitted, Tracing, begun, IsGraphOf, groups_depend, by_module}
+use Rattle.crash_model.specs.Trace.{Emitted, begun, IsGraphOf, groups_depend, by_module}
 use Rattle.crash_model.specs.declared.patches.Patch.{Patch}
 use Rattle.crash_model.specs.declared.steps.Module.{Module}
 use Rattle.order_modules.specs.Labels.{emitted_of}
@@ -28,6 +28,11 @@ pub record IsLog (log : Log) : Type 0 where
   pub written : log.written ≡ all_put log.base (places_of log.patches)
   pub known : All (λ patch. patch.block < log.base.blocks) log.patches
   pub graph : IsGraphOf log.kind log.base (record (begun log.base) { emitted = log.emitted; links = log.links }) log.patches
+
+-- the log is over the same base, by the same module
+pub record Keeps (old new : Log) : Type 0 where
+  pub base : new.base ≡ old.base
+  pub kind : new.kind ≡ old.kind
 
 -- the log has these patches more, and is else as it was
 pub record Adds (old new : Log) (more : List Emitted) : Type 0 where

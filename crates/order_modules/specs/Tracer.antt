@@ -1,5 +1,5 @@
 -- A trace under way.
-use Rattle.std.specs.Prelude.{◌≡◌, ℕ, ◌+◌, ◌≤◌, List, map, Result, Ok}
+use Rattle.std.specs.Prelude.{◌≡◌, ℕ, ◌+◌, ◌≤◌, List, map, Option, Result, Ok}
 use Rattle.std.specs.Borrow.{Bor}
 use Rattle.crash_model.specs.Disk.{Disk, IsDisk}
 use Rattle.crash_model.specs.Trace.{Tracing}
@@ -28,6 +28,13 @@ pub record Trace : Type 0 where
   pub log : Log
   pub tracing : Tracing
 
+-- by what a tracer keeps
+abbrev pub trace_of : Log → Disk → ℕ → ℕ → Option (List ℕ) → List (List ℕ) → List (List ℕ) → Trace
+trace_of log disk turn next current opened ended = record {
+  log = log;
+  tracing = record { disk = disk; emitted = log.emitted; turn = turn; journal = next; current = current; opened = opened; ended = ended; links = log.links };
+}
+
 pub record IsTrace (t : Trace) : Type 0 where
   pub disk : IsDisk t.tracing.disk
   pub blocks : t.tracing.disk.blocks ≡ t.log.base.blocks
@@ -41,4 +48,4 @@ pub record Moves (old new : Trace) (answer : Result Tracing TraceFault) : Type 0
   pub base : new.log.base ≡ old.log.base
   pub kind : new.log.kind ≡ old.log.kind
   pub turns : new.tracing.turn ≤ old.tracing.turn + 1
-  pub answer : answer ≡ Ok new.tracing
+  pub answered : answer ≡ Ok new.tracing

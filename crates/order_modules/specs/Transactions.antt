@@ -1,5 +1,5 @@
 -- The patches of a transaction of the journal, for both journals.
-use Rattle.std.specs.Prelude.{ℕ, ◌+◌, ◌==◌, List, [], ◌∷◌, ◌++◌, length, map, Bool, true, false, not, Option}
+use Rattle.std.specs.Prelude.{ℕ, ◌+◌, ◌==◌, List, [], ◌∷◌, ◌++◌, length, map, Bool, false, not, Option}
 use Rattle.std.specs.List.{filter, list_any, range_with_len}
 use Rattle.crash_model.specs.Disk.{Disk}
 use Rattle.crash_model.specs.Trace.{Emitted, FileData, Commit, Done, is_file_data, plain, part_of, copies}

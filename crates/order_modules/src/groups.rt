@@ -1,10 +1,11 @@
 //! The steps on patch groups (Frost et al., SOSP 2007), and the one that all steps go through.
 
-ghost use Rattle.std.specs.Prelude.{◌≡◌, ◌≢◌, ◌<◌, ◌^◌, Err, IfErr, OnOk};
-ghost use Rattle.crash_model.specs.Trace.{step as step_of, is_among};
+ghost use Rattle.std.specs.Prelude.{◌≡◌, ◌≢◌, ◌<◌, ◌^◌, Err, IfErr, OnOk, bytes_eq};
+ghost use Rattle.std.specs.List.{list_any};
+ghost use Rattle.crash_model.specs.Trace.{step as step_of};
 ghost use Rattle.crash_model.specs.declared.steps.Act.TheVariants.{Group, End, Depend};
 ghost use Rattle.crash_model.specs.declared.refusals.TraceFault.TheVariants as fault;
-ghost use Rattle.order_modules.specs.Tracer.{Moves, names_by};
+ghost use Rattle.order_modules.specs.Tracer.{Moves};
 
 use crate::tracer::Tracer;
 use crash_model::names::GroupName;
@@ -54,11 +55,19 @@ impl<'a, A: Allocator + Copy> Tracer<'a, A> {
     }
 
     /// Makes the patches that a group will get wait for those of an ended group.
-    fn depend(&mut self, line: usize, later: &'a GroupName, earlier: &'a GroupName) -> Result<(), TraceFault>
+    fn depend(
+        &mut self,
+        line: usize,
+        later: &'a GroupName,
+        earlier: &'a GroupName,
+    ) -> Result<(), TraceFault>
         ensures ok { OnOk result (Moves self.old self.new (step_of self.old.log.kind self.old.tracing line (Depend later.now earlier.now))) }
         ensures refused { IfErr result (λ refusal. refusal ≢ fault.OutOfMemory → step_of self.old.log.kind self.old.tracing line (Depend later.now earlier.now) ≡ Err refusal) }
     {
-        if !is_among(earlier, self.ended.as_slice()) || later.same(earlier) || self.log.has_patch_in(later) {
+        if !is_among(earlier, self.ended.as_slice())
+            || is_same(later, earlier)
+            || self.log.has_patch_in(later)
+        {
             return Err(TraceFault::GroupFault { line });
         }
         self.log.link(later, earlier)?;
@@ -68,7 +77,14 @@ impl<'a, A: Allocator + Copy> Tracer<'a, A> {
 
 /// Whether a name is among others.
 fn is_among(name: &GroupName, names: &[&GroupName]) -> bool
-    ensures { result ≡ is_among name.now (names_by names.now) }
+    ensures { result ≡ list_any (λ other. bytes_eq name.now other.now) names.now }
 {
-    names.iter().any(|other| name.same(other))
+    names.iter().any(|other| is_same(name, other))
+}
+
+/// Whether two names are the same.
+fn is_same(name: &GroupName, other: &GroupName) -> bool
+    ensures { result ≡ bytes_eq name.now other.now }
+{
+    name.same(other)
 }

@@ -5,11 +5,11 @@
 //! between operations. Replay of the journal is in the crate `journal_replay`.
 #![tactic(auto)]
 
-pub mod base;
+mod base;
 mod groups;
-pub mod labels;
+mod labels;
 mod log;
-pub mod tracer;
+mod tracer;
 mod transactions;
 
 pub use base::build_base;

@@ -27,7 +27,12 @@ use std::marker::Model;
 /// the operation itself, by a full journal, by too many patches (the graph holds 124), or by the rules of groups: a
 /// group is opened once and only while none is open, `depend b a` takes an ended group a and a group b, not a, that
 /// has no patch. It fails for want of memory too.
-pub fn trace<A: Allocator + Copy>(alloc: A, image: &Image<A>, steps: &[Step], module: Module) -> Result<Graph<A>, TraceFault>
+pub fn trace<A: Allocator + Copy>(
+    alloc: A,
+    image: &Image<A>,
+    steps: &[Step],
+    module: Module,
+) -> Result<Graph<A>, TraceFault>
     ensures ok { IfOk result (λ graph. (s : Tracing) × (traced «module» (begun image.now) steps.now ≡ Ok s) × IsGraphOf «module» image.now s graph) }
     ensures refused { IfErr result (λ refusal. refusal ≢ fault.OutOfMemory → traced «module» (begun image.now) steps.now ≡ Err refusal) }
     ensures fits { IfOk result (λ graph. All (λ patch. patch.block < image.now.blocks) graph) }
@@ -55,14 +60,14 @@ pub(crate) struct Tracer<'a, A: Allocator + Copy> {
 }
 
 impl<'a, A: Allocator + Copy> Model for Tracer<'a, A> {
-    ghost use Rattle.order_modules.specs.Tracer.{Trace, IsTrace, names_by};
+    ghost use Rattle.order_modules.specs.Tracer.{Trace, IsTrace, names_by, trace_of};
     ghost use Rattle.order_modules.specs.Labels.{group_by};
 
     ghost Value = { Trace };
 
-    ghost view = { λ t. record { log = t.log; tracing = record { disk = t.disk; emitted = t.log.emitted; turn = t.turn; journal = t.next; current = group_by t.current; opened = names_by t.opened.items; ended = names_by t.ended.items; links = t.log.links } } };
+    ghost view = { λ t. trace_of t.log t.disk t.turn t.next (group_by t.current) (names_by t.opened.items) (names_by t.ended.items) };
 
-    ghost invariant = { λ t. IsTrace (record { log = t.log; tracing = record { disk = t.disk; emitted = t.log.emitted; turn = t.turn; journal = t.next; current = group_by t.current; opened = names_by t.opened.items; ended = names_by t.ended.items; links = t.log.links } }) };
+    ghost invariant = { λ t. IsTrace (trace_of t.log t.disk t.turn t.next (group_by t.current) (names_by t.opened.items) (names_by t.ended.items)) };
 }
 
 impl<'a, A: Allocator + Copy> Tracer<'a, A> {
@@ -117,7 +122,8 @@ impl<'a, A: Allocator + Copy> Tracer<'a, A> {
             return Err(TraceFault::TooManyPatches { line });
         }
         apply(&mut self.disk, plan);
-        self.log.emit_in_place(self.turn, self.current, plan.as_slice())?;
+        self.log
+            .emit_in_place(self.turn, self.current, plan.as_slice())?;
         self.turn += 1;
         Ok(())
     }

@@ -6,7 +6,7 @@ ghost use Rattle.crash_model.specs.Trace.{plain, part_of, copies};
 ghost use Rattle.crash_model.specs.Trace as trace;
 ghost use Rattle.inode_fs.specs.Inside.{LiesInside};
 ghost use Rattle.order_modules.specs.Labels.{group_by};
-ghost use Rattle.order_modules.specs.Log.{Adds};
+ghost use Rattle.order_modules.specs.Log.{Adds, Keeps};
 ghost use Rattle.order_modules.specs.Transactions.{is_ahead, ahead, placed, file_data, targets_of, transaction_of};
 
 use crate::labels::{Label, Part};
@@ -76,7 +76,8 @@ impl<'a, A: Allocator + Copy> PatchLog<'a, A> {
         requires journal { header + 1 + length targets.now ≤ self.old.base.blocks }
         requires known { All (λ target. target < after.now.blocks) targets.now }
         requires room { length self.old.emitted + (length changes.now + length targets.now + 2) ≤ 124 }
-        ensures { OnOk result (Adds self.old self.new (transaction_of self.old.kind after.now turn header (group_by group.entry) targets.now changes.now)) }
+        ensures ok { OnOk result (Adds self.old self.new (transaction_of self.old.kind after.now turn header (group_by group.entry) targets.now changes.now)) }
+        ensures kept { Keeps self.old self.new }
     {
         self.emit_file_data(turn, group, changes)?;
         self.emit_copies(turn, group, header + 1, after, targets)?;
@@ -86,14 +87,24 @@ impl<'a, A: Allocator + Copy> PatchLog<'a, A> {
     }
 
     /// Adds the file data that go ahead of a transaction.
-    fn emit_file_data(&mut self, turn: usize, group: Option<&'a GroupName>, changes: &[Change]) -> Result<(), AllocError>
+    fn emit_file_data(
+        &mut self,
+        turn: usize,
+        group: Option<&'a GroupName>,
+        changes: &[Change],
+    ) -> Result<(), AllocError>
         requires inside { All (LiesInside self.old.base.blocks) changes.now }
         requires room { length self.old.emitted + length (ahead self.old.kind changes.now) ≤ 124 }
-        ensures { OnOk result (Adds self.old self.new (map (file_data turn (group_by group.entry)) (ahead self.old.kind changes.now))) }
+        ensures ok { OnOk result (Adds self.old self.new (map (file_data turn (group_by group.entry)) (ahead self.old.kind changes.now))) }
+        ensures kept { Keeps self.old self.new }
     {
         for change in changes {
             if is_ahead(self.module(), change) {
-                let label = Label { part: Part::FileData, turn, group };
+                let label = Label {
+                    part: Part::FileData,
+                    turn,
+                    group,
+                };
                 self.emit(label, change.block, change.offset, change.new.as_slice())?;
             }
         }
@@ -101,16 +112,28 @@ impl<'a, A: Allocator + Copy> PatchLog<'a, A> {
     }
 
     /// Adds the copies of the targets, in the journal blocks from `first` on.
-    fn emit_copies(&mut self, turn: usize, group: Option<&'a GroupName>, first: u8, after: &Image<A>, targets: &[u8]) -> Result<(), AllocError>
+    fn emit_copies(
+        &mut self,
+        turn: usize,
+        group: Option<&'a GroupName>,
+        first: u8,
+        after: &Image<A>,
+        targets: &[u8],
+    ) -> Result<(), AllocError>
         requires few { self.old.base.blocks ≤ 128 }
         requires journal { first + length targets.now ≤ self.old.base.blocks }
         requires known { All (λ target. target < after.now.blocks) targets.now }
         requires room { length self.old.emitted + length targets.now ≤ 124 }
-        ensures { OnOk result (Adds self.old self.new (copies after.now turn first (group_by group.entry) targets.now)) }
+        ensures ok { OnOk result (Adds self.old self.new (copies after.now turn first (group_by group.entry) targets.now)) }
+        ensures kept { Keeps self.old self.new }
     {
         let mut block = first;
         for target in targets {
-            let label = Label { part: Part::Copy, turn, group };
+            let label = Label {
+                part: Part::Copy,
+                turn,
+                group,
+            };
             self.emit(label, block, 0, after.block(usize::from(*target)))?;
             block += 1;
         }
@@ -118,12 +141,19 @@ impl<'a, A: Allocator + Copy> PatchLog<'a, A> {
     }
 
     /// Adds the header that commits the transaction.
-    fn emit_commit(&mut self, turn: usize, group: Option<&'a GroupName>, header: u8, targets: &[u8]) -> Result<(), AllocError>
+    fn emit_commit(
+        &mut self,
+        turn: usize,
+        group: Option<&'a GroupName>,
+        header: u8,
+        targets: &[u8],
+    ) -> Result<(), AllocError>
         requires turn { turn < 256 }
         requires block { header < self.old.base.blocks }
         requires fits { length targets.now ≤ 125 }
         requires room { length self.old.emitted < 124 }
-        ensures { OnOk result (Adds self.old self.new (part_of turn (group_by group.entry) trace.Commit header 0 (0xC7 ∷ turn ∷ length targets.now ∷ targets.now) ∷ [])) }
+        ensures ok { OnOk result (Adds self.old self.new (part_of turn (group_by group.entry) trace.Commit header 0 (0xC7 ∷ turn ∷ length targets.now ∷ targets.now) ∷ [])) }
+        ensures kept { Keeps self.old self.new }
     {
         let mut bytes: ArrayVec<u8, 128> = ArrayVec::new();
         bytes.push(COMMITTED);
@@ -132,19 +162,33 @@ impl<'a, A: Allocator + Copy> PatchLog<'a, A> {
         for target in targets {
             bytes.push(*target);
         }
-        let label = Label { part: Part::Commit, turn, group };
+        let label = Label {
+            part: Part::Commit,
+            turn,
+            group,
+        };
         self.emit(label, header, 0, bytes.as_slice())
     }
 
     /// Adds the changes where they belong, but for file data that went ahead.
-    pub fn emit_in_place(&mut self, turn: usize, group: Option<&'a GroupName>, changes: &[Change]) -> Result<(), AllocError>
+    pub fn emit_in_place(
+        &mut self,
+        turn: usize,
+        group: Option<&'a GroupName>,
+        changes: &[Change],
+    ) -> Result<(), AllocError>
         requires inside { All (LiesInside self.old.base.blocks) changes.now }
         requires room { length self.old.emitted + length (placed self.old.kind changes.now) ≤ 124 }
-        ensures { OnOk result (Adds self.old self.new (map (plain turn (group_by group.entry)) (placed self.old.kind changes.now))) }
+        ensures ok { OnOk result (Adds self.old self.new (map (plain turn (group_by group.entry)) (placed self.old.kind changes.now))) }
+        ensures kept { Keeps self.old self.new }
     {
         for change in changes {
             if !is_ahead(self.module(), change) {
-                let label = Label { part: Part::InPlace(change.role), turn, group };
+                let label = Label {
+                    part: Part::InPlace(change.role),
+                    turn,
+                    group,
+                };
                 self.emit(label, change.block, change.offset, change.new.as_slice())?;
             }
         }
@@ -152,12 +196,22 @@ impl<'a, A: Allocator + Copy> PatchLog<'a, A> {
     }
 
     /// Adds the mark that all is in place.
-    fn emit_done(&mut self, turn: usize, group: Option<&'a GroupName>, header: u8) -> Result<(), AllocError>
+    fn emit_done(
+        &mut self,
+        turn: usize,
+        group: Option<&'a GroupName>,
+        header: u8,
+    ) -> Result<(), AllocError>
         requires block { header < self.old.base.blocks }
         requires room { length self.old.emitted < 124 }
-        ensures { OnOk result (Adds self.old self.new (part_of turn (group_by group.entry) trace.Done header 0 (0xC8 ∷ []) ∷ [])) }
+        ensures ok { OnOk result (Adds self.old self.new (part_of turn (group_by group.entry) trace.Done header 0 (0xC8 ∷ []) ∷ [])) }
+        ensures kept { Keeps self.old self.new }
     {
-        let label = Label { part: Part::Done, turn, group };
+        let label = Label {
+            part: Part::Done,
+            turn,
+            group,
+        };
         self.emit(label, header, 0, &[DONE])
     }
 }

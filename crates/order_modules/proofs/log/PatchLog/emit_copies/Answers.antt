@@ -9,7 +9,7 @@ emit-requires-clause-room g c =
 
 pub loop-target-preserved : goal.loop-target-preserved
 loop-target-preserved g c = record {
-    block = omega (arith, c.loop-target.invariant.block);
-    adds = copies_next c.args.self.now c.loop-target.self c.args.after.now c.args.turn c.args.first (group_by c.args.group) c.args.targets.now c.loop-target.target-index c.loop-target.invariant.adds
+  block = omega (arith, c.loop-target.invariant.block);
+  adds = copies_next c.args.self.now c.loop-target.self c.args.after.now c.args.turn c.args.first (group_by c.args.group) c.args.targets.now c.loop-target.target-index c.loop-target.invariant.adds
       c.emit.new.self c.loop-target.block (get_or c.args.targets.now c.loop-target.target-index 0) c.from.result c.block.result.now c.loop-target-test.true c.loop-target.invariant.block c.from.ensures refl c.block.ensures.bytes c.in_ok-emit.ensures.ok;
-  }
+}

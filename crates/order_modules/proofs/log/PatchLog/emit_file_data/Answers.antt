@@ -1,4 +1,4 @@
-use Rattle.std.proofs.Common.{◌≡◌, ◌∙◌, [], ◌∷◌, ℕ, List, true, false, not, Bool, sym, ap, subst, map, take, ◌+◌}
+use Rattle.std.proofs.Common.{◌≡◌, ◌∙◌, [], ◌∷◌, ℕ, List, true, false, Bool, sym, ap, subst, map, take, ◌+◌}
 use Rattle.crash_model.specs.Trace as trace
 use Rattle.crash_model.specs.Trace.{Emitted, part_of, plain}
 use Rattle.crash_model.specs.declared.plans.Change.{Change}
@@ -6,7 +6,7 @@ use Rattle.crash_model.specs.declared.steps.Module.{Module}
 use Rattle.std.specs.List.{filter}
 use Rattle.order_modules.specs.Labels.{group_by}
 use Rattle.order_modules.specs.Log.{Log, Adds}
-use Rattle.order_modules.specs.Transactions.{is_ahead, is_placed, file_data}
+use Rattle.order_modules.specs.Transactions.{is_ahead, file_data}
 use Rattle.order_modules.proofs.Adding.{adds-same, chosen_space, chosen_next, chosen_skip}
 use Rattle.order_modules.proofs.log.PatchLog.emit_file_data.Goals as goal
 use Rattle.order_modules.proofs.log.PatchLog.emit_file_data.Goals.{then-is_ahead+in_ok-emit, else-is_ahead}

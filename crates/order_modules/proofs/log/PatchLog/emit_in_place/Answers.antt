@@ -6,7 +6,7 @@ use Rattle.crash_model.specs.declared.steps.Module.{Module}
 use Rattle.std.specs.List.{filter}
 use Rattle.order_modules.specs.Labels.{group_by}
 use Rattle.order_modules.specs.Log.{Log, Adds}
-use Rattle.order_modules.specs.Transactions.{is_ahead, is_placed, file_data}
+use Rattle.order_modules.specs.Transactions.{is_ahead, is_placed}
 use Rattle.order_modules.proofs.Adding.{adds-same, chosen_space, chosen_next, chosen_skip}
 use Rattle.order_modules.proofs.log.PatchLog.emit_in_place.Goals as goal
 use Rattle.order_modules.proofs.log.PatchLog.emit_in_place.Goals.{then-not-is_ahead+in_ok-emit, else-not-is_ahead}
