@@ -14,19 +14,6 @@ use patch_graph::Graph;
 use plain_explorer::Explored;
 use std::alloc::{AllocError, Allocator, Global};
 
-pub fn trace<A: Allocator + Copy>(
-    _alloc: A,
-    image: &Image<A>,
-    steps: &[Step],
-    module: Module,
-) -> Result<Graph<A>, TraceFault>
-    ensures ok { IfOk result (λ graph. (s : Tracing) × (traced «module» (begun image.now) steps.now ≡ Ok s) × IsGraphOf «module» image.now s graph) }
-    ensures refused { IfErr result (λ refusal. refusal ≢ fault.OutOfMemory → traced «module» (begun image.now) steps.now ≡ Err refusal) }
-    ensures fits { IfOk result (λ graph. All (λ patch. patch.block < image.now.blocks) graph) }
-{
-    Err(TraceFault::OutOfMemory)
-}
-
 pub fn report_text<A: Allocator + Copy>(
     _alloc: A,
     base: &Image<A>,
@@ -56,15 +43,4 @@ pub fn report_json<A: Allocator + Copy>(
         × (string_bytes text ≡ json_report «module» (length graph.now) found.now.total sections)) }
 {
     Err(AllocError)
-}
-
-pub fn build_base<A: Allocator + Copy>(
-    image: &mut Image<A>,
-    steps: &[Step],
-) -> Result<(), TraceFault>
-    ensures built { OnOk result (based image.old steps.now ≡ Ok image.new) }
-    ensures refused { IfErr result (λ refusal. refusal ≢ fault.OutOfMemory → based image.old steps.now ≡ Err refusal) }
-{
-    let _ = (image.blocks(), steps.len());
-    Err(TraceFault::OutOfMemory)
 }
