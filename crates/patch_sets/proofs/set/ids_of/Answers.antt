@@ -1,4 +1,4 @@
-use Rattle.std.proofs.Common.{◌≡◌, ◌+◌, false, true, [], ◌∷◌, ◌++◌, cond, append-nil, sym, ap, ◌∙◌}
+use Rattle.std.proofs.Common.{◌≡◌, false, true, [], ◌∷◌, ◌++◌, cond, append-nil, sym, ap, ◌∙◌}
 use Rattle.patch_sets.specs.Sets.{Has, has, ids_of}
 use Rattle.patch_sets.proofs.Ids.{has_true, has_false, ids_more, ids_push}
 use Rattle.patch_sets.proofs.set.ids_of.Goals as goal
