@@ -1,11 +1,13 @@
 //! Names, paths and operations.
 
-ghost use Rattle.std.specs.Prelude.{◌≡◌, ℕ, ◌-◌, ◌≤◌, ◌++◌, replicate, length};
-ghost use Rattle.crash_model.specs.Names.{IsName};
+ghost use Rattle.std.specs.Prelude.{◌≡◌, ℕ, ◌-◌, ◌≤◌, ◌<◌, ◌++◌, ◌↔◌, replicate, length, IsTrue, MatchOption, slice_index, ◌≢◌};
+ghost use Rattle.std.specs.List.{list_all};
+ghost use Rattle.crash_model.specs.Names.{IsName, IsGroupName, IsShort, is_name_byte, is_group_byte, BeginsWith, HasFirstName};
 ghost use Rattle.crash_model.specs.Plan.{spelled};
 
 use arrayvec::ArrayVec;
 use std::marker::Model;
+use std::mem;
 
 /// A name in a directory: 1 to 10 characters of a to z and 0 to 9.
 #[derive(Drop)]
@@ -34,6 +36,17 @@ impl Default for Name {
 }
 
 impl Name {
+    /// The name of these bytes, or `None` where they are no name.
+    pub fn read(bytes: &[u8]) -> Option<Name>
+        ensures { MatchOption result (¬ (IsName bytes.now)) (λ name. (name ≡ bytes.now) × IsName bytes.now) }
+    {
+        if !are_name_bytes(bytes) {
+            return None;
+        }
+        let bytes = word(bytes)?;
+        Some(Name { bytes })
+    }
+
     /// Bytes 1 to 11 of a directory entry of this name: its length, the name, and zeros.
     pub fn spelled(&self) -> ArrayVec<u8, 11>
         ensures bytes { result.items ≡ spelled self.now }
@@ -56,6 +69,75 @@ impl Name {
 pub struct Path {
     pub through: ArrayVec<Name, 3>,
     pub last: Name,
+}
+
+impl Path {
+    ghost use Rattle.crash_model.specs.Script.{IsPath, IsPathWord, path_text};
+
+    /// The path with this text: a slash and a name, one to four times. `None` for any other text.
+    pub fn read(text: &str) -> Option<Path>
+        ensures { MatchOption result (¬ (IsPathWord text.now)) (λ path. IsPath path × (text.now ≡ path_text path)) }
+    {
+        let mut through = ArrayVec::new();
+        let (mut last, mut rest) = first_name(text.as_bytes())?;
+        while !rest.is_empty() {
+            if through.is_full() {
+                return None;
+            }
+            let (name, behind) = first_name(rest)?;
+            through.push(mem::replace(&mut last, name));
+            rest = behind;
+        }
+        Some(Path { through, last })
+    }
+}
+
+/// The first name of a path's text, behind its slash, and the text behind it, which is empty or begins with a slash.
+fn first_name(text: &[u8]) -> Option<(Name, &[u8])>
+    ensures { MatchOption result (¬ (HasFirstName text.now)) (λ first. BeginsWith text.now first.0 first.1.now) }
+{
+    let [b'/', names @ ..] = text else {
+        return None;
+    };
+    let (name, behind) = names.split_at(first_slash(names));
+    Some((Name::read(name)?, behind))
+}
+
+/// The place of the first slash, or the length where there is none.
+fn first_slash(text: &[u8]) -> usize
+    ensures inside { result ≤ length text.now }
+    ensures before { (k : ℕ) → k < result → slice_index text.now k ≢ 47 }
+    ensures found { result < length text.now → slice_index text.now result ≡ 47 }
+{
+    let place = text.iter().position(|c| *c == b'/');
+    place.unwrap_or(text.len())
+}
+
+/// The bytes, where they are 1 to 10.
+fn word(bytes: &[u8]) -> Option<ArrayVec<u8, 10>>
+    ensures { MatchOption result (¬ (IsShort bytes.now)) (λ word. (word.items ≡ bytes.now) × IsShort bytes.now) }
+{
+    let mut word = ArrayVec::new();
+    if bytes.is_empty() || word.try_extend_from_slice(bytes).is_err() {
+        return None;
+    }
+    Some(word)
+}
+
+fn are_name_bytes(bytes: &[u8]) -> bool
+    ensures { result ≡ list_all is_name_byte bytes.now }
+{
+    bytes
+        .iter()
+        .all(|c| matches!(*c, b'a'..=b'z' | b'0'..=b'9'))
+}
+
+fn are_group_bytes(bytes: &[u8]) -> bool
+    ensures { result ≡ list_all is_group_byte bytes.now }
+{
+    bytes
+        .iter()
+        .all(|c| matches!(*c, b'a'..=b'z' | b'0'..=b'9' | b'A'..=b'Z'))
 }
 
 /// An operation on the file system.
@@ -87,4 +169,24 @@ impl Model for GroupName {
     ghost view = { λ n. n.bytes.items };
 
     ghost invariant = { λ n. IsGroupName n.bytes.items };
+}
+
+impl GroupName {
+    /// The name of a group with this text, or `None` where the text is no such name.
+    pub fn read(text: &str) -> Option<GroupName>
+        ensures { MatchOption result (¬ (IsGroupName text.now)) (λ name. (name ≡ text.now) × IsGroupName text.now) }
+    {
+        if !are_group_bytes(text.as_bytes()) {
+            return None;
+        }
+        let bytes = word(text.as_bytes())?;
+        Some(GroupName { bytes })
+    }
+
+    /// Whether it is the same name.
+    pub fn same(&self, other: &GroupName) -> bool
+        ensures { IsTrue result ↔ (self.now ≡ other.now) }
+    {
+        self.bytes.as_slice() == other.bytes.as_slice()
+    }
 }

@@ -1,5 +1,8 @@
 //! Ordering modules and the steps of a script.
 
+ghost use Rattle.std.specs.Prelude.{◌≡◌};
+ghost use Rattle.crash_model.specs.Report.{module_text};
+
 use crate::names::{GroupName, Op};
 
 /// What orders the patches of an operation.
@@ -12,6 +15,20 @@ pub enum Module {
     Soft,
     Meta,
     Full,
+}
+
+impl Module {
+    /// Its name in reports and on the command line.
+    pub fn name(self) -> &'static str
+        ensures { result.now ≡ module_text self }
+    {
+        match self {
+            Module::Async => "async",
+            Module::Soft => "soft",
+            Module::Meta => "meta",
+            Module::Full => "full",
+        }
+    }
 }
 
 /// What a line of a script asks for.
