@@ -5,3 +5,4 @@ pub mod Sound
 pub mod Runs
 pub mod Spelling
 pub mod Answering
+pub mod Pieces
