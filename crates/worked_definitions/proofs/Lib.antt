@@ -6,3 +6,4 @@ pub mod Runs
 pub mod Spelling
 pub mod Answering
 pub mod Pieces
+pub mod Readings
