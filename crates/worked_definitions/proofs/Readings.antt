@@ -117,3 +117,145 @@ act_is (Do (Rmdir p)) is = rw (path_is p is) refl
 act_is (Group a) is = refl
 act_is End is = refl
 act_is (Depend b a) is = refl
+
+-- ---- words
+
+path_lacks : (path : Path) → IsPath path → Lacks 32 (path_text path)
+path_lacks path is = slashed_lacks (path.through.items ++ path.last ∷ []) (names_are path is)
+  where
+    append_lacks : (s : ℕ) (xs ys : List ℕ) → Lacks s xs → Lacks s ys → Lacks s (xs ++ ys)
+    append_lacks s [] ys lacks more = more
+    append_lacks s (x ∷ xs) ys lacks more = (lacks.0, append_lacks s xs ys lacks.1 more)
+
+    slashed_lacks : (names : List (List ℕ)) → All IsName names → Lacks 32 (flat_map (λ name. 47 ∷ name) names)
+    slashed_lacks [] all = tt
+    slashed_lacks (name ∷ names) all =
+        ((λ e. omega (arith, e)),
+         append_lacks 32 name (flat_map (λ name. 47 ∷ name) names) (name_lacks 32 is_name_byte refl name (All-head IsName name names all).plain)
+           (slashed_lacks names (All-tail IsName name names all)))
+
+group_lacks : (name : List ℕ) → IsGroupName name → Lacks 32 name
+group_lacks name is = name_lacks 32 is_group_byte refl name is.plain
+
+lacks_is : (s : ℕ) (xs : List ℕ) → Lacks s xs → ¬ (Contains xs s)
+lacks_is s [] lacks (k, within, is) = omega arith
+lacks_is s (x ∷ xs) lacks (zero, within, is) = lacks.0 is
+lacks_is s (x ∷ xs) lacks (suc k, within, is) = lacks_is s xs lacks.1 (k, omega arith, is)
+
+-- the first word of an act, what stands behind it, and of which kinds
+abbrev pub operands_of : Act → List Operand
+operands_of (Do (Create p)) = PathOperand ∷ []
+operands_of (Do (Write p)) = PathOperand ∷ []
+operands_of (Do (Link p q)) = PathOperand ∷ PathOperand ∷ []
+operands_of (Do (Unlink p)) = PathOperand ∷ []
+operands_of (Do (Rename p q)) = PathOperand ∷ PathOperand ∷ []
+operands_of (Do (Mkdir p)) = PathOperand ∷ []
+operands_of (Do (Rmdir p)) = PathOperand ∷ []
+operands_of (Group a) = GroupOperand ∷ []
+operands_of End = []
+operands_of (Depend b a) = GroupOperand ∷ GroupOperand ∷ []
+
+abbrev pub behind_first : List (List ℕ) → List (List ℕ)
+behind_first [] = []
+behind_first (word ∷ words) = words
+
+-- a word without a space, as text that is checked
+no_space : (word : List ℕ) → list_all (λ c. not (c == 32)) word ≡ true → Lacks 32 word
+no_space word e = name_lacks 32 (λ c. not (c == 32)) refl word e
+
+words_lack : (act : Act) → IsAct act → AreLacking 32 (words_of act)
+words_lack (Do (Create p)) is = (no_space (codes "create") refl, (path_lacks p is, tt))
+words_lack (Do (Write p)) is = (no_space (codes "write") refl, (path_lacks p is, tt))
+words_lack (Do (Link p q)) is = (no_space (codes "link") refl, (path_lacks p is.0, (path_lacks q is.1, tt)))
+words_lack (Do (Unlink p)) is = (no_space (codes "unlink") refl, (path_lacks p is, tt))
+words_lack (Do (Rename p q)) is = (no_space (codes "rename") refl, (path_lacks p is.0, (path_lacks q is.1, tt)))
+words_lack (Do (Mkdir p)) is = (no_space (codes "mkdir") refl, (path_lacks p is, tt))
+words_lack (Do (Rmdir p)) is = (no_space (codes "rmdir") refl, (path_lacks p is, tt))
+words_lack (Group a) is = (no_space (codes "group") refl, (group_lacks a is, tt))
+words_lack End is = (no_space (codes "end") refl, tt)
+words_lack (Depend b a) is = (no_space (codes "depend") refl, (group_lacks b is.0, (group_lacks a is.1, tt)))
+
+some_words : (act : Act) → words_of act ≢ []
+some_words (Do (Create p)) e = cc
+some_words (Do (Write p)) e = cc
+some_words (Do (Link p q)) e = cc
+some_words (Do (Unlink p)) e = cc
+some_words (Do (Rename p q)) e = cc
+some_words (Do (Mkdir p)) e = cc
+some_words (Do (Rmdir p)) e = cc
+some_words (Group a) e = cc
+some_words End e = cc
+some_words (Depend b a) e = cc
+
+pub act_pieces : (act : Act) → IsAct act → pieces 32 (joined 32 (words_of act)) ≡ words_of act
+act_pieces act is = pieces_joined 32 (words_of act) (words_lack act is) (some_words act)
+
+-- ---- lines
+
+abbrev pub begins_comment : List ℕ → Bool
+begins_comment [] = true
+begins_comment (c ∷ cs) = c == 35
+
+-- what the line says, by the act that its words are
+abbrev pub says_by : List ℕ → Option Act → Option Line
+says_by line (Some act) = Some (Says act)
+says_by line None = if bytes_eq line (codes "start") then Some Start else (if begins_comment line then Some Skipped else None)
+
+abbrev pub says : List ℕ → Option Line
+says line = says_by line (act_of (pieces 32 line))
+
+comment_no_act : (ps : List (List ℕ)) → act_of (onto 35 ps) ≡ None
+comment_no_act [] = refl
+comment_no_act (p ∷ ps) = refl
+
+comment_says : (rest : List ℕ) → says (35 ∷ rest) ≡ Some Skipped
+comment_says rest = ap (says_by (35 ∷ rest)) (comment_no_act (pieces 32 rest))
+
+pub reads_says : (line : List ℕ) (what : Line) → Reads line what → says line ≡ Some what
+reads_says line Skipped (inl empty) = ap says empty
+reads_says line Skipped (inr (text, (rest, is))) = ap says is ∙ comment_says rest
+reads_says line Start is = ap says is
+reads_says line (Says act) (is, spelt) = ap says spelt ∙ ap (says_by (joined 32 (words_of act))) (ap act_of (act_pieces act is) ∙ act_is act is)
+
+pub reads_one : (line : List ℕ) (what other : Line) → Reads line what → Reads line other → what ≡ other
+reads_one line what other is also = let one = reads_says line what is in let two = reads_says line other also in cc
+
+-- ---- forms
+
+abbrev pub lookup : List (List ℕ × List Operand) → List ℕ → Option (List Operand)
+lookup [] first = None
+lookup (form ∷ more) first = if bytes_eq first form.0 then Some form.1 else lookup more first
+
+abbrev pub form_of : List (List ℕ) → Option (List Operand × List (List ℕ))
+form_of [] = None
+form_of (first ∷ words) = option_map (λ operands. (operands, words)) (lookup forms first)
+
+in_forms : (k : ℕ) (first : List ℕ) (operands : List Operand) → k < 11 → get_or forms k (first, operands) ≡ (first, operands) → lookup forms first ≡ Some operands
+in_forms k first operands below e = by_place k below e
+  where
+    found : (form : List ℕ × List Operand) → lookup forms form.0 ≡ Some form.1 → form ≡ (first, operands) → lookup forms first ≡ Some operands
+    found form at e = subst (λ (f : List ℕ × List Operand). lookup forms f.0 ≡ Some f.1) e at
+
+    by_place : (k : ℕ) → k < 11 → get_or forms k (first, operands) ≡ (first, operands) → lookup forms first ≡ Some operands
+    by_place zero below e = found (codes "create", PathOperand ∷ []) refl e
+    by_place (suc zero) below e = found (codes "write", PathOperand ∷ []) refl e
+    by_place (suc (suc zero)) below e = found (codes "link", PathOperand ∷ PathOperand ∷ []) refl e
+    by_place (suc (suc (suc zero))) below e = found (codes "unlink", PathOperand ∷ []) refl e
+    by_place (suc (suc (suc (suc zero)))) below e = found (codes "rename", PathOperand ∷ PathOperand ∷ []) refl e
+    by_place (suc (suc (suc (suc (suc zero))))) below e = found (codes "mkdir", PathOperand ∷ []) refl e
+    by_place (suc (suc (suc (suc (suc (suc zero)))))) below e = found (codes "rmdir", PathOperand ∷ []) refl e
+    by_place (suc (suc (suc (suc (suc (suc (suc zero))))))) below e = found (codes "group", GroupOperand ∷ []) refl e
+    by_place (suc (suc (suc (suc (suc (suc (suc (suc zero)))))))) below e = found (codes "end", []) refl e
+    by_place (suc (suc (suc (suc (suc (suc (suc (suc (suc zero))))))))) below e = found (codes "depend", GroupOperand ∷ GroupOperand ∷ []) refl e
+    by_place (suc (suc (suc (suc (suc (suc (suc (suc (suc (suc zero)))))))))) below e = found (codes "start", []) refl e
+    by_place (suc (suc (suc (suc (suc (suc (suc (suc (suc (suc (suc k))))))))))) below e = absurd (omega arith)
+
+pub form_is : (line : List ℕ) (operands : List Operand) (words : List (List ℕ)) → HasForm line operands words → form_of (pieces 32 line) ≡ Some (operands, words)
+form_is line operands words form =
+    ap (λ l. form_of (pieces 32 l)) form.cut.whole
+    ∙ (ap form_of (pieces_joined 32 (form.first ∷ words) (lacking_from 32 (form.first ∷ words) form.cut.plain) form.cut.some)
+    ∙ ap (option_map (λ os. (os, words))) (in_forms form.is_form.0 form.first operands form.is_form.1 form.is_form.2))
+
+-- text of no form
+pub no_form : (line : List ℕ) → form_of (pieces 32 line) ≡ None → (operands : List Operand) (words : List (List ℕ)) → ¬ (HasForm line operands words)
+no_form line none operands words form = let one = form_is line operands words form in cc
