@@ -259,3 +259,134 @@ form_is line operands words form =
 -- text of no form
 pub no_form : (line : List ℕ) → form_of (pieces 32 line) ≡ None → (operands : List Operand) (words : List (List ℕ)) → ¬ (HasForm line operands words)
 no_form line none operands words form = let one = form_is line operands words form in cc
+
+-- ---- text
+
+-- each byte is ASCII
+abbrev pub Low : List ℕ → Type 0
+Low [] = Unit {0}
+Low (c ∷ cs) = (c < 128) × Low cs
+
+low_ascii : (xs : List ℕ) → Low xs → IsAscii xs
+low_ascii [] low i = omega arith
+low_ascii (x ∷ xs) low zero = low.0
+low_ascii (x ∷ xs) low (suc i) = low_ascii xs low.1 i
+
+low_append : (xs ys : List ℕ) → Low xs → Low ys → Low (xs ++ ys)
+low_append [] ys low more = more
+low_append (x ∷ xs) ys low more = (low.0, low_append xs ys low.1 more)
+
+name_low : (c : ℕ) → is_name_byte c ≡ true → c < 128
+name_low c e = grind (arith, nat_tests)
+
+group_low : (c : ℕ) → is_group_byte c ≡ true → c < 128
+group_low c e = grind (arith, nat_tests)
+
+low_if : (passes : ℕ → Bool) → ((c : ℕ) → passes c ≡ true → c < 128) → (xs : List ℕ) → list_all passes xs ≡ true → Low xs
+low_if passes below [] e = tt
+low_if passes below (x ∷ xs) e = let parts = and_parts (passes x) (list_all passes xs) e in (below x parts.0, low_if passes below xs parts.1)
+
+low_text : (xs : List ℕ) → list_all (λ c. nat_lt c 128) xs ≡ true → Low xs
+low_text xs e = low_if (λ c. nat_lt c 128) (λ c is. ltb-true c 128 is) xs e
+
+path_low : (path : Path) → IsPath path → Low (path_text path)
+path_low path is = slashed_low (path.through.items ++ path.last ∷ []) (names_are path is)
+  where
+    slashed_low : (names : List (List ℕ)) → All IsName names → Low (flat_map (λ name. 47 ∷ name) names)
+    slashed_low [] all = tt
+    slashed_low (name ∷ names) all =
+        (omega arith, low_append name (flat_map (λ name. 47 ∷ name) names)
+          (low_if is_name_byte name_low name (All-head IsName name names all).plain) (slashed_low names (All-tail IsName name names all)))
+
+low_group : (name : List ℕ) → IsGroupName name → Low name
+low_group name is = low_if is_group_byte group_low name is.plain
+
+low_two : (first word : List ℕ) → Low first → Low word → Low (joined 32 (first ∷ word ∷ []))
+low_two first word low more = low_append first (32 ∷ word) low (omega arith, more)
+
+low_three : (first word last : List ℕ) → Low first → Low word → Low last → Low (joined 32 (first ∷ word ∷ last ∷ []))
+low_three first word last low more end = low_append first (32 ∷ joined 32 (word ∷ last ∷ [])) low (omega arith, low_two word last more end)
+
+act_low : (act : Act) → IsAct act → Low (joined 32 (words_of act))
+act_low (Do (Create p)) is = low_two (codes "create") (path_text p) (low_text (codes "create") refl) (path_low p is)
+act_low (Do (Write p)) is = low_two (codes "write") (path_text p) (low_text (codes "write") refl) (path_low p is)
+act_low (Do (Link p q)) is = low_three (codes "link") (path_text p) (path_text q) (low_text (codes "link") refl) (path_low p is.0) (path_low q is.1)
+act_low (Do (Unlink p)) is = low_two (codes "unlink") (path_text p) (low_text (codes "unlink") refl) (path_low p is)
+act_low (Do (Rename p q)) is = low_three (codes "rename") (path_text p) (path_text q) (low_text (codes "rename") refl) (path_low p is.0) (path_low q is.1)
+act_low (Do (Mkdir p)) is = low_two (codes "mkdir") (path_text p) (low_text (codes "mkdir") refl) (path_low p is)
+act_low (Do (Rmdir p)) is = low_two (codes "rmdir") (path_text p) (low_text (codes "rmdir") refl) (path_low p is)
+act_low (Group a) is = low_two (codes "group") a (low_text (codes "group") refl) (low_group a is)
+act_low End is = low_text (codes "end") refl
+act_low (Depend b a) is = low_three (codes "depend") b a (low_text (codes "depend") refl) (low_group b is.0) (low_group a is.1)
+
+low_utf8 : (xs : List ℕ) → Low xs → IsUtf8 xs
+low_utf8 xs low = IsUtf8-from_ascii xs (low_ascii xs low)
+
+pub reads_utf8 : (line : List ℕ) (what : Line) → Reads line what → IsUtf8 line
+reads_utf8 line Skipped (inl empty) = subst IsUtf8 (sym empty) (low_utf8 [] tt)
+reads_utf8 line Skipped (inr comment) = comment.0
+reads_utf8 line Start is = subst IsUtf8 (sym is) (low_utf8 (codes "start") (low_text (codes "start") refl))
+reads_utf8 line (Says act) (is, spelt) = subst IsUtf8 (sym spelt) (low_utf8 (joined 32 (words_of act)) (act_low act is))
+
+-- ---- a line that says something has a form, with paths where they belong
+
+plain_from : (s : ℕ) (words : List (List ℕ)) → AreLacking s words → All (λ word. ¬ (Contains word s)) words
+plain_from s [] lacks = All-nil (λ word. ¬ (Contains word s))
+plain_from s (word ∷ words) lacks = All-cons (λ word. ¬ (Contains word s)) word words (lacks_is s word lacks.0) (plain_from s words lacks.1)
+
+-- the parts of a form, for text that is given as words
+form_at : (k : ℕ) (operands : List Operand) (first : List ℕ) (words : List (List ℕ)) → k < 11 → get_or forms k (first, operands) ≡ (first, operands)
+    → AreLacking 32 (first ∷ words) → Fits operands words → HasForm (joined 32 (first ∷ words)) operands words
+form_at k operands first words below at lacks fits = record {
+  first = first;
+  is_form = (k, below, at);
+  cut = record { plain = plain_from 32 (first ∷ words) lacks; some = λ e. cc; whole = refl };
+  fits = fits;
+}
+
+path_some : (path : Path) → path_text path ≢ []
+path_some path e = by_names path.through.items e
+  where
+    by_names : (items : List (List ℕ)) → flat_map (λ name. 47 ∷ name) (items ++ path.last ∷ []) ≡ [] → ⊥
+    by_names [] e = cc
+    by_names (x ∷ xs) e = cc
+
+act_form : (act : Act) → IsAct act → HasForm (joined 32 (words_of act)) (operands_of act) (behind_first (words_of act))
+act_form (Do (Create p)) is = form_at 0 _ (codes "create") (path_text p ∷ []) (omega arith) refl (words_lack (Do (Create p)) is) (path_some p, tt)
+act_form (Do (Write p)) is = form_at 1 _ (codes "write") (path_text p ∷ []) (omega arith) refl (words_lack (Do (Write p)) is) (path_some p, tt)
+act_form (Do (Link p q)) is = form_at 2 _ (codes "link") (path_text p ∷ path_text q ∷ []) (omega arith) refl (words_lack (Do (Link p q)) is) (path_some p, (path_some q, tt))
+act_form (Do (Unlink p)) is = form_at 3 _ (codes "unlink") (path_text p ∷ []) (omega arith) refl (words_lack (Do (Unlink p)) is) (path_some p, tt)
+act_form (Do (Rename p q)) is = form_at 4 _ (codes "rename") (path_text p ∷ path_text q ∷ []) (omega arith) refl (words_lack (Do (Rename p q)) is) (path_some p, (path_some q, tt))
+act_form (Do (Mkdir p)) is = form_at 5 _ (codes "mkdir") (path_text p ∷ []) (omega arith) refl (words_lack (Do (Mkdir p)) is) (path_some p, tt)
+act_form (Do (Rmdir p)) is = form_at 6 _ (codes "rmdir") (path_text p ∷ []) (omega arith) refl (words_lack (Do (Rmdir p)) is) (path_some p, tt)
+act_form (Group a) is = form_at 7 _ (codes "group") (a ∷ []) (omega arith) refl (words_lack (Group a) is) (is, tt)
+act_form End is = form_at 8 _ (codes "end") [] (omega arith) refl (words_lack End is) tt
+act_form (Depend b a) is = form_at 9 _ (codes "depend") (b ∷ a ∷ []) (omega arith) refl (words_lack (Depend b a) is) (is.0, (is.1, tt))
+
+act_paths : (act : Act) → IsAct act → HasPaths (operands_of act) (behind_first (words_of act))
+act_paths (Do (Create p)) is = ((p, is, refl), tt)
+act_paths (Do (Write p)) is = ((p, is, refl), tt)
+act_paths (Do (Link p q)) is = ((p, is.0, refl), ((q, is.1, refl), tt))
+act_paths (Do (Unlink p)) is = ((p, is, refl), tt)
+act_paths (Do (Rename p q)) is = ((p, is.0, refl), ((q, is.1, refl), tt))
+act_paths (Do (Mkdir p)) is = ((p, is, refl), tt)
+act_paths (Do (Rmdir p)) is = ((p, is, refl), tt)
+act_paths (Group a) is = tt
+act_paths End is = tt
+act_paths (Depend b a) is = tt
+
+start_form : HasForm (codes "start") [] []
+start_form = form_at 10 [] (codes "start") [] (omega arith) refl (no_space (codes "start") refl, tt) tt
+
+-- the form of a line that says something
+pub record IsWellFormed (line : List ℕ) : Type 0 where
+  pub operands : List Operand
+  pub words : List (List ℕ)
+  pub form : HasForm line operands words
+  pub paths : HasPaths operands words
+
+pub reads_form : (line : List ℕ) (what : Line) → Reads line what → IsSkipped line ⊎ IsWellFormed line
+reads_form line Skipped is = inl is
+reads_form line Start is = inr (subst IsWellFormed (sym is) (record { operands = []; words = []; form = start_form; paths = tt }))
+reads_form line (Says act) (is, spelt) = inr (subst IsWellFormed (sym spelt)
+    (record { operands = operands_of act; words = behind_first (words_of act); form = act_form act is; paths = act_paths act is }))
