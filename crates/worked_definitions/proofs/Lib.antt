@@ -7,3 +7,4 @@ pub mod Spelling
 pub mod Answering
 pub mod Pieces
 pub mod Readings
+pub mod Scripts
