@@ -8,3 +8,4 @@ pub mod Answering
 pub mod Pieces
 pub mod Readings
 pub mod Scripts
+pub mod OneAnswer
