@@ -9,3 +9,4 @@ pub mod Pieces
 pub mod Readings
 pub mod Scripts
 pub mod OneAnswer
+pub mod Refused

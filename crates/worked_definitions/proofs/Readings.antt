@@ -335,7 +335,7 @@ plain_from s [] lacks = All-nil (λ word. ¬ (Contains word s))
 plain_from s (word ∷ words) lacks = All-cons (λ word. ¬ (Contains word s)) word words (lacks_is s word lacks.0) (plain_from s words lacks.1)
 
 -- the parts of a form, for text that is given as words
-form_at : (k : ℕ) (operands : List Operand) (first : List ℕ) (words : List (List ℕ)) → k < 11 → get_or forms k (first, operands) ≡ (first, operands)
+pub form_at : (k : ℕ) (operands : List Operand) (first : List ℕ) (words : List (List ℕ)) → k < 11 → get_or forms k (first, operands) ≡ (first, operands)
     → AreLacking 32 (first ∷ words) → Fits operands words → HasForm (joined 32 (first ∷ words)) operands words
 form_at k operands first words below at lacks fits = record {
   first = first;

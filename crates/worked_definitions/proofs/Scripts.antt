@@ -93,7 +93,7 @@ none_refused before line more accepted refused =
 -- ---- one reading
 
 -- no act and no comment is the start line
-no_start : (n : ℕ) (lines : List (List ℕ)) (steps : List Step) → AreSteps n lines steps → Contains lines (codes "start") → ⊥
+pub no_start : (n : ℕ) (lines : List (List ℕ)) (steps : List Step) → AreSteps n lines steps → Contains lines (codes "start") → ⊥
 no_start n [] steps are is = omega (arith, is.1)
 no_start n (line ∷ lines) steps (inl skipped) (zero, within, is) = let one : Skipped ≡ Start = reads_one line Skipped Start skipped.0 is in cc
 no_start n (line ∷ lines) steps (inr act) (zero, within, is) = let one : Says act.0 ≡ Start = reads_one line (Says act.0) Start act.2 is in cc
@@ -112,12 +112,12 @@ steps_one n (line ∷ lines) steps others (inr act) (inr also) =
     act.4 ∙ (ap (λ a. record { line = n; act = a } ∷ act.1) same ∙ (ap (λ r. record { line = n; act = also.0 } ∷ r) rest ∙ sym also.4))
 
 -- the lines of a script are accepted
-each_reads : (n : ℕ) (lines : List (List ℕ)) (steps : List Step) → AreSteps n lines steps → All (λ line. (says : Line) × Reads line says) lines
+pub each_reads : (n : ℕ) (lines : List (List ℕ)) (steps : List Step) → AreSteps n lines steps → All (λ line. (says : Line) × Reads line says) lines
 each_reads n [] steps are = All-nil (λ line. (says : Line) × Reads line says)
 each_reads n (line ∷ lines) steps (inl skipped) = All-cons (λ line. (says : Line) × Reads line says) line lines (Skipped, skipped.0) (each_reads (n + 1) lines steps skipped.1)
 each_reads n (line ∷ lines) steps (inr act) = All-cons (λ line. (says : Line) × Reads line says) line lines (Says act.0, act.2) (each_reads (n + 1) lines act.1 act.3)
 
-get_contains : (xs : List (List ℕ)) (k : ℕ) (x : List ℕ) → slice_get xs k ≡ Some x → Contains xs x
+pub get_contains : (xs : List (List ℕ)) (k : ℕ) (x : List ℕ) → slice_get xs k ≡ Some x → Contains xs x
 get_contains [] k x e = cc
 get_contains (y ∷ xs) zero x e = (zero, omega arith, (let same : y ≡ x = cc in same))
 get_contains (y ∷ xs) (suc k) x e = let it = get_contains xs k x e in (suc it.0, omega (arith, it.1), it.2)
@@ -134,15 +134,18 @@ start_place n m (line ∷ before) behind base traced (inl skipped) second (suc i
 start_place n m (line ∷ before) behind base traced (inr act) second (suc i) e =
     ap suc (start_place (n + 1) m before behind act.1 traced act.3 second i e)
 
-script_accepted : (bytes : List ℕ) (base traced : List Step) (script : IsScript bytes base traced) → AreAccepted (script.before ++ codes "start" ∷ script.behind)
-script_accepted bytes base traced script = record {
-  each = All-append (λ line. (says : Line) × Reads line says) script.before (codes "start" ∷ script.behind)
-      (each_reads 1 script.before base script.base_steps)
-      (All-cons (λ line. (says : Line) × Reads line says) (codes "start") script.behind (Start, refl) (each_reads (length script.before + 2) script.behind traced script.traced_steps));
-  one_start = λ i j at_i at_j.
-      start_place 1 (length script.before + 2) script.before script.behind base traced script.base_steps script.traced_steps i at_i
-      ∙ sym (start_place 1 (length script.before + 2) script.before script.behind base traced script.base_steps script.traced_steps j at_j);
+pub steps_accepted : (n m : ℕ) (before behind : List (List ℕ)) (base traced : List Step) → AreSteps n before base → AreSteps m behind traced
+    → AreAccepted (before ++ codes "start" ∷ behind)
+steps_accepted n m before behind base traced first second = record {
+  each = All-append (λ line. (says : Line) × Reads line says) before (codes "start" ∷ behind)
+      (each_reads n before base first)
+      (All-cons (λ line. (says : Line) × Reads line says) (codes "start") behind (Start, refl) (each_reads m behind traced second));
+  one_start = λ i j at_i at_j. start_place n m before behind base traced first second i at_i ∙ sym (start_place n m before behind base traced first second j at_j);
 }
+
+script_accepted : (bytes : List ℕ) (base traced : List Step) (script : IsScript bytes base traced) → AreAccepted (script.before ++ codes "start" ∷ script.behind)
+script_accepted bytes base traced script =
+    steps_accepted 1 (length script.before + 2) script.before script.behind base traced script.base_steps script.traced_steps
 
 pub script_one : (bytes : List ℕ) (base traced others more : List Step) → IsScript bytes base traced → IsScript bytes others more → (base ≡ others) × (traced ≡ more)
 script_one bytes base traced others more script other =
