@@ -1,9 +1,9 @@
 -- What a line says, computed from its words: a line says at most one thing.
-use Rattle.std.proofs.Common.{◌≡◌, ◌≢◌, ℕ, zero, suc, ◌+◌, ◌<◌, ◌≤◌, List, [], ◌∷◌, ◌++◌, length, Bool, true, false, not, ◌&&◌, nat_lt, arith, refl, sym, subst, ap, ◌∙◌, inl, inr, get_or}
+use Rattle.std.proofs.Common.{◌≡◌, ◌≢◌, ℕ, zero, suc, ◌+◌, ◌<◌, ◌≤◌, List, [], ◌∷◌, ◌++◌, length, Bool, true, false, not, ◌&&◌, nat_lt, nat_le, arith, refl, sym, subst, ap, ◌∙◌, inl, inr, get_or}
 use Rattle.std.specs.Prelude.{◌⊎◌, ◌==◌, if◌then◌else◌, flat_map, codes, Option, Some, None, option_map, bytes_eq, IsUtf8, IsTrue}
 use Rattle.std.specs.Str.{IsAscii}
 use Rattle.std.specs.List.{All, Contains, list_all}
-use Rattle.std.proofs.lemmas.Bool.{and_parts, ltb-true, lt-ltb}
+use Rattle.std.proofs.lemmas.Bool.{and_parts, ltb-true, lt-ltb, le-leb}
 use Rattle.std.proofs.lemmas.Bool.Decides.{nat_tests}
 use Rattle.std.proofs.lemmas.List.Elements.{All-head, All-tail, All-nil, All-cons, All-append, All-get_or, All-push}
 use Rattle.std.proofs.lemmas.Str.{IsUtf8-from_ascii}
@@ -16,7 +16,24 @@ use Rattle.crash_model.specs.declared.names.Op.TheVariants.{Create, Write, Link,
 use Rattle.crash_model.specs.declared.names.Path.{Path}
 use Rattle.crash_model.specs.declared.steps.Act.{Act}
 use Rattle.crash_model.specs.declared.steps.Act.TheVariants.{Do, Group, End, Depend}
+use Rattle.worked_definitions.specs.Spelled.{is_word}
 use Rattle.worked_definitions.proofs.Pieces.{onto, pieces, lacks_from, AreLacking, lacking_from, pieces_joined, pieces_slashed}
+
+-- ---- names
+
+both : (a b : Bool) → a ≡ true → b ≡ true → (a && b) ≡ true
+both a b p q = rw (p, q) refl
+
+pub word_is : (passes : ℕ → Bool) (word : List ℕ) → IsWord passes word → is_word passes word ≡ true
+word_is passes word is =
+    both (nat_lt 0 (length word)) (nat_le (length word) 10 && list_all passes word) (lt-ltb 0 (length word) is.some)
+      (both (nat_le (length word) 10) (list_all passes word) (le-leb (length word) 10 is.few) is.plain)
+
+names_pass : (names : List (List ℕ)) → All IsName names → list_all (is_word is_name_byte) names ≡ true
+names_pass [] all = refl
+names_pass (name ∷ names) all =
+    both (is_word is_name_byte name) (list_all (is_word is_name_byte) names)
+      (word_is is_name_byte name (All-head IsName name names all)) (names_pass names (All-tail IsName name names all))
 
 -- ---- paths
 
@@ -30,7 +47,7 @@ path_from _ = None
 
 -- what stands behind the first slash
 abbrev pub path_of_pieces : List (List ℕ) → Option Path
-path_of_pieces ([] ∷ names) = path_from names
+path_of_pieces ([] ∷ names) = if list_all (is_word is_name_byte) names then path_from names else None
 path_of_pieces _ = None
 
 abbrev pub path_of : List ℕ → Option Path
@@ -60,7 +77,8 @@ names_are path is = All-push IsName path.through.items path.last is.through is.l
 pub path_is : (path : Path) → IsPath path → path_of (path_text path) ≡ Some path
 path_is path is =
     ap path_of_pieces (pieces_slashed 47 (path.through.items ++ path.last ∷ []) (names_lack 47 refl (path.through.items ++ path.last ∷ []) (names_are path is)))
-    ∙ path_from_names path.through.items path.last is.few
+    ∙ (ap (λ b. if b then path_from (path.through.items ++ path.last ∷ []) else None) (names_pass (path.through.items ++ path.last ∷ []) (names_are path is))
+    ∙ path_from_names path.through.items path.last is.few)
 
 -- a word that is no path
 pub no_path : (word : List ℕ) → path_of word ≡ None → ¬ (IsPathWord word)
@@ -226,9 +244,31 @@ abbrev pub lookup : List (List ℕ × List Operand) → List ℕ → Option (Lis
 lookup [] first = None
 lookup (form ∷ more) first = if bytes_eq first form.0 then Some form.1 else lookup more first
 
+-- a word for each operand, no word empty, and names of groups where they belong
+abbrev pub fit : List Operand → List (List ℕ) → Bool
+fit [] [] = true
+fit (PathOperand ∷ operands) ([] ∷ words) = false
+fit (PathOperand ∷ operands) ((c ∷ cs) ∷ words) = fit operands words
+fit (GroupOperand ∷ operands) (word ∷ words) = is_word is_group_byte word && fit operands words
+fit _ _ = false
+
+fit_is : (operands : List Operand) (words : List (List ℕ)) → Fits operands words → fit operands words ≡ true
+fit_is [] [] fits = refl
+fit_is [] (word ∷ words) fits = absurd fits
+fit_is (PathOperand ∷ operands) [] fits = absurd fits
+fit_is (PathOperand ∷ operands) ([] ∷ words) fits = absurd (fits.0 refl)
+fit_is (PathOperand ∷ operands) ((c ∷ cs) ∷ words) fits = fit_is operands words fits.1
+fit_is (GroupOperand ∷ operands) [] fits = absurd fits
+fit_is (GroupOperand ∷ operands) (word ∷ words) fits =
+    both (is_word is_group_byte word) (fit operands words) (word_is is_group_byte word fits.0) (fit_is operands words fits.1)
+
+abbrev pub fitting : List (List ℕ) → Option (List Operand) → Option (List Operand × List (List ℕ))
+fitting words None = None
+fitting words (Some operands) = if fit operands words then Some (operands, words) else None
+
 abbrev pub form_of : List (List ℕ) → Option (List Operand × List (List ℕ))
 form_of [] = None
-form_of (first ∷ words) = option_map (λ operands. (operands, words)) (lookup forms first)
+form_of (first ∷ words) = fitting words (lookup forms first)
 
 in_forms : (k : ℕ) (first : List ℕ) (operands : List Operand) → k < 11 → get_or forms k (first, operands) ≡ (first, operands) → lookup forms first ≡ Some operands
 in_forms k first operands below e = by_place k below e
@@ -254,7 +294,8 @@ pub form_is : (line : List ℕ) (operands : List Operand) (words : List (List �
 form_is line operands words form =
     ap (λ l. form_of (pieces 32 l)) form.cut.whole
     ∙ (ap form_of (pieces_joined 32 (form.first ∷ words) (lacking_from 32 (form.first ∷ words) form.cut.plain) form.cut.some)
-    ∙ ap (option_map (λ os. (os, words))) (in_forms form.is_form.0 form.first operands form.is_form.1 form.is_form.2))
+    ∙ (ap (fitting words) (in_forms form.is_form.0 form.first operands form.is_form.1 form.is_form.2)
+    ∙ ap (λ b. if b then Some (operands, words) else None) (fit_is operands words form.fits)))
 
 -- text of no form
 pub no_form : (line : List ℕ) → form_of (pieces 32 line) ≡ None → (operands : List Operand) (words : List (List ℕ)) → ¬ (HasForm line operands words)

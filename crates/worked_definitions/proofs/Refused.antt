@@ -18,7 +18,7 @@ use Rattle.crash_model.specs.declared.steps.Act.{Act}
 use Rattle.worked_definitions.specs.Examples.{numbered}
 use Rattle.worked_definitions.specs.Spelled.{is_word, is_plain, line_of, lines_of, are_acts}
 use Rattle.worked_definitions.proofs.Pieces.{pieces, AreLacking}
-use Rattle.worked_definitions.proofs.Readings.{path_of, no_path, form_of, form_at, no_form}
+use Rattle.worked_definitions.proofs.Readings.{path_of, no_path, fit, form_of, form_at, no_form}
 use Rattle.worked_definitions.proofs.Scripts.{each_reads, no_start, get_contains, steps_accepted}
 use Rattle.worked_definitions.proofs.Spelling.{word_if, lacks_if, plain_lines, steps_are}
 
@@ -80,13 +80,6 @@ bad_line_if before line e none =
     inl (IsUtf8-from_is_utf8 line parts.0, not_skipped line (not_false (is_passed_over line) parts.1), no_form line none)
 
 -- ---- text of a form, in which a word is no path
-
-abbrev pub fit : List Operand → List (List ℕ) → Bool
-fit [] [] = true
-fit (PathOperand ∷ operands) ([] ∷ words) = false
-fit (PathOperand ∷ operands) ((c ∷ cs) ∷ words) = fit operands words
-fit (GroupOperand ∷ operands) (word ∷ words) = is_word is_group_byte word && fit operands words
-fit _ _ = false
 
 fits_if : (operands : List Operand) (words : List (List ℕ)) → fit operands words ≡ true → Fits operands words
 fits_if [] [] e = tt
