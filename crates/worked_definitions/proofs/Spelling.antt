@@ -67,7 +67,7 @@ not_false : (a : Bool) → not a ≡ true → a ≡ false
 not_false false e = refl
 not_false true e = cc
 
-plain_lines : (acts : List Act) → are_acts acts ≡ true → ArePlain (map line_of acts)
+pub plain_lines : (acts : List Act) → are_acts acts ≡ true → ArePlain (map line_of acts)
 plain_lines [] e = All-nil (λ line. ¬ (Contains line 10))
 plain_lines (act ∷ acts) e =
     let parts = and_parts (is_act act && is_plain (line_of act)) (are_acts acts) e in
@@ -75,7 +75,7 @@ plain_lines (act ∷ acts) e =
     All-cons (λ line. ¬ (Contains line 10)) (line_of act) (map line_of acts)
       (lacks_if (line_of act) 10 (not_false (list_any (λ c. c == 10) (line_of act)) mine.1)) (plain_lines acts parts.1)
 
-steps_are : (n : ℕ) (acts : List Act) → are_acts acts ≡ true → AreSteps n (map line_of acts) (numbered n acts)
+pub steps_are : (n : ℕ) (acts : List Act) → are_acts acts ≡ true → AreSteps n (map line_of acts) (numbered n acts)
 steps_are n [] e = refl
 steps_are n (act ∷ acts) e =
     let parts = and_parts (is_act act && is_plain (line_of act)) (are_acts acts) e in

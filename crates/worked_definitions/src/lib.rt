@@ -8,3 +8,5 @@ pub mod crashes;
 pub mod images;
 pub mod journals;
 pub mod operations;
+pub mod refused_scripts;
+pub mod uniqueness;
