@@ -5,7 +5,7 @@ use Rattle.crash_model.specs.Lists.{each_below, some_below, when}
 use Rattle.crash_model.specs.Disk.{Disk}
 use Rattle.crash_model.specs.Layout.{target_of, pointer_of, links_of}
 use Rattle.crash_model.specs.declared.fault.Fault.TheVariants.{Dangling, Twice, Unwritten, LowLinks, MarkedFree, Wild}
-use Rattle.crash_model.specs.Faults.{IsClean, is_dangling, is_twice, is_unwritten, has_low_links, is_marked_free, is_wild, dangling_in, dangling, twice, unwritten, low_links, marked_free, wild, faults, entries_to}
+use Rattle.crash_model.specs.Faults.{IsClean, is_dangling, is_twice, is_unwritten, has_low_links, is_marked_free, is_wild, dangling_in, dangling, twice, unwritten, low_links, marked_free, wild, faults, entries_to, unwritten_in, marked_free_in, wild_in}
 
 nil_left : {X : Type 0} (xs ys : List X) → xs ++ ys ≡ [] → xs ≡ []
 nil_left [] ys e = refl
@@ -55,7 +55,7 @@ none_some zero test make h = refl
 none_some (suc n) test make h = nil_both _ _ (none_some n test make (λ k below. h k (omega arith))) (option_none (test n) (make n) (h n (omega arith)))
 
 pub no_faults : (d : Disk) → IsClean d → faults d ≡ []
-unfolding dangling_in dangling twice unwritten low_links marked_free wild faults
+unfolding dangling_in dangling twice unwritten_in unwritten low_links marked_free_in marked_free wild_in wild faults
 no_faults d clean =
     nil_both _ _ (nil_both _ _ (nil_both _ _ (nil_both _ _ (nil_both _ _
     (none_each 16 _ (λ dir a. none_some 10 (is_dangling d dir) (λ k. Dangling dir k (target_of d dir k)) (clean.no_dangling dir a)))
@@ -66,7 +66,7 @@ no_faults d clean =
     (none_each 16 _ (λ i a. none_some 4 (is_wild d i) (λ s. Wild i s (pointer_of d i s)) (clean.no_wild i a)))
 
 pub clean_without : (d : Disk) → faults d ≡ [] → IsClean d
-unfolding dangling_in dangling twice unwritten low_links marked_free wild faults
+unfolding dangling_in dangling twice unwritten_in unwritten low_links marked_free_in marked_free wild_in wild faults
 clean_without d e =
     let e5 = nil_left _ (wild d) e in
     let e4 = nil_left _ (marked_free d) e5 in

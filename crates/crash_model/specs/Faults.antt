@@ -14,13 +14,23 @@ is_dangling d dir k = is_entry d dir k && not (is_live d (target_of d dir k))
 abbrev pub is_tame : Disk → ℕ → ℕ → Bool
 is_tame d inode slot = is_pointer d inode slot && is_data d (pointer_of d inode slot)
 
--- 6
+-- 6: a pointer to no block of the data area
 abbrev pub is_wild : Disk → ℕ → ℕ → Bool
 is_wild d inode slot = is_pointer d inode slot && not (is_data d (pointer_of d inode slot))
 
--- the pairs of inode and slot that name a block
+-- a slot that names a block, not wild
+abbrev pub names_block : Disk → ℕ → ℕ → ℕ → Bool
+names_block d inode slot block = is_tame d inode slot && pointer_of d inode slot == block
+
+abbrev pub namer_at : Disk → ℕ → ℕ → ℕ → Option (ℕ × ℕ)
+namer_at d block inode slot = when (names_block d inode slot block) (inode, slot)
+
+-- the pairs of inode and slot that name a block: those of an inode, and of all inodes
+unfoldable pub namers_in : Disk → ℕ → ℕ → List (ℕ × ℕ)
+namers_in d block inode = some_below 4 (namer_at d block inode)
+
 unfoldable pub namers : Disk → ℕ → List (ℕ × ℕ)
-namers d block = each_below 16 (λ i. some_below 4 (λ s. when (is_tame d i s && pointer_of d i s == block) (i, s)))
+namers d block = each_below 16 (namers_in d block)
 
 -- 2: two of them name the block
 abbrev pub is_twice : Disk → ℕ → Bool
@@ -77,20 +87,44 @@ dangling_in d dir = some_below 10 (dangling_at d dir)
 unfoldable pub dangling : Disk → List Fault
 dangling d = each_below 16 (dangling_in d)
 
+abbrev pub twice_at : Disk → ℕ → Option Fault
+twice_at d block = when (is_twice d block) (Twice block)
+
 unfoldable pub twice : Disk → List Fault
-twice d = some_below d.blocks (λ block. when (is_twice d block) (Twice block))
+twice d = some_below d.blocks (twice_at d)
+
+abbrev pub unwritten_at : Disk → ℕ → ℕ → Option Fault
+unwritten_at d inode slot = when (is_unwritten d inode slot) (Unwritten inode slot (pointer_of d inode slot))
+
+unfoldable pub unwritten_in : Disk → ℕ → List Fault
+unwritten_in d inode = some_below 4 (unwritten_at d inode)
 
 unfoldable pub unwritten : Disk → List Fault
-unwritten d = each_below 16 (λ i. some_below 4 (λ s. when (is_unwritten d i s) (Unwritten i s (pointer_of d i s))))
+unwritten d = each_below 16 (unwritten_in d)
+
+abbrev pub low_links_at : Disk → ℕ → Option Fault
+low_links_at d inode = when (has_low_links d inode) (LowLinks inode (length (entries_to d inode)) (links_of d inode))
 
 unfoldable pub low_links : Disk → List Fault
-low_links d = some_below 16 (λ i. when (has_low_links d i) (LowLinks i (length (entries_to d i)) (links_of d i)))
+low_links d = some_below 16 (low_links_at d)
+
+abbrev pub marked_free_at : Disk → ℕ → ℕ → Option Fault
+marked_free_at d inode slot = when (is_marked_free d inode slot) (MarkedFree inode slot (pointer_of d inode slot))
+
+unfoldable pub marked_free_in : Disk → ℕ → List Fault
+marked_free_in d inode = some_below 4 (marked_free_at d inode)
 
 unfoldable pub marked_free : Disk → List Fault
-marked_free d = each_below 16 (λ i. some_below 4 (λ s. when (is_marked_free d i s) (MarkedFree i s (pointer_of d i s))))
+marked_free d = each_below 16 (marked_free_in d)
+
+abbrev pub wild_at : Disk → ℕ → ℕ → Option Fault
+wild_at d inode slot = when (is_wild d inode slot) (Wild inode slot (pointer_of d inode slot))
+
+unfoldable pub wild_in : Disk → ℕ → List Fault
+wild_in d inode = some_below 4 (wild_at d inode)
 
 unfoldable pub wild : Disk → List Fault
-wild d = each_below 16 (λ i. some_below 4 (λ s. when (is_wild d i s) (Wild i s (pointer_of d i s))))
+wild d = each_below 16 (wild_in d)
 
 -- all faults of an image, in order
 unfoldable pub faults : Disk → List Fault

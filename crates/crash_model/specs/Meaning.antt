@@ -52,7 +52,7 @@ IsFreeBlock blocks journal v b = (4 + journal ≤ b) × (b < blocks) × (¬ (v.u
 abbrev pub IsFreeSlot : View → ℕ → ℕ → Type 0
 IsFreeSlot v i s = (s < 4) × ((b : ℕ) → ¬ (v.pointer i s b))
 
--- ---- the eight rows
+-- ---- what each operation gains and loses
 
 pub record MeansCreate (old new : View) (dir : ℕ) (name : List ℕ) : Type 0 where
   pub inode : ℕ

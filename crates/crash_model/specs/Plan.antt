@@ -1,5 +1,5 @@
 -- What each operation changes, and when it is refused.
-use Rattle.std.specs.Prelude.{ℕ, ◌+◌, ◌-◌, ◌*◌, ◌/◌, ◌%◌, List, [], ◌∷◌, ◌++◌, length, replicate, Bool, ◌&&◌, ◌==◌, not, nat_le, nat_lt, if◌then◌else◌, Option, Some, None, is_some, is_none, unwrap_or, ok_or, option_map, Result, Ok, Err, bytes_eq}
+use Rattle.std.specs.Prelude.{ℕ, ◌+◌, ◌-◌, ◌*◌, ◌/◌, ◌%◌, List, [], ◌∷◌, ◌++◌, length, replicate, Bool, ◌&&◌, ◌==◌, not, nat_le, nat_lt, if◌then◌else◌, Option, Some, None, is_some, is_none, unwrap_or, ok_or, option_map, option_to_list, Result, Ok, Err, bytes_eq}
 use Rattle.crash_model.specs.Lists.{first_below, some_below, when}
 use Rattle.crash_model.specs.Disk.{Disk, put}
 use Rattle.crash_model.specs.Layout.{kind_of, links_of, pointer_of, map_of, is_live, is_data, counts, entry_of, is_entry, target_of, spelling_of, entry_offset}
@@ -179,7 +179,7 @@ plan_of d (Rmdir path) =
     at_entry d path (λ dir k.
     let target = target_of d dir k in
     unless ((not (kind_of d target == 2), NotADirectory) ∷ (has_entries d target, NotEmpty) ∷ [])
-    (entry_clear d dir k ∷ inode_free target ∷ map_clears d target))
+    (entry_clear d dir k ∷ inode_free target ∷ option_to_list (map_clear_at d target 0)))
 
 -- the disk with a list of changes made, the first first
 abbrev pub applied : Disk → List Change → Disk

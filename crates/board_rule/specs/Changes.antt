@@ -1,0 +1,94 @@
+-- What steps make of a view.
+use Rattle.std.specs.Prelude.{ℕ, ◌+◌, List, [], ◌∷◌, ◌++◌, length, slice_set, replicate, cond, ◌==◌, ◌/◌, ◌%◌}
+use Rattle.board_rule.specs.Layout.{half, length_word, low_word, high_word, index_word, size_for, place_of, slot}
+use Rattle.board_rule.specs.Lists.{row_of, merged, agree}
+use Rattle.board_rule.specs.declared.life.Life.{Life}
+use Rattle.board_rule.specs.declared.view.View.{View}
+
+abbrev pub with_seen : View → List (List ℕ) → View
+with_seen v seen = record v { rows = record v.rows { seen = seen } }
+
+-- a right of shard q, whose row and index words are seen
+abbrev pub with_right : View → ℕ → List ℕ → List ℕ → ℕ → View
+with_right v q row marks right = record v { rows = record v.rows { seen = slice_set v.rows.seen q row; held = q; right = right; low = []; high = []; marks = marks; unfiled = 0 } }
+
+abbrev pub without_right : View → View
+without_right v = record v { rows = record v.rows { right = 0; low = []; high = []; unfiled = 0 } }
+
+-- the word behind the row is published
+abbrev pub with_entry : View → ℕ → View
+with_entry v x = let k = length (row_of v.rows.seen v.rows.held) in record v {
+  rows = record v.rows {
+    seen = slice_set v.rows.seen v.rows.held (row_of v.rows.seen v.rows.held ++ x ∷ []);
+    low = [];
+    high = [];
+    unfiled = k + 1;
+    added = v.rows.added ++ place_of v.rows.held k ∷ [];
+  };
+  pending = record v.pending { announced = 0 };
+  count = record v.count { uncounted = v.count.uncounted + 1 };
+}
+
+abbrev pub with_learned : View → ℕ → Life → View
+with_learned v p life = record v { lives = record v.lives { learned = v.lives.learned ++ (p, life) ∷ [] } }
+
+-- the claim on the place p
+abbrev pub with_claim : View → ℕ → Life → View
+with_claim v p life = record v { lives = record v.lives { claims = 1; place = p; learned = v.lives.learned ++ (p, life) ∷ [] } }
+
+-- the claim ends
+abbrev pub without_claim : View → View
+without_claim v = record v { lives = record v.lives { claims = 0 } }
+
+-- a board with the start as its one entry
+abbrev pub opening_rows : ℕ → List (List ℕ)
+opening_rows start = slice_set (replicate 13 []) (start % 13) (start ∷ [])
+
+-- its words
+abbrev pub opening_words : ℕ → ℕ → List ℕ
+opening_words limit start = let q = start % 13 in
+    slice_set (slice_set (slice_set (slice_set (slice_set (slice_set (replicate (size_for limit) 0) 0 1) 1 1) (length_word q) 1) (low_word q 0) (start % half)) (high_word limit q 0) (start / half)) (index_word limit q (slot limit start 0)) 1
+
+abbrev pub first_view : ℕ → ℕ → View
+first_view limit start = record {
+  limit = limit;
+  rows = record { seen = opening_rows start; held = 0; right = 0; low = []; high = []; marks = []; unfiled = 0; added = [] };
+  lives = record { claims = 0; place = 0; learned = [] };
+  pending = record { announced = 0; owed = 0; finished = 0 };
+  count = record { uncounted = 0; over = 0 };
+}
+
+-- a new seat has seen and knows the same, and has no right, no claim and no debt
+abbrev pub fresh_seat : View → View
+fresh_seat v = record v {
+  rows = record v.rows { right = 0; low = []; high = []; unfiled = 0; added = [] };
+  lives = record v.lives { claims = 0 };
+  pending = record v.pending { announced = 0; owed = 0 };
+  count = record v.count { uncounted = 0 };
+}
+
+-- what a seat that was given up leaves. It is one constant, so it knows no limit
+abbrev pub spent : View
+spent = record {
+  limit = 0;
+  rows = record { seen = replicate 13 []; held = 0; right = 0; low = []; high = []; marks = []; unfiled = 0; added = [] };
+  lives = record { claims = 0; place = 0; learned = [] };
+  pending = record { announced = 0; owed = 0; finished = 0 };
+  count = record { uncounted = 0; over = 0 };
+}
+
+abbrev pub either_one : ℕ → ℕ → ℕ
+either_one a b = cond (a == 1) a b
+
+-- what two seats know together. Where what they have seen disagrees the seat would be at a shard 13, which the rule excludes
+abbrev pub joined : View → View → View
+joined v w = record v {
+  rows = record v.rows { seen = merged v.rows.seen w.rows.seen; held = cond (agree v.rows.seen w.rows.seen) v.rows.held 13; added = v.rows.added ++ w.rows.added };
+  lives = record v.lives { learned = v.lives.learned ++ w.lives.learned };
+  pending = record v.pending { finished = either_one v.pending.finished w.pending.finished };
+  count = record v.count { over = either_one v.count.over w.count.over };
+}
+
+-- two seats that cannot be side by side
+abbrev pub impossible : View → View → View
+impossible v w = record v { rows = record v.rows { held = 13 } }

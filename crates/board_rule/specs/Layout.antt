@@ -1,0 +1,46 @@
+-- Where the words of a board lie in its table.
+-- Word 0 is pending, word 1 the count, word 2 the stop. Then come 13 locks and 13 lengths of rows, and four blocks of 13 * limit words: the low halves of the entries, their high halves, their lives, and the index. In a block the shards take turns, so that each address is linear in the place.
+use Rattle.std.specs.Prelude.{ℕ, ◌+◌, ◌*◌, ◌/◌, ◌%◌, cond, nat_lt}
+
+-- a lock's word while a seat has the write right: 2 ^ 32
+abbrev pub writer : ℕ
+writer = 4294967296
+
+-- an entry has 128 bits, and half of them fill a word: 2 ^ 64
+abbrev pub half : ℕ
+half = 18446744073709551616
+
+abbrev pub lock_word : ℕ → ℕ
+lock_word q = 3 + q
+
+abbrev pub length_word : ℕ → ℕ
+length_word q = 16 + q
+
+-- of the entry at place k of shard q, the low 64 bits
+abbrev pub low_word : ℕ → ℕ → ℕ
+low_word q k = 29 + 13 * k + q
+
+-- and the high 64 bits
+abbrev pub high_word : ℕ → ℕ → ℕ → ℕ
+high_word limit q k = 29 + 13 * limit + 13 * k + q
+
+abbrev pub life_word : ℕ → ℕ → ℕ → ℕ
+life_word limit q k = 29 + 26 * limit + 13 * k + q
+
+abbrev pub index_word : ℕ → ℕ → ℕ → ℕ
+index_word limit q j = 29 + 39 * limit + 13 * j + q
+
+abbrev pub size_for : ℕ → ℕ
+size_for limit = 29 + 52 * limit
+
+-- one number for the place k of shard q
+abbrev pub place_of : ℕ → ℕ → ℕ
+place_of q k = 13 * k + q
+
+-- the t-th index word at which a word is looked for
+abbrev pub slot : ℕ → ℕ → ℕ → ℕ
+slot limit x t = (x / 13 + t) % limit
+
+-- how many index words a word has
+abbrev pub window : ℕ → ℕ
+window limit = cond (nat_lt limit 8) limit 8

@@ -1,0 +1,44 @@
+-- Rows of words, and sums over lists.
+use Rattle.std.specs.Prelude.{◌≡◌, ℕ, zero, suc, ◌+◌, ◌%◌, ◌<◌, Bool, true, false, List, [], ◌∷◌, ◌++◌, length, slice_index, slice_index_or, cond, ◌==◌, nat_lt}
+
+-- the row of shard q
+abbrev pub row_of : List (List ℕ) → ℕ → List ℕ
+row_of rows q = slice_index_or rows q []
+
+-- the second list is a beginning of the first
+abbrev pub StartsWith : List ℕ → List ℕ → Type 0
+StartsWith row seen = (rest : List ℕ) × (row ≡ seen ++ rest)
+
+-- the word is an entry: it stands in the row of its shard
+abbrev pub Has : List (List ℕ) → ℕ → Type 0
+Has rows y = (j : ℕ) × (j < length (row_of rows (y % 13))) × (slice_index (row_of rows (y % 13)) j ≡ y)
+
+abbrev pub total : {A : Type 0} → (A → ℕ) → List A → ℕ
+total f [] = 0
+total f (x ∷ xs) = f x + total f xs
+
+-- f 0, f 1 and so on, n of them
+abbrev pub listed : {A : Type 0} → (ℕ → A) → ℕ → List A
+listed f zero = []
+listed f (suc n) = f 0 ∷ listed (λ k. f (suc k)) n
+
+-- the first list is a beginning of the second
+abbrev pub is_start : List ℕ → List ℕ → Bool
+is_start [] bs = true
+is_start (a ∷ xs) [] = false
+is_start (a ∷ xs) (b ∷ bs) = cond (a == b) (is_start xs bs) false
+
+-- the longer list
+abbrev pub longer : List ℕ → List ℕ → List ℕ
+longer a b = cond (nat_lt (length a) (length b)) b a
+
+abbrev pub merged : List (List ℕ) → List (List ℕ) → List (List ℕ)
+merged [] bs = []
+merged (a ∷ xs) [] = a ∷ xs
+merged (a ∷ xs) (b ∷ bs) = longer a b ∷ merged xs bs
+
+-- of the two rows of each shard one is a beginning of the other
+abbrev pub agree : List (List ℕ) → List (List ℕ) → Bool
+agree [] bs = true
+agree (a ∷ xs) [] = true
+agree (a ∷ xs) (b ∷ bs) = cond (cond (nat_lt (length a) (length b)) (is_start a b) (is_start b a)) (agree xs bs) false

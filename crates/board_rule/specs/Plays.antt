@@ -1,0 +1,105 @@
+-- What each kind of step tells: of the step, the seat before, the number found (at a store the number stored) and the seat after.
+-- The shard or the place of a step is known by its address. A play reads no key of the table, so the load of an entry is told which words are reached.
+use Rattle.std.specs.Prelude.{◌≡◌, ◌≢◌, ℕ, ◌+◌, ◌/◌, ◌%◌, ◌<◌, ◌≤◌, List, [], ◌∷◌, length, slice_index, slice_set, max}
+use Rattle.atomic_table.specs.Table.{Me, Step}
+use Rattle.board_rule.specs.Layout.{writer, half, lock_word, length_word, low_word, high_word, life_word, index_word, place_of}
+use Rattle.board_rule.specs.Lists.{row_of, StartsWith}
+use Rattle.board_rule.specs.Lives.{life_of}
+use Rattle.board_rule.specs.Rule.{Complete}
+use Rattle.board_rule.specs.Changes.{with_seen, with_right, without_right, with_entry, with_learned, with_claim, without_claim}
+use Rattle.board_rule.specs.declared.life.Life.TheVariants.{Claimed}
+use Rattle.board_rule.specs.declared.view.View.{View}
+
+-- it owes nothing to the index, to pending or to the count
+pub record IsIdle (v : View) : Type 0 where
+  pub low : v.rows.low ≡ []
+  pub high : v.rows.high ≡ []
+  pub unfiled : v.rows.unfiled ≡ 0
+  pub announced : v.pending.announced ≡ 0
+  pub owed : v.pending.owed ≡ 0
+  pub uncounted : v.count.uncounted ≡ 0
+
+-- a right of shard q, whose whole row is seen
+abbrev pub Takes : View → ℕ → ℕ → View → Type 0
+Takes v right q w = (row : List ℕ) × (marks : List ℕ) × (w ≡ with_right v q row marks right) × StartsWith row (row_of v.rows.seen q) × (length row ≤ v.limit)
+
+module _ {S : Type 0} where
+  abbrev pub peeked : Step S → Me S View → ℕ → Me S View → Type 0
+  peeked st m r n = n ≡ m
+
+  -- a step that no seat takes
+  abbrev pub never : Step S → Me S View → ℕ → Me S View → Type 0
+  never st m r n = ⊥
+
+  -- the seat is at one of the 13 shards
+  abbrev pub placed : Step S → Me S View → ℕ → Me S View → Type 0
+  placed st m r n = (n ≡ m) × (m.0.rows.held < 13)
+
+  abbrev pub taken : ℕ → Step S → Me S View → ℕ → Me S View → Type 0
+  taken right st m r n = (n.1 ≡ m.1) × (r ≡ st.first → (q : ℕ) → st.word ≡ lock_word q → Takes m.0 right q n.0) × (r ≢ st.first → n.0 ≡ m.0)
+
+  abbrev pub entered : Step S → Me S View → ℕ → Me S View → Type 0
+  entered = taken 1
+
+  abbrev pub seized : Step S → Me S View → ℕ → Me S View → Type 0
+  seized = taken writer
+
+  abbrev pub left : Step S → Me S View → ℕ → Me S View → Type 0
+  left st m r n = n ≡ (without_right m.0, m.1)
+
+  abbrev pub measured : Step S → Me S View → ℕ → Me S View → Type 0
+  measured st m r n = (n ≡ m) × ((q : ℕ) → st.word ≡ length_word q → m.0.rows.held ≡ q → (r ≡ length (row_of m.0.rows.seen q)) × (r ≤ m.0.limit))
+
+  abbrev pub low_read : (ℕ → Type 0) → Step S → Me S View → ℕ → Me S View → Type 0
+  low_read reached st m r n = (n ≡ m) × ((q k : ℕ) → st.word ≡ low_word q k → q < 13 → k < length (row_of m.0.rows.seen q)
+      → (r ≡ slice_index (row_of m.0.rows.seen q) k % half) × reached (slice_index (row_of m.0.rows.seen q) k))
+
+  abbrev pub high_read : Step S → Me S View → ℕ → Me S View → Type 0
+  high_read st m r n = (n ≡ m) × ((q k : ℕ) → st.word ≡ high_word m.0.limit q k → q < 13 → k < length (row_of m.0.rows.seen q) → r ≡ slice_index (row_of m.0.rows.seen q) k / half)
+
+  abbrev pub low_laid : Step S → Me S View → ℕ → Me S View → Type 0
+  low_laid st m r n = n ≡ (record m.0 { rows = record m.0.rows { low = r ∷ [] } }, m.1)
+
+  abbrev pub high_laid : Step S → Me S View → ℕ → Me S View → Type 0
+  high_laid st m r n = n ≡ (record m.0 { rows = record m.0.rows { high = r ∷ [] } }, m.1)
+
+  abbrev pub publishes : Step S → Me S View → ℕ → Me S View → Type 0
+  publishes st m r n = (x : ℕ) → m.0.rows.low ≡ x % half ∷ [] → m.0.rows.high ≡ x / half ∷ [] → n ≡ (with_entry m.0 x, m.1)
+
+  -- under a right, with and without a debt to the index
+  abbrev pub marked : Step S → Me S View → ℕ → Me S View → Type 0
+  marked st m r n = (n ≡ m) × ((j : ℕ) → st.word ≡ index_word m.0.limit m.0.rows.held j → j < m.0.limit → (r ≡ slice_index m.0.rows.marks j) × (r ≤ length (row_of m.0.rows.seen m.0.rows.held)))
+      × (m.0.rows.unfiled ≡ 0 → Complete m.0.limit (row_of m.0.rows.seen m.0.rows.held) m.0.rows.marks)
+
+  -- with no right: the places up to the one that the index names are seen
+  abbrev pub scanned : Step S → Me S View → ℕ → Me S View → Type 0
+  scanned st m r n = (n.1 ≡ m.1) × ((q j : ℕ) → st.word ≡ index_word m.0.limit q j → q < 13 → j < m.0.limit
+      → (r ≤ m.0.limit) × ((row : List ℕ) × (n.0 ≡ with_seen m.0 (slice_set m.0.rows.seen q row)) × StartsWith row (row_of m.0.rows.seen q) × (length row ≡ max (length (row_of m.0.rows.seen q)) r)))
+
+  abbrev pub filed : Step S → Me S View → ℕ → Me S View → Type 0
+  filed st m r n = (marks : List ℕ) × (n ≡ (record m.0 { rows = record m.0.rows { marks = marks; unfiled = 0 } }, m.1))
+
+  abbrev pub claimed : Step S → Me S View → ℕ → Me S View → Type 0
+  claimed st m r n = (n.1 ≡ m.1) × ((q k : ℕ) → st.word ≡ life_word m.0.limit q k → q < 13 → (r ≡ 0 → n.0 ≡ with_claim m.0 (place_of q k) Claimed) × (r ≢ 0 → n.0 ≡ with_learned m.0 (place_of q k) Claimed))
+
+  abbrev pub settled : Step S → Me S View → ℕ → Me S View → Type 0
+  settled st m r n = n ≡ (record (with_learned (without_claim m.0) m.0.lives.place (life_of r)) { pending = record m.0.pending { owed = m.0.pending.owed + 1 } }, m.1)
+
+  abbrev pub announced : Step S → Me S View → ℕ → Me S View → Type 0
+  announced st m r n = n ≡ (record m.0 { pending = record m.0.pending { announced = 1 } }, m.1)
+
+  abbrev pub repaid : Step S → Me S View → ℕ → Me S View → Type 0
+  repaid st m r n = n ≡ (record m.0 { pending = record m.0.pending { owed = 0 } }, m.1)
+
+  abbrev pub ended : Step S → Me S View → ℕ → Me S View → Type 0
+  ended st m r n = (n.1 ≡ m.1) × (r ≡ 0 → n.0 ≡ record m.0 { pending = record m.0.pending { finished = 1 } }) × (r ≢ 0 → n.0 ≡ m.0)
+
+  abbrev pub counted : Step S → Me S View → ℕ → Me S View → Type 0
+  counted st m r n = (n.1 ≡ m.1) × (r < m.0.limit → n.0 ≡ record m.0 { count = record m.0.count { uncounted = 0 } }) × (m.0.limit ≤ r → n.0 ≡ record m.0 { count = record m.0.count { uncounted = 0; over = 1 } })
+
+  abbrev pub stopped : Step S → Me S View → ℕ → Me S View → Type 0
+  stopped st m r n = n ≡ (without_claim m.0, m.1)
+
+  -- the stop of a seat that has found a full row
+  abbrev pub overflowed : Step S → Me S View → ℕ → Me S View → Type 0
+  overflowed st m r n = n ≡ (record (without_claim m.0) { count = record m.0.count { over = 1 } }, m.1)

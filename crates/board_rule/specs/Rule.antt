@@ -1,0 +1,130 @@
+-- The rule of a board's table: one fact a subject, side by side.
+use Rattle.std.specs.Prelude.{◌≡◌, ℕ, ◌+◌, ◌*◌, ◌/◌, ◌%◌, ◌<◌, ◌≤◌, ◌⊎◌, List, [], ◌∷◌, length, slice_index, cond, ◌==◌, nat_lt, Contains}
+use Rattle.std.specs.List.{All}
+use mathlib.Core.Option.{some}
+use lib.ListN.{get_elem?}
+use Rattle.atomic_table.specs.Table.{State}
+use Rattle.state_space.specs.Reach.{IsReached}
+use Rattle.state_space.specs.Counts.{Outnumbers}
+use Rattle.board_rule.specs.Layout.{writer, half, lock_word, length_word, low_word, high_word, life_word, index_word, size_for, place_of, slot, window}
+use Rattle.board_rule.specs.Lists.{row_of, StartsWith, Has, total}
+use Rattle.board_rule.specs.Lives.{life_of, life_at, is_claimed, unsettled, settled, Passes}
+use Rattle.board_rule.specs.Views.{Told, OnRows}
+use Rattle.board_rule.specs.declared.view.View.{View}
+
+-- a fact of each seat
+abbrev pub EachSeat : (View → Type 0) → List View → Type 0
+EachSeat F views = (j : ℕ) (v : View) → get_elem? views j ≡ some v → F v
+
+-- what a seat weighs in the lock of shard q
+abbrev pub weight : ℕ → View → ℕ
+weight q v = cond (v.rows.held == q) v.rows.right 0
+
+-- Locks: all rights of a shard weigh no more than its lock word, and that no more than one writer.
+abbrev pub LocksOk : List ℕ → List View → Type 0
+LocksOk words views = (q : ℕ) → q < 13 → (total (weight q) views ≤ slice_index words (lock_word q)) × (slice_index words (lock_word q) ≤ writer)
+
+-- Rows: the words have them, with entries that are reached, each once, in the shard of its number.
+pub record RowsOk (t : Told) (rows : List (List ℕ)) (words : List ℕ) : Type 0 where
+  pub all : length rows ≡ 13
+  pub short : (q : ℕ) → q < 13 → length (row_of rows q) ≤ t.limit
+  pub stored : (q : ℕ) → q < 13 → slice_index words (length_word q) ≡ length (row_of rows q)
+  pub lows : (q k : ℕ) → q < 13 → k < length (row_of rows q) → slice_index words (low_word q k) ≡ slice_index (row_of rows q) k % half
+  pub highs : (q k : ℕ) → q < 13 → k < length (row_of rows q) → slice_index words (high_word t.limit q k) ≡ slice_index (row_of rows q) k / half
+  pub at_home : (q k : ℕ) → q < 13 → k < length (row_of rows q) → slice_index (row_of rows q) k % 13 ≡ q
+  pub apart : (q j k : ℕ) → q < 13 → j < length (row_of rows q) → k < length (row_of rows q) → slice_index (row_of rows q) j ≡ slice_index (row_of rows q) k → j ≡ k
+  pub reached : (q k : ℕ) → q < 13 → k < length (row_of rows q) → IsReached t.next t.origin (slice_index (row_of rows q) k)
+
+-- a half of a word lies behind the row, and only a writer puts it there
+abbrev pub Behind : ℕ → List ℕ → ℕ → List ℕ → List ℕ → ℕ → Type 0
+Behind limit row right words part address = (x : ℕ) → part ≡ x ∷ [] → (right ≡ writer) × (slice_index words address ≡ x) × (length row < limit)
+
+-- Seats: what one has seen is a beginning of each row, under a right the whole row and the index.
+pub record SeatOk (limit : ℕ) (rows : List (List ℕ)) (words : List ℕ) (r : OnRows) : Type 0 where
+  pub all : length r.seen ≡ 13
+  pub saw : (q : ℕ) → q < 13 → StartsWith (row_of rows q) (row_of r.seen q)
+  pub near : r.held < 13
+  pub whole : 0 < r.right → row_of r.seen r.held ≡ row_of rows r.held
+  pub low : Behind limit (row_of rows r.held) r.right words r.low (low_word r.held (length (row_of rows r.held)))
+  pub high : Behind limit (row_of rows r.held) r.right words r.high (high_word limit r.held (length (row_of rows r.held)))
+  pub marked : 0 < r.right → length r.marks ≡ limit
+  pub marks : 0 < r.right → (j : ℕ) → j < limit → slice_index words (index_word limit r.held j) ≡ slice_index r.marks j
+
+-- how often a seat has published the place p
+abbrev pub times : ℕ → View → ℕ
+times p v = total (λ x. cond (x == p) 1 0) v.rows.added
+
+-- 1 for a place that is published, else 0
+abbrev pub published : List (List ℕ) → ℕ → ℕ
+published rows p = cond (nat_lt (p / 13) (length (row_of rows (p % 13)))) 1 0
+
+-- Authors: at most one seat has published a place, and only once.
+abbrev pub AddedOk : List (List ℕ) → List View → Type 0
+AddedOk rows views = (p : ℕ) → total (times p) views ≤ published rows p
+
+-- what a seat has of the claim on the place p
+abbrev pub claims_at : ℕ → View → ℕ
+claims_at p v = cond (v.lives.place == p) v.lives.claims 0
+
+-- Lives: beside each row, with at most one claim on a claimed entry. A settled life is the space's verdict, and the successors of its entry are entries. What was learned of a life stays true.
+pub record LivesOk (t : Told) (good : ℕ → Type 0) (rows lives : List (List ℕ)) (words : List ℕ) (views : List View) : Type 0 where
+  pub all : length lives ≡ 13
+  pub even : (q : ℕ) → q < 13 → length (row_of lives q) ≡ length (row_of rows q)
+  pub shown : (q k : ℕ) → q < 13 → k < length (row_of lives q) → slice_index words (life_word t.limit q k) ≡ slice_index (row_of lives q) k
+  pub fresh : (q k : ℕ) → q < 13 → length (row_of lives q) ≤ k → k < t.limit → slice_index words (life_word t.limit q k) ≡ 0
+  pub claimed : (q k : ℕ) → q < 13 → total (claims_at (place_of q k)) views ≤ is_claimed (slice_index (row_of lives q) k)
+  pub four : (q k : ℕ) → q < 13 → slice_index (row_of lives q) k ≤ 3
+  pub clean : (q k : ℕ) → q < 13 → slice_index (row_of lives q) k ≡ 2 → good (slice_index (row_of rows q) k)
+  pub broken : (q k : ℕ) → q < 13 → slice_index (row_of lives q) k ≡ 3 → good (slice_index (row_of rows q) k) → ⊥
+  pub closed : (q k y : ℕ) → q < 13 → 2 ≤ slice_index (row_of lives q) k → Contains (t.next (slice_index (row_of rows q) k)) y → Has rows y
+  pub learned : EachSeat (λ v. All (λ met. Passes met.1 (life_of (life_at lives met.0))) v.lives.learned) views
+
+-- how many entries are not settled
+abbrev pub open_lives : List (List ℕ) → ℕ
+open_lives lives = total (total unsettled) lives
+
+-- Pending: the entries that are not settled, the additions for words not published yet, and the subtractions owed. Where a seat knows that it was 0, nothing is unsettled and nothing is on its way.
+pub record PendingOk (lives : List (List ℕ)) (words : List ℕ) (views : List View) : Type 0 where
+  pub sum : slice_index words 0 ≡ open_lives lives + total (λ v. v.pending.announced) views + total (λ v. v.pending.owed) views
+  pub few : total (λ v. v.pending.owed) views ≤ total (total settled) lives
+  pub by_writers : EachSeat (λ v. v.pending.announced * writer ≤ v.rows.right) views
+  pub done : EachSeat (λ v. v.pending.finished ≡ 1 → (open_lives lives ≡ 0) × (total (λ u. u.pending.announced) views ≡ 0)) views
+
+-- Count: it is no more than the entries, and a seat that knows over is right.
+pub record CountOk (t : Told) (rows : List (List ℕ)) (words : List ℕ) (views : List View) : Type 0 where
+  pub count : slice_index words 1 + total (λ v. v.count.uncounted) views ≤ total length rows
+  pub over : EachSeat (λ v. v.count.over ≡ 1 → Outnumbers (IsReached t.next t.origin) t.limit) views
+
+-- the place k of the word x stands before each zero among the word's index words
+abbrev pub Stands : ℕ → (ℕ → ℕ) → ℕ → ℕ → Type 0
+Stands limit mark x k = (t : ℕ) → t < window limit → mark (slot limit x t) ≡ 0 → (u : ℕ) × (u < t) × (mark (slot limit x u) ≡ k + 1)
+
+-- a writer has published the place and not put it into the index yet
+abbrev pub Unfiled : List View → ℕ → ℕ → Type 0
+Unfiled views q k = (j : ℕ) × (v : View) × (get_elem? views j ≡ some v) × (v.rows.held ≡ q) × (v.rows.right ≡ writer) × (v.rows.unfiled ≡ k + 1)
+
+-- Index: each word of it is 0 or 1 more than a published place, and each published place stands in it but one whose writer is still at it.
+pub record IndexOk (limit : ℕ) (rows : List (List ℕ)) (words : List ℕ) (views : List View) : Type 0 where
+  pub places : (q j : ℕ) → q < 13 → j < limit → slice_index words (index_word limit q j) ≤ length (row_of rows q)
+  pub stands : (q k : ℕ) → q < 13 → k < length (row_of rows q) → Stands limit (λ j. slice_index words (index_word limit q j)) (slice_index (row_of rows q) k) k ⊎ Unfiled views q k
+
+-- what a seat with a right knows of the index: a zero among a word's index words shows that the row lacks the word, where none before it names its place
+abbrev pub Complete : ℕ → List ℕ → List ℕ → Type 0
+Complete limit row marks = (k : ℕ) → k < length row → Stands limit (slice_index marks) (slice_index row k) k
+
+pub record Kept (t : Told) (good : ℕ → Type 0) {S : Type 0} (s : State S View) : Type 0 where
+  pub rows : List (List ℕ)
+  pub lives : List (List ℕ)
+  pub wide : 0 < t.limit
+  pub sized : length s.words ≡ size_for t.limit
+  -- each seat but one that was given up knows the limit
+  pub told : EachSeat (λ v. 0 < v.limit → v.limit ≡ t.limit) s.views
+  pub rooted : Has rows t.origin
+  pub locks : LocksOk s.words s.views
+  pub row : RowsOk t rows s.words
+  pub seats : EachSeat (λ v. SeatOk t.limit rows s.words v.rows) s.views
+  pub added : AddedOk rows s.views
+  pub life : LivesOk t good rows lives s.words s.views
+  pub pending : PendingOk lives s.words s.views
+  pub counts : CountOk t rows s.words s.views
+  pub index : IndexOk t.limit rows s.words s.views

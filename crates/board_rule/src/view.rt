@@ -1,0 +1,19 @@
+ghost use Rattle.board_rule.specs.Views.{OnRows, OnLives, OnPending, OnCount};
+ghost use Rattle.std.specs.Prelude.{ℕ};
+ghost use Rattle.std.specs.Borrow.{ftrue};
+
+use std::marker::Model;
+
+/// What a seat knows, one part a subject of the rule. No value of it is made.
+pub struct View {
+    // The board's limit, 0 once the seat is given up.
+    pub ghost limit: { ℕ },
+    pub ghost rows: { OnRows },
+    pub ghost lives: { OnLives },
+    pub ghost pending: { OnPending },
+    pub ghost count: { OnCount },
+}
+
+impl Model for View {
+    ghost also_owns = { λ _. ftrue };
+}

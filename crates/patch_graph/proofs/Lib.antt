@@ -1,0 +1,3 @@
+pub mod LastWrite
+pub mod Patches
+pub mod Steps

@@ -1,0 +1,234 @@
+ghost use Rattle.std.specs.Prelude.{◌≡◌, ℕ, ◌<◌, ◌≤◌, ◌↔◌, [], ◌∷◌, ◌++◌, length, slice_index, IsTrue, IfOk, OnOk, OnErr, IsErrOf};
+ghost use Rattle.std.specs.List.{All};
+ghost use Rattle.patch_sets.specs.Sets.{Has, IsSubset};
+ghost use Rattle.patch_sets.specs.Closed.{IsClosed, IsReady, successors_of};
+ghost use Rattle.patch_sets.specs.Machine.{CanLeave, LeadTo};
+ghost use Rattle.patch_sets.specs.Writes.{AreRuns, events_of};
+ghost use Rattle.crash_model.specs.declared.patches.Patch.{Patch};
+ghost use Rattle.crash_model.specs.Patches.{deps_of, homes_of};
+ghost use Rattle.patch_graph.specs.Graph.{IsAt, IsPatch, IsGraph, AddsOverlaps, Overlaps, OverlapsAt};
+
+use crate::fault::GraphFault;
+use crash_model::patches::Patch;
+use patch_sets::set::{has, is_below, is_subset, with};
+use patch_sets::write::BlockWrite;
+use std::alloc::{AllocError, Allocator};
+use std::marker::Model;
+
+/// How many patches a graph can have.
+pub const MAX_PATCHES: usize = 124;
+
+/// Patches in the order in which they were added, of which each depends on earlier ones, and on each earlier
+/// one that it overlaps.
+///
+/// Contracts see the list of the patches.
+#[derive(Drop)]
+pub struct Graph<A: Allocator + Copy> {
+    patches: Vec<Patch, A>,
+}
+
+impl<A: Allocator + Copy> Model for Graph<A> {
+    ghost use Rattle.std.specs.Prelude.{List};
+    ghost use Rattle.crash_model.specs.declared.patches.Patch.{Patch};
+
+    ghost Value = { List Patch };
+
+    ghost use Rattle.patch_graph.specs.Graph.{IsGraph};
+
+    ghost view = { λ g. g.patches.items };
+
+    ghost invariant = { λ g. IsGraph g.patches.items };
+}
+
+impl<A: Allocator + Copy> Graph<A> {
+    /// A graph with no patches.
+    pub fn new(alloc: A) -> Graph<A>
+        ensures { result ≡ [] }
+    {
+        Graph {
+            patches: Vec::new(alloc),
+        }
+    }
+
+    /// Adds a patch, and each patch that it overlaps to its dependencies.
+    ///
+    /// It is refused as one too many exactly where the graph has `MAX_PATCHES`. After an error the graph is as
+    /// it was.
+    pub fn push(&mut self, mut patch: Patch) -> Result<(), GraphFault>
+        requires whole { IsPatch patch }
+        requires earlier { (id : ℕ) → Has patch.deps id → id < length self.old }
+        ensures ok { OnOk result ((added : Patch) × AddsOverlaps self.old patch added × (self.new ≡ self.old ++ added ∷ [])) }
+        ensures full { IsErrOf result GraphFault.TooManyPatches ↔ (length self.old ≡ MAX_PATCHES) }
+        ensures err { OnErr result (self.new ≡ self.old) }
+    {
+        if self.patches.len() == MAX_PATCHES {
+            return Err(GraphFault::TooManyPatches);
+        }
+        patch.deps |= overlapped_by(&patch, &self.patches);
+        self.patches.push(patch)?;
+        Ok(())
+    }
+
+    /// How many patches there are, and what every graph keeps.
+    pub fn len(&self) -> usize
+        ensures number { result ≡ length self.now }
+        ensures kept { IsGraph self.now }
+    {
+        self.patches.len()
+    }
+
+    /// Whether there is no patch.
+    pub fn is_empty(&self) -> bool
+        ensures { IsTrue result ↔ (length self.now ≡ 0) }
+    {
+        self.patches.is_empty()
+    }
+
+    /// The patch of an id.
+    pub fn patch(&self, id: usize) -> &Patch
+        requires { id < length self.now }
+        ensures { IsAt self.now id result.now }
+    {
+        &self.patches[id]
+    }
+
+    /// Whether each patch changes one of the first `blocks` blocks.
+    pub fn fits(&self, blocks: usize) -> bool
+        ensures { IsTrue result ↔ All (λ patch. patch.block < blocks) self.now }
+    {
+        self.patches
+            .iter()
+            .all(|patch| usize::from(patch.block) < blocks)
+    }
+
+    /// Whether a crash can leave exactly the set committed: it has ids of the graph alone, and with each of them
+    /// all its dependencies.
+    pub fn is_closed(&self, set: u128) -> bool
+        ensures closed { IsTrue result ↔ IsClosed (deps_of self.now) set }
+        ensures crash { IsTrue result ↔ CanLeave (deps_of self.now) (homes_of self.now) set }
+    {
+        is_closed_in(&self.patches, set)
+    }
+
+    /// The ids outside the set whose dependencies lie in it.
+    pub fn ready(&self, set: u128) -> u128
+        ensures { (id : ℕ) → Has result id ↔ IsReady (deps_of self.now) set id }
+    {
+        let mut ready = 0;
+        for (id, patch) in self.patches.iter().enumerate() {
+            if is_ready(patch, id, set) {
+                ready = with(ready, id);
+            }
+        }
+        ready
+    }
+
+    /// How many sets have one ready id more.
+    pub fn ready_count(&self, set: u128) -> u32
+        ensures { result ≡ length (successors_of (deps_of self.now) set) }
+    {
+        let mut count = 0;
+        for (id, patch) in self.patches.iter().enumerate() {
+            if is_ready(patch, id, set) {
+                count += 1;
+            }
+        }
+        count
+    }
+
+    /// The set with one ready id more, for the k-th of them, counted from 0 by ascending ids.
+    pub fn successor(&self, set: u128, k: u32) -> u128
+        requires { k < length (successors_of (deps_of self.now) set) }
+        ensures { result ≡ slice_index (successors_of (deps_of self.now) set) k }
+    {
+        let mut left = k;
+        for (id, patch) in self.patches.iter().enumerate() {
+            if is_ready(patch, id, set) {
+                if left == 0 {
+                    return with(set, id);
+                }
+                left -= 1;
+            }
+        }
+        unreachable!()
+    }
+
+    /// The set's ids of the graph in ascending order, cut into longest runs of one block.
+    ///
+    /// For a closed set the writes, one after another, are a run of the disk from nothing to that set. It fails
+    /// only for want of memory.
+    pub fn writes_to(&self, set: u128) -> Result<Vec<BlockWrite, A>, AllocError>
+        ensures runs { IfOk result (λ writes. AreRuns (homes_of self.now) set writes.items) }
+        ensures leads { IfOk result (λ writes. IsClosed (deps_of self.now) set → LeadTo (deps_of self.now) (homes_of self.now) (events_of writes.items) set) }
+    {
+        let mut writes: Vec<BlockWrite, A> = Vec::new(*self.patches.allocator());
+        for (id, patch) in self.patches.iter().enumerate() {
+            if !has(set, id) {
+                continue;
+            }
+            let len = writes.len();
+            if len > 0 && writes[len - 1].block == patch.block {
+                let last = &mut writes[len - 1];
+                last.ids = with(last.ids, id);
+            } else {
+                writes.push(BlockWrite {
+                    block: patch.block,
+                    ids: with(0, id),
+                })?;
+            }
+        }
+        Ok(writes)
+    }
+}
+
+/// Whether the patches are of one block and their ranges share a byte.
+fn overlaps(earlier: &Patch, later: &Patch) -> bool
+    requires first { IsPatch earlier.now }
+    requires second { IsPatch later.now }
+    ensures { IsTrue result ↔ Overlaps earlier.now later.now }
+{
+    let (first, second) = (usize::from(earlier.offset), usize::from(later.offset));
+    earlier.block == later.block
+        && first < second + later.new.len()
+        && second < first + earlier.new.len()
+}
+
+/// The ids of the patches that a patch overlaps.
+fn overlapped_by(later: &Patch, patches: &[Patch]) -> u128
+    requires few { length patches.now < 124 }
+    requires each { All IsPatch patches.now }
+    requires whole { IsPatch later.now }
+    ensures { (id : ℕ) → Has result id ↔ OverlapsAt patches.now later.now id }
+{
+    let mut ids = 0;
+    for (id, earlier) in patches.iter().enumerate() {
+        if overlaps(earlier, later) {
+            ids = with(ids, id);
+        }
+    }
+    ids
+}
+
+/// Whether the id of a patch is outside the set, with its dependencies inside.
+fn is_ready(patch: &Patch, id: usize, set: u128) -> bool
+    requires { id < 128 }
+    ensures { IsTrue result ↔ (¬ (Has set id) × IsSubset patch.now.deps set) }
+{
+    !has(set, id) && is_subset(patch.deps, set)
+}
+
+/// Whether the set has ids of the patches alone, and with each of them all its dependencies.
+fn is_closed_in(patches: &[Patch], set: u128) -> bool
+    requires { length patches.now ≤ 124 }
+    ensures { IsTrue result ↔ IsClosed (deps_of patches.now) set }
+{
+    if !is_below(set, patches.len()) {
+        return false;
+    }
+    for (id, patch) in patches.iter().enumerate() {
+        if has(set, id) && !is_subset(patch.deps, set) {
+            return false;
+        }
+    }
+    true
+}

@@ -1,0 +1,7 @@
+pub mod Bits
+pub mod Canonical
+pub mod Ids
+pub mod Lists
+pub mod Runs
+pub mod Successors
+pub mod Writes

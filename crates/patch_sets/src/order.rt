@@ -1,0 +1,17 @@
+//! The order in which sets are listed.
+ghost use Rattle.std.specs.Prelude.{◌≢◌};
+ghost use Rattle.std.specs.List.{AllPairs};
+ghost use Rattle.std.specs.List.Sorted.{IsPermutation};
+ghost use Rattle.patch_sets.specs.Sets.{IsBefore};
+
+use std::alloc::Allocator;
+
+/// Different sets in canonical order: fewer ids first, then the smaller number. It takes no memory.
+pub fn in_order<A: Allocator>(mut sets: Vec<u128, A>) -> Vec<u128, A>
+    requires { AllPairs (λ x y. x ≢ y) sets.items }
+    ensures ordered { AllPairs IsBefore result.items }
+    ensures same { IsPermutation sets.items result.items }
+{
+    sets.sort_unstable_by_key(|set| (set.count_ones(), *set));
+    sets
+}
