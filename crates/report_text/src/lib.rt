@@ -1,0 +1,4 @@
+//! Reports as text.
+#![tactic(auto)]
+
+mod lines;
