@@ -4,6 +4,7 @@
 //! each id p that is in it.
 #![tactic(auto)]
 
+pub mod ends;
 pub mod laws;
 pub mod order;
 pub mod set;

@@ -1,0 +1,14 @@
+pub mod Searches
+pub mod Answered
+pub mod Sums
+pub mod Names
+pub mod Puts
+pub mod OnTables
+pub mod ByTables
+pub mod Views
+pub mod Becomes
+pub mod Places
+pub mod ToTables
+pub mod FromTables
+pub mod Creates
+pub mod Unlinks
