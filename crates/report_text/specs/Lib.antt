@@ -1,1 +1,1 @@
-pub mod Head
+pub mod TextReport

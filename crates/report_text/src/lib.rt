@@ -2,3 +2,9 @@
 #![tactic(auto)]
 
 mod lines;
+pub mod report;
+
+pub use report::report_text;
+
+#[cfg(test)]
+mod tests;

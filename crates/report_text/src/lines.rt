@@ -3,7 +3,8 @@
 ghost use Rattle.std.specs.Prelude.{◌≡◌, ◌≤◌, ◌++◌, ℕ, codes, decimal, string_bytes, OnOk, flat_map};
 ghost use Rattle.patch_sets.specs.Sets.{ids_of};
 ghost use Rattle.crash_model.specs.Report.{line, numbers, write_text, section_text, fault_text};
-ghost use Rattle.report_text.specs.Head.{head_text, told};
+ghost use Rattle.report_sections.specs.Sections.{told};
+ghost use Rattle.report_text.specs.TextReport.{head_text};
 
 use crash_model::fault::Fault;
 use crash_model::steps::Module;
@@ -23,7 +24,10 @@ pub(crate) fn write_head<A: Allocator>(
     ensures { OnOk result (string_bytes out.new ≡ string_bytes out.old ++ head_text «module» patches closed failing) }
 {
     let name = module.name();
-    write!(out, "module {name}\npatches {patches}\nclosed {closed}\nfailing {failing}\n")
+    write!(
+        out,
+        "module {name}\npatches {patches}\nclosed {closed}\nfailing {failing}\n"
+    )
 }
 
 /// The lines of a failing set. The graph has `patches` patches.
@@ -75,11 +79,7 @@ fn write_write<A: Allocator>(
 }
 
 /// The ids of the set, ascending, each behind a space.
-fn write_ids<A: Allocator>(
-    out: &mut String<A>,
-    patches: usize,
-    set: u128,
-) -> Result<(), AllocError>
+fn write_ids<A: Allocator>(out: &mut String<A>, patches: usize, set: u128) -> Result<(), AllocError>
     requires { patches ≤ 128 }
     ensures { OnOk result (string_bytes out.new ≡ string_bytes out.old ++ numbers (ids_of patches set)) }
 {
