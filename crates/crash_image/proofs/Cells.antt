@@ -34,7 +34,9 @@ pub record IsLess (a b d : ℕ) : Type 0 where
 
 pub value-none : (id v : ℕ) (cs : List (Option ℕ)) (set : ℕ) → HasNone id cs set → value_from id v cs set ≡ v
 value-none id v [] set none = refl
-value-none id v (c ∷ cs) set none = ap (λ (m : ℕ). value_from (id + 1) m cs set) (stays (has set id) c v none.0) ∙ value-none (id + 1) v cs set none.1
+value-none id v (c ∷ cs) set none =
+    ap (λ (m : ℕ). value_from (id + 1) m cs set) (stays (has set id) c v none.0)
+    ∙ value-none (id + 1) v cs set none.1
   where
     stays : (b : Bool) (c : Option ℕ) (v : ℕ) → (b && is_some c) ≡ false → cond b (unwrap_or c v) v ≡ v
     stays true None v h = refl
@@ -43,7 +45,9 @@ value-none id v (c ∷ cs) set none = ap (λ (m : ℕ). value_from (id + 1) m cs
 
 pub undo-none : (id full v : ℕ) (cs : List (Option ℕ)) (set : ℕ) → HasNone id cs set → undo_from id full v cs set ≡ v
 undo-none id full v [] set none = refl
-undo-none id full v (c ∷ cs) set none = ap (λ (b : Bool). cond b full (undo_from (id + 1) (unwrap_or c full) v cs set)) none.0 ∙ undo-none (id + 1) (unwrap_or c full) v cs set none.1
+undo-none id full v (c ∷ cs) set none =
+    ap (λ (b : Bool). cond b full (undo_from (id + 1) (unwrap_or c full) v cs set)) none.0
+    ∙ undo-none (id + 1) (unwrap_or c full) v cs set none.1
 
 none_less : (id : ℕ) (cs : List (Option ℕ)) (a b d : ℕ) → IsLess a b d → HasNone id cs a → HasNone id cs d
 none_less id [] a b d less none = tt
@@ -61,7 +65,8 @@ value_same id v (c ∷ cs) a b d less none =
     value_same (id + 1) (cond (has d id) (unwrap_or c v) v) cs a b d less none.1
     ∙ ap (λ (m : ℕ). value_from (id + 1) m cs b) (one (has d id) (has a id) (has b id) c v (less.is id) none.0)
   where
-    one : (d a b : Bool) (c : Option ℕ) (v : ℕ) → d ≡ (b && not a) → (a && is_some c) ≡ false → cond d (unwrap_or c v) v ≡ cond b (unwrap_or c v) v
+    one : (d a b : Bool) (c : Option ℕ) (v : ℕ) → d ≡ (b && not a) → (a && is_some c) ≡ false
+        → cond d (unwrap_or c v) v ≡ cond b (unwrap_or c v) v
     one d true true None v e h = rw e refl
     one d true true (Some y) v e h = absurd (cc)
     one d true false c v e h = rw e refl
@@ -129,7 +134,8 @@ moved id v (Some y ∷ cs) a b back on less more p q = elim p [
 
 -- ---- closed sets have fronts
 
-none_from : (cs : List (Option ℕ)) (id set : ℕ) → ((r : ℕ) → r < length cs → is_some (get_or cs r None) ≡ true → has set (id + r) ≡ true → ⊥) → HasNone id cs set
+none_from : (cs : List (Option ℕ)) (id set : ℕ)
+    → ((r : ℕ) → r < length cs → is_some (get_or cs r None) ≡ true → has set (id + r) ≡ true → ⊥) → HasNone id cs set
 none_from [] id set h = tt
 none_from (c ∷ cs) id set h = (
   both_not (has set id) (is_some c) (λ t s. h 0 (omega arith) s (ap (λ (m : ℕ). has set m) (plus_zero id) ∙ t)),

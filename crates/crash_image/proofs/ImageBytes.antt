@@ -30,7 +30,8 @@ abbrev pub cells : ℕ → List Patch → List (Option ℕ)
 cells i [] = []
 cells i (p ∷ ps) = cell_at i (start_of p) p.new.items ∷ cells i ps
 
-pub inside_or_not : (at n i : ℕ) → (((nat_le at i && nat_lt i (at + n)) ≡ true) × ((at ≤ i) × (i < at + n))) ⊎ (((nat_le at i && nat_lt i (at + n)) ≡ false) × ((i < at) ⊎ (at + n ≤ i)))
+pub inside_or_not : (at n i : ℕ)
+    → (((nat_le at i && nat_lt i (at + n)) ≡ true) × ((at ≤ i) × (i < at + n))) ⊎ (((nat_le at i && nat_lt i (at + n)) ≡ false) × ((i < at) ⊎ (at + n ≤ i)))
 inside_or_not at n i = elim (bool_is (nat_le at i && nat_lt i (at + n))) [
   | inl t ↦ inl (t, (grind (arith, tests), grind (arith, tests)))
   | inr f ↦ inr (f, grind (arith, tests))
@@ -38,7 +39,8 @@ inside_or_not at n i = elim (bool_is (nat_le at i && nat_lt i (at + n))) [
 
 -- ---- one patch
 
-pub overwrite-value : (xs : List ℕ) (at : ℕ) (new : List ℕ) (i : ℕ) → at + length new ≤ length xs → get_or (overwrite xs at new) i 0 ≡ unwrap_or (cell_at i at new) (get_or xs i 0)
+pub overwrite-value : (xs : List ℕ) (at : ℕ) (new : List ℕ) (i : ℕ) → at + length new ≤ length xs
+    → get_or (overwrite xs at new) i 0 ≡ unwrap_or (cell_at i at new) (get_or xs i 0)
 overwrite-value xs at new i fits =
     elim (inside_or_not at (length new) i) [
       | inl t ↦ let e = t.0 in rw e (overwrite-inside xs at new i fits t.1.0 t.1.1)
@@ -72,7 +74,8 @@ image-value n id d (p ∷ ps) set i e f =
 undo-length : (xs : List ℕ) (at n : ℕ) → at + n ≤ length xs → length (slice_range xs at (at + n)) ≡ n
 undo-length xs at n fits = grind (arith, elements)
 
-undo-byte : (xs : List ℕ) (at n i : ℕ) → at + n ≤ length xs → at ≤ i → i < at + n → get_or (slice_range xs at (at + n)) (i - at) 0 ≡ get_or xs i 0
+undo-byte : (xs : List ℕ) (at n i : ℕ) → at + n ≤ length xs → at ≤ i → i < at + n
+    → get_or (slice_range xs at (at + n)) (i - at) 0 ≡ get_or xs i 0
 undo-byte xs at n i fits from to = grind (arith, elements)
 
 -- and at each place of the range the byte that was there
@@ -86,7 +89,8 @@ undo-cell xs at i new old fits is v =
       | inr o ↦ let e = o.0 in rw e refl
     ]
 
-pub undone-value : (n id : ℕ) (d full : Disk) (ps : List Patch) (set i : ℕ) → length d.bytes ≡ n → length full.bytes ≡ n → AllFit n ps → AreUndo full ps
+pub undone-value : (n id : ℕ) (d full : Disk) (ps : List Patch) (set i : ℕ) → length d.bytes ≡ n → length full.bytes ≡ n → AllFit n ps
+    → AreUndo full ps
     → (length (undone_from id d ps set).bytes ≡ n) × (get_or (undone_from id d ps set).bytes i 0 ≡ undo_from id (get_or full.bytes i 0) (get_or d.bytes i 0) (cells i ps) set)
 undone-value n id d full [] set i e l f u = (e, refl)
 undone-value n id d full (p ∷ ps) set i e l f u =
@@ -99,7 +103,8 @@ undone-value n id d full (p ∷ ps) set i e l f u =
     let long : length p.undo.items ≡ length p.new.items = ap (λ (xs : List ℕ). length xs) u.0 ∙ undo-length full.bytes (start_of p) (length p.new.items) here in
     by_bit (has set id) ih.0 (omega (arith, ih.0)) was
   where
-    by_bit : (b : Bool) → length (undone_from (id + 1) d ps set).bytes ≡ n → start_of p + length p.undo.items ≤ length (undone_from (id + 1) d ps set).bytes
+    by_bit : (b : Bool) → length (undone_from (id + 1) d ps set).bytes ≡ n
+        → start_of p + length p.undo.items ≤ length (undone_from (id + 1) d ps set).bytes
         → get_or (undone_from (id + 1) d ps set).bytes i 0 ≡ undo_from (id + 1) (unwrap_or (cell_at i (start_of p) p.new.items) (get_or full.bytes i 0)) (get_or d.bytes i 0) (cells i ps) set
         → (length (cond b (put (undone_from (id + 1) d ps set) p.block p.offset p.undo.items) (undone_from (id + 1) d ps set)).bytes ≡ n)
         × (get_or (cond b (put (undone_from (id + 1) d ps set) p.block p.offset p.undo.items) (undone_from (id + 1) d ps set)).bytes i 0

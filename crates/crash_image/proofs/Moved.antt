@@ -62,7 +62,8 @@ disk-same d e shape bytes =
 less_of : (a b d : ℕ) → IsDifference a b d → IsLess a b d
 less_of a b d difference = record { is = λ q. by_bits q (has a q) (has b q) (bool_is (has a q)) (bool_is (has b q)) }
   where
-    by_bits : (q : ℕ) (x y : Bool) → (has a q ≡ true) ⊎ (has a q ≡ false) → (has b q ≡ true) ⊎ (has b q ≡ false) → has d q ≡ (has a q && not (has b q))
+    by_bits : (q : ℕ) (x y : Bool) → (has a q ≡ true) ⊎ (has a q ≡ false) → (has b q ≡ true) ⊎ (has b q ≡ false)
+        → has d q ≡ (has a q && not (has b q))
     by_bits q x y (inr out) other =
         let no : has d q ≡ false = has_false d q (λ is. let t : has a q ≡ true = has_true a q ((difference.exactly q).0 is).0 in absurd (cc)) in
         no ∙ sym (ap (λ (z : Bool). z && not (has b q)) out)

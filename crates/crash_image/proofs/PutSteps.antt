@@ -12,7 +12,8 @@ use Rattle.crash_image.specs.Moves.{undone_from, undone_of}
 
 -- ---- sets that have none, and sets that have the same
 
-pub image-none : (id : ℕ) (d : Disk) (ps : List Patch) (set : ℕ) → ((q : ℕ) → id ≤ q → has set q ≡ false) → image_from id d (places_of ps) set ≡ d
+pub image-none : (id : ℕ) (d : Disk) (ps : List Patch) (set : ℕ) → ((q : ℕ) → id ≤ q → has set q ≡ false)
+    → image_from id d (places_of ps) set ≡ d
 image-none id d [] set none = refl
 image-none id d (p ∷ ps) set none =
     ap (λ (b : Bool). image_from (id + 1) (cond b (put d p.block p.offset p.new.items) d) (places_of ps) set) (none id (omega arith))
@@ -22,7 +23,8 @@ pub undone-none : (id : ℕ) (d : Disk) (ps : List Patch) (set : ℕ) → ((q : 
 undone-none id d [] set none = refl
 undone-none id d (p ∷ ps) set none = rw (none id (omega arith)) (undone-none (id + 1) d ps set (λ q from. none q (omega arith)))
 
-image-same : (id : ℕ) (d : Disk) (ps : List Patch) (a b : ℕ) → ((q : ℕ) → id ≤ q → has a q ≡ has b q) → image_from id d (places_of ps) a ≡ image_from id d (places_of ps) b
+image-same : (id : ℕ) (d : Disk) (ps : List Patch) (a b : ℕ) → ((q : ℕ) → id ≤ q → has a q ≡ has b q)
+    → image_from id d (places_of ps) a ≡ image_from id d (places_of ps) b
 image-same id d [] a b same = refl
 image-same id d (p ∷ ps) a b same =
     ap (λ (x : Bool). image_from (id + 1) (cond x (put d p.block p.offset p.new.items) d) (places_of ps) a) (same id (omega arith))
@@ -54,7 +56,8 @@ found : (x p : Patch) → Some x ≡ Some p → x ≡ p
 found x p e = cc
 
 -- the lowest goes first, and then the rest
-pub image-lowest : (r id : ℕ) (d : Disk) (ps : List Patch) (set k rest : ℕ) (p : Patch) → k ≡ id + r → slice_get ps r ≡ Some p → IsRest set k rest → ((q : ℕ) → q < k → has set q ≡ false)
+pub image-lowest : (r id : ℕ) (d : Disk) (ps : List Patch) (set k rest : ℕ) (p : Patch) → k ≡ id + r → slice_get ps r ≡ Some p
+    → IsRest set k rest → ((q : ℕ) → q < k → has set q ≡ false)
     → image_from id d (places_of ps) set ≡ image_from id (put d p.block p.offset p.new.items) (places_of ps) rest
 image-lowest r id d [] set k rest p at is less low = absurd (cc)
 image-lowest zero id d (x ∷ ps) set k rest p at is less low =
@@ -76,7 +79,8 @@ image-lowest (suc r) id d (x ∷ ps) set k rest p at is less low =
     ∙ ap (λ (b : Bool). image_from (id + 1) (cond b (put after x.block x.offset x.new.items) after) (places_of ps) rest) (sym still)
 
 -- the highest is taken back first, and then the rest
-pub undone-highest : (r id : ℕ) (d : Disk) (ps : List Patch) (set k rest : ℕ) (p : Patch) → k ≡ id + r → slice_get ps r ≡ Some p → IsRest set k rest → ((q : ℕ) → k < q → has set q ≡ false)
+pub undone-highest : (r id : ℕ) (d : Disk) (ps : List Patch) (set k rest : ℕ) (p : Patch) → k ≡ id + r → slice_get ps r ≡ Some p
+    → IsRest set k rest → ((q : ℕ) → k < q → has set q ≡ false)
     → undone_from id d ps set ≡ undone_from id (put d p.block p.offset p.undo.items) ps rest
 undone-highest r id d [] set k rest p at is less high = absurd (cc)
 undone-highest zero id d (x ∷ ps) set k rest p at is less high =
@@ -102,7 +106,8 @@ module _ (d after whole : Disk) (ps : List Patch) (set k rest : ℕ) (p : Patch)
       (λ q below. has_false set q (λ has. let least = lowest.least q has in omega arith)))
       ∙ was
 
-  pub undo_step : IsHighest set k → after ≡ put d p.block p.offset p.undo.items → undone_of d ps set ≡ whole → undone_of after ps rest ≡ whole
+  pub undo_step : IsHighest set k → after ≡ put d p.block p.offset p.undo.items → undone_of d ps set ≡ whole
+      → undone_of after ps rest ≡ whole
   undo_step highest put_is was =
       ap (λ (e : Disk). undone_of e ps rest) put_is
       ∙ sym (undone-highest k 0 d ps set k rest p (omega arith) is (rest_of set k rest highest.inside without)

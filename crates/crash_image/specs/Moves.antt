@@ -33,6 +33,10 @@ pub record Applied : Type 0 where
   pub patches : List Patch
   pub set : ℕ
 
+-- the patches and the set, over the base of which an image is that of the set
+abbrev pub applied : Disk → List Patch → ℕ → Applied
+applied image patches set = record { base = undone_of image patches set; patches = patches; set = set }
+
 -- the image is that of a closed set
 pub record IsApplied (a : Applied) (image : Disk) : Type 0 where
   pub over : AreOver a.base a.patches
