@@ -7,13 +7,9 @@ use Rattle.patch_sets.proofs.Successors.{empty_closed}
 use Rattle.crash_model.specs.Disk.{Disk}
 use Rattle.crash_model.specs.Patches.{deps_of, image_of}
 use Rattle.crash_model.specs.declared.patches.Patch.{Patch}
-use Rattle.crash_image.specs.Moves.{undone_of, AreOver, Applied, IsApplied}
+use Rattle.crash_image.specs.Moves.{undone_of, AreOver, Applied, applied, IsApplied}
 use Rattle.crash_image.proofs.PutSteps.{image-empty, undone-empty}
 use Rattle.crash_image.proofs.Moved.{undone-shape, moved_image, unmoved_image}
-
--- a set of patches over the base of which an image is that of the set
-abbrev pub applied : Disk → List Patch → ℕ → Applied
-applied image ps set = record { base = undone_of image ps set; patches = ps; set = set }
 
 -- ---- the empty set
 
@@ -31,7 +27,8 @@ module _ (base : Disk) (ps : List Patch) where
 pub fits_again : (m n : ℕ) (ps : List Patch) → m ≡ n → All (λ p. p.block < m) ps → All (λ p. p.block < n) ps
 fits_again m n ps same fits = subst (λ (k : ℕ). All (λ p. p.block < k) ps) same fits
 
-pub fits_image : (image : Disk) (ps : List Patch) (set : ℕ) → All (λ p. p.block < (undone_of image ps set).blocks) ps → All (λ p. p.block < image.blocks) ps
+pub fits_image : (image : Disk) (ps : List Patch) (set : ℕ) → All (λ p. p.block < (undone_of image ps set).blocks) ps
+    → All (λ p. p.block < image.blocks) ps
 fits_image image ps set fits = fits_again (undone_of image ps set).blocks image.blocks ps (undone-shape 0 image ps set).blocks fits
 
 module _ (image after : Disk) (ps : List Patch) (set next back on : ℕ)

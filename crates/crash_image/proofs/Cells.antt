@@ -26,7 +26,10 @@ HasNone id (c ∷ cs) set = ((has set id && is_some c) ≡ false) × HasNone (id
 -- each such cell of the set has all such cells before it in the set: the set has them up to some place, and none from there on
 abbrev pub HasFront : ℕ → List (Option ℕ) → ℕ → Type 0
 HasFront id [] set = Unit {0}
-HasFront id (c ∷ cs) set = (((has set id) ≡ true) × HasFront (id + 1) cs set) ⊎ (((c ≡ None) × HasFront (id + 1) cs set) ⊎ (((has set id) ≡ false) × HasNone (id + 1) cs set))
+HasFront id (c ∷ cs) set =
+    ((has set id ≡ true) × HasFront (id + 1) cs set)
+    ⊎ (((c ≡ None) × HasFront (id + 1) cs set)
+    ⊎ ((has set id ≡ false) × HasNone (id + 1) cs set))
 
 -- what is in one set and not in another
 pub record IsLess (a b d : ℕ) : Type 0 where
@@ -34,7 +37,9 @@ pub record IsLess (a b d : ℕ) : Type 0 where
 
 pub value-none : (id v : ℕ) (cs : List (Option ℕ)) (set : ℕ) → HasNone id cs set → value_from id v cs set ≡ v
 value-none id v [] set none = refl
-value-none id v (c ∷ cs) set none = ap (λ (m : ℕ). value_from (id + 1) m cs set) (stays (has set id) c v none.0) ∙ value-none (id + 1) v cs set none.1
+value-none id v (c ∷ cs) set none =
+    ap (λ (m : ℕ). value_from (id + 1) m cs set) (stays (has set id) c v none.0)
+    ∙ value-none (id + 1) v cs set none.1
   where
     stays : (b : Bool) (c : Option ℕ) (v : ℕ) → (b && is_some c) ≡ false → cond b (unwrap_or c v) v ≡ v
     stays true None v h = refl
@@ -43,11 +48,16 @@ value-none id v (c ∷ cs) set none = ap (λ (m : ℕ). value_from (id + 1) m cs
 
 pub undo-none : (id full v : ℕ) (cs : List (Option ℕ)) (set : ℕ) → HasNone id cs set → undo_from id full v cs set ≡ v
 undo-none id full v [] set none = refl
-undo-none id full v (c ∷ cs) set none = ap (λ (b : Bool). cond b full (undo_from (id + 1) (unwrap_or c full) v cs set)) none.0 ∙ undo-none (id + 1) (unwrap_or c full) v cs set none.1
+undo-none id full v (c ∷ cs) set none =
+    ap (λ (b : Bool). cond b full (undo_from (id + 1) (unwrap_or c full) v cs set)) none.0
+    ∙ undo-none (id + 1) (unwrap_or c full) v cs set none.1
 
 none_less : (id : ℕ) (cs : List (Option ℕ)) (a b d : ℕ) → IsLess a b d → HasNone id cs a → HasNone id cs d
 none_less id [] a b d less none = tt
-none_less id (c ∷ cs) a b d less none = (ap (λ (x : Bool). x && is_some c) (less.is id) ∙ still (has a id) (not (has b id)) (is_some c) none.0, none_less (id + 1) cs a b d less none.1)
+none_less id (c ∷ cs) a b d less none = (
+  ap (λ (x : Bool). x && is_some c) (less.is id) ∙ still (has a id) (not (has b id)) (is_some c) none.0,
+  none_less (id + 1) cs a b d less none.1,
+)
   where
     still : (x y z : Bool) → (x && z) ≡ false → ((x && y) && z) ≡ false
     still true true z h = h
@@ -61,7 +71,8 @@ value_same id v (c ∷ cs) a b d less none =
     value_same (id + 1) (cond (has d id) (unwrap_or c v) v) cs a b d less none.1
     ∙ ap (λ (m : ℕ). value_from (id + 1) m cs b) (one (has d id) (has a id) (has b id) c v (less.is id) none.0)
   where
-    one : (d a b : Bool) (c : Option ℕ) (v : ℕ) → d ≡ (b && not a) → (a && is_some c) ≡ false → cond d (unwrap_or c v) v ≡ cond b (unwrap_or c v) v
+    one : (d a b : Bool) (c : Option ℕ) (v : ℕ) → d ≡ (b && not a) → (a && is_some c) ≡ false
+        → cond d (unwrap_or c v) v ≡ cond b (unwrap_or c v) v
     one d true true None v e h = rw e refl
     one d true true (Some y) v e h = absurd (cc)
     one d true false c v e h = rw e refl
@@ -91,90 +102,75 @@ and_false false = refl
 both : (x y u w : Bool) → x ≡ u → y ≡ w → (x && not y) ≡ (u && not w)
 both x y u w p q = rw (p, q) refl
 
--- undo of a without b, then redo of b without a
-pub moved : (id v : ℕ) (cs : List (Option ℕ)) (a b back on : ℕ) → IsLess a b back → IsLess b a on → HasFront id cs a → HasFront id cs b
-    → value_from id (undo_from id v (value_from id v cs a) cs back) cs on ≡ value_from id v cs b
-moved id v [] a b back on less more p q = refl
-moved id v (None ∷ cs) a b back on less more p q =
-    simp (cond_same, and_false) (moved (id + 1) v cs a b back on less more (front_tail id cs a p) (front_tail id cs b q))
-moved id v (Some y ∷ cs) a b back on less more p q = elim p [
-  | inl t ↦ elim q [
-    | inl u ↦ let ha : has a id ≡ true = t.0 in let hb : has b id ≡ true = u.0 in
-        let hd : has back id ≡ false = less.is id ∙ both (has a id) (has b id) _ _ ha hb in let hm : has on id ≡ false = more.is id ∙ both (has b id) (has a id) _ _ hb ha in
-        rw (ha, hb, hd, hm) (moved (id + 1) y cs a b back on less more t.1 u.1)
-    | inr u ↦ elim u [
-      | inl n ↦ absurd (cc)
-      | inr f ↦ let ha : has a id ≡ true = t.0 in let hb : has b id ≡ false = f.0 in
-          let hd : has back id ≡ true = less.is id ∙ both (has a id) (has b id) _ _ ha hb in let hm : has on id ≡ false = more.is id ∙ both (has b id) (has a id) _ _ hb ha in
-          rw (hb, hd, hm) (value-none (id + 1) v cs on (none_less (id + 1) cs b a on more f.1) ∙ sym (value-none (id + 1) v cs b f.1))
-    ]
-  ]
-  | inr t ↦ elim t [
-    | inl n ↦ absurd (cc)
-    | inr g ↦ elim q [
-      | inl u ↦ let ha : has a id ≡ false = g.0 in let hb : has b id ≡ true = u.0 in
-          let hm : has on id ≡ true = more.is id ∙ both (has b id) (has a id) _ _ hb ha in
-          rw (hb, hm) (value_same (id + 1) y cs a b on more g.1)
-      | inr u ↦ elim u [
-        | inl n ↦ absurd (cc)
-        | inr f ↦ let ha : has a id ≡ false = g.0 in let hb : has b id ≡ false = f.0 in
-            let hd : has back id ≡ false = less.is id ∙ both (has a id) (has b id) _ _ ha hb in let hm : has on id ≡ false = more.is id ∙ both (has b id) (has a id) _ _ hb ha in
-            let w : undo_from (id + 1) y (value_from (id + 1) v cs a) cs back ≡ v =
-            undo-none (id + 1) y (value_from (id + 1) v cs a) cs back (none_less (id + 1) cs a b back less g.1) ∙ value-none (id + 1) v cs a g.1 in
-            rw (ha, hb, hd, hm) (rw w (value-none (id + 1) v cs on (none_less (id + 1) cs b a on more f.1) ∙ sym (value-none (id + 1) v cs b f.1)))
-      ]
-    ]
-  ]
-]
+module _ (a b back on : ℕ) (less : IsLess a b back) (more : IsLess b a on) where
+  -- what the two differences have of an id
+  back_is : (q : ℕ) (x y : Bool) → has a q ≡ x → has b q ≡ y → has back q ≡ (x && not y)
+  back_is q x y p r = less.is q ∙ both (has a q) (has b q) x y p r
 
--- ---- closed sets have fronts
+  on_is : (q : ℕ) (x y : Bool) → has a q ≡ x → has b q ≡ y → has on q ≡ (y && not x)
+  on_is q x y p r = more.is q ∙ both (has b q) (has a q) y x r p
 
+  -- undo of a without b, then redo of b without a
+  pub moved : (id v : ℕ) (cs : List (Option ℕ)) → HasFront id cs a → HasFront id cs b
+      → value_from id (undo_from id v (value_from id v cs a) cs back) cs on ≡ value_from id v cs b
+  moved id v [] p q = refl
+  moved id v (None ∷ cs) p q = simp (cond_same, and_false) (moved (id + 1) v cs (front_tail id cs a p) (front_tail id cs b q))
+  moved id v (Some y ∷ cs) (inl t) (inl u) =
+      rw (t.0, u.0, back_is id true true t.0 u.0, on_is id true true t.0 u.0) (moved (id + 1) y cs t.1 u.1)
+  moved id v (Some y ∷ cs) (inl t) (inr (inl n)) = absurd (cc)
+  moved id v (Some y ∷ cs) (inl t) (inr (inr f)) =
+      rw (f.0, back_is id true false t.0 f.0, on_is id true false t.0 f.0)
+      (value-none (id + 1) v cs on (none_less (id + 1) cs b a on more f.1) ∙ sym (value-none (id + 1) v cs b f.1))
+  moved id v (Some y ∷ cs) (inr (inl n)) q = absurd (cc)
+  moved id v (Some y ∷ cs) (inr (inr g)) (inl u) = rw (u.0, on_is id false true g.0 u.0) (value_same (id + 1) y cs a b on more g.1)
+  moved id v (Some y ∷ cs) (inr (inr g)) (inr (inl n)) = absurd (cc)
+  moved id v (Some y ∷ cs) (inr (inr g)) (inr (inr f)) =
+      let stays : undo_from (id + 1) y (value_from (id + 1) v cs a) cs back ≡ v =
+      undo-none (id + 1) y (value_from (id + 1) v cs a) cs back (none_less (id + 1) cs a b back less g.1) ∙ value-none (id + 1) v cs a g.1 in
+      rw (g.0, f.0, back_is id false false g.0 f.0, on_is id false false g.0 f.0)
+      (rw stays (value-none (id + 1) v cs on (none_less (id + 1) cs b a on more f.1) ∙ sym (value-none (id + 1) v cs b f.1)))
+
+-- ---- sets with fronts
+
+-- each cell of the set that puts something has those before it in the set
+pub record HasEarlier (id : ℕ) (cs : List (Option ℕ)) (set : ℕ) : Type 0 where
+  pub earlier : (q r : ℕ) → q < r → r < length cs → is_some (get_or cs q None) ≡ true → is_some (get_or cs r None) ≡ true
+      → has set (id + r) ≡ true → has set (id + q) ≡ true
+
+-- the id of a cell, counted from the next one
+next_id : (id set k : ℕ) → has set (id + 1 + k) ≡ has set (id + suc k)
+next_id id set k = let same : id + 1 + k ≡ id + suc k = omega arith in ap (λ (m : ℕ). has set m) same
+
+first_id : (id set : ℕ) → has set (id + 0) ≡ has set id
+first_id id set = let same : id + 0 ≡ id = omega arith in ap (λ (m : ℕ). has set m) same
+
+earlier_tail : (id : ℕ) (c : Option ℕ) (cs : List (Option ℕ)) (set : ℕ) → HasEarlier id (c ∷ cs) set → HasEarlier (id + 1) cs set
+earlier_tail id c cs set h = record {
+  earlier = λ q r less long first second is. next_id id set q ∙ h.earlier (suc q) (suc r) (omega arith) (omega arith) first second (sym (next_id id set r) ∙ is);
+}
+
+-- a set has none where each cell that puts something is outside
 none_from : (cs : List (Option ℕ)) (id set : ℕ) → ((r : ℕ) → r < length cs → is_some (get_or cs r None) ≡ true → has set (id + r) ≡ true → ⊥) → HasNone id cs set
-none_from [] id set h = tt
-none_from (c ∷ cs) id set h = (
-  both_not (has set id) (is_some c) (λ t s. h 0 (omega arith) s (ap (λ (m : ℕ). has set m) (plus_zero id) ∙ t)),
-  none_from cs (id + 1) set (λ r less s t. h (suc r) (omega arith) s (ap (λ (m : ℕ). has set m) (plus_suc id r) ∙ t)),
+none_from [] id set out = tt
+none_from (c ∷ cs) id set out = (
+  not_both (has set id) (is_some c) (λ is some. out 0 (omega arith) some (first_id id set ∙ is)),
+  none_from cs (id + 1) set (λ r less some is. out (suc r) (omega arith) some (sym (next_id id set r) ∙ is)),
 )
   where
-    both_not : (x y : Bool) → (x ≡ true → y ≡ true → ⊥) → (x && y) ≡ false
-    both_not true true h = absurd (h refl refl)
-    both_not true false h = refl
-    both_not false y h = refl
+    not_both : (x y : Bool) → (x ≡ true → y ≡ true → ⊥) → (x && y) ≡ false
+    not_both true true h = absurd (h refl refl)
+    not_both true false h = refl
+    not_both false y h = refl
 
-    plus_zero : (id : ℕ) → id + 0 ≡ id
-    plus_zero id = omega arith
-
-    plus_suc : (id r : ℕ) → id + suc r ≡ id + 1 + r
-    plus_suc id r = omega arith
-
--- where each member that covers the byte has those before it that cover it
-pub front_from : (cs : List (Option ℕ)) (id set : ℕ)
-    → ((q r : ℕ) → q < r → r < length cs → is_some (get_or cs q None) ≡ true → is_some (get_or cs r None) ≡ true → has set (id + r) ≡ true → has set (id + q) ≡ true)
-    → HasFront id cs set
+pub front_from : (cs : List (Option ℕ)) (id set : ℕ) → HasEarlier id cs set → HasFront id cs set
 front_from [] id set h = tt
-front_from (None ∷ cs) id set h = inr (inl (refl, front_from cs (id + 1) set (λ q r less long s t m. ap (λ (k : ℕ). has set k) (next id q) ∙ h (suc q) (suc r) (omega arith) (omega arith) s t (ap (λ (k : ℕ). has set k) (back id r) ∙ m))))
-  where
-    next : (id q : ℕ) → id + 1 + q ≡ id + suc q
-    next id q = omega arith
-
-    back : (id r : ℕ) → id + suc r ≡ id + 1 + r
-    back id r = omega arith
+front_from (None ∷ cs) id set h = inr (inl (refl, front_from cs (id + 1) set (earlier_tail id None cs set h)))
 front_from (Some y ∷ cs) id set h = elim (bool_is (has set id)) [
-  | inl t ↦ inl (t, front_from cs (id + 1) set (λ q r less long s u m. ap (λ (k : ℕ). has set k) (next id q) ∙ h (suc q) (suc r) (omega arith) (omega arith) s u (ap (λ (k : ℕ). has set k) (back id r) ∙ m)))
-  | inr f ↦ inr (inr (
-    f,
-    none_from cs (id + 1) set (λ r less s m.
-        let z : has set (id + 0) ≡ true = h 0 (suc r) (omega arith) (omega arith) refl s (ap (λ (k : ℕ). has set k) (back id r) ∙ m) in
-        let z' : has set id ≡ true = ap (λ (k : ℕ). has set k) (zero_more id) ∙ z in
+  | inl is ↦ inl (is, front_from cs (id + 1) set (earlier_tail id (Some y) cs set h))
+  | inr out ↦ inr (inr (
+    out,
+    none_from cs (id + 1) set (λ r less some later.
+        let is : has set id ≡ true = sym (first_id id set) ∙ h.earlier 0 (suc r) (omega arith) (omega arith) refl some (sym (next_id id set r) ∙ later) in
         absurd (cc)),
   ))
 ]
-  where
-    next : (id q : ℕ) → id + 1 + q ≡ id + suc q
-    next id q = omega arith
-
-    back : (id r : ℕ) → id + suc r ≡ id + 1 + r
-    back id r = omega arith
-
-    zero_more : (id : ℕ) → id ≡ id + 0
-    zero_more id = omega arith

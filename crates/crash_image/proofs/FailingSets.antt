@@ -18,7 +18,8 @@ abbrev pub Reached : Crashes → ℕ → Type 0
 Reached c = IsReached (successors_of (deps_of c.patches)) 0
 
 -- the patches of a space depend on earlier ones
-pub earlier_of : (c : Crashes) (base : Disk) (patches : List Patch) → (let d : Crashes = record { base = base; patches = patches } in d) ≡ c → AreOver base patches → AreEarlier (deps_of c.patches)
+pub earlier_of : (c : Crashes) (base : Disk) (patches : List Patch)
+    → (let d : Crashes = record { base = base; patches = patches } in d) ≡ c → AreOver base patches → AreEarlier (deps_of c.patches)
 earlier_of c base patches is over = subst (λ (d : Crashes). AreEarlier (deps_of d.patches)) is over.graph.earlier
 
 module _ (c : Crashes) (earlier : AreEarlier (deps_of c.patches)) where
@@ -44,5 +45,6 @@ all_like P Q same sets all = record {
   exactly = λ set. (λ is. (same set).0 ((all.exactly set).0 is), λ q. (all.exactly set).1 ((same set).1 q));
 }
 
-pub bad_list : (c : Crashes) → AreEarlier (deps_of c.patches) → (sets : List ℕ) → AreAllInOrder (λ set. Reached c set × ¬ (IsGood c set)) sets → AreAllInOrder (IsFailing c.base c.patches) sets
+pub bad_list : (c : Crashes) → AreEarlier (deps_of c.patches) → (sets : List ℕ)
+    → AreAllInOrder (λ set. Reached c set × ¬ (IsGood c set)) sets → AreAllInOrder (IsFailing c.base c.patches) sets
 bad_list c earlier = all_like (λ set. Reached c set × ¬ (IsGood c set)) (IsFailing c.base c.patches) (bad_failing c earlier)

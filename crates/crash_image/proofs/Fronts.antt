@@ -33,7 +33,7 @@ pub record Covers (ps : List Patch) (i q : ℕ) : Type 0 where
 pub covers : (ps : List Patch) (i q : ℕ) → All IsPatch ps → is_some (get_or (cells i ps) q None) ≡ true → Covers ps i q
 covers [] i q each some = absurd (cc)
 covers (p ∷ ps) i zero each some = elim (inside_or_not (start_of p) (length p.new.items) i) [
-  | inl t ↦ record { patch = p; is = refl; whole = All-head IsPatch p ps each; from = t.1.0; to = t.1.1 }
+  | inl t ↦ record { patch = p; is = refl; whole = All-head IsPatch p ps each; from = t.1; to = t.2 }
   | inr o ↦ let e = o.0 in absurd (cc (rw e at some))
 ]
 covers (p ∷ ps) i (suc q) each some =
@@ -65,11 +65,13 @@ overlap ps i q r graph before a b =
     subst (λ (s : ℕ). Has s q) (sym (deps-at ps r b.patch b.is)) depends
 
 pub front_of : (base : Disk) (ps : List Patch) (set i : ℕ) → AreOver base ps → IsClosed (deps_of ps) set → HasFront 0 (cells i ps) set
-front_of base ps set i over closed = front_from (cells i ps) 0 set (λ q r before long first second is.
-    let a = covers ps i q over.graph.each first in
-    let b = covers ps i r over.graph.each second in
-    let member : Has set r = from_has set r (ap (λ (k : ℕ). has set k) (sym (plus r)) ∙ is) in
-    ap (λ (k : ℕ). has set k) (plus q) ∙ has_true set q (closed.whole r q member (overlap ps i q r over.graph before a b)))
+front_of base ps set i over closed = front_from (cells i ps) 0 set record {
+  earlier = λ q r before long first second is.
+      let a = covers ps i q over.graph.each first in
+      let b = covers ps i r over.graph.each second in
+      let member : Has set r = from_has set r (sym (ap (λ (k : ℕ). has set k) (plus r)) ∙ is) in
+      ap (λ (k : ℕ). has set k) (plus q) ∙ has_true set q (closed.whole r q member (overlap ps i q r over.graph before a b));
+}
   where
     plus : (k : ℕ) → 0 + k ≡ k
     plus k = omega arith

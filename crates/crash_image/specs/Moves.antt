@@ -10,11 +10,17 @@ use Rattle.crash_model.specs.Replay.{replayed}
 use Rattle.crash_model.specs.Faults.{IsClean}
 use Rattle.crash_model.specs.declared.patches.Patch.{Patch}
 
--- the disk with the undo bytes of a set put in descending order of their ids, of which the first is `id`
+-- the disk with the new bytes of a patch, and with the bytes that they replaced
+abbrev pub redone : Patch → Disk → Disk
+redone p d = put d p.block p.offset p.new.items
+
+abbrev pub undone : Patch → Disk → Disk
+undone p d = put d p.block p.offset p.undo.items
+
+-- the disk with the patches of a set taken back in descending order of their ids, of which the first is `id`
 abbrev pub undone_from : ℕ → Disk → List Patch → ℕ → Disk
 undone_from id d [] set = d
-undone_from id d (p ∷ ps) set =
-    if has set id then put (undone_from (id + 1) d ps set) p.block p.offset p.undo.items else undone_from (id + 1) d ps set
+undone_from id d (p ∷ ps) set = if has set id then undone p (undone_from (id + 1) d ps set) else undone_from (id + 1) d ps set
 
 -- the disk with the patches of a set taken back
 abbrev pub undone_of : Disk → List Patch → ℕ → Disk
@@ -32,6 +38,10 @@ pub record Applied : Type 0 where
   pub base : Disk
   pub patches : List Patch
   pub set : ℕ
+
+-- the patches and the set, over the base of which an image is that of the set
+abbrev pub applied : Disk → List Patch → ℕ → Applied
+applied image patches set = record { base = undone_of image patches set; patches = patches; set = set }
 
 -- the image is that of a closed set
 pub record IsApplied (a : Applied) (image : Disk) : Type 0 where

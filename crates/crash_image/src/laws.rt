@@ -15,7 +15,8 @@ use std::alloc::Allocator;
 /// One ready patch after another leads from the empty set to the sets that a crash can leave, and to no others.
 pub fn reach_is_the_closed_sets<'a, A: Allocator + Copy>(space: &PatchSpace<'a, A>)
     ensures { let words = ⟦<PatchSpace<'a, A> as Space>⟧ in
-        (set : ℕ) → IsReached (words.successors space.now) (words.initial space.now) set ↔ IsClosed (deps_of space.now.patches) set }
+        let is_reached = IsReached (words.successors space.now) (words.initial space.now) in
+        (set : ℕ) → is_reached set ↔ IsClosed (deps_of space.now.patches) set }
 {
     let _graph = space.graph;
 }
@@ -24,11 +25,14 @@ pub fn reach_is_the_closed_sets<'a, A: Allocator + Copy>(space: &PatchSpace<'a, 
 /// that of the closed sets, and the list of those that are not good is that of the failing sets.
 pub fn exploring_finds_the_failing_sets<'a, A: Allocator + Copy>(space: &PatchSpace<'a, A>)
     ensures total { let words = ⟦<PatchSpace<'a, A> as Space>⟧ in
-        (n : ℕ) → HoldsOf (IsReached (words.successors space.now) (words.initial space.now)) n → CountsClosed space.now.patches n }
+        let is_reached = IsReached (words.successors space.now) (words.initial space.now) in
+        (n : ℕ) → HoldsOf is_reached n → CountsClosed space.now.patches n }
     ensures too_many { let words = ⟦<PatchSpace<'a, A> as Space>⟧ in
-        (limit : ℕ) → Outnumbers (IsReached (words.successors space.now) (words.initial space.now)) limit → ExceedsLimit space.now.patches limit }
+        let is_reached = IsReached (words.successors space.now) (words.initial space.now) in
+        (limit : ℕ) → Outnumbers is_reached limit → ExceedsLimit space.now.patches limit }
     ensures failing { let words = ⟦<PatchSpace<'a, A> as Space>⟧ in
-        (sets : List ℕ) → AreAllInOrder (λ set. IsReached (words.successors space.now) (words.initial space.now) set × ¬ (words.is_good space.now set)) sets
+        let is_reached = IsReached (words.successors space.now) (words.initial space.now) in
+        (sets : List ℕ) → AreAllInOrder (λ set. is_reached set × ¬ (words.is_good space.now set)) sets
         → AreAllInOrder (IsFailing space.now.base space.now.patches) sets }
 {
     let _graph = space.graph;

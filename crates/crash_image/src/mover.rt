@@ -25,13 +25,13 @@ pub struct Mover<'a, A: Allocator + Copy> {
 }
 
 impl<'a, A: Allocator + Copy> Model for Mover<'a, A> {
-    ghost use Rattle.crash_image.specs.Moves.{Applied, IsApplied, undone_of};
+    ghost use Rattle.crash_image.specs.Moves.{Applied, applied, IsApplied};
 
     ghost Value = { Applied };
 
-    ghost view = { λ m. record { base = undone_of m.image m.graph.now m.set; patches = m.graph.now; set = m.set } };
+    ghost view = { λ m. applied m.image m.graph.now m.set };
 
-    ghost invariant = { λ m. IsApplied (record { base = undone_of m.image m.graph.now m.set; patches = m.graph.now; set = m.set }) m.image };
+    ghost invariant = { λ m. IsApplied (applied m.image m.graph.now m.set) m.image };
 }
 
 impl<'a, A: Allocator + Copy> Mover<'a, A> {
@@ -43,6 +43,7 @@ impl<'a, A: Allocator + Copy> Mover<'a, A> {
         requires undo { AreUndo base graph.now }
         ensures { result ≡ record { base = base; patches = graph.now; set = 0 } }
     {
+        // For the proof: what every image and every graph keeps.
         let _blocks = base.blocks();
         let _len = graph.len();
         Mover {
@@ -52,11 +53,11 @@ impl<'a, A: Allocator + Copy> Mover<'a, A> {
         }
     }
 
-    /// Moves to another set that a crash can leave, by undo of the patches that it lacks and redo of those that it
-    /// has more.
+    /// Moves to a set that a crash can leave: undoes the patches that the new set lacks, the last first, and redoes
+    /// those that the old set lacked, the first first.
     pub fn move_to(&mut self, set: u128)
         requires { IsClosed (deps_of self.old.patches) set }
-        ensures { self.new ≡ record { base = self.old.base; patches = self.old.patches; set = set } }
+        ensures { self.new ≡ record self.old { set = set } }
     {
         undo(&mut self.image, self.graph, difference(self.set, set));
         redo(&mut self.image, self.graph, difference(set, self.set));

@@ -76,6 +76,7 @@ impl<'a, A: Allocator + Copy> PatchSpace<'a, A> {
         requires undo { AreUndo base.now graph.now }
         ensures { result ≡ record { base = base.now; patches = graph.now } }
     {
+        // For the proof: what every image and every graph keeps.
         let _blocks = base.blocks();
         let _len = graph.len();
         PatchSpace { base, graph }

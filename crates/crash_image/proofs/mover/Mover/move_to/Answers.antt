@@ -26,4 +26,4 @@ returns g c =
     moved_base c.self.inside.image c.redo.new.image c.self.inside.graph.now c.self.inside.set c.args.set c.difference.result c.difference-2.result
     c.self.invariant (rw (← c.self.view_is) at c.requires) c.difference.ensures c.difference-2.ensures
     (c.redo.ensures ∙ ap (λ (d : Disk). image_of d c.self.inside.graph.now c.difference-2.result) c.undo.ensures)
-    ∙ ap (λ (a : Applied). let b : Applied = record { base = a.base; patches = a.patches; set = c.args.set } in b) c.self.view_is
+    ∙ ap (λ (a : Applied). record a { set = c.args.set }) c.self.view_is
