@@ -8,13 +8,14 @@ ghost use Rattle.crash_model.specs.Report.{Section, AreSections, report};
 ghost use Rattle.crash_model.specs.Answer.{IsAnswer, IsStepsAnswer, IsGraphAnswer, Reported, Refused};
 
 use crate::explored::explored;
-use crate::stubs::{report_json, report_text};
+use crate::stubs::report_json;
 use crash_model::refusals::RunFault;
 use crash_model::settings::Settings;
 use disk_image::{Image, ImageFault};
 use order_modules::{build_base, trace};
 use patch_graph::Graph;
 use plain_explorer::Explored;
+use report_text::report_text;
 use script_text::{Script, read_script};
 use std::alloc::{AllocError, Allocator, Global};
 
