@@ -1,14 +1,12 @@
 -- The bytes of the values of a report.
-use Rattle.std.proofs.Common.{◌≡◌, ◌≢◌, ℕ, zero, suc, ◌+◌, ◌-◌, ◌/◌, ◌%◌, ◌<◌, ◌≤◌, Bool, true, false, cond, eqb, ltb, List, [], ◌∷◌, ◌++◌, length, map, codes, decimal, refl, sym, ap, ◌∙◌, subst, arith, append_assoc}
+use Rattle.std.proofs.Common.{◌≡◌, ℕ, zero, suc, ◌/◌, ◌%◌, ◌≤◌, Bool, true, false, cond, eqb, List, [], ◌∷◌, ◌++◌, map, codes, decimal, refl, sym, ap, ◌∙◌, arith, append_assoc}
 use Rattle.std.specs.Fmt.{digits, digits_onto, digit_glyph}
-use Rattle.std.specs.List.{flat_map}
 use Rattle.std.proofs.lemmas.Bool.Decides.{nat_tests}
 use Rattle.std.proofs.lemmas.List.Concat.{flat_map-append}
 use Rattle.json.specs.Print.{escape, escape_byte}
-use Rattle.json.specs.Print as print
 use Rattle.patch_sets.specs.Sets.{ids_of}
 use Rattle.patch_sets.specs.declared.write.BlockWrite.{BlockWrite}
-use Rattle.serde_json.specs.Data.{Data, number, unsigned, string, array, object, member, no_members}
+use Rattle.serde_json.specs.Data.{Data, string, array}
 use Rattle.serde_json.specs.View.{items_of}
 use Rattle.serde_json.specs.Written.{compact_text, items_text, has_float, items_have_float}
 use Rattle.crash_model.specs.Lists.{joined}
@@ -43,6 +41,7 @@ digits_plain (suc k) n acc plain = by_test (eqb (n / 10) 0) (digits_plain k (n /
   where
     more : IsPlain (digit_glyph false (n % 10) ∷ acc)
     more = ap (λ (t : List ℕ). t ++ escape acc) (digit_plain (digit_glyph false (n % 10)) (glyph_low n) (glyph_high n)) ∙ ap (λ (t : List ℕ). digit_glyph false (n % 10) ∷ t) plain
+
     by_test : (test : Bool) → IsPlain (digits_onto k 10 false (n / 10) (digit_glyph false (n % 10) ∷ acc)) → IsPlain (cond test (digit_glyph false (n % 10) ∷ acc) (digits_onto k 10 false (n / 10) (digit_glyph false (n % 10) ∷ acc)))
     by_test true rest = more
     by_test false rest = rest
@@ -57,7 +56,6 @@ module_plain Async = refl
 module_plain Soft = refl
 module_plain Meta = refl
 module_plain Full = refl
-
 
 fault_plain : (f : Fault) → IsPlain (fault_text f)
 unfolding fault_text escape_byte

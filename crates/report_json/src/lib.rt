@@ -5,3 +5,6 @@ pub mod report;
 mod values;
 
 pub use report::report_json;
+
+#[cfg(test)]
+mod tests;

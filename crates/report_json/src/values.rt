@@ -55,11 +55,7 @@ fn faults_value(heap: Global, faults: &[Fault]) -> Result<Value, AllocError>
     Ok(Value::Array(texts))
 }
 
-fn writes_value(
-    heap: Global,
-    patches: usize,
-    writes: &[BlockWrite],
-) -> Result<Value, AllocError>
+fn writes_value(heap: Global, patches: usize, writes: &[BlockWrite]) -> Result<Value, AllocError>
     requires { patches ≤ 128 }
     ensures { IfOk result (λ value. view value ≡ writes_data patches writes.now) }
 {

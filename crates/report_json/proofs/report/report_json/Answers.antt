@@ -1,5 +1,4 @@
 use Rattle.std.proofs.Common.{◌++◌, List, ℕ, codes, map, subst, ap, ◌∙◌}
-use Rattle.serde_json.specs.Data.{Data}
 use Rattle.serde_json.specs.View.{view}
 use Rattle.serde_json.specs.Written.{compact_text, has_float}
 use Rattle.report_json.specs.Values.{AreFailing}
