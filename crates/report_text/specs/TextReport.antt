@@ -1,7 +1,7 @@
 -- Reports as text.
-use Rattle.std.specs.Prelude.{◌≡◌, ℕ, List, ◌++◌, length, codes, decimal}
+use Rattle.std.specs.Prelude.{◌≡◌, ℕ, List, ◌++◌, length, flat_map, codes, decimal}
 use Rattle.crash_model.specs.Disk.{Disk}
-use Rattle.crash_model.specs.Report.{Section, AreSections, line, module_text, text_report}
+use Rattle.crash_model.specs.Report.{Section, AreSections, section_text, line, module_text, text_report}
 use Rattle.crash_model.specs.declared.patches.Patch.{Patch}
 use Rattle.crash_model.specs.declared.steps.Module.{Module}
 
@@ -17,3 +17,9 @@ head_text kind patches closed failing =
     ++ line (codes "patches " ++ decimal patches)
     ++ line (codes "closed " ++ decimal closed)
     ++ line (codes "failing " ++ decimal failing)
+
+-- behind what stood there the text has the sections of these sets
+pub record TellsSections (base : Disk) (patches : List Patch) (sets old new : List ℕ) : Type 0 where
+  pub sections : List Section
+  pub are : AreSections base patches sets sections
+  pub whole : new ≡ old ++ flat_map (section_text (length patches)) sections

@@ -1,9 +1,9 @@
 //! Whole reports.
 
-ghost use Rattle.std.specs.Prelude.{ℕ, ◌<◌, length, string_bytes, IfOk};
+ghost use Rattle.std.specs.Prelude.{ℕ, ◌<◌, length, string_bytes, IfOk, OnOk};
 ghost use Rattle.std.specs.List.{All};
 ghost use Rattle.patch_sets.specs.Sets.{Has};
-ghost use Rattle.report_text.specs.TextReport.{IsTextReport};
+ghost use Rattle.report_text.specs.TextReport.{IsTextReport, TellsSections};
 
 use crate::lines::{write_head, write_section};
 use crash_model::steps::Module;
@@ -30,11 +30,28 @@ pub fn report_text<A: Allocator + Copy>(
     ensures { IfOk result (λ text. IsTextReport base.now graph.now «module» found.now.total found.now.broken.items (string_bytes text)) }
 {
     let mut out = String::new(alloc);
-    let patches = graph.len();
-    write_head(&mut out, module, patches, found.total, found.broken.len())?;
-    for set in &found.broken {
-        let section = Section::of_set(alloc, base, graph, *set)?;
-        write_section(&mut out, patches, &section)?;
-    }
+    let failing = found.broken.len();
+    write_head(&mut out, module, graph.len(), found.total, failing)?;
+    write_sections(&mut out, alloc, base, graph, &found.broken)?;
     Ok(out)
+}
+
+/// The lines of each of the sets.
+fn write_sections<A: Allocator + Copy>(
+    out: &mut String<A>,
+    alloc: A,
+    base: &Image<A>,
+    graph: &Graph<A>,
+    sets: &[u128],
+) -> Result<(), AllocError>
+    requires fits { All (λ patch. patch.block < base.now.blocks) graph.now }
+    requires known { All (λ set. (id : ℕ) → Has set id → id < length graph.now) sets.now }
+    ensures { OnOk result (TellsSections base.now graph.now sets.now (string_bytes out.old) (string_bytes out.new)) }
+{
+    let patches = graph.len();
+    for set in sets {
+        let section = Section::of_set(alloc, base, graph, *set)?;
+        write_section(out, patches, &section)?;
+    }
+    Ok(())
 }
