@@ -1,28 +1,23 @@
 -- The tests of the operations on a sound disk, said of its view.
-use Rattle.std.proofs.Common.{◌≡◌, ◌≢◌, ℕ, zero, suc, ◌+◌, ◌-◌, ◌<◌, ◌≤◌, ◌⊎◌, ◌↔◌, inl, inr, List, [], ◌∷◌, Bool, true, false, ◌&&◌, not, eqb, leb, Option, Some, None, Result, Ok, Err, arith, refl, sym, ◌∙◌, ap, subst}
-use Rattle.std.specs.Prelude.{is_some, is_none, nat_le, if◌then◌else◌}
-use Rattle.std.proofs.lemmas.Bool.{cases_eq, cases_Bool, cases_lt, eq-eqb, ne_eqb, eqb-true, eqb-false, le-leb, lt-leb, leb-true, false≢true}
+use Rattle.std.proofs.Common.{◌≡◌, ◌≢◌, ℕ, ◌<◌, ◌≤◌, ◌⊎◌, ◌↔◌, inl, inr, List, [], Bool, true, false, ◌&&◌, not, eqb, leb, Option, Some, None, arith, refl, sym, ◌∙◌, ap}
+use Rattle.std.specs.Prelude.{is_some, is_none}
+use Rattle.std.proofs.lemmas.Bool.{cases_eq, cases_lt, eq-eqb, ne_eqb, eqb-false, le-leb, leb-true, false≢true}
 use Rattle.std.proofs.lemmas.Bool.Decides.{nat_tests}
-use Rattle.crash_model.specs.Disk.{Disk, IsDisk}
-use Rattle.crash_model.specs.Names.{IsName}
-use Rattle.crash_model.specs.Layout.{kind_of, links_of, pointer_of, map_of, is_data, is_entry, is_live, counts, entry_of, target_of, spelling_of}
+use Rattle.crash_model.specs.Disk.{Disk}
+use Rattle.crash_model.specs.Layout.{kind_of, links_of, pointer_of, map_of, is_data, is_entry, counts, entry_of, target_of, spelling_of}
 use Rattle.crash_model.specs.Lists.{first_below}
 use Rattle.crash_model.specs.Plan.{spelled, entry_named, has_no_kind, free_inode, is_free_block, free_block, is_free_entry, free_entry, is_free_slot, free_slot, is_full_dir, has_entries}
 use Rattle.crash_model.specs.View.{view_of}
-use Rattle.crash_model.specs.Meaning.{LeadsTo, IsKind, IsInode, IsFull, NoInodeLeft, NoBlockLeft, IsFreeBlock, IsFreeSlot}
-use Rattle.crash_model.specs.declared.refusals.FsFault.{FsFault}
-use Rattle.sound_tables.specs.Tables.{Tables, tables_of, place_of, Sound}
-use Rattle.sound_tables.specs.Tables.Place.{Free, Leads}
-use Rattle.sound_tables.specs.Tables.Mark.{DirectoryOf}
-use Rattle.sound_tables.proofs.Searches.{Found, first_below-is_none, first_below-is_some}
-use Rattle.sound_tables.proofs.Answered.{none-found, some-found}
+use Rattle.crash_model.specs.Meaning.{LeadsTo, IsKind, IsFull, NoInodeLeft, NoBlockLeft, IsFreeSlot}
+use Rattle.sound_tables.specs.Tables.{tables_of, Sound}
+use Rattle.sound_tables.specs.Tables.Place.{Leads}
+use Rattle.sound_tables.proofs.Searches.{first_below-is_none, first_below-is_some}
 use Rattle.sound_tables.proofs.Pigeons.{each-taken}
-use Rattle.sound_tables.proofs.Puts.{data-block}
-use Rattle.sound_tables.proofs.ByTables.{kind-at, pointer-at, entry-at, live-at, EntryBytes, entry-bytes, counts-by_tables}
-use Rattle.sound_tables.proofs.Views.{links-at, used-at, used-below, place-leads, entry-is, same-view}
-use Rattle.sound_tables.proofs.FromTables.{entry-in, live-in, area}
+use Rattle.sound_tables.proofs.ByTables.{kind-at, pointer-at, entry-bytes, counts-by_tables}
+use Rattle.sound_tables.proofs.Views.{links-at, used-at, entry-is, same-view}
+use Rattle.sound_tables.proofs.FromTables.{entry-in, area}
 use Rattle.sound_tables.proofs.Meant.{spelled-injective}
-use Rattle.inode_fs.proofs.Searched.{Walked, fresh-found, block-found, slot-found, NamedEntry, named-found, absent-found}
+use Rattle.inode_fs.proofs.Searched.{Walked, fresh-found, block-found, slot-found, named-found, absent-found}
 use Rattle.inode_fs.proofs.Means.{name-of, kind-of}
 
 -- ---- searches that found nothing, or something
