@@ -1,11 +1,9 @@
 -- There is at most one answer.
-use Rattle.std.proofs.Common.{◌≡◌, ◌≢◌, ℕ, zero, suc, ◌+◌, ◌*◌, ◌<◌, ◌≤◌, List, [], ◌∷◌, ◌++◌, length, map, arith, refl, sym, subst, ap, ◌∙◌, inl, inr}
-use Rattle.std.specs.Prelude.{◌⊎◌, ◌↔◌, Option, Some, None, Result, Ok, Err, slice_get, slice_index, slice_range}
-use Rattle.std.proofs.lemmas.Option.{slice_get-get_or}
+use Rattle.std.proofs.Common.{◌≡◌, ℕ, zero, suc, ◌+◌, ◌*◌, ◌<◌, ◌≤◌, List, [], ◌∷◌, length, map, arith, refl, sym, subst, ap, ◌∙◌, inl, inr}
+use Rattle.std.specs.Prelude.{◌⊎◌, Some, Result, Ok, Err, slice_get, slice_index, slice_range}
 use Rattle.state_space.proofs.Counting.{one_number, not_more}
 use Rattle.patch_sets.specs.Sets.{Has, IsSubset}
 use Rattle.patch_sets.specs.Closed.{IsClosed}
-use Rattle.patch_sets.specs.declared.write.BlockWrite.{BlockWrite}
 use Rattle.patch_sets.proofs.Bits.{none_in_empty, same_set}
 use Rattle.patch_sets.proofs.Canonical.{one_list}
 use Rattle.patch_sets.proofs.Writes.{one_runs}
@@ -14,7 +12,7 @@ use Rattle.crash_model.specs.Disk.{Disk, put, formatted}
 use Rattle.crash_model.specs.Failing.{IsFailing}
 use Rattle.crash_model.specs.Faults.{faults}
 use Rattle.crash_model.specs.Patches.{Place, place, places_of, deps_of, homes_of, image_of, AreUndo}
-use Rattle.crash_model.specs.Refusals.{run_of_trace, run_of_script}
+use Rattle.crash_model.specs.Refusals.{run_of_script}
 use Rattle.crash_model.specs.Replay.{replayed}
 use Rattle.crash_model.specs.Report.{Section, AreSections, report}
 use Rattle.crash_model.specs.Trace.{Emitted, Tracing, begun, traced, based, IsGraphOf}
@@ -63,7 +61,7 @@ undos_one d e (p ∷ ps) (q ∷ qs) same places are are_too =
     let first : place p.block p.offset p.new.items ≡ place q.block q.offset q.new.items = heads places in
     let undo : p.undo.items ≡ q.undo.items = are.0 ∙ (undo_at d e (place p.block p.offset p.new.items) (place q.block q.offset q.new.items) same first ∙ sym are_too.0) in
     let rest : undos_of ps ≡ undos_of qs = undos_one (put d p.block p.offset p.new.items) (put e q.block q.offset q.new.items) ps qs
-          (λ i. put (same i) (first i).block (first i).offset (first i).new) (tails places) are.1 are_too.1 in
+    (λ i. put (same i) (first i).block (first i).offset (first i).new) (tails places) are.1 are_too.1 in
     cc (undo, rest)
   where
     undo_at : (d e : Disk) (x y : Place) → d ≡ e → x ≡ y
@@ -118,9 +116,9 @@ module _ (kind : Module) (base : Disk) (s : Tracing) where
   graph_one ps qs graph other =
       let places = graph.places ∙ sym other.places in
       same_patches ps qs places
-        (undos_one base base ps qs refl places graph.undo other.undo)
-        (same_numbers (deps_of ps) (deps_of qs) (length_deps ps graph ∙ sym (length_deps qs other))
-          (λ q. same_set (slice_index (deps_of ps) q) (slice_index (deps_of qs) q) (deps_within ps qs graph other q) (deps_within qs ps other graph q)))
+      (undos_one base base ps qs refl places graph.undo other.undo)
+      (same_numbers (deps_of ps) (deps_of qs) (length_deps ps graph ∙ sym (length_deps qs other))
+      (λ q. same_set (slice_index (deps_of ps) q) (slice_index (deps_of qs) q) (deps_within ps qs graph other q) (deps_within qs ps other graph q)))
 
 -- ---- one report
 
@@ -172,4 +170,4 @@ module _ (settings : Settings) where
   answer_one bytes answer other (inr is) (inr also) =
       let same = script_one bytes is.0 is.1 also.0 also.1 is.2 also.2 in
       steps_answer_one also.0 also.1 answer other
-        (subst (λ b. IsStepsAnswer settings b also.1 answer) same.0 (subst (λ t. IsStepsAnswer settings is.0 t answer) same.1 is.3)) also.3
+      (subst (λ b. IsStepsAnswer settings b also.1 answer) same.0 (subst (λ t. IsStepsAnswer settings is.0 t answer) same.1 is.3)) also.3

@@ -1,12 +1,12 @@
 -- Text cut at a byte, and the lines, words and names that it was joined of.
-use Rattle.std.proofs.Common.{◌≡◌, ◌≢◌, ℕ, zero, suc, ◌+◌, ◌<◌, List, [], ◌∷◌, ◌++◌, length, Bool, true, false, arith, refl, sym, subst, ap, ◌∙◌, inl, inr, append_assoc, append-nil}
+use Rattle.std.proofs.Common.{◌≡◌, ◌≢◌, ℕ, zero, suc, List, [], ◌∷◌, ◌++◌, arith, refl, sym, subst, ap, ◌∙◌, inl, inr, append_assoc, append-nil}
 use Rattle.std.specs.Prelude.{◌⊎◌, ◌==◌, if◌then◌else◌, flat_map}
 use Rattle.std.specs.List.{All, Contains}
 use Rattle.std.proofs.lemmas.List.Elements.{All-head, All-tail}
 use Rattle.patch_sets.proofs.Ids.{true_from_eq, false_from_ne}
 use Rattle.crash_model.proofs.Cuts.{Lacks}
 use Rattle.crash_model.specs.Lists.{joined}
-use Rattle.crash_model.specs.Script.{ArePlain, AreLines, spelt}
+use Rattle.crash_model.specs.Script.{AreLines, spelt}
 
 -- the byte ahead of the first piece
 abbrev pub onto : ℕ → List (List ℕ) → List (List ℕ)
@@ -19,9 +19,10 @@ pieces s (c ∷ cs) = if c == s then [] ∷ pieces s cs else onto c (pieces s cs
 
 pub lacks_from : (s : ℕ) (xs : List ℕ) → ¬ (Contains xs s) → Lacks s xs
 lacks_from s [] none = tt
-lacks_from s (x ∷ xs) none =
-    ((λ e. none (zero, omega arith, e)),
-     lacks_from s xs (λ is. none (suc is.0, omega (arith, is.1), is.2)))
+lacks_from s (x ∷ xs) none = (
+  (λ e. none (zero, omega arith, e)),
+  lacks_from s xs (λ is. none (suc is.0, omega (arith, is.1), is.2)),
+)
 
 -- no piece has the byte
 abbrev pub AreLacking : ℕ → List (List ℕ) → Type 0
@@ -96,11 +97,11 @@ lines_are bytes lines are = by_end are.whole
     by_end : (bytes ≡ spelt lines) ⊎ ((front : List (List ℕ)) × (last : List ℕ) × (last ≢ []) × (lines ≡ front ++ last ∷ []) × (bytes ≡ spelt front ++ last)) → lines ≡ full_pieces (pieces 10 bytes)
     by_end (inl ended) =
         sym (ap (λ bs. full_pieces (pieces 10 bs)) (ended ∙ sym (append-nil (spelt lines)))
-          ∙ (ap full_pieces (pieces_ended 10 lines [] (lacking_from 10 lines are.plain) tt) ∙ full_ended lines))
+        ∙ (ap full_pieces (pieces_ended 10 lines [] (lacking_from 10 lines are.plain) tt) ∙ full_ended lines))
     by_end (inr (front, last, some, is, whole)) =
         let lacks = lacking_front 10 front (last ∷ []) (subst (AreLacking 10) is (lacking_from 10 lines are.plain)) in
         is ∙ sym (ap (λ bs. full_pieces (pieces 10 bs)) whole
-          ∙ (ap full_pieces (pieces_ended 10 front last lacks.0 lacks.1.0) ∙ full_last front last some))
+        ∙ (ap full_pieces (pieces_ended 10 front last lacks.0 lacks.1.0) ∙ full_last front last some))
 
 pub lines_one : (bytes : List ℕ) (lines others : List (List ℕ)) → AreLines bytes lines → AreLines bytes others → lines ≡ others
 lines_one bytes lines others are are_others = lines_are bytes lines are ∙ sym (lines_are bytes others are_others)

@@ -1,23 +1,22 @@
 -- What a line says, computed from its words: a line says at most one thing.
-use Rattle.std.proofs.Common.{◌≡◌, ◌≢◌, ℕ, zero, suc, ◌+◌, ◌<◌, ◌≤◌, List, [], ◌∷◌, ◌++◌, length, Bool, true, false, not, ◌&&◌, nat_lt, nat_le, arith, refl, sym, subst, ap, ◌∙◌, inl, inr, get_or}
-use Rattle.std.specs.Prelude.{◌⊎◌, ◌==◌, if◌then◌else◌, flat_map, codes, Option, Some, None, option_map, bytes_eq, IsUtf8, IsTrue}
+use Rattle.std.proofs.Common.{◌≡◌, ◌≢◌, ℕ, zero, suc, ◌<◌, ◌≤◌, List, [], ◌∷◌, ◌++◌, length, Bool, true, false, not, ◌&&◌, nat_lt, nat_le, arith, refl, sym, subst, ap, ◌∙◌, inl, inr, get_or}
+use Rattle.std.specs.Prelude.{◌⊎◌, ◌==◌, if◌then◌else◌, flat_map, codes, Option, Some, None, option_map, bytes_eq, IsUtf8}
 use Rattle.std.specs.Str.{IsAscii}
 use Rattle.std.specs.List.{All, Contains, list_all}
 use Rattle.std.proofs.lemmas.Bool.{and_parts, ltb-true, lt-ltb, le-leb}
 use Rattle.std.proofs.lemmas.Bool.Decides.{nat_tests}
-use Rattle.std.proofs.lemmas.List.Elements.{All-head, All-tail, All-nil, All-cons, All-append, All-get_or, All-push}
+use Rattle.std.proofs.lemmas.List.Elements.{All-head, All-tail, All-nil, All-cons, All-push}
 use Rattle.std.proofs.lemmas.Str.{IsUtf8-from_ascii}
 use Rattle.crash_model.proofs.Cuts.{Lacks}
 use Rattle.crash_model.specs.Lists.{joined}
 use Rattle.crash_model.specs.Names.{IsWord, IsName, IsGroupName, is_name_byte, is_group_byte}
-use Rattle.crash_model.specs.Script.{AreWords, IsPath, IsPathWord, path_text, Operand, PathOperand, GroupOperand, forms, Fits, HasPaths, HasForm, Line, Skipped, Start, Says, words_of, IsAct, IsSkipped, Reads}
-use Rattle.crash_model.specs.declared.names.Op.{Op}
+use Rattle.crash_model.specs.Script.{IsPath, IsPathWord, path_text, Operand, PathOperand, GroupOperand, forms, Fits, HasPaths, HasForm, Line, Skipped, Start, Says, words_of, IsAct, IsSkipped, Reads}
 use Rattle.crash_model.specs.declared.names.Op.TheVariants.{Create, Write, Link, Unlink, Rename, Mkdir, Rmdir}
 use Rattle.crash_model.specs.declared.names.Path.{Path}
 use Rattle.crash_model.specs.declared.steps.Act.{Act}
 use Rattle.crash_model.specs.declared.steps.Act.TheVariants.{Do, Group, End, Depend}
 use Rattle.worked_definitions.specs.Spelled.{is_word}
-use Rattle.worked_definitions.proofs.Pieces.{onto, pieces, lacks_from, AreLacking, lacking_from, pieces_joined, pieces_slashed}
+use Rattle.worked_definitions.proofs.Pieces.{onto, pieces, AreLacking, lacking_from, pieces_joined, pieces_slashed}
 
 -- ---- names
 
@@ -27,13 +26,13 @@ both a b p q = rw (p, q) refl
 pub word_is : (passes : ℕ → Bool) (word : List ℕ) → IsWord passes word → is_word passes word ≡ true
 word_is passes word is =
     both (nat_lt 0 (length word)) (nat_le (length word) 10 && list_all passes word) (lt-ltb 0 (length word) is.some)
-      (both (nat_le (length word) 10) (list_all passes word) (le-leb (length word) 10 is.few) is.plain)
+    (both (nat_le (length word) 10) (list_all passes word) (le-leb (length word) 10 is.few) is.plain)
 
 names_pass : (names : List (List ℕ)) → All IsName names → list_all (is_word is_name_byte) names ≡ true
 names_pass [] all = refl
 names_pass (name ∷ names) all =
     both (is_word is_name_byte name) (list_all (is_word is_name_byte) names)
-      (word_is is_name_byte name (All-head IsName name names all)) (names_pass names (All-tail IsName name names all))
+    (word_is is_name_byte name (All-head IsName name names all)) (names_pass names (All-tail IsName name names all))
 
 -- ---- paths
 
@@ -147,10 +146,11 @@ path_lacks path is = slashed_lacks (path.through.items ++ path.last ∷ []) (nam
 
     slashed_lacks : (names : List (List ℕ)) → All IsName names → Lacks 32 (flat_map (λ name. 47 ∷ name) names)
     slashed_lacks [] all = tt
-    slashed_lacks (name ∷ names) all =
-        ((λ e. omega (arith, e)),
-         append_lacks 32 name (flat_map (λ name. 47 ∷ name) names) (name_lacks 32 is_name_byte refl name (All-head IsName name names all).plain)
-           (slashed_lacks names (All-tail IsName name names all)))
+    slashed_lacks (name ∷ names) all = (
+      (λ e. omega (arith, e)),
+      append_lacks 32 name (flat_map (λ name. 47 ∷ name) names) (name_lacks 32 is_name_byte refl name (All-head IsName name names all).plain)
+          (slashed_lacks names (All-tail IsName name names all)),
+    )
 
 group_lacks : (name : List ℕ) → IsGroupName name → Lacks 32 name
 group_lacks name is = name_lacks 32 is_group_byte refl name is.plain
@@ -335,9 +335,11 @@ path_low path is = slashed_low (path.through.items ++ path.last ∷ []) (names_a
   where
     slashed_low : (names : List (List ℕ)) → All IsName names → Low (flat_map (λ name. 47 ∷ name) names)
     slashed_low [] all = tt
-    slashed_low (name ∷ names) all =
-        (omega arith, low_append name (flat_map (λ name. 47 ∷ name) names)
-          (low_if is_name_byte name_low name (All-head IsName name names all).plain) (slashed_low names (All-tail IsName name names all)))
+    slashed_low (name ∷ names) all = (
+      omega arith,
+      low_append name (flat_map (λ name. 47 ∷ name) names)
+          (low_if is_name_byte name_low name (All-head IsName name names all).plain) (slashed_low names (All-tail IsName name names all)),
+    )
 
 low_group : (name : List ℕ) → IsGroupName name → Low name
 low_group name is = low_if is_group_byte group_low name is.plain

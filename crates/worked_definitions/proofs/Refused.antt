@@ -1,18 +1,17 @@
 -- The first refused line of a script, by tests of its words.
-use Rattle.std.proofs.Common.{◌≡◌, ◌≢◌, ℕ, zero, suc, ◌+◌, ◌<◌, List, [], ◌∷◌, ◌++◌, length, map, Bool, true, false, not, ◌&&◌, ◌||◌, arith, refl, sym, subst, ap, ◌∙◌, inl, inr, get_or}
-use Rattle.std.specs.Prelude.{◌⊎◌, ◌==◌, codes, Option, Some, None, is_some, bytes_eq, IsUtf8, slice_get}
+use Rattle.std.proofs.Common.{◌≡◌, ◌≢◌, ℕ, ◌+◌, ◌<◌, List, [], ◌∷◌, ◌++◌, length, map, Bool, true, false, not, ◌&&◌, ◌||◌, refl, inl, inr, get_or}
+use Rattle.std.specs.Prelude.{◌⊎◌, ◌==◌, codes, Option, Some, None, is_some, IsUtf8}
 use Rattle.std.specs.Str.{is_utf8}
-use Rattle.std.specs.List.{All, Contains, list_all, list_any}
+use Rattle.std.specs.List.{Contains, list_all, list_any}
 use Rattle.std.proofs.lemmas.Bool.{and_parts}
 use Rattle.std.proofs.lemmas.List.Elements.{All-nil, All-cons}
 use Rattle.std.proofs.lemmas.Str.{IsUtf8-from_is_utf8, is_utf8-from_IsUtf8}
-use Rattle.patch_sets.proofs.Ids.{true_from_eq, ne_from_false}
+use Rattle.patch_sets.proofs.Ids.{ne_from_false}
 use Rattle.crash_model.proofs.Cuts.{Lacks}
 use Rattle.crash_model.specs.Lists.{joined}
 use Rattle.crash_model.specs.Names.{is_group_byte}
-use Rattle.crash_model.specs.Script.{ArePlain, AreLines, Operand, PathOperand, GroupOperand, forms, Fits, HasPaths, HasForm, Line, Reads, IsSkipped, AreAccepted, IsFirstRefused, IsBadLine, IsBadPath, IsScriptRefusal, spelt}
+use Rattle.crash_model.specs.Script.{ArePlain, AreLines, Operand, PathOperand, GroupOperand, forms, Fits, HasPaths, IsSkipped, AreAccepted, IsFirstRefused, IsBadLine, IsBadPath, IsScriptRefusal, spelt}
 use Rattle.crash_model.specs.declared.names.Path.{Path}
-use Rattle.crash_model.specs.declared.refusals.ScriptFault.{ScriptFault}
 use Rattle.crash_model.specs.declared.refusals.ScriptFault.TheVariants.{BadUtf8, BadLine, BadPath, NoStart}
 use Rattle.crash_model.specs.declared.steps.Act.{Act}
 use Rattle.worked_definitions.specs.Examples.{numbered}
@@ -133,16 +132,24 @@ pub bad_path_if : (k : ℕ) (operands : List Operand) (first : List ℕ) (words 
     → is_telling (joined 32 (first ∷ words)) ≡ true → list_all has_no_space (first ∷ words) ≡ true → fit operands words ≡ true → lack_path operands words ≡ true
     → IsBadPath (joined 32 (first ∷ words))
 bad_path_if k operands first words below at e spaces fits lacks =
-    let parts = and_parts (is_utf8 (joined 32 (first ∷ words))) (not (is_passed_over (joined 32 (first ∷ words)))) e in
-    (IsUtf8-from_is_utf8 (joined 32 (first ∷ words)) parts.0, not_skipped (joined 32 (first ∷ words)) (not_false (is_passed_over (joined 32 (first ∷ words))) parts.1),
-     (operands, words, form_at k operands first words below at (no_spaces (first ∷ words) spaces) (fits_if operands words fits), lacks_path operands words lacks))
+    let parts = and_parts (is_utf8 (joined 32 (first ∷ words))) (not (is_passed_over (joined 32 (first ∷ words)))) e in (
+      IsUtf8-from_is_utf8 (joined 32 (first ∷ words)) parts.0,
+      not_skipped (joined 32 (first ∷ words)) (not_false (is_passed_over (joined 32 (first ∷ words))) parts.1),
+      (operands, words, form_at k operands first words below at (no_spaces (first ∷ words) spaces) (fits_if operands words fits), lacks_path operands words lacks),
+    )
 
 -- ---- the first refused line
 
 first_refused : (P : List (List ℕ) → List ℕ → Type 0) (before : List (List ℕ)) (line : List ℕ) (behind : List (List ℕ)) → AreAccepted before
     → list_all is_plain (before ++ line ∷ behind) ≡ true → P before line → IsFirstRefused (spelt (before ++ line ∷ behind)) (length before + 1) P
 first_refused P before line behind accepted plain is = record {
-  before = before; line = line; behind = behind; lines = ended_lines (before ++ line ∷ behind) plain; accepted = accepted; number = refl; refused = is;
+  before = before;
+  line = line;
+  behind = behind;
+  lines = ended_lines (before ++ line ∷ behind) plain;
+  accepted = accepted;
+  number = refl;
+  refused = is;
 }
 
 pub utf8_refused : (before : List (List ℕ)) (line : List ℕ) (behind : List (List ℕ)) → AreAccepted before → list_all is_plain (before ++ line ∷ behind) ≡ true
@@ -153,7 +160,13 @@ utf8_refused before line behind accepted plain e = first_refused (λ _ line. ¬ 
 pub last_utf8_refused : (before : List (List ℕ)) (line : List ℕ) → AreAccepted before → list_all is_plain (before ++ line ∷ []) ≡ true → line ≢ []
     → is_utf8 line ≡ false → IsScriptRefusal (spelt before ++ line) (BadUtf8 (length before + 1))
 last_utf8_refused before line accepted plain some e = record {
-  before = before; line = line; behind = []; lines = open_lines before line plain some; accepted = accepted; number = refl; refused = not_text line e;
+  before = before;
+  line = line;
+  behind = [];
+  lines = open_lines before line plain some;
+  accepted = accepted;
+  number = refl;
+  refused = not_text line e;
 }
 
 pub line_refused : (before : List (List ℕ)) (line : List ℕ) (behind : List (List ℕ)) → AreAccepted before → list_all is_plain (before ++ line ∷ behind) ≡ true

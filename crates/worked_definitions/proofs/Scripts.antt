@@ -1,15 +1,14 @@
 -- A script is read in one way, or refused in one way.
-use Rattle.std.proofs.Common.{◌≡◌, ◌≢◌, ℕ, zero, suc, ◌+◌, ◌<◌, ◌≤◌, List, [], ◌∷◌, ◌++◌, length, arith, refl, sym, subst, ap, ◌∙◌, inl, inr, get_or, add-one, length-append}
+use Rattle.std.proofs.Common.{◌≡◌, ℕ, zero, suc, ◌+◌, ◌<◌, List, [], ◌∷◌, ◌++◌, length, arith, refl, sym, subst, ap, ◌∙◌, inl, inr, get_or}
 use Rattle.std.specs.Prelude.{◌⊎◌, codes, Some, slice_get, IsUtf8}
 use Rattle.std.specs.List.{All, Contains}
-use Rattle.std.proofs.lemmas.List.Elements.{All-head, All-tail, All-nil, All-cons, All-append, All-contains, Contains-append_left, Contains-append_right}
-use Rattle.crash_model.specs.Script.{AreLines, Operand, HasPaths, HasForm, Line, Skipped, Start, Says, IsSkipped, Reads, AreSteps, IsScript, AreAccepted, IsFirstRefused, IsBadLine, IsBadPath, IsScriptRefusal}
+use Rattle.std.proofs.lemmas.List.Elements.{All-nil, All-cons, All-append, All-contains}
+use Rattle.crash_model.specs.Script.{AreLines, Operand, HasPaths, HasForm, Line, Skipped, Start, Says, Reads, AreSteps, IsScript, AreAccepted, IsFirstRefused, IsBadLine, IsBadPath, IsScriptRefusal}
 use Rattle.crash_model.specs.declared.refusals.ScriptFault.{ScriptFault}
 use Rattle.crash_model.specs.declared.refusals.ScriptFault.TheVariants.{BadUtf8, BadLine, BadPath, NoStart, OutOfMemory}
-use Rattle.crash_model.specs.declared.steps.Act.{Act}
 use Rattle.crash_model.specs.declared.steps.Step.{Step}
-use Rattle.worked_definitions.proofs.Pieces.{lines_one, pieces}
-use Rattle.worked_definitions.proofs.Readings.{IsWellFormed, form_is, form_of, reads_form, reads_one, reads_utf8}
+use Rattle.worked_definitions.proofs.Pieces.{lines_one}
+use Rattle.worked_definitions.proofs.Readings.{form_is, reads_form, reads_one, reads_utf8}
 
 -- ---- a line that says something is not refused
 
@@ -156,10 +155,11 @@ script_one bytes base traced others more script other =
 
     by_parts : Parts script.before other.before (codes "start") (codes "start") → (base ≡ others) × (traced ≡ more)
     by_parts (Same e s) =
-        let tails : script.behind ≡ other.behind = tail_same (codes "start") (codes "start") script.before other.before script.behind other.behind e same in
-        (steps_one 1 other.before base others (subst (λ ls. AreSteps 1 ls base) e script.base_steps) other.base_steps,
-         steps_one (length other.before + 2) other.behind traced more
-           (subst (λ ls. AreSteps (length other.before + 2) ls traced) tails (subst (λ ls. AreSteps (length ls + 2) script.behind traced) e script.traced_steps)) other.traced_steps)
+        let tails : script.behind ≡ other.behind = tail_same (codes "start") (codes "start") script.before other.before script.behind other.behind e same in (
+          steps_one 1 other.before base others (subst (λ ls. AreSteps 1 ls base) e script.base_steps) other.base_steps,
+          steps_one (length other.before + 2) other.behind traced more
+              (subst (λ ls. AreSteps (length other.before + 2) ls traced) tails (subst (λ ls. AreSteps (length ls + 2) script.behind traced) e script.traced_steps)) other.traced_steps,
+        )
     by_parts (Earlier ms e) = absurd (no_start 1 other.before others other.base_steps (subst (λ ls. Contains ls (codes "start")) (sym e) (in_middle script.before (codes "start") ms)))
     by_parts (Later ms e) = absurd (no_start 1 script.before base script.base_steps (subst (λ ls. Contains ls (codes "start")) (sym e) (in_middle other.before (codes "start") ms)))
 
@@ -211,8 +211,8 @@ accepted_not_refused : (bytes : List ℕ) (n : ℕ) (P : List (List ℕ) → Lis
     → AreLines bytes lines → AreAccepted lines → IsFirstRefused bytes n P → ⊥
 accepted_not_refused bytes n P lines bad are accepted first =
     none_refused first.before first.line first.behind
-      (subst AreAccepted (lines_one bytes lines (first.before ++ first.line ∷ first.behind) are first.lines) accepted)
-      (bad first.before first.line first.refused)
+    (subst AreAccepted (lines_one bytes lines (first.before ++ first.line ∷ first.behind) are first.lines) accepted)
+    (bad first.before first.line first.refused)
 
 pub refusal_one : (bytes : List ℕ) (fault other : ScriptFault) → IsScriptRefusal bytes fault → IsScriptRefusal bytes other → fault ≡ other
 refusal_one bytes (BadUtf8 n) (BadUtf8 m) is also = ap BadUtf8 (same_number bytes n m _ _ bad_utf8 bad_utf8 is also)

@@ -1,4 +1,4 @@
-use Rattle.std.proofs.Common.{refl, [], ◌∷◌, arith}
+use Rattle.std.proofs.Common.{refl, [], ◌∷◌}
 use Rattle.std.specs.Prelude.{codes}
 use Rattle.crash_model.specs.declared.names.Op.TheVariants.{Create}
 use Rattle.crash_model.specs.declared.steps.Act.TheVariants.{Do}

@@ -1,5 +1,4 @@
-use Rattle.std.proofs.Common.{refl, [], ◌∷◌, arith}
-use Rattle.std.specs.Prelude.{codes}
+use Rattle.std.proofs.Common.{refl, [], ◌∷◌}
 use Rattle.worked_definitions.specs.Spelled.{lines_of}
 use Rattle.std.specs.Str.{is_utf8, chars}
 use lib.Utf8.{encode}

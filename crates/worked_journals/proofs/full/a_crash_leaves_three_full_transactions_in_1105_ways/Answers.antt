@@ -5,7 +5,7 @@ use Rattle.crash_model.specs.Plan.{plan_of}
 use Rattle.crash_model.specs.Faults.{namers_in, namers, entries_in, entries_to, dangling_in, dangling, twice, unwritten_in, unwritten, low_links, marked_free_in, marked_free, wild_in, wild, faults}
 use Rattle.std.proofs.Common.{[], ◌∷◌}
 use Rattle.worked_definitions.proofs.FailingSets.{counted_if, counted_with_if}
-use Rattle.worked_definitions.proofs.journals.a_crash_leaves_three_transactions_in_629_ways.Goals as goal
+use Rattle.worked_journals.proofs.full.a_crash_leaves_three_full_transactions_in_1105_ways.Goals as goal
 
 pub returns-clause-none : goal.returns-clause-none
 unfolding overwrite each_below some_below first_below plan_of namers_in namers entries_in entries_to dangling_in dangling twice unwritten_in unwritten low_links marked_free_in marked_free wild_in wild faults
