@@ -1,12 +1,12 @@
 -- What the checker knows of the entries that it has passed: one more entry, one more directory, all of them.
-use Rattle.std.proofs.Common.{◌≡◌, ◌≢◌, ℕ, ◌+◌, ◌-◌, ◌<◌, ◌≤◌, ◌⊎◌, inl, inr, List, length, get_or, set, replicate, Bool, true, false, ◌&&◌, ◌==◌, not, nat_lt, IsTrue, Option, Some, None, arith, refl, sym, ap, ◌∙◌, subst, below_more}
+use Rattle.std.proofs.Common.{◌≡◌, ◌≢◌, ℕ, ◌+◌, ◌<◌, ◌≤◌, inl, inr, List, length, get_or, set, replicate, true, false, nat_lt, Option, Some, None, arith, refl, sym, ap, ◌∙◌, subst, below_more}
 use Rattle.std.proofs.lemmas.Bool.{cases_eq, false≢true, eq-eqb, ne_eqb, lt-ltb, le-ltb, ltb-true, and_parts, and_right, cases_Bool}
 use Rattle.std.proofs.lemmas.List.{get_or-set_same, get_or-set_other, length-set, get_or-replicate}
 use Rattle.std.specs.Prelude.{option_to_list}
-use Rattle.crash_model.specs.Lists.{when, some_below-zero}
+use Rattle.crash_model.specs.Lists.{some_below-zero}
 use Rattle.crash_model.specs.Disk.{Disk}
 use Rattle.crash_model.specs.Layout.{is_live, links_of, counts, entry_of, is_entry, target_of}
-use Rattle.crash_model.specs.Faults.{is_dangling, leads_to, entry_leading, entries_in, entries_to, has_low_links}
+use Rattle.crash_model.specs.Faults.{is_dangling, entry_leading, entries_in, entries_to, has_low_links}
 use Rattle.fs_check.specs.Tally.{count_before, IsTally}
 use Rattle.fs_check.specs.Passed.{HasCleanEntries, HavePassedEntries}
 use Rattle.fs_check.proofs.Counting.{tally-start, tally-row, tally-empty_row, tally-none, tally-one, count_before-grows, count_before-more, count_before-most}

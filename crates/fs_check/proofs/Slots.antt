@@ -1,13 +1,12 @@
 -- What the checker knows of the pointers that it has passed: one more slot, one more inode, all of them.
-use Rattle.std.proofs.Common.{◌≡◌, ◌≢◌, ℕ, ◌+◌, ◌<◌, ◌≤◌, ◌⊎◌, inl, inr, List, length, get_or, set, replicate, Bool, true, false, ◌&&◌, ◌==◌, not, nat_lt, IsTrue, Option, Some, None, arith, refl, sym, ap, ◌∙◌, subst, below_none, below_more}
+use Rattle.std.proofs.Common.{◌≡◌, ◌≢◌, ℕ, ◌+◌, ◌<◌, ◌≤◌, inl, inr, List, length, get_or, set, replicate, Bool, true, false, ◌&&◌, ◌==◌, not, nat_lt, Option, Some, None, arith, refl, sym, ap, ◌∙◌, subst, below_more}
 use Rattle.std.proofs.lemmas.Bool.{cases_eq, false≢true, eq-eqb, ne_eqb, lt-ltb, le-ltb, ltb-true, and_parts, and_right}
-use Rattle.std.proofs.lemmas.Bool.Decides.{nat_tests}
-use Rattle.std.proofs.lemmas.List.{get_or-set_same, get_or-set_other, length-set, get_or-replicate, length-replicate}
+use Rattle.std.proofs.lemmas.List.{get_or-set_same, get_or-set_other, length-set, get_or-replicate}
 use Rattle.std.specs.Prelude.{option_to_list}
-use Rattle.crash_model.specs.Lists.{when, some_below-zero}
+use Rattle.crash_model.specs.Lists.{some_below-zero}
 use Rattle.crash_model.specs.Disk.{Disk}
 use Rattle.crash_model.specs.Layout.{is_live, is_data, map_of, pointer_of, is_pointer}
-use Rattle.crash_model.specs.Faults.{is_tame, is_wild, is_unwritten, is_marked_free, is_twice, names_block, namer_at, namers_in, namers}
+use Rattle.crash_model.specs.Faults.{is_tame, namer_at, namers_in, namers}
 use Rattle.fs_check.specs.Tally.{count_before, IsTally}
 use Rattle.fs_check.specs.Passed.{IsCleanSlot, HasCleanPointers, HavePassedSlots, is_marked, is_right_block}
 use Rattle.fs_check.proofs.Counting.{tally-start, tally-row, tally-empty_row, tally-none, tally-one, count_before-grows, count_before-more, count_before-most}

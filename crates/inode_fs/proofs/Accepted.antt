@@ -121,6 +121,14 @@ relink-ok d old new plan changes e =
 set_found : (d : Disk) (dir k i : ℕ) (name : List ℕ) → free_entry d dir ≡ Some k → entry_set d dir (unwrap_or (free_entry d dir) 0) i name ≡ entry_set d dir k i name
 set_found d dir k i name place = ap (λ (o : Option ℕ). entry_set d dir (unwrap_or o 0) i name) place
 
+abbrev pub link_changes : Disk → ℕ → ℕ → ℕ → ℕ → List ℕ → List Change
+link_changes d old_dir old_k target dir name = link_count LinkUp target (links_of d target + 1) ∷ entry_set d dir (unwrap_or (free_entry d dir) 0) target name ∷ []
+
+abbrev pub rename_changes : Disk → ℕ → ℕ → ℕ → ℕ → List ℕ → List Change
+rename_changes d old_dir old_k target dir name =
+    link_count LinkUp target (links_of d target + 1) ∷ entry_set d dir (unwrap_or (free_entry d dir) 0) target name
+    ∷ entry_clear d old_dir old_k ∷ link_count LinkDown target (links_of d target) ∷ []
+
 pub record LinkFound (d : Disk) (old new : Path) (changes : List Change) : Type 0 where
   pub at : RelinkFound d old new
   pub are : changes ≡ link_count LinkUp (target_of d at.old_dir at.old_k) (links_of d (target_of d at.old_dir at.old_k) + 1)
@@ -129,7 +137,7 @@ pub record LinkFound (d : Disk) (old new : Path) (changes : List Change) : Type 
 pub link-ok : (d : Disk) (old new : Path) (changes : List Change) → plan_of d (Link old new) ≡ Ok changes → LinkFound d old new changes
 unfolding plan_of
 link-ok d old new changes e =
-    let both = relink-ok d old new (λ _ _ target dir name. link_count LinkUp target (links_of d target + 1) ∷ entry_set d dir (unwrap_or (free_entry d dir) 0) target name ∷ []) changes e in
+    let both = relink-ok d old new (link_changes d) changes e in
     let f = both.0 in
     record {
       at = f;
@@ -147,8 +155,7 @@ pub record RenameFound (d : Disk) (old new : Path) (changes : List Change) : Typ
 pub rename-ok : (d : Disk) (old new : Path) (changes : List Change) → plan_of d (Rename old new) ≡ Ok changes → RenameFound d old new changes
 unfolding plan_of
 rename-ok d old new changes e =
-    let both = relink-ok d old new (λ old_dir old_k target dir name. link_count LinkUp target (links_of d target + 1) ∷ entry_set d dir (unwrap_or (free_entry d dir) 0) target name
-    ∷ entry_clear d old_dir old_k ∷ link_count LinkDown target (links_of d target) ∷ []) changes e in
+    let both = relink-ok d old new (rename_changes d) changes e in
     let f = both.0 in
     record {
       at = f;

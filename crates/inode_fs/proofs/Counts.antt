@@ -1,5 +1,5 @@
 -- How many changes a plan has: at least one, and at most six.
-use Rattle.std.proofs.Common.{◌≡◌, ℕ, zero, suc, ◌+◌, ◌-◌, ◌≤◌, List, [], ◌∷◌, ◌++◌, Bool, true, false, Option, Some, None, Result, Ok, Err, length, arith, length-append, subst, sym}
+use Rattle.std.proofs.Common.{ℕ, zero, suc, ◌+◌, ◌-◌, ◌≤◌, List, [], ◌∷◌, ◌++◌, Bool, true, false, Option, Some, None, Result, Ok, Err, length, arith, length-append, subst, sym, ◌∙◌, ap, ◌↔◌, ◌≡◌}
 use Rattle.std.specs.Prelude.{option_to_list, MatchResult, IfOk, nat_lt, if◌then◌else◌}
 use Rattle.crash_model.specs.Disk.{Disk}
 use Rattle.crash_model.specs.Lists.{some_below}
@@ -16,6 +16,17 @@ use Rattle.inode_fs.proofs.Accepted.{create-ok, write-ok, link-ok, rename-ok, un
 pub ok-both : {X Y : Type 0} (r : Result X Y) {P Q R : X → Type 0} (E : Y → Type 0) → MatchResult r P E → IfOk r Q → ((x : X) → P x → Q x → R x) → IfOk r R
 ok-both (Ok x) E first second both = both x first second
 ok-both (Err y) E first second both = tt
+
+-- two answers refuse alike
+pub same-fault : {X Y E : Type 0} (r : Result X E) (s : Result Y E) (items : X → Y) (fault : E) → MatchResult r (λ x. s ≡ Ok (items x)) (λ e. s ≡ Err e) → ((r ≡ Err fault) ↔ (s ≡ Err fault))
+same-fault {X = X} {Y = Y} {E = E} (Ok x) s items fault is = (
+  λ e. absurd (let no : ◌≡◌ {A = Result X E} (Ok x) (Err fault) = e in cc),
+  λ e. absurd (let no : ◌≡◌ {A = Result Y E} (Ok (items x)) (Err fault) = sym is ∙ e in cc),
+)
+same-fault {X = X} {Y = Y} {E = E} (Err g) s items fault is = (
+  λ e. let same : ◌≡◌ {A = Result X E} (Err g) (Err fault) = e in let at : g ≡ fault = cc in is ∙ ap (λ (x : E). Err x) at,
+  λ e. let same : ◌≡◌ {A = Result Y E} (Err g) (Err fault) = sym is ∙ e in let at : g ≡ fault = cc in ap (λ (x : E). Err x) at,
+)
 
 abbrev IsShort : List Change → Type 0
 IsShort changes = (1 ≤ length changes) × (length changes ≤ 8)

@@ -24,29 +24,30 @@ use Rattle.inode_fs.proofs.Accepted.{CreateFound, create-ok, WriteFound, write-o
 
 pub record Lands (d : Disk) (c : Change) : Type 0 where
   pub block : c.block < d.blocks
+  pub some : 0 < length c.new.items
   pub range : c.offset + length c.new.items ≤ 128
   pub spares : (c.block < 4) ⊎ (4 + d.journal ≤ c.block)
 
 -- ---- each change
 
-inode-lands : (d : Disk) (role : Role) (i from : ℕ) (new : List ℕ) → IsDisk d → i < 16 → from + length new ≤ 16 → Lands d (at_inode role i from new)
-inode-lands d role i from new disk below fits = record { block = omega (arith, disk.least); range = omega arith; spares = inl (omega arith) }
+inode-lands : (d : Disk) (role : Role) (i from : ℕ) (new : List ℕ) → IsDisk d → i < 16 → 0 < length new → from + length new ≤ 16 → Lands d (at_inode role i from new)
+inode-lands d role i from new disk below some fits = record { block = omega (arith, disk.least); some = some; range = omega arith; spares = inl (omega arith) }
 
 map-lands : (d : Disk) (role : Role) (b v : ℕ) → IsDisk d → b < d.blocks → Lands d (change role 1 b (v ∷ []))
-map-lands d role b v disk below = record { block = omega (arith, disk.least); range = omega (arith, disk.most); spares = inl (omega arith) }
+map-lands d role b v disk below = record { block = omega (arith, disk.least); some = omega arith; range = omega (arith, disk.most); spares = inl (omega arith) }
 
-entry-lands : (d : Disk) (role : Role) (dir k : ℕ) (new : List ℕ) → counts d dir ≡ true → k < 10 → length new ≤ 12 → Lands d (change role (pointer_of d dir 0) (entry_offset k) new)
-entry-lands d role dir k new holds below fits =
+entry-lands : (d : Disk) (role : Role) (dir k : ℕ) (new : List ℕ) → counts d dir ≡ true → k < 10 → 0 < length new → length new ≤ 12 → Lands d (change role (pointer_of d dir 0) (entry_offset k) new)
+entry-lands d role dir k new holds below some fits =
     let own = counts-parts d dir holds in
-    record { block = own.high; range = omega arith; spares = inr own.low }
+    record { block = own.high; some = some; range = omega arith; spares = inr own.low }
 
 block-lands : (d : Disk) (role : Role) (b mark owner : ℕ) → is_data d b ≡ true → Lands d (init_block role b mark owner)
 block-lands d role b mark owner inside =
     let own = data-block d b inside in
-    record { block = own.1; range = omega arith; spares = inr own.0 }
+    record { block = own.1; some = omega arith; range = omega arith; spares = inr own.0 }
 
 set-lands : (d : Disk) (dir k i : ℕ) (name : List ℕ) → counts d dir ≡ true → k < 10 → IsName name → Lands d (entry_set d dir k i name)
-set-lands d dir k i name holds below is_name = entry-lands d EntrySet dir k ((i + 1) ∷ spelled name) holds below (grind (arith, elements, is_name.few))
+set-lands d dir k i name holds below is_name = entry-lands d EntrySet dir k ((i + 1) ∷ spelled name) holds below (omega arith) (grind (arith, elements, is_name.few))
 
 -- ---- what the searches found
 
@@ -94,7 +95,7 @@ create-lands d path changes disk is_name f =
     let inode = first_below-is_some 16 (has_no_kind d) f.i f.inode in
     let place = first_below-is_some 10 (is_free_entry d f.dir) f.k f.place in
     subst (AllLand d) (sym f.are) (
-      inode-lands d InodeInit f.i 0 (1 ∷ 1 ∷ replicate 14 0) disk inode.below (omega arith),
+      inode-lands d InodeInit f.i 0 (1 ∷ 1 ∷ replicate 14 0) disk inode.below (omega arith) (omega arith),
       (set-lands d f.dir f.k f.i path.last (free-counts d f.dir f.k place.holds) place.below is_name, tt),
     )
 
@@ -109,7 +110,7 @@ write-lands d path changes disk f =
       map-lands d MapSet f.b 1 disk block.below,
       (
         block-lands d InitFile f.b 0x46 target (free-data d f.b block.holds),
-        (inode-lands d Ptr target (4 + f.s) (f.b ∷ []) disk below (omega (arith, slot.below)), tt),
+        (inode-lands d Ptr target (4 + f.s) (f.b ∷ []) disk below (omega arith) (omega (arith, slot.below)), tt),
       ),
     )
 
@@ -121,7 +122,7 @@ link-lands d old new changes disk is_name found =
     let below = named-below d f.old_dir old.last f.old_k entry.holds in
     let place = first_below-is_some 10 (is_free_entry d f.dir) f.k f.place in
     subst (AllLand d) (sym found.are) (
-      inode-lands d LinkUp target 1 ((links_of d target + 1) ∷ []) disk below (omega arith),
+      inode-lands d LinkUp target 1 ((links_of d target + 1) ∷ []) disk below (omega arith) (omega arith),
       (set-lands d f.dir f.k target new.last (free-counts d f.dir f.k place.holds) place.below is_name, tt),
     )
 
@@ -132,11 +133,11 @@ unlink-lands d path changes disk f =
     let below = named-below d f.dir path.last f.k entry.holds in
     let rest : (test : Bool) → AllLand d (if test then link_count LinkDown target (links_of d target - 1) ∷ [] else (inode_free target ∷ map_clears d target)) = λ test.
     elim test as (λ t. AllLand d (if t then link_count LinkDown target (links_of d target - 1) ∷ [] else (inode_free target ∷ map_clears d target))) [
-      | true ↦ (inode-lands d LinkDown target 1 ((links_of d target - 1) ∷ []) disk below (omega arith), tt)
-      | false ↦ (inode-lands d InodeFree target 0 (replicate 16 0) disk below (omega arith), clears-land d target disk)
+      | true ↦ (inode-lands d LinkDown target 1 ((links_of d target - 1) ∷ []) disk below (omega arith) (omega arith), tt)
+      | false ↦ (inode-lands d InodeFree target 0 (replicate 16 0) disk below (omega arith) (omega arith), clears-land d target disk)
     ] in
     subst (AllLand d) (sym f.are)
-    (entry-lands d EntryClear f.dir f.k (replicate 12 0) (named-counts d f.dir path.last f.k entry.holds) entry.below (omega arith), rest (nat_lt 1 (links_of d target)))
+    (entry-lands d EntryClear f.dir f.k (replicate 12 0) (named-counts d f.dir path.last f.k entry.holds) entry.below (omega arith) (omega arith), rest (nat_lt 1 (links_of d target)))
 
 rename-lands : (d : Disk) (old new : Path) (changes : List Change) → IsDisk d → IsName new.last → RenameFound d old new changes → AllLand d changes
 rename-lands d old new changes disk is_name found =
@@ -146,12 +147,12 @@ rename-lands d old new changes disk is_name found =
     let below = named-below d f.old_dir old.last f.old_k entry.holds in
     let place = first_below-is_some 10 (is_free_entry d f.dir) f.k f.place in
     subst (AllLand d) (sym found.are) (
-      inode-lands d LinkUp target 1 ((links_of d target + 1) ∷ []) disk below (omega arith),
+      inode-lands d LinkUp target 1 ((links_of d target + 1) ∷ []) disk below (omega arith) (omega arith),
       (
         set-lands d f.dir f.k target new.last (free-counts d f.dir f.k place.holds) place.below is_name,
         (
-          entry-lands d EntryClear f.old_dir f.old_k (replicate 12 0) (named-counts d f.old_dir old.last f.old_k entry.holds) entry.below (omega arith),
-          (inode-lands d LinkDown target 1 (links_of d target ∷ []) disk below (omega arith), tt),
+          entry-lands d EntryClear f.old_dir f.old_k (replicate 12 0) (named-counts d f.old_dir old.last f.old_k entry.holds) entry.below (omega arith) (omega arith),
+          (inode-lands d LinkDown target 1 (links_of d target ∷ []) disk below (omega arith) (omega arith), tt),
         ),
       ),
     )
@@ -162,13 +163,13 @@ mkdir-lands d path changes disk is_name f =
     let block = first_below-is_some d.blocks (is_free_block d) f.b f.block in
     let place = first_below-is_some 10 (is_free_entry d f.dir) f.k f.place in
     subst (AllLand d) (sym f.are) (
-      inode-lands d InodeInit f.i 0 (2 ∷ 1 ∷ replicate 14 0) disk inode.below (omega arith),
+      inode-lands d InodeInit f.i 0 (2 ∷ 1 ∷ replicate 14 0) disk inode.below (omega arith) (omega arith),
       (
         map-lands d MapSet f.b 1 disk block.below,
         (
           block-lands d InitDir f.b 0x44 f.i (free-data d f.b block.holds),
           (
-            inode-lands d Ptr f.i 4 (f.b ∷ []) disk inode.below (omega arith),
+            inode-lands d Ptr f.i 4 (f.b ∷ []) disk inode.below (omega arith) (omega arith),
             (set-lands d f.dir f.k f.i path.last (free-counts d f.dir f.k place.holds) place.below is_name, tt),
           ),
         ),
@@ -181,8 +182,8 @@ rmdir-lands d path changes disk f =
     let target = target_of d f.dir f.k in
     let below = named-below d f.dir path.last f.k entry.holds in
     subst (AllLand d) (sym f.are) (
-      entry-lands d EntryClear f.dir f.k (replicate 12 0) (named-counts d f.dir path.last f.k entry.holds) entry.below (omega arith),
-      (inode-lands d InodeFree target 0 (replicate 16 0) disk below (omega arith), clear-lands d target 0 disk),
+      entry-lands d EntryClear f.dir f.k (replicate 12 0) (named-counts d f.dir path.last f.k entry.holds) entry.below (omega arith) (omega arith),
+      (inode-lands d InodeFree target 0 (replicate 16 0) disk below (omega arith) (omega arith), clear-lands d target 0 disk),
     )
 
 pub plan-lands : (d : Disk) (op : Op) (changes : List Change) → IsDisk d → GivesName op → plan_of d op ≡ Ok changes → AllLand d changes
@@ -198,7 +199,7 @@ plan-lands d (Rmdir path) changes disk is_name e = rmdir-lands d path changes di
 
 pub all-inside : (d : Disk) (changes : List Change) → AllLand d changes → All (LiesInside d.blocks) changes
 all-inside d [] all = All-nil (LiesInside d.blocks)
-all-inside d (c ∷ cs) all = All-cons (LiesInside d.blocks) c cs (record { block = all.0.block; range = all.0.range }) (all-inside d cs all.1)
+all-inside d (c ∷ cs) all = All-cons (LiesInside d.blocks) c cs (record { block = all.0.block; some = all.0.some; range = all.0.range }) (all-inside d cs all.1)
 
 put-disk : (d : Disk) (c : Change) → IsDisk d → Lands d c → IsDisk (put d c.block c.offset c.new.items)
 put-disk d c disk lands = record {
@@ -211,7 +212,7 @@ put-disk d c disk lands = record {
 -- where changes lie depends on the disk's size alone
 stay : (d : Disk) (c : Change) (cs : List Change) → AllLand d cs → AllLand (put d c.block c.offset c.new.items) cs
 stay d c [] all = tt
-stay d c (e ∷ es) all = (record { block = all.0.block; range = all.0.range; spares = all.0.spares }, stay d c es all.1)
+stay d c (e ∷ es) all = (record { block = all.0.block; some = all.0.some; range = all.0.range; spares = all.0.spares }, stay d c es all.1)
 
 pub applied-disk : (d : Disk) (changes : List Change) → IsDisk d → AllLand d changes → IsDisk (applied d changes)
 applied-disk d [] disk all = disk

@@ -1,10 +1,14 @@
 //! The plan of each operation: its changes in the order in which they are emitted, or the first refusal.
 
-ghost use Rattle.std.specs.Prelude.{ℕ, List, ◌≡◌, ◌<◌, ◌≤◌, ◌+◌, ◌++◌, length, option_to_list, All, IfOk, MatchResult, Ok, Err, Some};
+ghost use Rattle.std.specs.Prelude.{ℕ, List, ◌≡◌, ◌<◌, ◌≤◌, ◌↔◌, ◌+◌, ◌++◌, length, option_to_list, All, IfOk, MatchResult, Ok, Err, Some};
 ghost use Rattle.crash_model.specs.Names.{IsName};
 ghost use Rattle.crash_model.specs.Layout.{links_of};
 ghost use Rattle.crash_model.specs.Plan.{plan_of, relinked, free_entry, map_clear_at, map_clears, applied};
 ghost use Rattle.crash_model.specs.declared.plans.Change.{Change};
+ghost use Rattle.crash_model.specs.Sound.{IsSound};
+ghost use Rattle.crash_model.specs.View.{view_of};
+ghost use Rattle.crash_model.specs.Meaning.{IsRefused, Means};
+ghost use Rattle.crash_model.specs.declared.refusals.FsFault.{FsFault};
 ghost use Rattle.inode_fs.specs.Inside.{LiesInside, HasSameJournal, GivesName};
 ghost use Rattle.crash_model.specs.declared.names.Op.TheVariants.{Create, Write, Link, Unlink, Rename, Mkdir, Rmdir};
 
@@ -24,14 +28,20 @@ use std::alloc::Allocator;
 
 /// The changes of an operation, in the order in which they are emitted, or the first refusal, 10 to 19.
 ///
-/// It is defined on every image, also on a damaged one; it changes nothing and takes no memory. What it plans is
-/// refused by the first test that fails, and takes the lowest free inode, block, entry and slot. On every image the
-/// changes lie inside it, and none of them in the journal.
+/// It is defined on every image, also on a damaged one; it changes nothing and takes no memory. An operation is refused
+/// by the first of its tests that fails, and takes the lowest free inode, block, entry and slot. The changes lie
+/// inside the image, and none of them in the journal.
+///
+/// On a sound image it is refused exactly as its tests tell of the names, inodes, pointers and used blocks of the
+/// image; the image after its changes is sound, and has gained and lost what the operation means.
 pub fn plan<A: Allocator + Copy>(image: &Image<A>, op: &Op) -> Result<Plan, FsFault>
     ensures changes { MatchResult result (λ plan. plan_of image.now op.now ≡ Ok plan.items) (λ fault. plan_of image.now op.now ≡ Err fault) }
     ensures count { IfOk result (λ plan. (1 ≤ length plan.items) × (length plan.items ≤ 8)) }
     ensures inside { IfOk result (λ plan. All (LiesInside image.now.blocks) plan.items) }
     ensures journal { IfOk result (λ plan. HasSameJournal image.now (applied image.now plan.items)) }
+    ensures refused { IsSound image.now → (fault : FsFault) → ((result ≡ Err fault) ↔ IsRefused image.now.blocks image.now.journal (view_of image.now) op.now fault) }
+    ensures sound { IsSound image.now → IfOk result (λ plan. IsSound (applied image.now plan.items)) }
+    ensures means { IsSound image.now → IfOk result (λ plan. Means image.now.blocks image.now.journal (view_of image.now) (view_of (applied image.now plan.items)) op.now) }
 {
     let _blocks = image.blocks();
     changes_of(image, op)

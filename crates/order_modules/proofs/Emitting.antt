@@ -1,10 +1,11 @@
 -- A log with a patch more, or a link more.
-use Rattle.std.proofs.Common.{◌≡◌, ◌≢◌, ℕ, zero, suc, ◌+◌, ◌*◌, ◌<◌, ◌≤◌, ◌⊎◌, inl, inr, List, [], ◌∷◌, ◌++◌, ◌-◌, length, take, drop, map, Bool, true, false, ◌&&◌, ◌||◌, nat_lt, Option, Some, None, arith, tests, refl, sym, ◌∙◌, ap, subst, length-append}
-use Rattle.std.specs.Prelude.{◌==◌, ◌↔◌, IsTrue, slice_index, slice_get, slice_range}
+use Rattle.std.proofs.Common.{◌≡◌, ℕ, zero, suc, ◌+◌, ◌*◌, ◌<◌, ◌≤◌, ◌⊎◌, inl, inr, List, [], ◌∷◌, ◌++◌, ◌-◌, length, take, drop, map, Bool, true, false, ◌&&◌, ◌||◌, Some, arith, tests, refl, sym, ◌∙◌, ap, subst, length-append}
+use Rattle.std.specs.Prelude.{◌↔◌, IsTrue, slice_index, slice_get, slice_range}
 use Rattle.std.specs.List.{list_any}
 use Rattle.std.proofs.lemmas.List.{get_or_append_left, get_or_push, get_or_past, length-map, map_push, drop-take, drop-drop, take-take}
 use Rattle.std.proofs.lemmas.List.Folds.{list_any-append}
-use Rattle.std.proofs.lemmas.Option.{slice_get_within, get_or_from_slice_get, slice_get-get_or}
+use Rattle.std.proofs.lemmas.List.Elements.{All-push}
+use Rattle.std.proofs.lemmas.Option.{slice_get_within}
 use Rattle.std.proofs.lemmas.Bool.{cases_lt}
 use Rattle.arrayvec.specs.ArrayVec.{ArrayVec}
 use Rattle.crash_model.specs.declared.steps.Module.TheVariants.{Async, Soft, Meta, Full}
@@ -12,7 +13,7 @@ use Rattle.patch_sets.specs.Sets.{Has}
 use Rattle.patch_sets.proofs.Bits.{eq_or_not, none_in_empty}
 use Rattle.crash_model.specs.Disk.{Disk, block_of, put}
 use Rattle.crash_model.specs.Patches.{Place, place, places_of, deps_of, AreUndo}
-use Rattle.crash_model.specs.Trace.{Emitted, Tracing, begun, IsGraphOf, is_same_group, groups_depend, by_module, overlap, depends}
+use Rattle.crash_model.specs.Trace.{Emitted, is_same_group, groups_depend, by_module, overlap, depends}
 use Rattle.crash_model.specs.declared.patches.Patch.{Patch}
 use Rattle.crash_model.specs.declared.steps.Module.{Module}
 use Rattle.patch_graph.specs.Graph.{Overlaps, OverlapsAt, AddsOverlaps}
@@ -102,7 +103,6 @@ emitted_patch patch label = emitted_at (place patch.block patch.offset patch.new
 module _ (log : Log) (labels : List Label) (label : Label) (patch : Patch) (set : ℕ)
     (is : IsLog log) (labelled : length labels ≡ length log.patches) (emitted : log.emitted ≡ emitted_by (places_of log.patches) labels)
     (adds : (id : ℕ) → Has set id ↔ (Has patch.deps id ⊎ OverlapsAt log.patches patch id)) (waits : (id : ℕ) → Has patch.deps id ↔ WaitsAt log.kind log.links labels label id) where
-
   same_long : length log.emitted ≡ length log.patches
   same_long =
       let places : length (places_of log.patches) ≡ length log.patches = length-map log.patches (λ p. place p.block p.offset p.new.items) in
@@ -124,21 +124,20 @@ module _ (log : Log) (labels : List Label) (label : Label) (patch : Patch) (set 
       let place_is : stood ≡ place earlier.block earlier.offset earlier.new.items = there.2 in
       let rule = rule_labels log.kind log.links (place 0 0 []) (place 0 0 []) (place patch.block patch.offset patch.new.items) stood label other in
       let e : Emitted = emitted_patch patch label in
-      let full : before ≡ emitted_patch earlier other = is_it ∙ ap (λ (at : Place). emitted_at at other) place_is in
-      (
+      let full : before ≡ emitted_patch earlier other = is_it ∙ ap (λ (at : Place). emitted_at at other) place_is in (
         λ has. elim ((adds p).0 has) [
           | inl own ↦
               let w = (waits p).0 own in
               let same : w.0 ≡ other = some_same (sym w.1 ∙ other_at) in
               let t = subst (λ (l : Label). IsTrue (groups_depend log.links (emitted_of label) (emitted_of l) || by_module log.kind (emitted_of label) (emitted_of l))) same w.2 in
               subst (λ (b : Emitted). IsTrue (depends log.kind log.links e b)) (sym is_it)
-                (or_rest (overlap e (emitted_at stood other)) (groups_depend log.links e (emitted_at stood other)) (by_module log.kind e (emitted_at stood other)) (sym rule ∙ t))
+              (or_rest (overlap e (emitted_at stood other)) (groups_depend log.links e (emitted_at stood other)) (by_module log.kind e (emitted_at stood other)) (sym rule ∙ t))
           | inr over ↦
               let same : over.0 ≡ earlier = patch_same (sym over.1 ∙ earlier_at) in
               let o : Overlaps earlier patch = subst (λ (x : Patch). Overlaps x patch) same over.2 in
               subst (λ (b : Emitted). IsTrue (depends log.kind log.links e b)) (sym full)
-                (or_first (overlap e (emitted_patch earlier other)) (groups_depend log.links e (emitted_patch earlier other)) (by_module log.kind e (emitted_patch earlier other))
-                  (overlap_true e (emitted_patch earlier other) o.together o.below o.above))
+              (or_first (overlap e (emitted_patch earlier other)) (groups_depend log.links e (emitted_patch earlier other)) (by_module log.kind e (emitted_patch earlier other))
+              (overlap_true e (emitted_patch earlier other) o.together o.below o.above))
         ],
         λ t. elim (or_cases (overlap e before) (groups_depend log.links e before) (by_module log.kind e before) t) [
           | inl over ↦
@@ -152,45 +151,52 @@ module _ (log : Log) (labels : List Label) (label : Label) (patch : Patch) (set 
     where
       some_same : {l m : Label} → Some l ≡ Some m → l ≡ m
       some_same h = cc
+
       patch_same : {l m : Patch} → Some l ≡ Some m → l ≡ m
       patch_same h = cc
 
-  emit_core : patch.undo.items ≡ slice_range log.written.bytes (128 * patch.block + patch.offset) (128 * patch.block + patch.offset + length patch.new.items)
+  emit_core : patch.block < log.base.blocks → patch.undo.items ≡ slice_range log.written.bytes (128 * patch.block + patch.offset) (128 * patch.block + patch.offset + length patch.new.items)
       → IsLog (record log { written = put log.written patch.block patch.offset patch.new.items; emitted = log.emitted ++ emitted_patch patch label ∷ []; patches = log.patches ++ record patch { deps = set } ∷ [] })
-  emit_core undo = record {
-      written = ap (λ (d : Disk). put d patch.block patch.offset patch.new.items) is.written
-          ∙ sym (all_put-push log.base (places_of log.patches) (place patch.block patch.offset patch.new.items))
-          ∙ ap (λ (ps : List Place). all_put log.base ps) (sym placed);
-      graph = record {
-        places = placed ∙ ap (λ (ps : List Place). ps ++ place patch.block patch.offset patch.new.items ∷ []) is.graph.places ∙ sym (map_push (λ (e : Emitted). e.place) log.emitted (emitted_patch patch label));
-        undo = undo-push log.base log.patches (record patch { deps = set }) is.graph.undo
-            (undo ∙ ap (λ (d : Disk). slice_range d.bytes (128 * patch.block + patch.offset) (128 * patch.block + patch.offset + length patch.new.items)) is.written);
-        earlier = λ q p has. earlier q p (subst (λ (xs : List ℕ). Has (slice_index xs q) p) deps_push has);
-        exactly = exactly;
-      };
-    }
+  emit_core known undo = record {
+    known = All-push (λ p. p.block < log.base.blocks) log.patches (record patch { deps = set }) is.known known;
+    written = ap (λ (d : Disk). put d patch.block patch.offset patch.new.items) is.written
+        ∙ sym (all_put-push log.base (places_of log.patches) (place patch.block patch.offset patch.new.items))
+        ∙ ap (λ (ps : List Place). all_put log.base ps) (sym placed);
+    graph = record {
+      places = placed ∙ ap (λ (ps : List Place). ps ++ place patch.block patch.offset patch.new.items ∷ []) is.graph.places ∙ sym (map_push (λ (e : Emitted). e.place) log.emitted (emitted_patch patch label));
+      undo = undo-push log.base log.patches (record patch { deps = set }) is.graph.undo
+          (undo ∙ ap (λ (d : Disk). slice_range d.bytes (128 * patch.block + patch.offset) (128 * patch.block + patch.offset + length patch.new.items)) is.written);
+      earlier = λ q p has. earlier q p (subst (λ (xs : List ℕ). Has (slice_index xs q) p) deps_push has);
+      exactly = exactly;
+    };
+  }
     where
       placed : places_of (log.patches ++ record patch { deps = set } ∷ []) ≡ places_of log.patches ++ place patch.block patch.offset patch.new.items ∷ []
       placed = map_push (λ (p : Patch). place p.block p.offset p.new.items) log.patches (record patch { deps = set })
+
       deps_long : length (deps_of log.patches) ≡ length log.patches
       deps_long = length-map log.patches (λ p. p.deps)
+
       deps_push : deps_of (log.patches ++ record patch { deps = set } ∷ []) ≡ deps_of log.patches ++ set ∷ []
       deps_push = map_push (λ (p : Patch). p.deps) log.patches (record patch { deps = set })
-      known : (p : ℕ) → Has set p → p < length log.patches
-      known p has = elim ((adds p).0 has) [
+
+      before : (p : ℕ) → Has set p → p < length log.patches
+      before p has = elim ((adds p).0 has) [
         | inl own ↦ let w = (waits p).0 own in let inside : p < length labels = slice_get_within labels p w.0 w.1 in omega (arith, inside, labelled)
         | inr over ↦ slice_get_within log.patches p over.0 over.1
       ]
+
       earlier : (q p : ℕ) → Has (slice_index (deps_of log.patches ++ set ∷ []) q) p → p < q
       earlier q p has = elim (cases_lt q (length (deps_of log.patches))) [
         | inl old ↦ is.graph.earlier q p (subst (λ (s : ℕ). Has s p) (get_or_append_left (deps_of log.patches) (set ∷ []) 0 q old) has)
         | inr from ↦ elim (eq_or_not q (length (deps_of log.patches))) [
-          | inl e ↦ let less : p < length log.patches = known p (subst (λ (s : ℕ). Has s p) (get_or_push (deps_of log.patches) set 0 q (sym e)) has) in omega (arith, less, e, deps_long)
+          | inl e ↦ let less : p < length log.patches = before p (subst (λ (s : ℕ). Has s p) (get_or_push (deps_of log.patches) set 0 q (sym e)) has) in omega (arith, less, e, deps_long)
           | inr ne ↦
               let past : length (deps_of log.patches ++ set ∷ []) ≤ q = omega (arith, length-append (deps_of log.patches) (set ∷ [])) in
               absurd (none_in_empty p (subst (λ (s : ℕ). Has s p) (get_or_past (deps_of log.patches ++ set ∷ []) q 0 past) has))
         ]
       ]
+
       exactly : (q p : ℕ) (later before : Emitted) → p < q → slice_get (log.emitted ++ emitted_patch patch label ∷ []) q ≡ Some later → slice_get (log.emitted ++ emitted_patch patch label ∷ []) p ≡ Some before
           → (Has (slice_index (deps_of (log.patches ++ record patch { deps = set } ∷ [])) q) p ↔ IsTrue (depends log.kind log.links later before))
       exactly q p later before less at_q at_p =
@@ -201,7 +207,7 @@ module _ (log : Log) (labels : List Label) (label : Label) (patch : Patch) (set 
                   | inl old_p ↦
                       let within : q < length (deps_of log.patches) = omega (arith, same_long, deps_long) in
                       let here : slice_index (deps_of (log.patches ++ record patch { deps = set } ∷ [])) q ≡ slice_index (deps_of log.patches) q =
-                          ap (λ (xs : List ℕ). slice_index xs q) deps_push ∙ get_or_append_left (deps_of log.patches) (set ∷ []) 0 q within in
+                      ap (λ (xs : List ℕ). slice_index xs q) deps_push ∙ get_or_append_left (deps_of log.patches) (set ∷ []) 0 q within in
                       subst (λ (s : ℕ). Has s p ↔ IsTrue (depends log.kind log.links later before)) (sym here) (is.graph.exactly q p later before less old_q old_p)
                   | inr new_p ↦ let where_p : p ≡ length log.emitted = new_p.0 in absurd (omega arith)
                 ]
@@ -210,9 +216,9 @@ module _ (log : Log) (labels : List Label) (label : Label) (patch : Patch) (set 
                 elim (get_push log.emitted (emitted_patch patch label) before p at_p) [
                   | inl old_p ↦
                       let here : slice_index (deps_of (log.patches ++ record patch { deps = set } ∷ [])) q ≡ set =
-                          ap (λ (xs : List ℕ). slice_index xs q) deps_push ∙ get_or_push (deps_of log.patches) set 0 q (omega (arith, same_long, deps_long)) in
+                      ap (λ (xs : List ℕ). slice_index xs q) deps_push ∙ get_or_push (deps_of log.patches) set 0 q (omega (arith, same_long, deps_long)) in
                       subst (λ (s : ℕ). Has s p ↔ IsTrue (depends log.kind log.links later before)) (sym here)
-                        (subst (λ (l : Emitted). Has set p ↔ IsTrue (depends log.kind log.links l before)) (sym new_q.1) (new_deps p before old_p))
+                      (subst (λ (l : Emitted). Has set p ↔ IsTrue (depends log.kind log.links l before)) (sym new_q.1) (new_deps p before old_p))
                   | inr new_p ↦ let where_p : p ≡ length log.emitted = new_p.0 in absurd (omega arith)
                 ]
           ]
@@ -229,12 +235,12 @@ same_patch patches patch added adds =
 pub log-emit : (log : Log) (labels : List Label) (label : Label) (patch added : Patch)
     → IsLog log → length labels ≡ length log.patches → log.emitted ≡ emitted_by (places_of log.patches) labels
     → AddsOverlaps log.patches patch added → ((id : ℕ) → Has patch.deps id ↔ WaitsAt log.kind log.links labels label id)
-    → patch.undo.items ≡ slice_range log.written.bytes (128 * patch.block + patch.offset) (128 * patch.block + patch.offset + length patch.new.items)
+    → patch.block < log.base.blocks → patch.undo.items ≡ slice_range log.written.bytes (128 * patch.block + patch.offset) (128 * patch.block + patch.offset + length patch.new.items)
     → IsLog (record log { written = put log.written patch.block patch.offset patch.new.items; emitted = log.emitted ++ emitted_patch patch label ∷ []; patches = log.patches ++ added ∷ [] })
-log-emit log labels label patch added is labelled emitted adds waits undo =
+log-emit log labels label patch added is labelled emitted adds waits known undo =
     let eq : added ≡ record patch { deps = added.deps } = same_patch log.patches patch added adds in
     subst (λ (a : Patch). IsLog (record log { written = put log.written patch.block patch.offset patch.new.items; emitted = log.emitted ++ emitted_patch patch label ∷ []; patches = log.patches ++ a ∷ [] })) (sym eq)
-      (emit_core log labels label patch added.deps is labelled emitted adds.deps waits undo)
+    (emit_core log labels label patch added.deps is labelled emitted adds.deps waits known undo)
 
 pub written_blocks : (log : Log) → IsLog log → log.written.blocks ≡ log.base.blocks
 written_blocks log is = ap (λ (d : Disk). d.blocks) is.written ∙ all_put-blocks log.base (places_of log.patches)
@@ -250,7 +256,7 @@ module _ (base written : Disk) (kind : Module) (links : List (List ℕ × List �
       let long : length (places_of patches) ≡ length patches = length-map patches (λ p. place p.block p.offset p.new.items) in
       let placed : places_of (patches ++ added ∷ []) ≡ places_of patches ++ place added.block added.offset added.new.items ∷ [] = map_push (λ (p : Patch). place p.block p.offset p.new.items) patches added in
       let at : place added.block added.offset added.new.items ≡ place patch.block patch.offset patch.new.items =
-          ap (λ (b : ℕ). place b added.offset added.new.items) adds.block ∙ ap (λ (o : ℕ). place patch.block o added.new.items) adds.offset ∙ ap (λ (n : ArrayVec ℕ). place patch.block patch.offset n.items) adds.new in
+      ap (λ (b : ℕ). place b added.offset added.new.items) adds.block ∙ ap (λ (o : ℕ). place patch.block o added.new.items) adds.offset ∙ ap (λ (n : ArrayVec ℕ). place patch.block patch.offset n.items) adds.new in
       ap (λ (ps : List Place). emitted_by ps (labels ++ label ∷ [])) (placed ∙ ap (λ (p : Place). places_of patches ++ p ∷ []) at)
       ∙ emitted-push (places_of patches) labels (place patch.block patch.offset patch.new.items) label (omega arith)
 
@@ -261,18 +267,18 @@ module _ (base written : Disk) (kind : Module) (links : List (List ℕ × List �
 
   pub emit_fields : (new : List Patch) (labels' : List Label) (written' : Disk)
       → IsLog log_before → length labels ≡ length patches → AddsOverlaps patches patch added → ((id : ℕ) → Has patch.deps id ↔ WaitsAt kind links labels label id)
-      → patch.undo.items ≡ slice_range written.bytes (128 * patch.block + patch.offset) (128 * patch.block + patch.offset + length patch.new.items)
+      → patch.block < base.blocks → patch.undo.items ≡ slice_range written.bytes (128 * patch.block + patch.offset) (128 * patch.block + patch.offset + length patch.new.items)
       → new ≡ patches ++ added ∷ [] → labels' ≡ labels ++ label ∷ [] → written' ≡ put written patch.block patch.offset patch.new.items
       → IsLog (record { base = base; written = written'; kind = kind; links = links; emitted = emitted_by (places_of new) labels'; patches = new }) × (length labels' ≡ length new)
-  emit_fields new labels' written' is labelled adds waits undo new_is labels_is written_is =
-      let last = log-emit log_before labels label patch added is labelled refl adds waits undo in
+  emit_fields new labels' written' is labelled adds waits known undo new_is labels_is written_is =
+      let last = log-emit log_before labels label patch added is labelled refl adds waits known undo in
       let make : List Patch → List Emitted → Disk → Log = λ ps es d. record { base = base; written = d; kind = kind; links = links; emitted = es; patches = ps } in
       let es : emitted_by (places_of new) labels' ≡ emitted_by (places_of patches) labels ++ emitted_patch patch label ∷ [] =
-          emitted_new new labels' labelled adds new_is labels_is in
+      emitted_new new labels' labelled adds new_is labels_is in
       let to : make new (emitted_by (places_of new) labels') written' ≡ make (patches ++ added ∷ []) (emitted_by (places_of patches) labels ++ emitted_patch patch label ∷ []) (put written patch.block patch.offset patch.new.items) =
-          ap (λ (ps : List Patch). make ps (emitted_by (places_of new) labels') written') new_is
-          ∙ ap (λ (xs : List Emitted). make (patches ++ added ∷ []) xs written') es
-          ∙ ap (λ (d : Disk). make (patches ++ added ∷ []) (emitted_by (places_of patches) labels ++ emitted_patch patch label ∷ []) d) written_is in
+      ap (λ (ps : List Patch). make ps (emitted_by (places_of new) labels') written') new_is
+      ∙ ap (λ (xs : List Emitted). make (patches ++ added ∷ []) xs written') es
+      ∙ ap (λ (d : Disk). make (patches ++ added ∷ []) (emitted_by (places_of patches) labels ++ emitted_patch patch label ∷ []) d) written_is in
       let long : length labels' ≡ length labels + 1 = ap (λ (ls : List Label). length ls) labels_is ∙ length-append labels (label ∷ []) in
       let tall : length new ≡ length patches + 1 = ap (λ (ps : List Patch). length ps) new_is ∙ length-append patches (added ∷ []) in
       (subst IsLog (sym to) last, omega arith)
@@ -315,41 +321,49 @@ pub waits_read : (kind : Module) (set : ℕ) (links links' : List Link) (labels 
     → ((id : ℕ) → Has set id ↔ WaitsAt kind (links_by links') labels' label id) → (id : ℕ) → Has set id ↔ WaitsAt kind (links_by links) labels label id
 waits_read kind set links links' labels labels' label same_links same_labels waits =
     subst (λ (ls : List Label). (id : ℕ) → Has set id ↔ WaitsAt kind (links_by links) ls label id) same_labels
-      (subst (λ (ls : List Link). (id : ℕ) → Has set id ↔ WaitsAt kind (links_by ls) labels' label id) same_links waits)
+    (subst (λ (ls : List Link). (id : ℕ) → Has set id ↔ WaitsAt kind (links_by ls) labels' label id) same_links waits)
 
 -- ---- one link more
 
 pub log-link : (log : Log) (later earlier : List ℕ) → IsLog log → list_any (λ e. is_same_group e.group later) log.emitted ≡ false → IsLog (record log { links = log.links ++ (later, earlier) ∷ [] })
 log-link log later earlier is none = record {
-    written = is.written;
-    graph = record {
-      places = is.graph.places; undo = is.graph.undo; earlier = is.graph.earlier;
-      exactly = λ q p l b less at_q at_p.
+  written = is.written;
+  known = is.known;
+  graph = record {
+    places = is.graph.places;
+    undo = is.graph.undo;
+    earlier = is.graph.earlier;
+    exactly = λ q p l b less at_q at_p.
         subst (λ (t : Bool). Has (slice_index (deps_of log.patches) q) p ↔ IsTrue t) (sym (more_links log.kind log.links later earlier l b (none_at log.emitted later q l none at_q)))
-          (is.graph.exactly q p l b less at_q at_p);
-    };
-  }
+        (is.graph.exactly q p l b less at_q at_p);
+  };
+}
   where
     or_left : (a b : Bool) → (a || b) ≡ false → a ≡ false
     or_left true b h = absurd (cc)
     or_left false b h = refl
+
     or_right : (a b : Bool) → (a || b) ≡ false → b ≡ false
     or_right true b h = absurd (cc)
     or_right false b h = h
+
     none_at : (es : List Emitted) (name : List ℕ) (q : ℕ) (l : Emitted) → list_any (λ e. is_same_group e.group name) es ≡ false → slice_get es q ≡ Some l → is_same_group l.group name ≡ false
     none_at [] name q l none at = absurd (cc)
     none_at (e ∷ es) name zero l none at = let same : e ≡ l = cc in subst (λ (x : Emitted). is_same_group x.group name ≡ false) same (or_left (is_same_group e.group name) (list_any (λ e. is_same_group e.group name) es) none)
     none_at (e ∷ es) name (suc q) l none at = none_at es name q l (or_right (is_same_group e.group name) (list_any (λ e. is_same_group e.group name) es) none) at
+
     or_false : (a b : Bool) → b ≡ false → (a || b) ≡ a
     or_false true b h = refl
     or_false false b h = h
+
     and_false : (a b : Bool) → a ≡ false → (a && b || false) ≡ false
     and_false a b h = rw h refl
+
     more_links : (kind : Module) (links : List (List ℕ × List ℕ)) (later earlier : List ℕ) (q p : Emitted) → is_same_group q.group later ≡ false → depends kind (links ++ (later, earlier) ∷ []) q p ≡ depends kind links q p
     more_links kind links later earlier q p none =
         ap (λ (t : Bool). overlap q p || t || by_module kind q p)
-          (list_any-append (λ link. is_same_group q.group link.0 && is_same_group p.group link.1) links ((later, earlier) ∷ [])
-          ∙ or_false (groups_depend links q p) (is_same_group q.group later && is_same_group p.group earlier || false) (and_false (is_same_group q.group later) (is_same_group p.group earlier) none))
+        (list_any-append (λ link. is_same_group q.group link.0 && is_same_group p.group link.1) links ((later, earlier) ∷ [])
+        ∙ or_false (groups_depend links q p) (is_same_group q.group later && is_same_group p.group earlier || false) (and_false (is_same_group q.group later) (is_same_group p.group earlier) none))
 
 pub links_push : (links new : List Link) (link : Link) → new ≡ links ++ link ∷ [] → links_by new ≡ links_by links ++ (link.later.now, link.earlier.now) ∷ []
 links_push links new link more = ap (λ (ls : List Link). links_by ls) more ∙ map_push (λ (l : Link). (l.later.now, l.earlier.now)) links link

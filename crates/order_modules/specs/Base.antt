@@ -1,5 +1,5 @@
 -- The steps before tracing, up to the first refused one.
-use Rattle.std.specs.Prelude.{List, [], ◌∷◌, Result, Ok, Err}
+use Rattle.std.specs.Prelude.{List, [], ◌∷◌, Ok, Err}
 use Rattle.crash_model.specs.Disk.{Disk}
 use Rattle.crash_model.specs.Plan.{plan_of, applied}
 use Rattle.crash_model.specs.declared.steps.Act.TheVariants.{Do}

@@ -1,8 +1,8 @@
 -- The patches so far.
-use Rattle.std.specs.Prelude.{◌≡◌, ℕ, List, [], ◌∷◌, ◌++◌, ◌||◌, Some, slice_get, IsTrue}
+use Rattle.std.specs.Prelude.{◌≡◌, ℕ, ◌<◌, All, List, [], ◌∷◌, ◌++◌, ◌||◌, Some, slice_get, IsTrue}
 use Rattle.crash_model.specs.Disk.{Disk, put}
 use Rattle.crash_model.specs.Patches.{Place, places_of}
-use Rattle.crash_model.specs.Trace.{Emitted, Tracing, begun, IsGraphOf, groups_depend, by_module}
+use Rattle.crash_model.specs.Trace.{Emitted, begun, IsGraphOf, groups_depend, by_module}
 use Rattle.crash_model.specs.declared.patches.Patch.{Patch}
 use Rattle.crash_model.specs.declared.steps.Module.{Module}
 use Rattle.order_modules.specs.Labels.{emitted_of}
@@ -26,7 +26,13 @@ all_put d (p ∷ ps) = all_put (put d p.block p.offset p.new) ps
 -- the graph is that of the patches
 pub record IsLog (log : Log) : Type 0 where
   pub written : log.written ≡ all_put log.base (places_of log.patches)
+  pub known : All (λ patch. patch.block < log.base.blocks) log.patches
   pub graph : IsGraphOf log.kind log.base (record (begun log.base) { emitted = log.emitted; links = log.links }) log.patches
+
+-- the log is over the same base, by the same module
+pub record Keeps (old new : Log) : Type 0 where
+  pub base : new.base ≡ old.base
+  pub kind : new.kind ≡ old.kind
 
 -- the log has these patches more, and is else as it was
 pub record Adds (old new : Log) (more : List Emitted) : Type 0 where

@@ -14,7 +14,10 @@ use std::alloc::Allocator;
 ///
 /// A refused operation changes nothing; a step on groups is refused, since groups order traced patches alone. It
 /// takes no memory, and so never fails for want of it.
-pub fn build_base<A: Allocator + Copy>(image: &mut Image<A>, steps: &[Step]) -> Result<(), TraceFault>
+pub fn build_base<A: Allocator + Copy>(
+    image: &mut Image<A>,
+    steps: &[Step],
+) -> Result<(), TraceFault>
     ensures built { OnOk result (based image.old steps.now ≡ Ok image.new) }
     ensures refused { IfErr result (λ fault. based image.old steps.now ≡ Err fault) }
     ensures before { image.new ≡ disk_before_refusal image.old steps.now }

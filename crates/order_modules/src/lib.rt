@@ -5,12 +5,16 @@
 //! between operations. Replay of the journal is in the crate `journal_replay`.
 #![tactic(auto)]
 
-pub mod base;
-pub mod labels;
+mod base;
+mod groups;
+mod labels;
 mod log;
+mod tracer;
+mod transactions;
 
 pub use base::build_base;
 pub use crash_model::names::GroupName;
 pub use crash_model::refusals::TraceFault;
 pub use crash_model::steps::{Act, Module, Step};
 pub use journal_replay::replay;
+pub use tracer::trace;

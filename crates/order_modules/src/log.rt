@@ -6,9 +6,9 @@ ghost use Rattle.patch_sets.specs.Sets.{Has};
 ghost use Rattle.crash_model.specs.Patches.{place};
 ghost use Rattle.crash_model.specs.Trace.{Emitted, is_same_group};
 ghost use Rattle.order_modules.specs.Labels.{emitted_at, group_by, links_by};
-ghost use Rattle.order_modules.specs.Log.{Adds, IsLog, WaitsAt};
+ghost use Rattle.order_modules.specs.Log.{Adds, IsLog, Keeps, WaitsAt};
 
-use crate::labels::{is_in_group, waits, Label, Link};
+use crate::labels::{Label, Link, is_in_group, waits};
 use arrayvec::ArrayVec;
 use crash_model::names::GroupName;
 use crash_model::patches::Patch;
@@ -103,13 +103,20 @@ impl<'a, A: Allocator + Copy> PatchLog<'a, A> {
     ///
     /// It waits for the patches that it overlaps, and for those that its label says. Its undo data are the bytes
     /// before it. It fails only for want of memory, and then the log is as it was.
-    pub fn emit(&mut self, label: Label<'a>, block: u8, offset: u8, bytes: &[u8]) -> Result<(), AllocError>
+    pub fn emit(
+        &mut self,
+        label: Label<'a>,
+        block: u8,
+        offset: u8,
+        bytes: &[u8],
+    ) -> Result<(), AllocError>
         requires block { block < self.old.base.blocks }
         requires some { 0 < length bytes.now }
         requires inside { offset + length bytes.now ≤ 128 }
         requires room { length self.old.emitted < 124 }
         ensures ok { OnOk result (Adds self.old self.new (emitted_at (place block offset bytes.now) label.entry ∷ [])) }
         ensures err { OnErr result (self.new ≡ self.old) }
+        ensures kept { Keeps self.old self.new }
     {
         let deps = dependencies(
             self.module,
@@ -162,9 +169,7 @@ fn dependencies(module: Module, links: &[Link<'_>], labels: &[Label<'_>], later:
 fn has_label_in(labels: &[Label<'_>], name: &GroupName) -> bool
     ensures { result ≡ list_any (λ label. is_same_group (group_by label.group) name.now) labels.now }
 {
-    labels
-        .iter()
-        .any(|label| is_in_group(label.group, name))
+    labels.iter().any(|label| is_in_group(label.group, name))
 }
 
 /// The bytes of a range of a block.

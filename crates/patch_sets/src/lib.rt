@@ -8,4 +8,6 @@ pub mod ends;
 pub mod laws;
 pub mod order;
 pub mod set;
+#[cfg(test)]
+mod tests;
 pub mod write;

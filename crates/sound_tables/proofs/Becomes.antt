@@ -24,7 +24,7 @@ same-all_of base v w i same = record {
 one : {A A' B B' L L' G : Type 0} → (A ↔ A') → (B ↔ B') → (L ↔ L') → (B' ↔ ((A' × (¬ L')) ⊎ G)) → (B ↔ ((A × (¬ L)) ⊎ G))
 one old new lost is = (
   λ b. elim (is.0 (new.0 b)) [ inl h ↦ inl (old.1 h.0, λ l. h.1 (lost.0 l)) | inr g ↦ inr g ],
-  λ h. elim h [ inl w ↦ new.1 (is.1 (inl (old.0 w.0, λ l. w.1 (lost.1 l)))) | inr g ↦ new.1 (is.1 (inr g)) ]
+  λ h. elim h [ inl w ↦ new.1 (is.1 (inl (old.0 w.0, λ l. w.1 (lost.1 l)))) | inr g ↦ new.1 (is.1 (inr g)) ],
 )
 
 pub becomes-same : (old new lost old' new' lost' gained : View) → SameView old old' → SameView new new' → SameView lost lost' → Becomes old' new' gained lost' → Becomes old new gained lost

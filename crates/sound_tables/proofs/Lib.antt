@@ -1,4 +1,5 @@
 pub mod Searches
+pub mod Pigeons
 pub mod Answered
 pub mod Sums
 pub mod Names
@@ -8,7 +9,11 @@ pub mod ByTables
 pub mod Views
 pub mod Becomes
 pub mod Places
+pub mod Steps
+pub mod Kept
+pub mod Meant
+pub mod Counts
 pub mod ToTables
 pub mod FromTables
-pub mod Creates
-pub mod Unlinks
+pub mod Inodes
+pub mod Blocks

@@ -13,17 +13,17 @@ use Rattle.sound_tables.specs.Tables.{Tables, Place, Mark, tables_of, place_at, 
 use Rattle.sound_tables.specs.Tables.Place.{Free, Leads}
 use Rattle.sound_tables.proofs.Puts.{written, SameBlock, same-block, byte-outside, range-outside, place-same, mark-same, place_from, all_same, data-block, within-changed, within-same, changed-kept, same_tables, tables-inode}
 
-byte-inside : (xs : List ℕ) (at : ℕ) (new : List ℕ) (o p : ℕ) → at + length new ≤ length xs → o < length new → p ≡ at + o → get_or (overwrite xs at new) p 0 ≡ get_or new o 0
+pub byte-inside : (xs : List ℕ) (at : ℕ) (new : List ℕ) (o p : ℕ) → at + length new ≤ length xs → o < length new → p ≡ at + o → get_or (overwrite xs at new) p 0 ≡ get_or new o 0
 byte-inside xs at new o p fits less e =
     let spot : p - at ≡ o = omega arith in
     overwrite-inside xs at new p fits (omega arith) (omega arith) ∙ ap (λ (x : ℕ). get_or new x 0) spot
 
-zeros : (n o : ℕ) → get_or (replicate {A = ℕ} n 0) o 0 ≡ 0
+pub zeros : (n o : ℕ) → get_or (replicate {A = ℕ} n 0) o 0 ≡ 0
 zeros zero o = refl
 zeros (suc n) zero = refl
 zeros (suc n) (suc o) = zeros n o
 
-behind_two : (a b n o : ℕ) → 2 ≤ o → get_or (a ∷ b ∷ replicate n 0) o 0 ≡ 0
+pub behind_two : (a b n o : ℕ) → 2 ≤ o → get_or (a ∷ b ∷ replicate n 0) o 0 ≡ 0
 behind_two a b n zero h = absurd (omega arith)
 behind_two a b n (suc zero) h = absurd (omega arith)
 behind_two a b n (suc (suc o)) h = zeros n o

@@ -86,16 +86,19 @@ sum_below-pairs m n f i s j r in_i in_j in_s in_r here there few =
     let a = sum_below-least n s (f i) in_s in
     let b = sum_below-least n r (f j) in_r in
     elim (cases_eq i j) [
-      | inl same ↦ (same, elim (cases_eq s r) [
-        | inl e ↦ e
-        | inr other ↦ absurd (
-            let row = sum_below-least m i rows in_i in
-            let at : f i r ≢ 0 = λ z. there (ap (λ (x : ℕ). f x r) (sym same) ∙ z) in
-            elim (sides s r other) [
-              | inl less ↦ let two = sum_below-two n s r (f i) less in_r in omega arith
-              | inr more ↦ let two = sum_below-two n r s (f i) more in_s in omega arith
-            ])
-      ])
+      | inl same ↦ (
+        same,
+        elim (cases_eq s r) [
+          | inl e ↦ e
+          | inr other ↦ absurd (
+              let row = sum_below-least m i rows in_i in
+              let at : f i r ≢ 0 = λ z. there (ap (λ (x : ℕ). f x r) (sym same) ∙ z) in
+              elim (sides s r other) [
+                | inl less ↦ let two = sum_below-two n s r (f i) less in_r in omega arith
+                | inr more ↦ let two = sum_below-two n r s (f i) more in_s in omega arith
+              ])
+        ],
+      )
       | inr other ↦ absurd (elim (sides i j other) [
         | inl less ↦ let two = sum_below-two m i j rows less in_j in omega arith
         | inr more ↦ let two = sum_below-two m j i rows more in_i in omega arith

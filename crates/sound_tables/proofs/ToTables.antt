@@ -109,33 +109,34 @@ blocks-sound d disk sound =
     record {
       slots = λ i s some. (pointer-below d i s some).1;
       once = λ b i s j r h g.
-        let p = bytes i s b h in
-        let q = bytes j r b g in
-        let own = data-block d b (inside i s b p) in
-        let one : one_if (names_block d i s b) ≢ 0 = λ z. omega (arith, sym (ap one_if (naming i s b p)) ∙ z) in
-        let two : one_if (names_block d j r b) ≢ 0 = λ z. omega (arith, sym (ap one_if (naming j r b q)) ∙ z) in
-        let few : length (namers d b) ≤ 1 = grind (arith, nat_tests, sound.clean.no_twice b own.1) in
-        sum_below-pairs 16 4 (λ k m. one_if (names_block d k m b)) i s j r p.in_inodes q.in_inodes p.in_slots q.in_slots one two (subst (λ (x : ℕ). x ≤ 1) (namers-count d b) few);
+          let p = bytes i s b h in
+          let q = bytes j r b g in
+          let own = data-block d b (inside i s b p) in
+          let one : one_if (names_block d i s b) ≢ 0 = λ z. omega (arith, sym (ap one_if (naming i s b p)) ∙ z) in
+          let two : one_if (names_block d j r b) ≢ 0 = λ z. omega (arith, sym (ap one_if (naming j r b q)) ∙ z) in
+          let few : length (namers d b) ≤ 1 = grind (arith, nat_tests, sound.clean.no_twice b own.1) in
+          sum_below-pairs 16 4 (λ k m. one_if (names_block d k m b)) i s j r p.in_inodes q.in_inodes p.in_slots q.in_slots one two (subst (λ (x : ℕ). x ≤ 1) (namers-count d b) few);
       file_blocks = λ i s b h one.
-        let p = bytes i s b h in
-        let m = (marks i s b p).0 (sym (kind-at d i p.in_inodes) ∙ one) in
-        mark-file d b i (inside i s b p) (ap (λ (x : ℕ). byte d x 0) (sym p.is) ∙ m.0) (ap (λ (x : ℕ). byte d x 1) (sym p.is) ∙ m.1);
+          let p = bytes i s b h in
+          let m = (marks i s b p).0 (sym (kind-at d i p.in_inodes) ∙ one) in
+          mark-file d b i (inside i s b p) (ap (λ (x : ℕ). byte d x 0) (sym p.is) ∙ m.0) (ap (λ (x : ℕ). byte d x 1) (sym p.is) ∙ m.1);
       directory_blocks = λ i s b h two.
-        let p = bytes i s b h in
-        let m = (marks i s b p).1 (sym (kind-at d i p.in_inodes) ∙ two) in
-        mark-directory d b i (inside i s b p) (ap (λ (x : ℕ). byte d x 0) (sym p.is) ∙ m.0) (ap (λ (x : ℕ). byte d x 1) (sym p.is) ∙ m.1);
+          let p = bytes i s b h in
+          let m = (marks i s b p).1 (sym (kind-at d i p.in_inodes) ∙ two) in
+          mark-directory d b i (inside i s b p) (ap (λ (x : ℕ). byte d x 0) (sym p.is) ∙ m.0) (ap (λ (x : ℕ). byte d x 1) (sym p.is) ∙ m.1);
       in_data_area = λ i s b h. data-block d b (inside i s b (bytes i s b h));
       root_block = pointer-at d 0 0 (omega arith) (omega arith) ∙ sound.root.1.block_is;
       one_block = λ i two.
-        let live = live-at d i (λ z. omega arith) in
-        let o = sound.directories i live.0 (sym (kind-at d i live.0) ∙ two) in
-        let own = counts-parts d i o.0 in
-        let low = own.low in
-        (λ z. let none : pointer_of d i 0 ≡ 0 = sym (pointer-at d i 0 live.0 (omega arith)) ∙ z in omega arith,
-        λ s other. elim (cases_eq (t.pointer i s) 0) [
-          | inl z ↦ z
-          | inr some ↦ let at = pointer-below d i s some in pointer-at d i s at.0 at.1 ∙ o.1 s (omega arith) at.1
-        ]);
+          let live = live-at d i (λ z. omega arith) in
+          let o = sound.directories i live.0 (sym (kind-at d i live.0) ∙ two) in
+          let own = counts-parts d i o.0 in
+          let low = own.low in (
+            λ z. let none : pointer_of d i 0 ≡ 0 = sym (pointer-at d i 0 live.0 (omega arith)) ∙ z in omega arith,
+            λ s other. elim (cases_eq (t.pointer i s) 0) [
+              | inl z ↦ z
+              | inr some ↦ let at = pointer-below d i s some in pointer-at d i s at.0 at.1 ∙ o.1 s (omega arith) at.1
+            ],
+          );
       packed = λ i s one none. elim (cases_eq (t.pointer i (s + 1)) 0) [
         | inl z ↦ z
         | inr some ↦
@@ -143,17 +144,17 @@ blocks-sound d disk sound =
             pointer-at d i (s + 1) at.0 at.1 ∙ sound.packed i at.0 (sym (kind-at d i at.0) ∙ one) s at.1 (sym (pointer-at d i s at.0 (omega arith)) ∙ none)
       ];
       low_used = λ b less.
-        let below : b < d.blocks = omega (arith, disk.room) in
-        used-at d b below ∙ rw (ne_eqb (map_of d b) 0 ((sound.map b below).1 (inl less))) refl;
+          let below : b < d.blocks = omega (arith, disk.room) in
+          used-at d b below ∙ rw (ne_eqb (map_of d b) 0 ((sound.map b below).1 (inl less))) refl;
       named_used = λ i s b h.
-        let below = (data-block d b (inside i s b (bytes i s b h))).1 in
-        used-at d b below ∙ rw (ne_eqb (map_of d b) 0 ((sound.map b below).1 (inr (i, s, ((same-view d).pointers i s b).1 h)))) refl;
+          let below = (data-block d b (inside i s b (bytes i s b h))).1 in
+          used-at d b below ∙ rw (ne_eqb (map_of d b) 0 ((sound.map b below).1 (inr (i, s, ((same-view d).pointers i s b).1 h)))) refl;
       used_named = λ b low u.
-        let at = used-below d b u in
-        elim ((sound.map b at.0).0 at.1) [
-          | inl less ↦ absurd (omega arith)
-          | inr w ↦ (w.0, w.1, ((same-view d).pointers w.0 w.1 b).0 w.2)
-        ];
+          let at = used-below d b u in
+          elim ((sound.map b at.0).0 at.1) [
+            | inl less ↦ absurd (omega arith)
+            | inr w ↦ (w.0, w.1, ((same-view d).pointers w.0 w.1 b).0 w.2)
+          ];
     }
 
 inodes-sound : (d : Disk) → IsSound d → (let t = tables_of d in SoundInodes t.kind t.links)
@@ -172,16 +173,16 @@ inodes-sound d sound =
             elim (sound.kinds i live.1) [ inl one ↦ omega arith | inr two ↦ omega arith ]
       ];
       one_name = λ i two.
-        let less = below i (λ z. omega arith) in
-        links-at d i less ∙ elim (cases_eq i 0) [
-          | inl z ↦ ap (links_of d) z ∙ sound.root.0.links_are
-          | inr other ↦ sound.one_name i (omega arith) less (sym (kind i less) ∙ two)
-        ];
+          let less = below i (λ z. omega arith) in
+          links-at d i less ∙ elim (cases_eq i 0) [
+            | inl z ↦ ap (links_of d) z ∙ sound.root.0.links_are
+            | inr other ↦ sound.one_name i (omega arith) less (sym (kind i less) ∙ two)
+          ];
       few_names = λ i one.
-        let less = below i (λ z. omega arith) in
-        let few = sound.few_names i less (sym (kind i less) ∙ one) in
-        let at = links-at d i less in
-        (omega (arith, few.0), omega (arith, few.1));
+          let less = below i (λ z. omega arith) in
+          let few = sound.few_names i less (sym (kind i less) ∙ one) in
+          let at = links-at d i less in
+          (omega (arith, few.0), omega (arith, few.1));
     }
 
 names-sound : (d : Disk) → IsSound d → (let t = tables_of d in SoundNames t.kind t.entry)
@@ -190,30 +191,30 @@ names-sound d sound =
     let bytes : (dir k i : ℕ) (spelling : List ℕ) → t.entry dir k ≡ Leads i spelling → EntryBytes d dir k i spelling = entry-bytes d in
     let is : (dir k i : ℕ) (spelling : List ℕ) → t.entry dir k ≡ Leads i spelling → (is_entry d dir k ≡ true) × (target_of d dir k ≡ i) = λ dir k i spelling e. entry-is d dir k i spelling (bytes dir k i spelling e) in
     let apart : (dir j k i h : ℕ) (spelling : List ℕ) → t.entry dir j ≡ Leads i spelling → t.entry dir k ≡ Leads h spelling → ¬ (j < k) = λ dir j k i h spelling e f less.
-      let p = bytes dir j i spelling e in
-      let q = bytes dir k h spelling f in
-      sound.distinct dir p.in_dir j k less q.in_place (is dir j i spelling e).0 (is dir k h spelling f).0 (p.spelt ∙ sym q.spelt) in
+    let p = bytes dir j i spelling e in
+    let q = bytes dir k h spelling f in
+    sound.distinct dir p.in_dir j k less q.in_place (is dir j i spelling e).0 (is dir k h spelling f).0 (p.spelt ∙ sym q.spelt) in
     record {
       places = λ dir k i spelling e. let b = bytes dir k i spelling e in (b.in_dir, b.in_place);
       parents = λ dir k i spelling e.
-        let b = bytes dir k i spelling e in
-        kind-at d dir b.in_dir ∙ (counts-parts d dir b.counting).directory;
+          let b = bytes dir k i spelling e in
+          kind-at d dir b.in_dir ∙ (counts-parts d dir b.counting).directory;
       no_dangling = λ dir k i spelling e z.
-        let b = bytes dir k i spelling e in
-        let at = is dir k i spelling e in
-        let live = living (is_entry d dir k) (is_live d (target_of d dir k)) at.0 (sound.clean.no_dangling dir b.in_dir k b.in_place) in
-        let living_i : is_live d i ≡ true = ap (is_live d) (sym at.1) ∙ live in
-        let less : i < 16 = grind (arith, nat_tests) in
-        let some : kind_of d i ≢ 0 = grind (arith, nat_tests) in
-        some (sym (kind-at d i less) ∙ z);
+          let b = bytes dir k i spelling e in
+          let at = is dir k i spelling e in
+          let live = living (is_entry d dir k) (is_live d (target_of d dir k)) at.0 (sound.clean.no_dangling dir b.in_dir k b.in_place) in
+          let living_i : is_live d i ≡ true = ap (is_live d) (sym at.1) ∙ live in
+          let less : i < 16 = grind (arith, nat_tests) in
+          let some : kind_of d i ≢ 0 = grind (arith, nat_tests) in
+          some (sym (kind-at d i less) ∙ z);
       no_way_up = λ dir k i spelling e z.
-        let b = bytes dir k i spelling e in
-        let at = is dir k i spelling e in
-        sound.no_way_up dir b.in_dir k b.in_place at.0 (at.1 ∙ z);
+          let b = bytes dir k i spelling e in
+          let at = is dir k i spelling e in
+          sound.no_way_up dir b.in_dir k b.in_place at.0 (at.1 ∙ z);
       named = λ dir k i spelling e.
-        let b = bytes dir k i spelling e in
-        let w = sound.named dir b.in_dir k b.in_place (is dir k i spelling e).0 in
-        (w.0, w.1, sym b.spelt ∙ w.2);
+          let b = bytes dir k i spelling e in
+          let w = sound.named dir b.in_dir k b.in_place (is dir k i spelling e).0 in
+          (w.0, w.1, sym b.spelt ∙ w.2);
       distinct = λ dir j k i h spelling e f. elim (cases_order j k) [
         | inl same ↦ same
         | inr other ↦ elim other [ inl less ↦ absurd (apart dir j k i h spelling e f less) | inr more ↦ absurd (apart dir k j h i spelling f e more) ]
@@ -229,8 +230,8 @@ names-sound d sound =
 counts-sound : (d : Disk) → IsSound d → (let t = tables_of d in SoundCounts t.kind t.links t.entry)
 counts-sound d sound = record {
   counted = λ i not_root live.
-    let at = live-at d i live in
-    sym (entries-count d i) ∙ sound.counted i (omega arith) at.1 ∙ sym (links-at d i at.0);
+      let at = live-at d i live in
+      sym (entries-count d i) ∙ sound.counted i (omega arith) at.1 ∙ sym (links-at d i at.0);
 }
 
 pub sound-tables : (d : Disk) → IsDisk d → IsSound d → Sound (tables_of d)

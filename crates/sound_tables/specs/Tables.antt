@@ -112,6 +112,32 @@ pub record SameView (v w : View) : Type 0 where
 abbrev pub created : Tables → ℕ → ℕ → ℕ → List ℕ → Tables
 created t dir k i name = with_entry (with_inode t i 1 1) dir k (Leads i (spelled name))
 
+-- a file has one more block
+abbrev pub grown : Tables → ℕ → ℕ → ℕ → Tables
+grown t i s b = with_pointer (with_mark (with_used t b true) b (FileOf i)) i s b
+
+-- a file has one more name
+abbrev pub linked : Tables → ℕ → ℕ → ℕ → List ℕ → Tables
+linked t dir k i name = with_entry (with_links t i (t.links i + 1)) dir k (Leads i (spelled name))
+
+-- a file has one name less, and so many links
+abbrev pub unlinked : Tables → ℕ → ℕ → ℕ → ℕ → Tables
+unlinked t dir k i links = with_links (with_entry t dir k Free) i links
+
+-- an inode is gone with its name, and these blocks are in use
+abbrev pub removed : Tables → ℕ → ℕ → ℕ → (ℕ → Bool) → Tables
+removed t dir k i used = record t {
+  kind = changed t.kind i 0;
+  links = changed t.links i 0;
+  pointer = changed t.pointer i (λ _. 0);
+  used = used;
+  entry = with_place t.entry dir k Free;
+}
+
+-- a new directory with its block
+abbrev pub made : Tables → ℕ → ℕ → ℕ → ℕ → List ℕ → Tables
+made t dir k i b name = with_entry (with_pointer (with_mark (with_used (with_inode t i 2 1) b true) b (DirectoryOf i)) i 0 b) dir k (Leads i (spelled name))
+
 -- ---- sound tables: four groups of facts, each said of the tables that it needs and of no other
 
 -- 1 where the place leads to the inode

@@ -1,5 +1,4 @@
-use Rattle.std.proofs.Common.{◌<◌, length, arith, sym, ◌∙◌}
-use Rattle.fs_check.specs.Passed.{HavePassedSlots}
+use Rattle.std.proofs.Common.{arith, sym, ◌∙◌}
 use Rattle.fs_check.proofs.Slots.{slots-row, slots-empty, slots-named, faulty-wrong, faulty-twice}
 use Rattle.fs_check.proofs.clean.has_clean_slots.Goals as goal
 use Rattle.fs_check.proofs.clean.has_clean_slots.Goals.{then-not-is_right_block-via-then-not-is_right_block, then-not-is_right_block-via-else-not-is_right_block+then-named-block-ne0, then-block-ne0+else-not-is_right_block+else-named-block-ne0, else-block-ne0}

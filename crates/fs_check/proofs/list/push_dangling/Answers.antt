@@ -1,6 +1,6 @@
-use Rattle.std.proofs.Common.{arith, ◌≡◌, refl, ℕ, List, ◌++◌, subst, sym, append_assoc, ◌∙◌, ap}
-use Rattle.crash_model.specs.Lists.{each_below, some_below, each_below-step}
-use Rattle.crash_model.specs.Faults.{dangling_in, dangling_at}
+use Rattle.std.proofs.Common.{arith, ◌≡◌, refl, append_assoc, ◌∙◌}
+use Rattle.crash_model.specs.Lists.{each_below-step}
+use Rattle.crash_model.specs.Faults.{dangling_in}
 use Rattle.fs_check.proofs.list.push_dangling.Goals as goal
 
 pub loop-dir-preserved : goal.loop-dir-preserved

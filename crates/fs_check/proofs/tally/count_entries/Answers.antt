@@ -1,4 +1,4 @@
-use Rattle.std.proofs.Common.{◌≡◌, ℕ, ◌-◌, ◌<◌, length, arith, sym, ap, ◌∙◌, Fits}
+use Rattle.std.proofs.Common.{◌≡◌, ℕ, ◌-◌, ◌<◌, length, arith, sym, ap, ◌∙◌}
 use Rattle.crash_model.specs.Layout.{entry_of}
 use Rattle.crash_model.specs.Faults.{entry_leading}
 use Rattle.fs_check.proofs.Counting.{tally-row}

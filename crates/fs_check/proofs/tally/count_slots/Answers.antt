@@ -1,4 +1,4 @@
-use Rattle.std.proofs.Common.{◌<◌, length, arith, sym, ◌∙◌, Fits}
+use Rattle.std.proofs.Common.{◌<◌, length, arith, sym, ◌∙◌}
 use Rattle.fs_check.proofs.Counting.{tally-row}
 use Rattle.fs_check.proofs.Slots.{count-empty, count-wild, count-tame, count-fits}
 use Rattle.crash_model.specs.Faults.{namer_at}

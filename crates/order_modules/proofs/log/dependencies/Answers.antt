@@ -26,7 +26,7 @@ loop-id-preserved c =
       | else-waits w ↦
           subst (Collects P (id + 1)) (sym w.ids-is) (collects_skip P id c.loop-id.ids c.loop-id.invariant
           (λ is. let same : is.0 ≡ x = sym (get_or_from_slice_get labels id is.0 x is.1) ∙ sym c.index-labels-id.is in
-              let no : false ≡ true = sym w.if-waits.false ∙ c.waits.ensures ∙ subst (λ y. IsTrue (groups_depend links (emitted_of later) (emitted_of y) || by_module c.args.module (emitted_of later) (emitted_of y))) same is.2 in cc))
+          let no : false ≡ true = sym w.if-waits.false ∙ c.waits.ensures ∙ subst (λ y. IsTrue (groups_depend links (emitted_of later) (emitted_of y) || by_module c.args.module (emitted_of later) (emitted_of y))) same is.2 in cc))
     ]
 
 pub returns : goal.returns

@@ -1,0 +1,10 @@
+//! The definitions of `crash_model` and `patch_sets` on worked examples.
+//!
+//! Each function has an empty body: its contract is a fact about the definitions, and the check computes it.
+#![tactic(auto)]
+
+pub mod answers;
+pub mod crashes;
+pub mod images;
+pub mod journals;
+pub mod operations;
