@@ -12,7 +12,7 @@ use Rattle.board_rule.specs.Lists.{row_of, StartsWith}
 use Rattle.board_rule.specs.Views.{Told}
 use Rattle.board_rule.specs.Rule.{IndexOk, Complete, Kept}
 use Rattle.board_rule.specs.Changes.{with_seen}
-use Rattle.board_rule.specs.Plays.{marked, scanned, filed}
+use Rattle.board_rule.specs.Plays.{Scans, marked, scanned, filed}
 use Rattle.board_rule.specs.declared.view.View.{View}
 use Rattle.board_rule.proofs.Sums.{starts-refl, starts-length, take_beginning, take_starts, take_length, take_whole, rows_cases}
 use Rattle.board_rule.proofs.Locks.{alone, locks_stay}
@@ -78,11 +78,13 @@ module _ (t : Told) (good : ℕ → Type 0) (S : Type 0) where
             (index_stay t.limit o.rows s.words words' s.views id m.0 w o.wide o.index me (λ p c h b. still (index_word t.limit p c)) (λ p c h b held writes owes. inr (held, writes, owes))),
         (
           refl,
-          λ q2 j2 at2 near2 low2. (
-            omega (arith, named, o.row.short q near, told),
-            (let same : q ≡ q2 = omega (arith, at2, told, near, near2) in subst (λ (y : ℕ). (l : List ℕ) × (w ≡ with_seen m.0 (set m.0.rows.seen y l)) × StartsWith l (row_of m.0.rows.seen y) × (length l ≡ max (length (row_of m.0.rows.seen y)) x)) same
-                (more, refl, take_starts row seen (max (length seen) x) (k.saw q near) (omega arith), take_length row (max (length seen) x) (omega (arith, named, before)))),
-          ),
+          λ q2 j2 at2 near2 low2. let same : q ≡ q2 = omega (arith, at2, told, near, near2) in subst (λ (y : ℕ). Scans m.0 y x w) same record {
+            row = more;
+            is = refl;
+            more = take_starts row seen (max (length seen) x) (k.saw q near) (omega arith);
+            long = take_length row (max (length seen) x) (omega (arith, named, before));
+            within = omega (arith, named, o.row.short q near, told);
+          },
         ),
       ))
 

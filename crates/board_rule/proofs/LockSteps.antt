@@ -99,7 +99,7 @@ module _ (t : Told) (good : ℕ → Type 0) (S : Type 0) where
         keeps,
         tt,
         takes_right s o id q new right m near me none-yet none-on-way top (omega (arith, hit, gain)),
-        (refl, (λ _ p e. let same : q ≡ p = omega (arith, e) in subst (λ (x : ℕ). Takes m.0 right x w) same (row, marks, refl, k.saw q near, omega (arith, o.row.short q near, told))), λ ne. absurd (ne hit)),
+        (refl, (λ _ p e. let same : q ≡ p = omega (arith, e) in subst (λ (x : ℕ). Takes m.0 right x w) same record { row = row; marks = marks; is = refl; more = k.saw q near; short = omega (arith, o.row.short q near, told) }), λ ne. absurd (ne hit)),
       ))
       (λ miss. (m.0, keeps, tt, unmoved t good S s o j id m me, (refl, (λ e. absurd (miss e)), λ _. refl))))
 

@@ -39,9 +39,9 @@ module _ (t : Told) (good : ℕ → Type 0) (S : Type 0) where
   seen_inside s o id q k m me near b = let saw = (o.seats id m.0 me).saw q near in
       (omega (arith, b, starts-length (row_of o.rows q) (row_of m.0.rows.seen q) saw), starts-at (row_of o.rows q) (row_of m.0.rows.seen q) k saw b)
 
-  -- the two loads of an entry
-  pub glances_low : (n id : ℕ) (m : Me S View) (i : ℕ) → Allows Rule n id m i (λ y. y) (low_read (IsReached t.next t.origin) (step n i 0 0 none) m)
-  glances_low n id m i s o wide me _ = (
+  -- the two loads of an entry. The first tells what holds of each word that is reached
+  pub glances_low : (holds : ℕ → Type 0) (n id : ℕ) (m : Me S View) (i : ℕ) → ((x : ℕ) → IsReached t.next t.origin x → holds x) → Allows Rule n id m i (λ y. y) (low_read holds (step n i 0 0 none) m)
+  glances_low holds n id m i each s o wide me _ = (
     m.0,
     keeps,
     tt,
@@ -49,7 +49,7 @@ module _ (t : Told) (good : ℕ → Type 0) (S : Type 0) where
     (
       refl,
       λ q k at near b. let e = seen_inside s o id q k m me near b in
-          (ap (λ (x : ℕ). get_or s.words x 0) at ∙ o.row.lows q k near e.0 ∙ ap (λ (x : ℕ). x % half) e.1, subst (IsReached t.next t.origin) e.1 (o.row.reached q k near e.0)),
+          (ap (λ (x : ℕ). get_or s.words x 0) at ∙ o.row.lows q k near e.0 ∙ ap (λ (x : ℕ). x % half) e.1, subst holds e.1 (each (get_or (row_of o.rows q) k 0) (o.row.reached q k near e.0))),
     ),
   )
 

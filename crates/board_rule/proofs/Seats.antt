@@ -121,6 +121,14 @@ unfiled_on views q k i j v w both gone me at-w apart held right unfiled no-right
     (λ e. let same : d.1 ≡ w = some-injective d.1 w (sym d.2 ∙ ap (get_elem? views) e ∙ at-w) in absurd (omega (arith, no-right, d.4, ap (λ (x : View). x.rows.right) same)))
     (λ nj. (d.0, d.1, set_else (set views i both) j d.0 gone nj ∙ set_else views i d.0 both ni ∙ d.2, d.3, d.4, d.5)))
 
+-- a seat at one of the 13 shards was joined from two that agree
+pub joined_agree : (v w : View) → (joined v w).rows.held < 13 → agree v.rows.seen w.rows.seen ≡ true
+joined_agree v w h = go (agree v.rows.seen w.rows.seen) h
+  where
+    go : (a : Bool) → cond a v.rows.held 13 < 13 → a ≡ true
+    go true f = refl
+    go false f = absurd (omega (arith, f))
+
 -- the seat that two make, at the shard h
 abbrev joined_at : View → View → ℕ → View
 joined_at v w h = record (joined v w) { rows = record (joined v w).rows { held = h } }
@@ -242,11 +250,3 @@ module _ (t : Told) (good : ℕ → Type 0) (S : Type 0) where
       let same : joined_at v w v.rows.held ≡ joined v w = ap (joined_at v w) (sym (ap {B = ℕ} (λ t. cond t v.rows.held 13) agreed)) in
       subst (λ (b : View). Rule record { words = s.words; homes = s.homes; views = set (set s.views id b) other spent }) same
       (joins_at id other v w a b c d e s o me apart (subst (λ (b : View). get_elem? (set s.views id b) other ≡ some w) (sym same) it))
-
-  -- a seat at one of the 13 shards was joined from two that agree
-  pub joined_agree : (v w : View) → (joined v w).rows.held < 13 → agree v.rows.seen w.rows.seen ≡ true
-  joined_agree v w h = go (agree v.rows.seen w.rows.seen) h
-    where
-      go : (a : Bool) → cond a v.rows.held 13 < 13 → a ≡ true
-      go true f = refl
-      go false f = absurd (omega (arith, f))

@@ -20,8 +20,20 @@ pub record IsIdle (v : View) : Type 0 where
   pub uncounted : v.count.uncounted ≡ 0
 
 -- a right of shard q, whose whole row is seen
-abbrev pub Takes : View → ℕ → ℕ → View → Type 0
-Takes v right q w = (row : List ℕ) × (marks : List ℕ) × (w ≡ with_right v q row marks right) × StartsWith row (row_of v.rows.seen q) × (length row ≤ v.limit)
+pub record Takes (v : View) (right q : ℕ) (w : View) : Type 0 where
+  pub row : List ℕ
+  pub marks : List ℕ
+  pub is : w ≡ with_right v q row marks right
+  pub more : StartsWith row (row_of v.rows.seen q)
+  pub short : length row ≤ v.limit
+
+-- an index word of shard q named a place, or none at 0: the places up to it are seen
+pub record Scans (v : View) (q named : ℕ) (w : View) : Type 0 where
+  pub row : List ℕ
+  pub is : w ≡ with_seen v (slice_set v.rows.seen q row)
+  pub more : StartsWith row (row_of v.rows.seen q)
+  pub long : length row ≡ max (length (row_of v.rows.seen q)) named
+  pub within : named ≤ v.limit
 
 module _ {S : Type 0} where
   abbrev pub peeked : Step S → Me S View → ℕ → Me S View → Type 0
@@ -71,10 +83,9 @@ module _ {S : Type 0} where
   marked st m r n = (n ≡ m) × ((j : ℕ) → st.word ≡ index_word m.0.limit m.0.rows.held j → j < m.0.limit → (r ≡ slice_index m.0.rows.marks j) × (r ≤ length (row_of m.0.rows.seen m.0.rows.held)))
       × (m.0.rows.unfiled ≡ 0 → Complete m.0.limit (row_of m.0.rows.seen m.0.rows.held) m.0.rows.marks)
 
-  -- with no right: the places up to the one that the index names are seen
+  -- with no right
   abbrev pub scanned : Step S → Me S View → ℕ → Me S View → Type 0
-  scanned st m r n = (n.1 ≡ m.1) × ((q j : ℕ) → st.word ≡ index_word m.0.limit q j → q < 13 → j < m.0.limit
-      → (r ≤ m.0.limit) × ((row : List ℕ) × (n.0 ≡ with_seen m.0 (slice_set m.0.rows.seen q row)) × StartsWith row (row_of m.0.rows.seen q) × (length row ≡ max (length (row_of m.0.rows.seen q)) r)))
+  scanned st m r n = (n.1 ≡ m.1) × ((q j : ℕ) → st.word ≡ index_word m.0.limit q j → q < 13 → j < m.0.limit → Scans m.0 q r n.0)
 
   abbrev pub filed : Step S → Me S View → ℕ → Me S View → Type 0
   filed st m r n = (marks : List ℕ) × (n ≡ (record m.0 { rows = record m.0.rows { marks = marks; unfiled = 0 } }, m.1))

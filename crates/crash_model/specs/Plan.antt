@@ -63,8 +63,11 @@ has_no_kind d i = kind_of d i == 0
 abbrev pub free_inode : Disk → Option ℕ
 free_inode d = first_below 16 (has_no_kind d)
 
+abbrev pub is_free_block : Disk → ℕ → Bool
+is_free_block d b = is_data d b && map_of d b == 0
+
 abbrev pub free_block : Disk → Option ℕ
-free_block d = first_below d.blocks (λ b. is_data d b && map_of d b == 0)
+free_block d = first_below d.blocks (is_free_block d)
 
 abbrev pub is_free_entry : Disk → ℕ → ℕ → Bool
 is_free_entry d dir k = counts d dir && entry_of d dir k == 0
@@ -72,8 +75,11 @@ is_free_entry d dir k = counts d dir && entry_of d dir k == 0
 abbrev pub free_entry : Disk → ℕ → Option ℕ
 free_entry d dir = first_below 10 (is_free_entry d dir)
 
+abbrev pub is_free_slot : Disk → ℕ → ℕ → Bool
+is_free_slot d inode s = pointer_of d inode s == 0
+
 abbrev pub free_slot : Disk → ℕ → Option ℕ
-free_slot d inode = first_below 4 (λ s. pointer_of d inode s == 0)
+free_slot d inode = first_below 4 (is_free_slot d inode)
 
 -- ---- the changes
 

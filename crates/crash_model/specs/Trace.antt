@@ -176,17 +176,17 @@ is_among name names = list_any (bytes_eq name) names
 
 abbrev pub ended_group : Tracing → ℕ → Option (List ℕ) → Result Tracing TraceFault
 ended_group s line None = Err (no.GroupFault line)
-ended_group s line (Some a) = Ok (record s { current = None; ended = a ∷ s.ended })
+ended_group s line (Some a) = Ok (record s { current = None; ended = s.ended ++ a ∷ [] })
 
 abbrev pub step : Module → Tracing → ℕ → Act → Result Tracing TraceFault
 step kind s line (Do op) = planned kind line s (plan_of s.disk op)
 step kind s line (Group a) =
     refuse_if (is_some s.current || is_among a s.opened) (no.GroupFault line)
-    (record s { current = Some a; opened = a ∷ s.opened })
+    (record s { current = Some a; opened = s.opened ++ a ∷ [] })
 step kind s line End = ended_group s line s.current
 step kind s line (Depend b a) =
     refuse_if (not (is_among a s.ended) || bytes_eq b a || list_any (λ e. is_same_group e.group b) s.emitted) (no.GroupFault line)
-    (record s { links = (b, a) ∷ s.links })
+    (record s { links = s.links ++ (b, a) ∷ [] })
 
 -- all steps, up to the first refused one
 abbrev pub traced : Module → Tracing → List Step → Result Tracing TraceFault

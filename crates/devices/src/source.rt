@@ -1,9 +1,9 @@
 //! Sources of bytes.
 
-ghost use Rattle.std.specs.Prelude.{◌≡◌, ℕ, ◌+◌, ◌-◌, ◌^◌, ◌<◌, ◌≤◌, List, Option, length, IfOk, OnOk, OnErr, IsErrOf, min};
+ghost use Rattle.std.specs.Prelude.{◌≡◌, ℕ, ◌+◌, ◌-◌, ◌^◌, ◌<◌, ◌≤◌, List, Option, length, IfOk, IfErr, OnOk, OnErr, IsErrOf, min};
 ghost use Rattle.std.specs.Io.KnownBytes.{ReadConsumes, Consumes, IsAtEnd};
 ghost use Rattle.std.specs.Io.{ReadsAtMost};
-ghost use Rattle.devices.specs.Counted.{Counts};
+ghost use Rattle.devices.specs.Counted.{Counts, IsReadFault};
 
 use crash_model::refusals::RunFault;
 use std::alloc::Allocator;
@@ -47,6 +47,7 @@ pub fn read_to_end<A: Allocator + Copy, S: Source>(
     ensures gone { (bytes : List ℕ) × Consumes (S.coming source.old) (S.coming source.new) bytes × (IsErrOf result RunFault.ScriptTooLong → MAX_SCRIPT_BYTES < length bytes) }
     ensures worked { OnOk result (S.failures source.new ≡ S.failures source.old) }
     ensures failed { IsErrOf result RunFault.CannotRead → S.failures source.new ≡ S.failures source.old + 1 }
+    ensures kinds { IfErr result IsReadFault }
     ensures other { OnErr result ((IsErrOf result RunFault.CannotRead → ⊥) → S.failures source.new ≡ S.failures source.old) }
 {
     let mut bytes = Vec::new(alloc);

@@ -2,6 +2,7 @@
 
 ghost use Rattle.std.specs.Prelude.{◌≡◌, ◌≤◌, ◌↔◌, IfOk, IsErrOf, OnOk, replicate};
 ghost use Rattle.crash_model.specs.Disk.{put, formatted as formatted_disk, IsGeometry};
+ghost use Rattle.crash_model.specs.Sound.{IsSound, HasZeroJournal};
 
 use crate::image::Image;
 use std::alloc::{AllocError, Allocator};
@@ -31,10 +32,12 @@ impl<A: Allocator + Copy> Image<A> {
     /// A new disk with this number of blocks and of journal blocks.
     ///
     /// It holds the superblock, the map with the blocks up to the root's in use, inode 0, which is the root directory,
-    /// and the root's empty block. There are 16 to 128 blocks, and at least six more than journal blocks.
+    /// and the root's empty block; its journal is zero. There are 16 to 128 blocks, and at least six more than journal
+    /// blocks; else the geometry is bad.
     pub fn formatted(alloc: A, blocks: usize, journal: usize) -> Result<Image<A>, ImageFault>
         ensures ok { IfOk result (λ image. image ≡ formatted_disk blocks journal) }
         ensures lawful { OnOk result (IsGeometry blocks journal) }
+        ensures sound { IfOk result (λ image. IsSound image × HasZeroJournal image) }
         ensures bad { IsErrOf result ImageFault.BadGeometry ↔ ¬ (IsGeometry blocks journal) }
     {
         if blocks < 16 || blocks > 128 || journal > blocks - 6 {

@@ -7,7 +7,7 @@ use std::alloc::{AllocError, Allocator};
 use std::marker::Model;
 
 /// The bytes of a block.
-pub const BLOCK_SIZE: usize = 128;
+const BLOCK_SIZE: usize = 128;
 
 /// A disk in memory: 16 to 128 blocks of 128 bytes, of which the journal leaves at least six.
 #[derive(Drop)]

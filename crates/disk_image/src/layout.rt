@@ -45,7 +45,8 @@ impl<A: Allocator + Copy> Image<A> {
 
     /// Whether a number is that of a block of the data area, which begins behind the journal.
     pub fn is_data(&self, block: u8) -> bool
-        ensures { result ≡ is_data self.now block }
+        ensures value { result ≡ is_data self.now block }
+        ensures within { IsTrue result → block < 128 }
     {
         4 + self.journal <= block as usize && (block as usize) < self.blocks
     }

@@ -1,12 +1,14 @@
 //! A disk image in memory: its bytes, what they mean, and the disk that a format leaves.
 //!
-//! Contracts see an [`image::Image`] as a `Disk`: its numbers of blocks and its bytes, block after block. The layout
+//! Contracts see an [`Image`] as a `Disk`: its numbers of blocks and its bytes, block after block. The layout
 //! of those bytes is defined in the crate `crash_model`, in `specs/Disk.antt` and `specs/Layout.antt`.
 #![tactic(auto)]
 
-pub mod format;
-pub mod image;
-pub mod layout;
+mod format;
+mod image;
+mod layout;
+#[cfg(test)]
+mod tests;
 
 pub use format::ImageFault;
 pub use image::Image;

@@ -87,7 +87,8 @@ impl<A: Allocator + Copy> Graph<A> {
     /// The patch of an id.
     pub fn patch(&self, id: usize) -> &Patch
         requires { id < length self.now }
-        ensures { IsAt self.now id result.now }
+        ensures at { IsAt self.now id result.now }
+        ensures whole { IsPatch result.now }
     {
         &self.patches[id]
     }

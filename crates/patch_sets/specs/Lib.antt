@@ -2,3 +2,4 @@ pub mod Sets
 pub mod Closed
 pub mod Machine
 pub mod Writes
+pub mod Ends

@@ -4,7 +4,10 @@
 //! each id p that is in it.
 #![tactic(auto)]
 
+pub mod ends;
 pub mod laws;
 pub mod order;
 pub mod set;
+#[cfg(test)]
+mod tests;
 pub mod write;

@@ -1,4 +1,4 @@
-use Rattle.std.proofs.Common.{◌≡◌, sym, arith, true, false}
+use Rattle.std.proofs.Common.{sym, arith}
 use Rattle.std.proofs.lemmas.Grind.{common_steps}
 use Rattle.crash_model.specs.Lists.{first_below-none, first_below-lowest}
 use Rattle.crash_model.specs.Plan.{is_free_entry}

@@ -1,0 +1,114 @@
+//! All that the program does, over any reader and writers.
+#![tactic(auto)]
+
+ghost use Rattle.std.specs.Prelude.{◌≡◌, ◌≤◌};
+ghost use Rattle.command_line.specs.Ranges.{IsInRanges};
+
+use clap::error::ErrorKind;
+use command_line::{Call, settings_of};
+use crash_model::refusals::RunFault;
+use crash_text::serve::serve;
+use devices::standard::Counted;
+use std::alloc::{Allocator, Global};
+use std::fs::File;
+use std::io::{self, Read, Write};
+use std::rt::Files;
+
+/// The exit status of a refusal, and of a fault of the command line.
+const REFUSED: u8 = 2;
+
+/// Answers a command line, and gives the exit status: 0 with no failing set, 1 with at least one, 2 with a refusal.
+///
+/// `words` stand without the program's name. It reads the script that they name, else `input`, writes the report to `out`,
+/// and a refusal, as one line, or a fault of the command line to `err`. A request for help is printed on `out`, with status 0.
+/// `heap` is what the command line and JSON take memory from, whose crates take no other, and `alloc` serves the rest.
+pub fn answer<'a, R: Files, A: Allocator + Copy, I: Read, O: Write, E: Write>(
+    rt: &R,
+    heap: Global,
+    alloc: A,
+    words: &'a [&'a str],
+    input: &mut I,
+    out: &mut O,
+    err: &mut E,
+) -> u8
+    ensures { result ≤ 2 }
+{
+    let call = match settings_of(heap, words) {
+        Ok(call) => call,
+        Err(error) => return tell(out, err, error),
+    };
+    match serve_call(rt, heap, alloc, &call, input, out) {
+        Ok(0) => 0,
+        Ok(_) => 1,
+        Err(fault) => refuse(err, fault),
+    }
+}
+
+/// Serves the script that the call names, else the input.
+fn serve_call<R: Files, A: Allocator + Copy, I: Read, O: Write>(
+    rt: &R,
+    heap: Global,
+    alloc: A,
+    call: &Call<'_>,
+    input: &mut I,
+    out: &mut O,
+) -> Result<usize, RunFault>
+    requires { IsInRanges call.now }
+{
+    let mut sink = Counted::new(out);
+    match call.script {
+        Some(name) => {
+            let file = File::open(rt, name).map_err(open_fault)?;
+            serve(
+                heap,
+                alloc,
+                &mut Counted::new(file),
+                &mut sink,
+                &call.settings,
+            )
+        }
+        None => serve(
+            heap,
+            alloc,
+            &mut Counted::new(input),
+            &mut sink,
+            &call.settings,
+        ),
+    }
+}
+
+fn open_fault(error: io::Error) -> RunFault {
+    if error.kind() == io::ErrorKind::OutOfMemory {
+        RunFault::OutOfMemory
+    } else {
+        RunFault::CannotRead
+    }
+}
+
+/// Prints a refusal as one line. Where that fails too, the status is the same.
+pub fn refuse<E: Write>(err: &mut E, fault: RunFault) -> u8
+    ensures { result ≡ 2 }
+{
+    let _ = match fault.line() {
+        Some(line) => write!(err, "crashmap: line {line}: {fault}\n"),
+        None => write!(err, "crashmap: {fault}\n"),
+    };
+    REFUSED
+}
+
+/// Prints what `clap` says of a command line: help on `out`, a fault on `err`.
+fn tell<O: Write, E: Write>(out: &mut O, err: &mut E, error: clap::Error) -> u8
+    ensures { result ≤ 2 }
+{
+    if error.kind() == ErrorKind::OutOfMemory {
+        return refuse(err, RunFault::OutOfMemory);
+    }
+    if error.use_stderr() {
+        let _ = write!(err, "{error}");
+        return REFUSED;
+    }
+    match write!(out, "{error}") {
+        Ok(()) => 0,
+        Err(_) => refuse(err, RunFault::CannotWrite),
+    }
+}

@@ -1,0 +1,59 @@
+-- Patches put on a disk and taken back.
+use Rattle.std.specs.Prelude.{◌≡◌, ℕ, ◌+◌, ◌<◌, List, [], ◌∷◌, if◌then◌else◌}
+use Rattle.std.specs.List.{All}
+use Rattle.patch_sets.specs.Sets.{has}
+use Rattle.patch_sets.specs.Closed.{IsClosed}
+use Rattle.patch_graph.specs.Graph.{IsGraph}
+use Rattle.crash_model.specs.Disk.{Disk, IsDisk, put}
+use Rattle.crash_model.specs.Patches.{deps_of, image_of, AreUndo}
+use Rattle.crash_model.specs.Replay.{replayed}
+use Rattle.crash_model.specs.Faults.{IsClean}
+use Rattle.crash_model.specs.declared.patches.Patch.{Patch}
+
+-- the disk with the new bytes of a patch, and with the bytes that they replaced
+abbrev pub redone : Patch → Disk → Disk
+redone p d = put d p.block p.offset p.new.items
+
+abbrev pub undone : Patch → Disk → Disk
+undone p d = put d p.block p.offset p.undo.items
+
+-- the disk with the patches of a set taken back in descending order of their ids, of which the first is `id`
+abbrev pub undone_from : ℕ → Disk → List Patch → ℕ → Disk
+undone_from id d [] set = d
+undone_from id d (p ∷ ps) set = if has set id then undone p (undone_from (id + 1) d ps set) else undone_from (id + 1) d ps set
+
+-- the disk with the patches of a set taken back
+abbrev pub undone_of : Disk → List Patch → ℕ → Disk
+undone_of d patches set = undone_from 0 d patches set
+
+-- the patches of a graph change blocks of the disk alone, and hold the bytes that they replace
+pub record AreOver (base : Disk) (patches : List Patch) : Type 0 where
+  pub disk : IsDisk base
+  pub graph : IsGraph patches
+  pub fits : All (λ p. p.block < base.blocks) patches
+  pub undo : AreUndo base patches
+
+-- a base, patches over it, and a set of them
+pub record Applied : Type 0 where
+  pub base : Disk
+  pub patches : List Patch
+  pub set : ℕ
+
+-- the patches and the set, over the base of which an image is that of the set
+abbrev pub applied : Disk → List Patch → ℕ → Applied
+applied image patches set = record { base = undone_of image patches set; patches = patches; set = set }
+
+-- the image is that of a closed set
+pub record IsApplied (a : Applied) (image : Disk) : Type 0 where
+  pub over : AreOver a.base a.patches
+  pub closed : IsClosed (deps_of a.patches) a.set
+  pub holds : image ≡ image_of a.base a.patches a.set
+
+-- a base and patches over it, of which a crash can leave some
+pub record Crashes : Type 0 where
+  pub base : Disk
+  pub patches : List Patch
+
+-- the image that a set leaves is clean after replay
+abbrev pub IsGood : Crashes → ℕ → Type 0
+IsGood crashes set = IsClean (replayed (image_of crashes.base crashes.patches set))

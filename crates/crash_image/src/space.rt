@@ -1,0 +1,131 @@
+//! The sets that a crash can leave, as a space to explore.
+
+ghost use Rattle.std.specs.Prelude.{◌≡◌, ◌<◌, ◌↔◌, IsTrue};
+ghost use Rattle.std.specs.List.{All};
+ghost use Rattle.patch_sets.specs.Closed.{IsClosed};
+ghost use Rattle.crash_model.specs.Patches.{deps_of, AreUndo};
+ghost use Rattle.crash_image.specs.Moves.{IsGood};
+
+use crate::mover::Mover;
+use disk_image::Image;
+use fs_check::is_clean;
+use patch_graph::Graph;
+use state_space::Space;
+use std::alloc::{AllocError, Allocator};
+use std::marker::Model;
+
+/// The sets of a graph that a crash can leave on a base. Each leads to the sets with one ready patch more, and it is
+/// good where its image is clean after replay.
+///
+/// Contracts see the base and the patches.
+#[derive(Drop)]
+pub struct PatchSpace<'a, A: Allocator + Copy> {
+    base: &'a Image<A>,
+    pub(crate) graph: &'a Graph<A>,
+}
+
+impl<'a, A: Allocator + Copy> Model for PatchSpace<'a, A> {
+    ghost use Rattle.crash_image.specs.Moves.{Crashes, AreOver};
+
+    ghost Value = { Crashes };
+
+    ghost view = { λ s. record { base = s.base.now; patches = s.graph.now } };
+
+    ghost invariant = { λ s. AreOver s.base.now s.graph.now };
+}
+
+/// What sets are judged in: a mover, and an image for replay.
+///
+/// Contracts see the mover's base and patches.
+#[derive(Drop)]
+pub struct Scratch<'a, A: Allocator + Copy> {
+    mover: Mover<'a, A>,
+    after_replay: Image<A>,
+}
+
+impl<'a, A: Allocator + Copy> Model for Scratch<'a, A> {
+    ghost use Rattle.std.specs.Prelude.{◌≡◌};
+    ghost use Rattle.crash_image.specs.Moves.{Crashes};
+
+    ghost Value = { Crashes };
+
+    ghost view = { λ s. record { base = s.mover.base; patches = s.mover.patches } };
+
+    ghost invariant = { λ s. s.after_replay.blocks ≡ s.mover.base.blocks };
+}
+
+impl<A: Allocator + Copy> Scratch<'_, A> {
+    /// Whether the image of a set that a crash can leave is clean after replay. It takes no memory.
+    fn is_good(&mut self, set: u128) -> bool
+        requires { IsClosed (deps_of self.old.patches) set }
+        ensures good { IsTrue result ↔ IsGood self.old set }
+        ensures kept { self.new ≡ self.old }
+    {
+        self.mover.move_to(set);
+        self.mover.replayed(&mut self.after_replay);
+        is_clean(&self.after_replay)
+    }
+}
+
+impl<'a, A: Allocator + Copy> PatchSpace<'a, A> {
+    /// The space of a graph over a base.
+    ///
+    /// The patches change blocks of the base, and their undo data are the bytes that they replace there.
+    pub fn new(base: &'a Image<A>, graph: &'a Graph<A>) -> PatchSpace<'a, A>
+        requires fits { All (λ patch. patch.block < base.now.blocks) graph.now }
+        requires undo { AreUndo base.now graph.now }
+        ensures { result ≡ record { base = base.now; patches = graph.now } }
+    {
+        // For the proof: what every image and every graph keeps.
+        let _blocks = base.blocks();
+        let _len = graph.len();
+        PatchSpace { base, graph }
+    }
+}
+
+impl<'a, A: Allocator + Copy> Space for PatchSpace<'a, A> {
+    ghost use Rattle.std.specs.Prelude.{◌≡◌, IsTrue, IfOk};
+    ghost use Rattle.crash_image.specs.Moves.{IsGood};
+    ghost use Rattle.crash_model.specs.Patches.{deps_of};
+    ghost use Rattle.patch_sets.specs.Closed.{IsClosed, successors_of};
+    ghost use Rattle.patch_sets.proofs.Successors.{empty_closed, successor_closed};
+
+    type Scratch = Scratch<'a, A>;
+
+    ghost is_lawful = { λ s. IsClosed (deps_of s.patches) };
+
+    ghost initial = { λ s. 0 };
+
+    ghost successors = { λ s. successors_of (deps_of s.patches) };
+
+    ghost is_good = { IsGood };
+
+    ghost is_own = { λ s scratch. scratch ≡ s };
+
+    fn start(&self) -> u128 {
+        0
+    }
+
+    fn scratch(&self) -> Result<Scratch<'a, A>, AllocError> {
+        Ok(Scratch {
+            mover: Mover::new(self.base.try_copy()?, self.graph),
+            after_replay: self.base.try_copy()?,
+        })
+    }
+
+    fn degree(&self, word: u128) -> u32 {
+        self.graph.ready_count(word)
+    }
+
+    fn next(&self, word: u128, k: u32) -> u128 {
+        self.graph.successor(word, k)
+    }
+
+    fn judge(&self, scratch: &mut Scratch<'a, A>, word: u128) -> Result<bool, AllocError> {
+        Ok(scratch.is_good(word))
+    }
+
+    ghost initial_lawful = { λ s. empty_closed (deps_of s.patches) };
+
+    ghost successor_lawful = { λ s set after closed is. successor_closed (deps_of s.patches) set closed after is };
+}

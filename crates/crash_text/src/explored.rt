@@ -1,0 +1,41 @@
+//! The sets that a crash can leave, explored.
+
+ghost use Rattle.std.specs.Prelude.{◌≡◌, ◌≢◌, ◌<◌, ◌≤◌, IfOk, IfErr};
+ghost use Rattle.std.specs.List.{All};
+ghost use Rattle.patch_sets.specs.Sets.{AreAllInOrder};
+ghost use Rattle.crash_model.specs.Patches.{AreUndo};
+ghost use Rattle.crash_model.specs.Failing.{IsFailing, CountsClosed, ExceedsLimit};
+
+use crash_image::{PatchSpace, exploring_finds_the_failing_sets};
+use crash_model::refusals::RunFault;
+use disk_image::Image;
+use patch_graph::Graph;
+use plain_explorer::{ExploreFault, Explored, explore_plain};
+use std::alloc::Allocator;
+
+/// How many sets a crash can leave, at most the limit, and which of them fail, in canonical order.
+///
+/// It refuses where they are more than the limit. The patches change blocks of the base, and their undo data are the bytes
+/// that they replace there.
+pub fn explored<A: Allocator + Copy>(
+    alloc: A,
+    base: &Image<A>,
+    graph: &Graph<A>,
+    limit: usize,
+) -> Result<Explored<A>, RunFault>
+    requires limit { 0 < limit }
+    requires fits { All (λ patch. patch.block < base.now.blocks) graph.now }
+    requires undo { AreUndo base.now graph.now }
+    ensures total { IfOk result (λ found. CountsClosed graph.now found.total) }
+    ensures within { IfOk result (λ found. found.total ≤ limit) }
+    ensures failing { IfOk result (λ found. AreAllInOrder (IsFailing base.now graph.now) found.broken.items) }
+    ensures too_many { IfErr result (λ fault. (fault ≢ RunFault.OutOfMemory) → (fault ≡ RunFault.TooMany) × ExceedsLimit graph.now limit) }
+{
+    let space = PatchSpace::new(base, graph);
+    exploring_finds_the_failing_sets(&space);
+    match explore_plain(alloc, &space, limit) {
+        Ok(found) => Ok(found),
+        Err(ExploreFault::TooMany) => Err(RunFault::TooMany),
+        Err(ExploreFault::OutOfMemory) => Err(RunFault::OutOfMemory),
+    }
+}

@@ -1,0 +1,109 @@
+//! The whole product as a function.
+
+ghost use Rattle.std.specs.Prelude.{◌≡◌, ◌≢◌, ℕ, ◌<◌, ◌≤◌, List, IfOk, IfErr, length, string_bytes};
+ghost use Rattle.std.specs.List.{All};
+ghost use Rattle.patch_sets.specs.Sets.{Has};
+ghost use Rattle.crash_model.specs.Patches.{AreUndo};
+ghost use Rattle.crash_model.specs.Report.{Section, AreSections, report};
+ghost use Rattle.crash_model.specs.Answer.{IsAnswer, IsStepsAnswer, IsGraphAnswer, Reported, Refused};
+
+use crate::explored::explored;
+use crate::stubs::report_json;
+use crash_model::refusals::RunFault;
+use crash_model::settings::Settings;
+use disk_image::{Image, ImageFault};
+use order_modules::{build_base, trace};
+use patch_graph::Graph;
+use plain_explorer::Explored;
+use report_text::report_text;
+use script_text::{Script, read_script};
+use std::alloc::{AllocError, Allocator, Global};
+
+/// A report's text and the number of failing sets in it.
+#[derive(Drop)]
+pub struct Outcome<A: Allocator> {
+    pub text: String<A>,
+    pub failing: usize,
+}
+
+/// Answers a script: reads it, builds the base, traces the rest, explores what a crash can leave, and reports.
+///
+/// Every answer but want of memory is the one defined for the script's bytes and the settings. `heap` is what JSON is
+/// made with.
+pub fn run<A: Allocator + Copy>(
+    heap: Global,
+    alloc: A,
+    script: &[u8],
+    settings: &Settings,
+) -> Result<Outcome<A>, RunFault>
+    requires { (1 ≤ settings.now.limit) × (settings.now.limit ≤ 32768) }
+    ensures reported { IfOk result (λ outcome. IsAnswer script.now settings.now (Reported (string_bytes outcome.text) outcome.failing)) }
+    ensures refused { IfErr result (λ fault. (fault ≢ RunFault.OutOfMemory) → IsAnswer script.now settings.now (Refused fault)) }
+{
+    let script = read_script(alloc, script)?;
+    run_steps(heap, alloc, &script, settings)
+}
+
+/// Answers the steps of a script.
+fn run_steps<A: Allocator + Copy>(
+    heap: Global,
+    alloc: A,
+    script: &Script<A>,
+    settings: &Settings,
+) -> Result<Outcome<A>, RunFault>
+    requires { (1 ≤ settings.now.limit) × (settings.now.limit ≤ 32768) }
+    ensures reported { IfOk result (λ outcome. IsStepsAnswer settings.now script.now.base.items script.now.traced.items (Reported (string_bytes outcome.text) outcome.failing)) }
+    ensures refused { IfErr result (λ fault. (fault ≢ RunFault.OutOfMemory) → IsStepsAnswer settings.now script.now.base.items script.now.traced.items (Refused fault)) }
+{
+    let mut base = match Image::formatted(alloc, settings.blocks, settings.journal) {
+        Ok(base) => base,
+        Err(ImageFault::BadGeometry) => return Err(RunFault::BadGeometry),
+        Err(ImageFault::OutOfMemory) => return Err(RunFault::OutOfMemory),
+    };
+    build_base(&mut base, &script.base)?;
+    let graph = trace(alloc, &base, &script.traced, settings.module)?;
+    report_on(heap, alloc, &base, &graph, settings)
+}
+
+/// Explores and reports what a crash can leave of a graph over its base.
+fn report_on<A: Allocator + Copy>(
+    heap: Global,
+    alloc: A,
+    base: &Image<A>,
+    graph: &Graph<A>,
+    settings: &Settings,
+) -> Result<Outcome<A>, RunFault>
+    requires limit { 1 ≤ settings.now.limit }
+    requires fits { All (λ patch. patch.block < base.now.blocks) graph.now }
+    requires undo { AreUndo base.now graph.now }
+    ensures reported { IfOk result (λ outcome. IsGraphAnswer settings.now base.now graph.now (Reported (string_bytes outcome.text) outcome.failing)) }
+    ensures refused { IfErr result (λ fault. (fault ≢ RunFault.OutOfMemory) → IsGraphAnswer settings.now base.now graph.now (Refused fault)) }
+{
+    let found = explored(alloc, base, graph, settings.limit)?;
+    let text = report_of(heap, alloc, base, graph, settings, &found)?;
+    Ok(Outcome {
+        text,
+        failing: found.broken.len(),
+    })
+}
+
+/// The report on the failing sets, in the form that the settings ask for. It fails only for want of memory.
+fn report_of<A: Allocator + Copy>(
+    heap: Global,
+    alloc: A,
+    base: &Image<A>,
+    graph: &Graph<A>,
+    settings: &Settings,
+    found: &Explored<A>,
+) -> Result<String<A>, AllocError>
+    requires fits { All (λ patch. patch.block < base.now.blocks) graph.now }
+    requires known { All (λ set. (id : ℕ) → Has set id → id < length graph.now) found.now.broken.items }
+    ensures { IfOk result (λ text. (sections : List Section) × AreSections base.now graph.now found.now.broken.items sections
+        × (string_bytes text ≡ report settings.now.json settings.now.module (length graph.now) found.now.total sections)) }
+{
+    if settings.json {
+        report_json(heap, alloc, base, graph, settings.module, found)
+    } else {
+        report_text(alloc, base, graph, settings.module, found)
+    }
+}

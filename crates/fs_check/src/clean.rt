@@ -1,0 +1,110 @@
+//! Whether an image has no fault.
+
+ghost use Rattle.std.specs.Prelude.{◌≡◌, ◌+◌, ◌<◌, ◌↔◌, IsTrue, MatchBool};
+ghost use Rattle.crash_model.specs.Layout.{is_live, counts};
+ghost use Rattle.crash_model.specs.Faults.{IsClean};
+ghost use Rattle.fs_check.specs.Passed.{HasCleanPointers, HasCleanEntries, HavePassedSlots, HavePassedEntries, is_marked, is_right_block};
+
+use disk_image::Image;
+use std::alloc::Allocator;
+
+/// Whether an image has no fault. It takes no memory, and ends at the first fault that it meets.
+pub fn is_clean<A: Allocator + Copy>(image: &Image<A>) -> bool
+    ensures { IsTrue result ↔ IsClean image.now }
+{
+    has_clean_pointers(image) && has_clean_entries(image)
+}
+
+/// Whether each pointer names a data block that is in use, marked as its inode's, and named by no other pointer.
+fn has_clean_pointers<A: Allocator + Copy>(image: &Image<A>) -> bool
+    ensures { IsTrue result ↔ HasCleanPointers image.now }
+{
+    let _at_most_128 = image.blocks();
+    let mut named = [0; 128];
+    for inode in 0..16u8 {
+        if image.is_live(inode) && !has_clean_slots(image, inode, &mut named) {
+            return false;
+        }
+    }
+    true
+}
+
+/// The same of one inode's pointers. `named` counts the pointers passed that name each block.
+fn has_clean_slots<A: Allocator + Copy>(image: &Image<A>, inode: u8, named: &mut [u8; 128]) -> bool
+    requires inode { inode < 16 }
+    requires live { IsTrue (is_live image.now inode) }
+    requires passed { HavePassedSlots image.now inode 0 named.old }
+    ensures { MatchBool result (HavePassedSlots image.now (inode + 1) 0 named.new) (¬ (HasCleanPointers image.now)) }
+{
+    for slot in 0..4u8 {
+        let block = image.pointer(inode, slot);
+        if block != 0 {
+            if !is_right_block(image, inode, block) || named[block as usize] != 0 {
+                return false;
+            }
+            named[block as usize] = 1;
+        }
+    }
+    true
+}
+
+/// Whether a block is one of the data area, in use, and marked as an inode's.
+fn is_right_block<A: Allocator + Copy>(image: &Image<A>, inode: u8, block: u8) -> bool
+    requires { inode < 16 }
+    ensures value { result ≡ is_right_block image.now inode block }
+    ensures within { IsTrue result → block < 128 }
+{
+    image.is_data(block) && image.map(block) != 0 && is_marked(image, inode, block)
+}
+
+/// Whether a block's first two bytes are the mark of an inode's kind and the inode's number.
+pub(crate) fn is_marked<A: Allocator + Copy>(image: &Image<A>, inode: u8, block: u8) -> bool
+    requires inode { inode < 16 }
+    requires block { block < image.now.blocks }
+    ensures { result ≡ is_marked image.now inode block }
+{
+    let mark = image.byte(block as usize, 0);
+    let is_right_mark = match image.kind(inode) {
+        1 => mark == 0x46,
+        2 => mark == 0x44,
+        _ => false,
+    };
+    is_right_mark && image.byte(block as usize, 1) == inode
+}
+
+/// Whether each entry leads to a live inode, and to none more entries than it has links.
+fn has_clean_entries<A: Allocator + Copy>(image: &Image<A>) -> bool
+    ensures { IsTrue result ↔ HasCleanEntries image.now }
+{
+    let mut entries = [0; 16];
+    for dir in 0..16u8 {
+        if image.counts(dir) && !has_clean_directory(image, dir, &mut entries) {
+            return false;
+        }
+    }
+    true
+}
+
+/// The same of one directory's entries. `entries` counts the entries passed that lead to each inode.
+fn has_clean_directory<A: Allocator + Copy>(
+    image: &Image<A>,
+    dir: u8,
+    entries: &mut [u8; 16],
+) -> bool
+    requires dir { dir < 16 }
+    requires counts { IsTrue (counts image.now dir) }
+    requires passed { HavePassedEntries image.now dir 0 entries.old }
+    ensures { MatchBool result (HavePassedEntries image.now (dir + 1) 0 entries.new) (¬ (HasCleanEntries image.now)) }
+{
+    for k in 0..10u8 {
+        let entry = image.entry(dir, k);
+        if entry != 0 {
+            let inode = entry - 1;
+            if !image.is_live(inode) || entries[inode as usize] == image.links(inode) {
+                return false;
+            }
+            entries[inode as usize] += 1;
+        }
+    }
+    true
+}

@@ -1,0 +1,6 @@
+//! Hands.
+#![tactic(auto)]
+
+pub mod account;
+pub mod hand;
+pub mod reach;

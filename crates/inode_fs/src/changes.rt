@@ -1,0 +1,167 @@
+//! The changes that operations are made of, one by one: which bytes go where.
+
+ghost use Rattle.std.specs.Prelude.{◌≡◌, ◌<◌, ◌≤◌, ◌+◌, ◌-◌, ◌*◌, ◌++◌, length, replicate};
+ghost use Rattle.crash_model.specs.Names.{IsName};
+ghost use Rattle.crash_model.specs.Plan.{at_inode, inode_init, inode_free, link_count, pointer_set, entry_set, entry_clear, map_set, map_clear, init_block};
+
+use arrayvec::ArrayVec;
+use crash_model::names::Name;
+use crash_model::plans::{Change, Role};
+use disk_image::Image;
+use std::alloc::Allocator;
+
+/// Byte 0 of a file's block.
+pub const FILE_MARK: u8 = 0x46;
+
+/// Byte 0 of a directory's block.
+pub const DIRECTORY_MARK: u8 = 0x44;
+
+fn add_all(bytes: &mut ArrayVec<u8, 128>, more: &[u8])
+    requires { length bytes.old.items + length more.now ≤ 128 }
+    ensures { bytes.new.items ≡ bytes.old.items ++ more.now }
+{
+    for x in more {
+        bytes.push(*x);
+    }
+}
+
+fn add_zeros(bytes: &mut ArrayVec<u8, 128>, count: usize)
+    requires { length bytes.old.items + count ≤ 128 }
+    ensures { bytes.new.items ≡ bytes.old.items ++ replicate count 0 }
+{
+    for _i in 0..count {
+        bytes.push(0);
+    }
+}
+
+/// The bytes with zeros behind them, as many as are asked for.
+fn with_zeros(bytes: &[u8], zeros: usize) -> ArrayVec<u8, 128>
+    requires { length bytes.now + zeros ≤ 128 }
+    ensures { result.items ≡ bytes.now ++ replicate zeros 0 }
+{
+    let mut all = ArrayVec::new();
+    add_all(&mut all, bytes);
+    add_zeros(&mut all, zeros);
+    all
+}
+
+/// New bytes of an inode, from a byte of it on. Inodes 0 to 7 stand in block 2, 8 to 15 in block 3, 16 bytes each.
+fn at_inode(role: Role, inode: u8, from: u8, new: ArrayVec<u8, 128>) -> Change
+    requires inode { inode < 16 }
+    requires from { from < 16 }
+    ensures { result ≡ at_inode role inode from new.items }
+{
+    Change {
+        block: 2 + inode / 8,
+        offset: 16 * (inode % 8) + from,
+        new,
+        role,
+    }
+}
+
+/// A new inode of a kind, with one link and no block.
+pub fn inode_init(inode: u8, kind: u8) -> Change
+    requires { inode < 16 }
+    ensures { result ≡ inode_init inode kind }
+{
+    at_inode(Role::InodeInit, inode, 0, with_zeros(&[kind, 1], 14))
+}
+
+/// An inode that is free again.
+pub fn inode_free(inode: u8) -> Change
+    requires { inode < 16 }
+    ensures { result ≡ inode_free inode }
+{
+    at_inode(Role::InodeFree, inode, 0, with_zeros(&[], 16))
+}
+
+/// Another link count, for the role `LinkUp` or `LinkDown`.
+pub fn link_count(role: Role, inode: u8, links: u8) -> Change
+    requires { inode < 16 }
+    ensures { result ≡ link_count role inode links }
+{
+    at_inode(role, inode, 1, with_zeros(&[links], 0))
+}
+
+/// A slot of an inode that names a block.
+pub fn pointer_set(inode: u8, slot: u8, block: u8) -> Change
+    requires inode { inode < 16 }
+    requires slot { slot < 4 }
+    ensures { result ≡ pointer_set inode slot block }
+{
+    at_inode(Role::Ptr, inode, 4 + slot, with_zeros(&[block], 0))
+}
+
+/// Entry `k` of a directory with a name that leads to an inode.
+pub fn entry_set<A: Allocator + Copy>(
+    image: &Image<A>,
+    dir: u8,
+    k: u8,
+    inode: u8,
+    name: &Name,
+) -> Change
+    requires dir { dir < 16 }
+    requires k { k < 10 }
+    requires inode { inode < 16 }
+    ensures change { result ≡ entry_set image.now dir k inode name.now }
+    ensures name { IsName name.now }
+{
+    let mut new = with_zeros(&[inode + 1], 0);
+    add_all(&mut new, name.spelled().as_slice());
+    Change {
+        block: image.pointer(dir, 0),
+        offset: 8 + 12 * k,
+        new,
+        role: Role::EntrySet,
+    }
+}
+
+/// Entry `k` of a directory, free again.
+pub fn entry_clear<A: Allocator + Copy>(image: &Image<A>, dir: u8, k: u8) -> Change
+    requires dir { dir < 16 }
+    requires k { k < 10 }
+    ensures { result ≡ entry_clear image.now dir k }
+{
+    Change {
+        block: image.pointer(dir, 0),
+        offset: 8 + 12 * k,
+        new: with_zeros(&[], 12),
+        role: Role::EntryClear,
+    }
+}
+
+/// A block that the allocation map has as in use.
+pub fn map_set(block: u8) -> Change
+    ensures { result ≡ map_set block }
+{
+    Change {
+        block: 1,
+        offset: block,
+        new: with_zeros(&[1], 0),
+        role: Role::MapSet,
+    }
+}
+
+/// A block that the allocation map has as free.
+pub fn map_clear(block: u8) -> Change
+    ensures { result ≡ map_clear block }
+{
+    Change {
+        block: 1,
+        offset: block,
+        new: with_zeros(&[0], 0),
+        role: Role::MapClear,
+    }
+}
+
+/// A whole block with nothing but its mark and its owner, for the role `InitFile` or `InitDir`.
+pub fn init_block(role: Role, block: u8, mark: u8, inode: u8) -> Change
+    ensures { result ≡ init_block role block mark inode }
+{
+    Change {
+        block,
+        offset: 0,
+        new: with_zeros(&[mark, inode], 126),
+        role,
+    }
+}

@@ -1,0 +1,165 @@
+//! What is found on an image: names, and what is free.
+//!
+//! Each search gives the lowest place that fits, and none of them asks for a sound image.
+
+ghost use Rattle.std.specs.Prelude.{ℕ, List, Result, Err, ◌≡◌, ◌<◌, ◌&&◌, IsTrue, bytes_eq, IfSome, IfOk, MatchResult};
+ghost use Rattle.crash_model.specs.Layout.{kind_of, is_live, is_entry, target_of, spelling_of};
+ghost use Rattle.crash_model.specs.Plan.{is_named, entry_named, inode_named, entered, walked, at_entry, free_inode, free_block, free_slot, has_entries};
+ghost use Rattle.crash_model.specs.declared.plans.Change.{Change};
+ghost use Rattle.crash_model.specs.declared.refusals.FsFault.{FsFault};
+
+use crash_model::names::{Name, Path};
+use crash_model::refusals::FsFault;
+use disk_image::Image;
+use std::alloc::Allocator;
+
+/// The kind of an inode that is in no use.
+pub const FREE: u8 = 0;
+
+/// The kind of a file.
+pub const FILE: u8 = 1;
+
+/// The kind of a directory.
+pub const DIRECTORY: u8 = 2;
+
+/// Whether an entry of a directory that counts is spelled so and leads to a live inode.
+fn is_spelled<A: Allocator + Copy>(image: &Image<A>, dir: u8, k: u8, spelled: &[u8]) -> bool
+    requires dir { dir < 16 }
+    requires k { k < 10 }
+    ensures { result ≡ (is_entry image.now dir k && is_live image.now (target_of image.now dir k) && bytes_eq (spelling_of image.now dir k) spelled.now) }
+{
+    if !image.counts(dir) {
+        return false;
+    }
+    let entry = image.entry(dir, k);
+    entry != 0 && image.is_live(entry - 1) && image.is_spelled(dir, k, spelled)
+}
+
+/// The lowest entry of a directory that has the name and leads to a live inode.
+///
+/// A directory whose block is not marked as its own has no entries.
+pub fn entry_named<A: Allocator + Copy>(image: &Image<A>, dir: u8, name: &Name) -> Option<u8>
+    requires { dir < 16 }
+    ensures value { result ≡ entry_named image.now dir name.now }
+    ensures within { IfSome result (λ k. k < 10) }
+    ensures holds { IfSome result (λ k. IsTrue (is_named image.now dir name.now k)) }
+{
+    let spelled = name.spelled();
+    for k in 0..10u8 {
+        if is_spelled(image, dir, k, spelled.as_slice()) {
+            return Some(k);
+        }
+    }
+    None
+}
+
+/// The directory that a name of a directory leads to; refused with 10 where there is no such name, with 11 where it
+/// leads to something else.
+fn enter<A: Allocator + Copy>(image: &Image<A>, dir: u8, name: &Name) -> Result<u8, FsFault>
+    requires { dir < 16 }
+    ensures value { result ≡ entered image.now (inode_named image.now dir name.now) }
+    ensures within { IfOk result (λ child. child < 16) }
+{
+    match entry_named(image, dir, name) {
+        None => Err(FsFault::NotFound),
+        Some(k) => {
+            let inode = image.entry(dir, k) - 1;
+            if image.kind(inode) == DIRECTORY {
+                Ok(inode)
+            } else {
+                Err(FsFault::NotADirectory)
+            }
+        }
+    }
+}
+
+/// The directory that holds a path's last name: from the root through all names but the last. The first name that
+/// fails decides the refusal, 10 or 11.
+pub fn walk<A: Allocator + Copy>(image: &Image<A>, path: &Path) -> Result<u8, FsFault>
+    ensures value { result ≡ walked image.now 0 path.now.through.items }
+    ensures within { IfOk result (λ dir. dir < 16) }
+{
+    let mut dir = 0;
+    for name in path.through.as_slice() {
+        dir = enter(image, dir, name)?;
+    }
+    Ok(dir)
+}
+
+/// An entry of a directory: its place, 0 to 9, and the inode that it leads to.
+#[derive(Clone, Copy)]
+pub struct Entry {
+    pub dir: u8,
+    pub place: u8,
+    pub target: u8,
+}
+
+/// The entry of a path's last name; refused as [`walk`] is, and with 10 where the name is absent.
+pub fn find<A: Allocator + Copy>(image: &Image<A>, path: &Path) -> Result<Entry, FsFault>
+    ensures found { MatchResult result
+        (λ e. (next : ℕ → ℕ → Result (List Change) FsFault) → at_entry image.now path.now next ≡ next e.dir e.place)
+        (λ fault. (next : ℕ → ℕ → Result (List Change) FsFault) → at_entry image.now path.now next ≡ Err fault) }
+    ensures target { IfOk result (λ e. e.target ≡ target_of image.now e.dir e.place) }
+    ensures within { IfOk result (λ e. (e.dir < 16) × (e.place < 10) × (e.target < 16)) }
+{
+    let dir = walk(image, path)?;
+    let place = entry_named(image, dir, &path.last).ok_or(FsFault::NotFound)?;
+    let target = image.entry(dir, place) - 1;
+    Ok(Entry { dir, place, target })
+}
+
+/// The lowest inode of kind 0.
+pub fn free_inode<A: Allocator + Copy>(image: &Image<A>) -> Option<u8>
+    ensures value { result ≡ free_inode image.now }
+    ensures within { IfSome result (λ i. i < 16) }
+{
+    for i in 0..16u8 {
+        if image.kind(i) == FREE {
+            return Some(i);
+        }
+    }
+    None
+}
+
+/// The lowest block of the data area that the allocation map has as free.
+pub fn free_block<A: Allocator + Copy>(image: &Image<A>) -> Option<u8>
+    ensures value { result ≡ free_block image.now }
+    ensures within { IfSome result (λ b. b < image.now.blocks) }
+{
+    for b in 0..image.blocks() as u8 {
+        if image.is_data(b) && image.map(b) == 0 {
+            return Some(b);
+        }
+    }
+    None
+}
+
+/// The lowest slot of an inode that names no block.
+pub fn free_slot<A: Allocator + Copy>(image: &Image<A>, inode: u8) -> Option<u8>
+    requires { inode < 16 }
+    ensures value { result ≡ free_slot image.now inode }
+    ensures within { IfSome result (λ s. s < 4) }
+{
+    for s in 0..4u8 {
+        if image.pointer(inode, s) == 0 {
+            return Some(s);
+        }
+    }
+    None
+}
+
+/// Whether an entry of a directory is in use.
+pub fn has_entries<A: Allocator + Copy>(image: &Image<A>, dir: u8) -> bool
+    requires { dir < 16 }
+    ensures { result ≡ has_entries image.now dir }
+{
+    if !image.counts(dir) {
+        return false;
+    }
+    for k in 0..10u8 {
+        if image.entry(dir, k) != 0 {
+            return true;
+        }
+    }
+    false
+}

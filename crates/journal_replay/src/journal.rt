@@ -1,0 +1,43 @@
+//! The walk over the headers.
+
+ghost use Rattle.std.specs.Prelude.{◌≡◌, ℕ, ◌+◌, ◌<◌, ◌≤◌, length, slice_index};
+ghost use Rattle.std.specs.List.{All};
+ghost use Rattle.crash_model.specs.Disk.{block_of, IsDisk};
+ghost use Rattle.crash_model.specs.Replay.{replayed};
+ghost use Rattle.journal_replay.specs.Walk.{copied};
+
+use crate::header::header_at;
+use disk_image::Image;
+use std::alloc::Allocator;
+
+/// Replays the journal: each block becomes its last committed copy that is not known to be in place, if it has one.
+///
+/// It is defined on every image, takes no memory, and writes no block of the journal.
+pub fn replay<A: Allocator + Copy>(image: &mut Image<A>)
+    ensures replayed { image.new ≡ replayed image.old }
+    ensures journal { (block : ℕ) → 4 ≤ block → block < 4 + image.old.journal
+        → block_of image.new block ≡ block_of image.old block }
+{
+    let mut at = 4;
+    let mut turn = 1;
+    let _journal = image.journal();
+    while let Some(header) = header_at(image, at, turn) {
+        if header.committed {
+            copy_blocks(image, at + 1, header.targets.as_slice());
+        }
+        at += 1 + header.targets.len();
+        turn += 1;
+    }
+}
+
+/// Copies the blocks from `first` on over the targets, in order.
+fn copy_blocks<A: Allocator + Copy>(image: &mut Image<A>, first: usize, targets: &[u8])
+    requires few { image.old.blocks ≤ 128 }
+    requires from { first + length targets.now ≤ image.old.blocks }
+    requires to { All (λ target. target < image.old.blocks) targets.now }
+    ensures { image.new ≡ copied image.old first targets.now }
+{
+    for (m, target) in targets.iter().enumerate() {
+        image.copy_block(first + m, usize::from(*target));
+    }
+}

@@ -1,0 +1,10 @@
+//! Replay of a disk image's journal.
+//!
+//! The journal begins at block 4. A transaction there is a header, which names the blocks that the transaction
+//! changes, and behind it a copy of each. Replay copies those of the committed transactions home.
+#![tactic(auto)]
+
+mod header;
+mod journal;
+
+pub use journal::replay;

@@ -1,0 +1,5 @@
+pub mod Adding
+pub mod Emitting
+pub mod Grouping
+pub mod Planning
+pub mod Steps

@@ -1,0 +1,64 @@
+-- The steps of a script, one after another.
+use Rattle.std.proofs.Common.{◌≡◌, ℕ, ◌+◌, ◌<◌, ◌≤◌, List, [], ◌∷◌, ◌++◌, length, take, drop, get_or, append_assoc, refl, sym, ◌∙◌, ap, arith}
+use Rattle.std.specs.Prelude.{Result, Ok, Err}
+use Rattle.std.proofs.lemmas.List.{take_more, take-append-drop, take_all}
+use Rattle.crash_model.specs.Disk.{Disk}
+use Rattle.crash_model.specs.Trace.{Tracing, begun, step, traced, then_trace}
+use Rattle.crash_model.specs.declared.refusals.TraceFault.{TraceFault}
+use Rattle.crash_model.specs.declared.steps.Module.{Module}
+use Rattle.crash_model.specs.declared.steps.Step.{Step}
+use Rattle.order_modules.specs.Tracer.{Trace, Moves}
+
+then_then : (kind : Module) (ys : List Step) (r : Result Tracing TraceFault) (f g : Tracing → Result Tracing TraceFault) → ((next : Tracing) → f next ≡ then_trace (g next) (λ end. traced kind end ys))
+    → then_trace r f ≡ then_trace (then_trace r g) (λ end. traced kind end ys)
+then_then kind ys (Ok next) f g each = each next
+then_then kind ys (Err e) f g each = refl
+
+traced-append : (kind : Module) (s : Tracing) (xs ys : List Step) → traced kind s (xs ++ ys) ≡ then_trace (traced kind s xs) (λ next. traced kind next ys)
+traced-append kind s [] ys = refl
+traced-append kind s (x ∷ xs) ys = then_then kind ys (step kind s x.line x.act) (λ next. traced kind next (xs ++ ys)) (λ next. traced kind next xs) (λ next. traced-append kind next xs ys)
+
+-- the trace so far, of the steps taken
+pub record IsTraced (kind : Module) (base : Disk) (steps : List Step) (i : ℕ) (t : Trace) : Type 0 where
+  pub same_base : t.log.base ≡ base
+  pub same_kind : t.log.kind ≡ kind
+  pub turns : t.tracing.turn ≤ i + 1
+  pub so_far : traced kind (begun base) (take i steps) ≡ Ok t.tracing
+
+module _ (kind : Module) (base : Disk) (steps : List Step) (i : ℕ) (t : Trace) (x : Step) (inside : i < length steps) (read : x ≡ get_or steps i x) (is : IsTraced kind base steps i t) where
+  with_next : take (i + 1) steps ≡ take i steps ++ x ∷ []
+  with_next = take_more steps i x inside ∙ ap (λ (y : Step). take i steps ++ y ∷ []) (sym read)
+
+  -- the steps taken with one more, and those after it
+  after_step : (ys : List Step) → traced kind (begun base) (take i steps ++ x ∷ ys) ≡ then_trace (step kind t.tracing x.line x.act) (λ next. traced kind next ys)
+  after_step ys = traced-append kind (begun base) (take i steps) (x ∷ ys) ∙ ap (λ (r : Result Tracing TraceFault). then_trace r (λ next. traced kind next (x ∷ ys))) is.so_far
+
+  same_step : step t.log.kind t.tracing x.line x.act ≡ step kind t.tracing x.line x.act
+  same_step = ap (λ (k : Module). step k t.tracing x.line x.act) is.same_kind
+
+  pub step_taken : (next : Trace) → Moves t next (step t.log.kind t.tracing x.line x.act) → IsTraced kind base steps (i + 1) next
+  step_taken next moves = record {
+    same_base = moves.base ∙ is.same_base;
+    same_kind = moves.kind ∙ is.same_kind;
+    turns = omega (arith, moves.turns, is.turns);
+    so_far = ap (λ (xs : List Step). traced kind (begun base) xs) with_next ∙ after_step []
+        ∙ ap (λ (r : Result Tracing TraceFault). then_trace r (λ next. traced kind next [])) (sym same_step ∙ moves.answered);
+  }
+
+  pub step_refused : (e : TraceFault) → step t.log.kind t.tracing x.line x.act ≡ Err e → traced kind (begun base) steps ≡ Err e
+  step_refused e why =
+      let all : steps ≡ take i steps ++ x ∷ drop (i + 1) steps =
+      sym (take-append-drop (i + 1) steps) ∙ ap (λ (xs : List Step). xs ++ drop (i + 1) steps) with_next ∙ append_assoc (take i steps) (x ∷ []) (drop (i + 1) steps) in
+      ap (λ (xs : List Step). traced kind (begun base) xs) all ∙ after_step (drop (i + 1) steps)
+      ∙ ap (λ (r : Result Tracing TraceFault). then_trace r (λ next. traced kind next (drop (i + 1) steps))) (sym same_step ∙ why)
+
+pub traced_start : (kind : Module) (base : Disk) (steps : List Step) (t : Trace) → t.tracing ≡ begun base → t.log.base ≡ base → t.log.kind ≡ kind → IsTraced kind base steps 0 t
+traced_start kind base steps t began same_base same_kind = record {
+  same_base = same_base;
+  same_kind = same_kind;
+  turns = omega (arith, ap (λ (s : Tracing). s.turn) began);
+  so_far = ap (λ (s : Tracing). Ok s) (sym began);
+}
+
+pub traced_end : (kind : Module) (base : Disk) (steps : List Step) (i : ℕ) (t : Trace) → length steps ≤ i → IsTraced kind base steps i t → traced kind (begun base) steps ≡ Ok t.tracing
+traced_end kind base steps i t past is = ap (λ (xs : List Step). traced kind (begun base) xs) (sym (take_all i steps past)) ∙ is.so_far

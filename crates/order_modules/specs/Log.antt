@@ -1,0 +1,48 @@
+-- The patches so far.
+use Rattle.std.specs.Prelude.{◌≡◌, ℕ, ◌<◌, All, List, [], ◌∷◌, ◌++◌, ◌||◌, Some, slice_get, IsTrue}
+use Rattle.crash_model.specs.Disk.{Disk, put}
+use Rattle.crash_model.specs.Patches.{Place, places_of}
+use Rattle.crash_model.specs.Trace.{Emitted, begun, IsGraphOf, groups_depend, by_module}
+use Rattle.crash_model.specs.declared.patches.Patch.{Patch}
+use Rattle.crash_model.specs.declared.steps.Module.{Module}
+use Rattle.order_modules.specs.Labels.{emitted_of}
+use Rattle.order_modules.specs.declared.labels.Label.{Label}
+
+pub record Log : Type 0 where
+  -- the disk before the patches, and with all of them
+  pub base : Disk
+  pub written : Disk
+  pub kind : Module
+  pub links : List (List ℕ × List ℕ)
+  -- the patches with what they are of their operations, and as they stand in the graph
+  pub emitted : List Emitted
+  pub patches : List Patch
+
+-- the disk with places put one after another
+abbrev pub all_put : Disk → List Place → Disk
+all_put d [] = d
+all_put d (p ∷ ps) = all_put (put d p.block p.offset p.new) ps
+
+-- the graph is that of the patches
+pub record IsLog (log : Log) : Type 0 where
+  pub written : log.written ≡ all_put log.base (places_of log.patches)
+  pub known : All (λ patch. patch.block < log.base.blocks) log.patches
+  pub graph : IsGraphOf log.kind log.base (record (begun log.base) { emitted = log.emitted; links = log.links }) log.patches
+
+-- the log is over the same base, by the same module
+pub record Keeps (old new : Log) : Type 0 where
+  pub base : new.base ≡ old.base
+  pub kind : new.kind ≡ old.kind
+
+-- the log has these patches more, and is else as it was
+pub record Adds (old new : Log) (more : List Emitted) : Type 0 where
+  pub base : new.base ≡ old.base
+  pub kind : new.kind ≡ old.kind
+  pub links : new.links ≡ old.links
+  pub emitted : new.emitted ≡ old.emitted ++ more
+
+-- a label waits for the one with this id
+abbrev pub WaitsAt : Module → List (List ℕ × List ℕ) → List Label → Label → ℕ → Type 0
+WaitsAt kind links labels later id =
+    (earlier : Label) × (slice_get labels id ≡ Some earlier)
+    × IsTrue (groups_depend links (emitted_of later) (emitted_of earlier) || by_module kind (emitted_of later) (emitted_of earlier))

@@ -1,0 +1,51 @@
+-- A trace under way.
+use Rattle.std.specs.Prelude.{◌≡◌, ℕ, ◌+◌, ◌≤◌, List, map, Option, Result, Ok}
+use Rattle.std.specs.Borrow.{Bor}
+use Rattle.crash_model.specs.Disk.{Disk, IsDisk}
+use Rattle.crash_model.specs.Trace.{Tracing}
+use Rattle.crash_model.specs.declared.refusals.TraceFault.{TraceFault}
+use Rattle.crash_model.specs.declared.steps.Module.{Module}
+use Rattle.crash_model.specs.declared.steps.Module.TheVariants.{Async, Soft, Meta, Full}
+use Rattle.order_modules.specs.Log.{Log}
+
+abbrev pub names_by : List (Bor (List ℕ)) → List (List ℕ)
+names_by names = map (λ name. name.now) names
+
+-- the module writes in place, or through the journal
+abbrev pub IsOrdered : Module → Type 0
+IsOrdered Async = Unit {0}
+IsOrdered Soft = Unit {0}
+IsOrdered Meta = ⊥
+IsOrdered Full = ⊥
+
+abbrev pub IsJournaled : Module → Type 0
+IsJournaled Async = ⊥
+IsJournaled Soft = ⊥
+IsJournaled Meta = Unit {0}
+IsJournaled Full = Unit {0}
+
+pub record Trace : Type 0 where
+  pub log : Log
+  pub tracing : Tracing
+
+-- by what a tracer keeps
+abbrev pub trace_of : Log → Disk → ℕ → ℕ → Option (List ℕ) → List (List ℕ) → List (List ℕ) → Trace
+trace_of log disk turn next current opened ended = record {
+  log = log;
+  tracing = record { disk = disk; emitted = log.emitted; turn = turn; journal = next; current = current; opened = opened; ended = ended; links = log.links };
+}
+
+pub record IsTrace (t : Trace) : Type 0 where
+  pub disk : IsDisk t.tracing.disk
+  pub blocks : t.tracing.disk.blocks ≡ t.log.base.blocks
+  pub from : 4 ≤ t.tracing.journal
+  pub to : t.tracing.journal ≤ 4 + t.tracing.disk.journal
+  -- each transaction has taken a journal block at least
+  pub counted : IsJournaled t.log.kind → t.tracing.turn + 3 ≤ t.tracing.journal
+
+-- the answer is Ok of the new trace, over the same base by the same module
+pub record Moves (old new : Trace) (answer : Result Tracing TraceFault) : Type 0 where
+  pub base : new.log.base ≡ old.log.base
+  pub kind : new.log.kind ≡ old.log.kind
+  pub turns : new.tracing.turn ≤ old.tracing.turn + 1
+  pub answered : answer ≡ Ok new.tracing

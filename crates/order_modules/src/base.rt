@@ -1,0 +1,39 @@
+//! The disk that the steps before tracing lead to.
+
+ghost use Rattle.std.specs.Prelude.{◌≡◌, Ok, Err, OnOk, IfErr};
+ghost use Rattle.crash_model.specs.Trace.{based};
+ghost use Rattle.crash_model.specs.Sound.{IsSound};
+ghost use Rattle.inode_fs.specs.Inside.{HasSameJournal};
+ghost use Rattle.order_modules.specs.Base.{disk_before_refusal};
+
+use crash_model::refusals::TraceFault;
+use crash_model::steps::{Act, Step};
+use disk_image::Image;
+use inode_fs::{apply, plan};
+use std::alloc::Allocator;
+
+/// Applies the operations of the steps, in order, up to the first refused step.
+///
+/// A refused operation changes nothing; a step on groups is refused, since groups order traced patches alone. The
+/// journal is not touched, and a sound image stays sound. It takes no memory, and so never fails for want of it.
+pub fn build_base<A: Allocator + Copy>(
+    image: &mut Image<A>,
+    steps: &[Step],
+) -> Result<(), TraceFault>
+    ensures built { OnOk result (based image.old steps.now ≡ Ok image.new) }
+    ensures refused { IfErr result (λ fault. based image.old steps.now ≡ Err fault) }
+    ensures before { image.new ≡ disk_before_refusal image.old steps.now }
+    ensures journal { HasSameJournal image.old image.new }
+    ensures sound { IsSound image.old → IsSound image.new }
+{
+    for step in steps {
+        let Act::Do(op) = &step.act else {
+            return Err(TraceFault::GroupFault { line: step.line });
+        };
+        match plan(image, op) {
+            Ok(plan) => apply(image, &plan),
+            Err(fault) => return Err(fault.at_line(step.line)),
+        }
+    }
+    Ok(())
+}

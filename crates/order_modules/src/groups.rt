@@ -1,0 +1,90 @@
+//! The steps on patch groups (Frost et al., SOSP 2007), and the one that all steps go through.
+
+ghost use Rattle.std.specs.Prelude.{◌≡◌, ◌≢◌, ◌<◌, ◌^◌, Err, IfErr, OnOk, bytes_eq};
+ghost use Rattle.std.specs.List.{list_any};
+ghost use Rattle.crash_model.specs.Trace.{step as step_of};
+ghost use Rattle.crash_model.specs.declared.steps.Act.TheVariants.{Group, End, Depend};
+ghost use Rattle.crash_model.specs.declared.refusals.TraceFault.TheVariants as fault;
+ghost use Rattle.order_modules.specs.Tracer.{Moves};
+
+use crate::tracer::Tracer;
+use crash_model::names::GroupName;
+use crash_model::refusals::TraceFault;
+use crash_model::steps::{Act, Step};
+use std::alloc::Allocator;
+
+impl<'a, A: Allocator + Copy> Tracer<'a, A> {
+    /// Takes a step of the script.
+    pub fn step(&mut self, step: &'a Step) -> Result<(), TraceFault>
+        requires { self.old.tracing.turn < 2 ^ 63 }
+        ensures ok { OnOk result (Moves self.old self.new (step_of self.old.log.kind self.old.tracing step.now.line step.now.act)) }
+        ensures refused { IfErr result (λ refusal. refusal ≢ fault.OutOfMemory → step_of self.old.log.kind self.old.tracing step.now.line step.now.act ≡ Err refusal) }
+    {
+        match &step.act {
+            Act::Do(op) => self.operate(step.line, op),
+            Act::Group(name) => self.open(step.line, name),
+            Act::End => self.end(step.line),
+            Act::Depend(later, earlier) => self.depend(step.line, later, earlier),
+        }
+    }
+
+    /// Opens a group: none may be open, and this one may not have been opened before.
+    fn open(&mut self, line: usize, name: &'a GroupName) -> Result<(), TraceFault>
+        ensures ok { OnOk result (Moves self.old self.new (step_of self.old.log.kind self.old.tracing line (Group name.now))) }
+        ensures refused { IfErr result (λ refusal. refusal ≢ fault.OutOfMemory → step_of self.old.log.kind self.old.tracing line (Group name.now) ≡ Err refusal) }
+    {
+        if self.current.is_some() || is_among(name, self.opened.as_slice()) {
+            return Err(TraceFault::GroupFault { line });
+        }
+        self.opened.push(name)?;
+        self.current = Some(name);
+        Ok(())
+    }
+
+    /// Ends the open group.
+    fn end(&mut self, line: usize) -> Result<(), TraceFault>
+        ensures ok { OnOk result (Moves self.old self.new (step_of self.old.log.kind self.old.tracing line End)) }
+        ensures refused { IfErr result (λ refusal. refusal ≢ fault.OutOfMemory → step_of self.old.log.kind self.old.tracing line End ≡ Err refusal) }
+    {
+        let Some(name) = self.current else {
+            return Err(TraceFault::GroupFault { line });
+        };
+        self.ended.push(name)?;
+        self.current = None;
+        Ok(())
+    }
+
+    /// Makes the patches that a group will get wait for those of an ended group.
+    fn depend(
+        &mut self,
+        line: usize,
+        later: &'a GroupName,
+        earlier: &'a GroupName,
+    ) -> Result<(), TraceFault>
+        ensures ok { OnOk result (Moves self.old self.new (step_of self.old.log.kind self.old.tracing line (Depend later.now earlier.now))) }
+        ensures refused { IfErr result (λ refusal. refusal ≢ fault.OutOfMemory → step_of self.old.log.kind self.old.tracing line (Depend later.now earlier.now) ≡ Err refusal) }
+    {
+        if !is_among(earlier, self.ended.as_slice())
+            || is_same(later, earlier)
+            || self.log.has_patch_in(later)
+        {
+            return Err(TraceFault::GroupFault { line });
+        }
+        self.log.link(later, earlier)?;
+        Ok(())
+    }
+}
+
+/// Whether a name is among others.
+fn is_among(name: &GroupName, names: &[&GroupName]) -> bool
+    ensures { result ≡ list_any (λ other. bytes_eq name.now other.now) names.now }
+{
+    names.iter().any(|other| is_same(name, other))
+}
+
+/// Whether two names are the same.
+fn is_same(name: &GroupName, other: &GroupName) -> bool
+    ensures { result ≡ bytes_eq name.now other.now }
+{
+    name.same(other)
+}

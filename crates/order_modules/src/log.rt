@@ -1,0 +1,185 @@
+//! The patches so far.
+
+ghost use Rattle.std.specs.Prelude.{◌≡◌, ℕ, ◌+◌, ◌<◌, ◌≤◌, ◌↔◌, [], ◌∷◌, ◌++◌, length, false, IsTrue, OnOk, OnErr, IfOk};
+ghost use Rattle.std.specs.List.{list_any};
+ghost use Rattle.patch_sets.specs.Sets.{Has};
+ghost use Rattle.crash_model.specs.Patches.{place};
+ghost use Rattle.crash_model.specs.Trace.{Emitted, is_same_group};
+ghost use Rattle.order_modules.specs.Labels.{emitted_at, group_by, links_by};
+ghost use Rattle.order_modules.specs.Log.{Adds, IsLog, Keeps, WaitsAt};
+
+use crate::labels::{Label, Link, is_in_group, waits};
+use arrayvec::ArrayVec;
+use crash_model::names::GroupName;
+use crash_model::patches::Patch;
+use crash_model::steps::Module;
+use disk_image::Image;
+use patch_graph::{Graph, GraphFault, MAX_PATCHES};
+use patch_sets::set::with;
+use std::alloc::{AllocError, Allocator};
+use std::marker::Model;
+
+/// The patches of the operations so far, over a base image.
+#[derive(Drop)]
+pub struct PatchLog<'a, A: Allocator + Copy> {
+    base: &'a Image<A>,
+    written: Image<A>,
+    module: Module,
+    graph: Graph<A>,
+    labels: ArrayVec<Label<'a>, 124>,
+    links: Vec<Link<'a>, A>,
+}
+
+impl<'a, A: Allocator + Copy> Model for PatchLog<'a, A> {
+    ghost use Rattle.order_modules.specs.Log.{Log, IsLog};
+    ghost use Rattle.order_modules.specs.Labels.{emitted_by, links_by};
+    ghost use Rattle.crash_model.specs.Patches.{places_of};
+    ghost use Rattle.std.specs.Prelude.{◌≡◌, length};
+
+    ghost Value = { Log };
+
+    ghost view = { λ l. record { base = l.base.now; kind = l.module; links = links_by l.links.items; emitted = emitted_by (places_of l.graph) l.labels.items; patches = l.graph; written = l.written } };
+
+    ghost invariant = { λ l. IsLog (record { base = l.base.now; kind = l.module; links = links_by l.links.items; emitted = emitted_by (places_of l.graph) l.labels.items; patches = l.graph; written = l.written }) × (length l.labels.items ≡ length l.graph) };
+}
+
+impl<'a, A: Allocator + Copy> PatchLog<'a, A> {
+    /// No patches over this image.
+    pub fn new(alloc: A, base: &'a Image<A>, module: Module) -> Result<PatchLog<'a, A>, AllocError>
+        ensures { IfOk result (λ log. (log.base ≡ base.now) × (log.kind ≡ «module») × (log.links ≡ []) × (log.emitted ≡ [])) }
+    {
+        Ok(PatchLog {
+            base,
+            written: base.try_copy()?,
+            module,
+            graph: Graph::new(alloc),
+            labels: ArrayVec::new(),
+            links: Vec::new(alloc),
+        })
+    }
+
+    /// How many patches there are.
+    pub fn len(&self) -> usize
+        ensures { result ≡ length self.now.emitted }
+    {
+        self.graph.len()
+    }
+
+    /// The ordering module.
+    pub fn module(&self) -> Module
+        ensures { result ≡ self.now.kind }
+    {
+        self.module
+    }
+
+    /// Whether so many patches more are not too many.
+    pub fn has_room(&self, count: usize) -> bool
+        requires { count ≤ 1000 }
+        ensures { IsTrue result ↔ (length self.now.emitted + count ≤ 124) }
+    {
+        self.graph.len() + count <= MAX_PATCHES
+    }
+
+    /// Whether a group has a patch.
+    pub fn has_patch_in(&self, name: &GroupName) -> bool
+        ensures { result ≡ list_any (λ e. is_same_group e.group name.now) self.now.emitted }
+    {
+        has_label_in(self.labels.as_slice(), name)
+    }
+
+    /// Makes the patches that the group `later` will get wait for those of the group `earlier`.
+    ///
+    /// After an error the log is as it was.
+    pub fn link(&mut self, later: &'a GroupName, earlier: &'a GroupName) -> Result<(), AllocError>
+        requires { list_any (λ e. is_same_group e.group later.now) self.old.emitted ≡ false }
+        ensures ok { OnOk result (self.new ≡ record self.old { links = self.old.links ++ (later.now, earlier.now) ∷ [] }) }
+        ensures err { OnErr result (self.new ≡ self.old) }
+    {
+        self.links.push(Link { later, earlier })?;
+        Ok(())
+    }
+
+    /// Adds a patch: new bytes from byte `offset` of a block on.
+    ///
+    /// It waits for the patches that it overlaps, and for those that its label says. Its undo data are the bytes
+    /// before it. It fails only for want of memory, and then the log is as it was.
+    pub fn emit(
+        &mut self,
+        label: Label<'a>,
+        block: u8,
+        offset: u8,
+        bytes: &[u8],
+    ) -> Result<(), AllocError>
+        requires block { block < self.old.base.blocks }
+        requires some { 0 < length bytes.now }
+        requires inside { offset + length bytes.now ≤ 128 }
+        requires room { length self.old.emitted < 124 }
+        ensures ok { OnOk result (Adds self.old self.new (emitted_at (place block offset bytes.now) label.entry ∷ [])) }
+        ensures err { OnErr result (self.new ≡ self.old) }
+        ensures kept { Keeps self.old self.new }
+    {
+        let deps = dependencies(
+            self.module,
+            self.links.as_slice(),
+            self.labels.as_slice(),
+            &label,
+        );
+        let from = usize::from(offset);
+        let patch = Patch {
+            block,
+            offset,
+            new: bytes_of(bytes),
+            undo: bytes_of(&self.written.block(usize::from(block))[from..from + bytes.len()]),
+            deps,
+        };
+        match self.graph.push(patch) {
+            Ok(()) => {}
+            Err(GraphFault::OutOfMemory) => return Err(AllocError),
+            Err(GraphFault::TooManyPatches) => unreachable!(),
+        }
+        self.labels.push(label);
+        self.written.put(usize::from(block), from, bytes);
+        Ok(())
+    }
+
+    /// The graph of the patches.
+    pub fn into_graph(self) -> Graph<A>
+        ensures patches { result ≡ self.entry.patches }
+        ensures log { IsLog self.entry }
+    {
+        self.graph
+    }
+}
+
+/// The ids of the labels that a later one has to wait for.
+fn dependencies(module: Module, links: &[Link<'_>], labels: &[Label<'_>], later: &Label<'_>) -> u128
+    requires { length labels.now ≤ 124 }
+    ensures { (id : ℕ) → Has result id ↔ WaitsAt «module» (links_by links.now) labels.now later.now id }
+{
+    let mut ids = 0;
+    for (id, earlier) in labels.iter().enumerate() {
+        if waits(module, links, later, earlier) {
+            ids = with(ids, id);
+        }
+    }
+    ids
+}
+
+/// Whether a label is of a group.
+fn has_label_in(labels: &[Label<'_>], name: &GroupName) -> bool
+    ensures { result ≡ list_any (λ label. is_same_group (group_by label.group) name.now) labels.now }
+{
+    labels.iter().any(|label| is_in_group(label.group, name))
+}
+
+/// The bytes of a range of a block.
+fn bytes_of(bytes: &[u8]) -> ArrayVec<u8, 128>
+    requires { length bytes.now ≤ 128 }
+    ensures { result.items ≡ bytes.now }
+{
+    let mut items = ArrayVec::new();
+    for byte in bytes {
+        items.push(*byte);
+    }
+    items
+}

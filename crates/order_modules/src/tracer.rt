@@ -1,0 +1,161 @@
+//! The trace of a script: its operations, in order, turned into patches.
+
+ghost use Rattle.std.specs.Prelude.{◌≡◌, ◌≢◌, ℕ, ◌+◌, ◌<◌, ◌≤◌, ◌⊎◌, ◌^◌, [], length, Ok, Err, IfOk, IfErr, OnOk, All};
+ghost use Rattle.crash_model.specs.Trace.{Tracing, begun, planned, step as step_of, traced, IsGraphOf};
+ghost use Rattle.crash_model.specs.Plan.{plan_of};
+ghost use Rattle.crash_model.specs.declared.refusals.TraceFault.TheVariants as fault;
+ghost use Rattle.inode_fs.specs.Inside.{LiesInside};
+ghost use Rattle.order_modules.specs.Tracer.{Moves, IsOrdered, IsJournaled};
+
+use crate::log::PatchLog;
+use crate::transactions::touched;
+use crash_model::names::{GroupName, Op};
+use crash_model::plans::Plan;
+use crash_model::refusals::TraceFault;
+use crash_model::steps::{Act, Module, Step};
+use disk_image::Image;
+use inode_fs::{apply, plan};
+use patch_graph::Graph;
+use std::alloc::{AllocError, Allocator};
+use std::marker::Model;
+
+/// The graph of the steps, over this image, under an ordering module; or the first refused step.
+///
+/// Each operation is planned on the image after those before it. Its patches carry as undo data the bytes that they
+/// replace, in the image after all patches before them. They depend on each earlier patch of an overlapping range, on
+/// the patches of groups by the script's `depend` lines, and on what the ordering module says. A step is refused by
+/// the operation itself, by a full journal, by too many patches (the graph holds 124), or by the rules of groups: a
+/// group is opened once and only while none is open, `depend b a` takes an ended group a and a group b, not a, that
+/// has no patch. It fails for want of memory too.
+pub fn trace<A: Allocator + Copy>(
+    alloc: A,
+    image: &Image<A>,
+    steps: &[Step],
+    module: Module,
+) -> Result<Graph<A>, TraceFault>
+    ensures ok { IfOk result (λ graph. (s : Tracing) × (traced «module» (begun image.now) steps.now ≡ Ok s) × IsGraphOf «module» image.now s graph) }
+    ensures refused { IfErr result (λ refusal. refusal ≢ fault.OutOfMemory → traced «module» (begun image.now) steps.now ≡ Err refusal) }
+    ensures fits { IfOk result (λ graph. All (λ patch. patch.block < image.now.blocks) graph) }
+{
+    let mut tracer = Tracer::new(alloc, image, module)?;
+    for step in steps {
+        tracer.step(step)?;
+    }
+    Ok(tracer.into_graph())
+}
+
+/// A trace under way.
+#[derive(Drop)]
+pub(crate) struct Tracer<'a, A: Allocator + Copy> {
+    /// The image after the operations so far; the journal is as at the beginning.
+    pub(crate) disk: Image<A>,
+    pub(crate) log: PatchLog<'a, A>,
+    /// The number of the next operation, from 1, and the next free journal block.
+    pub(crate) turn: usize,
+    pub(crate) next: usize,
+    /// The open group, the groups that were opened, and those that have ended.
+    pub(crate) current: Option<&'a GroupName>,
+    pub(crate) opened: Vec<&'a GroupName, A>,
+    pub(crate) ended: Vec<&'a GroupName, A>,
+}
+
+impl<'a, A: Allocator + Copy> Model for Tracer<'a, A> {
+    ghost use Rattle.order_modules.specs.Tracer.{Trace, IsTrace, names_by, trace_of};
+    ghost use Rattle.order_modules.specs.Labels.{group_by};
+
+    ghost Value = { Trace };
+
+    ghost view = { λ t. trace_of t.log t.disk t.turn t.next (group_by t.current) (names_by t.opened.items) (names_by t.ended.items) };
+
+    ghost invariant = { λ t. IsTrace (trace_of t.log t.disk t.turn t.next (group_by t.current) (names_by t.opened.items) (names_by t.ended.items)) };
+}
+
+impl<'a, A: Allocator + Copy> Tracer<'a, A> {
+    /// Nothing traced yet.
+    pub fn new(alloc: A, base: &'a Image<A>, module: Module) -> Result<Tracer<'a, A>, AllocError>
+        ensures { IfOk result (λ t. (t.tracing ≡ begun base.now) × (t.log.base ≡ base.now) × (t.log.kind ≡ «module»)) }
+    {
+        Ok(Tracer {
+            disk: base.try_copy()?,
+            log: PatchLog::new(alloc, base, module)?,
+            turn: 1,
+            next: 4,
+            current: None,
+            opened: Vec::new(alloc),
+            ended: Vec::new(alloc),
+        })
+    }
+
+    /// The graph of what was traced.
+    pub fn into_graph(self) -> Graph<A>
+        ensures graph { IsGraphOf self.entry.log.kind self.entry.log.base self.entry.tracing result }
+        ensures fits { All (λ patch. patch.block < self.entry.log.base.blocks) result }
+    {
+        self.log.into_graph()
+    }
+
+    /// Does an operation: plans it, and adds its patches by the ordering module.
+    pub fn operate(&mut self, line: usize, op: &Op) -> Result<(), TraceFault>
+        requires { self.old.tracing.turn < 2 ^ 63 }
+        ensures ok { OnOk result (Moves self.old self.new (planned self.old.log.kind line self.old.tracing (plan_of self.old.tracing.disk op.now))) }
+        ensures refused { IfErr result (λ refusal. refusal ≢ fault.OutOfMemory → planned self.old.log.kind line self.old.tracing (plan_of self.old.tracing.disk op.now) ≡ Err refusal) }
+    {
+        let plan = match plan(&self.disk, op) {
+            Ok(plan) => plan,
+            Err(fault) => return Err(fault.at_line(line)),
+        };
+        match self.log.module() {
+            Module::Async | Module::Soft => self.write_in_place(line, &plan),
+            Module::Meta | Module::Full => self.write_journaled(line, &plan),
+        }
+    }
+
+    /// Adds the changes of an operation where they belong.
+    fn write_in_place(&mut self, line: usize, plan: &Plan) -> Result<(), TraceFault>
+        requires order { IsOrdered self.old.log.kind }
+        requires few { self.old.tracing.turn < 2 ^ 63 }
+        requires inside { All (LiesInside self.old.tracing.disk.blocks) plan.now.items }
+        ensures ok { OnOk result (Moves self.old self.new (planned self.old.log.kind line self.old.tracing (Ok plan.now.items))) }
+        ensures refused { IfErr result (λ refusal. refusal ≢ fault.OutOfMemory → planned self.old.log.kind line self.old.tracing (Ok plan.now.items) ≡ Err refusal) }
+    {
+        if !self.log.has_room(plan.len()) {
+            return Err(TraceFault::TooManyPatches { line });
+        }
+        apply(&mut self.disk, plan);
+        self.log
+            .emit_in_place(self.turn, self.current, plan.as_slice())?;
+        self.turn += 1;
+        Ok(())
+    }
+
+    /// Adds the changes of an operation as a transaction of the journal.
+    fn write_journaled(&mut self, line: usize, plan: &Plan) -> Result<(), TraceFault>
+        requires order { IsJournaled self.old.log.kind }
+        requires few { self.old.tracing.turn < 2 ^ 63 }
+        requires inside { All (LiesInside self.old.tracing.disk.blocks) plan.now.items }
+        ensures ok { OnOk result (Moves self.old self.new (planned self.old.log.kind line self.old.tracing (Ok plan.now.items))) }
+        ensures refused { IfErr result (λ refusal. refusal ≢ fault.OutOfMemory → planned self.old.log.kind line self.old.tracing (Ok plan.now.items) ≡ Err refusal) }
+    {
+        let targets = touched(self.log.module(), self.disk.blocks(), plan.as_slice());
+        let next = self.next + 1 + targets.len();
+        if next > 4 + self.disk.journal() {
+            return Err(TraceFault::JournalFull { line });
+        }
+        if !self.log.has_room(plan.len() + targets.len() + 2) {
+            return Err(TraceFault::TooManyPatches { line });
+        }
+        apply(&mut self.disk, plan);
+        let header = self.next as u8;
+        self.log.emit_transaction(
+            self.turn,
+            self.current,
+            header,
+            &self.disk,
+            targets.as_slice(),
+            plan.as_slice(),
+        )?;
+        self.turn += 1;
+        self.next = next;
+        Ok(())
+    }
+}

@@ -1,0 +1,59 @@
+//! The ends of a set, sets with one id less, and what one set has and another hasn't.
+ghost use Rattle.std.specs.Prelude.{◌≡◌, ℕ, ◌<◌, ◌↔◌, MatchOption, IfSome};
+ghost use Rattle.patch_sets.specs.Sets.{Has};
+ghost use Rattle.patch_sets.specs.Ends.{IsLowest, IsHighest, IsWithout, IsDifference};
+
+/// The lowest id of a set, if it has one.
+pub fn lowest(set: u128) -> Option<usize>
+    ensures found { MatchOption result (set ≡ 0) (λ id. IsLowest set id) }
+    ensures within { IfSome result (λ id. id < 128) }
+{
+    if set == 0 {
+        return None;
+    }
+    Some(set.trailing_zeros() as usize)
+}
+
+/// The highest id of a set, if it has one.
+pub fn highest(set: u128) -> Option<usize>
+    ensures found { MatchOption result (set ≡ 0) (λ id. IsHighest set id) }
+    ensures within { IfSome result (λ id. id < 128) }
+{
+    if set == 0 {
+        return None;
+    }
+    Some(127 - set.leading_zeros() as usize)
+}
+
+/// The set with one id less. It is a smaller number where the set had the id.
+pub fn without(set: u128, id: usize) -> u128
+    requires { id < 128 }
+    ensures others { IsWithout set id result }
+    ensures smaller { Has set id → result < set }
+{
+    set & !(1 << id)
+}
+
+/// The ids of one set that another hasn't.
+pub fn difference(set: u128, other: u128) -> u128
+    ensures { IsDifference set other result }
+{
+    set & !other
+}
+
+#[cfg(test)]
+mod tests {
+    use super::*;
+    use std::test::Fail;
+
+    #[test]
+    fn the_ends_of_a_set_of_two(rt: HostRuntime) -> Result<(), Fail> {
+        let set = 1 << 5 | 1 << 127;
+        assert_eq!(rt; lowest(set), Some(5));
+        assert_eq!(rt; highest(set), Some(127));
+        assert_eq!(rt; lowest(without(set, 5)), Some(127));
+        assert_eq!(rt; difference(set, 1 << 127), 1 << 5);
+        assert_eq!(rt; highest(0), None);
+        Ok(())
+    }
+}

@@ -1,0 +1,4 @@
+pub mod Answer
+pub mod Known
+pub mod Progress
+pub mod Successors

@@ -1,0 +1,85 @@
+ghost use Rattle.std.specs.Prelude.{◌≡◌, ◌<◌, ◌≤◌, ◌++◌, List, ℕ, length, Contains, IfOk, OnOk, IsErrOf};
+ghost use Rattle.std.specs.List.{All};
+ghost use Rattle.state_space.specs.Reach.{IsReached};
+ghost use Rattle.state_space.specs.Counts.{IsSome, HoldsOf, Outnumbers};
+ghost use Rattle.patch_sets.specs.Sets.{AreAllInOrder};
+
+use crate::fault::ExploreFault;
+use crate::found::Found;
+use patch_sets::order::in_order;
+use state_space::Space;
+use std::alloc::Allocator;
+
+/// How many words are reached, and which of them are not good, in canonical order: fewer ids first, then the
+/// smaller number.
+#[derive(Drop)]
+pub struct Explored<A: Allocator> {
+    pub total: usize,
+    pub broken: Vec<u128, A>,
+}
+
+/// Explores a space from its initial word.
+///
+/// It answers that there are too many words where a further one is found and as many as the limit are known
+/// already. Its other error is want of memory, its own or the space's.
+pub fn explore_plain<A: Allocator + Copy, S: Space>(
+    alloc: A,
+    space: &S,
+    limit: usize,
+) -> Result<Explored<A>, ExploreFault>
+    requires { 0 < limit }
+
+    ensures total { IfOk result (λ explored. HoldsOf (IsReached (S.successors space.now) (S.initial space.now)) explored.total) }
+    ensures within { IfOk result (λ explored. explored.total ≤ limit) }
+    ensures broken { IfOk result (λ explored. AreAllInOrder (λ word. IsReached (S.successors space.now) (S.initial space.now) word × ¬ (S.is_good space.now word)) explored.broken.items) }
+
+    ensures too_many { IsErrOf result ExploreFault.TooMany → Outnumbers (IsReached (S.successors space.now) (S.initial space.now)) limit }
+{
+    let mut scratch = space.scratch()?;
+    let mut found = Found::new(alloc);
+    found.push(space.start())?;
+    let mut broken = Vec::new(alloc);
+    let mut done = 0;
+    while done < found.len() {
+        let word = found.word(done);
+        find_successors(space, word, &mut found, limit)?;
+        if !space.judge(&mut scratch, word)? {
+            broken.push(word)?;
+        }
+        done += 1;
+    }
+    Ok(Explored {
+        total: done,
+        broken: in_order(broken),
+    })
+}
+
+/// Puts the successors of a word at the end of those that have been found, except for those that are known.
+fn find_successors<A: Allocator + Copy, S: Space>(
+    space: &S,
+    word: u128,
+    found: &mut Found<A>,
+    limit: usize,
+) -> Result<(), ExploreFault>
+    requires lawful { S.is_lawful space.now word }
+    requires reached { IsReached (S.successors space.now) (S.initial space.now) word }
+    requires some { IsSome (IsReached (S.successors space.now) (S.initial space.now)) found.old }
+    requires room { length found.old ≤ limit }
+
+    ensures grown { (added : List ℕ) × (found.new ≡ found.old ++ added) }
+    ensures some { IsSome (IsReached (S.successors space.now) (S.initial space.now)) found.new }
+    ensures within { length found.new ≤ limit }
+    ensures successors { OnOk result (All (Contains found.new) (S.successors space.now word)) }
+    ensures too_many { IsErrOf result ExploreFault.TooMany → Outnumbers (IsReached (S.successors space.now) (S.initial space.now)) limit }
+{
+    for k in 0..space.degree(word) {
+        let next = space.next(word, k);
+        if !found.has(next) {
+            if found.len() == limit {
+                return Err(ExploreFault::TooMany);
+            }
+            found.push(next)?;
+        }
+    }
+    Ok(())
+}

@@ -1,0 +1,73 @@
+//! Operands: the words of a line behind the first.
+
+ghost use Rattle.std.specs.Prelude.{◌≡◌, [], ◌∷◌, map, MatchResult};
+ghost use Rattle.crash_model.specs.Names.{IsGroupName};
+ghost use Rattle.crash_model.specs.Script.{IsPath, path_text, PathOperand, GroupOperand};
+ghost use Rattle.script_text.specs.Words.{IsOperandFault};
+
+use crate::line::LineFault;
+use crash_model::names::{GroupName, Path};
+
+/// No operands.
+pub(crate) fn none(operands: &[&str]) -> Result<(), LineFault>
+    ensures { MatchResult result (λ _. map (λ word. word.now) operands.now ≡ []) (IsOperandFault [] (map (λ word. word.now) operands.now)) }
+{
+    if !operands.is_empty() {
+        return Err(LineFault::BadLine);
+    }
+    Ok(())
+}
+
+/// One path.
+pub(crate) fn path(operands: &[&str]) -> Result<Path, LineFault>
+    ensures { MatchResult result (λ path. IsPath path × (map (λ word. word.now) operands.now ≡ path_text path ∷ []))
+        (IsOperandFault (PathOperand ∷ []) (map (λ word. word.now) operands.now)) }
+{
+    let [word] = operands else {
+        return Err(LineFault::BadLine);
+    };
+    if word.is_empty() {
+        return Err(LineFault::BadLine);
+    }
+    Path::read(word).ok_or(LineFault::BadPath)
+}
+
+/// Two paths.
+pub(crate) fn two_paths(operands: &[&str]) -> Result<(Path, Path), LineFault>
+    ensures { MatchResult result (λ paths. IsPath paths.0 × IsPath paths.1 × (map (λ word. word.now) operands.now ≡ path_text paths.0 ∷ path_text paths.1 ∷ []))
+        (IsOperandFault (PathOperand ∷ PathOperand ∷ []) (map (λ word. word.now) operands.now)) }
+{
+    let [old, new] = operands else {
+        return Err(LineFault::BadLine);
+    };
+    if old.is_empty() || new.is_empty() {
+        return Err(LineFault::BadLine);
+    }
+    let old = Path::read(old).ok_or(LineFault::BadPath)?;
+    let new = Path::read(new).ok_or(LineFault::BadPath)?;
+    Ok((old, new))
+}
+
+/// One name of a group.
+pub(crate) fn group(operands: &[&str]) -> Result<GroupName, LineFault>
+    ensures { MatchResult result (λ group. IsGroupName group × (map (λ word. word.now) operands.now ≡ group ∷ []))
+        (IsOperandFault (GroupOperand ∷ []) (map (λ word. word.now) operands.now)) }
+{
+    let [word] = operands else {
+        return Err(LineFault::BadLine);
+    };
+    GroupName::read(word).ok_or(LineFault::BadLine)
+}
+
+/// Two names of groups.
+pub(crate) fn two_groups(operands: &[&str]) -> Result<(GroupName, GroupName), LineFault>
+    ensures { MatchResult result (λ groups. IsGroupName groups.0 × IsGroupName groups.1 × (map (λ word. word.now) operands.now ≡ groups.0 ∷ groups.1 ∷ []))
+        (IsOperandFault (GroupOperand ∷ GroupOperand ∷ []) (map (λ word. word.now) operands.now)) }
+{
+    let [later, earlier] = operands else {
+        return Err(LineFault::BadLine);
+    };
+    let later = GroupName::read(later).ok_or(LineFault::BadLine)?;
+    let earlier = GroupName::read(earlier).ok_or(LineFault::BadLine)?;
+    Ok((later, earlier))
+}

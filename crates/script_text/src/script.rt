@@ -1,0 +1,90 @@
+//! Whole scripts.
+
+ghost use Rattle.std.specs.Prelude.{◌≡◌, ◌≢◌, ◌+◌, ◌<◌, ◌≤◌, ◌^◌, length, IfOk, IfErr, IfSome};
+ghost use Rattle.crash_model.specs.Script.{IsScript, IsScriptRefusal};
+ghost use Rattle.script_text.specs.Parts.{IsPart, IsPartRefused};
+
+use crate::line::{Line, read_line};
+use crate::lines::first_line;
+use crash_model::refusals::ScriptFault;
+use crash_model::steps::Step;
+use std::alloc::Allocator;
+
+/// The steps of a script: those that build the base, and those behind the start line, which are traced.
+#[derive(Drop)]
+pub struct Script<A: Allocator> {
+    pub base: Vec<Step, A>,
+    pub traced: Vec<Step, A>,
+}
+
+/// The script that the bytes spell.
+///
+/// It is refused at its first refused line: one that is not UTF-8, one that has none of the forms or is a second
+/// start line, or one with a word that is no path where a path stands, tried in this order; then where no line is
+/// the start line. Each byte is read a few times, whatever the script.
+pub fn read_script<A: Allocator + Copy>(alloc: A, bytes: &[u8]) -> Result<Script<A>, ScriptFault>
+    ensures ok { IfOk result (λ script. IsScript bytes.now script.base.items script.traced.items) }
+    ensures refused { IfErr result (λ fault. fault ≢ ScriptFault.OutOfMemory → IsScriptRefusal bytes.now fault) }
+{
+    let base = read_steps(alloc, bytes, 1)?;
+    let Some(behind) = base.behind else {
+        return Err(ScriptFault::NoStart { line: base.line });
+    };
+    let traced = read_steps(alloc, behind, base.line + 1)?;
+    if traced.behind.is_some() {
+        return Err(ScriptFault::BadLine { line: traced.line });
+    }
+    Ok(Script {
+        base: base.steps,
+        traced: traced.steps,
+    })
+}
+
+/// The steps of lines up to a start line, or up to the end.
+///
+/// `line` is the number of the start line, and `behind` the bytes behind it; where there is none, `line` is one
+/// more than the number of the last line.
+#[derive(Drop)]
+struct Part<'a, A: Allocator> {
+    steps: Vec<Step, A>,
+    line: usize,
+    behind: Option<&'a [u8]>,
+}
+
+/// The steps of these bytes up to a start line. The number of their first line is `first`.
+fn read_steps<A: Allocator + Copy>(
+    alloc: A,
+    bytes: &[u8],
+    first: usize,
+) -> Result<Part<'_, A>, ScriptFault>
+    requires { first + length bytes.now < 2 ^ 64 }
+    ensures ok { IfOk result (λ part. IsPart bytes.now first part.steps.items part.line part.behind) }
+    ensures room { IfOk result (λ part. IfSome part.behind (λ behind. part.line + length behind.now < first + length bytes.now)) }
+    ensures refused { IfErr result (λ fault. fault ≢ ScriptFault.OutOfMemory → IsPartRefused bytes.now first fault) }
+{
+    let mut steps = Vec::new(alloc);
+    let mut line = first;
+    let mut rest = bytes;
+    while !rest.is_empty() {
+        let (text, behind) = first_line(rest);
+        match read_line(text) {
+            Ok(Line::Skipped) => {}
+            Ok(Line::Start) => {
+                return Ok(Part {
+                    steps,
+                    line,
+                    behind: Some(behind),
+                });
+            }
+            Ok(Line::Says(act)) => steps.push(Step { line, act })?,
+            Err(fault) => return Err(fault.at(line)),
+        }
+        line += 1;
+        rest = behind;
+    }
+    Ok(Part {
+        steps,
+        line,
+        behind: None,
+    })
+}

@@ -1,0 +1,82 @@
+//! The first word of a line.
+
+ghost use Rattle.std.specs.Prelude.{◌≡◌, ◌∷◌, map, MatchOption, MatchResult};
+ghost use Rattle.script_text.specs.Words.{spelling, operands_of, IsNoVerb, SaysWords, IsOperandFault};
+
+use crate::line::{Line, LineFault};
+use crate::operands;
+use crash_model::names::Op;
+use crash_model::steps::Act;
+
+/// What a line asks for, by its first word.
+#[derive(Clone, Copy, Debug, PartialEq, Eq)]
+pub(crate) enum Verb {
+    Create,
+    Write,
+    Link,
+    Unlink,
+    Rename,
+    Mkdir,
+    Rmdir,
+    Group,
+    End,
+    Depend,
+    Start,
+}
+
+impl Verb {
+    /// The verb that is spelt so, if there is one.
+    pub(crate) fn read(word: &str) -> Option<Verb>
+        ensures { MatchOption result (IsNoVerb word.now) (λ verb. word.now ≡ spelling verb) }
+    {
+        match word.as_bytes() {
+            b"create" => Some(Verb::Create),
+            b"write" => Some(Verb::Write),
+            b"link" => Some(Verb::Link),
+            b"unlink" => Some(Verb::Unlink),
+            b"rename" => Some(Verb::Rename),
+            b"mkdir" => Some(Verb::Mkdir),
+            b"rmdir" => Some(Verb::Rmdir),
+            b"group" => Some(Verb::Group),
+            b"end" => Some(Verb::End),
+            b"depend" => Some(Verb::Depend),
+            b"start" => Some(Verb::Start),
+            _ => None,
+        }
+    }
+
+    /// What a line says of which this is the first word, and these are the others.
+    pub(crate) fn line(self, operands: &[&str]) -> Result<Line, LineFault>
+        ensures { MatchResult result (SaysWords (spelling self ∷ map (λ word. word.now) operands.now))
+            (IsOperandFault (operands_of self) (map (λ word. word.now) operands.now)) }
+    {
+        Ok(match self {
+            Verb::Create => Line::does(Op::Create(operands::path(operands)?)),
+            Verb::Write => Line::does(Op::Write(operands::path(operands)?)),
+            Verb::Link => {
+                let (old, new) = operands::two_paths(operands)?;
+                Line::does(Op::Link(old, new))
+            }
+            Verb::Unlink => Line::does(Op::Unlink(operands::path(operands)?)),
+            Verb::Rename => {
+                let (old, new) = operands::two_paths(operands)?;
+                Line::does(Op::Rename(old, new))
+            }
+            Verb::Mkdir => Line::does(Op::Mkdir(operands::path(operands)?)),
+            Verb::Rmdir => Line::does(Op::Rmdir(operands::path(operands)?)),
+            Verb::Group => Line::Says(Act::Group(operands::group(operands)?)),
+            Verb::End => {
+                operands::none(operands)?;
+                Line::Says(Act::End)
+            }
+            Verb::Depend => {
+                let (later, earlier) = operands::two_groups(operands)?;
+                Line::Says(Act::Depend(later, earlier))
+            }
+            Verb::Start => {
+                operands::none(operands)?;
+                Line::Start
+            }
+        })
+    }
+}

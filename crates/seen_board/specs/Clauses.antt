@@ -1,0 +1,67 @@
+-- What clauses say of seats and places.
+use Rattle.std.specs.Prelude.{◌≡◌, ◌≢◌, ℕ, ◌<◌, Bool, cond, List, [], ◌∷◌, ◌++◌, length, slice_index}
+use Rattle.board_rule.specs.Layout.{writer, place_of}
+use Rattle.board_rule.specs.Changes.{either_one}
+use Rattle.board_rule.specs.declared.life.Life.{Life}
+use Rattle.board_rule.specs.declared.life.Life.TheVariants.{Clean, Broken}
+use Rattle.board_rule.specs.Lists.{row_of, StartsWith}
+use Rattle.seen_board.specs.Known.{Shown, Known}
+use Rattle.seen_board.specs.declared.answers.Place.{Place}
+
+-- one number for a place
+abbrev pub number : Place → ℕ
+number place = place_of place.shard place.at
+
+-- the seat is of this board
+abbrev pub IsOf : {S : Type 0} → Shown S → Known → Type 0
+IsOf b s = (s.board ≡ b.board) × (s.limit ≡ b.limit)
+
+abbrev pub HasRight : Known → ℕ → Type 0
+HasRight s q = (s.held ≡ q) × (0 < s.right)
+
+abbrev pub Reads : Known → ℕ → Type 0
+Reads s q = (s.held ≡ q) × (s.right ≡ 1)
+
+abbrev pub Writes : Known → ℕ → Type 0
+Writes s q = (s.held ≡ q) × (s.right ≡ writer)
+
+abbrev pub HasClaim : Known → Place → Type 0
+HasClaim s place = (s.claims ≡ 1) × (s.place ≡ number place)
+
+-- what was seen is a beginning of what is seen now
+abbrev pub SeesOn : List (List ℕ) → List (List ℕ) → Type 0
+SeesOn seen rows = (q : ℕ) → q < 13 → StartsWith (row_of rows q) (row_of seen q)
+
+-- the seat has a right of shard q, may have seen more, and is as it was in all else
+abbrev pub Gains : Known → ℕ → ℕ → Known → Type 0
+Gains v right q w = (w ≡ record v { seen = w.seen; right = right; held = q }) × SeesOn v.seen w.seen
+
+-- the seat may have seen more, and is as it was in all else
+abbrev pub Sees : Known → Known → Type 0
+Sees v w = (w ≡ record v { seen = w.seen }) × SeesOn v.seen w.seen
+
+-- the row lacks the word
+abbrev pub Lacks : List ℕ → ℕ → Type 0
+Lacks row word = (k : ℕ) → k < length row → slice_index row k ≢ word
+
+-- the seat learned that the place has had this life
+abbrev pub having_met : Known → Place → Life → Known
+having_met s place life = record s { learned = s.learned ++ (number place, life) ∷ [] }
+
+abbrev pub settled_as : Bool → Life
+settled_as good = cond good Clean Broken
+
+-- what two seats know together, with what they have seen
+abbrev pub both_known : Known → Known → List (List ℕ) → Known
+both_known s u seen = record s { seen = seen; learned = s.learned ++ u.learned; added = s.added ++ u.added; finished = either_one s.finished u.finished; over = either_one s.over u.over }
+
+-- the rows have the place
+abbrev pub HasPlace : List (List ℕ) → Place → Type 0
+HasPlace rows place = (place.shard < 13) × (place.at < length (row_of rows place.shard))
+
+abbrev pub word_at : List (List ℕ) → Place → ℕ
+word_at rows place = slice_index (row_of rows place.shard) place.at
+
+-- the word stands at the place
+abbrev pub Names : List (List ℕ) → Place → ℕ → Type 0
+Names rows place word = HasPlace rows place × (word_at rows place ≡ word)

@@ -1,0 +1,65 @@
+-- What clauses see of a board and of a seat.
+use Rattle.std.specs.Prelude.{◌≡◌, ℕ, ◌<◌, ◌≤◌, List, [], length, slice_index}
+use Rattle.atomic_table.specs.Seated.{TableId}
+use Rattle.atomic_table.specs.Table.{Me}
+use Rattle.board_rule.specs.Lists.{row_of}
+use Rattle.board_rule.specs.Plays.{IsIdle}
+use Rattle.board_rule.specs.Changes.{first_view}
+use Rattle.board_rule.specs.declared.life.Life.{Life}
+use Rattle.board_rule.specs.declared.view.View.{View}
+
+-- a board: which it is, its limit and its space
+pub record Shown (S : Type 0) : Type 0 where
+  pub board : TableId
+  pub limit : ℕ
+  pub space : S
+
+-- a seat: of which board it is, and what it knows
+pub record Known : Type 0 where
+  pub board : TableId
+  pub limit : ℕ
+  -- what it has seen of each shard's row
+  pub seen : List (List ℕ)
+  -- its right, 0 for none, 1 to read, 2 ^ 32 to write, and the shard of it
+  pub right : ℕ
+  pub held : ℕ
+  -- 1 with a claim, and the place that was claimed last
+  pub claims : ℕ
+  pub place : ℕ
+  -- lives that it met, each with its place
+  pub learned : List (ℕ × Life)
+  -- the places that it has put words in
+  pub added : List ℕ
+  -- 1 once it knows that all entries are settled
+  pub finished : ℕ
+  -- 1 once it knows that more words than the limit are reached
+  pub over : ℕ
+
+abbrev pub known_of : TableId → View → Known
+known_of id v = record {
+  board = id;
+  limit = v.limit;
+  seen = v.rows.seen;
+  right = v.rows.right;
+  held = v.rows.held;
+  claims = v.lives.claims;
+  place = v.lives.place;
+  learned = v.lives.learned;
+  added = v.rows.added;
+  finished = v.pending.finished;
+  over = v.count.over;
+}
+
+abbrev pub first_known : TableId → ℕ → ℕ → Known
+first_known id limit start = known_of id (first_view limit start)
+
+-- between two calls a seat owes nothing
+abbrev pub Rests : Me Unit View → Type 0
+Rests m = (m.1 ≡ []) × (0 < m.0.limit) × IsIdle m.0
+
+-- how much of each row is seen
+pub record Counts (limit : ℕ) (counts : List ℕ) (seen : List (List ℕ)) : Type 0 where
+  pub small : limit ≤ 32768
+  pub all : length seen ≡ 13
+  pub each : (q : ℕ) → q < 13 → slice_index counts q ≡ length (row_of seen q)
+  pub short : (q : ℕ) → q < 13 → length (row_of seen q) ≤ limit

@@ -1,0 +1,44 @@
+/// A place on a board: a shard, below 13, and a number in the shard's row, below the limit.
+#[derive(Clone, Copy, Debug, PartialEq, Eq, Drop)]
+pub struct Place {
+    pub shard: u8,
+    pub at: u16,
+}
+
+/// Whether a right was had in one try.
+#[derive(Clone, Copy, Debug, PartialEq, Eq, Drop)]
+pub enum Got {
+    Right,
+    Busy,
+}
+
+/// What became of a word that was to be put in.
+#[derive(Clone, Copy, Debug, PartialEq, Eq, Drop)]
+pub enum Put {
+    /// It is an entry now, at this place.
+    New(Place),
+    /// It was an entry before, at this place.
+    Known(Place),
+    /// A right was not had, and the word was not put in.
+    Busy,
+    /// More words than the limit are reached.
+    Over,
+}
+
+// What the index words of a word tell under a right.
+#[derive(Clone, Copy, Debug, PartialEq, Eq, Drop)]
+pub(crate) enum Found {
+    At(u16),
+    Absent,
+    // None of them is zero, and none names the word's place.
+    Full,
+}
+
+// What a look under the read right told.
+#[derive(Clone, Copy, Debug, PartialEq, Eq, Drop)]
+pub(crate) enum Looked {
+    // The right was not had.
+    Taken,
+    At(u16),
+    Absent,
+}

@@ -1,0 +1,2 @@
+//! Lemmas.
+#![tactic(auto)]

@@ -1,0 +1,17 @@
+//! Tests alone: whole runs of the product over memory.
+//!
+//! Each expected value comes from the specification or from an independent reference program.
+#![tactic(auto)]
+
+#[cfg(test)]
+mod asked;
+#[cfg(test)]
+mod devices;
+#[cfg(test)]
+mod lines;
+#[cfg(test)]
+mod orderings;
+#[cfg(test)]
+mod refusals;
+#[cfg(test)]
+mod reports;
