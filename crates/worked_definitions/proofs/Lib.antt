@@ -10,3 +10,4 @@ pub mod Readings
 pub mod Scripts
 pub mod OneAnswer
 pub mod Refused
+pub mod SomeReading

@@ -373,7 +373,7 @@ reads_utf8 line (Says act) (is, spelt) = subst IsUtf8 (sym spelt) (low_utf8 (joi
 
 -- ---- a line that says something has a form, with paths where they belong
 
-plain_from : (s : ℕ) (words : List (List ℕ)) → AreLacking s words → All (λ word. ¬ (Contains word s)) words
+pub plain_from : (s : ℕ) (words : List (List ℕ)) → AreLacking s words → All (λ word. ¬ (Contains word s)) words
 plain_from s [] lacks = All-nil (λ word. ¬ (Contains word s))
 plain_from s (word ∷ words) lacks = All-cons (λ word. ¬ (Contains word s)) word words (lacks_is s word lacks.0) (plain_from s words lacks.1)
 

@@ -55,7 +55,7 @@ tail_same x y (a ∷ xs) (b ∷ ys) us vs same e = tail_same x y xs ys us vs (ta
     tails : {X : Type 0} {p q : X} {ps qs : List X} → p ∷ ps ≡ q ∷ qs → ps ≡ qs
     tails h = cc
 
-in_middle : {X : Type 0} (xs : List X) (x : X) (ys : List X) → Contains (xs ++ x ∷ ys) x
+pub in_middle : {X : Type 0} (xs : List X) (x : X) (ys : List X) → Contains (xs ++ x ∷ ys) x
 in_middle [] x ys = (zero, omega arith, refl)
 in_middle (a ∷ xs) x ys = let it = in_middle xs x ys in (suc it.0, omega (arith, it.1), it.2)
 

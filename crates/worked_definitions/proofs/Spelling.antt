@@ -20,7 +20,7 @@ word_if passes word e =
     let more = and_parts (nat_le (length word) 10) (list_all passes word) first.1 in
     record { some = ltb-true 0 (length word) first.0; few = leb-true (length word) 10 more.0; plain = more.1 }
 
-names_if : (names : List (List ℕ)) → list_all (is_word is_name_byte) names ≡ true → All IsName names
+pub names_if : (names : List (List ℕ)) → list_all (is_word is_name_byte) names ≡ true → All IsName names
 names_if [] e = All-nil IsName
 names_if (name ∷ names) e =
     let parts = and_parts (is_word is_name_byte name) (list_all (is_word is_name_byte) names) e in
