@@ -150,10 +150,24 @@ fn a_group_waits_for_another(rt: HostRuntime) -> Result<(), Fail> {
             (4, 20, &[3, 1, b'b'], &[0, 1, 2]),
         ],
     );
-    let refused = trace(rt.alloc(), &image, &steps[3..], Module::Async);
-    assert!(rt; matches!(&refused, Err(TraceFault::GroupFault { line: 4 })));
+    Ok(())
+}
+
+#[test]
+fn group_steps_are_refused(rt: HostRuntime) -> Result<(), Fail> {
+    let image = Image::formatted(rt.alloc(), 16, 0)?;
+    let early = numbered(
+        rt.alloc(),
+        vec![in rt.alloc();
+            Act::Group(name("A")?),
+            Act::Do(Op::Create(path("/a")?)),
+            Act::Depend(name("B")?, name("A")?),
+        ]?,
+    )?;
+    let refused = trace(rt.alloc(), &image, &early, Module::Async);
+    assert!(rt; matches!(&refused, Err(TraceFault::GroupFault { line: 3 })));
     let mut base = image.try_copy()?;
-    let group_in_base = build_base(&mut base, &steps[..1]);
-    assert!(rt; matches!(&group_in_base, Err(TraceFault::GroupFault { line: 1 })));
+    let refused = build_base(&mut base, &early);
+    assert!(rt; matches!(&refused, Err(TraceFault::GroupFault { line: 1 })));
     Ok(())
 }
