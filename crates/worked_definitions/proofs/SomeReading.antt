@@ -102,3 +102,102 @@ joined_pieces s (c ∷ cs) = by_test (c == s) refl (some_pieces s cs) (joined_pi
         ahead : (p : List ℕ) (ps : List (List ℕ)) → joined s ((c ∷ p) ∷ ps) ≡ c ∷ joined s (p ∷ ps)
         ahead p [] = refl
         ahead p (q ∷ qs) = refl
+
+-- ---- paths
+
+joined_slashed : (name : List ℕ) (names : List (List ℕ)) → joined 47 ([] ∷ name ∷ names) ≡ flat_map (λ n. 47 ∷ n) (name ∷ names)
+joined_slashed name [] = ap (λ xs. 47 ∷ xs) (sym (append-nil name))
+joined_slashed name (next ∷ names) = ap (λ xs. 47 ∷ (name ++ xs)) (joined_slashed next names)
+
+-- names of a path, and the path
+record IsNamed (names : List (List ℕ)) (path : Path) : Type 0 where
+  few : length path.through.items ≤ 3
+  names_are : names ≡ path.through.items ++ path.last ∷ []
+
+named_from : (names : List (List ℕ)) (path : Path) → path_from names ≡ Some path → IsNamed names path
+named_from [] path e = cc
+named_from (a ∷ []) path e = subst (IsNamed (a ∷ [])) (inside e) (record { few = omega arith; names_are = refl })
+  where
+    inside : {p q : Path} → Some p ≡ Some q → p ≡ q
+    inside e = cc
+named_from (a ∷ b ∷ []) path e = subst (IsNamed (a ∷ b ∷ [])) (inside e) (record { few = omega arith; names_are = refl })
+  where
+    inside : {p q : Path} → Some p ≡ Some q → p ≡ q
+    inside e = cc
+named_from (a ∷ b ∷ c ∷ []) path e = subst (IsNamed (a ∷ b ∷ c ∷ [])) (inside e) (record { few = omega arith; names_are = refl })
+  where
+    inside : {p q : Path} → Some p ≡ Some q → p ≡ q
+    inside e = cc
+named_from (a ∷ b ∷ c ∷ d ∷ []) path e = subst (IsNamed (a ∷ b ∷ c ∷ d ∷ [])) (inside e) (record { few = omega arith; names_are = refl })
+  where
+    inside : {p q : Path} → Some p ≡ Some q → p ≡ q
+    inside e = cc
+named_from (a ∷ b ∷ c ∷ d ∷ f ∷ more) path e = cc
+
+names_front : (xs ys : List (List ℕ)) → All IsName (xs ++ ys) → All IsName xs × All IsName ys
+names_front [] ys all = (All-nil IsName, all)
+names_front (x ∷ xs) ys all =
+    let rest = names_front xs ys (All-tail IsName x (xs ++ ys) all) in
+    (All-cons IsName x xs (All-head IsName x (xs ++ ys) all) rest.0, rest.1)
+
+path_here : (word : List ℕ) (path : Path) → path_of word ≡ Some path → IsPath path × (word ≡ path_text path)
+path_here word path e = by_pieces (pieces 47 word) refl e
+  where
+    by_names : (names : List (List ℕ)) → pieces 47 word ≡ [] ∷ names → (b : Bool) → list_all (is_word is_name_byte) names ≡ b → (if b then path_from names else None) ≡ Some path → IsPath path × (word ≡ path_text path)
+    by_names [] is true all e = cc
+    by_names (name ∷ names) is true all e =
+        let named = named_from (name ∷ names) path e in
+        let each : All IsName (path.through.items ++ path.last ∷ []) = subst (All IsName) named.names_are (names_if (name ∷ names) all) in
+        let parts = names_front path.through.items (path.last ∷ []) each in
+        (record { few = named.few; through = parts.0; last = All-head IsName path.last [] parts.1 },
+         sym (joined_pieces 47 word) ∙ (ap (joined 47) is ∙ (joined_slashed name names ∙ ap (λ ns. flat_map (λ n. 47 ∷ n) ns) named.names_are)))
+    by_names names is false all e = cc
+
+    by_pieces : (ps : List (List ℕ)) → pieces 47 word ≡ ps → path_of_pieces ps ≡ Some path → IsPath path × (word ≡ path_text path)
+    by_pieces [] is e = cc
+    by_pieces ([] ∷ names) is e = by_names names is (list_all (is_word is_name_byte) names) refl e
+    by_pieces ((c ∷ cs) ∷ names) is e = cc
+
+path_or_not : (word : List ℕ) → IsPathWord word ⊎ (¬ (IsPathWord word))
+path_or_not word = by_case (path_of word) refl
+  where
+    by_case : (o : Option Path) → path_of word ≡ o → IsPathWord word ⊎ (¬ (IsPathWord word))
+    by_case None e = inr (no_path word e)
+    by_case (Some path) e = let it = path_here word path e in inl (path, it.0, it.1)
+
+paths_or_not : (operands : List Operand) (words : List (List ℕ)) → HasPaths operands words ⊎ (¬ (HasPaths operands words))
+paths_or_not [] words = inl (none words)
+  where
+    none : (words : List (List ℕ)) → HasPaths [] words
+    none [] = tt
+    none (word ∷ words) = tt
+paths_or_not (PathOperand ∷ operands) [] = inl tt
+paths_or_not (PathOperand ∷ operands) (word ∷ words) = by_parts (path_or_not word) (paths_or_not operands words)
+  where
+    by_parts : IsPathWord word ⊎ (¬ (IsPathWord word)) → HasPaths operands words ⊎ (¬ (HasPaths operands words)) → HasPaths (PathOperand ∷ operands) (word ∷ words) ⊎ (¬ (HasPaths (PathOperand ∷ operands) (word ∷ words)))
+    by_parts (inl here) (inl more) = inl (here, more)
+    by_parts (inl here) (inr none) = inr (λ paths. none paths.1)
+    by_parts (inr none) more = inr (λ paths. none paths.0)
+paths_or_not (GroupOperand ∷ operands) [] = inl tt
+paths_or_not (GroupOperand ∷ operands) (word ∷ words) = paths_or_not operands words
+
+-- ---- forms
+
+-- which form has this first word
+form_place : (first : List ℕ) → ((k : ℕ) × (operands : List Operand) × (k < 11) × (get_or forms k (first, operands) ≡ (first, operands))) ⊎ (lookup forms first ≡ None)
+form_place first = by_place (lookup_place forms)
+  where
+    Found : List (List ℕ × List Operand) → Type 0
+    Found fs = ((k : ℕ) × (operands : List Operand) × (k < length fs) × (get_or fs k (first, operands) ≡ (first, operands))) ⊎ (lookup fs first ≡ None)
+
+    behind : (form : List ℕ × List Operand) (fs : List (List ℕ × List Operand)) (b : Bool) → bytes_eq first form.0 ≡ b → Found fs → Found (form ∷ fs)
+    behind form fs true e rest = inl (zero, form.1, omega arith, ap (λ f. (f, form.1)) (sym ((bytes_eq-Decides first form.0).0 e)))
+    behind form fs false e (inl (k, operands, below, at)) = inl (suc k, operands, omega arith, at)
+    behind form fs false e (inr none) = inr (rw e none)
+
+    lookup_place : (fs : List (List ℕ × List Operand)) → Found fs
+    lookup_place [] = inr refl
+    lookup_place (form ∷ fs) = behind form fs (bytes_eq first form.0) refl (lookup_place fs)
+
+    by_place : Found forms → ((k : ℕ) × (operands : List Operand) × (k < 11) × (get_or forms k (first, operands) ≡ (first, operands))) ⊎ (lookup forms first ≡ None)
+    by_place found = found
