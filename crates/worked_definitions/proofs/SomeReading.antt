@@ -8,7 +8,7 @@ use Rattle.std.proofs.lemmas.List.Elements.{All-nil, All-cons, All-head, All-tai
 use Rattle.std.proofs.lemmas.Slice.Eq.{bytes_eq-Decides}
 use Rattle.std.proofs.lemmas.Str.{IsUtf8-from_is_utf8, is_utf8-from_IsUtf8}
 use Rattle.patch_sets.proofs.Bits.{eq_or_not}
-use Rattle.patch_sets.proofs.Ids.{eq_from_true, ne_from_false}
+use Rattle.patch_sets.proofs.Ids.{eq_from_true, ne_from_false, false_from_ne}
 use Rattle.crash_model.proofs.Cuts.{Lacks}
 use Rattle.crash_model.specs.Lists.{joined}
 use Rattle.crash_model.specs.Names.{IsName, is_name_byte}
@@ -22,7 +22,8 @@ use Rattle.crash_model.specs.declared.steps.Act.TheVariants.{Do, Group, End, Dep
 use Rattle.crash_model.specs.declared.steps.Step.{Step}
 use Rattle.worked_definitions.specs.Spelled.{is_word}
 use Rattle.worked_definitions.proofs.Pieces.{AreLacking, onto, pieces, pieces_joined}
-use Rattle.worked_definitions.proofs.Readings.{path_from, path_of_pieces, path_of, no_path, fit, fitting, lookup, form_of, form_at, no_form, plain_from}
+use Rattle.worked_definitions.proofs.Readings.{path_from, path_of_pieces, path_of, no_path, fit, fitting, lookup, form_of, in_forms, no_form, plain_from}
+use Rattle.worked_definitions.proofs.Refused.{fits_if, not_skipped, not_text}
 use Rattle.worked_definitions.proofs.Scripts.{IsRefusedLine, in_middle}
 use Rattle.worked_definitions.proofs.Spelling.{names_if}
 
@@ -201,3 +202,119 @@ form_place first = by_place (lookup_place forms)
 
     by_place : Found forms → ((k : ℕ) × (operands : List Operand) × (k < 11) × (get_or forms k (first, operands) ≡ (first, operands))) ⊎ (lookup forms first ≡ None)
     by_place found = found
+
+-- ---- what a line of a form says
+
+abbrev Read : List ℕ → Type 0
+Read line = (what : Line) × Reads line what
+
+abbrev ReadAs : List ℕ → List (List ℕ) → List ℕ → List Operand → Type 0
+ReadAs line words first operands = AreWords line (first ∷ words) → Fits operands words → HasPaths operands words → Read line
+
+module _ (line : List ℕ) where
+  one_path : (first : List ℕ) (make : Path → Act) → ((p : Path) → words_of (make p) ≡ first ∷ path_text p ∷ []) → ((p : Path) → IsPath p → IsAct (make p))
+      → (words : List (List ℕ)) → ReadAs line words first (PathOperand ∷ [])
+  one_path first make spelt act [] cut fits paths = absurd fits
+  one_path first make spelt act (word ∷ []) cut fits paths =
+      let p = paths.0 in
+      (Says (make p.0), (act p.0 p.1, cut.whole ∙ (ap (λ w. joined 32 (first ∷ w ∷ [])) p.2 ∙ ap (joined 32) (sym (spelt p.0)))))
+  one_path first make spelt act (word ∷ more ∷ words) cut fits paths = absurd fits.1
+
+  two_paths : (first : List ℕ) (make : Path → Path → Act) → ((p q : Path) → words_of (make p q) ≡ first ∷ path_text p ∷ path_text q ∷ []) → ((p q : Path) → IsPath p → IsPath q → IsAct (make p q))
+      → (words : List (List ℕ)) → ReadAs line words first (PathOperand ∷ PathOperand ∷ [])
+  two_paths first make spelt act [] cut fits paths = absurd fits
+  two_paths first make spelt act (word ∷ []) cut fits paths = absurd fits.1
+  two_paths first make spelt act (word ∷ other ∷ []) cut fits paths =
+      let p = paths.0 in
+      let q = paths.1.0 in
+      (Says (make p.0 q.0), (act p.0 q.0 p.1 q.1,
+        cut.whole ∙ ((λ i. joined 32 (first ∷ p.2 i ∷ q.2 i ∷ [])) ∙ ap (joined 32) (sym (spelt p.0 q.0)))))
+  two_paths first make spelt act (word ∷ other ∷ more ∷ words) cut fits paths = absurd fits.1.1
+
+  one_group : (words : List (List ℕ)) → ReadAs line words (codes "group") (GroupOperand ∷ [])
+  one_group [] cut fits paths = absurd fits
+  one_group (word ∷ []) cut fits paths = (Says (Group word), (fits.0, cut.whole))
+  one_group (word ∷ more ∷ words) cut fits paths = absurd fits.1
+
+  two_groups : (words : List (List ℕ)) → ReadAs line words (codes "depend") (GroupOperand ∷ GroupOperand ∷ [])
+  two_groups [] cut fits paths = absurd fits
+  two_groups (word ∷ []) cut fits paths = absurd fits.1
+  two_groups (word ∷ other ∷ []) cut fits paths = (Says (Depend word other), ((fits.0, fits.1.0), cut.whole))
+  two_groups (word ∷ other ∷ more ∷ words) cut fits paths = absurd fits.1.1
+
+  an_end : (words : List (List ℕ)) → ReadAs line words (codes "end") []
+  an_end [] cut fits paths = (Says End, (tt, cut.whole))
+  an_end (word ∷ words) cut fits paths = absurd fits
+
+  a_start : (words : List (List ℕ)) → ReadAs line words (codes "start") []
+  a_start [] cut fits paths = (Start, cut.whole)
+  a_start (word ∷ words) cut fits paths = absurd fits
+
+  by_place : (k : ℕ) (first : List ℕ) (operands : List Operand) (words : List (List ℕ)) → k < 11 → get_or forms k (first, operands) ≡ (first, operands) → ReadAs line words first operands
+  by_place k first operands words below at = case_of k below at
+    where
+      as_form : (form : List ℕ × List Operand) → ReadAs line words form.0 form.1 → form ≡ (first, operands) → ReadAs line words first operands
+      as_form form read e = subst (λ (f : List ℕ × List Operand). ReadAs line words f.0 f.1) e read
+
+      case_of : (k : ℕ) → k < 11 → get_or forms k (first, operands) ≡ (first, operands) → ReadAs line words first operands
+      case_of zero below e = as_form (codes "create", PathOperand ∷ []) (one_path (codes "create") (λ p. Do (Create p)) (λ p. refl) (λ p is. is) words) e
+      case_of (suc zero) below e = as_form (codes "write", PathOperand ∷ []) (one_path (codes "write") (λ p. Do (Write p)) (λ p. refl) (λ p is. is) words) e
+      case_of (suc (suc zero)) below e = as_form (codes "link", PathOperand ∷ PathOperand ∷ []) (two_paths (codes "link") (λ p q. Do (Link p q)) (λ p q. refl) (λ p q is also. (is, also)) words) e
+      case_of (suc (suc (suc zero))) below e = as_form (codes "unlink", PathOperand ∷ []) (one_path (codes "unlink") (λ p. Do (Unlink p)) (λ p. refl) (λ p is. is) words) e
+      case_of (suc (suc (suc (suc zero)))) below e = as_form (codes "rename", PathOperand ∷ PathOperand ∷ []) (two_paths (codes "rename") (λ p q. Do (Rename p q)) (λ p q. refl) (λ p q is also. (is, also)) words) e
+      case_of (suc (suc (suc (suc (suc zero))))) below e = as_form (codes "mkdir", PathOperand ∷ []) (one_path (codes "mkdir") (λ p. Do (Mkdir p)) (λ p. refl) (λ p is. is) words) e
+      case_of (suc (suc (suc (suc (suc (suc zero)))))) below e = as_form (codes "rmdir", PathOperand ∷ []) (one_path (codes "rmdir") (λ p. Do (Rmdir p)) (λ p. refl) (λ p is. is) words) e
+      case_of (suc (suc (suc (suc (suc (suc (suc zero))))))) below e = as_form (codes "group", GroupOperand ∷ []) (one_group words) e
+      case_of (suc (suc (suc (suc (suc (suc (suc (suc zero)))))))) below e = as_form (codes "end", []) (an_end words) e
+      case_of (suc (suc (suc (suc (suc (suc (suc (suc (suc zero))))))))) below e = as_form (codes "depend", GroupOperand ∷ GroupOperand ∷ []) (two_groups words) e
+      case_of (suc (suc (suc (suc (suc (suc (suc (suc (suc (suc zero)))))))))) below e = as_form (codes "start", []) (a_start words) e
+      case_of (suc (suc (suc (suc (suc (suc (suc (suc (suc (suc (suc k))))))))))) below e = absurd (omega arith)
+
+  says_if : (operands : List Operand) (words : List (List ℕ)) → HasForm line operands words → HasPaths operands words → Read line
+  says_if operands words form paths = by_place form.is_form.0 form.first operands words form.is_form.1 form.is_form.2 form.cut form.fits paths
+
+  -- ---- a line is read, or refused in one of the three ways, wherever it stands
+
+  abbrev Judged : Type 0
+  Judged = Read line ⊎ ((before : List (List ℕ)) → IsRefusedLine before line)
+
+  module _ (text : IsUtf8 line) (told : ¬ (IsSkipped line)) (first : List ℕ) (words : List (List ℕ)) (is : pieces 32 line ≡ first ∷ words) where
+    no_form_here : form_of (pieces 32 line) ≡ None → Judged
+    no_form_here none = inr (λ before. inr (inl (inl (text, told, no_form line none))))
+
+    by_paths : (operands : List Operand) → HasForm line operands words → HasPaths operands words ⊎ (¬ (HasPaths operands words)) → Judged
+    by_paths operands form (inl paths) = inl (says_if operands words form paths)
+    by_paths operands form (inr none) = inr (λ before. inr (inr (text, told, (operands, words, form, none))))
+
+    by_fit : (k : ℕ) (operands : List Operand) → k < 11 → get_or forms k (first, operands) ≡ (first, operands) → (b : Bool) → fit operands words ≡ b → Judged
+    by_fit k operands below at true e =
+        let lacks : AreLacking 32 (first ∷ words) = subst (AreLacking 32) is (pieces_lack 32 line) in
+        by_paths operands (record {
+          first = first;
+          is_form = (k, below, at);
+          cut = record { plain = plain_from 32 (first ∷ words) lacks; some = λ e. cc; whole = sym (joined_pieces 32 line) ∙ ap (joined 32) is };
+          fits = fits_if operands words e;
+        }) (paths_or_not operands words)
+    by_fit k operands below at false e =
+        no_form_here (ap form_of is ∙ (ap (fitting words) (in_forms k first operands below at) ∙ ap (λ b. if b then Some (operands, words) else None) e))
+
+    by_form : ((k : ℕ) × (operands : List Operand) × (k < 11) × (get_or forms k (first, operands) ≡ (first, operands))) ⊎ (lookup forms first ≡ None) → Judged
+    by_form (inl found) = by_fit found.0 found.1 found.2 found.3 (fit found.1 words) refl
+    by_form (inr none) = no_form_here (ap form_of is ∙ ap (fitting words) none)
+
+  by_told : IsUtf8 line → (¬ (IsSkipped line)) → Judged
+  by_told text told = let ps = some_pieces 32 line in by_form text told ps.0 ps.1 ps.2 (form_place ps.0)
+
+judged : (line : List ℕ) → Judged line
+judged line = by_text line (is_utf8 line) refl
+  where
+    by_line : (line : List ℕ) → IsUtf8 line → Judged line
+    by_line [] text = inl (Skipped, inl refl)
+    by_line (c ∷ cs) text = elim (eq_or_not c 35) [
+      | inl same ↦ inl (Skipped, inr (text, (cs, ap (λ b. b ∷ cs) same)))
+      | inr other ↦ by_told (c ∷ cs) text (not_skipped (c ∷ cs) (false_from_ne c 35 other))
+    ]
+
+    by_text : (line : List ℕ) (b : Bool) → is_utf8 line ≡ b → Judged line
+    by_text line true e = by_line line (IsUtf8-from_is_utf8 line e)
+    by_text line false e = inr (λ before. inl (not_text line e))
