@@ -24,7 +24,8 @@ use Rattle.worked_definitions.specs.Spelled.{is_word}
 use Rattle.worked_definitions.proofs.Pieces.{AreLacking, onto, pieces, pieces_joined}
 use Rattle.worked_definitions.proofs.Readings.{path_from, path_of_pieces, path_of, no_path, fit, fitting, lookup, form_of, in_forms, no_form, plain_from}
 use Rattle.worked_definitions.proofs.Refused.{fits_if, not_skipped, not_text}
-use Rattle.worked_definitions.proofs.Scripts.{IsRefusedLine, in_middle}
+use Rattle.std.proofs.lemmas.Option.{slice_get-get_or}
+use Rattle.worked_definitions.proofs.Scripts.{IsRefusedLine, get_contains, get_front, get_middle}
 use Rattle.worked_definitions.proofs.Spelling.{names_if}
 
 same_bytes : (xs ys : List ℕ) → (xs ≡ ys) ⊎ (xs ≢ ys)
@@ -318,3 +319,128 @@ judged line = by_text line (is_utf8 line) refl
     by_text : (line : List ℕ) (b : Bool) → is_utf8 line ≡ b → Judged line
     by_text line true e = by_line line (IsUtf8-from_is_utf8 line e)
     by_text line false e = inr (λ before. inl (not_text line e))
+
+-- ---- scripts
+
+not_in : (line : List ℕ) (lines : List (List ℕ)) → line ≢ codes "start" → ¬ (Contains lines (codes "start")) → Contains (line ∷ lines) (codes "start") → ⊥
+not_in line lines other none (zero, within, is) = other is
+not_in line lines other none (suc k, within, is) = none (k, omega arith, is)
+
+start_or_not : (lines : List (List ℕ)) → Contains lines (codes "start") ⊎ (¬ (Contains lines (codes "start")))
+start_or_not [] = inr (λ is. omega (arith, is.1))
+start_or_not (line ∷ lines) = elim (same_bytes line (codes "start")) [
+  | inl same ↦ inl (zero, omega arith, same)
+  | inr other ↦ elim (start_or_not lines) [
+    | inl is ↦ inl (suc is.0, omega (arith, is.1), is.2)
+    | inr none ↦ inr (not_in line lines other none)
+  ]
+]
+
+-- where the start line stands, in lines with one more at the end
+place_of : (before : List (List ℕ)) (line : List ℕ) (i : ℕ) → slice_get (before ++ line ∷ []) i ≡ Some (codes "start") → (slice_get before i ≡ Some (codes "start")) ⊎ ((i ≡ length before) × (line ≡ codes "start"))
+place_of [] line zero e = inr (refl, (let same : line ≡ codes "start" = cc in same))
+place_of [] line (suc i) e = cc
+place_of (x ∷ before) line zero e = inl e
+place_of (x ∷ before) line (suc i) e = elim (place_of before line i e) [ inl at ↦ inl at | inr it ↦ inr (ap suc it.0, it.1) ]
+
+accepted_push : (before : List (List ℕ)) (line : List ℕ) → AreAccepted before → Read line → (line ≡ codes "start" → ¬ (Contains before (codes "start"))) → AreAccepted (before ++ line ∷ [])
+accepted_push before line accepted read only = record {
+  each = All-push (λ line. (says : Line) × Reads line says) before line accepted.each read;
+  one_start = λ i j at_i at_j. by_places i j (place_of before line i at_i) (place_of before line j at_j);
+}
+  where
+    by_places : (i j : ℕ) → (slice_get before i ≡ Some (codes "start")) ⊎ ((i ≡ length before) × (line ≡ codes "start"))
+        → (slice_get before j ≡ Some (codes "start")) ⊎ ((j ≡ length before) × (line ≡ codes "start")) → i ≡ j
+    by_places i j (inl at) (inl also) = accepted.one_start i j at also
+    by_places i j (inl at) (inr end) = absurd (only end.1 (get_contains before i (codes "start") at))
+    by_places i j (inr end) (inl at) = absurd (only end.1 (get_contains before j (codes "start") at))
+    by_places i j (inr end) (inr also) = end.0 ∙ sym also.0
+
+-- all lines are accepted, or there is a first that is refused
+abbrev Scanned : List (List ℕ) → Type 0
+Scanned lines = AreAccepted lines
+    ⊎ ((before : List (List ℕ)) × (line : List ℕ) × (behind : List (List ℕ)) × (lines ≡ before ++ line ∷ behind) × AreAccepted before × IsRefusedLine before line)
+
+scan_step : (line : List ℕ) (rest before : List (List ℕ)) → AreAccepted before → Judged line → ((more : List (List ℕ)) → AreAccepted more → Scanned (more ++ rest)) → Scanned (before ++ line ∷ rest)
+scan_step line rest before accepted (inr refused) more = inr (before, line, rest, refl, accepted, refused before)
+scan_step line rest before accepted (inl read) more = by_start (same_bytes line (codes "start")) (start_or_not before)
+  where
+    go_on : (line ≡ codes "start" → ¬ (Contains before (codes "start"))) → Scanned (before ++ line ∷ rest)
+    go_on only = subst Scanned (append_assoc before (line ∷ []) rest) (more (before ++ line ∷ []) (accepted_push before line accepted read only))
+
+    by_start : (line ≡ codes "start") ⊎ (line ≢ codes "start") → Contains before (codes "start") ⊎ (¬ (Contains before (codes "start"))) → Scanned (before ++ line ∷ rest)
+    by_start (inl same) (inl is) = inr (before, line, rest, refl, accepted, inr (inl (inr (same, is))))
+    by_start (inl same) (inr none) = go_on (λ e. none)
+    by_start (inr other) where_it_is = go_on (λ e. absurd (other e))
+
+scan : (rest before : List (List ℕ)) → AreAccepted before → Scanned (before ++ rest)
+scan [] before accepted = inl (subst AreAccepted (sym (append-nil before)) accepted)
+scan (line ∷ rest) before accepted = scan_step line rest before accepted (judged line) (λ more good. scan rest more good)
+
+split_start : (lines : List (List ℕ)) → Contains lines (codes "start") → (before : List (List ℕ)) × (behind : List (List ℕ)) × (lines ≡ before ++ codes "start" ∷ behind)
+split_start [] is = absurd (omega (arith, is.1))
+split_start (line ∷ lines) (zero, within, is) = ([], lines, ap (λ l. l ∷ lines) is)
+split_start (line ∷ lines) (suc k, within, is) = let it = split_start lines (k, omega arith, is) in (line ∷ it.0, it.1, ap (λ ls. line ∷ ls) it.2)
+
+get_behind : (xs : List (List ℕ)) (x : List ℕ) (ys : List (List ℕ)) (k : ℕ) (z : List ℕ) → slice_get ys k ≡ Some z → (i : ℕ) × (length xs < i) × (slice_get (xs ++ x ∷ ys) i ≡ Some z)
+get_behind [] x ys k z e = (suc k, omega arith, e)
+get_behind (a ∷ xs) x ys k z e = let it = get_behind xs x ys k z e in (suc it.0, omega (arith, it.1), it.2)
+
+-- steps for lines of which none is the start line
+some_steps : (n : ℕ) (lines : List (List ℕ)) → All (λ line. (says : Line) × Reads line says) lines → ¬ (Contains lines (codes "start")) → (steps : List Step) × AreSteps n lines steps
+some_steps n [] all none = ([], refl)
+some_steps n (line ∷ lines) all none =
+    let read = All-head (λ line. (says : Line) × Reads line says) line lines all in
+    by_line read.0 read.1 (some_steps (n + 1) lines (All-tail (λ line. (says : Line) × Reads line says) line lines all) (λ is. none (suc is.0, omega (arith, is.1), is.2)))
+  where
+    by_line : (what : Line) → Reads line what → (steps : List Step) × AreSteps (n + 1) lines steps → (steps : List Step) × AreSteps n (line ∷ lines) steps
+    by_line Skipped is rest = (rest.0, inl (is, rest.1))
+    by_line Start is rest = absurd (none (zero, omega arith, is))
+    by_line (Says act) is rest = (record { line = n; act = act } ∷ rest.0, inr (act, rest.0, is, rest.1, refl))
+
+-- a script is read or refused
+pub some_reading : (bytes : List ℕ) → ((base : List Step) × (traced : List Step) × IsScript bytes base traced) ⊎ ((fault : ScriptFault) × IsScriptRefusal bytes fault)
+some_reading bytes = by_scan (some_lines bytes).0 (some_lines bytes).1 (scan (some_lines bytes).0 [] no_lines)
+  where
+    no_lines : AreAccepted []
+    no_lines = record { each = All-nil (λ line. (says : Line) × Reads line says); one_start = λ i j at_i at_j. absurd (none_there i at_i) }
+      where
+        none_there : (i : ℕ) → slice_get {X = List ℕ} [] i ≡ Some (codes "start") → ⊥
+        none_there i e = cc
+
+    from_split : (lines : List (List ℕ)) → AreLines bytes lines → AreAccepted lines → (before : List (List ℕ)) × (behind : List (List ℕ)) × (lines ≡ before ++ codes "start" ∷ behind)
+        → (base : List Step) × (traced : List Step) × IsScript bytes base traced
+    from_split lines are accepted (before, behind, e) =
+        let good : AreAccepted (before ++ codes "start" ∷ behind) = subst AreAccepted e accepted in
+        let none_before : ¬ (Contains before (codes "start")) = λ is.
+              let same : is.0 ≡ length before = good.one_start is.0 (length before) (get_front before (codes "start" ∷ behind) is.0 (codes "start") is.1 is.2) (get_middle before (codes "start") behind) in
+              omega (arith, is.1, same) in
+        let none_behind : ¬ (Contains behind (codes "start")) = λ is.
+              let at = get_behind before (codes "start") behind is.0 (codes "start") (slice_get-get_or behind is.0 (codes "start") is.1 ∙ ap Some is.2) in
+              let same : at.0 ≡ length before = good.one_start at.0 (length before) at.2 (get_middle before (codes "start") behind) in
+              omega (arith, at.1, same) in
+        let parts = reads_apart before (codes "start" ∷ behind) good.each in
+        let base = some_steps 1 before parts.0 none_before in
+        let traced = some_steps (length before + 2) behind (All-tail (λ line. (says : Line) × Reads line says) (codes "start") behind parts.1) none_behind in
+        (base.0, traced.0, record { before = before; behind = behind; lines = subst (AreLines bytes) e are; base_steps = base.1; traced_steps = traced.1 })
+      where
+        reads_apart : (xs ys : List (List ℕ)) → All (λ line. (says : Line) × Reads line says) (xs ++ ys) → All (λ line. (says : Line) × Reads line says) xs × All (λ line. (says : Line) × Reads line says) ys
+        reads_apart [] ys all = (All-nil (λ line. (says : Line) × Reads line says), all)
+        reads_apart (x ∷ xs) ys all =
+            let rest = reads_apart xs ys (All-tail (λ line. (says : Line) × Reads line says) x (xs ++ ys) all) in
+            (All-cons (λ line. (says : Line) × Reads line says) x xs (All-head (λ line. (says : Line) × Reads line says) x (xs ++ ys) all) rest.0, rest.1)
+
+    by_way : (lines before : List (List ℕ)) (line : List ℕ) (behind : List (List ℕ)) → AreLines bytes lines → lines ≡ before ++ line ∷ behind → AreAccepted before → IsRefusedLine before line → (fault : ScriptFault) × IsScriptRefusal bytes fault
+    by_way lines before line behind are e accepted (inl bad) = (BadUtf8 (length before + 1),
+        record { before = before; line = line; behind = behind; lines = subst (AreLines bytes) e are; accepted = accepted; number = refl; refused = bad })
+    by_way lines before line behind are e accepted (inr (inl bad)) = (BadLine (length before + 1),
+        record { before = before; line = line; behind = behind; lines = subst (AreLines bytes) e are; accepted = accepted; number = refl; refused = bad })
+    by_way lines before line behind are e accepted (inr (inr bad)) = (BadPath (length before + 1),
+        record { before = before; line = line; behind = behind; lines = subst (AreLines bytes) e are; accepted = accepted; number = refl; refused = bad })
+
+    by_scan : (lines : List (List ℕ)) → AreLines bytes lines → Scanned lines → ((base : List Step) × (traced : List Step) × IsScript bytes base traced) ⊎ ((fault : ScriptFault) × IsScriptRefusal bytes fault)
+    by_scan lines are (inl accepted) = elim (start_or_not lines) [
+      | inl is ↦ inl (from_split lines are accepted (split_start lines is))
+      | inr none ↦ inr (NoStart (length lines + 1), (lines, are, accepted, none, refl))
+    ]
+    by_scan lines are (inr (before, line, behind, e, accepted, refused)) = inr (by_way lines before line behind are e accepted refused)
