@@ -5,7 +5,8 @@
 
 pub mod answers;
 pub mod crashes;
+pub mod determined;
 pub mod images;
 pub mod operations;
 pub mod refused_scripts;
-pub mod uniqueness;
+
