@@ -106,7 +106,7 @@ both a b p q = rw (p, q) refl
 pub no_geometry : (settings : Settings) → is_geometry settings ≡ false → ¬ (IsGeometry settings.blocks settings.journal)
 no_geometry settings none g =
     let is : is_geometry settings ≡ true = both (nat_le 16 settings.blocks) (nat_le settings.blocks 128 && nat_le (settings.journal + 6) settings.blocks) (le-leb 16 settings.blocks g.least)
-          (both (nat_le settings.blocks 128) (nat_le (settings.journal + 6) settings.blocks) (le-leb settings.blocks 128 g.most) (le-leb (settings.journal + 6) settings.blocks g.room)) in
+    (both (nat_le settings.blocks 128) (nat_le (settings.journal + 6) settings.blocks) (le-leb settings.blocks 128 g.most) (le-leb (settings.journal + 6) settings.blocks g.room)) in
     cc
 
 pub refused_geometry : (settings : Settings) (before behind : List Act) → are_acts before ≡ true → are_acts behind ≡ true

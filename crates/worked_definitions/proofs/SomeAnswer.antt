@@ -76,21 +76,27 @@ insert x (y ∷ ys) up new =
     by_order (order x y (λ e. new (zero, omega arith, sym e))) (insert x ys up.1 (λ is. new (behind_head y ys x is)))
   where
     by_order : IsBefore x y ⊎ IsBefore y x → (zs : List ℕ) × Inserted x ys zs → (zs : List ℕ) × Inserted x (y ∷ ys) zs
-    by_order (inl first) rest = (x ∷ y ∷ ys, record {
-      ascends = ((λ z is. elim (in_tail y ys z is) [ inl e ↦ subst (IsBefore x) (sym e) first | inr more ↦ before_trans x y z first (up.0 z more) ]), up);
-      from = in_tail x (y ∷ ys);
-      here = (zero, omega arith, refl);
-      old = behind_head x (y ∷ ys);
-    })
-    by_order (inr last) (zs, rest) = (y ∷ zs, record {
-      ascends = ((λ z is. elim (rest.from z is) [ inl e ↦ subst (IsBefore y) (sym e) last | inr more ↦ up.0 z more ]), rest.ascends);
-      from = λ z is. elim (in_tail y zs z is) [
-        | inl e ↦ inr (zero, omega arith, sym e)
-        | inr more ↦ elim (rest.from z more) [ inl e ↦ inl e | inr old ↦ inr (behind_head y ys z old) ]
-      ];
-      here = behind_head y zs x rest.here;
-      old = λ z is. elim (in_tail y ys z is) [ inl e ↦ (zero, omega arith, sym e) | inr more ↦ behind_head y zs z (rest.old z more) ];
-    })
+    by_order (inl first) rest = (
+      x ∷ y ∷ ys,
+      record {
+        ascends = ((λ z is. elim (in_tail y ys z is) [ inl e ↦ subst (IsBefore x) (sym e) first | inr more ↦ before_trans x y z first (up.0 z more) ]), up);
+        from = in_tail x (y ∷ ys);
+        here = (zero, omega arith, refl);
+        old = behind_head x (y ∷ ys);
+      },
+    )
+    by_order (inr last) (zs, rest) = (
+      y ∷ zs,
+      record {
+        ascends = ((λ z is. elim (rest.from z is) [ inl e ↦ subst (IsBefore y) (sym e) last | inr more ↦ up.0 z more ]), rest.ascends);
+        from = λ z is. elim (in_tail y zs z is) [
+          | inl e ↦ inr (zero, omega arith, sym e)
+          | inr more ↦ elim (rest.from z more) [ inl e ↦ inl e | inr old ↦ inr (behind_head y ys z old) ]
+        ];
+        here = behind_head y zs x rest.here;
+        old = λ z is. elim (in_tail y ys z is) [ inl e ↦ (zero, omega arith, sym e) | inr more ↦ behind_head y zs z (rest.old z more) ];
+      },
+    )
 
 record Sorted (xs ys : List ℕ) : Type 0 where
   ascends : Ascends ys
@@ -101,12 +107,14 @@ sorted : (xs : List ℕ) → AreApart xs → (ys : List ℕ) × Sorted xs ys
 sorted [] apart = ([], record { ascends = tt; from = λ z is. is; to = λ z is. is })
 sorted (x ∷ xs) apart =
     let rest = sorted xs apart.1 in
-    let more = insert x rest.0 rest.1.ascends (λ is. apart.0 (rest.1.from x is)) in
-    (more.0, record {
-      ascends = more.1.ascends;
-      from = λ z is. elim (more.1.from z is) [ inl e ↦ (zero, omega arith, sym e) | inr old ↦ behind_head x xs z (rest.1.from z old) ];
-      to = λ z is. elim (in_tail x xs z is) [ inl e ↦ subst (Contains more.0) (sym e) more.1.here | inr old ↦ more.1.old z (rest.1.to z old) ];
-    })
+    let more = insert x rest.0 rest.1.ascends (λ is. apart.0 (rest.1.from x is)) in (
+      more.0,
+      record {
+        ascends = more.1.ascends;
+        from = λ z is. elim (more.1.from z is) [ inl e ↦ (zero, omega arith, sym e) | inr old ↦ behind_head x xs z (rest.1.from z old) ];
+        to = λ z is. elim (in_tail x xs z is) [ inl e ↦ subst (Contains more.0) (sym e) more.1.here | inr old ↦ more.1.old z (rest.1.to z old) ];
+      },
+    )
 
 ascending_pairs : (xs : List ℕ) → Ascends xs → AllPairs IsBefore xs
 ascending_pairs [] up i j d less within = absurd (omega arith)
@@ -151,18 +159,21 @@ module _ (homes : List ℕ) (set : ℕ) where
       alone = record { block = slice_index homes k; ids = with_id 0 k }
 
       by_block : (front : List BlockWrite) (last : BlockWrite) → ws ≡ front ++ last ∷ [] → (last.block ≡ slice_index homes k) ⊎ (last.block ≢ slice_index homes k) → (writes : List BlockWrite) × AreCutTo homes (k + 1) set writes
-      by_block front last e (inl home) =
-          (front ++ record { block = last.block; ids = with_id last.ids k } ∷ [],
-           cut_joined homes k set is inside front last (record { block = last.block; ids = with_id last.ids k }) (subst (AreCutTo homes k set) e cut) home refl refl)
-      by_block front last e (inr other) =
-          (ws ++ record { block = slice_index homes k; ids = with_id 0 k } ∷ [],
-           cut_alone homes k set is inside ws (record { block = slice_index homes k; ids = with_id 0 k }) cut refl refl
-             (λ f l e'. subst (λ (w : BlockWrite). w.block ≢ slice_index homes k) (same_last front f last l (sym e ∙ e')) other))
+      by_block front last e (inl home) = (
+        front ++ record { block = last.block; ids = with_id last.ids k } ∷ [],
+        cut_joined homes k set is inside front last (record { block = last.block; ids = with_id last.ids k }) (subst (AreCutTo homes k set) e cut) home refl refl,
+      )
+      by_block front last e (inr other) = (
+        ws ++ record { block = slice_index homes k; ids = with_id 0 k } ∷ [],
+        cut_alone homes k set is inside ws (record { block = slice_index homes k; ids = with_id 0 k }) cut refl refl
+            (λ f l e'. subst (λ (w : BlockWrite). w.block ≢ slice_index homes k) (same_last front f last l (sym e ∙ e')) other),
+      )
 
       by_last : (ws ≡ []) ⊎ ((front : List BlockWrite) × (last : BlockWrite) × (ws ≡ front ++ last ∷ [])) → (writes : List BlockWrite) × AreCutTo homes (k + 1) set writes
-      by_last (inl none) =
-          (ws ++ record { block = slice_index homes k; ids = with_id 0 k } ∷ [],
-           cut_alone homes k set is inside ws (record { block = slice_index homes k; ids = with_id 0 k }) cut refl refl (λ f l e'. absurd (no_last f l (sym none ∙ e'))))
+      by_last (inl none) = (
+        ws ++ record { block = slice_index homes k; ids = with_id 0 k } ∷ [],
+        cut_alone homes k set is inside ws (record { block = slice_index homes k; ids = with_id 0 k }) cut refl refl (λ f l e'. absurd (no_last f l (sym none ∙ e'))),
+      )
       by_last (inr it) = by_block it.0 it.1 it.2 (eq_or_not it.1.block (slice_index homes k))
 
   cut_to : (k : ℕ) → k ≤ length homes → (writes : List BlockWrite) × AreCutTo homes k set writes
@@ -191,26 +202,29 @@ module _ (settings : Settings) where
     where
       by_limit : (b : Bool) → nat_lt settings.limit (length (closed_sets (deps_of patches))) ≡ b → (answer : Answer) × IsGraphAnswer settings base patches answer
       by_limit true e =
-          let all = counts_closed patches (length (closed_sets (deps_of patches))) before refl in
-          (Refused TooMany,
-           ((all.0, record { distinct = all.1.distinct; each = all.1.each }, subst (λ (n : ℕ). settings.limit < n) (sym all.2) (ltb-true settings.limit (length (closed_sets (deps_of patches))) e)), refl))
+          let all = counts_closed patches (length (closed_sets (deps_of patches))) before refl in (
+            Refused TooMany,
+            ((all.0, record { distinct = all.1.distinct; each = all.1.each }, subst (λ (n : ℕ). settings.limit < n) (sym all.2) (ltb-true settings.limit (length (closed_sets (deps_of patches))) e)), refl),
+          )
       by_limit false e =
           let ordered = sorted (failing_sets base patches) (apart_filter (fails base patches) (closed_sets (deps_of patches)) (closed_are_all (deps_of patches) before).apart) in
-          let sections = some_sections base patches ordered.0 in
-          (Reported (report settings.json settings.module (length patches) (length (closed_sets (deps_of patches))) sections.0) (length ordered.0), record {
-            total = length (closed_sets (deps_of patches));
-            counted = counts_closed patches (length (closed_sets (deps_of patches))) before refl;
-            within = not_above settings.limit (length (closed_sets (deps_of patches))) e;
-            sets = ordered.0;
-            exactly = record {
-              ordered = ascending_pairs ordered.0 ordered.1.ascends;
-              exactly = λ set. ((λ is. failing_at base patches before set (ordered.1.from set is)), (λ failing. ordered.1.to set (in_failing base patches before set failing)));
-            };
-            number = refl;
-            sections = sections.0;
-            told = sections.1;
-            whole = refl;
-          })
+          let sections = some_sections base patches ordered.0 in (
+            Reported (report settings.json settings.module (length patches) (length (closed_sets (deps_of patches))) sections.0) (length ordered.0),
+            record {
+              total = length (closed_sets (deps_of patches));
+              counted = counts_closed patches (length (closed_sets (deps_of patches))) before refl;
+              within = not_above settings.limit (length (closed_sets (deps_of patches))) e;
+              sets = ordered.0;
+              exactly = record {
+                ordered = ascending_pairs ordered.0 ordered.1.ascends;
+                exactly = λ set. ((λ is. failing_at base patches before set (ordered.1.from set is)), (λ failing. ordered.1.to set (in_failing base patches before set failing)));
+              };
+              number = refl;
+              sections = sections.0;
+              told = sections.1;
+              whole = refl;
+            },
+          )
         where
           not_above : (limit n : ℕ) → nat_lt limit n ≡ false → n ≤ limit
           not_above limit n e = grind (arith, nat_tests)

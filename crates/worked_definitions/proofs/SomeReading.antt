@@ -66,11 +66,13 @@ some_lines bytes = by_last (cut_of bytes)
 
     by_last : (front : List (List ℕ)) × (last : List ℕ) × AreCut bytes front last → (lines : List (List ℕ)) × AreLines bytes lines
     by_last (front, [], cut) = (front, record { plain = plain_from 10 front cut.lacks; whole = inl (cut.whole ∙ append-nil (spelt front)) })
-    by_last (front, c ∷ cs, cut) =
-        (front ++ (c ∷ cs) ∷ [], record {
-          plain = plain_from 10 (front ++ (c ∷ cs) ∷ []) (lacking_push front (c ∷ cs) cut.lacks cut.lacks_last);
-          whole = inr (front, c ∷ cs, (λ e. cc), refl, cut.whole);
-        })
+    by_last (front, c ∷ cs, cut) = (
+      front ++ (c ∷ cs) ∷ [],
+      record {
+        plain = plain_from 10 (front ++ (c ∷ cs) ∷ []) (lacking_push front (c ∷ cs) cut.lacks cut.lacks_last);
+        whole = inr (front, c ∷ cs, (λ e. cc), refl, cut.whole);
+      },
+    )
 
 -- ---- words and names
 
@@ -150,9 +152,10 @@ path_here word path e = by_pieces (pieces 47 word) refl e
     by_names (name ∷ names) is true all e =
         let named = named_from (name ∷ names) path e in
         let each : All IsName (path.through.items ++ path.last ∷ []) = subst (All IsName) named.names_are (names_if (name ∷ names) all) in
-        let parts = names_front path.through.items (path.last ∷ []) each in
-        (record { few = named.few; through = parts.0; last = All-head IsName path.last [] parts.1 },
-         sym (joined_pieces 47 word) ∙ (ap (joined 47) is ∙ (joined_slashed name names ∙ ap (λ ns. flat_map (λ n. 47 ∷ n) ns) named.names_are)))
+        let parts = names_front path.through.items (path.last ∷ []) each in (
+          record { few = named.few; through = parts.0; last = All-head IsName path.last [] parts.1 },
+          sym (joined_pieces 47 word) ∙ (ap (joined 47) is ∙ (joined_slashed name names ∙ ap (λ ns. flat_map (λ n. 47 ∷ n) ns) named.names_are)),
+        )
     by_names names is false all e = cc
 
     by_pieces : (ps : List (List ℕ)) → pieces 47 word ≡ ps → path_of_pieces ps ≡ Some path → IsPath path × (word ≡ path_text path)
@@ -227,9 +230,13 @@ module _ (line : List ℕ) where
   two_paths first make spelt act (word ∷ []) cut fits paths = absurd fits.1
   two_paths first make spelt act (word ∷ other ∷ []) cut fits paths =
       let p = paths.0 in
-      let q = paths.1.0 in
-      (Says (make p.0 q.0), (act p.0 q.0 p.1 q.1,
-        cut.whole ∙ ((λ i. joined 32 (first ∷ p.2 i ∷ q.2 i ∷ [])) ∙ ap (joined 32) (sym (spelt p.0 q.0)))))
+      let q = paths.1.0 in (
+        Says (make p.0 q.0),
+        (
+          act p.0 q.0 p.1 q.1,
+          cut.whole ∙ ((λ i. joined 32 (first ∷ p.2 i ∷ q.2 i ∷ [])) ∙ ap (joined 32) (sym (spelt p.0 q.0))),
+        ),
+      )
   two_paths first make spelt act (word ∷ other ∷ more ∷ words) cut fits paths = absurd fits.1.1
 
   one_group : (words : List (List ℕ)) → ReadAs line words (codes "group") (GroupOperand ∷ [])
@@ -413,12 +420,12 @@ some_reading bytes = by_scan (some_lines bytes).0 (some_lines bytes).1 (scan (so
     from_split lines are accepted (before, behind, e) =
         let good : AreAccepted (before ++ codes "start" ∷ behind) = subst AreAccepted e accepted in
         let none_before : ¬ (Contains before (codes "start")) = λ is.
-              let same : is.0 ≡ length before = good.one_start is.0 (length before) (get_front before (codes "start" ∷ behind) is.0 (codes "start") is.1 is.2) (get_middle before (codes "start") behind) in
-              omega (arith, is.1, same) in
+        let same : is.0 ≡ length before = good.one_start is.0 (length before) (get_front before (codes "start" ∷ behind) is.0 (codes "start") is.1 is.2) (get_middle before (codes "start") behind) in
+        omega (arith, is.1, same) in
         let none_behind : ¬ (Contains behind (codes "start")) = λ is.
-              let at = get_behind before (codes "start") behind is.0 (codes "start") (slice_get-get_or behind is.0 (codes "start") is.1 ∙ ap Some is.2) in
-              let same : at.0 ≡ length before = good.one_start at.0 (length before) at.2 (get_middle before (codes "start") behind) in
-              omega (arith, at.1, same) in
+        let at = get_behind before (codes "start") behind is.0 (codes "start") (slice_get-get_or behind is.0 (codes "start") is.1 ∙ ap Some is.2) in
+        let same : at.0 ≡ length before = good.one_start at.0 (length before) at.2 (get_middle before (codes "start") behind) in
+        omega (arith, at.1, same) in
         let parts = reads_apart before (codes "start" ∷ behind) good.each in
         let base = some_steps 1 before parts.0 none_before in
         let traced = some_steps (length before + 2) behind (All-tail (λ line. (says : Line) × Reads line says) (codes "start") behind parts.1) none_behind in
@@ -431,12 +438,18 @@ some_reading bytes = by_scan (some_lines bytes).0 (some_lines bytes).1 (scan (so
             (All-cons (λ line. (says : Line) × Reads line says) x xs (All-head (λ line. (says : Line) × Reads line says) x (xs ++ ys) all) rest.0, rest.1)
 
     by_way : (lines before : List (List ℕ)) (line : List ℕ) (behind : List (List ℕ)) → AreLines bytes lines → lines ≡ before ++ line ∷ behind → AreAccepted before → IsRefusedLine before line → (fault : ScriptFault) × IsScriptRefusal bytes fault
-    by_way lines before line behind are e accepted (inl bad) = (BadUtf8 (length before + 1),
-        record { before = before; line = line; behind = behind; lines = subst (AreLines bytes) e are; accepted = accepted; number = refl; refused = bad })
-    by_way lines before line behind are e accepted (inr (inl bad)) = (BadLine (length before + 1),
-        record { before = before; line = line; behind = behind; lines = subst (AreLines bytes) e are; accepted = accepted; number = refl; refused = bad })
-    by_way lines before line behind are e accepted (inr (inr bad)) = (BadPath (length before + 1),
-        record { before = before; line = line; behind = behind; lines = subst (AreLines bytes) e are; accepted = accepted; number = refl; refused = bad })
+    by_way lines before line behind are e accepted (inl bad) = (
+      BadUtf8 (length before + 1),
+      record { before = before; line = line; behind = behind; lines = subst (AreLines bytes) e are; accepted = accepted; number = refl; refused = bad },
+    )
+    by_way lines before line behind are e accepted (inr (inl bad)) = (
+      BadLine (length before + 1),
+      record { before = before; line = line; behind = behind; lines = subst (AreLines bytes) e are; accepted = accepted; number = refl; refused = bad },
+    )
+    by_way lines before line behind are e accepted (inr (inr bad)) = (
+      BadPath (length before + 1),
+      record { before = before; line = line; behind = behind; lines = subst (AreLines bytes) e are; accepted = accepted; number = refl; refused = bad },
+    )
 
     by_scan : (lines : List (List ℕ)) → AreLines bytes lines → Scanned lines → ((base : List Step) × (traced : List Step) × IsScript bytes base traced) ⊎ ((fault : ScriptFault) × IsScriptRefusal bytes fault)
     by_scan lines are (inl accepted) = elim (start_or_not lines) [

@@ -1,4 +1,4 @@
-//! The definitions of `crash_model` and `patch_sets` on worked examples.
+//! The definitions of `crash_model` and `patch_sets` on worked examples, and that they determine one answer.
 //!
 //! Each function has an empty body: its contract is a fact about the definitions, and the check computes it.
 #![tactic(auto)]
@@ -9,4 +9,3 @@ pub mod determined;
 pub mod images;
 pub mod operations;
 pub mod refused_scripts;
-
