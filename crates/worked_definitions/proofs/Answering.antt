@@ -21,7 +21,7 @@ use Rattle.worked_definitions.proofs.Graphs.{earlier, graph_is}
 use Rattle.worked_definitions.proofs.Runs.{sections_if}
 use Rattle.worked_definitions.proofs.Spelling.{script_is}
 
-geometry_if : (settings : Settings) → is_geometry settings ≡ true → IsGeometry settings.blocks settings.journal
+pub geometry_if : (settings : Settings) → is_geometry settings ≡ true → IsGeometry settings.blocks settings.journal
 geometry_if settings e =
     let first = and_parts (nat_le 16 settings.blocks) (nat_le settings.blocks 128 && nat_le (settings.journal + 6) settings.blocks) e in
     let more = and_parts (nat_le settings.blocks 128) (nat_le (settings.journal + 6) settings.blocks) first.1 in
@@ -100,19 +100,19 @@ reported settings before behind closed failing text told is =
     ))
 
 -- a disk that can't be
+both : (a b : Bool) → a ≡ true → b ≡ true → (a && b) ≡ true
+both a b p q = rw (p, q) refl
+
+pub no_geometry : (settings : Settings) → is_geometry settings ≡ false → ¬ (IsGeometry settings.blocks settings.journal)
+no_geometry settings none g =
+    let is : is_geometry settings ≡ true = both (nat_le 16 settings.blocks) (nat_le settings.blocks 128 && nat_le (settings.journal + 6) settings.blocks) (le-leb 16 settings.blocks g.least)
+    (both (nat_le settings.blocks 128) (nat_le (settings.journal + 6) settings.blocks) (le-leb settings.blocks 128 g.most) (le-leb (settings.journal + 6) settings.blocks g.room)) in
+    cc
+
 pub refused_geometry : (settings : Settings) (before behind : List Act) → are_acts before ≡ true → are_acts behind ≡ true
     → is_geometry settings ≡ false → IsAnswer (script before behind) settings (Refused BadGeometry)
 refused_geometry settings before behind read read_too none =
-    inr (numbered 1 before, traced_acts before behind, script_is before behind read read_too, inl ((λ g. no_geometry g), refl))
-  where
-    both : (a b : Bool) → a ≡ true → b ≡ true → (a && b) ≡ true
-    both a b p q = rw (p, q) refl
-
-    no_geometry : IsGeometry settings.blocks settings.journal → ⊥
-    no_geometry g =
-        let is : is_geometry settings ≡ true = both (nat_le 16 settings.blocks) (nat_le settings.blocks 128 && nat_le (settings.journal + 6) settings.blocks) (le-leb 16 settings.blocks g.least)
-        (both (nat_le settings.blocks 128) (nat_le (settings.journal + 6) settings.blocks) (le-leb settings.blocks 128 g.most) (le-leb (settings.journal + 6) settings.blocks g.room)) in
-        cc
+    inr (numbered 1 before, traced_acts before behind, script_is before behind read read_too, inl (no_geometry settings none, refl))
 
 -- more closed sets than the limit
 pub refused_limit : (settings : Settings) (before behind : List Act)

@@ -71,7 +71,7 @@ by_fault [] some = absurd (some refl)
 by_fault (f ∷ found) some = refl
 
 module _ (base : Disk) (patches : List Patch) (before : AreEarlier (deps_of patches)) where
-  failing_at : (set : ℕ) → Contains (failing_sets base patches) set → IsFailing base patches set
+  pub failing_at : (set : ℕ) → Contains (failing_sets base patches) set → IsFailing base patches set
   failing_at set is =
       let it = from_filter (fails base patches) (closed_sets (deps_of patches)) set is in
       record {
@@ -79,7 +79,7 @@ module _ (base : Disk) (patches : List Patch) (before : AreEarlier (deps_of patc
         unclean = λ clean. none_at_true (faults (replayed (image_of base patches set))) it.1 (no_faults (replayed (image_of base patches set)) clean);
       }
 
-  in_failing : (set : ℕ) → IsFailing base patches set → Contains (failing_sets base patches) set
+  pub in_failing : (set : ℕ) → IsFailing base patches set → Contains (failing_sets base patches) set
   in_failing set failing = to_filter (fails base patches) (closed_sets (deps_of patches)) set
       ((closed_are_all (deps_of patches) before).every set failing.closed)
       (by_fault (faults (replayed (image_of base patches set))) (λ none. failing.unclean (clean_without (replayed (image_of base patches set)) none)))

@@ -11,3 +11,4 @@ pub mod Scripts
 pub mod OneAnswer
 pub mod Refused
 pub mod SomeReading
+pub mod SomeAnswer

@@ -270,7 +270,7 @@ abbrev pub form_of : List (List ℕ) → Option (List Operand × List (List ℕ)
 form_of [] = None
 form_of (first ∷ words) = fitting words (lookup forms first)
 
-in_forms : (k : ℕ) (first : List ℕ) (operands : List Operand) → k < 11 → get_or forms k (first, operands) ≡ (first, operands) → lookup forms first ≡ Some operands
+pub in_forms : (k : ℕ) (first : List ℕ) (operands : List Operand) → k < 11 → get_or forms k (first, operands) ≡ (first, operands) → lookup forms first ≡ Some operands
 in_forms k first operands below e = by_place k below e
   where
     found : (form : List ℕ × List Operand) → lookup forms form.0 ≡ Some form.1 → form ≡ (first, operands) → lookup forms first ≡ Some operands

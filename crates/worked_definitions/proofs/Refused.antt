@@ -60,12 +60,12 @@ abbrev pub is_passed_over : List ℕ → Bool
 is_passed_over [] = true
 is_passed_over (c ∷ cs) = c == 35
 
-not_skipped : (line : List ℕ) → is_passed_over line ≡ false → ¬ (IsSkipped line)
+pub not_skipped : (line : List ℕ) → is_passed_over line ≡ false → ¬ (IsSkipped line)
 not_skipped [] e skipped = cc
 not_skipped (c ∷ cs) e (inl empty) = cc
 not_skipped (c ∷ cs) e (inr comment) = let head : c ≡ 35 = (let whole = comment.1.1 in cc) in ne_from_false c 35 e head
 
-not_text : (line : List ℕ) → is_utf8 line ≡ false → ¬ (IsUtf8 line)
+pub not_text : (line : List ℕ) → is_utf8 line ≡ false → ¬ (IsUtf8 line)
 not_text line e is = let one : is_utf8 line ≡ true = is_utf8-from_IsUtf8 line is in cc
 
 -- text that is not passed over
@@ -80,7 +80,7 @@ bad_line_if before line e none =
 
 -- ---- text of a form, in which a word is no path
 
-fits_if : (operands : List Operand) (words : List (List ℕ)) → fit operands words ≡ true → Fits operands words
+pub fits_if : (operands : List Operand) (words : List (List ℕ)) → fit operands words ≡ true → Fits operands words
 fits_if [] [] e = tt
 fits_if [] (word ∷ words) e = cc
 fits_if (PathOperand ∷ operands) [] e = cc

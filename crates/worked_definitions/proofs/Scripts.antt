@@ -59,11 +59,11 @@ pub in_middle : {X : Type 0} (xs : List X) (x : X) (ys : List X) → Contains (x
 in_middle [] x ys = (zero, omega arith, refl)
 in_middle (a ∷ xs) x ys = let it = in_middle xs x ys in (suc it.0, omega (arith, it.1), it.2)
 
-get_middle : {X : Type 0} (xs : List X) (x : X) (ys : List X) → slice_get (xs ++ x ∷ ys) (length xs) ≡ Some x
+pub get_middle : {X : Type 0} (xs : List X) (x : X) (ys : List X) → slice_get (xs ++ x ∷ ys) (length xs) ≡ Some x
 get_middle [] x ys = refl
 get_middle (a ∷ xs) x ys = get_middle xs x ys
 
-get_front : {X : Type 0} (xs ys : List X) (k : ℕ) (x : X) → k < length xs → get_or xs k x ≡ x → slice_get (xs ++ ys) k ≡ Some x
+pub get_front : {X : Type 0} (xs ys : List X) (k : ℕ) (x : X) → k < length xs → get_or xs k x ≡ x → slice_get (xs ++ ys) k ≡ Some x
 get_front [] ys k x below e = absurd (omega arith)
 get_front (a ∷ xs) ys zero x below e = ap Some e
 get_front (a ∷ xs) ys (suc k) x below e = get_front xs ys k x (omega arith) e

@@ -1,6 +1,6 @@
-//! What the definitions determine: no two answers meet them.
+//! What the definitions determine: there is an answer for every script and settings, and only one.
 
-ghost use Rattle.std.specs.Prelude.{◌≡◌, ℕ, List};
+ghost use Rattle.std.specs.Prelude.{◌≡◌, ◌⊎◌, ℕ, List};
 ghost use Rattle.patch_sets.specs.Sets.{AreAllInOrder};
 ghost use Rattle.crash_model.specs.Answer.{Answer, IsAnswer};
 ghost use Rattle.crash_model.specs.Disk.{Disk};
@@ -13,13 +13,15 @@ ghost use Rattle.crash_model.specs.declared.settings.Settings.{Settings};
 ghost use Rattle.crash_model.specs.declared.steps.Module.{Module};
 ghost use Rattle.crash_model.specs.declared.steps.Step.{Step};
 
-/// For every script and settings there is at most one answer.
+/// For every script and settings there is one answer.
 pub fn there_is_one_answer()
-    ensures { (bytes : List ℕ) (settings : Settings) (answer other : Answer) → IsAnswer bytes settings answer → IsAnswer bytes settings other → answer ≡ other }
+    ensures some { (bytes : List ℕ) (settings : Settings) → (answer : Answer) × IsAnswer bytes settings answer }
+    ensures one { (bytes : List ℕ) (settings : Settings) (answer other : Answer) → IsAnswer bytes settings answer → IsAnswer bytes settings other → answer ≡ other }
 {}
 
-/// A script is read in at most one way, or refused in at most one way, and not both.
+/// A script is read in one way, or refused in one way, and not both.
 pub fn a_script_has_one_reading_or_one_refusal()
+    ensures some { (bytes : List ℕ) → ((base : List Step) × (traced : List Step) × IsScript bytes base traced) ⊎ ((fault : ScriptFault) × IsScriptRefusal bytes fault) }
     ensures steps { (bytes : List ℕ) (base traced others more : List Step) → IsScript bytes base traced → IsScript bytes others more → (base ≡ others) × (traced ≡ more) }
     ensures refusal { (bytes : List ℕ) (fault other : ScriptFault) → IsScriptRefusal bytes fault → IsScriptRefusal bytes other → fault ≡ other }
     ensures either { (bytes : List ℕ) (base traced : List Step) (fault : ScriptFault) → IsScript bytes base traced → IsScriptRefusal bytes fault → ⊥ }
