@@ -1,0 +1,2 @@
+pub mod Diamond
+pub mod Worker

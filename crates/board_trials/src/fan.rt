@@ -1,0 +1,53 @@
+ghost use Rattle.std.specs.Prelude.{ℕ, ◌<◌, [], cond, ◌==◌, length};
+
+use state_space::Space;
+use std::alloc::AllocError;
+
+/// The word 0, and after it the words of a slice, which have no successors. All are good.
+#[derive(Drop)]
+pub struct Fan<'a> {
+    pub after: &'a [u128],
+    ghost few: { length after.now < 4294967296 },
+}
+
+impl Space for Fan<'_> {
+    type Scratch = ();
+
+    ghost is_lawful = { λ _ _. Unit {0} };
+
+    ghost initial = { λ _. 0 };
+
+    ghost successors = { λ s word. cond (word == 0) s.after.now [] };
+
+    ghost is_good = { λ _ _. Unit {0} };
+
+    ghost is_own = { λ _ _. Unit {0} };
+
+    fn start(&self) -> u128 {
+        0
+    }
+
+    fn scratch(&self) -> Result<(), AllocError> {
+        Ok(())
+    }
+
+    fn degree(&self, word: u128) -> u32 {
+        if word == 0 {
+            self.after.len() as u32
+        } else {
+            0
+        }
+    }
+
+    fn next(&self, word: u128, k: u32) -> u128 {
+        if word == 0 { self.after[k as usize] } else { 0 }
+    }
+
+    fn judge(&self, _scratch: &mut (), _word: u128) -> Result<bool, AllocError> {
+        Ok(true)
+    }
+
+    ghost initial_lawful = { λ _. tt };
+
+    ghost successor_lawful = { λ _ _ _ _ _. tt };
+}
