@@ -1,0 +1,39 @@
+//! How many sets that a crash can leave are judged a second, over the graph of the script on standard input.
+//!
+//! The words are those of `crashmap` itself; at most `--limit` sets are judged. Standard output has the numbers of
+//! sets, and standard error the rate.
+#![tactic(auto)]
+
+mod rounds;
+mod sets;
+
+use command_line::settings_of;
+use disk_image::Image;
+use order_modules::{build_base, trace};
+use rounds::judge_rounds;
+use script_text::read_script;
+use sets::closed_sets;
+use std::env;
+use std::io::Read;
+use std::test::Fail;
+
+fn main(rt: HostRuntime) -> Result<(), Fail> {
+    let heap = rt.alloc();
+    let mut words = Vec::new(heap);
+    for word in env::args(&rt)? {
+        words.push(word)?;
+    }
+    let mut texts = Vec::new(heap);
+    for word in words.iter().skip(1) {
+        texts.push(word.as_str())?;
+    }
+    let settings = settings_of(heap, &texts)?.settings;
+    let mut script = Vec::new(heap);
+    rt.stdin().read_to_end(&mut script)?;
+    let script = read_script(heap, &script)?;
+    let mut base = Image::formatted(heap, settings.blocks, settings.journal)?;
+    build_base(&mut base, &script.base)?;
+    let graph = trace(heap, &base, &script.traced, settings.module)?;
+    let sets = closed_sets(heap, &graph, settings.limit)?;
+    judge_rounds(&rt, &base, &graph, &sets)
+}
