@@ -1,4 +1,4 @@
-use Rattle.std.proofs.Common.{rules, arith, ◌∙◌, ◌≡◌, ◌<◌, length, get_or}
+use Rattle.std.proofs.Common.{rules, sym, arith, ◌∙◌, ◌≡◌, ◌<◌, length, get_or}
 use Rattle.board_rule.specs.Lists.{row_of}
 use Rattle.seen_board.proofs.AfterInserts.{appends_knows, appends_over, appends_sees, appends_there, appends_idle, appends_limit, appends_counts}
 use Rattle.seen_board.proofs.board.Board.add.Goals as goal
@@ -30,7 +30,7 @@ returns-then-within g c = let v = c.seat.inside.seat.me.0 in let held : v.rows.h
       added = (
         rw (← c.seat.view_is) (appends_knows t c.args.shard (get_or c.seat.inside.counts c.args.shard 0) held near i.1.all at c.seat.inside.seat.table_id c.append-within.new.seat.table_id v.count.over c.append-within.ensures.seat.0 (c.append-within.ensures.within c.if-within.true)),
         rw (← c.seat.view_is) (appends_sees t c.args.shard (get_or c.seat.inside.counts c.args.shard 0) held near i.1.all at),
-        ((near, there.0), there.1),
+        ((near, there.0), there.1, sym c.requires.word),
       );
     }
 

@@ -1,4 +1,4 @@
-use Rattle.std.proofs.Common.{arith, ap, subst, ◌∙◌, ◌≡◌, ◌<◌, ℕ, length, get_or}
+use Rattle.std.proofs.Common.{sym, arith, ap, subst, ◌∙◌, ◌≡◌, ◌<◌, ℕ, length, get_or}
 use Rattle.board_rule.specs.Layout.{writer}
 use Rattle.board_rule.specs.Lists.{row_of}
 use Rattle.seen_board.specs.Clauses.{Gains, Lacks}
@@ -18,7 +18,7 @@ pub add-requires-clause-successor : goal.add-requires-clause-successor
 add-requires-clause-successor g c = gains_successor (g.S.Space.successors c.args.self.now.space) c.args.seat.now c.try_write.new.seat c.look_from.new.seat writer c.args.shard c.args.word (c.try_write.ensures.right c.in-Right.is) c.look_from.ensures.same c.requires.successor
 
 pub returns-in-Some : goal.returns-in-Some
-returns-in-Some g c = record { put = put_known c.args.seat.now c.try_write.new.seat c.give.new.seat writer c.args.shard c.args.word record { shard = c.args.shard; at = c.in-Some.at } (c.try_write.ensures.right c.in-Right.is) (c.give.ensures ∙ ap (λ (s : Known). record s { right = 0 }) c.look_from.ensures.same) ((omega (arith, c.requires.shard), c.in-Some.ensures.found.0), c.in-Some.ensures.found.1) }
+returns-in-Some g c = record { put = put_known c.args.seat.now c.try_write.new.seat c.give.new.seat writer c.args.shard c.args.word record { shard = c.args.shard; at = c.in-Some.at } (c.try_write.ensures.right c.in-Right.is) (c.give.ensures ∙ ap (λ (s : Known). record s { right = 0 }) c.look_from.ensures.same) ((omega (arith, c.requires.shard), c.in-Some.ensures.found.0), c.in-Some.ensures.found.1, sym c.requires.shard) }
 
 pub returns-then-seat-shard : goal.returns-then-seat-shard
 returns-then-seat-shard g c = let same : c.overflow.new.seat ≡ record c.try_write.new.seat { claims = 0; over = 1 } = rw c.look_from.ensures.same at c.overflow.ensures in
