@@ -1,0 +1,1 @@
+//! What a closed board tells.

@@ -1,0 +1,3 @@
+//! Exploration.
+
+pub fn explore() {}
