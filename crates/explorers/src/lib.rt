@@ -4,7 +4,8 @@
 //! of them are not good.
 #![tactic(auto)]
 
-mod collect;
+mod answers;
+mod collected;
 mod exploring;
 mod gate;
 mod worker;

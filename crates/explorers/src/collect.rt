@@ -1,1 +1,0 @@
-//! What a closed board tells.
