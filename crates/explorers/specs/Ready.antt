@@ -1,0 +1,23 @@
+-- A worker's seat between two turns, during an expansion and at the end.
+use Rattle.std.specs.Prelude.{◌≡◌, ℕ, ◌<◌, List, true, slice_index}
+use Rattle.board_rule.specs.Lists.{Has}
+use Rattle.seen_board.specs.Known.{Shown, Known}
+use Rattle.seen_board.specs.Clauses.{IsOf, SeesOn, HasClaim}
+use Rattle.seen_board.specs.declared.answers.Place.{Place}
+use Rattle.explorers.specs.declared.worker.Left.{Left}
+
+-- a seat of the board with no right and no claim
+abbrev pub IsIdle : {S : Type 0} → Shown S → Known → Type 0
+IsIdle b s = IsOf b s × (s.right ≡ 0) × (s.claims ≡ 0)
+
+-- the seat is at the entry that it has claimed, and the first k successors are entries that it has seen
+pub record Expands {S : Type 0} (b : Shown S) (before : List (List ℕ)) (place : Place) (next : List ℕ) (k : ℕ) (s : Known) : Type 0 where
+  pub of : IsOf b s
+  pub free : s.right ≡ 0
+  pub claim : HasClaim s place
+  pub sees : SeesOn before s.seen
+  pub has : (j : ℕ) → j < k → Has s.seen (slice_index next j)
+
+-- the seat is idle, and knows that more words than the limit are reached where its worker was told so
+abbrev pub IsLeft : {S : Type 0} → Shown S → Left → Type 0
+IsLeft b left = IsIdle b left.seat × (left.is_over ≡ true → left.seat.over ≡ 1)

@@ -1,0 +1,82 @@
+//! From what the workers leave to the answer.
+ghost use Rattle.std.specs.Prelude.{◌≡◌, ℕ, ◌<◌, ◌≤◌, IfOk, IsErrOf};
+ghost use Rattle.std.specs.List.{All};
+ghost use Rattle.state_space.specs.Reach.{IsReached};
+ghost use Rattle.state_space.specs.Counts.{HoldsOf, Outnumbers};
+ghost use Rattle.patch_sets.specs.Sets.{AreAllInOrder};
+ghost use Rattle.explorers.specs.Ready.{IsLeft};
+
+use crate::collected::collect;
+use crate::worker::Left;
+use plain_explorer::{ExploreFault, Explored};
+use seen_board::Board;
+use state_space::Space;
+use std::alloc::Allocator;
+
+/// What two workers leave, as one.
+fn join<S: Space, A: Allocator>(board: &Board<S, A>, all: Left, other: Left) -> Left
+    requires all { IsLeft board.now all }
+    requires other { IsLeft board.now other }
+    ensures { IsLeft board.now result }
+{
+    let Left {
+        mut seat,
+        is_over: was_over,
+    } = all;
+    let Left {
+        seat: given,
+        is_over,
+    } = other;
+    board.join(&mut seat, given);
+    Left {
+        seat,
+        is_over: was_over || is_over,
+    }
+}
+
+/// What many workers leave, joined to what is there.
+pub(crate) fn join_all<S: Space, A: Allocator>(
+    board: &Board<S, A>,
+    mut all: Left,
+    mut others: Vec<Left, A>,
+) -> Left
+    requires all { IsLeft board.now all }
+    requires others { All (IsLeft board.now) others.items }
+    ensures { IsLeft board.now result }
+{
+    while let Some(other) = others.pop() {
+        all = join(board, all, other);
+    }
+    all
+}
+
+/// The answer: what the board holds where it is finished, too many words where a worker was told so, and else want of
+/// memory.
+pub(crate) fn answer<S: Space, A: Allocator + Copy>(
+    alloc: A,
+    space: &S,
+    limit: usize,
+    board: Board<S, A>,
+    left: Left,
+) -> Result<Explored<A>, ExploreFault>
+    requires board { (board.limit ≡ limit) × (board.space ≡ space.now) }
+    requires limit { limit ≤ 32768 }
+    requires left { IsLeft board left }
+
+    ensures total { IfOk result (λ explored. HoldsOf (IsReached (S.successors space.now) (S.initial space.now)) explored.total) }
+    ensures within { IfOk result (λ explored. explored.total ≤ limit) }
+    ensures broken { IfOk result (λ explored. AreAllInOrder (λ word. IsReached (S.successors space.now) (S.initial space.now) word × ¬ (S.is_good space.now word)) explored.broken.items) }
+
+    ensures too_many { IsErrOf result ExploreFault.TooMany → Outnumbers (IsReached (S.successors space.now) (S.initial space.now)) limit }
+{
+    let Left { mut seat, is_over } = left;
+    let is_finished = board.finished(&mut seat);
+    let contents = board.close(seat);
+    if is_finished {
+        return collect(alloc, space, limit, &contents);
+    }
+    if is_over {
+        return Err(ExploreFault::TooMany);
+    }
+    Err(ExploreFault::OutOfMemory)
+}

@@ -1,0 +1,96 @@
+//! What a closed board tells.
+ghost use Rattle.std.specs.Prelude.{◌≡◌, ℕ, ◌+◌, ◌<◌, ◌≤◌, length, IfOk, OnOk, IsErrOf};
+ghost use Rattle.std.specs.List.{concat};
+ghost use Rattle.state_space.specs.Reach.{IsReached};
+ghost use Rattle.state_space.specs.Counts.{IsListOf, HoldsOf, Outnumbers};
+ghost use Rattle.patch_sets.specs.Sets.{AreAllInOrder};
+ghost use Rattle.seen_board.specs.Ended.{Entries, Settled, Done};
+ghost use Rattle.explorers.specs.Entries.{IsBrokenBefore, AreDistinct, AreShort};
+
+use patch_sets::order::in_order;
+use plain_explorer::{ExploreFault, Explored};
+use seen_board::{Contents, Life, Place};
+use state_space::Space;
+use std::alloc::{AllocError, Allocator};
+
+/// The shards of a board.
+const SHARDS: u8 = 13;
+
+/// How many words are reached and which of them are not good, from a finished board.
+pub(crate) fn collect<S: Space, A: Allocator + Copy>(
+    alloc: A,
+    _space: &S,
+    limit: usize,
+    contents: &Contents<A>,
+) -> Result<Explored<A>, ExploreFault>
+    requires limit { limit ≤ 32768 }
+    requires entries { Entries (S.successors _space.now) (S.initial _space.now) limit contents.now.rows }
+    requires settled { Settled (S.successors _space.now) (S.is_good _space.now) contents.now }
+    requires done { Done (S.successors _space.now) (S.initial _space.now) contents.now }
+
+    ensures total { IfOk result (λ explored. HoldsOf (IsReached (S.successors _space.now) (S.initial _space.now)) explored.total) }
+    ensures within { IfOk result (λ explored. explored.total ≤ limit) }
+    ensures broken { IfOk result (λ explored. AreAllInOrder (λ word. IsReached (S.successors _space.now) (S.initial _space.now) word × ¬ (S.is_good _space.now word)) explored.broken.items) }
+
+    ensures too_many { IsErrOf result ExploreFault.TooMany → Outnumbers (IsReached (S.successors _space.now) (S.initial _space.now)) limit }
+{
+    let total = count_entries(contents);
+    if total > limit {
+        return Err(ExploreFault::TooMany);
+    }
+    let broken = broken_words(alloc, contents)?;
+    Ok(Explored {
+        total,
+        broken: in_order(broken),
+    })
+}
+
+/// The number of entries.
+fn count_entries<A: Allocator>(contents: &Contents<A>) -> usize
+    requires thirteen { length contents.now.rows ≡ 13 }
+    requires short { AreShort contents.now.rows }
+    ensures { result ≡ length (concat contents.now.rows) }
+{
+    let mut total = 0;
+    for shard in 0..SHARDS {
+        total += contents.len(shard);
+    }
+    total
+}
+
+/// The words of the broken entries.
+fn broken_words<A: Allocator + Copy>(
+    alloc: A,
+    contents: &Contents<A>,
+) -> Result<Vec<u128, A>, AllocError>
+    requires distinct { AreDistinct contents.now.rows }
+    requires short { AreShort contents.now.rows }
+    ensures { IfOk result (λ broken. IsListOf (IsBrokenBefore contents.now 13 0) broken.items) }
+{
+    let mut broken = Vec::new(alloc);
+    for shard in 0..SHARDS {
+        push_broken(contents, shard, &mut broken)?;
+    }
+    Ok(broken)
+}
+
+/// Puts the words of a shard's broken entries at the end.
+fn push_broken<A: Allocator>(
+    contents: &Contents<A>,
+    shard: u8,
+    broken: &mut Vec<u128, A>,
+) -> Result<(), AllocError>
+    requires shard { shard < 13 }
+    requires distinct { AreDistinct contents.now.rows }
+    requires short { AreShort contents.now.rows }
+    requires before { IsListOf (IsBrokenBefore contents.now shard 0) broken.old.items }
+    ensures { OnOk result (IsListOf (IsBrokenBefore contents.now (shard + 1) 0) broken.new.items) }
+{
+    for at in 0..contents.len(shard) as u16 {
+        let place = Place { shard, at };
+        if let Life::Broken = contents.life(place) {
+            broken.push(contents.word(place))?;
+        }
+    }
+    Ok(())
+}

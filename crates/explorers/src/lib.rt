@@ -1,0 +1,15 @@
+//! Many workers explore a space over one board.
+//!
+//! Whatever the schedule, an answer other than want of memory is that of one worker: how many words are reached, and which
+//! of them are not good.
+#![tactic(auto)]
+
+mod answers;
+mod collected;
+mod exploring;
+mod gate;
+mod worker;
+
+pub use exploring::explore;
+pub use gate::{Gate, OpenGate};
+pub use plain_explorer::{ExploreFault, Explored};
