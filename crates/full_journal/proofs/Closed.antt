@@ -1,5 +1,5 @@
 -- What a closed set has of each transaction, from the dependencies alone.
-use Rattle.std.proofs.Common.{◌≡◌, ◌≢◌, ℕ, zero, suc, ◌+◌, ◌-◌, ◌*◌, ◌<◌, ◌≤◌, ◌⊎◌, inl, inr, List, [], ◌∷◌, ◌++◌, length, map, Bool, true, false, cond, nat_lt, ◌&&◌, ◌||◌, Option, Some, None, arith, tests, refl, sym, ◌∙◌, ap, subst}
+use Rattle.std.proofs.Common.{◌≡◌, ℕ, zero, suc, ◌+◌, ◌-◌, ◌<◌, ◌≤◌, ◌⊎◌, inl, inr, List, [], ◌∷◌, ◌++◌, length, map, Bool, true, false, nat_lt, ◌&&◌, ◌||◌, Option, Some, arith, tests, refl, sym, ◌∙◌, ap, subst}
 use Rattle.std.specs.Prelude.{slice_get, ◌==◌}
 use Rattle.std.proofs.lemmas.List.{length-append, length-map}
 use Rattle.crash_model.specs.Disk.{Disk, block_of}
@@ -10,9 +10,8 @@ use Rattle.crash_model.specs.Trace.{Emitted, Part, InPlace, Copy, Commit, Done, 
 use Rattle.crash_model.specs.declared.plans.Change.{Change}
 use Rattle.crash_model.specs.declared.plans.Role.{Role}
 use Rattle.crash_model.specs.declared.steps.Module.TheVariants.{Full}
-use Rattle.full_journal.specs.Safe.{IsTurnClosed, IsLogClosed}
+use Rattle.full_journal.specs.Safe.{IsLogClosed}
 use Rattle.full_journal.specs.Logs.{log_emitted, IsClosedIn}
-use Rattle.full_journal.proofs.Targets.{bool_is}
 
 -- ---- elements by their places
 
@@ -41,7 +40,7 @@ plain_at t g [] m h = absurd (omega arith)
 plain_at t g (c ∷ cs) zero h = (plain t g c, c.role, refl, record { part = refl; turn = refl })
 plain_at t g (c ∷ cs) (suc m) h = plain_at t g cs m (omega arith)
 
-length-copy : (after : Disk) (t j : ℕ) (g : Option (List ℕ)) (bs : List ℕ) → length (copies after t j g bs) ≡ length bs
+pub length-copy : (after : Disk) (t j : ℕ) (g : Option (List ℕ)) (bs : List ℕ) → length (copies after t j g bs) ≡ length bs
 length-copy after t j g [] = refl
 length-copy after t j g (b ∷ bs) = ap suc (length-copy after t (j + 1) g bs)
 

@@ -1,11 +1,11 @@
 -- Images of sets, a stretch of patches at a time.
-use Rattle.std.proofs.Common.{◌≡◌, ◌≢◌, ℕ, ◌+◌, ◌-◌, ◌*◌, ◌<◌, ◌≤◌, ◌⊎◌, inl, inr, List, [], ◌∷◌, ◌++◌, length, Bool, true, false, cond, arith, refl, sym, ◌∙◌, ap, subst}
+use Rattle.std.proofs.Common.{◌≡◌, ◌≢◌, ℕ, ◌+◌, ◌*◌, ◌<◌, ◌≤◌, ◌⊎◌, inl, inr, List, [], ◌∷◌, ◌++◌, length, Bool, true, false, cond, arith, refl, sym, ◌∙◌, ap, subst}
 use Rattle.crash_model.specs.Disk.{Disk, block_of, put, overwrite}
 use Rattle.patch_sets.specs.Sets.{has}
-use Rattle.crash_model.specs.Patches.{Place, place, image_from}
+use Rattle.crash_model.specs.Patches.{Place, image_from}
 use Rattle.crash_model.proofs.Bytes.{length-overwrite}
 use Rattle.full_journal.specs.Safe.{IsShaped, IsPlaced, ArePlaced}
-use Rattle.full_journal.proofs.Blocks.{Inside, inside-put, block-put_other, block-put_same}
+use Rattle.journal_replay.proofs.Blocks.{Inside, block-put_other, block-put_same}
 
 -- the disk with places put one after another
 abbrev pub all_put : Disk → List Place → Disk

@@ -1,15 +1,15 @@
 -- Of a log all whose changes go through the journal, replay leaves what the committed operations left.
-use Rattle.std.proofs.Common.{◌≡◌, ◌≢◌, ℕ, zero, suc, ◌+◌, ◌-◌, ◌*◌, ◌<◌, ◌≤◌, ◌⊎◌, inl, inr, List, [], ◌∷◌, ◌++◌, length, get_or, Bool, true, false, cond, nat_lt, nat_eq, ◌&&◌, ◌||◌, arith, tests, refl, sym, ◌∙◌, ap, subst}
+use Rattle.std.proofs.Common.{◌≡◌, ℕ, zero, suc, ◌+◌, ◌<◌, ◌≤◌, ◌⊎◌, inl, inr, List, [], ◌∷◌, length, get_or, Bool, true, false, nat_lt, arith, tests, refl, sym, ◌∙◌, ap, subst}
 use Rattle.std.specs.Prelude.{unwrap_or}
-use Rattle.crash_model.specs.Disk.{Disk, block_of, put, overwrite}
+use Rattle.crash_model.specs.Disk.{Disk, block_of}
 use Rattle.patch_sets.specs.Sets.{has}
-use Rattle.crash_model.specs.Patches.{Place, place, image_from}
+use Rattle.crash_model.specs.Patches.{image_from}
 use Rattle.crash_model.specs.Plan.{applied}
 use Rattle.crash_model.specs.Trace.{touched}
 use Rattle.crash_model.specs.Replay.{is_header, copy_in, copy_after, count_of, headers_from}
 use Rattle.crash_model.specs.declared.plans.Change.{Change}
-use Rattle.full_journal.specs.Safe.{IsShaped, IsPlaced, ArePlaced, IsTurn, IsTurnClosed, IsLogClosed, IsOutside, turn_places, log_places, IsLog, committed_disk, replayed_block, LogSafe}
-use Rattle.full_journal.proofs.Images.{Avoid, image-append, kept-image, shaped-image}
+use Rattle.full_journal.specs.Safe.{IsShaped, IsLogClosed, IsOutside, turn_places, log_places, IsLog, committed_disk, replayed_block, LogSafe}
+use Rattle.full_journal.proofs.Images.{image-append, kept-image, shaped-image}
 use Rattle.full_journal.proofs.Turns.{IsTurned, turned, length-turn, shaped-applied, placed-log, avoid-log}
 
 bool_is : (b : Bool) → (b ≡ true) ⊎ (b ≡ false)

@@ -1,14 +1,13 @@
 -- The blocks that changes touch.
-use Rattle.std.proofs.Common.{◌≡◌, ◌≢◌, ℕ, zero, suc, ◌+◌, ◌-◌, ◌*◌, ◌<◌, ◌≤◌, ◌⊎◌, inl, inr, List, [], ◌∷◌, ◌++◌, length, get_or, Bool, true, false, cond, nat_lt, nat_eq, ◌&&◌, ◌||◌, Option, Some, None, arith, tests, refl, sym, ◌∙◌, ap, subst}
+use Rattle.std.proofs.Common.{◌≡◌, ◌≢◌, ℕ, zero, suc, ◌+◌, ◌<◌, ◌≤◌, ◌⊎◌, inl, inr, List, [], ◌∷◌, length, get_or, Bool, true, false, nat_lt, Some, None, arith, tests, refl, sym, subst}
 use Rattle.std.specs.List.{filter, list_any, list_all, range_with_len, position, position_or_len}
 use Rattle.std.specs.Prelude.{◌==◌}
 use Rattle.std.proofs.lemmas.List.Quantifiers.{position-Some}
-use Rattle.crash_model.specs.Disk.{Disk, block_of, put}
-use Rattle.crash_model.specs.Patches.{Place, place}
+use Rattle.crash_model.specs.Disk.{Disk}
 use Rattle.crash_model.specs.Trace.{touched}
 use Rattle.crash_model.specs.Replay.{is_target, is_ascending}
 use Rattle.crash_model.specs.declared.plans.Change.{Change}
-use Rattle.full_journal.specs.Safe.{AreAimed, IsOutside, change_places, ArePlaced}
+use Rattle.full_journal.specs.Safe.{AreAimed, IsOutside, change_places}
 use Rattle.full_journal.proofs.Images.{Avoid}
 
 pub bool_is : (b : Bool) → (b ≡ true) ⊎ (b ≡ false)

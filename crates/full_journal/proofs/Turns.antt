@@ -1,7 +1,7 @@
 -- What the patches of one transaction do to a disk.
-use Rattle.std.proofs.Common.{◌≡◌, ◌≢◌, ℕ, zero, suc, ◌+◌, ◌-◌, ◌*◌, ◌<◌, ◌≤◌, ◌⊎◌, inl, inr, List, [], ◌∷◌, ◌++◌, length, take, drop, map, get_or, Bool, true, false, cond, nat_lt, nat_le, ◌&&◌, ◌||◌, Option, Some, None, min, append-nil, arith, tests, refl, sym, ◌∙◌, ap, subst}
+use Rattle.std.proofs.Common.{◌≡◌, ◌≢◌, ℕ, zero, suc, ◌+◌, ◌*◌, ◌<◌, ◌≤◌, ◌⊎◌, inl, inr, List, [], ◌∷◌, ◌++◌, length, take, drop, get_or, Bool, true, false, cond, nat_lt, nat_le, ◌&&◌, ◌||◌, Option, None, min, append-nil, arith, tests, refl, sym, ◌∙◌, ap, subst}
 use Rattle.std.specs.Prelude.{unwrap_or, option_map, ◌==◌}
-use Rattle.std.specs.List.{list_any, list_all, position}
+use Rattle.std.specs.List.{list_all, position}
 use Rattle.std.proofs.lemmas.List.{length-append, length-map, length-take, take_at, drop_all}
 use Rattle.crash_model.specs.Disk.{Disk, block_of, put, overwrite}
 use Rattle.patch_sets.specs.Sets.{has}
@@ -11,7 +11,7 @@ use Rattle.crash_model.specs.Trace.{touched}
 use Rattle.crash_model.specs.Replay.{is_header, copy_in, count_of, is_target, is_ascending}
 use Rattle.crash_model.specs.declared.plans.Change.{Change}
 use Rattle.full_journal.specs.Safe.{IsShaped, IsPlaced, ArePlaced, IsTurn, IsTurnClosed, IsOutside, copy_places, change_places, turn_places, log_places, IsLog}
-use Rattle.full_journal.proofs.Blocks.{Inside, length-block, block-put_other, block-put_same}
+use Rattle.journal_replay.proofs.Blocks.{length-block, block-put_same}
 use Rattle.full_journal.proofs.Images.{Avoid, all_put, image-append, image-none, image-all, shaped-inside, shaped-put, shaped-image, shaped-all, kept-put, kept-image, kept-all, same-all}
 use Rattle.full_journal.proofs.Targets.{bool_is, found_or_not, touched_targets, touched_ascending, avoid_journal, avoid_untouched}
 

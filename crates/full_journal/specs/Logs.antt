@@ -1,12 +1,12 @@
 -- A trace under the full journal as a log.
-use Rattle.std.specs.Prelude.{◌≡◌, ℕ, ◌+◌, ◌≤◌, ◌<◌, List, [], ◌∷◌, ◌++◌, length, map, Bool, true, Option, Some, Result, Ok, slice_get}
-use Rattle.crash_model.specs.Disk.{Disk}
+use Rattle.std.specs.Prelude.{◌≡◌, ℕ, ◌+◌, ◌<◌, List, [], ◌∷◌, ◌++◌, length, true, Option, Some, Ok, slice_get}
+use Rattle.crash_model.specs.Disk.{Disk, IsDisk}
 use Rattle.patch_sets.specs.Sets.{has}
+use Rattle.crash_model.specs.Sound.{IsSound}
 use Rattle.crash_model.specs.Plan.{plan_of, applied}
 use Rattle.crash_model.specs.Trace.{Emitted, journaled, touched, depends}
 use Rattle.crash_model.specs.declared.names.Op.{Op}
 use Rattle.crash_model.specs.declared.plans.Change.{Change}
-use Rattle.full_journal.specs.Safe.{ArePlaced, AreAimed, IsLog, change_places}
 use Rattle.crash_model.specs.declared.steps.Module.TheVariants.{Full}
 
 -- the emitted patches of operations, each with its group
@@ -20,10 +20,15 @@ log_emitted n d t j (o ∷ ops) =
 abbrev pub IsClosedIn : List (List ℕ × List ℕ) → List Emitted → ℕ → Type 0
 IsClosedIn links emitted set = (q p : ℕ) (x y : Emitted) → slice_get emitted q ≡ Some x → slice_get emitted p ≡ Some y → p < q → depends Full links x y ≡ true → has set q ≡ true → has set p ≡ true
 
--- what the plans of good disks keep
-pub record PlansKeep (n : ℕ) (Good : Disk → Type 0) : Type 0 where
-  pub placed : (d : Disk) (op : Op) (cs : List Change) → Good d → plan_of d op ≡ Ok cs → ArePlaced n (change_places cs)
-  pub aimed : (d : Disk) (op : Op) (cs : List Change) → Good d → plan_of d op ≡ Ok cs → AreAimed d cs
-  pub some : (d : Disk) (op : Op) (cs : List Change) → Good d → plan_of d op ≡ Ok cs → 1 ≤ length (touched n cs)
-  pub few : (d : Disk) (op : Op) (cs : List Change) → Good d → plan_of d op ≡ Ok cs → length (touched n cs) ≤ 8
-  pub good : (d : Disk) (op : Op) (cs : List Change) → Good d → plan_of d op ≡ Ok cs → Good (applied d cs)
+-- a sound disk of n blocks, jl of them the journal's
+pub record IsGood (n jl : ℕ) (d : Disk) : Type 0 where
+  pub blocks : d.blocks ≡ n
+  pub journal : d.journal ≡ jl
+  pub disk : IsDisk d
+  pub sound : IsSound d
+
+-- these are the changes of the operations, one operation after another
+abbrev pub ArePlans : Disk → List Op → List (List Change) → Type 0
+ArePlans d [] [] = Unit {0}
+ArePlans d (op ∷ ops) (cs ∷ plans) = (plan_of d op ≡ Ok cs) × ArePlans (applied d cs) ops plans
+ArePlans d _ _ = ⊥
