@@ -27,24 +27,25 @@ pub record Lands (d : Disk) (c : Change) : Type 0 where
   pub some : 0 < length c.new.items
   pub range : c.offset + length c.new.items ≤ 128
   pub spares : (c.block < 4) ⊎ (4 + d.journal ≤ c.block)
+  pub behind : 0 < c.block
 
 -- ---- each change
 
 inode-lands : (d : Disk) (role : Role) (i from : ℕ) (new : List ℕ) → IsDisk d → i < 16 → 0 < length new → from + length new ≤ 16 → Lands d (at_inode role i from new)
-inode-lands d role i from new disk below some fits = record { block = omega (arith, disk.least); some = some; range = omega arith; spares = inl (omega arith) }
+inode-lands d role i from new disk below some fits = record { block = omega (arith, disk.least); some = some; range = omega arith; spares = inl (omega arith); behind = omega arith }
 
 map-lands : (d : Disk) (role : Role) (b v : ℕ) → IsDisk d → b < d.blocks → Lands d (change role 1 b (v ∷ []))
-map-lands d role b v disk below = record { block = omega (arith, disk.least); some = omega arith; range = omega (arith, disk.most); spares = inl (omega arith) }
+map-lands d role b v disk below = record { block = omega (arith, disk.least); some = omega arith; range = omega (arith, disk.most); spares = inl (omega arith); behind = omega arith }
 
 entry-lands : (d : Disk) (role : Role) (dir k : ℕ) (new : List ℕ) → counts d dir ≡ true → k < 10 → 0 < length new → length new ≤ 12 → Lands d (change role (pointer_of d dir 0) (entry_offset k) new)
 entry-lands d role dir k new holds below some fits =
     let own = counts-parts d dir holds in
-    record { block = own.high; some = some; range = omega arith; spares = inr own.low }
+    record { block = own.high; some = some; range = omega arith; spares = inr own.low; behind = omega (arith, own.low) }
 
 block-lands : (d : Disk) (role : Role) (b mark owner : ℕ) → is_data d b ≡ true → Lands d (init_block role b mark owner)
 block-lands d role b mark owner inside =
     let own = data-block d b inside in
-    record { block = own.1; some = omega arith; range = omega arith; spares = inr own.0 }
+    record { block = own.1; some = omega arith; range = omega arith; spares = inr own.0; behind = omega (arith, own.0) }
 
 set-lands : (d : Disk) (dir k i : ℕ) (name : List ℕ) → counts d dir ≡ true → k < 10 → IsName name → Lands d (entry_set d dir k i name)
 set-lands d dir k i name holds below is_name = entry-lands d EntrySet dir k ((i + 1) ∷ spelled name) holds below (omega arith) (grind (arith, elements, is_name.few))
@@ -212,7 +213,7 @@ put-disk d c disk lands = record {
 -- where changes lie depends on the disk's size alone
 stay : (d : Disk) (c : Change) (cs : List Change) → AllLand d cs → AllLand (put d c.block c.offset c.new.items) cs
 stay d c [] all = tt
-stay d c (e ∷ es) all = (record { block = all.0.block; some = all.0.some; range = all.0.range; spares = all.0.spares }, stay d c es all.1)
+stay d c (e ∷ es) all = (record { block = all.0.block; some = all.0.some; range = all.0.range; spares = all.0.spares; behind = all.0.behind }, stay d c es all.1)
 
 pub applied-disk : (d : Disk) (changes : List Change) → IsDisk d → AllLand d changes → IsDisk (applied d changes)
 applied-disk d [] disk all = disk

@@ -39,6 +39,7 @@ pub fn plan<A: Allocator + Copy>(image: &Image<A>, op: &Op) -> Result<Plan, FsFa
     ensures count { IfOk result (λ plan. (1 ≤ length plan.items) × (length plan.items ≤ 8)) }
     ensures inside { IfOk result (λ plan. All (LiesInside image.now.blocks) plan.items) }
     ensures journal { IfOk result (λ plan. HasSameJournal image.now (applied image.now plan.items)) }
+    ensures name { IfOk result (λ _. GivesName op.now) }
     ensures refused { IsSound image.now → (fault : FsFault) → ((result ≡ Err fault) ↔ IsRefused image.now.blocks image.now.journal (view_of image.now) op.now fault) }
     ensures sound { IsSound image.now → IfOk result (λ plan. IsSound (applied image.now plan.items)) }
     ensures means { IsSound image.now → IfOk result (λ plan. Means image.now.blocks image.now.journal (view_of image.now) (view_of (applied image.now plan.items)) op.now) }

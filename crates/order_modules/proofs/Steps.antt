@@ -1,12 +1,17 @@
 -- The steps of a script, one after another.
-use Rattle.std.proofs.Common.{◌≡◌, ℕ, ◌+◌, ◌<◌, ◌≤◌, List, [], ◌∷◌, ◌++◌, length, take, drop, get_or, append_assoc, refl, sym, ◌∙◌, ap, arith}
-use Rattle.std.specs.Prelude.{Result, Ok, Err}
+use Rattle.std.proofs.Common.{◌≡◌, ℕ, ◌+◌, ◌<◌, ◌≤◌, List, [], ◌∷◌, ◌++◌, length, take, drop, get_or, append-nil, append_assoc, refl, sym, ◌∙◌, ap, subst, arith}
+use Rattle.std.specs.Prelude.{All, Result, Ok, Err}
 use Rattle.std.proofs.lemmas.List.{take_more, take-append-drop, take_all}
+use Rattle.std.proofs.lemmas.List.Elements.{All-nil, All-append}
+use Rattle.std.proofs.lemmas.Grind.{flat_map-append}
 use Rattle.crash_model.specs.Disk.{Disk}
 use Rattle.crash_model.specs.Trace.{Tracing, begun, step, traced, then_trace}
 use Rattle.crash_model.specs.declared.refusals.TraceFault.{TraceFault}
 use Rattle.crash_model.specs.declared.steps.Module.{Module}
 use Rattle.crash_model.specs.declared.steps.Step.{Step}
+use Rattle.crash_model.specs.declared.names.Op.{Op}
+use Rattle.inode_fs.specs.Inside.{GivesName}
+use Rattle.full_journal.specs.Full.{ops_at, ops_of}
 use Rattle.order_modules.specs.Tracer.{Trace, Moves}
 
 then_then : (kind : Module) (ys : List Step) (r : Result Tracing TraceFault) (f g : Tracing → Result Tracing TraceFault) → ((next : Tracing) → f next ≡ then_trace (g next) (λ end. traced kind end ys))
@@ -24,6 +29,7 @@ pub record IsTraced (kind : Module) (base : Disk) (steps : List Step) (i : ℕ) 
   pub same_kind : t.log.kind ≡ kind
   pub turns : t.tracing.turn ≤ i + 1
   pub so_far : traced kind (begun base) (take i steps) ≡ Ok t.tracing
+  pub names : All GivesName (ops_of (take i steps))
 
 module _ (kind : Module) (base : Disk) (steps : List Step) (i : ℕ) (t : Trace) (x : Step) (inside : i < length steps) (read : x ≡ get_or steps i x) (is : IsTraced kind base steps i t) where
   with_next : take (i + 1) steps ≡ take i steps ++ x ∷ []
@@ -36,13 +42,16 @@ module _ (kind : Module) (base : Disk) (steps : List Step) (i : ℕ) (t : Trace)
   same_step : step t.log.kind t.tracing x.line x.act ≡ step kind t.tracing x.line x.act
   same_step = ap (λ (k : Module). step k t.tracing x.line x.act) is.same_kind
 
-  pub step_taken : (next : Trace) → Moves t next (step t.log.kind t.tracing x.line x.act) → IsTraced kind base steps (i + 1) next
-  step_taken next moves = record {
+  pub step_taken : (next : Trace) → Moves t next (step t.log.kind t.tracing x.line x.act) → All GivesName (ops_at x.act) → IsTraced kind base steps (i + 1) next
+  step_taken next moves named = record {
     same_base = moves.base ∙ is.same_base;
     same_kind = moves.kind ∙ is.same_kind;
     turns = omega (arith, moves.turns, is.turns);
     so_far = ap (λ (xs : List Step). traced kind (begun base) xs) with_next ∙ after_step []
         ∙ ap (λ (r : Result Tracing TraceFault). then_trace r (λ next. traced kind next [])) (sym same_step ∙ moves.answered);
+    names = subst (λ (xs : List Step). All GivesName (ops_of xs)) (sym with_next)
+        (subst (λ (ops : List Op). All GivesName ops) (sym (flat_map-append (λ (y : Step). ops_at y.act) (take i steps) (x ∷ [])))
+        (All-append GivesName (ops_of (take i steps)) (ops_of (x ∷ [])) is.names (subst (λ (ops : List Op). All GivesName ops) (sym (append-nil (ops_at x.act))) named)));
   }
 
   pub step_refused : (e : TraceFault) → step t.log.kind t.tracing x.line x.act ≡ Err e → traced kind (begun base) steps ≡ Err e
@@ -58,7 +67,11 @@ traced_start kind base steps t began same_base same_kind = record {
   same_kind = same_kind;
   turns = omega (arith, ap (λ (s : Tracing). s.turn) began);
   so_far = ap (λ (s : Tracing). Ok s) (sym began);
+  names = All-nil GivesName;
 }
 
 pub traced_end : (kind : Module) (base : Disk) (steps : List Step) (i : ℕ) (t : Trace) → length steps ≤ i → IsTraced kind base steps i t → traced kind (begun base) steps ≡ Ok t.tracing
 traced_end kind base steps i t past is = ap (λ (xs : List Step). traced kind (begun base) xs) (sym (take_all i steps past)) ∙ is.so_far
+
+pub traced_names : (kind : Module) (base : Disk) (steps : List Step) (i : ℕ) (t : Trace) → length steps ≤ i → IsTraced kind base steps i t → All GivesName (ops_of steps)
+traced_names kind base steps i t past is = subst (λ (xs : List Step). All GivesName (ops_of xs)) (take_all i steps past) is.names

@@ -1,10 +1,12 @@
 //! The steps on patch groups (Frost et al., SOSP 2007), and the one that all steps go through.
 
-ghost use Rattle.std.specs.Prelude.{◌≡◌, ◌≢◌, ◌<◌, ◌^◌, Err, IfErr, OnOk, bytes_eq};
+ghost use Rattle.std.specs.Prelude.{◌≡◌, ◌≢◌, ◌<◌, ◌^◌, Err, All, IfErr, OnOk, bytes_eq};
 ghost use Rattle.std.specs.List.{list_any};
 ghost use Rattle.crash_model.specs.Trace.{step as step_of};
 ghost use Rattle.crash_model.specs.declared.steps.Act.TheVariants.{Group, End, Depend};
 ghost use Rattle.crash_model.specs.declared.refusals.TraceFault.TheVariants as fault;
+ghost use Rattle.inode_fs.specs.Inside.{GivesName};
+ghost use Rattle.full_journal.specs.Full.{ops_at};
 ghost use Rattle.order_modules.specs.Tracer.{Moves};
 
 use crate::tracer::Tracer;
@@ -18,6 +20,7 @@ impl<'a, A: Allocator + Copy> Tracer<'a, A> {
     pub fn step(&mut self, step: &'a Step) -> Result<(), TraceFault>
         requires { self.old.tracing.turn < 2 ^ 63 }
         ensures ok { OnOk result (Moves self.old self.new (step_of self.old.log.kind self.old.tracing step.now.line step.now.act)) }
+        ensures names { OnOk result (All GivesName (ops_at step.now.act)) }
         ensures refused { IfErr result (λ refusal. refusal ≢ fault.OutOfMemory → step_of self.old.log.kind self.old.tracing step.now.line step.now.act ≡ Err refusal) }
     {
         match &step.act {

@@ -2,9 +2,13 @@
 
 ghost use Rattle.std.specs.Prelude.{◌≡◌, ◌≢◌, ℕ, ◌+◌, ◌<◌, ◌≤◌, ◌⊎◌, ◌^◌, [], length, Ok, Err, IfOk, IfErr, OnOk, All};
 ghost use Rattle.crash_model.specs.Trace.{Tracing, begun, planned, step as step_of, traced, IsGraphOf};
+ghost use Rattle.crash_model.specs.Disk.{IsDisk};
 ghost use Rattle.crash_model.specs.Plan.{plan_of};
 ghost use Rattle.crash_model.specs.declared.refusals.TraceFault.TheVariants as fault;
-ghost use Rattle.inode_fs.specs.Inside.{LiesInside};
+ghost use Rattle.crash_model.specs.Sound.{IsSound, HasZeroJournal};
+ghost use Rattle.crash_model.specs.declared.steps.Module.TheVariants.{Full};
+ghost use Rattle.inode_fs.specs.Inside.{LiesInside, GivesName};
+ghost use Rattle.full_journal.specs.Full.{ops_of, IsFullSafe};
 ghost use Rattle.order_modules.specs.Tracer.{Moves, IsOrdered, IsJournaled};
 
 use crate::log::PatchLog;
@@ -27,6 +31,10 @@ use std::marker::Model;
 /// the operation itself, by a full journal, by too many patches (the graph holds 124), or by the rules of groups: a
 /// group is opened once and only while none is open, `depend b a` takes an ended group a and a group b, not a, that
 /// has no patch. It fails for want of memory too.
+///
+/// Under the full journal, from a sound image whose journal is zero, replay recovers from every crash: whatever closed
+/// set of the patches is on disk, replay leaves a sound image that is, outside the journal, the image after the first
+/// k operations, k being how many of their commits are in the set.
 pub fn trace<A: Allocator + Copy>(
     alloc: A,
     image: &Image<A>,
@@ -36,6 +44,8 @@ pub fn trace<A: Allocator + Copy>(
     ensures ok { IfOk result (λ graph. (s : Tracing) × (traced «module» (begun image.now) steps.now ≡ Ok s) × IsGraphOf «module» image.now s graph) }
     ensures refused { IfErr result (λ refusal. refusal ≢ fault.OutOfMemory → traced «module» (begun image.now) steps.now ≡ Err refusal) }
     ensures fits { IfOk result (λ graph. All (λ patch. patch.block < image.now.blocks) graph) }
+    ensures names { IfOk result (λ _. All GivesName (ops_of steps.now)) }
+    ensures full { «module» ≡ Full → IsSound image.now → HasZeroJournal image.now → IfOk result (λ graph. IsFullSafe image.now steps.now graph) }
 {
     let mut tracer = Tracer::new(alloc, image, module)?;
     for step in steps {
@@ -73,7 +83,8 @@ impl<'a, A: Allocator + Copy> Model for Tracer<'a, A> {
 impl<'a, A: Allocator + Copy> Tracer<'a, A> {
     /// Nothing traced yet.
     pub fn new(alloc: A, base: &'a Image<A>, module: Module) -> Result<Tracer<'a, A>, AllocError>
-        ensures { IfOk result (λ t. (t.tracing ≡ begun base.now) × (t.log.base ≡ base.now) × (t.log.kind ≡ «module»)) }
+        ensures begun { IfOk result (λ t. (t.tracing ≡ begun base.now) × (t.log.base ≡ base.now) × (t.log.kind ≡ «module»)) }
+        ensures disk { IfOk result (λ _. IsDisk base.now) }
     {
         Ok(Tracer {
             disk: base.try_copy()?,
@@ -98,6 +109,7 @@ impl<'a, A: Allocator + Copy> Tracer<'a, A> {
     pub fn operate(&mut self, line: usize, op: &Op) -> Result<(), TraceFault>
         requires { self.old.tracing.turn < 2 ^ 63 }
         ensures ok { OnOk result (Moves self.old self.new (planned self.old.log.kind line self.old.tracing (plan_of self.old.tracing.disk op.now))) }
+        ensures name { OnOk result (GivesName op.now) }
         ensures refused { IfErr result (λ refusal. refusal ≢ fault.OutOfMemory → planned self.old.log.kind line self.old.tracing (plan_of self.old.tracing.disk op.now) ≡ Err refusal) }
     {
         let plan = match plan(&self.disk, op) {

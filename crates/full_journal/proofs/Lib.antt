@@ -1,0 +1,9 @@
+pub mod Images
+pub mod Targets
+pub mod Turns
+pub mod Journal
+pub mod Closed
+pub mod Plans
+pub mod Traces
+pub mod Outside
+pub mod Final

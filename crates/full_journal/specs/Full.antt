@@ -1,0 +1,51 @@
+-- The promise of the full journal.
+use Rattle.std.specs.Prelude.{◌≡◌, ℕ, ◌+◌, ◌<◌, List, [], ◌∷◌, flat_map, take, Bool, true, false, ◌&&◌, if◌then◌else◌, Ok}
+use Rattle.patch_sets.specs.Sets.{has}
+use Rattle.patch_sets.specs.Closed.{IsClosed}
+use Rattle.crash_model.specs.Disk.{Disk, block_of}
+use Rattle.crash_model.specs.Plan.{plan_of, result_applied}
+use Rattle.crash_model.specs.Sound.{IsSound}
+use Rattle.crash_model.specs.Patches.{deps_of, image_of}
+use Rattle.crash_model.specs.Replay.{replayed}
+use Rattle.crash_model.specs.Trace.{Emitted, Part, Commit, Tracing, begun, traced}
+use Rattle.crash_model.specs.declared.names.Op.{Op}
+use Rattle.crash_model.specs.declared.patches.Patch.{Patch}
+use Rattle.crash_model.specs.declared.steps.Act.{Act}
+use Rattle.crash_model.specs.declared.steps.Act.TheVariants.{Do}
+use Rattle.crash_model.specs.declared.steps.Module.TheVariants.{Full}
+use Rattle.crash_model.specs.declared.steps.Step.{Step}
+use Rattle.full_journal.specs.Safe.{IsOutside}
+
+-- the operations of steps, in order
+abbrev pub ops_at : Act → List Op
+ops_at (Do op) = op ∷ []
+ops_at _ = []
+
+abbrev pub ops_of : List Step → List Op
+ops_of steps = flat_map (λ x. ops_at x.act) steps
+
+-- the disk after operations; a refused one changes nothing
+abbrev pub after_ops : Disk → List Op → Disk
+after_ops d [] = d
+after_ops d (op ∷ ops) = after_ops (result_applied d (plan_of d op)) ops
+
+abbrev pub is_commit : Part → Bool
+is_commit Commit = true
+is_commit _ = false
+
+-- how many commit patches a set has, of patches of which the first is `id`
+abbrev pub commits_from : ℕ → List Emitted → ℕ → ℕ
+commits_from id [] set = 0
+commits_from id (e ∷ es) set = (if is_commit e.part && has set id then 1 else 0) + commits_from (id + 1) es set
+
+-- what replay makes of the image of a set: outside the journal the base after the first k operations, k being how
+-- many commit patches the set has; a sound disk
+pub record IsRecovered (base : Disk) (steps : List Step) (s : Tracing) (patches : List Patch) (set : ℕ) : Type 0 where
+  pub same : (block : ℕ) → block < base.blocks → IsOutside base.journal block
+      → block_of (replayed (image_of base patches set)) block ≡ block_of (after_ops base (take (commits_from 0 s.emitted set) (ops_of steps))) block
+  pub sound : IsSound (replayed (image_of base patches set))
+
+-- the patches are those of the steps under the full journal, and replay recovers from every set that a crash can leave
+abbrev pub IsFullSafe : Disk → List Step → List Patch → Type 0
+IsFullSafe base steps patches =
+    (s : Tracing) × (traced Full (begun base) steps ≡ Ok s) × ((set : ℕ) → IsClosed (deps_of patches) set → IsRecovered base steps s patches set)

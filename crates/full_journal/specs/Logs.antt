@@ -1,0 +1,34 @@
+-- A trace under the full journal as a log.
+use Rattle.std.specs.Prelude.{◌≡◌, ℕ, ◌+◌, ◌<◌, List, [], ◌∷◌, ◌++◌, length, true, Option, Some, Ok, slice_get}
+use Rattle.crash_model.specs.Disk.{Disk, IsDisk}
+use Rattle.patch_sets.specs.Sets.{has}
+use Rattle.crash_model.specs.Sound.{IsSound}
+use Rattle.crash_model.specs.Plan.{plan_of, applied}
+use Rattle.crash_model.specs.Trace.{Emitted, journaled, touched, depends}
+use Rattle.crash_model.specs.declared.names.Op.{Op}
+use Rattle.crash_model.specs.declared.plans.Change.{Change}
+use Rattle.crash_model.specs.declared.steps.Module.TheVariants.{Full}
+
+-- the emitted patches of operations, each with its group
+abbrev pub log_emitted : ℕ → Disk → ℕ → ℕ → List (Option (List ℕ) × List Change) → List Emitted
+log_emitted n d t j [] = []
+log_emitted n d t j (o ∷ ops) =
+    journaled (applied d o.1) t j o.0 (touched n o.1) o.1
+    ++ log_emitted n (applied d o.1) (t + 1) (j + 1 + length (touched n o.1)) ops
+
+-- a set that has what its members depend on, by the list of patches
+abbrev pub IsClosedIn : List (List ℕ × List ℕ) → List Emitted → ℕ → Type 0
+IsClosedIn links emitted set = (q p : ℕ) (x y : Emitted) → slice_get emitted q ≡ Some x → slice_get emitted p ≡ Some y → p < q → depends Full links x y ≡ true → has set q ≡ true → has set p ≡ true
+
+-- a sound disk of n blocks, jl of them the journal's
+pub record IsGood (n jl : ℕ) (d : Disk) : Type 0 where
+  pub blocks : d.blocks ≡ n
+  pub journal : d.journal ≡ jl
+  pub disk : IsDisk d
+  pub sound : IsSound d
+
+-- these are the changes of the operations, one operation after another
+abbrev pub ArePlans : Disk → List Op → List (List Change) → Type 0
+ArePlans d [] [] = Unit {0}
+ArePlans d (op ∷ ops) (cs ∷ plans) = (plan_of d op ≡ Ok cs) × ArePlans (applied d cs) ops plans
+ArePlans d _ _ = ⊥
