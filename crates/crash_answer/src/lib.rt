@@ -9,10 +9,13 @@ use command_line::{Call, settings_of};
 use crash_model::refusals::RunFault;
 use crash_text::serve::serve;
 use devices::standard::Counted;
+use explorers::OpenGate;
 use std::alloc::{Allocator, Global};
 use std::fs::File;
 use std::io::{self, Read, Write};
 use std::rt::Files;
+use std::sync::Wait;
+use std::thread::Threads;
 
 /// The exit status of a refusal, and of a fault of the command line.
 const REFUSED: u8 = 2;
@@ -22,7 +25,7 @@ const REFUSED: u8 = 2;
 /// `words` stand without the program's name. It reads the script that they name, else `input`, writes the report to `out`,
 /// and a refusal, as one line, or a fault of the command line to `err`. A request for help is printed on `out`, with status 0.
 /// `heap` is what the command line and JSON take memory from, whose crates take no other, and `alloc` serves the rest.
-pub fn answer<'a, R: Files, A: Allocator + Copy, I: Read, O: Write, E: Write>(
+pub fn answer<'a, R, A, I, O, E>(
     rt: &R,
     heap: Global,
     alloc: A,
@@ -31,6 +34,12 @@ pub fn answer<'a, R: Files, A: Allocator + Copy, I: Read, O: Write, E: Write>(
     out: &mut O,
     err: &mut E,
 ) -> u8
+where
+    R: Files + Threads + Wait + Sync,
+    A: Allocator + Copy + Send + Sync,
+    I: Read,
+    O: Write,
+    E: Write,
     ensures { result ≤ 2 }
 {
     let call = match settings_of(heap, words) {
@@ -45,7 +54,7 @@ pub fn answer<'a, R: Files, A: Allocator + Copy, I: Read, O: Write, E: Write>(
 }
 
 /// Serves the script that the call names, else the input.
-fn serve_call<R: Files, A: Allocator + Copy, I: Read, O: Write>(
+fn serve_call<R, A, I, O>(
     rt: &R,
     heap: Global,
     alloc: A,
@@ -53,27 +62,43 @@ fn serve_call<R: Files, A: Allocator + Copy, I: Read, O: Write>(
     input: &mut I,
     out: &mut O,
 ) -> Result<usize, RunFault>
+where
+    R: Files + Threads + Wait + Sync,
+    A: Allocator + Copy + Send + Sync,
+    I: Read,
+    O: Write,
     requires { IsInRanges call.now }
 {
     let mut sink = Counted::new(out);
+    let (settings, workers) = (&call.settings, call.workers);
     match call.script {
         Some(name) => {
             let file = File::open(rt, name).map_err(open_fault)?;
+            let mut source = Counted::new(file);
             serve(
+                rt,
                 heap,
                 alloc,
-                &mut Counted::new(file),
+                &mut source,
                 &mut sink,
-                &call.settings,
+                settings,
+                workers,
+                &OpenGate,
             )
         }
-        None => serve(
-            heap,
-            alloc,
-            &mut Counted::new(input),
-            &mut sink,
-            &call.settings,
-        ),
+        None => {
+            let mut source = Counted::new(input);
+            serve(
+                rt,
+                heap,
+                alloc,
+                &mut source,
+                &mut sink,
+                settings,
+                workers,
+                &OpenGate,
+            )
+        }
     }
 }
 

@@ -9,21 +9,31 @@ ghost use Rattle.crash_model.specs.Failing.{IsFailing, CountsClosed, ExceedsLimi
 use crash_image::{PatchSpace, exploring_finds_the_failing_sets};
 use crash_model::refusals::RunFault;
 use disk_image::Image;
+use explorers::{ExploreFault, Explored, Gate, explore};
 use patch_graph::Graph;
-use plain_explorer::{ExploreFault, Explored, explore_plain};
 use std::alloc::Allocator;
+use std::sync::Wait;
+use std::thread::Threads;
 
 /// How many sets a crash can leave, at most the limit, and which of them fail, in canonical order.
 ///
 /// It refuses where they are more than the limit. The patches change blocks of the base, and their undo data are the bytes
 /// that they replace there.
-pub fn explored<A: Allocator + Copy>(
+pub fn explored<R, A, G>(
+    rt: &R,
     alloc: A,
     base: &Image<A>,
     graph: &Graph<A>,
     limit: usize,
+    workers: usize,
+    gate: &G,
 ) -> Result<Explored<A>, RunFault>
-    requires limit { 0 < limit }
+where
+    R: Threads + Wait + Sync,
+    A: Allocator + Copy + Send + Sync,
+    G: Gate + Sync,
+    requires limit { (1 ≤ limit) × (limit ≤ 32768) }
+    requires workers { (1 ≤ workers) × (workers ≤ 16) }
     requires fits { All (λ patch. patch.block < base.now.blocks) graph.now }
     requires undo { AreUndo base.now graph.now }
     ensures total { IfOk result (λ found. CountsClosed graph.now found.total) }
@@ -33,7 +43,7 @@ pub fn explored<A: Allocator + Copy>(
 {
     let space = PatchSpace::new(base, graph);
     exploring_finds_the_failing_sets(&space);
-    match explore_plain(alloc, &space, limit) {
+    match explore(rt, alloc, &space, limit, workers, gate) {
         Ok(found) => Ok(found),
         Err(ExploreFault::TooMany) => Err(RunFault::TooMany),
         Err(ExploreFault::OutOfMemory) => Err(RunFault::OutOfMemory),

@@ -11,13 +11,15 @@ use crate::explored::explored;
 use crash_model::refusals::RunFault;
 use crash_model::settings::Settings;
 use disk_image::{Image, ImageFault};
+use explorers::{Explored, Gate};
 use order_modules::{build_base, trace};
 use patch_graph::Graph;
-use plain_explorer::Explored;
 use report_json::report_json;
 use report_text::report_text;
 use script_text::{Script, read_script};
 use std::alloc::{AllocError, Allocator, Global};
+use std::sync::Wait;
+use std::thread::Threads;
 
 /// A report's text and the number of failing sets in it.
 #[derive(Drop)]
@@ -28,30 +30,47 @@ pub struct Outcome<A: Allocator> {
 
 /// Answers a script: reads it, builds the base, traces the rest, explores what a crash can leave, and reports.
 ///
-/// Every answer but want of memory is the one defined for the script's bytes and the settings. `heap` is what JSON is
-/// made with.
-pub fn run<A: Allocator + Copy>(
+/// For every number of workers, 1 to 16, and every schedule, an answer other than want of memory is the one defined for the
+/// script's bytes and the settings, without threads. `heap` is what JSON is made with. The gate is told of each claim of a
+/// worker.
+pub fn run<R, A, G>(
+    rt: &R,
     heap: Global,
     alloc: A,
     script: &[u8],
     settings: &Settings,
+    workers: usize,
+    gate: &G,
 ) -> Result<Outcome<A>, RunFault>
-    requires { (1 ≤ settings.now.limit) × (settings.now.limit ≤ 32768) }
+where
+    R: Threads + Wait + Sync,
+    A: Allocator + Copy + Send + Sync,
+    G: Gate + Sync,
+    requires limit { (1 ≤ settings.now.limit) × (settings.now.limit ≤ 32768) }
+    requires workers { (1 ≤ workers) × (workers ≤ 16) }
     ensures reported { IfOk result (λ outcome. IsAnswer script.now settings.now (Reported (string_bytes outcome.text) outcome.failing)) }
     ensures refused { IfErr result (λ fault. (fault ≢ RunFault.OutOfMemory) → IsAnswer script.now settings.now (Refused fault)) }
 {
     let script = read_script(alloc, script)?;
-    run_steps(heap, alloc, &script, settings)
+    run_steps(rt, heap, alloc, &script, settings, workers, gate)
 }
 
 /// Answers the steps of a script.
-fn run_steps<A: Allocator + Copy>(
+fn run_steps<R, A, G>(
+    rt: &R,
     heap: Global,
     alloc: A,
     script: &Script<A>,
     settings: &Settings,
+    workers: usize,
+    gate: &G,
 ) -> Result<Outcome<A>, RunFault>
-    requires { (1 ≤ settings.now.limit) × (settings.now.limit ≤ 32768) }
+where
+    R: Threads + Wait + Sync,
+    A: Allocator + Copy + Send + Sync,
+    G: Gate + Sync,
+    requires limit { (1 ≤ settings.now.limit) × (settings.now.limit ≤ 32768) }
+    requires workers { (1 ≤ workers) × (workers ≤ 16) }
     ensures reported { IfOk result (λ outcome. IsStepsAnswer settings.now script.now.base.items script.now.traced.items (Reported (string_bytes outcome.text) outcome.failing)) }
     ensures refused { IfErr result (λ fault. (fault ≢ RunFault.OutOfMemory) → IsStepsAnswer settings.now script.now.base.items script.now.traced.items (Refused fault)) }
 {
@@ -62,24 +81,32 @@ fn run_steps<A: Allocator + Copy>(
     };
     build_base(&mut base, &script.base)?;
     let graph = trace(alloc, &base, &script.traced, settings.module)?;
-    report_on(heap, alloc, &base, &graph, settings)
+    report_on(rt, heap, alloc, &base, &graph, settings, workers, gate)
 }
 
 /// Explores and reports what a crash can leave of a graph over its base.
-fn report_on<A: Allocator + Copy>(
+fn report_on<R, A, G>(
+    rt: &R,
     heap: Global,
     alloc: A,
     base: &Image<A>,
     graph: &Graph<A>,
     settings: &Settings,
+    workers: usize,
+    gate: &G,
 ) -> Result<Outcome<A>, RunFault>
-    requires limit { 1 ≤ settings.now.limit }
+where
+    R: Threads + Wait + Sync,
+    A: Allocator + Copy + Send + Sync,
+    G: Gate + Sync,
+    requires limit { (1 ≤ settings.now.limit) × (settings.now.limit ≤ 32768) }
+    requires workers { (1 ≤ workers) × (workers ≤ 16) }
     requires fits { All (λ patch. patch.block < base.now.blocks) graph.now }
     requires undo { AreUndo base.now graph.now }
     ensures reported { IfOk result (λ outcome. IsGraphAnswer settings.now base.now graph.now (Reported (string_bytes outcome.text) outcome.failing)) }
     ensures refused { IfErr result (λ fault. (fault ≢ RunFault.OutOfMemory) → IsGraphAnswer settings.now base.now graph.now (Refused fault)) }
 {
-    let found = explored(alloc, base, graph, settings.limit)?;
+    let found = explored(rt, alloc, base, graph, settings.limit, workers, gate)?;
     let text = report_of(heap, alloc, base, graph, settings, &found)?;
     Ok(Outcome {
         text,

@@ -10,20 +10,33 @@ use crash_model::refusals::RunFault;
 use crash_model::settings::Settings;
 use devices::sink::{Sink, write_all};
 use devices::source::{MAX_SCRIPT_BYTES, Source, read_to_end};
+use explorers::Gate;
 use std::alloc::{Allocator, Global};
+use std::sync::Wait;
+use std::thread::Threads;
 
 /// Reads a script from a source, answers it, and writes the report to a sink. It gives the number of failing sets.
 ///
 /// The answer is that of `run`. A script that cannot be read or is too long is refused before it is run, and nothing is
 /// written before the report is whole. After a refusal the sink has taken nothing, unless the sink itself failed, which
 /// then has a beginning of the report.
-pub fn serve<A: Allocator + Copy, S: Source, K: Sink>(
+pub fn serve<R, A, S, K, G>(
+    rt: &R,
     heap: Global,
     alloc: A,
     source: &mut S,
     sink: &mut K,
     settings: &Settings,
+    workers: usize,
+    gate: &G,
 ) -> Result<usize, RunFault>
+where
+    R: Threads + Wait + Sync,
+    A: Allocator + Copy + Send + Sync,
+    S: Source,
+    K: Sink,
+    G: Gate + Sync,
+    requires workers { (1 ≤ workers) × (workers ≤ 16) }
     requires limit { (1 ≤ settings.now.limit) × (settings.now.limit ≤ 32768) }
     requires source { S.failures source.old < 2 ^ 64 - 1 }
     requires sink { K.failures sink.old < 2 ^ 64 - 1 }
@@ -38,7 +51,7 @@ pub fn serve<A: Allocator + Copy, S: Source, K: Sink>(
     ensures gone { (bytes : List ℕ) × Consumes (S.coming source.old) (S.coming source.new) bytes }
 {
     let script = read_to_end(alloc, source)?;
-    let outcome = run(heap, alloc, script.as_slice(), settings)?;
+    let outcome = run(rt, heap, alloc, script.as_slice(), settings, workers, gate)?;
     match write_all(sink, outcome.text.as_bytes()) {
         Ok(()) => Ok(outcome.failing),
         Err(_) => Err(RunFault::CannotWrite),

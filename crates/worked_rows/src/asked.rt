@@ -3,10 +3,12 @@
 use crash_answer::answer;
 use std::process::Abort;
 use std::rt::Files;
+use std::sync::Wait;
 use std::test::Fail;
+use std::thread::Threads;
 
 /// The program's answer to these words and this script is exactly this.
-pub fn exactly<R: Files + Abort + AllocGlobal>(
+pub fn exactly<R: Files + Abort + AllocGlobal + Threads + Wait + Sync>(
     rt: &R,
     words: &[&str],
     script: &[u8],
@@ -26,7 +28,7 @@ pub fn exactly<R: Files + Abort + AllocGlobal>(
 }
 
 /// The program reports, and its report begins so.
-pub fn begins<R: Files + Abort + AllocGlobal>(
+pub fn begins<R: Files + Abort + AllocGlobal + Threads + Wait + Sync>(
     rt: &R,
     words: &[&str],
     script: &[u8],
@@ -45,7 +47,7 @@ pub fn begins<R: Files + Abort + AllocGlobal>(
 }
 
 /// The program reports, and these lines stand in its report.
-pub fn shows<R: Files + Abort + AllocGlobal>(
+pub fn shows<R: Files + Abort + AllocGlobal + Threads + Wait + Sync>(
     rt: &R,
     words: &[&str],
     script: &[u8],
@@ -68,7 +70,7 @@ pub fn shows<R: Files + Abort + AllocGlobal>(
 }
 
 /// The program refuses so, and writes no report.
-pub fn refused<R: Files + Abort + AllocGlobal>(
+pub fn refused<R: Files + Abort + AllocGlobal + Threads + Wait + Sync>(
     rt: &R,
     words: &[&str],
     script: &[u8],

@@ -11,6 +11,7 @@ use crash_text::serve::serve;
 use devices::memory::Taken;
 use devices::sink::Sink;
 use devices::source::{DeviceFault, MAX_SCRIPT_BYTES, Source};
+use explorers::OpenGate;
 use std::alloc::Allocator;
 use std::test::Fail;
 
@@ -102,7 +103,18 @@ fn bytes_come_and_go_one_by_one(rt: HostRuntime) -> Result<(), Fail> {
         fails_finish: false,
         failures: 0,
     };
-    assert!(rt; serve(heap, heap, &mut source, &mut sink, &SETTINGS) == Ok(1));
+    assert!(rt;
+        serve(
+            &rt,
+            heap,
+            heap,
+            &mut source,
+            &mut sink,
+            &SETTINGS,
+            1,
+            &OpenGate
+        ) == Ok(1)
+    );
     assert!(rt; sink.bytes.as_slice() == REPORT.as_bytes());
     Ok(())
 }
@@ -121,7 +133,16 @@ fn a_failed_read_leaves_the_sink_empty(rt: HostRuntime) -> Result<(), Fail> {
             bytes: Vec::new(heap),
             failures: 0,
         };
-        let got = serve(heap, heap, &mut source, &mut sink, &SETTINGS);
+        let got = serve(
+            &rt,
+            heap,
+            heap,
+            &mut source,
+            &mut sink,
+            &SETTINGS,
+            1,
+            &OpenGate,
+        );
         assert!(rt; got == Err(RunFault::CannotRead) && source.failures == 1);
         assert!(rt; sink.bytes.is_empty());
     }
@@ -138,7 +159,16 @@ fn a_failed_write_leaves_a_beginning(rt: HostRuntime) -> Result<(), Fail> {
         fails_finish: false,
         failures: 0,
     };
-    let got = serve(heap, heap, &mut source, &mut sink, &SETTINGS);
+    let got = serve(
+        &rt,
+        heap,
+        heap,
+        &mut source,
+        &mut sink,
+        &SETTINGS,
+        1,
+        &OpenGate,
+    );
     assert!(rt; got == Err(RunFault::CannotWrite) && sink.failures == 1);
     assert!(rt; sink.bytes.as_slice() == b"module ".as_slice());
     Ok(())
@@ -154,7 +184,16 @@ fn a_failed_finish_leaves_the_whole_report(rt: HostRuntime) -> Result<(), Fail> 
         fails_finish: true,
         failures: 0,
     };
-    let got = serve(heap, heap, &mut source, &mut sink, &SETTINGS);
+    let got = serve(
+        &rt,
+        heap,
+        heap,
+        &mut source,
+        &mut sink,
+        &SETTINGS,
+        1,
+        &OpenGate,
+    );
     assert!(rt; got == Err(RunFault::CannotWrite) && sink.failures == 1);
     assert!(rt; sink.bytes.as_slice() == REPORT.as_bytes());
     Ok(())

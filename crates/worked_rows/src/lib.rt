@@ -15,3 +15,5 @@ mod orderings;
 mod refusals;
 #[cfg(test)]
 mod reports;
+#[cfg(test)]
+mod workers;
