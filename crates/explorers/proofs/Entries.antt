@@ -1,12 +1,11 @@
 -- The broken entries of a closed board, and the number of its entries.
-use Rattle.std.proofs.Common.{◌≡◌, ◌≢◌, ℕ, zero, suc, ◌+◌, ◌*◌, ◌%◌, ◌<◌, ◌≤◌, List, [], ◌∷◌, ◌++◌, length, get_or, take, arith, length-append, refl, sym, ap, ◌∙◌, subst, inl, inr, ⊎_elim}
-use Rattle.std.specs.Prelude.{◌↔◌}
-use Rattle.std.specs.List.{All, AllPairs, Contains, concat}
+use Rattle.std.proofs.Common.{◌≡◌, ◌≢◌, ℕ, zero, suc, ◌+◌, ◌*◌, ◌%◌, ◌<◌, ◌≤◌, List, [], ◌∷◌, ◌++◌, length, get_or, take, arith, length-append, refl, sym, ap, ◌∙◌, subst, ⊎_elim}
+use Rattle.std.specs.List.{Contains, concat}
 use Rattle.std.proofs.lemmas.List.Elements.{All-contains, All-weaker, Contains-append_left, Contains-push}
 use mathlib.Core.Logic.{dite}
 use native.Mathlib.Decide.{dec_le}
 use Rattle.state_space.specs.Reach.{IsReached}
-use Rattle.state_space.specs.Counts.{IsSome, IsListOf}
+use Rattle.state_space.specs.Counts.{IsListOf}
 use Rattle.board_rule.specs.Lists.{row_of}
 use Rattle.board_rule.specs.declared.life.Life.TheVariants.{Broken}
 use Rattle.plain_explorer.proofs.Successors.{some_push}

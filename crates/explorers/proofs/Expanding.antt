@@ -1,12 +1,11 @@
 -- A seat while it expands the entry that it has claimed.
-use Rattle.std.proofs.Common.{◌≡◌, ◌≢◌, ℕ, ◌+◌, ◌*◌, ◌/◌, ◌%◌, ◌<◌, ◌≤◌, List, ◌∷◌, [], ◌++◌, length, get_or, refl, ap, sym, ◌∙◌, subst, arith, below_more}
+use Rattle.std.proofs.Common.{◌≡◌, ◌≢◌, ℕ, ◌+◌, ◌/◌, ◌%◌, ◌<◌, List, length, get_or, refl, ap, sym, ◌∙◌, subst, arith, below_more}
 use Rattle.std.specs.List.{Contains}
 use Rattle.std.proofs.lemmas.List.{get_or_default}
-use Rattle.board_rule.specs.Layout.{place_of}
 use Rattle.board_rule.specs.Lists.{row_of, Has}
 use Rattle.board_rule.proofs.Sums.{starts-length, starts-at}
 use Rattle.seen_board.specs.Known.{Shown, Known}
-use Rattle.seen_board.specs.Clauses.{IsOf, SeesOn, HasClaim, HasPlace, word_at, Names, number}
+use Rattle.seen_board.specs.Clauses.{IsOf, SeesOn, HasClaim, HasPlace, word_at, Names}
 use Rattle.seen_board.specs.Inserts.{IsSuccessor, PutOk}
 use Rattle.seen_board.specs.declared.answers.Place.{Place}
 use Rattle.seen_board.specs.declared.answers.Put.{Put}

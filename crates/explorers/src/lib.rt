@@ -8,6 +8,8 @@ mod answers;
 mod collected;
 mod exploring;
 mod gate;
+#[cfg(test)]
+mod tests;
 mod worker;
 
 pub use exploring::explore;

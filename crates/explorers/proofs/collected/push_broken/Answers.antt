@@ -4,7 +4,7 @@ use Rattle.board_rule.specs.Lists.{row_of}
 use Rattle.board_rule.specs.declared.life.Life.TheVariants.{Broken}
 use Rattle.seen_board.specs.Ended.{life_of_entry}
 use Rattle.explorers.specs.Entries.{IsBrokenBefore}
-use Rattle.explorers.proofs.Entries.{broken_push, other_stays, row_done}
+use Rattle.explorers.proofs.Entries.{broken_push, other_stays}
 use Rattle.explorers.proofs.collected.push_broken.Goals as goal
 use Rattle.explorers.proofs.collected.push_broken.Goals.{in-Broken+in_ok-push, in_default}
 

@@ -1,4 +1,4 @@
-use Rattle.std.proofs.Common.{◌≡◌, ◌≤◌, length}
+use Rattle.std.proofs.Common.{◌≡◌, length}
 use Rattle.state_space.specs.Counts.{IsListOf}
 use Rattle.board_rule.specs.Lists.{row_of}
 use Rattle.explorers.specs.Entries.{IsBrokenBefore}

@@ -1,8 +1,6 @@
-use Rattle.std.proofs.Common.{rules, arith, refl, ap, sym, subst, ◌∙◌, ◌≡◌, ◌<◌, ◌≤◌, ℕ, length, get_or}
+use Rattle.std.proofs.Common.{arith, subst, ◌≡◌}
 use Rattle.seen_board.specs.Known.{Known}
 use Rattle.seen_board.specs.Clauses.{HasPlace, word_at, SeesOn}
-use Rattle.seen_board.specs.declared.answers.Put.TheVariants.{Over}
-use Rattle.seen_board.proofs.Chains.{sees_on_refl}
 use Rattle.explorers.proofs.Expanding.{place_on, expands_put, expands_over, expands_successor, expands_all}
 use Rattle.explorers.proofs.worker.expand.Goals as goal
 

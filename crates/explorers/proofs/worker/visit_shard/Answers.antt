@@ -1,4 +1,4 @@
-use Rattle.std.proofs.Common.{arith, ◌<◌}
+use Rattle.std.proofs.Common.{arith}
 use Rattle.board_rule.specs.Lists.{row_of}
 use Rattle.board_rule.proofs.Sums.{starts-length}
 use Rattle.explorers.proofs.worker.visit_shard.Goals as goal
