@@ -4,6 +4,7 @@ ghost use Rattle.std.specs.Prelude.{◌≡◌, ◌≢◌, ℕ, ◌<◌, ◌≤�
 ghost use Rattle.std.specs.List.{All};
 ghost use Rattle.patch_sets.specs.Sets.{Has};
 ghost use Rattle.crash_model.specs.Patches.{AreUndo};
+ghost use Rattle.crash_model.specs.declared.steps.Module.TheVariants.{Full};
 ghost use Rattle.crash_model.specs.Report.{Section, AreSections, report};
 ghost use Rattle.crash_model.specs.Answer.{IsAnswer, IsStepsAnswer, IsGraphAnswer, Reported, Refused};
 
@@ -28,8 +29,8 @@ pub struct Outcome<A: Allocator> {
 
 /// Answers a script: reads it, builds the base, traces the rest, explores what a crash can leave, and reports.
 ///
-/// Every answer but want of memory is the one defined for the script's bytes and the settings. `heap` is what JSON is
-/// made with.
+/// Every answer but want of memory is the one defined for the script's bytes and the settings. Under the full journal
+/// no set fails, whatever the script. `heap` is what JSON is made with.
 pub fn run<A: Allocator + Copy>(
     heap: Global,
     alloc: A,
@@ -39,6 +40,7 @@ pub fn run<A: Allocator + Copy>(
     requires { (1 ≤ settings.now.limit) × (settings.now.limit ≤ 32768) }
     ensures reported { IfOk result (λ outcome. IsAnswer script.now settings.now (Reported (string_bytes outcome.text) outcome.failing)) }
     ensures refused { IfErr result (λ fault. (fault ≢ RunFault.OutOfMemory) → IsAnswer script.now settings.now (Refused fault)) }
+    ensures full { settings.now.module ≡ Full → IfOk result (λ outcome. outcome.failing ≡ 0) }
 {
     let script = read_script(alloc, script)?;
     run_steps(heap, alloc, &script, settings)
@@ -54,6 +56,7 @@ fn run_steps<A: Allocator + Copy>(
     requires { (1 ≤ settings.now.limit) × (settings.now.limit ≤ 32768) }
     ensures reported { IfOk result (λ outcome. IsStepsAnswer settings.now script.now.base.items script.now.traced.items (Reported (string_bytes outcome.text) outcome.failing)) }
     ensures refused { IfErr result (λ fault. (fault ≢ RunFault.OutOfMemory) → IsStepsAnswer settings.now script.now.base.items script.now.traced.items (Refused fault)) }
+    ensures full { settings.now.module ≡ Full → IfOk result (λ outcome. outcome.failing ≡ 0) }
 {
     let mut base = match Image::formatted(alloc, settings.blocks, settings.journal) {
         Ok(base) => base,
