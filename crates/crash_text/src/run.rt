@@ -4,6 +4,7 @@ ghost use Rattle.std.specs.Prelude.{◌≡◌, ◌≢◌, ℕ, ◌<◌, ◌≤�
 ghost use Rattle.std.specs.List.{All};
 ghost use Rattle.patch_sets.specs.Sets.{Has};
 ghost use Rattle.crash_model.specs.Patches.{AreUndo};
+ghost use Rattle.crash_model.specs.declared.steps.Module.TheVariants.{Full};
 ghost use Rattle.crash_model.specs.Report.{Section, AreSections, report};
 ghost use Rattle.crash_model.specs.Answer.{IsAnswer, IsStepsAnswer, IsGraphAnswer, Reported, Refused};
 
@@ -32,7 +33,7 @@ pub struct Outcome<A: Allocator> {
 ///
 /// For every number of workers, 1 to 16, and every schedule, an answer other than want of memory is the one defined for the
 /// script's bytes and the settings, without threads. `heap` is what JSON is made with. The gate is told of each claim of a
-/// worker.
+/// worker. Under the full journal no set fails, whatever the script.
 pub fn run<R, A, G>(
     rt: &R,
     heap: Global,
@@ -50,6 +51,7 @@ where
     requires workers { (1 ≤ workers) × (workers ≤ 16) }
     ensures reported { IfOk result (λ outcome. IsAnswer script.now settings.now (Reported (string_bytes outcome.text) outcome.failing)) }
     ensures refused { IfErr result (λ fault. (fault ≢ RunFault.OutOfMemory) → IsAnswer script.now settings.now (Refused fault)) }
+    ensures full { settings.now.module ≡ Full → IfOk result (λ outcome. outcome.failing ≡ 0) }
 {
     let script = read_script(alloc, script)?;
     run_steps(rt, heap, alloc, &script, settings, workers, gate)
@@ -73,6 +75,7 @@ where
     requires workers { (1 ≤ workers) × (workers ≤ 16) }
     ensures reported { IfOk result (λ outcome. IsStepsAnswer settings.now script.now.base.items script.now.traced.items (Reported (string_bytes outcome.text) outcome.failing)) }
     ensures refused { IfErr result (λ fault. (fault ≢ RunFault.OutOfMemory) → IsStepsAnswer settings.now script.now.base.items script.now.traced.items (Refused fault)) }
+    ensures full { settings.now.module ≡ Full → IfOk result (λ outcome. outcome.failing ≡ 0) }
 {
     let mut base = match Image::formatted(alloc, settings.blocks, settings.journal) {
         Ok(base) => base,

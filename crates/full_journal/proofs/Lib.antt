@@ -7,3 +7,4 @@ pub mod Plans
 pub mod Traces
 pub mod Outside
 pub mod Final
+pub mod Failing

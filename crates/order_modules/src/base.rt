@@ -23,7 +23,7 @@ pub fn build_base<A: Allocator + Copy>(
     ensures built { OnOk result (based image.old steps.now ≡ Ok image.new) }
     ensures refused { IfErr result (λ fault. based image.old steps.now ≡ Err fault) }
     ensures before { image.new ≡ disk_before_refusal image.old steps.now }
-    ensures journal { HasSameJournal image.old image.new }
+    ensures journal { (image.new.journal ≡ image.old.journal) × HasSameJournal image.old image.new }
     ensures sound { IsSound image.old → IsSound image.new }
 {
     for step in steps {
