@@ -1,5 +1,6 @@
 -- Who published what, after a step.
-use Rattle.std.proofs.Common.{◌≡◌, ℕ, ◌+◌, ◌/◌, ◌%◌, ◌<◌, ◌≤◌, List, [], ◌∷◌, ◌++◌, length, set, cond, ap, sym, ◌∙◌, subst, arith, eqb, eq-eqb, ne_eqb, lt-ltb, le-ltb, length-append, get_or-set_other, get_or-set_same}
+use Rattle.std.proofs.Common.{◌≡◌, ℕ, ◌+◌, ◌/◌, ◌%◌, ◌<◌, ◌≤◌, List, [], ◌∷◌, ◌++◌, length, get_or, set, cond, refl, ap, sym, ◌∙◌, subst, arith, eqb, eq-eqb, ne_eqb, lt-ltb, le-ltb, length-append, get_or-set_other, get_or-set_same}
+use Rattle.std.specs.List.{Contains}
 use mathlib.Core.Logic.{dite}
 use native.Mathlib.Decide.{ℕ_discrete, dec_le}
 use mathlib.Core.Option.{some}
@@ -8,7 +9,7 @@ use Rattle.board_rule.specs.Layout.{place_of}
 use Rattle.board_rule.specs.Lists.{row_of, total}
 use Rattle.board_rule.specs.Rule.{times, published, AddedOk}
 use Rattle.board_rule.specs.declared.view.View.{View}
-use Rattle.board_rule.proofs.Sums.{total-set, total-append, term_le}
+use Rattle.board_rule.proofs.Sums.{total-set, total-append, total_term, term_le}
 
 pub published_yes : (rows : List (List ℕ)) (p : ℕ) → p / 13 < length (row_of rows (p % 13)) → published rows p ≡ 1
 published_yes rows p h = ap {B = ℕ} (λ b. cond b 1 0) (lt-ltb (p / 13) (length (row_of rows (p % 13))) h)
@@ -46,3 +47,10 @@ added_grow rows views i q x v w near all o me more p = let row = row_of rows q i
 -- what a seat has published is there
 pub added_there : (rows : List (List ℕ)) (views : List View) (i p : ℕ) (v : View) → AddedOk rows views → get_elem? views i ≡ some v → 1 ≤ times p v → p / 13 < length (row_of rows (p % 13))
 added_there rows views i p v o me has = is_published rows p (omega (arith, o p, term_le (times p) views i v me, has))
+
+-- a place that a seat has published is counted for it
+pub times_in : (v : View) (k d : ℕ) → k < length v.rows.added → 1 ≤ times (get_or v.rows.added k d) v
+times_in v k d h = let p = get_or v.rows.added k d in let one : cond (eqb p p) 1 0 ≡ 1 = ap {B = ℕ} (λ b. cond b 1 0) (eq-eqb p p refl) in omega (arith, one, total_term (λ x. cond (eqb x p) 1 0) v.rows.added k d h)
+
+pub times_of : (v : View) (p : ℕ) → Contains v.rows.added p → 1 ≤ times p v
+times_of v p has = subst (λ (x : ℕ). 1 ≤ times x v) has.2 (times_in v has.0 p has.1)

@@ -1,13 +1,14 @@
 -- Bounds on the sums, and how many words the rows show to be reached.
 use Rattle.std.proofs.Common.{◌≡◌, ◌≢◌, ℕ, zero, suc, ◌+◌, ◌-◌, ◌*◌, ◌%◌, ◌<◌, ◌≤◌, Bool, true, false, List, [], ◌∷◌, ◌++◌, length, get_or, cond, eq-eqb, sym, refl, ap, ◌∙◌, subst, arith, length-append, ltb, suc-mul}
 use Rattle.std.proofs.lemmas.List.{get_or_default, get_or_append_left, get_or-append-add}
-use Rattle.std.proofs.lemmas.List.Elements.{All-from_get_or}
+use Rattle.std.proofs.lemmas.List.Elements.{All-from_get_or, Contains-append_left, Contains-append_right, Contains-get_or}
+use Rattle.std.specs.List.{Contains, concat}
 use mathlib.Core.Logic.{dite}
 use native.Mathlib.Decide.{ℕ_discrete, dec_le}
 use mathlib.Core.Option.{some}
 use lib.ListN.{get_elem?}
 use Rattle.state_space.specs.Reach.{IsReached}
-use Rattle.state_space.specs.Counts.{Outnumbers}
+use Rattle.state_space.specs.Counts.{IsSome, Outnumbers}
 use Rattle.board_rule.specs.Layout.{writer}
 use Rattle.board_rule.specs.Lists.{row_of, total}
 use Rattle.board_rule.specs.Lives.{unsettled, settled}
@@ -75,52 +76,57 @@ append_cases xs ys G left right k h = dite (dec_le (suc k) (length xs))
     (λ n. let d : ℕ = k - length xs in let e : length xs + d ≡ k = omega (arith, n) in subst (λ (y : ℕ). G y (get_or (xs ++ ys) y 0)) e
     (subst (G (length xs + d)) (sym (get_or-append-add xs ys d 0)) (right d (omega (arith, h, n, length-append xs ys)))))
 
-abbrev pub flat : List (List ℕ) → List ℕ
-flat [] = []
-flat (r ∷ rows) = r ++ flat rows
-
-flat_length : (rows : List (List ℕ)) → length (flat rows) ≡ total length rows
+flat_length : (rows : List (List ℕ)) → length (concat rows) ≡ total length rows
 flat_length [] = refl
-flat_length (r ∷ rows) = omega (arith, length-append r (flat rows), flat_length rows)
+flat_length (r ∷ rows) = omega (arith, length-append r (concat rows), flat_length rows)
 
-flat_each : (P : ℕ → Type 0) (rows : List (List ℕ)) → ((q k : ℕ) → q < length rows → k < length (row_of rows q) → P (get_or (row_of rows q) k 0)) → (j : ℕ) → j < length (flat rows) → P (get_or (flat rows) j 0)
+flat_each : (P : ℕ → Type 0) (rows : List (List ℕ)) → ((q k : ℕ) → q < length rows → k < length (row_of rows q) → P (get_or (row_of rows q) k 0)) → (j : ℕ) → j < length (concat rows) → P (get_or (concat rows) j 0)
 flat_each P [] h = λ j b. absurd (omega (arith, b))
-flat_each P (r ∷ rows) h = append_cases r (flat rows) (λ k x. P x) (λ k b. h zero k (omega arith) b) (flat_each P rows (λ q k b c. h (suc q) k (omega (arith, b)) c))
+flat_each P (r ∷ rows) h = append_cases r (concat rows) (λ k x. P x) (λ k b. h zero k (omega arith) b) (flat_each P rows (λ q k b c. h (suc q) k (omega (arith, b)) c))
 
 abbrev Distinct : List ℕ → Type 0
 Distinct xs = (j k : ℕ) → j < length xs → k < length xs → get_or xs j 0 ≡ get_or xs k 0 → j ≡ k
 
-flat_apart : (b : ℕ) (rows : List (List ℕ)) → ((q : ℕ) → q < length rows → Distinct (row_of rows q)) → ((q k : ℕ) → q < length rows → k < length (row_of rows q) → get_or (row_of rows q) k 0 % 13 ≡ b + q) → Distinct (flat rows)
+flat_apart : (b : ℕ) (rows : List (List ℕ)) → ((q : ℕ) → q < length rows → Distinct (row_of rows q)) → ((q k : ℕ) → q < length rows → k < length (row_of rows q) → get_or (row_of rows q) k 0 % 13 ≡ b + q) → Distinct (concat rows)
 flat_apart b [] d h j k bj bk = absurd (omega (arith, bj))
 flat_apart b (r ∷ rows) d h j k bj bk =
-    let later : (i : ℕ) → i < length (flat rows) → b < get_or (flat rows) i 0 % 13 = flat_each (λ x. b < x % 13) rows (λ q i c e. omega (arith, h (suc q) i (omega (arith, c)) e)) in
+    let later : (i : ℕ) → i < length (concat rows) → b < get_or (concat rows) i 0 % 13 = flat_each (λ x. b < x % 13) rows (λ q i c e. omega (arith, h (suc q) i (omega (arith, c)) e)) in
     let rest = flat_apart (b + 1) rows (λ q c. d (suc q) (omega (arith, c))) (λ q i c e. omega (arith, h (suc q) i (omega (arith, c)) e)) in
-    append_cases r (flat rows) (λ j y. y ≡ get_or (r ++ flat rows) k 0 → j ≡ k)
-    (λ j c. append_cases r (flat rows) (λ k z. get_or r j 0 ≡ z → j ≡ k) (λ k e same. d zero (omega arith) j k c e same) (λ k e same. absurd (omega (arith, h zero j (omega arith) c, later k e, ap (λ (x : ℕ). x % 13) same))) k bk)
-    (λ j c. append_cases r (flat rows) (λ k z. get_or (flat rows) j 0 ≡ z → length r + j ≡ k) (λ k e same. absurd (omega (arith, h zero k (omega arith) e, later j c, ap (λ (x : ℕ). x % 13) same))) (λ k e same. ap (λ (x : ℕ). length r + x) (rest j k c e same)) k bk)
+    append_cases r (concat rows) (λ j y. y ≡ get_or (r ++ concat rows) k 0 → j ≡ k)
+    (λ j c. append_cases r (concat rows) (λ k z. get_or r j 0 ≡ z → j ≡ k) (λ k e same. d zero (omega arith) j k c e same) (λ k e same. absurd (omega (arith, h zero j (omega arith) c, later k e, ap (λ (x : ℕ). x % 13) same))) k bk)
+    (λ j c. append_cases r (concat rows) (λ k z. get_or (concat rows) j 0 ≡ z → length r + j ≡ k) (λ k e same. absurd (omega (arith, h zero k (omega arith) e, later j c, ap (λ (x : ℕ). x % 13) same))) (λ k e same. ap (λ (x : ℕ). length r + x) (rest j k c e same)) k bk)
     j bj
 
--- distinct words with P, of which there are more than the limit
-outnumber : (P : ℕ → Type 0) (limit : ℕ) (xs : List ℕ) → Distinct xs → ((k : ℕ) → k < length xs → P (get_or xs k 0)) → limit < length xs → Outnumbers P limit
-outnumber P limit xs apart each more = (
-  xs,
-  record { distinct = λ i j d below inside same. omega (arith, below, apart i j (omega (arith, below, inside)) inside (get_or_default xs i 0 d (omega (arith, below, inside)) ∙ same ∙ get_or_default xs j d 0 inside)); each = All-from_get_or P xs 0 each },
-  more,
-)
+-- distinct words with P
+some_words : (P : ℕ → Type 0) (xs : List ℕ) → Distinct xs → ((k : ℕ) → k < length xs → P (get_or xs k 0)) → IsSome P xs
+some_words P xs apart each = record {
+  distinct = λ i j d below inside same. omega (arith, below, apart i j (omega (arith, below, inside)) inside (get_or_default xs i 0 d (omega (arith, below, inside)) ∙ same ∙ get_or_default xs j d 0 inside));
+  each = All-from_get_or P xs 0 each;
+}
 
--- the entries of all shards are distinct reached words
-pub more_entries : (t : Told) (rows : List (List ℕ)) (words : List ℕ) → RowsOk t rows words → t.limit < total length rows → Outnumbers (IsReached t.next t.origin) t.limit
-more_entries t rows words o h = outnumber (IsReached t.next t.origin) t.limit (flat rows)
+-- the entries of all shards
+pub flat_entries : (t : Told) (rows : List (List ℕ)) (words : List ℕ) → RowsOk t rows words → IsSome (IsReached t.next t.origin) (concat rows)
+flat_entries t rows words o = some_words (IsReached t.next t.origin) (concat rows)
     (flat_apart 0 rows (λ q b j k. o.apart q j k (omega (arith, b, o.all)))
     (λ q k b c. o.at_home q k (omega (arith, b, o.all)) c ∙ (let z : q ≡ 0 + q = omega arith in z)))
     (flat_each (IsReached t.next t.origin) rows (λ q k b c. o.reached q k (omega (arith, b, o.all)) c))
-    (omega (arith, h, flat_length rows))
+
+pub flat_has : (rows : List (List ℕ)) (q j x : ℕ) → q < length rows → j < length (row_of rows q) → get_or (row_of rows q) j 0 ≡ x → Contains (concat rows) x
+flat_has [] q j x h b e = absurd (omega (arith, h))
+flat_has (r ∷ rows) zero j x h b e = Contains-append_left r (concat rows) x (subst (Contains r) e (Contains-get_or r j 0 b))
+flat_has (r ∷ rows) (suc q) j x h b e = Contains-append_right r (concat rows) x (flat_has rows q j x (omega (arith, h)) b e)
+
+pub more_entries : (t : Told) (rows : List (List ℕ)) (words : List ℕ) → RowsOk t rows words → t.limit < total length rows → Outnumbers (IsReached t.next t.origin) t.limit
+more_entries t rows words o h = (concat rows, flat_entries t rows words o, omega (arith, h, flat_length rows))
 
 -- a full row and a reached word that it lacks
 pub full_row : (t : Told) (rows : List (List ℕ)) (words : List ℕ) (q x : ℕ) → RowsOk t rows words → q < 13 → t.limit ≤ length (row_of rows q) → IsReached t.next t.origin x → ((k : ℕ) → k < length (row_of rows q) → get_or (row_of rows q) k 0 ≢ x) → Outnumbers (IsReached t.next t.origin) t.limit
-full_row t rows words q x o near full right absent = let row = row_of rows q in outnumber (IsReached t.next t.origin) t.limit (row ++ x ∷ [])
-    (λ j k bj bk. snoc_cases row x (λ j y. y ≡ get_or (row ++ x ∷ []) k 0 → j ≡ k)
-    (λ j b. snoc_cases row x (λ k z. get_or row j 0 ≡ z → j ≡ k) (λ k c e. o.apart q j k near b c e) (λ e. absurd (absent j b e)) k bk)
-    (snoc_cases row x (λ k z. x ≡ z → length row ≡ k) (λ k c e. absurd (absent k c (sym e))) (λ e. refl) k bk) j bj)
-    (snoc_cases row x (λ k y. IsReached t.next t.origin y) (λ k b. o.reached q k near b) right)
-    (omega (arith, full, length-append row (x ∷ [])))
+full_row t rows words q x o near full right absent = let row = row_of rows q in (
+  row ++ x ∷ [],
+  some_words (IsReached t.next t.origin) (row ++ x ∷ [])
+      (λ j k bj bk. snoc_cases row x (λ j y. y ≡ get_or (row ++ x ∷ []) k 0 → j ≡ k)
+      (λ j b. snoc_cases row x (λ k z. get_or row j 0 ≡ z → j ≡ k) (λ k c e. o.apart q j k near b c e) (λ e. absurd (absent j b e)) k bk)
+      (snoc_cases row x (λ k z. x ≡ z → length row ≡ k) (λ k c e. absurd (absent k c (sym e))) (λ e. refl) k bk) j bj)
+      (snoc_cases row x (λ k y. IsReached t.next t.origin y) (λ k b. o.reached q k near b) right),
+  omega (arith, full, length-append row (x ∷ [])),
+)

@@ -3,6 +3,7 @@ use Rattle.std.proofs.Common.{◌≡◌, ℕ, zero, suc, ◌<◌, ◌⊎◌, inl
 use Rattle.std.specs.Prelude.{option_to_list}
 use Rattle.crash_model.specs.Lists.{each_below, some_below, when}
 use Rattle.crash_model.specs.Disk.{Disk}
+use Rattle.crash_model.proofs.EachBelow.{each_below-none, some_below-none}
 use Rattle.crash_model.specs.Layout.{target_of, pointer_of, links_of}
 use Rattle.crash_model.specs.declared.fault.Fault.TheVariants.{Dangling, Twice, Unwritten, LowLinks, MarkedFree, Wild}
 use Rattle.crash_model.specs.Faults.{IsClean, is_dangling, is_twice, is_unwritten, has_low_links, is_marked_free, is_wild, dangling_in, dangling, twice, unwritten, low_links, marked_free, wild, faults, entries_to, unwritten_in, marked_free_in, wild_in}
@@ -29,17 +30,9 @@ each_none (suc n) list e k below = elim (below_suc k n below) [
   | inr same ↦ subst (λ (m : ℕ). list m ≡ []) (sym same) (nil_right (each_below n list) (list n) e)
 ]
 
-none_each : {X : Type 0} (n : ℕ) (list : ℕ → List X) → ((k : ℕ) → k < n → list k ≡ []) → each_below n list ≡ []
-unfolding each_below
-none_each zero list h = refl
-none_each (suc n) list h = nil_both (each_below n list) (list n) (none_each n list (λ k below. h k (omega arith))) (h n (omega arith))
-
 no_option : {X : Type 0} (b : Bool) (x : X) → option_to_list (when b x) ≡ [] → b ≡ false
 no_option true x e = cc
 no_option false x e = refl
-
-option_none : {X : Type 0} (b : Bool) (x : X) → b ≡ false → option_to_list (when b x) ≡ []
-option_none b x e = rw e refl
 
 some_none : {X : Type 0} (n : ℕ) (test : ℕ → Bool) (make : ℕ → X) → some_below n (λ k. when (test k) (make k)) ≡ [] → (k : ℕ) → k < n → test k ≡ false
 unfolding some_below
@@ -50,20 +43,18 @@ some_none (suc n) test make e k below = elim (below_suc k n below) [
 ]
 
 none_some : {X : Type 0} (n : ℕ) (test : ℕ → Bool) (make : ℕ → X) → ((k : ℕ) → k < n → test k ≡ false) → some_below n (λ k. when (test k) (make k)) ≡ []
-unfolding some_below
-none_some zero test make h = refl
-none_some (suc n) test make h = nil_both _ _ (none_some n test make (λ k below. h k (omega arith))) (option_none (test n) (make n) (h n (omega arith)))
+none_some n test make h = some_below-none n _ (λ k below. rw (h k below) refl)
 
 pub no_faults : (d : Disk) → IsClean d → faults d ≡ []
 unfolding dangling_in dangling twice unwritten_in unwritten low_links marked_free_in marked_free wild_in wild faults
 no_faults d clean =
     nil_both _ _ (nil_both _ _ (nil_both _ _ (nil_both _ _ (nil_both _ _
-    (none_each 16 _ (λ dir a. none_some 10 (is_dangling d dir) (λ k. Dangling dir k (target_of d dir k)) (clean.no_dangling dir a)))
+    (each_below-none 16 _ (λ dir a. none_some 10 (is_dangling d dir) (λ k. Dangling dir k (target_of d dir k)) (clean.no_dangling dir a)))
     (none_some d.blocks (is_twice d) Twice clean.no_twice))
-    (none_each 16 _ (λ i a. none_some 4 (is_unwritten d i) (λ s. Unwritten i s (pointer_of d i s)) (clean.no_unwritten i a))))
+    (each_below-none 16 _ (λ i a. none_some 4 (is_unwritten d i) (λ s. Unwritten i s (pointer_of d i s)) (clean.no_unwritten i a))))
     (none_some 16 (has_low_links d) (λ i. LowLinks i (length (entries_to d i)) (links_of d i)) clean.no_low_links))
-    (none_each 16 _ (λ i a. none_some 4 (is_marked_free d i) (λ s. MarkedFree i s (pointer_of d i s)) (clean.no_marked_free i a))))
-    (none_each 16 _ (λ i a. none_some 4 (is_wild d i) (λ s. Wild i s (pointer_of d i s)) (clean.no_wild i a)))
+    (each_below-none 16 _ (λ i a. none_some 4 (is_marked_free d i) (λ s. MarkedFree i s (pointer_of d i s)) (clean.no_marked_free i a))))
+    (each_below-none 16 _ (λ i a. none_some 4 (is_wild d i) (λ s. Wild i s (pointer_of d i s)) (clean.no_wild i a)))
 
 pub clean_without : (d : Disk) → faults d ≡ [] → IsClean d
 unfolding dangling_in dangling twice unwritten_in unwritten low_links marked_free_in marked_free wild_in wild faults

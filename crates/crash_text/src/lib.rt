@@ -4,4 +4,3 @@
 mod explored;
 pub mod run;
 pub mod serve;
-mod stubs;

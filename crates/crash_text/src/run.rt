@@ -8,12 +8,14 @@ ghost use Rattle.crash_model.specs.Report.{Section, AreSections, report};
 ghost use Rattle.crash_model.specs.Answer.{IsAnswer, IsStepsAnswer, IsGraphAnswer, Reported, Refused};
 
 use crate::explored::explored;
-use crate::stubs::{build_base, report_json, report_text, trace};
 use crash_model::refusals::RunFault;
 use crash_model::settings::Settings;
 use disk_image::{Image, ImageFault};
+use order_modules::{build_base, trace};
 use patch_graph::Graph;
 use plain_explorer::Explored;
+use report_json::report_json;
+use report_text::report_text;
 use script_text::{Script, read_script};
 use std::alloc::{AllocError, Allocator, Global};
 
@@ -100,7 +102,8 @@ fn report_of<A: Allocator + Copy>(
         × (string_bytes text ≡ report settings.now.json settings.now.module (length graph.now) found.now.total sections)) }
 {
     if settings.json {
-        report_json(heap, alloc, base, graph, settings.module, found)
+        let text = report_json(heap, alloc, base, graph, settings.module, found)?;
+        String::from_str(alloc, text.as_str())
     } else {
         report_text(alloc, base, graph, settings.module, found)
     }

@@ -1,2 +1,3 @@
 pub mod Copies
-pub mod Fresh
+pub mod RootAlone
+pub mod Formatted

@@ -4,6 +4,7 @@ use Rattle.std.proofs.lemmas.Bool.{cases_eq}
 use Rattle.std.proofs.lemmas.List.{get_or-set_same, get_or-set_other, length-set, get_or-replicate, length-replicate}
 use Rattle.std.specs.Prelude.{option_to_list}
 use Rattle.crash_model.specs.Lists.{each_below, some_below, each_below-zero, each_below-step, some_below-zero, some_below-step}
+use Rattle.crash_model.proofs.EachBelow.{length-some_below}
 use Rattle.fs_check.specs.Tally.{row_of, count_before, IsTally}
 
 -- ---- lengths
@@ -13,16 +14,6 @@ length-some_below-more n at = rw (some_below-step, length-append) refl
 
 length-each_below-more : {X : Type 0} (n : ℕ) (list : ℕ → List X) → length (each_below (n + 1) list) ≡ length (each_below n list) + length (list n)
 length-each_below-more n list = rw (each_below-step, length-append) refl
-
-length-option : {X : Type 0} (o : Option X) → length (option_to_list o) ≤ 1
-length-option None = omega arith
-length-option (Some x) = omega arith
-
--- no more elements than places
-length-some_below : {X : Type 0} (n : ℕ) (at : ℕ → Option X) → length (some_below n at) ≤ n
-unfolding some_below
-length-some_below zero at = omega arith
-length-some_below (suc n) at = omega (arith, length-append (some_below n at) (option_to_list (at n)), length-some_below n at, length-option (at n))
 
 -- a longer search finds no fewer
 some_below-grows : {X : Type 0} (m n : ℕ) (at : ℕ → Option X) → m ≤ n → length (some_below m at) ≤ length (some_below n at)

@@ -11,7 +11,9 @@ use crash_model::fault::Fault;
 use disk_image::Image;
 use std::alloc::{AllocError, Allocator};
 
-/// The faults of an image: by number, those of one number by place.
+/// The faults of an image: by kind, in the order of [`Fault`]'s variants, and those of one kind by place.
+///
+/// It fails only for want of memory. An image is clean exactly where the list is empty.
 #[tactic(auto, unfolding(crash_model::specs::Faults::faults))]
 pub fn faults<A: Allocator + Copy>(alloc: A, image: &Image<A>) -> Result<Vec<Fault, A>, AllocError>
     ensures { IfOk result (λ found. found.items ≡ faults image.now) }
@@ -39,7 +41,7 @@ fn push_some<A: Allocator + Copy>(
     Ok(())
 }
 
-/// Fault 1 at entry `k` of a directory: it leads to no live inode.
+/// Entry `k` of a directory as a fault, if it leads to no live inode.
 fn dangling_at<A: Allocator + Copy>(image: &Image<A>, dir: u8, k: u8) -> Option<Fault>
     requires dir { dir < 16 }
     requires k { k < 10 }
@@ -59,7 +61,7 @@ fn dangling_at<A: Allocator + Copy>(image: &Image<A>, dir: u8, k: u8) -> Option<
     })
 }
 
-/// Adds each fault 1.
+/// Adds the dangling entries, by directory and place.
 #[tactic(auto, using(crash_model::specs::Lists::each_below_steps, std::proofs::lemmas::Grind::common_steps), unfolding(crash_model::specs::Faults::dangling_in, crash_model::specs::Faults::dangling))]
 fn push_dangling<A: Allocator + Copy>(
     found: &mut Vec<Fault, A>,
@@ -75,7 +77,7 @@ fn push_dangling<A: Allocator + Copy>(
     Ok(())
 }
 
-/// Fault 2 at a block: two pointers name it.
+/// A block as a fault, if two pointers name it.
 fn twice_at<A: Allocator + Copy>(image: &Image<A>, named: &[u8; 128], block: u8) -> Option<Fault>
     requires block { block < 128 }
     requires named { slice_index named.now block ≡ length (namers image.now block) }
@@ -84,7 +86,7 @@ fn twice_at<A: Allocator + Copy>(image: &Image<A>, named: &[u8; 128], block: u8)
     (named[block as usize] > 1).then_some(Fault::Twice { block })
 }
 
-/// Adds each fault 2.
+/// Adds the blocks that are used twice, by number.
 #[tactic(auto, using(crash_model::specs::Lists::each_below_steps, std::proofs::lemmas::Grind::common_steps), unfolding(crash_model::specs::Faults::twice))]
 fn push_twice<A: Allocator + Copy>(
     found: &mut Vec<Fault, A>,
@@ -109,7 +111,7 @@ fn tame_pointer<A: Allocator + Copy>(image: &Image<A>, inode: u8, slot: u8) -> O
     (image.is_live(inode) && block != 0 && image.is_data(block)).then_some(block)
 }
 
-/// Fault 3 at a slot: its block is not marked as the inode's.
+/// A slot as a fault, if it names a block that is not marked as the inode's.
 fn unwritten_at<A: Allocator + Copy>(image: &Image<A>, inode: u8, slot: u8) -> Option<Fault>
     requires inode { inode < 16 }
     requires slot { slot < 4 }
@@ -122,7 +124,7 @@ fn unwritten_at<A: Allocator + Copy>(image: &Image<A>, inode: u8, slot: u8) -> O
     Some(Fault::Unwritten { inode, slot, block })
 }
 
-/// Adds each fault 3.
+/// Adds the unwritten pointers, by inode and slot.
 #[tactic(auto, using(crash_model::specs::Lists::each_below_steps, std::proofs::lemmas::Grind::common_steps), unfolding(crash_model::specs::Faults::unwritten_in, crash_model::specs::Faults::unwritten))]
 fn push_unwritten<A: Allocator + Copy>(
     found: &mut Vec<Fault, A>,
@@ -138,7 +140,7 @@ fn push_unwritten<A: Allocator + Copy>(
     Ok(())
 }
 
-/// Fault 4 at an inode: more entries lead to it than it has links.
+/// An inode as a fault, if more entries lead to it than it has links.
 fn low_links_at<A: Allocator + Copy>(
     image: &Image<A>,
     entries: &[u8; 16],
@@ -160,7 +162,7 @@ fn low_links_at<A: Allocator + Copy>(
     })
 }
 
-/// Adds each fault 4.
+/// Adds the low link counts, by inode.
 #[tactic(auto, using(crash_model::specs::Lists::each_below_steps, std::proofs::lemmas::Grind::common_steps), unfolding(crash_model::specs::Faults::low_links))]
 fn push_low_links<A: Allocator + Copy>(
     found: &mut Vec<Fault, A>,
@@ -175,7 +177,7 @@ fn push_low_links<A: Allocator + Copy>(
     Ok(())
 }
 
-/// Fault 5 at a slot: the allocation map has its block as free.
+/// A slot as a fault, if it names a block that the allocation map has as free.
 fn marked_free_at<A: Allocator + Copy>(image: &Image<A>, inode: u8, slot: u8) -> Option<Fault>
     requires inode { inode < 16 }
     requires slot { slot < 4 }
@@ -188,7 +190,7 @@ fn marked_free_at<A: Allocator + Copy>(image: &Image<A>, inode: u8, slot: u8) ->
     Some(Fault::MarkedFree { inode, slot, block })
 }
 
-/// Adds each fault 5.
+/// Adds the pointers to blocks that are marked free, by inode and slot.
 #[tactic(auto, using(crash_model::specs::Lists::each_below_steps, std::proofs::lemmas::Grind::common_steps), unfolding(crash_model::specs::Faults::marked_free_in, crash_model::specs::Faults::marked_free))]
 fn push_marked_free<A: Allocator + Copy>(
     found: &mut Vec<Fault, A>,
@@ -204,7 +206,7 @@ fn push_marked_free<A: Allocator + Copy>(
     Ok(())
 }
 
-/// Fault 6 at a slot: it names no block of the data area.
+/// A slot as a fault, if it names no block of the data area.
 fn wild_at<A: Allocator + Copy>(image: &Image<A>, inode: u8, slot: u8) -> Option<Fault>
     requires inode { inode < 16 }
     requires slot { slot < 4 }
@@ -217,7 +219,7 @@ fn wild_at<A: Allocator + Copy>(image: &Image<A>, inode: u8, slot: u8) -> Option
     Some(Fault::Wild { inode, slot, block })
 }
 
-/// Adds each fault 6.
+/// Adds the wild pointers, by inode and slot.
 #[tactic(auto, using(crash_model::specs::Lists::each_below_steps, std::proofs::lemmas::Grind::common_steps), unfolding(crash_model::specs::Faults::wild_in, crash_model::specs::Faults::wild))]
 fn push_wild<A: Allocator + Copy>(
     found: &mut Vec<Fault, A>,

@@ -1,13 +1,11 @@
 -- What the searches found where an operation is accepted.
-use Rattle.std.proofs.Common.{◌≡◌, ℕ, ◌+◌, ◌-◌, ◌<◌, ◌≤◌, List, [], ◌∷◌, Bool, true, false, ltb, leb, Option, Some, None, Result, Ok, Err, refl, sym, ◌∙◌, ap}
-use Rattle.std.specs.Prelude.{is_some, is_none, unwrap_or, ok_or, option_to_list, not, ◌==◌, nat_lt, nat_le, if◌then◌else◌}
+use Rattle.std.proofs.Common.{◌≡◌, ℕ, ◌+◌, ◌-◌, ◌<◌, List, [], ◌∷◌, false, Option, Some, None, Ok, ◌∙◌, ap}
+use Rattle.std.specs.Prelude.{unwrap_or, option_to_list, nat_lt, if◌then◌else◌}
 use Rattle.std.proofs.lemmas.Bool.{eqb-true, leb-false}
 use Rattle.sound_tables.proofs.Answered.{then_ok-ok, at_entry-ok, unless-ok, answer-ok, some-found, none-found, test-holds}
 use Rattle.crash_model.specs.Disk.{Disk}
-use Rattle.crash_model.specs.Layout.{kind_of, links_of, pointer_of, target_of}
-use Rattle.crash_model.specs.Plan.{entry_named, walked, then_ok, at_path, at_entry, free_inode, free_block, free_entry, free_slot, unless, is_full_dir, has_entries, relinked, inode_init, inode_free, link_count, pointer_set, entry_set, entry_clear, map_set, map_clear_at, map_clears, init_block, plan_of}
-use Rattle.crash_model.specs.declared.refusals.FsFault.{FsFault}
-use Rattle.crash_model.specs.declared.refusals.FsFault.TheVariants.{NotFound, NotADirectory, Exists, NotAFile, NotEmpty, NoInode, NoBlock, DirectoryFull, FileFull, LinksFull}
+use Rattle.crash_model.specs.Layout.{kind_of, links_of, target_of}
+use Rattle.crash_model.specs.Plan.{entry_named, walked, free_inode, free_block, free_entry, free_slot, has_entries, relinked, inode_init, inode_free, link_count, pointer_set, entry_set, entry_clear, map_set, map_clear_at, map_clears, init_block, plan_of}
 use Rattle.crash_model.specs.declared.names.Path.{Path}
 use Rattle.crash_model.specs.declared.names.Op.TheVariants.{Create, Write, Link, Unlink, Rename, Mkdir, Rmdir}
 use Rattle.crash_model.specs.declared.plans.Change.{Change}

@@ -1,7 +1,6 @@
 -- The tables of a sound disk after the changes of an accepted operation.
-use Rattle.std.proofs.Common.{◌≡◌, ◌≢◌, ℕ, zero, suc, ◌+◌, ◌-◌, ◌*◌, ◌<◌, ◌≤◌, ◌⊎◌, inl, inr, List, [], ◌∷◌, ◌++◌, Bool, true, false, Option, Some, None, Ok, arith, refl, sym, ◌∙◌, ap, subst}
-use Rattle.std.specs.Prelude.{option_to_list, nat_lt, if◌then◌else◌}
-use Rattle.std.proofs.lemmas.Bool.{cases_eq, cases_lt, lt-ltb, le-ltb, false≢true, ne_eqb}
+use Rattle.std.proofs.Common.{◌≡◌, ◌≢◌, ℕ, ◌+◌, ◌-◌, ◌<◌, ◌≤◌, inl, inr, List, [], ◌∷◌, Bool, true, false, arith, refl, sym, ◌∙◌, ap, subst}
+use Rattle.std.proofs.lemmas.Bool.{cases_eq, cases_lt, lt-ltb, le-ltb, false≢true}
 use Rattle.crash_model.specs.Disk.{Disk, IsDisk}
 use Rattle.crash_model.specs.Names.{IsName}
 use Rattle.crash_model.specs.Lists.{some_below}
@@ -10,25 +9,25 @@ use Rattle.crash_model.specs.Plan.{spelled, inode_init, inode_free, map_set, map
 use Rattle.crash_model.specs.declared.names.Path.{Path}
 use Rattle.crash_model.specs.declared.plans.Change.{Change}
 use Rattle.crash_model.specs.declared.plans.Role.TheVariants.{InitFile, InitDir, LinkUp, LinkDown}
-use Rattle.sound_tables.specs.Tables.{Tables, Place, Mark, tables_of, place_of, changed, with_inode, with_links, with_pointer, with_used, with_mark, with_entry, with_place, created, grown, linked, unlinked, removed, made, HasPointer, Sound}
+use Rattle.sound_tables.specs.Tables.{Tables, Place, tables_of, changed, with_inode, with_links, with_pointer, with_used, with_mark, with_entry, with_place, created, grown, linked, unlinked, removed, made, HasPointer, Sound}
 use Rattle.sound_tables.specs.Tables.Place.{Free, Leads}
 use Rattle.sound_tables.specs.Tables.Mark.{FileOf, DirectoryOf}
 use Rattle.sound_tables.proofs.Sums.{changed-same, changed-other}
-use Rattle.sound_tables.proofs.Names.{cases_place, place_at_change, entry_kept, left_back}
+use Rattle.sound_tables.proofs.Names.{left_back}
 use Rattle.sound_tables.proofs.OnTables.{place-no_directory, place-no_block}
-use Rattle.sound_tables.proofs.ByTables.{kind-at, pointer-at, entry-at, EntryBytes, entry-bytes}
+use Rattle.sound_tables.proofs.ByTables.{kind-at, pointer-at, entry-at, entry-bytes}
 use Rattle.sound_tables.proofs.Views.{links-at, entry-is}
 use Rattle.sound_tables.proofs.Searches.{first_below-is_none}
 use Rattle.sound_tables.proofs.Answered.{none-found}
 use Rattle.sound_tables.proofs.FromTables.{area}
-use Rattle.sound_tables.proofs.Inodes.{IsFresh, not-fresh}
+use Rattle.sound_tables.proofs.Inodes.{not-fresh}
 use Rattle.sound_tables.proofs.Blocks.{FreesBlocks}
-use Rattle.sound_tables.proofs.Steps.{Makes, Stands, init-makes, free-makes, links-makes, pointer-makes, pointer-kind, empty-place, map_set-makes, block-makes, set-makes, clear-makes}
-use Rattle.sound_tables.proofs.Kept.{IsPlace, CanCreate, CanMake, CanGrow, CanLink, CanUnlink, CanRemove, file-leaf}
+use Rattle.sound_tables.proofs.Steps.{Stands, init-makes, free-makes, links-makes, pointer-makes, pointer-kind, empty-place, map_set-makes, block-makes, set-makes, clear-makes}
+use Rattle.sound_tables.proofs.Kept.{CanCreate, CanMake, CanGrow, CanLink, CanUnlink, CanRemove, file-leaf}
 use Rattle.sound_tables.proofs.Meant.{renamed}
 use Rattle.inode_fs.proofs.Accepted.{CreateFound, WriteFound, RelinkFound, LinkFound, RenameFound, UnlinkFound, MkdirFound, RmdirFound}
-use Rattle.inode_fs.proofs.Searched.{Walked, walk-found, fresh-found, FreeBlock, block-found, FreeSlot, slot-found, NamedEntry, named-found, place-found}
-use Rattle.inode_fs.proofs.Clears.{applied-append, Cleared, clears-make, clears-free}
+use Rattle.inode_fs.proofs.Searched.{Walked, walk-found, fresh-found, block-found, slot-found, named-found, place-found}
+use Rattle.inode_fs.proofs.Clears.{clears-make, clears-free}
 
 -- the disk after a list of changes has these tables
 pub record Made (d : Disk) (changes : List Change) (t : Tables) : Type 0 where

@@ -1,20 +1,20 @@
 -- What clearing an inode's blocks in the allocation map does.
-use Rattle.std.proofs.Common.{◌≡◌, ◌≢◌, ℕ, zero, suc, ◌+◌, ◌<◌, ◌≤◌, ◌⊎◌, inl, inr, List, [], ◌∷◌, ◌++◌, Bool, true, false, arith, refl, sym, ◌∙◌, ap, subst}
+use Rattle.std.proofs.Common.{◌≡◌, ◌≢◌, ℕ, zero, suc, ◌<◌, ◌≤◌, ◌⊎◌, inl, inr, List, [], ◌∷◌, ◌++◌, Bool, true, false, arith, refl, sym, ◌∙◌, ap, subst}
 use Rattle.std.specs.Prelude.{option_to_list}
-use Rattle.std.proofs.lemmas.Bool.{cases_eq, eq-eqb, ne_eqb}
+use Rattle.std.proofs.lemmas.Bool.{cases_eq}
 use Rattle.crash_model.specs.Disk.{Disk, IsDisk, put}
 use Rattle.crash_model.specs.Lists.{some_below, when}
 use Rattle.crash_model.specs.Layout.{pointer_of, is_data}
-use Rattle.crash_model.specs.Plan.{map_clear, map_clear_at, map_clears, applied}
+use Rattle.crash_model.specs.Plan.{map_clear, map_clear_at, applied}
 use Rattle.crash_model.specs.declared.plans.Change.{Change}
 use Rattle.sound_tables.specs.Tables.{Tables, tables_of, changed, HasPointer, Sound}
 use Rattle.sound_tables.proofs.Sums.{changed-same, changed-other}
 use Rattle.sound_tables.proofs.Puts.{data-block}
 use Rattle.sound_tables.proofs.ByTables.{pointer-at, live-at}
-use Rattle.sound_tables.proofs.Steps.{Makes, map_clear-makes}
+use Rattle.sound_tables.proofs.Steps.{map_clear-makes}
 use Rattle.sound_tables.proofs.Blocks.{FreesBlocks}
 use Rattle.sound_tables.proofs.FromTables.{area}
-use Rattle.sound_tables.proofs.ToTables.{PointerBytes, pointer-bytes}
+use Rattle.sound_tables.proofs.ToTables.{pointer-bytes}
 use Rattle.inode_fs.proofs.Lands.{applied-size}
 
 pub applied-append : (d : Disk) (cs es : List Change) → applied d (cs ++ es) ≡ applied (applied d cs) es

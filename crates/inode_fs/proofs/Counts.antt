@@ -1,11 +1,10 @@
 -- How many changes a plan has: at least one, and at most six.
-use Rattle.std.proofs.Common.{ℕ, zero, suc, ◌+◌, ◌-◌, ◌≤◌, List, [], ◌∷◌, ◌++◌, Bool, true, false, Option, Some, None, Result, Ok, Err, length, arith, length-append, subst, sym, ◌∙◌, ap, ◌↔◌, ◌≡◌}
+use Rattle.std.proofs.Common.{ℕ, zero, suc, ◌-◌, ◌≤◌, List, [], ◌∷◌, Bool, true, false, Option, Some, None, Result, Ok, Err, length, arith, length-append, subst, sym, ◌∙◌, ap, ◌↔◌, ◌≡◌}
 use Rattle.std.specs.Prelude.{option_to_list, MatchResult, IfOk, nat_lt, if◌then◌else◌}
 use Rattle.crash_model.specs.Disk.{Disk}
 use Rattle.crash_model.specs.Lists.{some_below}
 use Rattle.crash_model.specs.Layout.{target_of, links_of}
 use Rattle.crash_model.specs.Plan.{plan_of, map_clear_at, map_clears, link_count, inode_free}
-use Rattle.crash_model.specs.declared.names.Path.{Path}
 use Rattle.crash_model.specs.declared.names.Op.{Op}
 use Rattle.crash_model.specs.declared.names.Op.TheVariants.{Create, Write, Link, Unlink, Rename, Mkdir, Rmdir}
 use Rattle.crash_model.specs.declared.plans.Change.{Change}

@@ -1,14 +1,14 @@
 -- Where the changes of a plan lie: in a block of the disk, and in none of the journal.
-use Rattle.std.proofs.Common.{◌≡◌, ℕ, zero, suc, ◌+◌, ◌-◌, ◌*◌, ◌/◌, ◌%◌, ◌<◌, ◌≤◌, ◌⊎◌, inl, inr, List, [], ◌∷◌, ◌++◌, Bool, true, false, Option, Some, None, Ok, length, replicate, take, drop, arith, refl, sym, ◌∙◌, ap, subst}
-use Rattle.std.specs.Prelude.{All, option_to_list, not, nat_lt, if◌then◌else◌}
+use Rattle.std.proofs.Common.{◌≡◌, ℕ, zero, suc, ◌+◌, ◌-◌, ◌*◌, ◌<◌, ◌≤◌, ◌⊎◌, inl, inr, List, [], ◌∷◌, ◌++◌, Bool, true, false, Option, Ok, length, replicate, arith, refl, sym, ◌∙◌, subst}
+use Rattle.std.specs.Prelude.{All, option_to_list, nat_lt, if◌then◌else◌}
 use Rattle.std.proofs.lemmas.List.Elements.{All-nil, All-cons}
 use Rattle.std.proofs.lemmas.Bool.Decides.{nat_tests}
 use Rattle.std.proofs.lemmas.Grind.{elements}
-use Rattle.crash_model.specs.Disk.{Disk, IsDisk, block_of, put, overwrite}
+use Rattle.crash_model.specs.Disk.{Disk, IsDisk, put}
 use Rattle.crash_model.specs.Names.{IsName}
 use Rattle.crash_model.specs.Lists.{some_below, when}
-use Rattle.crash_model.specs.Layout.{links_of, pointer_of, counts, is_data, is_live, target_of, entry_offset}
-use Rattle.crash_model.specs.Plan.{spelled, is_named, is_free_entry, is_free_block, is_free_slot, has_no_kind, change, at_inode, inode_init, inode_free, link_count, pointer_set, entry_set, entry_clear, map_set, map_clear, init_block, map_clear_at, map_clears, plan_of, applied}
+use Rattle.crash_model.specs.Layout.{links_of, pointer_of, counts, is_data, target_of, entry_offset}
+use Rattle.crash_model.specs.Plan.{spelled, is_named, is_free_entry, is_free_block, is_free_slot, has_no_kind, change, at_inode, inode_free, link_count, entry_set, map_clear, init_block, map_clear_at, map_clears, plan_of, applied}
 use Rattle.crash_model.specs.declared.names.Path.{Path}
 use Rattle.crash_model.specs.declared.names.Op.{Op}
 use Rattle.crash_model.specs.declared.names.Op.TheVariants.{Create, Write, Link, Unlink, Rename, Mkdir, Rmdir}
@@ -16,11 +16,11 @@ use Rattle.crash_model.specs.declared.plans.Change.{Change}
 use Rattle.crash_model.specs.declared.plans.Role.{Role}
 use Rattle.crash_model.specs.declared.plans.Role.TheVariants.{InodeInit, InodeFree, InitFile, InitDir, LinkUp, LinkDown, EntrySet, EntryClear, Ptr, MapSet, MapClear}
 use Rattle.crash_model.proofs.Bytes.{length-overwrite}
-use Rattle.sound_tables.proofs.Searches.{Found, first_below-is_some}
-use Rattle.sound_tables.proofs.OnTables.{Counts, counts-parts}
+use Rattle.sound_tables.proofs.Searches.{first_below-is_some}
+use Rattle.sound_tables.proofs.OnTables.{counts-parts}
 use Rattle.sound_tables.proofs.Puts.{data-block, range-outside}
 use Rattle.inode_fs.specs.Inside.{LiesInside, HasSameJournal, GivesName}
-use Rattle.inode_fs.proofs.Accepted.{CreateFound, create-ok, WriteFound, write-ok, RelinkFound, LinkFound, RenameFound, link-ok, rename-ok, UnlinkFound, unlink-ok, MkdirFound, mkdir-ok, RmdirFound, rmdir-ok}
+use Rattle.inode_fs.proofs.Accepted.{CreateFound, create-ok, WriteFound, write-ok, LinkFound, RenameFound, link-ok, rename-ok, UnlinkFound, unlink-ok, MkdirFound, mkdir-ok, RmdirFound, rmdir-ok}
 
 pub record Lands (d : Disk) (c : Change) : Type 0 where
   pub block : c.block < d.blocks

@@ -6,5 +6,5 @@ pub mod Clears
 pub mod Changed
 pub mod Sounds
 pub mod Means
-pub mod Tests
+pub mod ViewTests
 pub mod Refused

@@ -1,5 +1,5 @@
 -- What an accepted operation means for the view of a sound disk.
-use Rattle.std.proofs.Common.{◌≡◌, ◌≢◌, ℕ, ◌+◌, ◌<◌, ◌≤◌, ◌⊎◌, inl, inr, List, [], ◌∷◌, Bool, true, false, Option, Some, None, Result, Ok, Err, arith, refl, sym, ◌∙◌, ap, subst}
+use Rattle.std.proofs.Common.{◌≡◌, ◌≢◌, ℕ, ◌+◌, ◌<◌, ◌⊎◌, inl, inr, List, [], ◌∷◌, Option, Some, None, Result, Ok, Err, arith, refl, sym, ◌∙◌, ap, subst}
 use Rattle.std.specs.Prelude.{option_map}
 use Rattle.std.proofs.lemmas.Bool.{cases_eq, eq-eqb, ne_eqb, false≢true}
 use Rattle.crash_model.specs.Disk.{Disk, IsDisk}
@@ -7,7 +7,7 @@ use Rattle.crash_model.specs.Layout.{kind_of, target_of}
 use Rattle.crash_model.specs.Plan.{plan_of, spelled, entry_named, inode_named, entered, walked, free_inode, free_block, free_slot, applied}
 use Rattle.crash_model.specs.Sound.{IsSound}
 use Rattle.crash_model.specs.View.{View, view_of}
-use Rattle.crash_model.specs.Meaning.{Becomes, nothing, with_name, with_inode, with_block, with_all_of, IsLowest, IsInode, IsFreeInode, IsFreeBlock, IsFreeSlot, IsKind, Walks, IsParent, IsTarget, Means, MeansCreate, MeansWrite, MeansLink, MeansUnlinkOne, MeansUnlinkLast, MeansRename, MeansMkdir, MeansRmdir}
+use Rattle.crash_model.specs.Meaning.{Becomes, nothing, with_name, IsLowest, IsFreeInode, IsFreeBlock, IsFreeSlot, IsKind, Walks, IsParent, IsTarget, Means, MeansUnlinkOne, MeansUnlinkLast}
 use Rattle.crash_model.specs.declared.refusals.FsFault.{FsFault}
 use Rattle.crash_model.specs.declared.refusals.FsFault.TheVariants.{NotADirectory}
 use Rattle.crash_model.specs.declared.names.Op.{Op}
@@ -18,15 +18,15 @@ use Rattle.sound_tables.specs.Tables.{Tables, tables_of, view, SameView, Sound}
 use Rattle.sound_tables.specs.Tables.Place.{Leads}
 use Rattle.sound_tables.proofs.Answered.{then_ok-ok}
 use Rattle.sound_tables.proofs.Becomes.{same-self, same-all_of, becomes-same}
-use Rattle.sound_tables.proofs.ByTables.{kind-at, live-at}
+use Rattle.sound_tables.proofs.ByTables.{kind-at}
 use Rattle.sound_tables.proofs.Views.{same-view}
 use Rattle.sound_tables.proofs.ToTables.{sound-tables}
 use Rattle.sound_tables.proofs.Kept.{linked-sound}
 use Rattle.sound_tables.proofs.Meant.{created-becomes, grown-becomes, linked-becomes, unlinked-becomes, removed-becomes, renamed-becomes, made-becomes}
 use Rattle.inode_fs.specs.Inside.{GivesName}
-use Rattle.inode_fs.proofs.Accepted.{create-ok, write-ok, RelinkFound, link-ok, rename-ok, unlink-ok, mkdir-ok, rmdir-ok}
-use Rattle.inode_fs.proofs.Searched.{Walked, walk-found, fresh-found, fresh-lowest, FreeBlock, block-found, FreeSlot, slot-found, named-found}
-use Rattle.inode_fs.proofs.Changed.{Made, can-create, create-made, can-grow, write-made, can-link, link-made, rename-made, Unlinked, unlink-made, Removed, rmdir-made, can-make, mkdir-made}
+use Rattle.inode_fs.proofs.Accepted.{create-ok, write-ok, link-ok, rename-ok, unlink-ok, mkdir-ok, rmdir-ok}
+use Rattle.inode_fs.proofs.Searched.{Walked, walk-found, fresh-found, fresh-lowest, block-found, slot-found, named-found}
+use Rattle.inode_fs.proofs.Changed.{Made, can-create, create-made, can-grow, write-made, can-link, link-made, rename-made, unlink-made, rmdir-made, can-make, mkdir-made}
 use Rattle.inode_fs.proofs.Changed.Unlinked.{Named, Gone}
 use Rattle.inode_fs.proofs.Sounds.{old-entry}
 

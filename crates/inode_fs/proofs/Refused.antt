@@ -1,13 +1,13 @@
 -- On a sound disk an operation is refused exactly as the tests said of views tell.
-use Rattle.std.proofs.Common.{◌≡◌, ◌≢◌, ℕ, ◌+◌, ◌<◌, ◌≤◌, ◌⊎◌, ◌↔◌, inl, inr, List, [], ◌∷◌, Bool, true, false, not, eqb, Option, Some, None, Result, Ok, Err, arith, refl, sym, ◌∙◌, ap, subst}
-use Rattle.std.specs.Prelude.{is_some, is_none, ok_or, option_map, if◌then◌else◌}
+use Rattle.std.proofs.Common.{◌≡◌, ◌≢◌, ℕ, ◌<◌, ◌⊎◌, ◌↔◌, inl, inr, List, [], ◌∷◌, Bool, true, false, Option, Some, None, Result, Ok, Err, arith, refl, sym, ◌∙◌, ap, subst}
+use Rattle.std.specs.Prelude.{ok_or, option_map, if◌then◌else◌}
 use Rattle.std.proofs.lemmas.Bool.{cases_eq, eq-eqb, ne_eqb}
 use Rattle.crash_model.specs.Disk.{Disk, IsDisk}
 use Rattle.crash_model.specs.Layout.{kind_of, target_of}
-use Rattle.crash_model.specs.Plan.{plan_of, spelled, entry_named, inode_named, entered, walked, then_ok, at_path, at_entry, relinked}
+use Rattle.crash_model.specs.Plan.{plan_of, spelled, entry_named, inode_named, entered, walked, then_ok, at_entry, relinked}
 use Rattle.crash_model.specs.Sound.{IsSound}
-use Rattle.crash_model.specs.View.{View, view_of}
-use Rattle.crash_model.specs.Meaning.{LeadsTo, IsKind, Walks, WalkFails, IsParent, AtPath, AtName, Relinks, IsRefused}
+use Rattle.crash_model.specs.View.{view_of}
+use Rattle.crash_model.specs.Meaning.{LeadsTo, IsKind, Walks, WalkFails, AtPath, AtName, Relinks, IsRefused}
 use Rattle.crash_model.specs.declared.refusals.FsFault.{FsFault}
 use Rattle.crash_model.specs.declared.refusals.FsFault.TheVariants.{NotFound, NotADirectory}
 use Rattle.crash_model.specs.declared.names.Op.{Op}
@@ -19,8 +19,8 @@ use Rattle.sound_tables.proofs.ByTables.{kind-at}
 use Rattle.sound_tables.proofs.ToTables.{sound-tables}
 use Rattle.inode_fs.proofs.Accepted.{link_changes, rename_changes}
 use Rattle.inode_fs.proofs.Searched.{Walked, walk-found, NamedEntry, named-found}
-use Rattle.inode_fs.proofs.Means.{kind-of, name-of, Entered, entered-ok, entered-name, walks, root-walked}
-use Rattle.inode_fs.proofs.Tests.{NamedBy, named-by, test-named, test-inode, test-block, test-slot, test-full, test-kind, test-links, test-entries}
+use Rattle.inode_fs.proofs.Means.{kind-of, name-of, walks, root-walked}
+use Rattle.inode_fs.proofs.ViewTests.{named-by, test-named, test-inode, test-block, test-slot, test-full, test-kind, test-links, test-entries}
 
 -- an answer is a refusal exactly where something holds of the fault
 abbrev pub Refuses : {B : Type 0} → Result B FsFault → (FsFault → Type 0) → Type 0

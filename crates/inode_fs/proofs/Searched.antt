@@ -1,19 +1,18 @@
 -- What the searches found on a sound disk, said of its tables.
-use Rattle.std.proofs.Common.{◌≡◌, ◌≢◌, ℕ, zero, suc, ◌+◌, ◌-◌, ◌<◌, ◌≤◌, List, [], ◌∷◌, Bool, true, false, ◌&&◌, not, eqb, Option, Some, None, Result, Ok, Err, arith, refl, sym, ◌∙◌, ap, subst}
-use Rattle.std.proofs.lemmas.Bool.{cases_eq, cases_Bool, eq-eqb, ne_eqb, eqb-true, eqb-false, false≢true}
+use Rattle.std.proofs.Common.{◌≡◌, ◌≢◌, ℕ, ◌+◌, ◌<◌, ◌≤◌, List, Bool, true, false, ◌&&◌, not, eqb, Some, None, Ok, arith, refl, sym, ◌∙◌, ap}
+use Rattle.std.proofs.lemmas.Bool.{eqb-true, eqb-false, false≢true}
 use Rattle.std.proofs.lemmas.Bool.Decides.{nat_tests}
 use Rattle.std.proofs.lemmas.Slice.Eq.{bytes_eq-Decides}
-use Rattle.crash_model.specs.Disk.{Disk, IsDisk}
+use Rattle.crash_model.specs.Disk.{Disk}
 use Rattle.crash_model.specs.Names.{IsName}
-use Rattle.crash_model.specs.Layout.{kind_of, links_of, pointer_of, map_of, is_data, is_live, is_entry, target_of, counts, entry_of, spelling_of}
-use Rattle.crash_model.specs.Plan.{spelled, is_named, entry_named, walked, is_free_entry, free_entry, has_no_kind, free_inode, is_free_block, free_block, is_free_slot, free_slot, has_entries}
-use Rattle.sound_tables.specs.Tables.{Tables, Place, tables_of, place_of, Sound}
+use Rattle.crash_model.specs.Layout.{kind_of, pointer_of, map_of, is_data, is_live, is_entry, target_of, counts, entry_of, spelling_of}
+use Rattle.crash_model.specs.Plan.{spelled, is_named, entry_named, walked, is_free_entry, free_entry, has_no_kind, free_inode, is_free_block, free_block, is_free_slot, free_slot}
+use Rattle.sound_tables.specs.Tables.{tables_of, place_of, Sound}
 use Rattle.sound_tables.specs.Tables.Place.{Free, Leads}
-use Rattle.sound_tables.specs.Tables.Mark.{DirectoryOf}
-use Rattle.sound_tables.proofs.Searches.{Found, first_below-is_none, first_below-is_some}
+use Rattle.sound_tables.proofs.Searches.{first_below-is_none, first_below-is_some}
 use Rattle.sound_tables.proofs.Puts.{data-block}
 use Rattle.sound_tables.proofs.ByTables.{kind-at, pointer-at, entry-at, live-at, EntryBytes, entry-bytes, walked-is_ok}
-use Rattle.sound_tables.proofs.Views.{links-at, used-at, place-leads, entry-is}
+use Rattle.sound_tables.proofs.Views.{used-at, place-leads, entry-is}
 use Rattle.sound_tables.proofs.Inodes.{IsFresh}
 use Rattle.sound_tables.proofs.Kept.{IsPlace}
 

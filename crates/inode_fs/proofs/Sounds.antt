@@ -17,9 +17,9 @@ use Rattle.sound_tables.proofs.FromTables.{tables-sound}
 use Rattle.sound_tables.proofs.Kept.{CanLink, created-sound, made-sound, grown-sound, linked-sound, unlinked-sound, removed-sound}
 use Rattle.sound_tables.proofs.Meant.{renamed}
 use Rattle.inode_fs.specs.Inside.{GivesName}
-use Rattle.inode_fs.proofs.Accepted.{create-ok, write-ok, RelinkFound, RenameFound, link-ok, rename-ok, unlink-ok, mkdir-ok, rmdir-ok}
+use Rattle.inode_fs.proofs.Accepted.{create-ok, write-ok, RelinkFound, link-ok, rename-ok, unlink-ok, mkdir-ok, rmdir-ok}
 use Rattle.inode_fs.proofs.Searched.{walk-found, named-found}
-use Rattle.inode_fs.proofs.Changed.{Made, can-create, create-made, can-grow, write-made, can-link, link-made, rename-made, Unlinked, unlink-made, Removed, rmdir-made, can-make, mkdir-made}
+use Rattle.inode_fs.proofs.Changed.{Made, can-create, create-made, can-grow, write-made, can-link, link-made, rename-made, unlink-made, rmdir-made, can-make, mkdir-made}
 use Rattle.inode_fs.proofs.Changed.Unlinked.{Named, Gone}
 
 sound-made : (d : Disk) (changes : List Change) (t : Tables) → Made d changes t → Sound t → IsSound (applied d changes)

@@ -5,13 +5,16 @@
 //! `crash_model`, which reads as the file system's own tables.
 #![tactic(auto)]
 
-pub mod applying;
-pub mod changes;
-pub mod look;
-pub mod plans;
+mod applying;
+mod changes;
+mod look;
+mod plans;
 
 pub use applying::apply;
 pub use crash_model::names::{Name, Op, Path};
 pub use crash_model::plans::{Change, Plan, Role};
 pub use crash_model::refusals::FsFault;
 pub use plans::plan;
+
+#[cfg(test)]
+mod tests;

@@ -2,9 +2,11 @@
 //!
 //! Each search gives the lowest place that fits, and none of them asks for a sound image.
 
-ghost use Rattle.std.specs.Prelude.{◌≡◌, ◌<◌, ◌&&◌, IsTrue, bytes_eq, IfSome, IfOk};
+ghost use Rattle.std.specs.Prelude.{ℕ, List, Result, Err, ◌≡◌, ◌<◌, ◌&&◌, IsTrue, bytes_eq, IfSome, IfOk, MatchResult};
 ghost use Rattle.crash_model.specs.Layout.{kind_of, is_live, is_entry, target_of, spelling_of};
-ghost use Rattle.crash_model.specs.Plan.{is_named, entry_named, inode_named, entered, walked, free_inode, free_block, free_slot, has_entries};
+ghost use Rattle.crash_model.specs.Plan.{is_named, entry_named, inode_named, entered, walked, at_entry, free_inode, free_block, free_slot, has_entries};
+ghost use Rattle.crash_model.specs.declared.plans.Change.{Change};
+ghost use Rattle.crash_model.specs.declared.refusals.FsFault.{FsFault};
 
 use crash_model::names::{Name, Path};
 use crash_model::refusals::FsFault;
@@ -82,6 +84,28 @@ pub fn walk<A: Allocator + Copy>(image: &Image<A>, path: &Path) -> Result<u8, Fs
         dir = enter(image, dir, name)?;
     }
     Ok(dir)
+}
+
+/// An entry of a directory: its place, 0 to 9, and the inode that it leads to.
+#[derive(Clone, Copy)]
+pub struct Entry {
+    pub dir: u8,
+    pub place: u8,
+    pub target: u8,
+}
+
+/// The entry of a path's last name; refused as [`walk`] is, and with 10 where the name is absent.
+pub fn find<A: Allocator + Copy>(image: &Image<A>, path: &Path) -> Result<Entry, FsFault>
+    ensures found { MatchResult result
+        (λ e. (next : ℕ → ℕ → Result (List Change) FsFault) → at_entry image.now path.now next ≡ next e.dir e.place)
+        (λ fault. (next : ℕ → ℕ → Result (List Change) FsFault) → at_entry image.now path.now next ≡ Err fault) }
+    ensures target { IfOk result (λ e. e.target ≡ target_of image.now e.dir e.place) }
+    ensures within { IfOk result (λ e. (e.dir < 16) × (e.place < 10) × (e.target < 16)) }
+{
+    let dir = walk(image, path)?;
+    let place = entry_named(image, dir, &path.last).ok_or(FsFault::NotFound)?;
+    let target = image.entry(dir, place) - 1;
+    Ok(Entry { dir, place, target })
 }
 
 /// The lowest inode of kind 0.

@@ -17,7 +17,7 @@ use crate::changes::{
     link_count, map_clear, map_set, pointer_set,
 };
 use crate::look::{
-    DIRECTORY, FILE, entry_named, free_block, free_inode, free_slot, has_entries, walk,
+    DIRECTORY, Entry, FILE, entry_named, find, free_block, free_inode, free_slot, has_entries, walk,
 };
 use arrayvec::ArrayVec;
 use crash_model::names::{Op, Path};
@@ -43,6 +43,7 @@ pub fn plan<A: Allocator + Copy>(image: &Image<A>, op: &Op) -> Result<Plan, FsFa
     ensures sound { IsSound image.now → IfOk result (λ plan. IsSound (applied image.now plan.items)) }
     ensures means { IsSound image.now → IfOk result (λ plan. Means image.now.blocks image.now.journal (view_of image.now) (view_of (applied image.now plan.items)) op.now) }
 {
+    // Tells the proof that the image has the size of a disk.
     let _blocks = image.blocks();
     changes_of(image, op)
 }
@@ -74,10 +75,10 @@ fn create<A: Allocator + Copy>(image: &Image<A>, path: &Path) -> Result<Plan, Fs
         return Err(FsFault::Exists);
     }
     let inode = free_inode(image).ok_or(FsFault::NoInode)?;
-    let k = image.free_entry(dir).ok_or(FsFault::DirectoryFull)?;
+    let place = image.free_entry(dir).ok_or(FsFault::DirectoryFull)?;
     let mut plan = ArrayVec::new();
     plan.push(inode_init(inode, FILE));
-    plan.push(entry_set(image, dir, k, inode, &path.last));
+    plan.push(entry_set(image, dir, place, inode, &path.last));
     Ok(plan)
 }
 
@@ -86,9 +87,7 @@ fn create<A: Allocator + Copy>(image: &Image<A>, path: &Path) -> Result<Plan, Fs
 fn write<A: Allocator + Copy>(image: &Image<A>, path: &Path) -> Result<Plan, FsFault>
     ensures { MatchResult result (λ plan. plan_of image.now (Write path.now) ≡ Ok plan.items) (λ fault. plan_of image.now (Write path.now) ≡ Err fault) }
 {
-    let dir = walk(image, path)?;
-    let k = entry_named(image, dir, &path.last).ok_or(FsFault::NotFound)?;
-    let target = image.entry(dir, k) - 1;
+    let target = find(image, path)?.target;
     if image.kind(target) != FILE {
         return Err(FsFault::NotAFile);
     }
@@ -101,15 +100,13 @@ fn write<A: Allocator + Copy>(image: &Image<A>, path: &Path) -> Result<Plan, FsF
     Ok(plan)
 }
 
-/// What `link` and `rename` find: the old entry, its target with its link count, and the place of the new entry.
+/// What `link` and `rename` find: the old entry, the link count of its target, and the place of the new entry.
 #[derive(Clone, Copy)]
 struct FurtherName {
-    old_dir: u8,
-    old_k: u8,
-    target: u8,
+    old: Entry,
     links: u8,
     dir: u8,
-    k: u8,
+    place: u8,
 }
 
 /// The tests that `link` and `rename` share.
@@ -119,34 +116,30 @@ fn further_name<A: Allocator + Copy>(
     new: &Path,
 ) -> Result<FurtherName, FsFault>
     ensures found { MatchResult result
-        (λ r. (changes : ℕ → ℕ → ℕ → ℕ → List ℕ → List Change) → relinked image.now old.now new.now changes ≡ Ok (changes r.old_dir r.old_k r.target r.dir new.now.last))
+        (λ r. (changes : ℕ → ℕ → ℕ → ℕ → List ℕ → List Change) → relinked image.now old.now new.now changes ≡ Ok (changes r.old.dir r.old.place r.old.target r.dir new.now.last))
         (λ fault. (changes : ℕ → ℕ → ℕ → ℕ → List ℕ → List Change) → relinked image.now old.now new.now changes ≡ Err fault) }
-    ensures links { IfOk result (λ r. (r.links ≡ links_of image.now r.target) × (r.links < 8)) }
-    ensures place { IfOk result (λ r. free_entry image.now r.dir ≡ Some r.k) }
-    ensures within { IfOk result (λ r. (r.old_dir < 16) × (r.old_k < 10) × (r.target < 16) × (r.dir < 16) × (r.k < 10)) }
+    ensures links { IfOk result (λ r. (r.links ≡ links_of image.now r.old.target) × (r.links < 8)) }
+    ensures place { IfOk result (λ r. free_entry image.now r.dir ≡ Some r.place) }
+    ensures within { IfOk result (λ r. (r.old.dir < 16) × (r.old.place < 10) × (r.old.target < 16) × (r.dir < 16) × (r.place < 10)) }
 {
-    let old_dir = walk(image, old)?;
-    let old_k = entry_named(image, old_dir, &old.last).ok_or(FsFault::NotFound)?;
-    let target = image.entry(old_dir, old_k) - 1;
+    let old = find(image, old)?;
     let dir = walk(image, new)?;
     if entry_named(image, dir, &new.last).is_some() {
         return Err(FsFault::Exists);
     }
-    if image.kind(target) != FILE {
+    if image.kind(old.target) != FILE {
         return Err(FsFault::NotAFile);
     }
-    let k = image.free_entry(dir).ok_or(FsFault::DirectoryFull)?;
-    let links = image.links(target);
+    let place = image.free_entry(dir).ok_or(FsFault::DirectoryFull)?;
+    let links = image.links(old.target);
     if links >= 8 {
         return Err(FsFault::LinksFull);
     }
     Ok(FurtherName {
-        old_dir,
-        old_k,
-        target,
+        old,
         links,
         dir,
-        k,
+        place,
     })
 }
 
@@ -156,10 +149,10 @@ fn link<A: Allocator + Copy>(image: &Image<A>, old: &Path, new: &Path) -> Result
     ensures changes { MatchResult result (λ plan. plan_of image.now (Link old.now new.now) ≡ Ok plan.items) (λ fault. plan_of image.now (Link old.now new.now) ≡ Err fault) }
     ensures name { IfOk result (λ _. IsName new.now.last) }
 {
-    let found = further_name(image, old, new)?;
+    let name = further_name(image, old, new)?;
     let mut plan = ArrayVec::new();
-    plan.push(link_count(Role::LinkUp, found.target, found.links + 1));
-    plan.push(entry_set(image, found.dir, found.k, found.target, &new.last));
+    plan.push(link_count(Role::LinkUp, name.old.target, name.links + 1));
+    plan.push(entry_set(image, name.dir, name.place, name.old.target, &new.last));
     Ok(plan)
 }
 
@@ -168,14 +161,12 @@ fn link<A: Allocator + Copy>(image: &Image<A>, old: &Path, new: &Path) -> Result
 fn unlink<A: Allocator + Copy>(image: &Image<A>, path: &Path) -> Result<Plan, FsFault>
     ensures { MatchResult result (λ plan. plan_of image.now (Unlink path.now) ≡ Ok plan.items) (λ fault. plan_of image.now (Unlink path.now) ≡ Err fault) }
 {
-    let dir = walk(image, path)?;
-    let k = entry_named(image, dir, &path.last).ok_or(FsFault::NotFound)?;
-    let target = image.entry(dir, k) - 1;
+    let Entry { dir, place, target } = find(image, path)?;
     if image.kind(target) != FILE {
         return Err(FsFault::NotAFile);
     }
     let mut plan = ArrayVec::new();
-    plan.push(entry_clear(image, dir, k));
+    plan.push(entry_clear(image, dir, place));
     let links = image.links(target);
     if links > 1 {
         plan.push(link_count(Role::LinkDown, target, links - 1));
@@ -194,10 +185,10 @@ fn rename<A: Allocator + Copy>(image: &Image<A>, old: &Path, new: &Path) -> Resu
 {
     let found = further_name(image, old, new)?;
     let mut plan = ArrayVec::new();
-    plan.push(link_count(Role::LinkUp, found.target, found.links + 1));
-    plan.push(entry_set(image, found.dir, found.k, found.target, &new.last));
-    plan.push(entry_clear(image, found.old_dir, found.old_k));
-    plan.push(link_count(Role::LinkDown, found.target, found.links));
+    plan.push(link_count(Role::LinkUp, found.old.target, found.links + 1));
+    plan.push(entry_set(image, found.dir, found.place, found.old.target, &new.last));
+    plan.push(entry_clear(image, found.old.dir, found.old.place));
+    plan.push(link_count(Role::LinkDown, found.old.target, found.links));
     Ok(plan)
 }
 
@@ -213,13 +204,13 @@ fn mkdir<A: Allocator + Copy>(image: &Image<A>, path: &Path) -> Result<Plan, FsF
     }
     let inode = free_inode(image).ok_or(FsFault::NoInode)?;
     let block = free_block(image).ok_or(FsFault::NoBlock)?;
-    let k = image.free_entry(dir).ok_or(FsFault::DirectoryFull)?;
+    let place = image.free_entry(dir).ok_or(FsFault::DirectoryFull)?;
     let mut plan = ArrayVec::new();
     plan.push(inode_init(inode, DIRECTORY));
     plan.push(map_set(block));
     plan.push(init_block(Role::InitDir, block, DIRECTORY_MARK, inode));
     plan.push(pointer_set(inode, 0, block));
-    plan.push(entry_set(image, dir, k, inode, &path.last));
+    plan.push(entry_set(image, dir, place, inode, &path.last));
     Ok(plan)
 }
 
@@ -228,9 +219,7 @@ fn mkdir<A: Allocator + Copy>(image: &Image<A>, path: &Path) -> Result<Plan, FsF
 fn rmdir<A: Allocator + Copy>(image: &Image<A>, path: &Path) -> Result<Plan, FsFault>
     ensures { MatchResult result (λ plan. plan_of image.now (Rmdir path.now) ≡ Ok plan.items) (λ fault. plan_of image.now (Rmdir path.now) ≡ Err fault) }
 {
-    let dir = walk(image, path)?;
-    let k = entry_named(image, dir, &path.last).ok_or(FsFault::NotFound)?;
-    let target = image.entry(dir, k) - 1;
+    let Entry { dir, place, target } = find(image, path)?;
     if image.kind(target) != DIRECTORY {
         return Err(FsFault::NotADirectory);
     }
@@ -238,7 +227,7 @@ fn rmdir<A: Allocator + Copy>(image: &Image<A>, path: &Path) -> Result<Plan, FsF
         return Err(FsFault::NotEmpty);
     }
     let mut plan = ArrayVec::new();
-    plan.push(entry_clear(image, dir, k));
+    plan.push(entry_clear(image, dir, place));
     plan.push(inode_free(target));
     add_map_clear(image, target, 0, &mut plan);
     Ok(plan)

@@ -6,5 +6,7 @@
 
 mod header;
 mod journal;
+#[cfg(test)]
+mod tests;
 
 pub use journal::replay;

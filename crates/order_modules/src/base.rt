@@ -2,6 +2,8 @@
 
 ghost use Rattle.std.specs.Prelude.{◌≡◌, Ok, Err, OnOk, IfErr};
 ghost use Rattle.crash_model.specs.Trace.{based};
+ghost use Rattle.crash_model.specs.Sound.{IsSound};
+ghost use Rattle.inode_fs.specs.Inside.{HasSameJournal};
 ghost use Rattle.order_modules.specs.Base.{disk_before_refusal};
 
 use crash_model::refusals::TraceFault;
@@ -12,8 +14,8 @@ use std::alloc::Allocator;
 
 /// Applies the operations of the steps, in order, up to the first refused step.
 ///
-/// A refused operation changes nothing; a step on groups is refused, since groups order traced patches alone. It
-/// takes no memory, and so never fails for want of it.
+/// A refused operation changes nothing; a step on groups is refused, since groups order traced patches alone. The
+/// journal is not touched, and a sound image stays sound. It takes no memory, and so never fails for want of it.
 pub fn build_base<A: Allocator + Copy>(
     image: &mut Image<A>,
     steps: &[Step],
@@ -21,6 +23,8 @@ pub fn build_base<A: Allocator + Copy>(
     ensures built { OnOk result (based image.old steps.now ≡ Ok image.new) }
     ensures refused { IfErr result (λ fault. based image.old steps.now ≡ Err fault) }
     ensures before { image.new ≡ disk_before_refusal image.old steps.now }
+    ensures journal { HasSameJournal image.old image.new }
+    ensures sound { IsSound image.old → IsSound image.new }
 {
     for step in steps {
         let Act::Do(op) = &step.act else {

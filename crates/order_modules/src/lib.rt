@@ -9,6 +9,8 @@ mod base;
 mod groups;
 mod labels;
 mod log;
+#[cfg(test)]
+mod tests;
 mod tracer;
 mod transactions;
 

@@ -30,12 +30,6 @@ module _ (patches : List Patch) (id : ℕ) (x : Patch) (inside : id < length pat
 -- ---- a patch more
 
 module _ (patches : List Patch) (added : Patch) where
-  pub at_old : (id : ℕ) (x : Patch) → IsAt patches id x → IsAt (patches ++ added ∷ []) id x
-  at_old id x at =
-      let inside : id < length patches = slice_get_within patches id x at in
-      slice_get-get_or (patches ++ added ∷ []) id x (omega (arith, length-append patches (added ∷ [])))
-      ∙ ap Some (get_or_append_left patches (added ∷ []) x id inside ∙ get_or_from_slice_get patches id x x at)
-
   pub from_old : (id : ℕ) (x : Patch) → id < length patches → IsAt (patches ++ added ∷ []) id x → IsAt patches id x
   from_old id x inside at = slice_get-get_or patches id x inside
       ∙ ap Some (sym (get_or_append_left patches (added ∷ []) x id inside) ∙ get_or_from_slice_get (patches ++ added ∷ []) id x x at)

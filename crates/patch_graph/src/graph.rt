@@ -196,7 +196,7 @@ fn overlaps(earlier: &Patch, later: &Patch) -> bool
 
 /// The ids of the patches that a patch overlaps.
 fn overlapped_by(later: &Patch, patches: &[Patch]) -> u128
-    requires few { length patches.now < 124 }
+    requires few { length patches.now < MAX_PATCHES }
     requires each { All IsPatch patches.now }
     requires whole { IsPatch later.now }
     ensures { (id : ℕ) → Has result id ↔ OverlapsAt patches.now later.now id }
@@ -220,7 +220,7 @@ fn is_ready(patch: &Patch, id: usize, set: u128) -> bool
 
 /// Whether the set has ids of the patches alone, and with each of them all its dependencies.
 fn is_closed_in(patches: &[Patch], set: u128) -> bool
-    requires { length patches.now ≤ 124 }
+    requires { length patches.now ≤ MAX_PATCHES }
     ensures { IsTrue result ↔ IsClosed (deps_of patches.now) set }
 {
     if !is_below(set, patches.len()) {

@@ -39,7 +39,10 @@ fn a_name_moves(rt: HostRuntime) -> Result<(), Fail> {
     assert!(rt; graph.is_closed(0b1011) && !graph.is_closed(0b1010) && !graph.is_closed(1 << 4));
     assert_eq!(rt; graph.ready(0), 0b0111);
     assert_eq!(rt; graph.ready_count(0b0001), 3);
-    let wanted = [(2, 0b0001), (4, 0b0010), (2, 0b1000)].map(|(block, ids)| BlockWrite { block, ids });
+    let wanted = [(2, 0b0001), (4, 0b0010), (2, 0b1000)].map(|(block, ids)| BlockWrite {
+        block,
+        ids,
+    });
     assert_eq!(rt; graph.writes_to(0b1011)?.as_slice(), wanted.as_slice());
     Ok(())
 }

@@ -25,26 +25,6 @@ same_set a b there back = same_from_bits a b (λ i. by_bit (bit_at a i) (bit_at 
     by_bit zero (suc y) lx ly to from = let one : suc y ≡ 1 = omega arith in from one ∙ sym one
     by_bit (suc x) y lx ly to from = let one : suc x ≡ 1 = omega arith in one ∙ sym (to one)
 
--- a set is empty or has an id
-pub empty_or_some : (n set : ℕ) → set < 2 ^ n → (set ≡ 0) ⊎ ((id : ℕ) × Has set id)
-empty_or_some n set small = elim (search_down n) [
-  | inl none ↦ inl (same_set set 0 (λ id is. absurd (none id (below_power set n id small is) is)) (λ id is. absurd (none_in_empty id is)))
-  | inr it ↦ inr it
-]
-  where
-    below_power : (set n id : ℕ) → set < 2 ^ n → Has set id → id < n
-    below_power set n id small is = lt_of_not-le (λ high. let none : bit_at set id ≡ 0 = bit_at_above set n id small high in absurd (omega (arith, none, is)))
-
-    search_down : (k : ℕ) → ((id : ℕ) → id < k → Has set id → ⊥) ⊎ ((id : ℕ) × Has set id)
-    search_down zero = inl (λ id below is. omega arith)
-    search_down (suc k) = elim (eq_or_not (bit_at set k) 1) [
-      | inl is ↦ inr (k, is)
-      | inr not_k ↦ elim (search_down k) [
-        | inl none ↦ inl (λ id below is. elim (eq_or_not id k) [ inl e ↦ not_k (ap (bit_at set) (sym e) ∙ is) | inr ne ↦ none id (omega arith) is ])
-        | inr it ↦ inr it
-      ]
-    ]
-
 -- `part & whole == part`
 pub subset_from_and : (part whole : ℕ) → bit_and part whole ≡ part → IsSubset part whole
 subset_from_and part whole e id is =

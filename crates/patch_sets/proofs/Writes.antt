@@ -11,15 +11,7 @@ use Rattle.patch_sets.proofs.Bits.{none_in_empty, same_set, in_with_same, in_wit
 use Rattle.patch_sets.proofs.Ids.{has_true, has_false, ids_more, ids_push, from_ids_of, to_ids_of, ids_ascend}
 use Rattle.patch_sets.proofs.Lists.{in_front, in_none, one_ascending, ascends_push, same, longer, shorter, cuts_of}
 
--- a set with an id has a first one
-pub first_of : (n set id : ℕ) → id < n → Has set id → (x : ℕ) × (xs : List ℕ) × (ids_of n set ≡ x ∷ xs)
-first_of n set id below is = by_cases (ids_of n set) refl
-  where
-    by_cases : (xs : List ℕ) → ids_of n set ≡ xs → (x : ℕ) × (ys : List ℕ) × (ids_of n set ≡ x ∷ ys)
-    by_cases [] e = absurd (in_none id (subst (λ xs. Contains xs id) e (to_ids_of n set id below is)))
-    by_cases (x ∷ xs) e = (x, xs, e)
-
--- a set has an id, or it is empty
+-- a set that is not empty has a first id
 pub some_id : (n set : ℕ) → ((id : ℕ) → Has set id → id < n) → set ≢ 0 → (x : ℕ) × (xs : List ℕ) × (ids_of n set ≡ x ∷ xs)
 some_id n set below some = by_cases (ids_of n set) refl
   where

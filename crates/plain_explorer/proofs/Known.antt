@@ -1,6 +1,6 @@
 -- A hash set that has the words of a list.
-use Rattle.std.proofs.Common.{◌≡◌, ℕ, zero, suc, Bool, true, false, not, nat_eq, List, [], ◌∷◌, ◌++◌, arith, refl, sym, subst, inl, inr}
-use Rattle.std.specs.Prelude.{◌↔◌, ◌⊎◌, IsTrue}
+use Rattle.std.proofs.Common.{◌≡◌, ℕ, Bool, true, false, not, nat_eq, List, [], ◌∷◌, ◌++◌, arith, refl, sym, subst, inl, inr}
+use Rattle.std.specs.Prelude.{◌↔◌, IsTrue}
 use Rattle.std.specs.HashSet as bag
 use Rattle.std.specs.HashSet.{HashSet}
 use Rattle.std.specs.List.{Contains}
@@ -10,6 +10,7 @@ use Rattle.std.proofs.lemmas.Cmp.{nat_eq_equiv}
 use Rattle.std.proofs.lemmas.List.Elements.{Contains-append_left, Contains-push, Contains-push_cases}
 use Rattle.std.proofs.lemmas.List.Sorted.{Contains-permutation, IsPermutation-sym}
 use Rattle.std.proofs.lemmas.Map.Views.{hash_set_contains_iff}
+use Rattle.patch_sets.proofs.Lists.{front_or_rest, in_front, in_rest}
 
 -- the two lists have the same words
 abbrev pub HaveSame : List ℕ → List ℕ → Type 0
@@ -26,10 +27,6 @@ known_iff s words word same =
 pub same_still : (keys more words others : List ℕ) → more ≡ keys → others ≡ words → HaveSame keys words → HaveSame more others
 same_still keys more words others e f same = subst (λ (xs : List ℕ). HaveSame xs others) (sym e) (subst (HaveSame keys) (sym f) same)
 
-front_or_rest : (x : ℕ) (xs : List ℕ) (z : ℕ) → Contains (x ∷ xs) z → (x ≡ z) ⊎ Contains xs z
-front_or_rest x xs z (zero, within, is) = inl is
-front_or_rest x xs z (suc k, within, is) = inr (k, omega arith, is)
-
 module _ (keys more words : List ℕ) (word : ℕ) (same : HaveSame keys words) where
   pub same_put : IsPermutation (word ∷ keys) more → HaveSame more (words ++ word ∷ [])
   same_put moved z = (
@@ -38,8 +35,8 @@ module _ (keys more words : List ℕ) (word : ℕ) (same : HaveSame keys words) 
       | inr old ↦ Contains-append_left words (word ∷ []) z ((same z).0 old)
     ],
     λ is. Contains-permutation (word ∷ keys) more z moved (elim (Contains-push_cases words word z is) [
-      | inl old ↦ let at = (same z).1 old in (suc at.0, omega (arith, at.1), at.2)
-      | inr e ↦ (zero, omega arith, e)
+      | inl old ↦ in_rest word keys z ((same z).1 old)
+      | inr e ↦ subst (Contains (word ∷ keys)) e (in_front word keys)
     ]),
   )
 

@@ -70,13 +70,13 @@ verb_bytes End = refl
 verb_bytes Depend = refl
 verb_bytes Start = refl
 
-verb_plain : (verb : Verb) → ¬ (Contains (spelling verb) 32)
+pub verb_plain : (verb : Verb) → ¬ (Contains (spelling verb) 32)
 verb_plain verb = lacks_none 32 (spelling verb) (plain_lacks is_no_space no_space (spelling verb) (verb_bytes verb))
 
-abbrev IsPlain : List ℕ → Type 0
+abbrev pub IsPlain : List ℕ → Type 0
 IsPlain word = ¬ (Contains word 32)
 
-plain_one : (a : List ℕ) → IsPlain a → All IsPlain (a ∷ [])
+pub plain_one : (a : List ℕ) → IsPlain a → All IsPlain (a ∷ [])
 plain_one a one = All-from_recursion IsPlain (a ∷ []) (one, tt)
 
 plain_two : (a b : List ℕ) → IsPlain a → IsPlain b → All IsPlain (a ∷ b ∷ [])
@@ -99,7 +99,7 @@ words_plain (act.Depend b a) is = plain_three _ _ _ (verb_plain Depend) (group_p
 
 -- ---- acts by their first word
 
-verb_of_act : Act → Verb
+unfoldable pub verb_of_act : Act → Verb
 verb_of_act (act.Do (op.Create p)) = Create
 verb_of_act (act.Do (op.Write p)) = Write
 verb_of_act (act.Do (op.Link p q)) = Link
@@ -111,27 +111,40 @@ verb_of_act (act.Group a) = Group
 verb_of_act act.End = End
 verb_of_act (act.Depend b a) = Depend
 
-first_word : (a : Act) → (rest : List (List ℕ)) × (words_of a ≡ spelling (verb_of_act a) ∷ rest)
-unfolding verb_of_act
-first_word (act.Do (op.Create p)) = (_, refl)
-first_word (act.Do (op.Write p)) = (_, refl)
-first_word (act.Do (op.Link p q)) = (_, refl)
-first_word (act.Do (op.Unlink p)) = (_, refl)
-first_word (act.Do (op.Rename p q)) = (_, refl)
-first_word (act.Do (op.Mkdir p)) = (_, refl)
-first_word (act.Do (op.Rmdir p)) = (_, refl)
-first_word (act.Group a) = (_, refl)
-first_word act.End = (_, refl)
-first_word (act.Depend b a) = (_, refl)
+-- the words behind the first
+unfoldable pub others : Act → List (List ℕ)
+others (act.Do (op.Create p)) = path_text p ∷ []
+others (act.Do (op.Write p)) = path_text p ∷ []
+others (act.Do (op.Link p q)) = path_text p ∷ path_text q ∷ []
+others (act.Do (op.Unlink p)) = path_text p ∷ []
+others (act.Do (op.Rename p q)) = path_text p ∷ path_text q ∷ []
+others (act.Do (op.Mkdir p)) = path_text p ∷ []
+others (act.Do (op.Rmdir p)) = path_text p ∷ []
+others (act.Group a) = a ∷ []
+others act.End = []
+others (act.Depend b a) = b ∷ a ∷ []
 
-act_words : (line : List ℕ) (a : Act) → Reads line (script.Says a) → AreWords line (words_of a)
+pub first_and_others : (a : Act) → words_of a ≡ spelling (verb_of_act a) ∷ others a
+unfolding verb_of_act others
+first_and_others (act.Do (op.Create p)) = refl
+first_and_others (act.Do (op.Write p)) = refl
+first_and_others (act.Do (op.Link p q)) = refl
+first_and_others (act.Do (op.Unlink p)) = refl
+first_and_others (act.Do (op.Rename p q)) = refl
+first_and_others (act.Do (op.Mkdir p)) = refl
+first_and_others (act.Do (op.Rmdir p)) = refl
+first_and_others (act.Group a) = refl
+first_and_others act.End = refl
+first_and_others (act.Depend b a) = refl
+
+pub act_words : (line : List ℕ) (a : Act) → Reads line (script.Says a) → AreWords line (words_of a)
 act_words line a says = record {
   plain = words_plain a says.0;
-  some = (λ e. let first = first_word a in let none = sym first.1 ∙ e in cc);
+  some = (λ e. let none = sym (first_and_others a) ∙ e in cc);
   whole = says.1;
 }
 
-no_start : (a : Act) → verb_of_act a ≢ Start
+pub no_start : (a : Act) → verb_of_act a ≢ Start
 unfolding verb_of_act
 no_start (act.Do (op.Create p)) e = cc
 no_start (act.Do (op.Write p)) e = cc
@@ -149,8 +162,7 @@ pub start_is_no_act : (a : Act) → ¬ (Reads (codes "start") (script.Says a))
 start_is_no_act a says =
     let start : AreWords (codes "start") (codes "start" ∷ []) = record { plain = plain_one (codes "start") (verb_plain Start); some = (λ e. cc); whole = refl } in
     let same = words_once (codes "start") _ _ (act_words (codes "start") a says) start in
-    let first = first_word a in
-    let heads : spelling (verb_of_act a) ≡ spelling Start = (let e = sym first.1 ∙ same in cc) in
+    let heads : spelling (verb_of_act a) ≡ spelling Start = (let e = sym (first_and_others a) ∙ same in cc) in
     no_start a (verb_once (verb_of_act a) Start heads)
 
 -- nor is it passed over

@@ -83,7 +83,7 @@ all_of_verbs =
 pub form_of_verb : (first : List ℕ) (operands : List Operand) → Contains forms (first, operands) → (verb : Verb) × (first ≡ spelling verb) × (operands ≡ operands_of verb)
 form_of_verb first operands has = All-contains IsOfVerb forms (first, operands) all_of_verbs has
 
-verb_has_form : (verb : Verb) → Contains forms (spelling verb, operands_of verb)
+pub verb_has_form : (verb : Verb) → Contains forms (spelling verb, operands_of verb)
 verb_has_form Create = (0, lit< tt, refl)
 verb_has_form Write = (1, lit< tt, refl)
 verb_has_form Link = (2, lit< tt, refl)

@@ -17,13 +17,13 @@ use Rattle.script_text.specs.Words.{IsLineFault, line_fault}
 use Rattle.script_text.proofs.Acts.{start_is_no_act, start_is_not_skipped}
 use Rattle.script_text.proofs.LineLists.{are_lines}
 
-abbrev start : List ℕ
+abbrev pub start : List ℕ
 start = codes "start"
 
-abbrev IsAccepted : List ℕ → Type 0
+abbrev pub IsAccepted : List ℕ → Type 0
 IsAccepted line = (says : Line) × Reads line says
 
-abbrev IsNoStart : List ℕ → Type 0
+abbrev pub IsNoStart : List ℕ → Type 0
 IsNoStart line = line ≢ start
 
 -- ---- lines of steps are accepted, and none is the start line
@@ -33,7 +33,7 @@ steps_accepted n [] steps says = All-nil IsAccepted
 steps_accepted n (l ∷ ls) steps (inl more) = All-cons IsAccepted l ls (script.Skipped, more.0) (steps_accepted (n + 1) ls steps more.1)
 steps_accepted n (l ∷ ls) steps (inr (act, rest, reads, more, whole)) = All-cons IsAccepted l ls (script.Says act, reads) (steps_accepted (n + 1) ls rest more)
 
-steps_no_start : (n : ℕ) (before : List (List ℕ)) (steps : List Step) → AreSteps n before steps → All IsNoStart before
+pub steps_no_start : (n : ℕ) (before : List (List ℕ)) (steps : List Step) → AreSteps n before steps → All IsNoStart before
 steps_no_start n [] steps says = All-nil IsNoStart
 steps_no_start n (l ∷ ls) steps (inl more) =
     All-cons IsNoStart l ls (λ same. start_is_not_skipped (subst (λ (t : List ℕ). Reads t script.Skipped) same more.0)) (steps_no_start (n + 1) ls steps more.1)
@@ -48,7 +48,7 @@ no_place [] i none here = cc
 no_place (l ∷ ls) zero none here = none 0 l (omega arith) (let e : l ≡ start = cc in e)
 no_place (l ∷ ls) (suc i) none here = no_place ls i (λ k d below. none (suc k) d (omega arith)) here
 
-one_place : (before behind : List (List ℕ)) (i : ℕ) → All IsNoStart before → All IsNoStart behind → slice_get (before ++ start ∷ behind) i ≡ Some start → i ≡ length before
+pub one_place : (before behind : List (List ℕ)) (i : ℕ) → All IsNoStart before → All IsNoStart behind → slice_get (before ++ start ∷ behind) i ≡ Some start → i ≡ length before
 one_place [] behind zero none too here = refl
 one_place [] behind (suc i) none too here = absurd (no_place behind i too here)
 one_place (l ∷ ls) behind zero none too here = absurd (none 0 l (omega arith) (let e : l ≡ start = cc in e))
@@ -60,7 +60,7 @@ part_accepted n before steps says = record {
   one_start = λ i j here there. absurd (no_place before i (steps_no_start n before steps says) here);
 }
 
-parts_accepted : (n m : ℕ) (before behind : List (List ℕ)) (steps more : List Step) → AreSteps n before steps → AreSteps m behind more → AreAccepted (before ++ start ∷ behind)
+pub parts_accepted : (n m : ℕ) (before behind : List (List ℕ)) (steps more : List Step) → AreSteps n before steps → AreSteps m behind more → AreAccepted (before ++ start ∷ behind)
 parts_accepted n m before behind steps more says too = record {
   each = All-append IsAccepted before (start ∷ behind) (steps_accepted n before steps says) (All-cons IsAccepted start behind (script.Start, refl) (steps_accepted m behind more too));
   one_start = λ i j here there.

@@ -4,6 +4,7 @@
 //! the trace; an empty line and a comment, which begins with `#`, ask for nothing.
 #![tactic(auto)]
 
+pub mod laws;
 mod line;
 mod lines;
 mod operands;

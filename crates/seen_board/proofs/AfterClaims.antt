@@ -1,10 +1,9 @@
 -- A seat after a try to claim.
-use Rattle.std.proofs.Common.{◌≡◌, ◌≢◌, ℕ, ◌<◌, List, ◌∙◌, arith, ap}
+use Rattle.std.proofs.Common.{◌≡◌, ◌≢◌, ℕ, List, ◌∙◌}
 use mathlib.Core.Logic.{dite}
 use native.Mathlib.Decide.{ℕ_discrete}
 use Rattle.atomic_table.specs.Table.{Me}
 use Rattle.board_rule.specs.Changes.{with_claim, with_learned}
-use Rattle.board_rule.specs.Plays.{IsIdle}
 use Rattle.board_rule.specs.declared.life.Life.TheVariants.{Claimed}
 use Rattle.board_rule.specs.declared.view.View.{View}
 use Rattle.seen_board.specs.Known.{Rests, Counts}

@@ -1,5 +1,5 @@
 -- What two seats know together.
-use Rattle.std.proofs.Common.{◌≡◌, ℕ, ◌+◌, ◌<◌, ◌≤◌, true, cond, List, [], length, get_or, set, refl, ap, ◌∙◌, subst, sym, arith, get_or-set_same, get_or-set_other}
+use Rattle.std.proofs.Common.{◌≡◌, ℕ, ◌+◌, ◌<◌, ◌≤◌, true, cond, List, length, get_or, set, ap, ◌∙◌, sym, arith, get_or-set_same, get_or-set_other}
 use Rattle.std.specs.Prelude.{max}
 use mathlib.Core.Logic.{dite}
 use native.Mathlib.Decide.{ℕ_discrete}
@@ -9,7 +9,7 @@ use Rattle.board_rule.specs.Changes.{joined}
 use Rattle.board_rule.specs.Plays.{IsIdle}
 use Rattle.board_rule.specs.declared.view.View.{View}
 use Rattle.board_rule.proofs.Seats.{merged_agrees, merged_length, joined_agree}
-use Rattle.seen_board.specs.Known.{Known, known_of, Counts}
+use Rattle.seen_board.specs.Known.{known_of, Counts}
 use Rattle.seen_board.specs.Clauses.{SeesOn, both_known}
 
 -- the larger number at one more place
@@ -40,6 +40,7 @@ module _ (v w : View) (near : (joined v w).rows.held < 13) (all-v : length v.row
 
   pub join_counts : (limit : ℕ) (first second counts : List ℕ) → Counts limit first v.rows.seen → Counts limit second w.rows.seen → ((q : ℕ) → q < 13 → get_or counts q 0 ≡ max (get_or first q 0) (get_or second q 0)) → Counts limit counts (merged v.rows.seen w.rows.seen)
   join_counts limit first second counts o u is = record {
+    small = o.small;
     all = merged_length v.rows.seen w.rows.seen ∙ all-v;
     each = λ q h. omega (arith, is q h, o.each q h, u.each q h, (rows q).2);
     short = λ q h. omega (arith, o.short q h, u.short q h, (rows q).2);

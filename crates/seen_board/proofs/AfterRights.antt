@@ -15,6 +15,7 @@ sees_set seen q row all near more = rows_cases seen q row (λ p r. StartsWith r 
 
 pub counts_set : (limit : ℕ) (counts : List ℕ) (seen : List (List ℕ)) (q n : ℕ) (row : List ℕ) → length counts ≡ 13 → Counts limit counts seen → q < 13 → n ≡ length row → length row ≤ limit → Counts limit (set counts q n) (set seen q row)
 counts_set limit counts seen q n row thirteen o near is fits = record {
+  small = o.small;
   all = length-set seen q row ∙ o.all;
   each = rows_cases seen q row (λ p r. get_or (set counts q n) p 0 ≡ length r) o.all near (get_or-set_same counts q n 0 (omega (arith, thirteen)) ∙ is) (λ p h ne. get_or-set_other counts q p n 0 ne ∙ o.each p h);
   short = rows_cases seen q row (λ p r. length r ≤ limit) o.all near fits (λ p h ne. o.short p h);

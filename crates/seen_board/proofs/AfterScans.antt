@@ -1,5 +1,5 @@
 -- What a seat has seen after the load of an index word.
-use Rattle.std.proofs.Common.{◌≡◌, ℕ, ◌+◌, ◌<◌, ◌≤◌, List, [], length, get_or, set, refl, ap, ◌∙◌, subst, sym, arith, get_or-set_same}
+use Rattle.std.proofs.Common.{◌≡◌, ℕ, ◌<◌, ◌≤◌, List, [], length, get_or, set, refl, ap, ◌∙◌, arith, get_or-set_same}
 use Rattle.std.specs.Prelude.{max}
 use Rattle.atomic_table.specs.Seated.{TableId}
 use Rattle.atomic_table.specs.Table.{Me}
@@ -7,7 +7,7 @@ use Rattle.board_rule.specs.Lists.{row_of}
 use Rattle.board_rule.specs.Plays.{IsIdle, Scans}
 use Rattle.board_rule.specs.declared.view.View.{View}
 use Rattle.seen_board.specs.Known.{known_of, Rests, Counts}
-use Rattle.seen_board.specs.Clauses.{Sees, SeesOn}
+use Rattle.seen_board.specs.Clauses.{Sees}
 use Rattle.seen_board.proofs.AfterRights.{sees_set, counts_set}
 
 module _ {v w : View} {q named : ℕ} (t : Scans v q named w) where

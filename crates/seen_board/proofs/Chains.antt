@@ -1,5 +1,5 @@
 -- What was seen over several calls.
-use Rattle.std.proofs.Common.{◌≡◌, ◌≢◌, ℕ, ◌<◌, ◌≤◌, List, length, get_or, refl, ap, ◌∙◌, subst, sym, arith}
+use Rattle.std.proofs.Common.{◌≡◌, ℕ, List, refl, ap, ◌∙◌, subst, sym}
 use Rattle.board_rule.specs.Lists.{row_of}
 use Rattle.board_rule.proofs.Sums.{starts-refl, starts-trans}
 use Rattle.seen_board.specs.Known.{Known}

@@ -1,5 +1,5 @@
 -- What clauses say of seats and places.
-use Rattle.std.specs.Prelude.{◌≡◌, ◌≢◌, ℕ, ◌<◌, Bool, cond, List, [], ◌∷◌, ◌++◌, length, slice_index}
+use Rattle.std.specs.Prelude.{◌≡◌, ◌≢◌, ℕ, ◌<◌, Bool, cond, List, [], ◌∷◌, ◌++◌, length, slice_index, ◌%◌}
 use Rattle.board_rule.specs.Layout.{writer, place_of}
 use Rattle.board_rule.specs.Changes.{either_one}
 use Rattle.board_rule.specs.declared.life.Life.{Life}
@@ -62,6 +62,6 @@ HasPlace rows place = (place.shard < 13) × (place.at < length (row_of rows plac
 abbrev pub word_at : List (List ℕ) → Place → ℕ
 word_at rows place = slice_index (row_of rows place.shard) place.at
 
--- the word stands at the place
+-- the word stands at the place, in the shard of its number
 abbrev pub Names : List (List ℕ) → Place → ℕ → Type 0
-Names rows place word = HasPlace rows place × (word_at rows place ≡ word)
+Names rows place word = HasPlace rows place × (word_at rows place ≡ word) × (place.shard ≡ word % 13)

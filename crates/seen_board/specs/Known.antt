@@ -59,6 +59,7 @@ Rests m = (m.1 ≡ []) × (0 < m.0.limit) × IsIdle m.0
 
 -- how much of each row is seen
 pub record Counts (limit : ℕ) (counts : List ℕ) (seen : List (List ℕ)) : Type 0 where
+  pub small : limit ≤ 32768
   pub all : length seen ≡ 13
   pub each : (q : ℕ) → q < 13 → slice_index counts q ≡ length (row_of seen q)
   pub short : (q : ℕ) → q < 13 → length (row_of seen q) ≤ limit

@@ -1,3 +1,5 @@
 pub mod Clauses
+pub mod Ended
 pub mod Founds
+pub mod Inserts
 pub mod Known

@@ -33,3 +33,12 @@ pub(crate) enum Found {
     // None of them is zero, and none names the word's place.
     Full,
 }
+
+// What a look under the read right told.
+#[derive(Clone, Copy, Debug, PartialEq, Eq, Drop)]
+pub(crate) enum Looked {
+    // The right was not had.
+    Taken,
+    At(u16),
+    Absent,
+}

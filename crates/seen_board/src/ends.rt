@@ -23,9 +23,7 @@ impl<S: Space, A: Allocator> Board<S, A> {
         requires seat { IsOf self.now seat.old }
         ensures { seat.new ≡ record seat.old { claims = 0 } }
     {
-        self.table
-            .shared
-            .store::<Stop>(&mut seat.seat, STOP, 1);
+        self.table.shared.store::<Stop>(&mut seat.seat, STOP, 1);
     }
 
     /// Whether a stop was read. Nothing rests on it.

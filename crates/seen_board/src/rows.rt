@@ -15,7 +15,7 @@ use state_space::Space;
 use std::alloc::Allocator;
 use std::marker::Brand;
 
-const HALF: u128 = 1 << 64;
+pub(crate) const HALF: u128 = 1 << 64;
 
 // The low and the high 64 bits of a word.
 pub(crate) fn halves_of(word: u128) -> (u64, u64)

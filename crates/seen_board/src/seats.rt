@@ -1,7 +1,15 @@
-ghost use Rattle.std.specs.Prelude.{◌≡◌, ℕ, ◌<◌, [], max, slice_index};
+ghost use Rattle.std.specs.Prelude.{◌≡◌, ℕ, ◌/◌, ◌%◌, ◌<◌, [], length, max, slice_index};
+ghost use Rattle.std.specs.List.{All};
+ghost use Rattle.state_space.specs.Reach.{IsReached};
+ghost use Rattle.state_space.specs.Counts.{Outnumbers};
+ghost use Rattle.board_rule.specs.Lists.{row_of};
+ghost use Rattle.board_rule.specs.Lives.{Passes};
+ghost use Rattle.board_rule.specs.declared.life.Life.TheVariants.{Claimed};
+ghost use Rattle.seen_board.specs.Ended.{Entries, Settled, Done, life_in};
 ghost use Rattle.seen_board.specs.Clauses.{IsOf, SeesOn, both_known};
 
 use crate::board::{Board, PENDING};
+use crate::contents::Contents;
 use crate::plays::{Both, Fresh, Placed};
 use crate::seat::BoardSeat;
 use state_space::Space;
@@ -46,12 +54,29 @@ impl<S: Space, A: Allocator> Board<S, A> {
             seat: given,
             counts: _,
         } = other;
-        self.table
-            .shared
-            .join_seat::<Both>(&mut seat.seat, given);
-        self.table
-            .shared
-            .load::<Placed>(&mut seat.seat, PENDING);
+        self.table.shared.join_seat::<Both>(&mut seat.seat, given);
+        self.table.shared.load::<Placed>(&mut seat.seat, PENDING);
         seat.counts = counts;
+    }
+
+    /// Ends the board: the final rows and lives, as the last state of the words has them.
+    pub fn close(self, seat: BoardSeat) -> Contents<A>
+        requires { IsOf self seat }
+        ensures seen { SeesOn seat.seen result.rows }
+        ensures whole { 0 < seat.right → row_of seat.seen seat.held ≡ row_of result.rows seat.held }
+        ensures entries { Entries (S.successors self.space) (S.initial self.space) self.limit result.rows }
+        ensures settled { Settled (S.successors self.space) (S.is_good self.space) result }
+        ensures claimed { seat.claims ≡ 1 → life_in result seat.place ≡ Claimed }
+        ensures learned { All (λ met. Passes met.1 (life_in result met.0)) seat.learned }
+        ensures added { All (λ p. p / 13 < length (row_of result.rows (p % 13))) seat.added }
+        ensures finished { seat.finished ≡ 1 → Done (S.successors self.space) (S.initial self.space) result }
+        ensures over { seat.over ≡ 1 → Outnumbers (IsReached (S.successors self.space) (S.initial self.space)) self.limit }
+    {
+        let Board { table, limit } = self;
+        let BoardSeat { seat, counts: _ } = seat;
+        Contents {
+            closed: table.close_with(seat),
+            limit,
+        }
     }
 }

@@ -1,5 +1,5 @@
 -- What is gained and lost, said of views with the same members.
-use Rattle.std.proofs.Common.{◌≡◌, ℕ, ◌⊎◌, ◌↔◌, inl, inr, List}
+use Rattle.std.proofs.Common.{ℕ, ◌⊎◌, ◌↔◌, inl, inr}
 use Rattle.crash_model.specs.View.{View}
 use Rattle.crash_model.specs.Meaning.{Becomes, with_all_of}
 use Rattle.sound_tables.specs.Tables.{SameView}

@@ -1,6 +1,6 @@
 -- Blocks of inodes that are new, gone, or have a block more.
 use Rattle.std.proofs.Common.{◌≡◌, ◌≢◌, ℕ, ◌+◌, ◌<◌, ◌≤◌, ◌⊎◌, inl, inr, Bool, true, false, arith, refl, sym, ◌∙◌, ap, subst}
-use Rattle.std.proofs.lemmas.Bool.{cases_eq, eq-eqb, ne_eqb}
+use Rattle.std.proofs.lemmas.Bool.{cases_eq, eq-eqb}
 use Rattle.sound_tables.specs.Tables.{Tables, Mark, changed, HasPointer, SoundBlocks}
 use Rattle.sound_tables.specs.Tables.Mark.{FileOf, DirectoryOf}
 use Rattle.sound_tables.proofs.Sums.{changed-same, changed-other}

@@ -1,23 +1,19 @@
 -- What tables say of the bytes, and what a search found.
-use Rattle.std.proofs.Common.{◌≡◌, ◌≢◌, ℕ, zero, suc, ◌+◌, ◌-◌, ◌*◌, ◌<◌, ◌≤◌, ◌⊎◌, inl, inr, List, Bool, true, false, ◌&&◌, not, eqb, ltb, Option, Some, None, Result, Ok, Err, length, arith, refl, sym, ◌∙◌, ap, subst}
-use Rattle.std.specs.Prelude.{is_some, is_none, unwrap_or, bytes_eq, option_map, [], ◌∷◌}
-use Rattle.std.specs.Option.{option_or}
-use Rattle.std.proofs.lemmas.Bool.{cases_eq, cases_Bool, cases_lt, eq-eqb, ne_eqb, lt-ltb, le-ltb, eqb-true}
+use Rattle.std.proofs.Common.{◌≡◌, ◌≢◌, ℕ, zero, suc, ◌+◌, ◌<◌, ◌≤◌, inl, inr, List, Bool, true, false, Option, Some, None, Result, Ok, Err, length, arith, refl, sym, ◌∙◌, ap, subst}
+use Rattle.std.specs.Prelude.{option_map, [], ◌∷◌}
+use Rattle.std.proofs.lemmas.Bool.{cases_eq, cases_lt, eq-eqb, ne_eqb, lt-ltb, le-ltb}
 use Rattle.std.proofs.lemmas.Bool.Decides.{nat_tests}
-use Rattle.std.proofs.lemmas.Slice.Eq.{bytes_eq-Decides}
-use Rattle.crash_model.specs.Disk.{Disk, IsDisk, byte, overwrite}
-use Rattle.crash_model.specs.Lists.{first_below, when}
-use Rattle.crash_model.specs.Layout.{kind_of, links_of, pointer_of, is_data, is_live, is_entry, target_of, counts, entry_of, spelling_of}
-use Rattle.crash_model.specs.Plan.{spelled, is_named, entry_named, inode_named, entered, walked, then_ok, unless}
+use Rattle.crash_model.specs.Disk.{Disk, IsDisk, byte}
+use Rattle.crash_model.specs.Layout.{kind_of, pointer_of, is_data, is_live, target_of, counts, entry_of, spelling_of}
+use Rattle.crash_model.specs.Plan.{is_named, entry_named, inode_named, entered, walked}
 use Rattle.crash_model.specs.declared.refusals.FsFault.{FsFault}
 use Rattle.crash_model.specs.declared.refusals.FsFault.TheVariants.{NotADirectory}
 use Rattle.crash_model.proofs.Bytes.{length-overwrite}
-use Rattle.sound_tables.specs.Tables.{Tables, Place, Mark, tables_of, place_at, place_of, mark_at, within}
+use Rattle.sound_tables.specs.Tables.{tables_of, place_at, place_of, mark_at}
 use Rattle.sound_tables.specs.Tables.Place.{Free, Leads}
 use Rattle.sound_tables.specs.Tables.Mark.{Plain, FileOf, DirectoryOf}
-use Rattle.sound_tables.proofs.OnTables.{Counts, counts-from, counts-parts}
 use Rattle.sound_tables.proofs.Puts.{written}
-use Rattle.sound_tables.proofs.Searches.{Found, first_below-is_none, first_below-is_some}
+use Rattle.sound_tables.proofs.Searches.{first_below-is_some}
 use Rattle.sound_tables.proofs.Answered.{then_ok-ok}
 
 -- ---- tables and bytes

@@ -1,5 +1,5 @@
 -- Link counts after an entry is gained or lost.
-use Rattle.std.proofs.Common.{◌≡◌, ◌≢◌, ℕ, zero, suc, ◌+◌, ◌<◌, ◌≤◌, ◌⊎◌, inl, inr, List, eqb, arith, refl, sym, ◌∙◌, ap}
+use Rattle.std.proofs.Common.{◌≡◌, ◌≢◌, ℕ, ◌+◌, ◌<◌, inl, inr, List, arith, refl, sym, ◌∙◌, ap}
 use Rattle.std.proofs.lemmas.Bool.{cases_eq, eq-eqb, ne_eqb}
 use Rattle.sound_tables.specs.Tables.{Place, with_place, leads, sum_below, count_to, SoundCounts}
 use Rattle.sound_tables.specs.Tables.Place.{Free, Leads}

@@ -1,24 +1,20 @@
 -- A disk with sound tables is sound.
-use Rattle.std.proofs.Common.{◌≡◌, ◌≢◌, ℕ, zero, suc, ◌+◌, ◌-◌, ◌*◌, ◌<◌, ◌≤◌, ◌⊎◌, ◌↔◌, inl, inr, List, Bool, true, false, ◌&&◌, not, eqb, ltb, leb, length, arith, refl, sym, ◌∙◌, ap, subst}
-use Rattle.std.specs.Prelude.{IsTrue}
-use Rattle.std.proofs.lemmas.Bool.{cases_eq, cases_Bool, cases_lt, cases_order, eq-eqb, ne_eqb, eqb-true, eqb-false, lt-ltb, le-ltb, le-leb}
+use Rattle.std.proofs.Common.{◌≡◌, ◌≢◌, ℕ, zero, suc, ◌+◌, ◌<◌, ◌≤◌, ◌⊎◌, ◌↔◌, inl, inr, Bool, true, false, ◌&&◌, not, eqb, ltb, length, arith, refl, sym, ◌∙◌, ap, subst}
+use Rattle.std.proofs.lemmas.Bool.{cases_eq, cases_lt, eq-eqb, ne_eqb, eqb-true, lt-ltb, le-ltb, le-leb}
 use Rattle.std.proofs.lemmas.Bool.Decides.{nat_tests}
 use Rattle.crash_model.specs.Disk.{Disk, IsDisk, byte}
-use Rattle.crash_model.specs.Names.{IsName}
-use Rattle.crash_model.specs.Layout.{kind_of, links_of, pointer_of, map_of, is_data, is_live, is_entry, is_pointer, target_of, counts, entry_of, spelling_of}
-use Rattle.crash_model.specs.Faults.{IsClean, is_dangling, is_tame, is_wild, is_twice, is_unwritten, is_right_mark, is_marked_free, has_low_links, names_block, namers, entries_to}
-use Rattle.crash_model.specs.Plan.{spelled}
-use Rattle.crash_model.specs.View.{HasName, HasInode, HasPointer}
+use Rattle.crash_model.specs.Layout.{kind_of, links_of, pointer_of, map_of, is_data, is_live, is_entry, is_pointer, target_of, spelling_of}
+use Rattle.crash_model.specs.Faults.{IsClean, is_tame, is_right_mark, names_block, namers, entries_to}
+use Rattle.crash_model.specs.View.{HasPointer}
 use Rattle.crash_model.specs.Sound.{IsSound, ReachedIn}
-use Rattle.sound_tables.specs.Tables.{Tables, Place, Mark, tables_of, place_of, mark_at, within, HasPointer as PointerIn, ReachedIn as ReachedBy, leads, sum_below, count_to, SoundNames, Sound}
-use Rattle.sound_tables.specs.Tables.Place.{Free, Leads}
+use Rattle.sound_tables.specs.Tables.{tables_of, mark_at, HasPointer as PointerIn, ReachedIn as ReachedBy, count_to, SoundNames, Sound}
+use Rattle.sound_tables.specs.Tables.Place.{Leads}
 use Rattle.sound_tables.specs.Tables.Mark.{Plain, FileOf, DirectoryOf}
-use Rattle.sound_tables.proofs.Places.{one_if, sum_below-one_pair, sum_below-zero}
+use Rattle.sound_tables.proofs.Places.{one_if, sum_below-one_pair}
 use Rattle.sound_tables.proofs.Counts.{count_to-none}
-use Rattle.sound_tables.proofs.Puts.{data-block}
-use Rattle.sound_tables.proofs.ByTables.{kind-at, pointer-at, entry-at, live-at, EntryBytes, entry-bytes, counts-by_tables, mark_directory}
-use Rattle.sound_tables.proofs.Views.{links-at, used-at, used-below, pointer-below, place-leads, entry-is, same-view}
-use Rattle.sound_tables.proofs.ToTables.{PointerBytes, pointer-bytes, namers-count, entries-count}
+use Rattle.sound_tables.proofs.ByTables.{kind-at, pointer-at, entry-at, live-at, counts-by_tables, mark_directory}
+use Rattle.sound_tables.proofs.Views.{links-at, used-at, used-below, place-leads, same-view}
+use Rattle.sound_tables.proofs.ToTables.{namers-count, entries-count}
 
 -- ---- what the bytes say, said of the tables
 

@@ -1,14 +1,14 @@
 -- Each operation leaves sound tables sound.
-use Rattle.std.proofs.Common.{◌≡◌, ◌≢◌, ℕ, zero, suc, ◌+◌, ◌<◌, ◌≤◌, ◌⊎◌, inl, inr, List, Bool, true, false, arith, refl, sym, ◌∙◌, ap, subst}
-use Rattle.std.proofs.lemmas.Bool.{cases_eq, eq-eqb, ne_eqb}
+use Rattle.std.proofs.Common.{◌≡◌, ◌≢◌, ℕ, ◌+◌, ◌<◌, ◌≤◌, inl, inr, List, Bool, false, arith, refl, sym, ◌∙◌, ap}
+use Rattle.std.proofs.lemmas.Bool.{cases_eq}
 use Rattle.crash_model.specs.Names.{IsName}
 use Rattle.crash_model.specs.Plan.{spelled}
-use Rattle.sound_tables.specs.Tables.{Tables, Place, Mark, changed, with_place, created, grown, linked, unlinked, removed, made, HasPointer, count_to, SoundBlocks, SoundInodes, SoundNames, SoundCounts, Sound}
+use Rattle.sound_tables.specs.Tables.{Tables, changed, with_place, created, grown, linked, unlinked, removed, made, count_to, SoundNames, SoundCounts, Sound}
 use Rattle.sound_tables.specs.Tables.Place.{Free, Leads}
 use Rattle.sound_tables.specs.Tables.Mark.{FileOf, DirectoryOf}
 use Rattle.sound_tables.proofs.Sums.{changed-same, changed-other, changed_twice-same, changed_twice-row}
-use Rattle.sound_tables.proofs.Names.{GainsName, names-gained, LosesName, names-lost}
-use Rattle.sound_tables.proofs.Counts.{count_to-none, only_entry, other_entry, GainsLink, counts-gained, LosesLink, counts-lost}
+use Rattle.sound_tables.proofs.Names.{names-gained, names-lost}
+use Rattle.sound_tables.proofs.Counts.{count_to-none, only_entry, other_entry, counts-gained, counts-lost}
 use Rattle.sound_tables.proofs.Inodes.{IsFresh, not-fresh, inodes-new, inodes-freed, inodes-linked}
 use Rattle.sound_tables.proofs.Blocks.{blocks-new_file, FreesBlocks, blocks-freed, GainsBlock, blocks-gained}
 

@@ -1,5 +1,5 @@
 -- What each operation gains and loses, said of the view of tables.
-use Rattle.std.proofs.Common.{◌≡◌, ◌≢◌, ℕ, zero, suc, ◌+◌, ◌-◌, ◌<◌, ◌≤◌, ◌⊎◌, ◌↔◌, inl, inr, List, [], ◌∷◌, ◌++◌, Bool, true, false, length, take, replicate, arith, refl, sym, ◌∙◌, ap, subst}
+use Rattle.std.proofs.Common.{◌≡◌, ◌≢◌, ℕ, ◌+◌, ◌-◌, ◌≤◌, ◌⊎◌, ◌↔◌, inl, inr, List, ◌++◌, Bool, true, length, take, replicate, arith, refl, sym, ◌∙◌, ap, subst}
 use mathlib.Core.Path.{fun_ext}
 use Rattle.std.proofs.lemmas.Bool.{cases_eq, eq-eqb, ne_eqb}
 use Rattle.std.proofs.lemmas.Grind.{elements}
@@ -9,10 +9,10 @@ use Rattle.sound_tables.specs.Tables.{Tables, Place, Mark, changed, with_place, 
 use Rattle.sound_tables.specs.Tables.Place.{Free, Leads}
 use Rattle.sound_tables.specs.Tables.Mark.{FileOf, DirectoryOf}
 use Rattle.sound_tables.proofs.Sums.{changed-same, changed-other, changed_twice-same, changed_twice-other}
-use Rattle.sound_tables.proofs.Names.{cases_place, entry_back, entry_kept, left_back}
+use Rattle.sound_tables.proofs.Names.{entry_back, entry_kept, left_back}
 use Rattle.sound_tables.proofs.Inodes.{IsFresh, not-fresh}
 use Rattle.sound_tables.proofs.Blocks.{FreesBlocks, GainsBlock, pointer-back, pointer-kept, pointer-gained}
-use Rattle.sound_tables.proofs.Kept.{IsPlace, CanCreate, CanMake, made-gains, CanGrow, grown-gains, CanLink, CanUnlink, CanRemove}
+use Rattle.sound_tables.proofs.Kept.{CanCreate, CanMake, made-gains, CanGrow, grown-gains, CanLink, CanUnlink, CanRemove}
 
 pub spelled-injective : (a b : List ℕ) → spelled a ≡ spelled b → a ≡ b
 spelled-injective a b e =

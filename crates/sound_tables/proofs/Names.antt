@@ -1,9 +1,9 @@
 -- Names after an entry is gained or lost.
-use Rattle.std.proofs.Common.{◌≡◌, ◌≢◌, ℕ, zero, suc, ◌+◌, ◌<◌, ◌⊎◌, inl, inr, List, arith, refl, sym, ◌∙◌, ap, subst}
+use Rattle.std.proofs.Common.{◌≡◌, ◌≢◌, ℕ, zero, suc, ◌<◌, ◌⊎◌, inl, inr, List, arith, sym, ◌∙◌, ap, subst}
 use Rattle.std.proofs.lemmas.Bool.{cases_eq}
 use Rattle.crash_model.specs.Names.{IsName}
 use Rattle.crash_model.specs.Plan.{spelled}
-use Rattle.sound_tables.specs.Tables.{Place, SoundNames, ReachedIn, with_place, changed}
+use Rattle.sound_tables.specs.Tables.{Place, SoundNames, ReachedIn, with_place}
 use Rattle.sound_tables.specs.Tables.Place.{Free, Leads}
 use Rattle.sound_tables.proofs.Sums.{changed_twice-same, changed_twice-other}
 

@@ -1,17 +1,16 @@
 -- What each change of a plan does to the tables.
-use Rattle.std.proofs.Common.{◌≡◌, ◌≢◌, ℕ, zero, suc, ◌+◌, ◌-◌, ◌*◌, ◌/◌, ◌%◌, ◌<◌, ◌≤◌, ◌⊎◌, inl, inr, List, [], ◌∷◌, ◌++◌, Bool, true, false, ◌&&◌, not, ltb, eqb, leb, length, take, drop, get_or, replicate, arith, rules, refl, sym, ◌∙◌, ap, subst, add-one, take_all}
+use Rattle.std.proofs.Common.{◌≡◌, ◌≢◌, ℕ, zero, suc, ◌+◌, ◌-◌, ◌*◌, ◌/◌, ◌%◌, ◌<◌, ◌≤◌, ◌⊎◌, inl, inr, List, [], ◌∷◌, Bool, true, false, ◌&&◌, not, eqb, leb, length, take, drop, get_or, replicate, arith, refl, sym, ◌∙◌, ap, subst, add-one, take_all}
 use mathlib.Core.Path.{fun_ext}
-use Rattle.std.proofs.lemmas.Bool.{cases_eq, cases_Bool, cases_lt, cases_order, eq-eqb, ne_eqb, lt-ltb, le-ltb, lt-leb}
+use Rattle.std.proofs.lemmas.Bool.{cases_eq, cases_lt, cases_order, ne_eqb, lt-ltb, le-ltb, lt-leb}
 use Rattle.std.proofs.lemmas.Bool.Decides.{nat_tests}
-use Rattle.std.proofs.lemmas.Grind.{elements, common_steps, same_number_lists}
-use Rattle.crash_model.specs.Disk.{Disk, IsDisk, byte, put, overwrite}
-use Rattle.crash_model.specs.Names.{IsName}
-use Rattle.crash_model.specs.Layout.{kind_of, links_of, pointer_of, map_of, is_data, counts, entry_of, spelling_of, entry_offset}
-use Rattle.crash_model.specs.Plan.{inode_init, inode_free, map_set, map_clear, entry_set, entry_clear, spelled, applied}
-use Rattle.crash_model.proofs.Bytes.{overwrites, length-overwrite, overwrite-inside}
-use Rattle.sound_tables.specs.Tables.{Tables, Place, Mark, tables_of, place_at, place_of, mark_at, changed, with_inode, with_used, with_entry, with_place, within}
+use Rattle.std.proofs.lemmas.Grind.{elements, same_number_lists}
+use Rattle.crash_model.specs.Disk.{Disk, IsDisk, byte, overwrite}
+use Rattle.crash_model.specs.Layout.{kind_of, links_of, pointer_of, map_of, is_data, counts, entry_of, spelling_of}
+use Rattle.crash_model.specs.Plan.{inode_init, inode_free, entry_set, entry_clear, spelled, applied}
+use Rattle.crash_model.proofs.Bytes.{length-overwrite, overwrite-inside}
+use Rattle.sound_tables.specs.Tables.{tables_of, place_at, place_of, changed, with_inode, with_used, with_entry, within}
 use Rattle.sound_tables.specs.Tables.Place.{Free, Leads}
-use Rattle.sound_tables.proofs.Puts.{written, SameBlock, same-block, byte-outside, range-outside, place-same, mark-same, place_from, all_same, data-block, within-changed, within-same, changed-kept, same_tables, tables-inode}
+use Rattle.sound_tables.proofs.Puts.{written, SameBlock, same-block, byte-outside, range-outside, place-same, mark-same, data-block, within-changed, within-same, same_tables, tables-inode}
 
 pub byte-inside : (xs : List ℕ) (at : ℕ) (new : List ℕ) (o p : ℕ) → at + length new ≤ length xs → o < length new → p ≡ at + o → get_or (overwrite xs at new) p 0 ≡ get_or new o 0
 byte-inside xs at new o p fits less e =

@@ -1,9 +1,9 @@
 -- Numbers below n that differ are all numbers below n.
-use Rattle.std.proofs.Common.{◌≡◌, ◌≢◌, ℕ, zero, suc, ◌-◌, ◌<◌, ◌≤◌, ◌⊎◌, inl, inr, Option, Some, None, eqb, ltb, cond, arith, refl, sym, ◌∙◌}
+use Rattle.std.proofs.Common.{◌≡◌, ◌≢◌, ℕ, zero, suc, ◌-◌, ◌<◌, inl, inr, Option, Some, None, eqb, ltb, arith, refl}
 use Rattle.std.specs.Prelude.{if◌then◌else◌}
 use Rattle.std.proofs.lemmas.Bool.{cases_lt, lt-ltb, le-ltb, eqb-true, eqb-false}
 use Rattle.crash_model.specs.Lists.{first_below}
-use Rattle.sound_tables.proofs.Searches.{Found, first_below-is_none, first_below-is_some}
+use Rattle.sound_tables.proofs.Searches.{first_below-is_none, first_below-is_some}
 
 -- a number without the place of m
 squeeze : ℕ → ℕ → ℕ

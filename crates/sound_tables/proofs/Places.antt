@@ -1,10 +1,9 @@
 -- Lists of the places at which a test holds, counted.
-use Rattle.std.proofs.Common.{◌≡◌, ◌≢◌, ℕ, zero, suc, ◌+◌, ◌<◌, ◌≤◌, ◌⊎◌, inl, inr, List, [], ◌∷◌, ◌++◌, Bool, true, false, length, arith, length-append, refl, sym, ◌∙◌, ap, subst}
+use Rattle.std.proofs.Common.{◌≡◌, ◌≢◌, ℕ, zero, suc, ◌+◌, ◌<◌, ◌≤◌, ◌⊎◌, inl, inr, List, Bool, true, false, length, arith, length-append, refl, sym, ◌∙◌, ap}
 use Rattle.std.specs.Prelude.{option_to_list, if◌then◌else◌}
 use Rattle.std.proofs.lemmas.Bool.{cases_eq}
 use Rattle.crash_model.specs.Lists.{each_below, some_below, when}
 use Rattle.sound_tables.specs.Tables.{sum_below}
-use Rattle.sound_tables.proofs.Sums.{sum_below-same}
 
 -- 1 where a test holds
 abbrev pub one_if : Bool → ℕ

@@ -1,16 +1,14 @@
 -- What a change of bytes does to the tables: one table changes at one number.
-use Rattle.std.proofs.Common.{◌≡◌, ◌≢◌, ℕ, zero, suc, ◌+◌, ◌-◌, ◌*◌, ◌/◌, ◌%◌, ◌<◌, ◌≤◌, ◌⊎◌, inl, inr, List, [], ◌∷◌, Bool, true, false, ◌&&◌, not, cond, ltb, eqb, leb, length, take, drop, get_or, replicate, arith, rules, refl, sym, ◌∙◌, ap, subst}
+use Rattle.std.proofs.Common.{◌≡◌, ◌≢◌, ℕ, ◌+◌, ◌*◌, ◌<◌, ◌≤◌, ◌⊎◌, inl, inr, List, Bool, true, false, ◌&&◌, not, eqb, length, take, drop, get_or, arith, refl, sym, ◌∙◌, ap}
 use mathlib.Core.Path.{fun_ext}
 use Rattle.std.proofs.lemmas.Bool.{cases_eq, cases_Bool, cases_lt, cases_order, eq-eqb, ne_eqb, lt-ltb, le-ltb}
 use Rattle.std.proofs.lemmas.Bool.Decides.{nat_tests}
-use Rattle.std.proofs.lemmas.Grind.{elements, common_steps, same_number_lists}
-use Rattle.crash_model.specs.Disk.{Disk, IsDisk, byte, put, overwrite}
-use Rattle.crash_model.specs.Layout.{kind_of, links_of, pointer_of, map_of, is_data, counts, entry_of, spelling_of, entry_offset}
-use Rattle.crash_model.specs.Plan.{inode_init, spelled}
-use Rattle.crash_model.proofs.Bytes.{overwrites, length-overwrite, overwrite-inside, overwrite-below, overwrite-above}
-use Rattle.sound_tables.specs.Tables.{Tables, Place, Mark, tables_of, place_at, place_of, mark_at, changed, with_inode, within}
-use Rattle.sound_tables.specs.Tables.Place.{Free, Leads}
-use Rattle.sound_tables.proofs.Sums.{changed-same, changed-other}
+use Rattle.std.proofs.lemmas.Grind.{elements, same_number_lists}
+use Rattle.crash_model.specs.Disk.{Disk, IsDisk, byte, overwrite}
+use Rattle.crash_model.specs.Layout.{kind_of, links_of, pointer_of, map_of, is_data}
+use Rattle.crash_model.proofs.Bytes.{length-overwrite, overwrite-below, overwrite-above}
+use Rattle.sound_tables.specs.Tables.{Tables, Place, Mark, tables_of, place_at, place_of, mark_at, changed, within}
+use Rattle.sound_tables.specs.Tables.Place.{Free}
 
 -- the disk with bytes from a place on
 abbrev pub written : Disk → ℕ → List ℕ → Disk

@@ -1,20 +1,19 @@
 -- What each change of a plan does to a disk: its tables change at one number.
-use Rattle.std.proofs.Common.{◌≡◌, ◌≢◌, ℕ, zero, suc, ◌+◌, ◌-◌, ◌*◌, ◌/◌, ◌%◌, ◌<◌, ◌≤◌, ◌⊎◌, inl, inr, List, [], ◌∷◌, ◌++◌, Bool, true, false, not, eqb, length, take, drop, get_or, replicate, arith, refl, sym, ◌∙◌, ap, subst}
+use Rattle.std.proofs.Common.{◌≡◌, ◌≢◌, ℕ, ◌+◌, ◌*◌, ◌/◌, ◌%◌, ◌<◌, ◌≤◌, inl, inr, List, [], ◌∷◌, Bool, true, false, not, eqb, length, get_or, replicate, arith, refl, sym, ◌∙◌, ap}
 use mathlib.Core.Path.{fun_ext}
-use Rattle.std.proofs.lemmas.Bool.{cases_eq, cases_lt, cases_order, eq-eqb, ne_eqb, lt-ltb, le-ltb}
+use Rattle.std.proofs.lemmas.Bool.{cases_eq, cases_order, eq-eqb, ne_eqb, lt-ltb}
 use Rattle.std.proofs.lemmas.Grind.{elements}
-use Rattle.crash_model.specs.Disk.{Disk, IsDisk, byte, put, overwrite}
-use Rattle.crash_model.specs.Names.{IsName}
+use Rattle.crash_model.specs.Disk.{Disk, IsDisk, byte}
 use Rattle.crash_model.specs.Layout.{kind_of, links_of, pointer_of, map_of, is_data, counts, entry_of, entry_offset}
 use Rattle.crash_model.specs.Plan.{inode_init, inode_free, link_count, pointer_set, map_set, map_clear, init_block, entry_set, entry_clear, spelled, applied}
 use Rattle.crash_model.specs.declared.plans.Change.{Change}
 use Rattle.crash_model.specs.declared.plans.Role.{Role}
-use Rattle.sound_tables.specs.Tables.{Tables, Place, Mark, tables_of, place_at, place_of, mark_at, within, changed, with_inode, with_links, with_pointer, with_used, with_mark, with_entry}
+use Rattle.sound_tables.specs.Tables.{Tables, tables_of, place_at, place_of, mark_at, within, changed, with_inode, with_links, with_pointer, with_used, with_mark, with_entry}
 use Rattle.sound_tables.specs.Tables.Place.{Free, Leads}
-use Rattle.sound_tables.specs.Tables.Mark.{FileOf, DirectoryOf}
-use Rattle.sound_tables.proofs.Puts.{written, SameBlock, same-block, byte-outside, place-same, mark-same, data-block, within-changed, within-same, changed-kept, same_tables, tables-inode, inode-other}
-use Rattle.sound_tables.proofs.OnTables.{byte-inside, zeros, behind_two, place-no_directory, place-no_block, counts-parts, tables-inode_init, tables-inode_free, tables-map, tables-entry_set, tables-entry_clear}
-use Rattle.sound_tables.proofs.ByTables.{kind-at, pointer-at, entry-at, counts-by_tables, disk-written}
+use Rattle.sound_tables.specs.Tables.Mark.{DirectoryOf}
+use Rattle.sound_tables.proofs.Puts.{written, SameBlock, same-block, byte-outside, place-same, mark-same, data-block, within-changed, within-same, changed-kept, same_tables, tables-inode}
+use Rattle.sound_tables.proofs.OnTables.{byte-inside, behind_two, place-no_directory, counts-parts, tables-inode_init, tables-inode_free, tables-map, tables-entry_set, tables-entry_clear}
+use Rattle.sound_tables.proofs.ByTables.{kind-at, pointer-at, counts-by_tables, disk-written}
 
 -- a change makes a disk with these tables
 pub record Makes (d : Disk) (c : Change) (t : Tables) : Type 0 where

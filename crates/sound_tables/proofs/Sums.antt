@@ -1,5 +1,5 @@
 -- Sums and counts after a change at one place.
-use Rattle.std.proofs.Common.{◌≡◌, ◌≢◌, ℕ, zero, suc, ◌+◌, ◌<◌, List, arith, refl, sym, ◌∙◌, ap, ◌⊎◌, inl, inr, eqb}
+use Rattle.std.proofs.Common.{◌≡◌, ◌≢◌, ℕ, zero, suc, ◌+◌, ◌<◌, arith, refl, sym, ◌∙◌, ap, inl, inr, eqb}
 use Rattle.std.proofs.lemmas.Bool.{cases_eq, eq-eqb, ne_eqb, cond-true, cond-false}
 use Rattle.sound_tables.specs.Tables.{Place, sum_below, count_to, leads, with_place, changed}
 

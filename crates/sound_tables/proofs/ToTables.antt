@@ -1,24 +1,21 @@
 -- The tables of a sound disk are sound.
-use Rattle.std.proofs.Common.{◌≡◌, ◌≢◌, ℕ, zero, suc, ◌+◌, ◌-◌, ◌*◌, ◌<◌, ◌≤◌, ◌⊎◌, inl, inr, List, Bool, true, false, ◌&&◌, not, eqb, ltb, leb, length, arith, refl, sym, ◌∙◌, ap, subst}
-use Rattle.std.specs.Prelude.{IsTrue}
-use Rattle.std.proofs.lemmas.Bool.{cases_eq, cases_Bool, cases_lt, cases_order, eq-eqb, ne_eqb, eqb-false, lt-ltb, le-ltb, le-leb}
+use Rattle.std.proofs.Common.{◌≡◌, ◌≢◌, ℕ, zero, suc, ◌+◌, ◌-◌, ◌<◌, ◌≤◌, inl, inr, List, Bool, true, false, ◌&&◌, not, eqb, length, arith, refl, sym, ◌∙◌, ap, subst}
+use Rattle.std.proofs.lemmas.Bool.{cases_eq, cases_order, eq-eqb, ne_eqb}
 use Rattle.std.proofs.lemmas.Bool.Decides.{nat_tests}
 use Rattle.crash_model.specs.Disk.{Disk, IsDisk, byte}
-use Rattle.crash_model.specs.Names.{IsName}
 use Rattle.crash_model.specs.Layout.{kind_of, links_of, pointer_of, map_of, is_data, is_live, is_entry, is_pointer, target_of, counts, entry_of, spelling_of}
-use Rattle.crash_model.specs.Faults.{IsClean, is_dangling, is_tame, is_wild, is_twice, is_unwritten, is_right_mark, is_marked_free, names_block, namer_at, namers_in, namers, leads_to, entry_leading, entries_in, entries_to}
+use Rattle.crash_model.specs.Faults.{is_tame, is_wild, is_right_mark, names_block, namers_in, namers, leads_to, entries_in, entries_to}
 use Rattle.crash_model.specs.Plan.{spelled}
-use Rattle.crash_model.specs.View.{HasName, HasPointer}
 use Rattle.crash_model.specs.Sound.{IsSound, ReachedIn}
-use Rattle.sound_tables.specs.Tables.{Tables, Place, Mark, tables_of, place_of, place_at, mark_at, within, HasPointer as PointerIn, ReachedIn as ReachedBy, leads, sum_below, count_to, SoundBlocks, SoundInodes, SoundNames, SoundCounts, Sound}
-use Rattle.sound_tables.specs.Tables.Place.{Free, Leads}
+use Rattle.sound_tables.specs.Tables.{Place, tables_of, place_of, place_at, HasPointer as PointerIn, ReachedIn as ReachedBy, leads, sum_below, count_to, SoundBlocks, SoundInodes, SoundNames, SoundCounts, Sound}
+use Rattle.sound_tables.specs.Tables.Place.{Leads}
 use Rattle.sound_tables.specs.Tables.Mark.{FileOf, DirectoryOf}
 use Rattle.sound_tables.proofs.Sums.{sum_below-same}
 use Rattle.sound_tables.proofs.Places.{one_if, length-some_below, length-each_below, sum_below-pairs}
-use Rattle.sound_tables.proofs.OnTables.{Counts, counts-parts}
+use Rattle.sound_tables.proofs.OnTables.{counts-parts}
 use Rattle.sound_tables.proofs.Puts.{data-block}
 use Rattle.sound_tables.proofs.ByTables.{kind-at, pointer-at, entry-at, live-at, EntryBytes, entry-bytes}
-use Rattle.sound_tables.proofs.Views.{links-at, used-at, used-below, pointer-below, place-leads, entry-is, same-view}
+use Rattle.sound_tables.proofs.Views.{links-at, used-at, used-below, pointer-below, entry-is, same-view}
 
 -- ---- a pointer of the tables, said of the bytes
 

@@ -1,15 +1,13 @@
 -- The view of a disk is that of its tables.
-use Rattle.std.proofs.Common.{◌≡◌, ◌≢◌, ℕ, zero, suc, ◌+◌, ◌-◌, ◌*◌, ◌<◌, ◌≤◌, ◌⊎◌, ◌↔◌, inl, inr, List, Bool, true, false, ◌&&◌, not, eqb, ltb, arith, refl, sym, ◌∙◌, ap, subst}
-use Rattle.std.specs.Prelude.{IsTrue}
-use Rattle.std.proofs.lemmas.Bool.{cases_eq, cases_Bool, cases_lt, eq-eqb, ne_eqb, lt-ltb, le-ltb, le-leb, eqb-false}
+use Rattle.std.proofs.Common.{◌≡◌, ◌≢◌, ℕ, zero, suc, ◌+◌, ◌-◌, ◌<◌, inl, inr, List, Bool, true, false, ◌&&◌, not, eqb, arith, refl, sym, ◌∙◌, ap}
+use Rattle.std.proofs.lemmas.Bool.{cases_lt, ne_eqb, lt-ltb, le-ltb, le-leb, eqb-false}
 use Rattle.std.proofs.lemmas.Bool.Decides.{nat_tests}
-use Rattle.crash_model.specs.Disk.{Disk, IsDisk, byte}
-use Rattle.crash_model.specs.Layout.{kind_of, links_of, pointer_of, map_of, is_data, is_live, is_entry, is_pointer, target_of, counts, entry_of, spelling_of}
+use Rattle.crash_model.specs.Disk.{Disk}
+use Rattle.crash_model.specs.Layout.{kind_of, links_of, pointer_of, map_of, is_entry, target_of, counts, entry_of, spelling_of}
 use Rattle.crash_model.specs.Plan.{spelled}
-use Rattle.crash_model.specs.View.{View, HasName, HasInode, HasPointer, IsUsed, view_of}
-use Rattle.crash_model.specs.Meaning.{Becomes}
-use Rattle.sound_tables.specs.Tables.{Tables, Place, tables_of, place_at, place_of, within, NameIn, InodeIn, HasPointer as PointerIn, UsedIn, view, SameView}
-use Rattle.sound_tables.specs.Tables.Place.{Free, Leads}
+use Rattle.crash_model.specs.View.{HasName, HasInode, HasPointer, IsUsed, view_of}
+use Rattle.sound_tables.specs.Tables.{tables_of, place_at, place_of, NameIn, InodeIn, HasPointer as PointerIn, UsedIn, view, SameView}
+use Rattle.sound_tables.specs.Tables.Place.{Leads}
 use Rattle.sound_tables.proofs.ByTables.{kind-at, pointer-at, entry-at, live-at, EntryBytes, entry-bytes}
 use Rattle.sound_tables.proofs.Puts.{data-block}
 

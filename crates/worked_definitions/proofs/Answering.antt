@@ -1,23 +1,21 @@
 -- The answer about a script that is written down as acts.
-use Rattle.std.proofs.Common.{◌≡◌, ℕ, ◌+◌, ◌<◌, ◌≤◌, List, [], ◌∷◌, length, map, Bool, true, false, ◌&&◌, nat_le, nat_lt, arith, refl, sym, subst, ap, ◌∙◌, inl, inr}
-use Rattle.std.specs.Prelude.{◌⊎◌, ◌==◌, Result, Ok, Err}
+use Rattle.std.proofs.Common.{◌≡◌, ℕ, ◌+◌, ◌<◌, List, length, map, Bool, true, false, ◌&&◌, nat_le, nat_lt, refl, sym, subst, inl, inr}
+use Rattle.std.specs.Prelude.{◌==◌, Result, Ok, Err}
 use Rattle.std.proofs.lemmas.Bool.{and_parts, leb-true, le-leb, ltb-true}
 use Rattle.patch_sets.proofs.Ids.{eq_from_true}
-use Rattle.crash_model.specs.Answer.{Answer, Refused, Reported, IsReport, IsTracedAnswer, IsBaseAnswer, IsStepsAnswer, IsAnswer}
+use Rattle.crash_model.specs.Answer.{Answer, Refused, Reported, IsTracedAnswer, IsBaseAnswer, IsAnswer}
 use Rattle.crash_model.specs.Disk.{Disk, formatted, IsGeometry}
 use Rattle.crash_model.specs.Patches.{deps_of}
 use Rattle.crash_model.specs.Refusals.{run_of_trace}
 use Rattle.crash_model.specs.Report.{report}
-use Rattle.crash_model.specs.Trace.{Tracing, begun, traced, based}
+use Rattle.crash_model.specs.Trace.{begun, traced, based}
 use Rattle.crash_model.specs.declared.refusals.TraceFault.{TraceFault}
-use Rattle.crash_model.specs.declared.refusals.RunFault.{RunFault}
 use Rattle.crash_model.specs.declared.refusals.RunFault.TheVariants.{BadGeometry, TooMany}
 use Rattle.crash_model.specs.declared.settings.Settings.{Settings}
 use Rattle.crash_model.specs.declared.steps.Act.{Act}
-use Rattle.crash_model.specs.declared.steps.Step.{Step}
-use Rattle.worked_definitions.specs.Computed.{closed_sets, failing_sets, are_in_order, graph_of, trace_of, is_accepted, explores, section_of, have_runs}
+use Rattle.worked_definitions.specs.Computed.{closed_sets, failing_sets, are_in_order, trace_of, is_accepted, explores, section_of, have_runs}
 use Rattle.worked_definitions.specs.Examples.{numbered}
-use Rattle.worked_definitions.specs.Spelled.{line_of, are_acts, script, based_or, base_of, is_based, traced_acts, graph, is_geometry, is_told}
+use Rattle.worked_definitions.specs.Spelled.{are_acts, script, based_or, base_of, is_based, traced_acts, graph, is_geometry, is_told}
 use Rattle.worked_definitions.proofs.FailingSets.{accepted_is, counts_closed, all_failing}
 use Rattle.worked_definitions.proofs.Graphs.{earlier, graph_is}
 use Rattle.worked_definitions.proofs.Runs.{sections_if}
@@ -44,7 +42,7 @@ module _ (settings : Settings) (before behind : List Act) (read : are_acts befor
       → IsAnswer (script before behind) settings answer
   from_traced answer whole is = from_based answer
       (subst (λ r. IsBaseAnswer settings r (traced_acts before behind) answer)
-        (sym (based_is (formatted settings.blocks settings.journal) (based (formatted settings.blocks settings.journal) (numbered 1 before)) whole)) is)
+      (sym (based_is (formatted settings.blocks settings.journal) (based (formatted settings.blocks settings.journal) (numbered 1 before)) whole)) is)
 
 -- an act before the start line is refused
 pub refused_base : (settings : Settings) (before behind : List Act) (fault : TraceFault)
@@ -53,7 +51,7 @@ pub refused_base : (settings : Settings) (before behind : List Act) (fault : Tra
     → IsAnswer (script before behind) settings (Refused (run_of_trace fault))
 refused_base settings before behind fault read read_too geometry is =
     from_based settings before behind read read_too geometry (Refused (run_of_trace fault))
-      (subst (λ r. IsBaseAnswer settings r (traced_acts before behind) (Refused (run_of_trace fault))) (sym is) refl)
+    (subst (λ r. IsBaseAnswer settings r (traced_acts before behind) (Refused (run_of_trace fault))) (sym is) refl)
 
 -- an act behind it is refused
 pub refused_trace : (settings : Settings) (before behind : List Act) (fault : TraceFault)
@@ -63,7 +61,7 @@ pub refused_trace : (settings : Settings) (before behind : List Act) (fault : Tr
     → IsAnswer (script before behind) settings (Refused (run_of_trace fault))
 refused_trace settings before behind fault read read_too geometry whole is =
     from_traced settings before behind read read_too geometry (Refused (run_of_trace fault)) whole
-      (subst (λ r. IsTracedAnswer settings (base_of settings before) r (Refused (run_of_trace fault))) (sym is) refl)
+    (subst (λ r. IsTracedAnswer settings (base_of settings before) r (Refused (run_of_trace fault))) (sym is) refl)
 
 -- the report
 pub reported : (settings : Settings) (before behind : List Act) (closed : ℕ) (failing : List ℕ) (text : List ℕ)
@@ -85,18 +83,21 @@ reported settings before behind closed failing text told is =
     let eight = and_parts (length (closed_sets (deps_of patches)) == closed) (are_in_order (length (deps_of patches)) failing (failing_sets base patches)) seven.1 in
     let first = earlier settings.module base last in
     from_traced settings before behind one.0 two.0 three.0 (Reported text (length failing)) four.0
-      (subst (λ r. IsTracedAnswer settings base r (Reported text (length failing))) (sym (accepted_is base (traced settings.module (begun base) steps) seven.0))
-        (patches, graph_is settings.module base last, record {
-          total = closed;
-          counted = counts_closed patches closed first (eq_from_true _ _ eight.0);
-          within = leb-true closed settings.limit six.0;
-          sets = failing;
-          exactly = all_failing base patches failing first eight.1;
-          number = refl;
-          sections = map (section_of base patches) failing;
-          told = sections_if base patches failing six.1;
-          whole = is;
-        }))
+    (subst (λ r. IsTracedAnswer settings base r (Reported text (length failing))) (sym (accepted_is base (traced settings.module (begun base) steps) seven.0)) (
+      patches,
+      graph_is settings.module base last,
+      record {
+        total = closed;
+        counted = counts_closed patches closed first (eq_from_true _ _ eight.0);
+        within = leb-true closed settings.limit six.0;
+        sets = failing;
+        exactly = all_failing base patches failing first eight.1;
+        number = refl;
+        sections = map (section_of base patches) failing;
+        told = sections_if base patches failing six.1;
+        whole = is;
+      },
+    ))
 
 -- a disk that can't be
 pub refused_geometry : (settings : Settings) (before behind : List Act) → are_acts before ≡ true → are_acts behind ≡ true
@@ -110,7 +111,7 @@ refused_geometry settings before behind read read_too none =
     no_geometry : IsGeometry settings.blocks settings.journal → ⊥
     no_geometry g =
         let is : is_geometry settings ≡ true = both (nat_le 16 settings.blocks) (nat_le settings.blocks 128 && nat_le (settings.journal + 6) settings.blocks) (le-leb 16 settings.blocks g.least)
-            (both (nat_le settings.blocks 128) (nat_le (settings.journal + 6) settings.blocks) (le-leb settings.blocks 128 g.most) (le-leb (settings.journal + 6) settings.blocks g.room)) in
+        (both (nat_le settings.blocks 128) (nat_le (settings.journal + 6) settings.blocks) (le-leb settings.blocks 128 g.most) (le-leb (settings.journal + 6) settings.blocks g.room)) in
         cc
 
 -- more closed sets than the limit
@@ -128,6 +129,8 @@ refused_limit settings before behind read read_too geometry whole run more =
     let first = earlier settings.module base last in
     let all = counts_closed patches (length (closed_sets (deps_of patches))) first refl in
     from_traced settings before behind read read_too geometry (Refused TooMany) whole
-      (subst (λ r. IsTracedAnswer settings base r (Refused TooMany)) (sym (accepted_is base (traced settings.module (begun base) steps) run))
-        (patches, graph_is settings.module base last,
-         ((all.0, record { distinct = all.1.distinct; each = all.1.each }, subst (λ (n : ℕ). settings.limit < n) (sym all.2) (ltb-true settings.limit (length (closed_sets (deps_of patches))) more)), refl)))
+    (subst (λ r. IsTracedAnswer settings base r (Refused TooMany)) (sym (accepted_is base (traced settings.module (begun base) steps) run)) (
+      patches,
+      graph_is settings.module base last,
+      ((all.0, record { distinct = all.1.distinct; each = all.1.each }, subst (λ (n : ℕ). settings.limit < n) (sym all.2) (ltb-true settings.limit (length (closed_sets (deps_of patches))) more)), refl),
+    ))

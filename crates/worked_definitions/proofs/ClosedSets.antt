@@ -1,11 +1,10 @@
 -- The computed closed sets are all closed sets, and the computed failing sets all failing ones.
-use Rattle.std.proofs.Common.{◌≡◌, ◌≢◌, ℕ, zero, suc, ◌+◌, ◌%◌, ◌^◌, ◌<◌, ◌≤◌, List, [], ◌∷◌, ◌++◌, length, map, Bool, true, false, cond, not, arith, refl, sym, subst, ap, ◌∙◌, inl, inr, get_or, append_assoc, append-nil}
-use Rattle.std.specs.Prelude.{◌⊎◌, ◌↔◌, slice_index, bit_and, ◌==◌}
+use Rattle.std.proofs.Common.{◌≡◌, ◌≢◌, ℕ, zero, suc, ◌+◌, ◌%◌, ◌^◌, ◌<◌, ◌≤◌, List, [], ◌∷◌, ◌++◌, length, map, Bool, true, false, cond, arith, refl, sym, subst, ap, ◌∙◌, inl, inr, get_or, append_assoc, append-nil}
+use Rattle.std.specs.Prelude.{◌⊎◌, slice_index, bit_and, ◌==◌}
 use Rattle.std.specs.Int.{bit_at}
-use Rattle.std.specs.List.{All, AllPairs, Contains, filter}
+use Rattle.std.specs.List.{AllPairs, Contains, filter}
 use Rattle.std.proofs.lemmas.List.Elements.{Contains-append_cases, Contains-append_left, Contains-append_right}
-use Rattle.state_space.specs.Counts.{IsListOf, HoldsOf}
-use Rattle.patch_sets.specs.Sets.{Has, with_id, IsBefore, AreAllInOrder}
+use Rattle.patch_sets.specs.Sets.{Has, with_id}
 use Rattle.patch_sets.specs.Closed.{AreEarlier, IsClosed}
 use Rattle.patch_sets.proofs.Bits.{eq_or_not, none_in_empty, same_set, subset_from_and, and_from_subset, in_with_same, in_with_old, in_with_cases, in_low, from_low}
 use Rattle.patch_sets.proofs.Ids.{true_from_eq, eq_from_true}
@@ -64,10 +63,11 @@ pairs_apart (x ∷ xs) apart (suc i) (suc j) d less within = pairs_apart xs apar
 
 apart_map : (f : ℕ → ℕ) (xs : List ℕ) → ((x y : ℕ) → Contains xs x → Contains xs y → f x ≡ f y → x ≡ y) → AreApart xs → AreApart (map f xs)
 apart_map f [] one apart = tt
-apart_map f (x ∷ xs) one apart =
-    ((λ is. let it = from_map f xs (f x) is in
-        apart.0 (subst (Contains xs) (sym (one x it.0 (zero, omega arith, refl) (suc it.1.0, omega (arith, it.1.1), it.1.2) it.2)) it.1)),
-     apart_map f xs (λ a b in_a in_b e. one a b (suc in_a.0, omega (arith, in_a.1), in_a.2) (suc in_b.0, omega (arith, in_b.1), in_b.2) e) apart.1)
+apart_map f (x ∷ xs) one apart = (
+  (λ is. let it = from_map f xs (f x) is in
+      apart.0 (subst (Contains xs) (sym (one x it.0 (zero, omega arith, refl) (suc it.1.0, omega (arith, it.1.1), it.1.2) it.2)) it.1)),
+  apart_map f xs (λ a b in_a in_b e. one a b (suc in_a.0, omega (arith, in_a.1), in_a.2) (suc in_b.0, omega (arith, in_b.1), in_b.2) e) apart.1,
+)
 
 pub apart_filter : (test : ℕ → Bool) (xs : List ℕ) → AreApart xs → AreApart (filter test xs)
 apart_filter test [] apart = tt
@@ -79,9 +79,10 @@ apart_filter test (x ∷ xs) apart = by_test (test x) (apart_filter test xs apar
 
 apart_append : (xs ys : List ℕ) → AreApart xs → AreApart ys → ((z : ℕ) → Contains xs z → ¬ (Contains ys z)) → AreApart (xs ++ ys)
 apart_append [] ys apart more none = more
-apart_append (x ∷ xs) ys apart more none =
-    ((λ is. elim (Contains-append_cases xs ys x is) [ inl left ↦ apart.0 left | inr right ↦ none x (zero, omega arith, refl) right ]),
-     apart_append xs ys apart.1 more (λ z is. none z (suc is.0, omega (arith, is.1), is.2)))
+apart_append (x ∷ xs) ys apart more none = (
+  (λ is. elim (Contains-append_cases xs ys x is) [ inl left ↦ apart.0 left | inr right ↦ none x (zero, omega arith, refl) right ]),
+  apart_append xs ys apart.1 more (λ z is. none z (suc is.0, omega (arith, is.1), is.2)),
+)
 
 below_or_past : (q n : ℕ) → (q < n) ⊎ (n ≤ q)
 below_or_past q n = grind arith
@@ -181,11 +182,11 @@ module _ (deps : List ℕ) (need : ℕ) (before : AreEarlier deps) (earlier : (p
   closed_more sets all = record {
     apart = apart_append sets (map (λ set. with_id set (length deps)) (filter (λ set. bit_and need set == need) sets)) all.apart
         (apart_map (λ set. with_id set (length deps)) (filter (λ set. bit_and need set == need) sets)
-          (λ a b in_a in_b e. with_one a b (all.each a (from_filter (λ set. bit_and need set == need) sets a in_a).0) (all.each b (from_filter (λ set. bit_and need set == need) sets b in_b).0) e)
-          (apart_filter (λ set. bit_and need set == need) sets all.apart))
+        (λ a b in_a in_b e. with_one a b (all.each a (from_filter (λ set. bit_and need set == need) sets a in_a).0) (all.each b (from_filter (λ set. bit_and need set == need) sets b in_b).0) e)
+        (apart_filter (λ set. bit_and need set == need) sets all.apart))
         (λ z old new. let it = from_map (λ set. with_id set (length deps)) (filter (λ set. bit_and need set == need) sets) z new in
-          let top : Has z (length deps) = subst (λ s. Has s (length deps)) (sym it.2) (in_with_same it.0 (length deps)) in
-          omega (arith, (all.each z old).known (length deps) top));
+        let top : Has z (length deps) = subst (λ s. Has s (length deps)) (sym it.2) (in_with_same it.0 (length deps)) in
+        omega (arith, (all.each z old).known (length deps) top));
     each = λ set is. elim (Contains-append_cases sets (map (λ set. with_id set (length deps)) (filter (λ set. bit_and need set == need) sets)) set is) [
       | inl old ↦ still_closed set (all.each set old)
       | inr new ↦ let it = from_map (λ set. with_id set (length deps)) (filter (λ set. bit_and need set == need) sets) set new in
@@ -195,9 +196,9 @@ module _ (deps : List ℕ) (need : ℕ) (before : AreEarlier deps) (earlier : (p
     every = λ set closed. elim (eq_or_not (bit_at_top set) 1) [
       | inl is ↦ Contains-append_right sets (map (λ set. with_id set (length deps)) (filter (λ set. bit_and need set == need) sets)) set
           (subst (Contains (map (λ set. with_id set (length deps)) (filter (λ set. bit_and need set == need) sets))) (low_and_top set closed is)
-            (to_map (λ set. with_id set (length deps)) (filter (λ set. bit_and need set == need) sets) (set % 2 ^ length deps)
-              (to_filter (λ set. bit_and need set == need) sets (set % 2 ^ length deps) (all.every (set % 2 ^ length deps) (low_closed set closed))
-                (true_from_eq (bit_and need (set % 2 ^ length deps)) need (low_has_need set closed is)))))
+          (to_map (λ set. with_id set (length deps)) (filter (λ set. bit_and need set == need) sets) (set % 2 ^ length deps)
+          (to_filter (λ set. bit_and need set == need) sets (set % 2 ^ length deps) (all.every (set % 2 ^ length deps) (low_closed set closed))
+          (true_from_eq (bit_and need (set % 2 ^ length deps)) need (low_has_need set closed is)))))
       | inr is_not ↦ Contains-append_left sets (map (λ set. with_id set (length deps)) (filter (λ set. bit_and need set == need) sets)) set
           (subst (Contains sets) (low_alone set closed is_not) (all.every (set % 2 ^ length deps) (low_closed set closed)))
     ];
@@ -212,17 +213,17 @@ closed_rest : (more done sets : List ℕ) → AreEarlier (done ++ more) → HasC
 closed_rest [] done sets earlier all = subst (λ ds. HasClosed ds sets) (sym (append-nil done)) all
 closed_rest (need ∷ more) done sets earlier all =
     let step = closed_more done need
-          (λ q p dep. elim (below_or_past q (length done)) [
-            | inl below ↦ earlier q p (subst (λ d. Has d p) (sym (index_low done (need ∷ more) q below)) dep)
-            | inr past ↦ absurd (none_in_empty p (subst (λ d. Has d p) (index_past done q past) dep))
-          ])
-          (λ p dep. earlier (length done) p (subst (λ d. Has d p) (sym (index_top done need more)) dep))
-          sets all in
+    (λ q p dep. elim (below_or_past q (length done)) [
+      | inl below ↦ earlier q p (subst (λ d. Has d p) (sym (index_low done (need ∷ more) q below)) dep)
+      | inr past ↦ absurd (none_in_empty p (subst (λ d. Has d p) (index_past done q past) dep))
+    ])
+    (λ p dep. earlier (length done) p (subst (λ d. Has d p) (sym (index_top done need more)) dep))
+    sets all in
     subst (λ ds. HasClosed ds (closed_from (length done + 1) more (sets ++ map (λ set. with_id set (length done)) (filter (λ set. bit_and need set == need) sets))))
-      (append_assoc done (need ∷ []) more)
-      (subst (λ n. HasClosed ((done ++ need ∷ []) ++ more) (closed_from n more (sets ++ map (λ set. with_id set (length done)) (filter (λ set. bit_and need set == need) sets)))) (length_more done need)
-        (closed_rest more (done ++ need ∷ []) (sets ++ map (λ set. with_id set (length done)) (filter (λ set. bit_and need set == need) sets))
-          (subst AreEarlier (sym (append_assoc done (need ∷ []) more)) earlier) step))
+    (append_assoc done (need ∷ []) more)
+    (subst (λ n. HasClosed ((done ++ need ∷ []) ++ more) (closed_from n more (sets ++ map (λ set. with_id set (length done)) (filter (λ set. bit_and need set == need) sets)))) (length_more done need)
+    (closed_rest more (done ++ need ∷ []) (sets ++ map (λ set. with_id set (length done)) (filter (λ set. bit_and need set == need) sets))
+    (subst AreEarlier (sym (append_assoc done (need ∷ []) more)) earlier) step))
 
 none_closed : HasClosed [] (0 ∷ [])
 none_closed = record {

@@ -1,21 +1,20 @@
 -- The computed failing sets are all sets that a crash can leave and that fail.
-use Rattle.std.proofs.Common.{◌≡◌, ◌≢◌, ℕ, zero, suc, ◌+◌, ◌*◌, ◌/◌, ◌%◌, ◌^◌, ◌<◌, ◌≤◌, List, [], ◌∷◌, length, take, drop, Bool, true, false, not, ◌&&◌, ◌||◌, nat_lt, arith, refl, sym, subst, ap, ap₂, ◌∙◌, pow-suc, inl, inr, get_or, add-one}
-use Rattle.std.specs.Prelude.{◌⊎◌, ◌↔◌, ◌==◌, count_ones, Ok, Err, Result}
-use Rattle.std.specs.List.{All, AllPairs, Contains, filter, list_any, list_all}
-use Rattle.std.proofs.lemmas.Bool.Decides.{eqb_tells}
+use Rattle.std.proofs.Common.{◌≡◌, ℕ, zero, suc, ◌+◌, ◌*◌, ◌/◌, ◌%◌, ◌^◌, ◌<◌, List, [], ◌∷◌, length, take, drop, Bool, true, false, not, ◌&&◌, ◌||◌, nat_lt, arith, refl, sym, subst, ap, ◌∙◌, pow-suc, inl, inr, get_or, add-one}
+use Rattle.std.specs.Prelude.{◌⊎◌, ◌==◌, count_ones, Ok, Err, Result}
+use Rattle.std.specs.List.{Contains, filter, list_any, list_all}
 use Rattle.std.proofs.lemmas.List.{get_or_default}
 use Rattle.std.proofs.lemmas.Bool.{and_parts, ltb-true}
 use Rattle.std.proofs.lemmas.Nat.{ones_le_self}
 use lib.Count.{ones_step}
 use Rattle.state_space.specs.Counts.{IsListOf, HoldsOf}
-use Rattle.patch_sets.specs.Sets.{Has, has, IsBefore, AreAllInOrder}
+use Rattle.patch_sets.specs.Sets.{has, IsBefore, AreAllInOrder}
 use Rattle.patch_sets.specs.Closed.{AreEarlier, IsClosed}
 use Rattle.patch_sets.proofs.Bits.{small_from_below}
 use Rattle.patch_sets.proofs.Canonical.{ordered_from_next}
 use Rattle.patch_sets.proofs.Ids.{eq_from_true, true_from_eq}
 use Rattle.crash_model.specs.Disk.{Disk}
 use Rattle.crash_model.specs.Patches.{deps_of, image_of}
-use Rattle.crash_model.specs.Faults.{IsClean, faults}
+use Rattle.crash_model.specs.Faults.{faults}
 use Rattle.crash_model.specs.Replay.{replayed}
 use Rattle.crash_model.specs.Failing.{IsFailing, CountsClosed}
 use Rattle.crash_model.proofs.Clean.{no_faults, clean_without}
@@ -27,7 +26,7 @@ use Rattle.crash_model.specs.declared.steps.Module.{Module}
 use Rattle.crash_model.specs.declared.steps.Step.{Step}
 use Rattle.worked_definitions.proofs.Graphs.{earlier, has_graph}
 use Rattle.worked_definitions.specs.Computed.{closed_sets, is_none_found, fails, failing_sets, ones_below, is_before, is_ordered, is_in, are_in_order, graph_of, trace_of, HasGraph, Explored, is_accepted, accepted, explores, CountsWith, none_fails}
-use Rattle.worked_definitions.proofs.ClosedSets.{AreApart, HasClosed, closed_are_all, pairs_apart, apart_filter, from_filter, to_filter}
+use Rattle.worked_definitions.proofs.ClosedSets.{AreApart, closed_are_all, pairs_apart, apart_filter, from_filter, to_filter}
 
 -- ---- how many
 
@@ -48,13 +47,14 @@ counts_with : (patches : List Patch) (ids : List ℕ) (held n : ℕ) → AreEarl
     → length (filter (λ set. length (filter (has set) ids) == held) (closed_sets (deps_of patches))) ≡ n → CountsWith patches ids held n
 counts_with patches ids held n before many =
     let all = closed_are_all (deps_of patches) before in
-    let test = λ (set : ℕ). length (filter (has set) ids) == held in
-    (filter test (closed_sets (deps_of patches)),
-     list_of (λ set. IsClosed (deps_of patches) set × (length (filter (has set) ids) ≡ held)) (filter test (closed_sets (deps_of patches)))
-       (apart_filter test (closed_sets (deps_of patches)) all.apart)
-       (λ set is. let it = from_filter test (closed_sets (deps_of patches)) set is in (all.each set it.0, eq_from_true _ held it.1))
-       (λ set is. to_filter test (closed_sets (deps_of patches)) set (all.every set is.0) (true_from_eq _ held is.1)),
-     many)
+    let test = λ (set : ℕ). length (filter (has set) ids) == held in (
+      filter test (closed_sets (deps_of patches)),
+      list_of (λ set. IsClosed (deps_of patches) set × (length (filter (has set) ids) ≡ held)) (filter test (closed_sets (deps_of patches)))
+          (apart_filter test (closed_sets (deps_of patches)) all.apart)
+          (λ set is. let it = from_filter test (closed_sets (deps_of patches)) set is in (all.each set it.0, eq_from_true _ held it.1))
+          (λ set is. to_filter test (closed_sets (deps_of patches)) set (all.every set is.0) (true_from_eq _ held is.1)),
+      many,
+    )
 
 -- ---- which fail
 
@@ -85,10 +85,12 @@ module _ (base : Disk) (patches : List Patch) (before : AreEarlier (deps_of patc
       (by_fault (faults (replayed (image_of base patches set))) (λ none. failing.unclean (clean_without (replayed (image_of base patches set)) none)))
 
   pub counts_failing : (n : ℕ) → length (failing_sets base patches) ≡ n → HoldsOf (IsFailing base patches) n
-  counts_failing n many = (failing_sets base patches,
-      list_of (IsFailing base patches) (failing_sets base patches)
+  counts_failing n many = (
+    failing_sets base patches,
+    list_of (IsFailing base patches) (failing_sets base patches)
         (apart_filter (fails base patches) (closed_sets (deps_of patches)) ((closed_are_all (deps_of patches) before).apart)) failing_at in_failing,
-      many)
+    many,
+  )
 
 -- ---- in order
 
@@ -117,8 +119,8 @@ next_if n (a ∷ []) small e k within = absurd (omega arith)
 next_if n (a ∷ b ∷ sets) small e zero within = before_if n a b (small a (zero, omega arith, refl)) (small b (1, omega arith, refl)) (and_parts (is_before n a b) _ e).0
 next_if n (a ∷ b ∷ sets) small e (suc k) within =
     let rest : IsBefore (get_or (b ∷ sets) k 0) (get_or (b ∷ sets) (suc k) 0) =
-        subst (λ (m : ℕ). IsBefore (get_or (b ∷ sets) k 0) (get_or (b ∷ sets) m 0)) (add-one k)
-          (next_if n (b ∷ sets) (λ set is. small set (suc is.0, omega (arith, is.1), is.2)) (and_parts (is_before n a b) _ e).1 k (omega arith)) in
+    subst (λ (m : ℕ). IsBefore (get_or (b ∷ sets) k 0) (get_or (b ∷ sets) m 0)) (add-one k)
+    (next_if n (b ∷ sets) (λ set is. small set (suc is.0, omega (arith, is.1), is.2)) (and_parts (is_before n a b) _ e).1 k (omega arith)) in
     subst (λ (m : ℕ). IsBefore (get_or (b ∷ sets) k 0) (get_or (a ∷ b ∷ sets) m 0)) (sym (add-one (suc k))) rest
 
 in_if : (sets : List ℕ) (set : ℕ) → is_in sets set ≡ true → Contains sets set
@@ -140,7 +142,7 @@ all_failing base patches sets before e =
     let ordered = and_parts (is_ordered (length (deps_of patches)) sets) _ e in
     let same = and_parts (list_all (is_in (failing_sets base patches)) sets) (list_all (is_in sets) (failing_sets base patches)) ordered.1 in
     let fails_at = λ (set : ℕ) (is : Contains sets set).
-        failing_at base patches before set (in_if (failing_sets base patches) set (all_if (is_in (failing_sets base patches)) sets same.0 set is)) in
+    failing_at base patches before set (in_if (failing_sets base patches) set (all_if (is_in (failing_sets base patches)) sets same.0 set is)) in
     record {
       ordered = ordered_from_next sets (next_if (length (deps_of patches)) sets (λ set is. small_from_below set (length (deps_of patches)) (fails_at set is).closed.known) ordered.0);
       exactly = λ set. (fails_at set, λ failing. in_if sets set (all_if (is_in sets) (failing_sets base patches) same.1 set (in_failing base patches before set failing)));
@@ -161,7 +163,7 @@ pub counted_if : (kind : Module) (base : Disk) (steps : List Step) (closed : ℕ
     → HasGraph kind base steps (λ patches. CountsClosed patches closed)
 counted_if kind base steps closed run many =
     graph_if kind base steps (λ patches. CountsClosed patches closed) run
-      (counts_closed (graph_of kind base (trace_of kind base steps)) closed (earlier kind base (trace_of kind base steps)) many)
+    (counts_closed (graph_of kind base (trace_of kind base steps)) closed (earlier kind base (trace_of kind base steps)) many)
 
 pub number_if : (kind : Module) (base : Disk) (steps : List Step) (many : ℕ)
     → is_accepted (traced kind (begun base) steps) ≡ true
@@ -169,7 +171,7 @@ pub number_if : (kind : Module) (base : Disk) (steps : List Step) (many : ℕ)
     → HasGraph kind base steps (λ patches. HoldsOf (IsFailing base patches) many)
 number_if kind base steps many run is =
     graph_if kind base steps (λ patches. HoldsOf (IsFailing base patches) many) run
-      (counts_failing base (graph_of kind base (trace_of kind base steps)) (earlier kind base (trace_of kind base steps)) many is)
+    (counts_failing base (graph_of kind base (trace_of kind base steps)) (earlier kind base (trace_of kind base steps)) many is)
 
 pub counted_with_if : (kind : Module) (base : Disk) (steps : List Step) (ids : List ℕ) (held count : ℕ)
     → is_accepted (traced kind (begun base) steps) ≡ true
@@ -177,7 +179,7 @@ pub counted_with_if : (kind : Module) (base : Disk) (steps : List Step) (ids : L
     → HasGraph kind base steps (λ patches. CountsWith patches ids held count)
 counted_with_if kind base steps ids held count run many =
     graph_if kind base steps (λ patches. CountsWith patches ids held count) run
-      (counts_with (graph_of kind base (trace_of kind base steps)) ids held count (earlier kind base (trace_of kind base steps)) many)
+    (counts_with (graph_of kind base (trace_of kind base steps)) ids held count (earlier kind base (trace_of kind base steps)) many)
 
 -- one of the closed sets fails
 pub failing_if : (kind : Module) (base : Disk) (steps : List Step) (set : ℕ)
@@ -188,8 +190,8 @@ pub failing_if : (kind : Module) (base : Disk) (steps : List Step) (set : ℕ)
 failing_if kind base steps set run is_closed is_failing =
     let patches = graph_of kind base (trace_of kind base steps) in
     graph_if kind base steps (λ ps. IsFailing base ps set) run
-      (failing_at base patches (earlier kind base (trace_of kind base steps)) set
-        (to_filter (fails base patches) (closed_sets (deps_of patches)) set (in_if (closed_sets (deps_of patches)) set is_closed) is_failing))
+    (failing_at base patches (earlier kind base (trace_of kind base steps)) set
+    (to_filter (fails base patches) (closed_sets (deps_of patches)) set (in_if (closed_sets (deps_of patches)) set is_closed) is_failing))
 
 pub explored_if : (kind : Module) (base : Disk) (steps : List Step) (closed : ℕ) (failing : List ℕ)
     → explores kind base steps closed failing ≡ true → Explored kind base steps closed failing
@@ -199,7 +201,7 @@ explored_if kind base steps closed failing e =
     let first = and_parts (is_accepted (traced kind (begun base) steps)) _ e in
     let more = and_parts (length (closed_sets (deps_of (graph_of kind base (trace_of kind base steps)))) == closed) _ first.1 in
     graph_if kind base steps (λ ps. CountsClosed ps closed × AreAllInOrder (IsFailing base ps) failing) first.0
-      (counts_closed patches closed before (eq_from_true _ _ more.0), all_failing base patches failing before more.1)
+    (counts_closed patches closed before (eq_from_true _ _ more.0), all_failing base patches failing before more.1)
 
 -- ---- in parts, where a declaration's steps don't suffice
 
@@ -234,7 +236,7 @@ all_clean_if kind base steps closed run many clean =
     let patches = graph_of kind base (trace_of kind base steps) in
     let before = earlier kind base (trace_of kind base steps) in
     graph_if kind base steps (λ ps. CountsClosed ps closed × AreAllInOrder (IsFailing base ps) []) run
-      (counts_closed patches closed before many, all_failing base patches [] before (none_in_order base patches clean))
+    (counts_closed patches closed before many, all_failing base patches [] before (none_in_order base patches clean))
   where
     none_in_order : (base : Disk) (patches : List Patch) → none_fails base patches (closed_sets (deps_of patches)) ≡ true
         → are_in_order (length (deps_of patches)) [] (failing_sets base patches) ≡ true

@@ -1,6 +1,6 @@
 -- The computed graph of a trace is its graph.
-use Rattle.std.proofs.Common.{◌≡◌, ℕ, zero, suc, ◌+◌, ◌-◌, ◌*◌, ◌<◌, ◌≤◌, List, [], ◌∷◌, ◌++◌, length, map, Bool, true, false, cond, arith, refl, sym, subst, ap, ◌∙◌, inl, inr, get_or, add-one}
-use Rattle.std.specs.Prelude.{◌↔◌, ◌⊎◌, IsTrue, Option, Some, None, Ok, slice_get, slice_index, if◌then◌else◌}
+use Rattle.std.proofs.Common.{◌≡◌, ℕ, zero, suc, ◌+◌, ◌<◌, ◌≤◌, List, [], ◌∷◌, length, map, Bool, true, false, arith, refl, sym, subst, ap, ◌∙◌, inl, inr}
+use Rattle.std.specs.Prelude.{◌↔◌, ◌⊎◌, IsTrue, Some, Ok, slice_get, slice_index, if◌then◌else◌}
 use Rattle.patch_sets.specs.Sets.{Has, with_id}
 use Rattle.patch_sets.specs.Closed.{AreEarlier}
 use Rattle.patch_sets.proofs.Bits.{none_in_empty, in_with_same, in_with_old, in_with_cases}
@@ -90,9 +90,10 @@ module _ (kind : Module) (base : Disk) (s : Tracing) where
   exactly q p later before less at_q at_p =
       let below : q < length s.emitted = get_within s.emitted q later at_q in
       let same : depends_if kind s.links (slice_get s.emitted q) (slice_get s.emitted p) ≡ depends kind s.links later before =
-          rw (at_q, at_p) refl in
-      (λ dep. sym same ∙ ((from_set_below q (λ p. depends_if kind s.links (slice_get s.emitted q) (slice_get s.emitted p)) p (subst (λ d. Has d p) (deps_is q below) dep)).1),
-       λ is. subst (λ d. Has d p) (sym (deps_is q below)) (to_set_below q (λ p. depends_if kind s.links (slice_get s.emitted q) (slice_get s.emitted p)) p less (same ∙ is)))
+      rw (at_q, at_p) refl in (
+        λ dep. sym same ∙ ((from_set_below q (λ p. depends_if kind s.links (slice_get s.emitted q) (slice_get s.emitted p)) p (subst (λ d. Has d p) (deps_is q below) dep)).1),
+        λ is. subst (λ d. Has d p) (sym (deps_is q below)) (to_set_below q (λ p. depends_if kind s.links (slice_get s.emitted q) (slice_get s.emitted p)) p less (same ∙ is)),
+      )
 
   pub graph_is : IsGraphOf kind base s (graph_of kind base s)
   graph_is = record {

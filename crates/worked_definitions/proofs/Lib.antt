@@ -5,3 +5,9 @@ pub mod Sound
 pub mod Runs
 pub mod Spelling
 pub mod Answering
+pub mod Pieces
+pub mod Readings
+pub mod Scripts
+pub mod OneAnswer
+pub mod Refused
+pub mod SomeReading

@@ -1,10 +1,10 @@
 -- The computed block writes of a set are its longest runs of one block.
-use Rattle.std.proofs.Common.{◌≡◌, ◌≢◌, ℕ, ◌^◌, ◌<◌, List, [], ◌∷◌, length, Bool, true, false, not, ◌&&◌, nat_lt, arith, refl}
+use Rattle.std.proofs.Common.{◌≡◌, ℕ, ◌^◌, ◌<◌, List, [], ◌∷◌, length, Bool, true, false, not, ◌&&◌, nat_lt, refl}
 use Rattle.std.specs.Prelude.{◌==◌, slice_index, bytes_eq, flat_map, map}
-use Rattle.std.specs.List.{list_all, Contains}
+use Rattle.std.specs.List.{list_all}
 use Rattle.std.proofs.lemmas.Bool.{and_parts, ltb-true}
 use Rattle.std.proofs.lemmas.Slice.Eq.{bytes_eq-Decides}
-use Rattle.patch_sets.specs.Sets.{Has, ids_of}
+use Rattle.patch_sets.specs.Sets.{ids_of}
 use Rattle.patch_sets.specs.Writes.{AreRuns}
 use Rattle.patch_sets.specs.declared.write.BlockWrite.{BlockWrite}
 use Rattle.patch_sets.proofs.Bits.{below_from_small}
@@ -12,7 +12,7 @@ use Rattle.patch_sets.proofs.Ids.{eq_from_true, ne_from_false, to_ids_of}
 use Rattle.patch_sets.proofs.Writes.{IsOwn, IsOther, AreCut, runs_from_cut}
 use Rattle.crash_model.specs.Disk.{Disk}
 use Rattle.crash_model.specs.Patches.{homes_of}
-use Rattle.crash_model.specs.Report.{Section, AreSections}
+use Rattle.crash_model.specs.Report.{AreSections}
 use Rattle.crash_model.specs.declared.patches.Patch.{Patch}
 use Rattle.worked_definitions.specs.Computed.{is_own, is_other, are_cut, are_runs, writes_of, section_of, have_runs}
 use Rattle.worked_definitions.proofs.FailingSets.{all_if}
@@ -27,9 +27,11 @@ own_if homes w e =
     let more = and_parts (nat_lt w.ids (2 ^ length homes)) (list_all (λ id. slice_index homes id == w.block) (ids_of (length homes) w.ids)) first.1 in
     record {
       own = λ id is.
-          let below : id < length homes = below_from_small w.ids (length homes) id (ltb-true w.ids (2 ^ length homes) more.0) is in
-          (below, eq_from_true (slice_index homes id) w.block
-            (all_if (λ id. slice_index homes id == w.block) (ids_of (length homes) w.ids) more.1 id (to_ids_of (length homes) w.ids id below is)));
+          let below : id < length homes = below_from_small w.ids (length homes) id (ltb-true w.ids (2 ^ length homes) more.0) is in (
+            below,
+            eq_from_true (slice_index homes id) w.block
+                (all_if (λ id. slice_index homes id == w.block) (ids_of (length homes) w.ids) more.1 id (to_ids_of (length homes) w.ids id below is)),
+          );
       some = ne_from_false w.ids 0 (not_false (w.ids == 0) first.0);
     }
 
@@ -52,6 +54,10 @@ runs_if homes set writes e =
 pub sections_if : (base : Disk) (patches : List Patch) (some : List ℕ) → have_runs patches some ≡ true → AreSections base patches some (map (section_of base patches) some)
 sections_if base patches [] e = refl
 sections_if base patches (set ∷ some) e =
-    let parts = and_parts (are_runs (homes_of patches) set (writes_of (homes_of patches) set)) (have_runs patches some) e in
-    (writes_of (homes_of patches) set, map (section_of base patches) some,
-     runs_if (homes_of patches) set (writes_of (homes_of patches) set) parts.0, sections_if base patches some parts.1, refl)
+    let parts = and_parts (are_runs (homes_of patches) set (writes_of (homes_of patches) set)) (have_runs patches some) e in (
+      writes_of (homes_of patches) set,
+      map (section_of base patches) some,
+      runs_if (homes_of patches) set (writes_of (homes_of patches) set) parts.0,
+      sections_if base patches some parts.1,
+      refl,
+    )

@@ -1,14 +1,14 @@
 -- A clean disk with the root alone is sound.
-use Rattle.std.proofs.Common.{◌≡◌, ◌≢◌, ℕ, zero, suc, ◌+◌, ◌<◌, ◌≤◌, List, [], length, Bool, true, false, not, ◌&&◌, ◌||◌, nat_lt, nat_le, arith, refl, sym, subst, ap, ◌∙◌, inl, inr}
-use Rattle.std.specs.Prelude.{◌⊎◌, ◌↔◌, ◌==◌, IsTrue}
+use Rattle.std.proofs.Common.{◌≡◌, ◌≢◌, ℕ, zero, suc, ◌+◌, ◌<◌, ◌≤◌, [], Bool, true, false, not, ◌&&◌, ◌||◌, nat_lt, nat_le, arith, refl, sym, subst, ap, ◌∙◌, inl, inr}
+use Rattle.std.specs.Prelude.{◌⊎◌, ◌==◌, IsTrue}
 use Rattle.std.proofs.lemmas.Bool.{and_parts, ltb-true, lt-ltb, leb-true}
-use Rattle.std.proofs.lemmas.Bool.Decides.{eqb_tells, nat_tests}
+use Rattle.std.proofs.lemmas.Bool.Decides.{nat_tests}
 use Rattle.patch_sets.proofs.Ids.{eq_from_true, ne_from_false, false_from_ne}
 use Rattle.crash_model.specs.Disk.{Disk, byte}
-use Rattle.crash_model.specs.Layout.{kind_of, links_of, pointer_of, map_of, is_live, counts, is_entry, is_pointer, target_of}
+use Rattle.crash_model.specs.Layout.{kind_of, links_of, pointer_of, map_of, is_live, counts, is_entry}
 use Rattle.crash_model.specs.Faults.{faults}
 use Rattle.crash_model.specs.Sound.{IsSound, HasZeroJournal}
-use Rattle.crash_model.specs.View.{HasInode, HasPointer}
+use Rattle.crash_model.specs.View.{HasPointer}
 use Rattle.crash_model.proofs.Clean.{clean_without}
 use Rattle.worked_definitions.specs.Computed.{all_below, has_no_entries, has_root_alone, has_root_block, is_root_mapped, is_zero_journal}
 
@@ -66,9 +66,11 @@ module _ (d : Disk) (clean : faults d ≡ []) (entries : has_no_entries d ≡ tr
       let one = and_parts (counts d 0) (pointer_of d 0 0 == 4 + d.journal && (pointer_of d 0 1 == 0 && (pointer_of d 0 2 == 0 && pointer_of d 0 3 == 0))) block in
       let two = and_parts (pointer_of d 0 0 == 4 + d.journal) (pointer_of d 0 1 == 0 && (pointer_of d 0 2 == 0 && pointer_of d 0 3 == 0)) one.1 in
       let three = and_parts (pointer_of d 0 1 == 0) (pointer_of d 0 2 == 0 && pointer_of d 0 3 == 0) two.1 in
-      let four = and_parts (pointer_of d 0 2 == 0) (pointer_of d 0 3 == 0) three.1 in
-      (one.0, eq_from_true (pointer_of d 0 0) (4 + d.journal) two.0,
-       by_slot (eq_from_true (pointer_of d 0 1) 0 three.0) (eq_from_true (pointer_of d 0 2) 0 four.0) (eq_from_true (pointer_of d 0 3) 0 four.1))
+      let four = and_parts (pointer_of d 0 2 == 0) (pointer_of d 0 3 == 0) three.1 in (
+        one.0,
+        eq_from_true (pointer_of d 0 0) (4 + d.journal) two.0,
+        by_slot (eq_from_true (pointer_of d 0 1) 0 three.0) (eq_from_true (pointer_of d 0 2) 0 four.0) (eq_from_true (pointer_of d 0 3) 0 four.1),
+      )
     where
       by_slot : pointer_of d 0 1 ≡ 0 → pointer_of d 0 2 ≡ 0 → pointer_of d 0 3 ≡ 0 → (s : ℕ) → 0 < s → s < 4 → pointer_of d 0 s ≡ 0
       by_slot one two three zero some few = absurd (omega arith)
@@ -105,11 +107,11 @@ module _ (d : Disk) (clean : faults d ≡ []) (entries : has_no_entries d ≡ tr
   used_or_free : (b : ℕ) → b < d.blocks → ((b ≤ 4 + d.journal) × (map_of d b ≢ 0)) ⊎ ((4 + d.journal < b) × (map_of d b ≡ 0))
   used_or_free b below = elim (either (nat_le b (4 + d.journal) && not (map_of d b == 0)) (nat_lt (4 + d.journal) b && map_of d b == 0)
       (all_at d.blocks (λ b. (nat_le b (4 + d.journal) && not (map_of d b == 0)) || (nat_lt (4 + d.journal) b && map_of d b == 0)) mapped b below)) [
-    | inl low ↦ let parts = and_parts (nat_le b (4 + d.journal)) (not (map_of d b == 0)) low in
-        inl (leb-true b (4 + d.journal) parts.0, ne_from_false (map_of d b) 0 (not_false (map_of d b == 0) parts.1))
-    | inr high ↦ let parts = and_parts (nat_lt (4 + d.journal) b) (map_of d b == 0) high in
-        inr (ltb-true (4 + d.journal) b parts.0, eq_from_true (map_of d b) 0 parts.1)
-  ]
+        | inl low ↦ let parts = and_parts (nat_le b (4 + d.journal)) (not (map_of d b == 0)) low in
+            inl (leb-true b (4 + d.journal) parts.0, ne_from_false (map_of d b) 0 (not_false (map_of d b == 0) parts.1))
+        | inr high ↦ let parts = and_parts (nat_lt (4 + d.journal) b) (map_of d b == 0) high in
+            inr (ltb-true (4 + d.journal) b parts.0, eq_from_true (map_of d b) 0 parts.1)
+      ]
 
   pub sound_alone : IsSound d
   sound_alone = record {
@@ -134,7 +136,8 @@ module _ (d : Disk) (clean : faults d ≡ []) (entries : has_no_entries d ≡ tr
       (λ here. elim (used_or_free b below) [
         | inl low ↦ low.1
         | inr high ↦ elim here [ inl less ↦ absurd (omega arith) | inr p ↦ let at : b ≡ 4 + d.journal = pointer_root p.0 p.1 b p.2 in absurd (omega arith) ]
-      ]));
+      ]),
+    );
   }
     where
       not_file : (i : ℕ) → i < 16 → kind_of d i ≡ 1 → ⊥
@@ -149,7 +152,7 @@ module _ (d : Disk) (clean : faults d ≡ []) (entries : has_no_entries d ≡ tr
 pub zero_journal : (d : Disk) → is_zero_journal d ≡ true → HasZeroJournal d
 zero_journal d e block from to offset below =
     let each : (nat_lt block 4 || all_below 128 (λ offset. byte d block offset == 0)) ≡ true =
-        all_at (4 + d.journal) (λ b. nat_lt b 4 || all_below 128 (λ offset. byte d b offset == 0)) e block to in
+    all_at (4 + d.journal) (λ b. nat_lt b 4 || all_below 128 (λ offset. byte d b offset == 0)) e block to in
     elim (either (nat_lt block 4) (all_below 128 (λ offset. byte d block offset == 0)) each) [
       | inl low ↦ let less : block < 4 = ltb-true block 4 low in absurd (omega arith)
       | inr bytes ↦ eq_from_true (byte d block offset) 0 (all_at 128 (λ offset. byte d block offset == 0) bytes offset below)

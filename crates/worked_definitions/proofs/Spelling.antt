@@ -1,17 +1,17 @@
 -- A script that is written down as acts is read as these acts.
-use Rattle.std.proofs.Common.{◌≡◌, ℕ, zero, suc, ◌+◌, ◌<◌, ◌≤◌, List, [], ◌∷◌, ◌++◌, length, map, Bool, true, false, not, ◌&&◌, ◌||◌, nat_lt, nat_le, arith, refl, sym, subst, ap, ◌∙◌, inl, inr, get_or}
-use Rattle.std.specs.Prelude.{◌⊎◌, ◌==◌, codes, IsTrue}
+use Rattle.std.proofs.Common.{◌≡◌, ℕ, zero, suc, ◌+◌, List, [], ◌∷◌, length, map, Bool, true, false, not, ◌&&◌, ◌||◌, nat_lt, nat_le, arith, refl, inl, inr}
+use Rattle.std.specs.Prelude.{◌==◌, codes}
 use Rattle.std.specs.List.{All, Contains, list_all, list_any}
 use Rattle.std.proofs.lemmas.Bool.{and_parts, ltb-true, leb-true}
 use Rattle.std.proofs.lemmas.List.Elements.{All-nil, All-cons, All-append}
 use Rattle.crash_model.specs.Names.{IsWord, IsName, is_name_byte, is_group_byte}
-use Rattle.crash_model.specs.Script.{ArePlain, AreLines, IsPath, IsAct, Reads, Says, AreSteps, IsScript}
+use Rattle.crash_model.specs.Script.{ArePlain, IsPath, IsAct, AreSteps, IsScript}
 use Rattle.crash_model.specs.declared.names.Op.TheVariants.{Create, Write, Link, Unlink, Rename, Mkdir, Rmdir}
 use Rattle.crash_model.specs.declared.names.Path.{Path}
 use Rattle.crash_model.specs.declared.steps.Act.{Act}
 use Rattle.crash_model.specs.declared.steps.Act.TheVariants.{Do, Group, End, Depend}
 use Rattle.worked_definitions.specs.Examples.{numbered}
-use Rattle.worked_definitions.specs.Spelled.{is_word, is_path, is_act, line_of, lines_of, is_plain, are_acts, script}
+use Rattle.worked_definitions.specs.Spelled.{is_word, is_path, is_act, line_of, is_plain, are_acts, script}
 use Rattle.patch_sets.proofs.Ids.{true_from_eq}
 
 pub word_if : (passes : ℕ → Bool) (word : List ℕ) → is_word passes word ≡ true → IsWord passes word
@@ -20,7 +20,7 @@ word_if passes word e =
     let more = and_parts (nat_le (length word) 10) (list_all passes word) first.1 in
     record { some = ltb-true 0 (length word) first.0; few = leb-true (length word) 10 more.0; plain = more.1 }
 
-names_if : (names : List (List ℕ)) → list_all (is_word is_name_byte) names ≡ true → All IsName names
+pub names_if : (names : List (List ℕ)) → list_all (is_word is_name_byte) names ≡ true → All IsName names
 names_if [] e = All-nil IsName
 names_if (name ∷ names) e =
     let parts = and_parts (is_word is_name_byte name) (list_all (is_word is_name_byte) names) e in
@@ -67,15 +67,15 @@ not_false : (a : Bool) → not a ≡ true → a ≡ false
 not_false false e = refl
 not_false true e = cc
 
-plain_lines : (acts : List Act) → are_acts acts ≡ true → ArePlain (map line_of acts)
+pub plain_lines : (acts : List Act) → are_acts acts ≡ true → ArePlain (map line_of acts)
 plain_lines [] e = All-nil (λ line. ¬ (Contains line 10))
 plain_lines (act ∷ acts) e =
     let parts = and_parts (is_act act && is_plain (line_of act)) (are_acts acts) e in
     let mine = and_parts (is_act act) (is_plain (line_of act)) parts.0 in
     All-cons (λ line. ¬ (Contains line 10)) (line_of act) (map line_of acts)
-      (lacks_if (line_of act) 10 (not_false (list_any (λ c. c == 10) (line_of act)) mine.1)) (plain_lines acts parts.1)
+    (lacks_if (line_of act) 10 (not_false (list_any (λ c. c == 10) (line_of act)) mine.1)) (plain_lines acts parts.1)
 
-steps_are : (n : ℕ) (acts : List Act) → are_acts acts ≡ true → AreSteps n (map line_of acts) (numbered n acts)
+pub steps_are : (n : ℕ) (acts : List Act) → are_acts acts ≡ true → AreSteps n (map line_of acts) (numbered n acts)
 steps_are n [] e = refl
 steps_are n (act ∷ acts) e =
     let parts = and_parts (is_act act && is_plain (line_of act)) (are_acts acts) e in

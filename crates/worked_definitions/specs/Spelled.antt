@@ -1,5 +1,5 @@
 -- Scripts that are written down as acts, and tests of what a script's words are.
-use Rattle.std.specs.Prelude.{◌≡◌, ℕ, ◌+◌, List, [], ◌∷◌, ◌++◌, length, map, codes, Bool, true, false, not, ◌&&◌, ◌==◌, nat_lt, nat_le, Result, Ok, Err}
+use Rattle.std.specs.Prelude.{ℕ, ◌+◌, List, ◌∷◌, ◌++◌, length, map, codes, Bool, true, false, not, ◌&&◌, ◌==◌, nat_lt, nat_le, Result, Ok, Err}
 use Rattle.std.specs.List.{list_all, list_any}
 use Rattle.crash_model.specs.Disk.{Disk, formatted}
 use Rattle.crash_model.specs.Lists.{joined}

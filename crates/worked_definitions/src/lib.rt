@@ -6,5 +6,6 @@
 pub mod answers;
 pub mod crashes;
 pub mod images;
-pub mod journals;
 pub mod operations;
+pub mod refused_scripts;
+pub mod uniqueness;

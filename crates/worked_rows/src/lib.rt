@@ -6,7 +6,7 @@
 #[cfg(test)]
 mod asked;
 #[cfg(test)]
-mod devices;
+mod broken_devices;
 #[cfg(test)]
 mod lines;
 #[cfg(test)]

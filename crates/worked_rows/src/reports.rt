@@ -67,6 +67,18 @@ fn two_creates_have_sixteen_closed_sets(rt: HostRuntime) -> Result<(), Fail> {
 }
 
 #[test]
+fn seven_creates_have_16384_closed_sets(rt: HostRuntime) -> Result<(), Fail> {
+    begins(
+        &rt,
+        &["--module", "async", "--limit", "32768"],
+        b"start\ncreate /a\ncreate /b\ncreate /c\ncreate /d\ncreate /e\ncreate /f\ncreate /g\n",
+        1,
+        "module async\npatches 14\nclosed 16384\nfailing 14197\n",
+    )?;
+    Ok(())
+}
+
+#[test]
 fn a_written_file_depends_on_its_inode_by_overlap(rt: HostRuntime) -> Result<(), Fail> {
     exactly(
         &rt,

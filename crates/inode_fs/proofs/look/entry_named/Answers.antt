@@ -1,4 +1,4 @@
-use Rattle.std.proofs.Common.{◌≡◌, ℕ, List, Bool, true, ◌&&◌, ◌∙◌, sym, arith, below_more}
+use Rattle.std.proofs.Common.{◌≡◌, ℕ, List, Bool, ◌&&◌, ◌∙◌, sym, arith}
 use Rattle.std.specs.Prelude.{bytes_eq}
 use Rattle.crash_model.specs.Disk.{Disk}
 use Rattle.crash_model.specs.Layout.{is_entry, is_live, target_of, spelling_of}

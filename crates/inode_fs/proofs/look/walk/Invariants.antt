@@ -1,4 +1,4 @@
-use Rattle.std.proofs.Common.{◌≡◌, ℕ, ◌<◌, drop}
+use Rattle.std.proofs.Common.{◌≡◌, ◌<◌, drop}
 use Rattle.crash_model.specs.Plan.{walked}
 use Rattle.inode_fs.proofs.look.walk.Given as goal
 

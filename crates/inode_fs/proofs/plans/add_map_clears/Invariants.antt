@@ -1,4 +1,4 @@
-use Rattle.std.proofs.Common.{◌≡◌, ℕ, ◌<◌, ◌≤◌, ◌+◌, ◌++◌, length}
+use Rattle.std.proofs.Common.{◌≡◌, ◌≤◌, ◌+◌, ◌++◌, length}
 use Rattle.crash_model.specs.Lists.{some_below}
 use Rattle.crash_model.specs.Plan.{map_clear_at}
 use Rattle.inode_fs.proofs.plans.add_map_clears.Given as goal

@@ -1,4 +1,3 @@
-use Rattle.std.proofs.Common.{Ok}
 use Rattle.crash_model.specs.Disk.{IsDisk}
 use Rattle.crash_model.specs.Plan.{plan_of}
 use Rattle.inode_fs.proofs.Counts.{ok-both, same-fault, plan-count}

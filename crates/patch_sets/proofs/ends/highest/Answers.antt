@@ -1,4 +1,3 @@
-use Rattle.std.proofs.Common.{arith}
 use Rattle.patch_sets.proofs.LowestHighest.{highest_id}
 use Rattle.patch_sets.proofs.ends.highest.Goals as goal
 

@@ -1,4 +1,4 @@
-use Rattle.std.proofs.Common.{◌≡◌, ◌∙◌, length-set, get_or-set_other, arith}
+use Rattle.std.proofs.Common.{◌∙◌, length-set, get_or-set_other, arith}
 use Rattle.seen_board.proofs.AfterJoins.{larger_so_far}
 use Rattle.seen_board.proofs.seats.larger_counts.Goals as goal
 

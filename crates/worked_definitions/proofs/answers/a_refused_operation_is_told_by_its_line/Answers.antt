@@ -9,7 +9,7 @@ use Rattle.std.specs.Fmt.{digits}
 use Rattle.crash_model.specs.Report.{fault_text, text_report, json_report}
 use Rattle.crash_model.specs.declared.names.Op.TheVariants.{Create, Write, Link}
 use Rattle.crash_model.specs.declared.steps.Act.TheVariants.{Do}
-use Rattle.crash_model.specs.declared.steps.Module.TheVariants.{Async, Full}
+use Rattle.crash_model.specs.declared.steps.Module.TheVariants.{Async}
 use Rattle.worked_definitions.specs.Examples.{root, inside}
 use Rattle.worked_definitions.specs.Spelled.{settings_of}
 use Rattle.std.proofs.Common.{false}

@@ -3,8 +3,6 @@ use Rattle.crash_model.specs.Disk.{overwrite}
 use Rattle.crash_model.specs.Lists.{each_below, some_below, first_below}
 use Rattle.crash_model.specs.Plan.{plan_of}
 use Rattle.crash_model.specs.Faults.{namers_in, namers, entries_in, entries_to, dangling_in, dangling, twice, unwritten_in, unwritten, low_links, marked_free_in, marked_free, wild_in, wild, faults}
-use Rattle.std.proofs.Common.{[], ◌∷◌}
-use Rattle.std.specs.Prelude.{codes}
 use Rattle.std.specs.Fmt.{digits}
 use Rattle.crash_model.specs.Report.{fault_text, text_report, json_report}
 use Rattle.worked_definitions.proofs.Runs.{runs_if}

@@ -2,7 +2,7 @@ use Rattle.std.proofs.Common.{◌≡◌, arith, sym, subst}
 use Rattle.std.proofs.lemmas.Grind.{common_steps}
 use Rattle.crash_model.specs.Disk.{Disk, IsGeometry, formatted}
 use Rattle.crash_model.specs.Sound.{IsSound, HasZeroJournal}
-use Rattle.disk_image.proofs.Fresh.{sound-formatted, zero-journal-formatted}
+use Rattle.disk_image.proofs.Formatted.{sound-formatted, zero-journal-formatted}
 use Rattle.disk_image.proofs.image.Image.formatted.Goals as goal
 
 pub returns-clause-sound : goal.returns-clause-sound

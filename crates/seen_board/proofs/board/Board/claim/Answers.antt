@@ -1,4 +1,4 @@
-use Rattle.std.proofs.Common.{rules, refl}
+use Rattle.std.proofs.Common.{rules}
 use Rattle.board_rule.proofs.LifeSteps.{claims_it}
 use Rattle.seen_board.proofs.AfterClaims.{claim_ok}
 use Rattle.seen_board.proofs.board.Board.claim.Goals as goal

@@ -1,5 +1,5 @@
 use Rattle.std.proofs.Common.{rules}
-use Rattle.seen_board.proofs.Chains.{sees_refl, sees_trans, sees_same}
+use Rattle.seen_board.proofs.Chains.{sees_trans, sees_same}
 use Rattle.seen_board.proofs.board.Board.find.Goals as goal
 
 pub returns-then-mark-eq0-clause-sees : goal.returns-then-mark-eq0-clause-sees

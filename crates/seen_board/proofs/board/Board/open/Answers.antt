@@ -11,4 +11,4 @@ of_words-requires g c = let start = c.start-start.result in let limit = c.args.l
 
 pub invariant_of-result-2 : goal.invariant_of-result-2
 invariant_of-result-2 g c = let h = c.start-start.ensures in let is = c.in_ok-table.ensures.4 in
-    rw is (rw c.of.ensures (rw (← h) ((refl, c.requires.positive, record { low = refl; high = refl; unfiled = refl; announced = refl; owed = refl; uncounted = refl }), opening_counts c.args.limit c.start-start.result c.requires.positive)))
+    rw is (rw c.of.ensures (rw (← h) ((refl, c.requires.positive, record { low = refl; high = refl; unfiled = refl; announced = refl; owed = refl; uncounted = refl }), opening_counts c.args.limit c.start-start.result c.requires.positive c.requires.small)))

@@ -1,4 +1,4 @@
-use Rattle.std.proofs.Common.{rules, refl, arith, ◌≡◌, ◌≤◌, ◌+◌, ◌*◌}
+use Rattle.std.proofs.Common.{rules, arith, ◌≡◌, ◌≤◌}
 use Rattle.board_rule.specs.Plays.{Scans}
 use Rattle.board_rule.proofs.IndexSteps.{scans}
 use Rattle.seen_board.proofs.AfterScans.{scans_sees, scans_named, scans_ok}

@@ -1,4 +1,4 @@
-use Rattle.std.proofs.Common.{rules, refl, sym, ap, ◌≡◌, ◌∙◌, true, false, cond}
+use Rattle.std.proofs.Common.{rules, sym, ap, ◌≡◌, ◌∙◌}
 use Rattle.board_rule.specs.Lives.{verdict_of}
 use Rattle.board_rule.proofs.LifeSteps.{settles}
 use Rattle.board_rule.proofs.CounterSteps.{repays}

@@ -1,0 +1,10 @@
+//! Reports as JSON.
+#![tactic(auto)]
+
+pub mod report;
+mod values;
+
+pub use report::report_json;
+
+#[cfg(test)]
+mod tests;

@@ -1,0 +1,10 @@
+//! Reports as text.
+#![tactic(auto)]
+
+mod lines;
+pub mod report;
+
+pub use report::report_text;
+
+#[cfg(test)]
+mod tests;

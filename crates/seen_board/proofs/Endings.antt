@@ -1,0 +1,147 @@
+-- What the rule says at the end.
+use Rattle.std.proofs.Common.{◌≡◌, ◌≢◌, ℕ, zero, suc, ◌+◌, ◌*◌, ◌/◌, ◌%◌, ◌<◌, ◌≤◌, ◌⊎◌, List, [], ◌∷◌, length, get_or, cond, eqb, ne_eqb, sym, refl, ap, ◌∙◌, subst, inl, inr, ⊎_elim, arith}
+use Rattle.std.specs.Prelude.{Contains}
+use Rattle.std.specs.List.{All, concat}
+use mathlib.Core.Logic.{dite}
+use native.Mathlib.Decide.{dec_le}
+use mathlib.Core.Option.{some, some-injective, some-ne-none}
+use lib.ListN.{get_elem?}
+use Rattle.atomic_table.specs.Table.{State, Final, Seen}
+use Rattle.state_space.specs.Reach.{IsReached}
+use Rattle.state_space.specs.Counts.{Outnumbers, IsSome}
+use Rattle.state_space.proofs.Runs.{along}
+use Rattle.board_rule.specs.Layout.{half, low_word, high_word, life_word, length_word}
+use Rattle.board_rule.specs.Lists.{row_of, Has, listed}
+use Rattle.board_rule.specs.Lives.{life_of, unsettled, Passes}
+use Rattle.board_rule.specs.Readings.{entry_of, rows_of, lives_of}
+use Rattle.board_rule.specs.Views.{Told}
+use Rattle.board_rule.specs.Rule.{Kept}
+use Rattle.board_rule.specs.declared.life.Life.{Life}
+use Rattle.board_rule.specs.declared.life.Life.TheVariants.{Waiting, Claimed, Clean, Broken}
+use Rattle.board_rule.specs.declared.view.View.{View}
+use Rattle.board_rule.proofs.Readings.{rows_read, lives_read}
+use Rattle.board_rule.proofs.LockSteps.{listed-length, listed_at}
+use Rattle.board_rule.proofs.Bounds.{flat_entries, flat_has}
+use Rattle.board_rule.proofs.LifeSteps.{claimed_life}
+use Rattle.board_rule.proofs.Pending.{lives_term, unsettled_low}
+use Rattle.board_rule.proofs.Added.{added_there, times_in}
+use Rattle.seen_board.specs.Ended.{Ended, ended, life_of_entry, life_in, IsReadable, IsSettled, Entries, Settled, Done}
+use Rattle.seen_board.specs.Clauses.{SeesOn}
+
+pub found : (l : List ℕ) (i x : ℕ) → get_elem? l i ≡ some x → get_or l i 0 ≡ x
+found [] i x e = absurd (some-ne-none x (sym e))
+found (y ∷ l) zero x e = some-injective y x e
+found (y ∷ l) (suc i) x e = found l i x e
+
+module _ (limit : ℕ) (words : List ℕ) where
+  row_at : (q : ℕ) → q < 13 → row_of (rows_of limit words) q ≡ listed (entry_of limit words q) (get_or words (length_word q) 0)
+  row_at q h = listed_at (λ p. listed (entry_of limit words p) (get_or words (length_word p) 0)) 13 q [] h
+
+  pub row_length : (q : ℕ) → q < 13 → length (row_of (rows_of limit words) q) ≡ get_or words (length_word q) 0
+  row_length q h = ap length (row_at q h) ∙ listed-length (entry_of limit words q) (get_or words (length_word q) 0)
+
+  pub entry_found : (z : Ended) (q k i j x y : ℕ) → ended limit words ≡ z → q < 13 → k < length (row_of z.rows q) → i ≡ low_word q k → j ≡ high_word limit q k → get_elem? words i ≡ some x → get_elem? words j ≡ some y → x + y * half ≡ get_or (row_of z.rows q) k 0
+  entry_found z q k i j x y e h b at over f g = let inside : k < get_or words (length_word q) 0 = omega (arith, row_length q h, ap (λ (t : Ended). length (row_of t.rows q)) e, b) in
+      let low : x ≡ get_or words (low_word q k) 0 = sym (found words i x f) ∙ ap (λ (a : ℕ). get_or words a 0) at in let high : y ≡ get_or words (high_word limit q k) 0 = sym (found words j y g) ∙ ap (λ (a : ℕ). get_or words a 0) over in
+      rw (low, high) (sym (ap (λ (l : List ℕ). get_or l k 0) (row_at q h) ∙ listed_at (entry_of limit words q) (get_or words (length_word q) 0) k 0 inside) ∙ ap (λ (t : Ended). get_or (row_of t.rows q) k 0) e)
+
+  pub life_found : (z : Ended) (q k i x : ℕ) → ended limit words ≡ z → q < 13 → k < length (row_of z.rows q) → i ≡ life_word limit q k → get_elem? words i ≡ some x → life_of x ≡ life_of_entry z q k
+  life_found z q k i x e h b at f = let inside : k < get_or words (length_word q) 0 = omega (arith, row_length q h, ap (λ (t : Ended). length (row_of t.rows q)) e, b) in
+      ap life_of (sym (found words i x f) ∙ ap (λ (a : ℕ). get_or words a 0) at ∙ sym (ap (λ (l : List ℕ). get_or l k 0) (listed_at (λ p. listed (λ k. get_or words (life_word limit p k) 0) (get_or words (length_word p) 0)) 13 q [] h)
+      ∙ listed_at (λ k. get_or words (life_word limit q k) 0) (get_or words (length_word q) 0) k 0 inside)) ∙ ap (λ (t : Ended). life_of_entry t q k) e
+
+  pub place_fits : (z : Ended) (q k : ℕ) → ended limit words ≡ z → IsReadable limit words → q < 13 → k < length (row_of z.rows q) → (k < limit) × (limit ≤ 32768) × (length words ≡ 29 + 52 * limit)
+  place_fits z q k e r h b = (omega (arith, b, ap (λ (x : Ended). length (row_of x.rows q)) e, row_length q h, r.short q h), r.small, r.sized)
+
+-- a life that is none of the first three is the last
+pub life_else : (n : ℕ) → n ≢ 0 → n ≢ 1 → n ≢ 2 → Broken ≡ life_of n
+life_else n a b c = sym (ap {B = Life} (λ x. cond x Waiting (cond (eqb n 1) Claimed (cond (eqb n 2) Clean Broken))) (ne_eqb n 0 a) ∙ ap {B = Life} (λ x. cond x Claimed (cond (eqb n 2) Clean Broken)) (ne_eqb n 1 b) ∙ ap {B = Life} (λ x. cond x Clean Broken) (ne_eqb n 2 c))
+
+life_cases : (n : ℕ) → n ≤ 3 → ((n < 2) × (life_of n ≢ Clean) × (life_of n ≢ Broken)) ⊎ (((n ≡ 2) × (life_of n ≡ Clean)) ⊎ ((n ≡ 3) × (life_of n ≡ Broken)))
+life_cases zero h = inl (omega arith, (λ e. cc e), λ e. cc e)
+life_cases (suc zero) h = inl (omega arith, (λ e. cc e), λ e. cc e)
+life_cases (suc (suc zero)) h = inr (inl (refl, refl))
+life_cases (suc (suc (suc n))) h = inr (inr (omega (arith, h), ap life_of (let z : suc (suc (suc n)) ≡ 3 = omega (arith, h) in z)))
+
+module _ (t : Told) (good : ℕ → Type 0) (S : Type 0) (id : ℕ) (v : View) (words : List ℕ) (xs : List S) (e : Final (Seen (Kept t good) id v) words xs) where
+  abbrev s : State S View
+  s = e.0
+
+  abbrev o : Kept t good s
+  o = e.1.0
+
+  rows_are : rows_of t.limit words ≡ o.rows
+  rows_are = ap (rows_of t.limit) (sym e.2) ∙ rows_read t o.rows s.words o.row
+
+  lives_are : lives_of t.limit words ≡ o.lives
+  lives_are = ap (lives_of t.limit) (sym e.2) ∙ lives_read t good o.rows o.lives s.words s.views o.row o.life
+
+  abbrev shown : Ended
+  shown = record { rows = o.rows; lives = o.lives }
+
+  ended_is : ended t.limit words ≡ shown
+  ended_is = λ i. record { rows = rows_are i; lives = lives_are i }
+
+  over : (F : Ended → Type 0) → F shown → F (ended t.limit words)
+  over F h = subst F (sym ended_is) h
+
+  pub end_readable : t.limit ≤ 32768 → IsReadable t.limit words
+  end_readable h = subst (IsReadable t.limit) e.2 record { sized = o.sized; small = h; short = λ q near. omega (arith, o.row.stored q near, o.row.short q near) }
+
+  pub end_seen : SeesOn v.rows.seen (ended t.limit words).rows
+  end_seen = over (λ z. SeesOn v.rows.seen z.rows) (o.seats id v e.1.1).saw
+
+  pub end_whole : 0 < v.rows.right → row_of v.rows.seen v.rows.held ≡ row_of (ended t.limit words).rows v.rows.held
+  end_whole h = over (λ z. row_of v.rows.seen v.rows.held ≡ row_of z.rows v.rows.held) ((o.seats id v e.1.1).whole h)
+
+  entries : IsSome (IsReached t.next t.origin) (concat o.rows)
+  entries = flat_entries t o.rows s.words o.row
+
+  pub end_entries : Entries t.next t.origin t.limit (ended t.limit words).rows
+  end_entries = over (λ z. Entries t.next t.origin t.limit z.rows) record {
+    thirteen = o.row.all;
+    start = o.rooted;
+    some = entries;
+    at_home = o.row.at_home;
+    reached = o.row.reached;
+    distinct = λ p q j k near far b c same. let home : p ≡ q = sym (o.row.at_home p j near b) ∙ ap (λ (x : ℕ). x % 13) same ∙ o.row.at_home q k far c in
+        (home, o.row.apart q j k far (subst (λ (y : ℕ). j < length (row_of o.rows y)) home b) c (subst (λ (y : ℕ). get_or (row_of o.rows y) j 0 ≡ get_or (row_of o.rows q) k 0) home same));
+    short = o.row.short;
+  }
+
+  settled_two : (q k : ℕ) → q < 13 → IsSettled (life_of_entry shown q k) → 2 ≤ get_or (row_of o.lives q) k 0
+  settled_two q k near h = ⊎_elim (λ c. ⊎_elim (λ f. absurd (c.1 f)) (λ f. absurd (c.2 f)) h) (λ c. ⊎_elim (λ d. omega (arith, d.0)) (λ d. omega (arith, d.0)) c) (life_cases (get_or (row_of o.lives q) k 0) (o.life.four q k near))
+
+  pub end_settled : Settled t.next good (ended t.limit words)
+  end_settled = over (Settled t.next good) record {
+    clean = λ q k near f. o.life.clean q k near (⊎_elim (λ c. absurd (c.1 f)) (λ c. ⊎_elim (λ d. d.0) (λ d. absurd (cc (sym d.1 ∙ f))) c) (life_cases (get_or (row_of o.lives q) k 0) (o.life.four q k near)));
+    broken = λ q k near f. o.life.broken q k near (⊎_elim (λ c. absurd (c.2 f)) (λ c. ⊎_elim (λ d. absurd (cc (sym d.1 ∙ f))) (λ d. d.0) c) (life_cases (get_or (row_of o.lives q) k 0) (o.life.four q k near)));
+    closed = λ q k y near h. o.life.closed q k y near (settled_two q k near h);
+  }
+
+  pub end_claimed : v.lives.claims ≡ 1 → life_in (ended t.limit words) v.lives.place ≡ Claimed
+  end_claimed has = over (λ z. life_in z v.lives.place ≡ Claimed) (ap life_of (claimed_life t good S s o id (v.lives.place % 13) (v.lives.place / 13) v (omega arith) e.1.1 has (omega arith)))
+
+  pub end_learned : All (λ met. Passes met.1 (life_in (ended t.limit words) met.0)) v.lives.learned
+  end_learned = over (λ z. All (λ met. Passes met.1 (life_in z met.0)) v.lives.learned) (o.life.learned id v e.1.1)
+
+  pub end_added : All (λ p. p / 13 < length (row_of (ended t.limit words).rows (p % 13))) v.rows.added
+  end_added = over (λ z. All (λ p. p / 13 < length (row_of z.rows (p % 13))) v.rows.added) (λ k d h. added_there o.rows s.views id (get_or v.rows.added k d) v o.added e.1.1 (times_in v k d h))
+
+  pub end_over : v.count.over ≡ 1 → Outnumbers (IsReached t.next t.origin) t.limit
+  end_over f = o.counts.over id v e.1.1 f
+
+  module _ (f : v.pending.finished ≡ 1) where
+    all_settled : (q k : ℕ) → q < 13 → k < length (row_of o.rows q) → 2 ≤ get_or (row_of o.lives q) k 0
+    all_settled q k near inside = let d = o.pending.done id v e.1.1 f in let in_lives : k < length (row_of o.lives q) = omega (arith, inside, o.life.even q near) in dite (dec_le 2 (get_or (row_of o.lives q) k 0)) (λ h. h)
+        (λ n. absurd (omega (arith, d.0, lives_term unsettled o.lives q k (omega (arith, near, o.life.all)) in_lives, unsettled_low (get_or (row_of o.lives q) k 0) (omega (arith, n)))))
+
+    every : (x : ℕ) → IsReached t.next t.origin x → Has o.rows x
+    every = along t.next t.origin (Has o.rows) o.rooted (λ w has y succ. o.life.closed (w % 13) has.0 y (omega arith) (all_settled (w % 13) has.0 (omega arith) has.1) (subst (λ (a : ℕ). Contains (t.next a) y) (sym has.2) succ))
+
+    pub end_done : Done t.next t.origin (ended t.limit words)
+    end_done = over (Done t.next t.origin) record {
+      settled = λ q k near inside. ⊎_elim (λ c. absurd (omega (arith, c.0, all_settled q k near inside))) (λ c. ⊎_elim (λ d. inl d.1) (λ d. inr d.1) c) (life_cases (get_or (row_of o.lives q) k 0) (o.life.four q k near));
+      every = every;
+      list = record { distinct = entries.distinct; each = entries.each; every = λ x r. let h = every x r in flat_has o.rows (x % 13) h.0 x (omega (arith, o.row.all)) h.1 h.2 };
+    }

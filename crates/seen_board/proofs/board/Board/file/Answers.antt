@@ -1,0 +1,23 @@
+use Rattle.std.proofs.Common.{rules, refl, arith, sym, ap, ◌≡◌, ◌∙◌, ℕ, get_or}
+use Rattle.atomic_table.specs.Table.{Me}
+use Rattle.board_rule.specs.Layout.{slot}
+use Rattle.board_rule.specs.declared.view.View.{View}
+use Rattle.board_rule.proofs.IndexSteps.{reads_mark, files}
+use Rattle.seen_board.proofs.board.Board.file.Goals as goal
+
+pub load-requires : goal.load-requires
+load-requires g c = (search rules, search rules, reads_mark _ _ _ _ _ _ _ (search rules) (search rules))
+
+pub store-requires : goal.store-requires
+store-requires g c = let same = c.load.ensures.2.0 ∙ c.loop-t.invariant.same in let key : c.self.inside.table.shared.key.limit ≡ c.args.self.now.limit = search rules in let inside : c.self.inside.limit ≡ c.args.self.now.limit = search rules in
+    let told : c.loop-t.seat.me.0.limit ≡ c.self.inside.limit = search rules in let held : c.loop-t.seat.me.0.rows.held ≡ c.args.shard = search rules in
+    let mark = (c.load.ensures.2.1 c.slot_of-slot.result (omega (arith, told, held)) (omega (arith, told, c.slot_of-slot.ensures.below))).0 in
+    let empty : get_or c.args.seat.now.me.0.rows.marks c.slot_of-slot.result 0 ≡ 0 = ap (λ (m : Me Unit View). get_or m.0.rows.marks c.slot_of-slot.result 0) (sym c.loop-t.invariant.same) ∙ sym mark ∙ c.if-load-eq0.true in (
+      search rules,
+      omega (arith, c.self.invariant.0, c.slot_of-slot.ensures.below, c.requires.writes.0),
+      rw same (rw key (files _ _ _ _ _ _ _ c.args.shard c.args.at c.loop-t.t c.slot_of-slot.result c.args.word _ c.requires.writes.1 c.requires.owes.3
+          (c.slot_of-slot.ensures.slot ∙ ap (λ (l : ℕ). slot l c.args.word c.loop-t.t) inside) (omega (arith, inside)) refl c.requires.writes.2 c.requires.owes.0 c.requires.owes.2 c.loop-t.invariant.full empty)),
+    )
+
+pub returns-clause-rest : goal.returns-clause-rest
+returns-clause-rest g c = rw c.loop-t.invariant.same refl

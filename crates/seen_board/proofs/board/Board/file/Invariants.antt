@@ -1,0 +1,11 @@
+use Rattle.std.proofs.Common.{◌≡◌, ◌≢◌, ℕ, ◌<◌, slice_index}
+use Rattle.board_rule.specs.Layout.{slot}
+use Rattle.seen_board.proofs.board.Board.file.Given as goal
+
+abbrev pub invariant-loop-t : goal.invariant-loop-t
+invariant-loop-t g l = record {
+  table : l.seat.table_id ≡ l.initial.seat.table_id;
+  id : l.seat.id ≡ l.initial.seat.id;
+  same : l.seat.me ≡ l.initial.seat.me;
+  full : (u : ℕ) → u < l.t → slice_index l.initial.seat.me.0.rows.marks (slot l.initial.self.limit l.word u) ≢ 0;
+}

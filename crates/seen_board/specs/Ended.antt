@@ -1,0 +1,57 @@
+-- What a closed board holds.
+use Rattle.std.specs.Prelude.{◌≡◌, ◌⊎◌, ℕ, ◌/◌, ◌%◌, ◌<◌, ◌≤◌, List, length, slice_index, Contains}
+use Rattle.std.specs.List.{concat}
+use Rattle.state_space.specs.Reach.{IsReached}
+use Rattle.state_space.specs.Counts.{IsSome, IsListOf}
+use Rattle.board_rule.specs.Layout.{size_for, length_word}
+use Rattle.board_rule.specs.Lists.{row_of, Has}
+use Rattle.board_rule.specs.Lives.{life_of}
+use Rattle.board_rule.specs.Readings.{rows_of, lives_of}
+use Rattle.board_rule.specs.declared.life.Life.{Life}
+use Rattle.board_rule.specs.declared.life.Life.TheVariants.{Clean, Broken}
+
+-- the rows, and beside each the lives of its entries
+pub record Ended : Type 0 where
+  pub rows : List (List ℕ)
+  pub lives : List (List ℕ)
+
+abbrev pub ended : ℕ → List ℕ → Ended
+ended limit words = record { rows = rows_of limit words; lives = lives_of limit words }
+
+-- the life of the entry at place k of shard q
+abbrev pub life_of_entry : Ended → ℕ → ℕ → Life
+life_of_entry e q k = life_of (slice_index (row_of e.lives q) k)
+
+-- the life of the place with this one number
+abbrev pub life_in : Ended → ℕ → Life
+life_in e p = life_of_entry e (p % 13) (p / 13)
+
+pub record IsReadable (limit : ℕ) (words : List ℕ) : Type 0 where
+  pub sized : length words ≡ size_for limit
+  pub small : limit ≤ 32768
+  pub short : (q : ℕ) → q < 13 → slice_index words (length_word q) ≤ limit
+
+-- the entries are the initial word and other words that are reached, none of them twice in all shards, and each in the shard of its number
+pub record Entries (next : ℕ → List ℕ) (origin limit : ℕ) (rows : List (List ℕ)) : Type 0 where
+  pub thirteen : length rows ≡ 13
+  pub start : Has rows origin
+  pub some : IsSome (IsReached next origin) (concat rows)
+  pub at_home : (q k : ℕ) → q < 13 → k < length (row_of rows q) → slice_index (row_of rows q) k % 13 ≡ q
+  pub reached : (q k : ℕ) → q < 13 → k < length (row_of rows q) → IsReached next origin (slice_index (row_of rows q) k)
+  pub distinct : (p q j k : ℕ) → p < 13 → q < 13 → j < length (row_of rows p) → k < length (row_of rows q) → slice_index (row_of rows p) j ≡ slice_index (row_of rows q) k → (p ≡ q) × (j ≡ k)
+  pub short : (q : ℕ) → q < 13 → length (row_of rows q) ≤ limit
+
+abbrev pub IsSettled : Life → Type 0
+IsSettled life = (life ≡ Clean) ⊎ (life ≡ Broken)
+
+-- a settled life is the space's verdict, and the successors of its entry are entries
+pub record Settled (next : ℕ → List ℕ) (good : ℕ → Type 0) (e : Ended) : Type 0 where
+  pub clean : (q k : ℕ) → q < 13 → life_of_entry e q k ≡ Clean → good (slice_index (row_of e.rows q) k)
+  pub broken : (q k : ℕ) → q < 13 → life_of_entry e q k ≡ Broken → good (slice_index (row_of e.rows q) k) → ⊥
+  pub closed : (q k y : ℕ) → q < 13 → IsSettled (life_of_entry e q k) → Contains (next (slice_index (row_of e.rows q) k)) y → Has e.rows y
+
+-- every entry is settled, and the entries are the words that are reached
+pub record Done (next : ℕ → List ℕ) (origin : ℕ) (e : Ended) : Type 0 where
+  pub settled : (q k : ℕ) → q < 13 → k < length (row_of e.rows q) → IsSettled (life_of_entry e q k)
+  pub every : (x : ℕ) → IsReached next origin x → Has e.rows x
+  pub list : IsListOf (IsReached next origin) (concat e.rows)

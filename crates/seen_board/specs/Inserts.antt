@@ -1,0 +1,63 @@
+-- What putting a word in leaves.
+use Rattle.std.specs.Prelude.{◌≡◌, ◌≢◌, ℕ, ◌+◌, ◌/◌, ◌%◌, ◌<◌, List, [], ◌∷◌, ◌++◌, length, slice_index}
+use Rattle.std.specs.List.{Contains}
+use Rattle.board_rule.specs.Layout.{slot, window}
+use Rattle.board_rule.specs.Lists.{row_of}
+use Rattle.board_rule.specs.Changes.{with_entry}
+use Rattle.board_rule.specs.declared.view.View.{View}
+use Rattle.seen_board.specs.Known.{Known}
+use Rattle.seen_board.specs.Clauses.{SeesOn, Names, Lacks, number}
+use Rattle.seen_board.specs.declared.answers.Put.{Put}
+use Rattle.seen_board.specs.declared.answers.Put.TheVariants.{New, Known as Found, Busy, Over}
+use Rattle.seen_board.specs.declared.answers.Looked.{Looked}
+use Rattle.seen_board.specs.declared.answers.Looked.TheVariants.{Taken, At, Absent}
+
+-- the word that stands at the place with this one number
+abbrev pub word_of_place : List (List ℕ) → ℕ → ℕ
+word_of_place seen p = slice_index (row_of seen (p % 13)) (p / 13)
+
+-- the word is a successor of one that the seat has seen, at the place p
+abbrev pub Follows : (ℕ → List ℕ) → List (List ℕ) → ℕ → ℕ → Type 0
+Follows next seen p word = (p / 13 < length (row_of seen (p % 13))) × Contains (next (word_of_place seen p)) word
+
+-- the word is a successor of the word that the seat has claimed
+abbrev pub IsSuccessor : (ℕ → List ℕ) → Known → ℕ → Type 0
+IsSuccessor next s word = (s.claims ≡ 1) × Follows next s.seen s.place word
+
+-- the seat may have seen more and has no right, and is as it was in all else
+abbrev pub Returns : Known → Known → Type 0
+Returns v w = (w ≡ record v { seen = w.seen; held = w.held; right = 0 }) × SeesOn v.seen w.seen
+
+-- what a try to put a word in leaves
+abbrev pub PutOk : ℕ → Known → Known → Put → Type 0
+PutOk word v w (New place) = (w ≡ record v { seen = w.seen; held = w.held; right = 0; added = v.added ++ number place ∷ [] }) × SeesOn v.seen w.seen × Names w.seen place word × Lacks (row_of v.seen (word % 13)) word
+PutOk word v w (Found place) = Returns v w × Names w.seen place word
+PutOk word v w Busy = Returns v w
+PutOk word v w Over = (w ≡ record v { seen = w.seen; held = w.held; right = 0; claims = 0; added = w.added; over = 1 }) × SeesOn v.seen w.seen
+
+-- what a word that is put in under the write right leaves
+abbrev pub AddOk : ℕ → Known → Known → Put → Type 0
+AddOk word v w (New place) = (w ≡ record v { seen = w.seen; right = 0; added = v.added ++ number place ∷ [] }) × SeesOn v.seen w.seen × Names w.seen place word
+AddOk word v w (Found place) = ⊥
+AddOk word v w Busy = ⊥
+AddOk word v w Over = (w ≡ record v { seen = w.seen; right = 0; claims = 0; added = w.added; over = 1 }) × SeesOn v.seen w.seen
+
+-- what a look under the read right leaves
+abbrev pub LookedOk : ℕ → Known → Looked → Type 0
+LookedOk word w Taken = Unit {0}
+LookedOk word w (At k) = (k < length (row_of w.seen (word % 13))) × (slice_index (row_of w.seen (word % 13)) k ≡ word)
+LookedOk word w Absent = Lacks (row_of w.seen (word % 13)) word
+
+-- the place is in the index, or none of its word's index words is zero
+abbrev pub Paid : View → Type 0
+Paid v = (k t : ℕ) → v.rows.unfiled ≡ k + 1 → t < window v.limit → slice_index v.rows.marks (slot v.limit (slice_index (row_of v.rows.seen v.rows.held) k) t) ≢ 0
+
+-- only what it knows of the index is different
+abbrev pub Filed : View → View → Type 0
+Filed v w = w ≡ record v { rows = record v.rows { marks = w.rows.marks; unfiled = w.rows.unfiled } }
+
+-- the word was published, the right given up and the entry counted
+pub record Appends (v : View) (word : ℕ) (w : View) : Type 0 where
+  pub marks : List ℕ
+  pub over : ℕ
+  pub is : w ≡ (let u = with_entry v word in record u { rows = record u.rows { right = 0; unfiled = 0; marks = marks }; count = record u.count { uncounted = 0; over = over } })

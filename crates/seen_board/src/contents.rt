@@ -1,0 +1,72 @@
+ghost use Rattle.std.specs.Prelude.{◌≡◌, ◌<◌, length};
+ghost use Rattle.board_rule.specs.Lists.{row_of};
+ghost use Rattle.seen_board.specs.Clauses.{HasPlace, word_at};
+ghost use Rattle.seen_board.specs.Ended.{life_of_entry};
+
+use crate::answers::Place;
+use crate::board::{ENTRIES, LENGTHS, SHARDS};
+use crate::rows::HALF;
+use atomic_table::Closed;
+use board_rule::Life;
+use std::alloc::Allocator;
+use std::marker::Model;
+
+/// A closed board: the final rows, and the life of each entry.
+pub struct Contents<A: Allocator> {
+    pub(crate) closed: Closed<(), A>,
+    pub(crate) limit: usize,
+}
+
+impl<A: Allocator> Model for Contents<A> {
+    ghost use Rattle.std.specs.Prelude.{◌≡◌};
+    ghost use Rattle.std.specs.Mem.Slots.{slots_items, slots_len, IsFull};
+    ghost use Rattle.seen_board.specs.Ended.{Ended, ended, IsReadable};
+
+    ghost Value = { Ended };
+
+    ghost view = { λ c. ended c.limit (slots_items c.closed.words) };
+
+    ghost invariant = { λ c. IsFull c.closed.words × (slots_len c.closed.slots ≡ 0) × IsReadable c.limit (slots_items c.closed.words) };
+}
+
+impl<A: Allocator> Contents<A> {
+    /// The number of entries of a shard, which is below 13.
+    pub fn len(&self, shard: u8) -> usize
+        requires { shard < 13 }
+        ensures { result ≡ length (row_of self.now.rows shard) }
+    {
+        self.closed.word(LENGTHS + shard as usize) as usize
+    }
+
+    /// The word at a place.
+    pub fn word(&self, place: Place) -> u128
+        requires { HasPlace self.now.rows place }
+        ensures { result ≡ word_at self.now.rows place }
+    {
+        let entry = ENTRIES + SHARDS * place.at as usize + place.shard as usize;
+        let low = self.closed.word(entry);
+        let high = self.closed.word(entry + SHARDS * self.limit);
+        low as u128 + high as u128 * HALF
+    }
+
+    /// The life of the entry at a place.
+    pub fn life(&self, place: Place) -> Life
+        requires { HasPlace self.now.rows place }
+        ensures { result ≡ life_of_entry self.now place.shard place.at }
+    {
+        let entry = ENTRIES + SHARDS * place.at as usize + place.shard as usize;
+        match self.closed.word(entry + 2 * SHARDS * self.limit) {
+            0 => Life::Waiting,
+            1 => Life::Claimed,
+            2 => Life::Clean,
+            _ => Life::Broken,
+        }
+    }
+}
+
+impl<A: Allocator> Drop for Contents<A> {
+    fn drop(self) {
+        let Contents { closed, limit: _ } = self;
+        closed.free();
+    }
+}

@@ -1,0 +1,62 @@
+ghost use Rattle.std.specs.Prelude.{◌≡◌, ◌≢◌, ◌<◌};
+ghost use Rattle.board_rule.specs.Layout.{writer};
+ghost use Rattle.seen_board.specs.Clauses.{IsOf, Gains};
+ghost use Rattle.seen_board.specs.Inserts.{IsSuccessor, PutOk};
+
+use crate::answers::{Got, Put};
+use crate::board::Board;
+use crate::seat::BoardSeat;
+use state_space::Space;
+use std::alloc::Allocator;
+use std::sync::Wait;
+use std::thread::yield_now;
+
+// The calls that try until the answer is not Busy. That they return is not promised.
+impl<S: Space, A: Allocator> Board<S, A> {
+    /// Waits for the read right of a shard.
+    pub fn read<R: Wait>(&self, rt: &R, seat: &mut BoardSeat, shard: u8)
+        requires seat { IsOf self.now seat.old }
+        requires shard { shard < 13 }
+        requires free { seat.old.right ≡ 0 }
+        ensures right { Gains seat.old 1 shard seat.new }
+    {
+        for _ in rt.forever() {
+            match self.try_read(seat, shard) {
+                Got::Right => return,
+                Got::Busy => yield_now(),
+            }
+        }
+    }
+
+    /// Waits for the write right of a shard.
+    pub fn write<R: Wait>(&self, rt: &R, seat: &mut BoardSeat, shard: u8)
+        requires seat { IsOf self.now seat.old }
+        requires shard { shard < 13 }
+        requires free { seat.old.right ≡ 0 }
+        ensures right { Gains seat.old writer shard seat.new }
+    {
+        for _ in rt.forever() {
+            match self.try_write(seat, shard) {
+                Got::Right => return,
+                Got::Busy => yield_now(),
+            }
+        }
+    }
+
+    /// Puts a word in, as `try_insert`, and waits where a right is not had.
+    pub fn insert<R: Wait>(&self, rt: &R, seat: &mut BoardSeat, word: u128) -> Put
+        requires seat { IsOf self.now seat.old }
+        requires free { seat.old.right ≡ 0 }
+        requires successor { IsSuccessor (S.successors self.now.space) seat.old word }
+        ensures put { PutOk word seat.old seat.new result }
+        ensures done { result ≢ Put.Busy }
+    {
+        for _ in rt.forever() {
+            match self.try_insert(seat, word) {
+                Put::Busy => yield_now(),
+                put => return put,
+            }
+        }
+        unreachable!()
+    }
+}

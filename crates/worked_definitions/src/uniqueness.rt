@@ -1,0 +1,38 @@
+//! What the definitions determine: no two answers meet them.
+
+ghost use Rattle.std.specs.Prelude.{◌≡◌, ℕ, List};
+ghost use Rattle.patch_sets.specs.Sets.{AreAllInOrder};
+ghost use Rattle.crash_model.specs.Answer.{Answer, IsAnswer};
+ghost use Rattle.crash_model.specs.Disk.{Disk};
+ghost use Rattle.crash_model.specs.Failing.{CountsClosed, IsFailing};
+ghost use Rattle.crash_model.specs.Script.{IsScript, IsScriptRefusal};
+ghost use Rattle.crash_model.specs.Trace.{Tracing, IsGraphOf};
+ghost use Rattle.crash_model.specs.declared.patches.Patch.{Patch};
+ghost use Rattle.crash_model.specs.declared.refusals.ScriptFault.{ScriptFault};
+ghost use Rattle.crash_model.specs.declared.settings.Settings.{Settings};
+ghost use Rattle.crash_model.specs.declared.steps.Module.{Module};
+ghost use Rattle.crash_model.specs.declared.steps.Step.{Step};
+
+/// For every script and settings there is at most one answer.
+pub fn there_is_one_answer()
+    ensures { (bytes : List ℕ) (settings : Settings) (answer other : Answer) → IsAnswer bytes settings answer → IsAnswer bytes settings other → answer ≡ other }
+{}
+
+/// A script is read in at most one way, or refused in at most one way, and not both.
+pub fn a_script_has_one_reading_or_one_refusal()
+    ensures steps { (bytes : List ℕ) (base traced others more : List Step) → IsScript bytes base traced → IsScript bytes others more → (base ≡ others) × (traced ≡ more) }
+    ensures refusal { (bytes : List ℕ) (fault other : ScriptFault) → IsScriptRefusal bytes fault → IsScriptRefusal bytes other → fault ≡ other }
+    ensures either { (bytes : List ℕ) (base traced : List Step) (fault : ScriptFault) → IsScript bytes base traced → IsScriptRefusal bytes fault → ⊥ }
+{}
+
+/// The steps that were traced have a graph, and no other.
+pub fn a_trace_has_one_graph()
+    ensures some { (kind : Module) (base : Disk) (last : Tracing) → (patches : List Patch) × IsGraphOf kind base last patches }
+    ensures one { (kind : Module) (base : Disk) (last : Tracing) (patches others : List Patch) → IsGraphOf kind base last patches → IsGraphOf kind base last others → patches ≡ others }
+{}
+
+/// The number of closed sets and the list of those that fail are determined.
+pub fn a_graph_has_one_list_of_failing_sets()
+    ensures number { (patches : List Patch) (n m : ℕ) → CountsClosed patches n → CountsClosed patches m → n ≡ m }
+    ensures list { (base : Disk) (patches : List Patch) (sets others : List ℕ) → AreAllInOrder (IsFailing base patches) sets → AreAllInOrder (IsFailing base patches) others → sets ≡ others }
+{}
