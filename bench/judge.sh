@@ -1,15 +1,4 @@
 #!/usr/bin/env bash
-<<<<<<< HEAD
-# judge FOLDER: how many sets are judged a second, for each script that FOLDER/list.sh names with its settings
-# (lines 'name|script|settings' in an array `benches`).
-set -eu
-crate=$(cd "$(dirname "$0")/../crates/judge_bench" && pwd)
-(cd "$crate" && rt run < stdin > /dev/null 2>&1)
-. "$1/list.sh"
-for bench in "${benches[@]}"; do
-  IFS='|' read -r name script settings <<< "$bench"
-  echo "$name: $("$crate/out/judge_bench" $settings < "$1/$script.txt" 2>&1 | paste -sd ',')"
-=======
 # judge.sh [SCRIPT [OPTION..]]: how many sets that a crash can leave are judged a second, which is to move one image to
 # the set, replay its journal and check it. Without a script it takes the one stored with the program, under each ordering.
 # Not part of the gate.
@@ -26,5 +15,4 @@ if [ $# -gt 0 ]; then
 fi
 for order in async soft meta full; do
     echo "$order: $("$program" --module "$order" --blocks 24 --journal 12 --limit 32768 <"$crate/stdin" 2>&1 | paste -sd ' ')"
->>>>>>> a343a9f
 done
