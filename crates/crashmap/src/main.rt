@@ -3,39 +3,41 @@
 
 use crash_answer::{answer, refuse};
 use crash_model::refusals::RunFault;
-use std::alloc::AllocError;
+use std::alloc::{AllocError, Global};
 use std::env;
 use std::process::ExitCode;
+use std::rt::Env;
 
-/// Answers the program's words over its standard streams.
-fn start(rt: &HostRuntime) -> Result<u8, AllocError> {
-    let heap = rt.alloc();
-    let mut words = Vec::new(heap);
+/// The words of the command line, the program's own name first.
+fn words_of<R: Env + AllocGlobal>(rt: &R) -> Result<Vec<String>, AllocError> {
+    let mut words = Vec::new(rt.alloc());
     let Ok(args) = env::args(rt) else {
         return Err(AllocError);
     };
     for word in args {
         words.push(word)?;
     }
+    Ok(words)
+}
+
+/// The same as texts, without the program's name.
+fn texts_of<'a>(heap: Global, words: &'a [String]) -> Result<Vec<&'a str>, AllocError> {
     let mut texts = Vec::new(heap);
     for word in words.iter().skip(1) {
         texts.push(word.as_str())?;
     }
-    Ok(answer(
-        rt,
-        heap,
-        heap,
-        texts.as_slice(),
-        &mut rt.stdin(),
-        &mut rt.stdout(),
-        &mut rt.stderr(),
-    ))
+    Ok(texts)
 }
 
 fn main(rt: HostRuntime) -> ExitCode {
-    let status = match start(&rt) {
-        Ok(status) => status,
-        Err(_) => refuse(&mut rt.stderr(), RunFault::OutOfMemory),
+    let heap = rt.alloc();
+    let (mut input, mut out, mut err) = (rt.stdin(), rt.stdout(), rt.stderr());
+    let Ok(words) = words_of(&rt) else {
+        return ExitCode::from(refuse(&mut err, RunFault::OutOfMemory));
     };
+    let Ok(texts) = texts_of(heap, &words) else {
+        return ExitCode::from(refuse(&mut err, RunFault::OutOfMemory));
+    };
+    let status = answer(&rt, heap, heap, &texts, &mut input, &mut out, &mut err);
     ExitCode::from(status)
 }
