@@ -101,8 +101,8 @@ same_test t = grind (arith, tests)
 pub by_row : (links : List (List ℕ × List ℕ)) (x y : Emitted) (a b : Part) (s t : ℕ) → IsPart a s x → IsPart b t y → is_meta_row a s b t ≡ true → depends Full links x y ≡ true
 by_row links x y a b s t p q h =
     or_right (overlap x y || groups_depend links x y) (by_module Full x y)
-      (ap (λ (m : Part). is_meta_row m x.turn y.part y.turn) p.part ∙ ap (λ (m : ℕ). is_meta_row a m y.part y.turn) p.turn
-      ∙ ap (λ (m : Part). is_meta_row a s m y.turn) q.part ∙ ap (λ (m : ℕ). is_meta_row a s b m) q.turn ∙ h)
+    (ap (λ (m : Part). is_meta_row m x.turn y.part y.turn) p.part ∙ ap (λ (m : ℕ). is_meta_row a m y.part y.turn) p.turn
+    ∙ ap (λ (m : Part). is_meta_row a s m y.turn) q.part ∙ ap (λ (m : ℕ). is_meta_row a s b m) q.turn ∙ h)
 
 -- a done and a commit of one header overlap
 abbrev share : Place → Place → Bool
@@ -116,7 +116,7 @@ shared j t k targets =
 pub by_header : (links : List (List ℕ × List ℕ)) (x y : Emitted) (j t k : ℕ) (targets : List ℕ) → x.place ≡ place j 0 (0xC8 ∷ []) → y.place ≡ place j 0 (0xC7 ∷ t ∷ k ∷ targets) → depends Full links x y ≡ true
 by_header links x y j t k targets p q =
     or_left (overlap x y || groups_depend links x y) (by_module Full x y) (or_left (overlap x y) (groups_depend links x y)
-      (ap (λ (m : Place). share m y.place) p ∙ ap (λ (m : Place). share (place j 0 (0xC8 ∷ [])) m) q ∙ shared j t k targets))
+    (ap (λ (m : Place). share m y.place) p ∙ ap (λ (m : Place). share (place j 0 (0xC8 ∷ [])) m) q ∙ shared j t k targets))
 
 -- ---- a closed set
 
@@ -137,41 +137,46 @@ closed_log (o ∷ ops) n all links set d id t j c done closed lies before_commit
     let lie = λ (i : ℕ) (y : Emitted) (h : slice_get xs i ≡ Some y). lies i y (get-left xs rest i y h) in
     let commit_at : slice_get all (id + k) ≡ Some parts.commit = lie k parts.commit parts.commit_at in
     let done_at : slice_get all (id + k + 1 + length cs) ≡ Some parts.done =
-        ap (λ (m : ℕ). slice_get all m) (plus id k (length cs)) ∙ lie (k + 1 + length cs) parts.done parts.done_at in
-    (record {
-      copied = λ held p from to.
-          let y = parts.copy (p - id) (omega arith) in
-          let y_at : slice_get all p ≡ Some y.0 = ap (λ (m : ℕ). slice_get all m) (minus p id from) ∙ lie (p - id) y.0 y.1 in
-          closed (id + k) p parts.commit y.0 commit_at y_at to (by_row links parts.commit y.0 Commit Copy t t parts.commit_is y.2 (same_test t)) held;
-      chained = before_commit (id + k) parts.commit (omega arith) commit_at parts.commit_is;
-      after_commit = λ p from to held.
-          let y = parts.change (p - (id + k + 1)) (omega arith) in
-          let y_at : slice_get all p ≡ Some y.0 = ap (λ (m : ℕ). slice_get all m) (minus_two p id k from) ∙ lie (k + 1 + (p - (id + k + 1))) y.0 y.2 in
-          closed p (id + k) y.0 parts.commit y_at commit_at from (by_row links y.0 parts.commit (InPlace y.1) Commit t t y.3 parts.commit_is (same_test t)) held;
-      done_last = λ held p from to. elim (here_or_after p (id + k) from) [
-        | inl here ↦ subst (λ (m : ℕ). has set m ≡ true) (sym here)
-            (closed (id + k + 1 + length cs) (id + k) parts.done parts.commit done_at commit_at (omega arith) (by_header links parts.done parts.commit j t k targets parts.done_place parts.commit_place) held)
-        | inr later ↦
+    ap (λ (m : ℕ). slice_get all m) (plus id k (length cs)) ∙ lie (k + 1 + length cs) parts.done parts.done_at in (
+      record {
+        copied = λ held p from to.
+            let y = parts.copy (p - id) (omega arith) in
+            let y_at : slice_get all p ≡ Some y.0 = ap (λ (m : ℕ). slice_get all m) (minus p id from) ∙ lie (p - id) y.0 y.1 in
+            closed (id + k) p parts.commit y.0 commit_at y_at to (by_row links parts.commit y.0 Commit Copy t t parts.commit_is y.2 (same_test t)) held;
+        chained = before_commit (id + k) parts.commit (omega arith) commit_at parts.commit_is;
+        after_commit = λ p from to held.
             let y = parts.change (p - (id + k + 1)) (omega arith) in
-            let y_at : slice_get all p ≡ Some y.0 = ap (λ (m : ℕ). slice_get all m) (minus_two p id k later) ∙ lie (k + 1 + (p - (id + k + 1))) y.0 y.2 in
-            closed (id + k + 1 + length cs) p parts.done y.0 done_at y_at to (by_row links parts.done y.0 Done (InPlace y.1) t t parts.done_is y.3 (same_test t)) held
-      ];
-      done_chained = before_done (id + k + 1 + length cs) parts.done (omega arith) done_at parts.done_is;
-    },
-    closed_log ops n all links set d' (id + k + 1 + length cs + 1) (t + 1) (j + 1 + k) (has set (id + k)) (has set (id + k + 1 + length cs)) closed
-      (λ i y h. let long : length xs ≡ k + 1 + length cs + 1 = parts.long in
+            let y_at : slice_get all p ≡ Some y.0 = ap (λ (m : ℕ). slice_get all m) (minus_two p id k from) ∙ lie (k + 1 + (p - (id + k + 1))) y.0 y.2 in
+            closed p (id + k) y.0 parts.commit y_at commit_at from (by_row links y.0 parts.commit (InPlace y.1) Commit t t y.3 parts.commit_is (same_test t)) held;
+        done_last = λ held p from to. elim (here_or_after p (id + k) from) [
+          | inl here ↦ subst (λ (m : ℕ). has set m ≡ true) (sym here)
+              (closed (id + k + 1 + length cs) (id + k) parts.done parts.commit done_at commit_at (omega arith) (by_header links parts.done parts.commit j t k targets parts.done_place parts.commit_place) held)
+          | inr later ↦
+              let y = parts.change (p - (id + k + 1)) (omega arith) in
+              let y_at : slice_get all p ≡ Some y.0 = ap (λ (m : ℕ). slice_get all m) (minus_two p id k later) ∙ lie (k + 1 + (p - (id + k + 1))) y.0 y.2 in
+              closed (id + k + 1 + length cs) p parts.done y.0 done_at y_at to (by_row links parts.done y.0 Done (InPlace y.1) t t parts.done_is y.3 (same_test t)) held
+        ];
+        done_chained = before_done (id + k + 1 + length cs) parts.done (omega arith) done_at parts.done_is;
+      },
+      closed_log ops n all links set d' (id + k + 1 + length cs + 1) (t + 1) (j + 1 + k) (has set (id + k)) (has set (id + k + 1 + length cs)) closed
+          (λ i y h. let long : length xs ≡ k + 1 + length cs + 1 = parts.long in
           ap (λ (m : ℕ). slice_get all m) (plus_all id k (length cs) i)
           ∙ lies (k + 1 + length cs + 1 + i) y (get-right xs rest i (k + 1 + length cs + 1 + i) (omega arith) ∙ h))
-      (λ q x from at is held. closed q (id + k) x parts.commit at commit_at (omega arith) (by_row links x parts.commit Commit Commit (t + 1) t is parts.commit_is (same_test (t + 1))) held)
-      (λ q x from at is held. closed q (id + k + 1 + length cs) x parts.done at done_at (omega arith) (by_row links x parts.done Done Done (t + 1) t is parts.done_is (same_test (t + 1))) held))
+          (λ q x from at is held. closed q (id + k) x parts.commit at commit_at (omega arith) (by_row links x parts.commit Commit Commit (t + 1) t is parts.commit_is (same_test (t + 1))) held)
+          (λ q x from at is held. closed q (id + k + 1 + length cs) x parts.done at done_at (omega arith) (by_row links x parts.done Done Done (t + 1) t is parts.done_is (same_test (t + 1))) held),
+    )
   where
     plus : (id k m : ℕ) → id + k + 1 + m ≡ id + (k + 1 + m)
     plus id k m = omega arith
+
     plus_all : (id k m i : ℕ) → id + k + 1 + m + 1 + i ≡ id + (k + 1 + m + 1 + i)
     plus_all id k m i = omega arith
+
     minus : (p id : ℕ) → id ≤ p → p ≡ id + (p - id)
     minus p id h = omega arith
+
     minus_two : (p id k : ℕ) → id + k < p → p ≡ id + (k + 1 + (p - (id + k + 1)))
     minus_two p id k h = omega arith
+
     here_or_after : (p a : ℕ) → a ≤ p → (p ≡ a) ⊎ (a < p)
     here_or_after p a h = grind arith

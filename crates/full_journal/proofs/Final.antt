@@ -102,7 +102,7 @@ after_inside (suc most) n jl d j t b cur e room less = elim (bool_is (is_header 
   | inl is ↦
       let fits : j + count_of (block_of d j) ≤ 3 + d.journal = header_fits d j t (block_of d j) is in
       rw is (after_inside most n jl d (j + 1 + count_of (block_of d j)) (t + 1) b (unwrap_or (copy_in (block_of d j) j b) cur) e room
-        (copy_inside n jl (block_of d j) j b cur room less (omega arith)))
+      (copy_inside n jl (block_of d j) j b cur room less (omega arith)))
 ]
   where
     header_fits : (d : Disk) (j t : ℕ) (row : List ℕ) → is_header d j t row ≡ true → j + count_of row ≤ 3 + d.journal
@@ -197,8 +197,8 @@ turn_commits after t j g targets cs id set =
     let here : id + length cps ≡ id + length targets = omega arith in
     let first = ap (λ (m : ℕ). commits_from m (commit ∷ rest) set) here in
     let behind : commits_from (id + length targets + 1) rest set ≡ 0 =
-        (let two = commits-append (id + length targets + 1) (map (plain t g) cs) (done ∷ []) set in
-         let z = no_commits_plain t g cs (id + length targets + 1) set in omega arith) in
+    (let two = commits-append (id + length targets + 1) (map (plain t g) cs) (done ∷ []) set in
+    let z = no_commits_plain t g cs (id + length targets + 1) set in omega arith) in
     omega arith
 
 log_commits : (log : Logged) (n : ℕ) (d : Disk) (t j id set : ℕ) → commits_from id (log_emitted n d t j log) set ≡ commits n id (changes_of log) set
@@ -213,7 +213,7 @@ log_commits (o ∷ log) n d t j id set =
     let one : commits_from id xs set ≡ cond (has set (id + k)) 1 0 = turn_commits (applied d o.1) t j o.0 (touched n o.1) o.1 id set in
     let at : id + length xs ≡ id + k + 1 + length o.1 + 1 = omega arith in
     let rest : commits_from (id + length xs) ys set ≡ commits n (id + k + 1 + length o.1 + 1) (changes_of log) set =
-        ap (λ (m : ℕ). commits_from m ys set) at ∙ log_commits log n (applied d o.1) (t + 1) (j + 1 + k) (id + k + 1 + length o.1 + 1) set in
+    ap (λ (m : ℕ). commits_from m ys set) at ∙ log_commits log n (applied d o.1) (t + 1) (j + 1 + k) (id + k + 1 + length o.1 + 1) set in
     count (has set (id + k)) (commits_from id xs set) (commits_from (id + length xs) ys set) _ _ split one rest
   where
     count : (b : Bool) (x y all rest : ℕ) → all ≡ x + y → x ≡ cond b 1 0 → y ≡ rest → all ≡ cond b (suc rest) rest
@@ -261,8 +261,8 @@ module _ (base : Disk) (steps : List Step) (s : Tracing) (patches : List Patch) 
   log_closed : IsLogClosed n 0 true true (changes_of logged.changes) set
   log_closed =
       closed_log logged.changes n s.emitted s.links set base 0 1 4 true true (closed_in base s patches set graph closed)
-        (λ i y h. ap (λ (xs : List Emitted). slice_get xs (0 + i)) logged.emits ∙ ap (λ (m : ℕ). slice_get (log_emitted n base 1 4 logged.changes) m) (omega arith) ∙ h)
-        (λ q x from at is held. refl) (λ q x from at is held. refl)
+      (λ i y h. ap (λ (xs : List Emitted). slice_get xs (0 + i)) logged.emits ∙ ap (λ (m : ℕ). slice_get (log_emitted n base 1 4 logged.changes) m) (omega arith) ∙ h)
+      (λ q x from at is held. refl) (λ q x from at is held. refl)
 
   abbrev image : Disk
   image = image_from 0 base (log_places n base 1 4 (changes_of logged.changes)) set

@@ -76,13 +76,13 @@ pub same-all : (n jl : ℕ) (d e : Disk) (ps : List Place) (x : ℕ) → IsShape
 same-all n jl d e [] x s r a h same = same
 same-all n jl d e (p ∷ ps) x s r a h same =
     same-all n jl (put d p.block p.offset p.new) (put e p.block p.offset p.new) ps x (shaped-put n jl d p s a.0) (shaped-put n jl e p r a.0) a.1 h
-      (elim (is_same x p.block) [
-        | inl eq ↦ subst (λ (y : ℕ). block_of (put e p.block p.offset p.new) y ≡ block_of (put d p.block p.offset p.new) y) (sym eq)
-            (block-put_same e p.block p.offset p.new a.0.inside (shaped-inside n jl e p.block r a.0.known)
-            ∙ ap (λ (row : List ℕ). overwrite row p.offset p.new) (subst (λ (y : ℕ). block_of e y ≡ block_of d y) eq same)
-            ∙ sym (block-put_same d p.block p.offset p.new a.0.inside (shaped-inside n jl d p.block s a.0.known)))
-        | inr other ↦ kept-put n jl e p x r a.0 h other ∙ same ∙ sym (kept-put n jl d p x s a.0 h other)
-      ])
+    (elim (is_same x p.block) [
+      | inl eq ↦ subst (λ (y : ℕ). block_of (put e p.block p.offset p.new) y ≡ block_of (put d p.block p.offset p.new) y) (sym eq)
+          (block-put_same e p.block p.offset p.new a.0.inside (shaped-inside n jl e p.block r a.0.known)
+          ∙ ap (λ (row : List ℕ). overwrite row p.offset p.new) (subst (λ (y : ℕ). block_of e y ≡ block_of d y) eq same)
+          ∙ sym (block-put_same d p.block p.offset p.new a.0.inside (shaped-inside n jl d p.block s a.0.known)))
+      | inr other ↦ kept-put n jl e p x r a.0 h other ∙ same ∙ sym (kept-put n jl d p x s a.0 h other)
+    ])
   where
     is_same : (x y : ℕ) → (x ≡ y) ⊎ (x ≢ y)
     is_same x y = grind arith

@@ -51,7 +51,7 @@ log_step : (n : ℕ) (d e : Disk) (id t j : ℕ) (cs : List Change) (ops : List 
 log_step n d e id t j cs ops set =
     let long : length (turn_places (applied d cs) t j (touched n cs) cs) ≡ length (touched n cs) + 1 + length cs + 1 = length-turn (applied d cs) t j (touched n cs) cs in
     image-append id e (turn_places (applied d cs) t j (touched n cs) cs) (log_places n (applied d cs) (t + 1) (j + 1 + length (touched n cs)) ops) set
-      (id + length (touched n cs) + 1 + length cs + 1) (omega arith)
+    (id + length (touched n cs) + 1 + length cs + 1) (omega arith)
 
 -- blocks of the journal below the next free one stay
 kept_log : (n jl : ℕ) (d e : Disk) (id t j : ℕ) (ops : List (List Change)) (set x : ℕ) → IsShaped n jl d → IsShaped n jl e → 4 + jl ≤ n → 4 ≤ j → IsLog n jl d j ops
@@ -70,7 +70,7 @@ open_log (cs ∷ ops) n jl d e id t j c done set x none s r room least log close
     let unheld : has set (id + k) ≡ false = elim (bool_is (has set (id + k))) [ inr f ↦ f | inl y ↦ let z : c ≡ true = closed.0.chained y in absurd (cc) ] in
     ap (λ (f : Disk). block_of f x) (log_step n d e id t j cs ops set)
     ∙ open_log ops n jl (applied d cs) e' (id + k + 1 + length cs + 1) (t + 1) (j + 1 + k) (has set (id + k)) (has set (id + k + 1 + length cs)) set x unheld
-        (shaped-applied n jl d j cs s log.0) one.shaped room (omega arith) log.1 closed.1 below out
+    (shaped-applied n jl d j cs s log.0) one.shaped room (omega arith) log.1 closed.1 below out
     ∙ one.open_outside unheld x below out
 
 pub safe_from : (ops : List (List Change)) (n jl : ℕ) (d e : Disk) (id t j most : ℕ) (c done : Bool) (set b cur : ℕ)
@@ -103,8 +103,8 @@ safe_from (cs ∷ ops) n jl d e id t j (suc most) c done set b cur s r room leas
           ∙ elim source [
             | inl is ↦
                 subst (λ (x : ℕ). block_of f x ≡ block_of e x) (sym is)
-                  (open_log ops n jl d' e' id' (t + 1) (j + 1 + k) (has set (id + k)) (has set (id + k + 1 + length cs)) set b unheld s' one.shaped room (omega arith) log.1 closed.1 below out
-                  ∙ one.open_outside unheld b below out)
+                (open_log ops n jl d' e' id' (t + 1) (j + 1 + k) (has set (id + k)) (has set (id + k + 1 + length cs)) set b unheld s' one.shaped room (omega arith) log.1 closed.1 below out
+                ∙ one.open_outside unheld b below out)
             | inr old ↦
                 kept_log n jl d' e' id' (t + 1) (j + 1 + k) ops set cur s' one.shaped room (omega arith) log.1 old.0 (omega arith) (omega arith)
                 ∙ one.below cur old.0 old.1
@@ -118,8 +118,8 @@ safe_from (cs ∷ ops) n jl d e id t j (suc most) c done set b cur s r room leas
           replay_one f most j t b cur k head.0 head.1
           ∙ ap (λ (row : List ℕ). replayed_block f most (j + 1 + k) (t + 1) b (unwrap_or (copy_in row j b) cur)) at_j
           ∙ safe_from ops n jl d' e' id' (t + 1) (j + 1 + k) most (has set (id + k)) (has set (id + k + 1 + length cs)) set b now s' one.shaped room (omega arith) fits log.1 closed.1 (omega arith)
-              (λ x from to. ap (λ (row : List ℕ). get_or row 0 0) (one.above x from to) ∙ fresh x (omega arith) to)
-              out below next.0 next.1 next.2
+          (λ x from to. ap (λ (row : List ℕ). get_or row 0 0) (one.above x from to) ∙ fresh x (omega arith) to)
+          out below next.0 next.1 next.2
           ∙ ap (λ (g : Disk). block_of g b) (sym (committed_one n d id cs ops set held))
     ]
 

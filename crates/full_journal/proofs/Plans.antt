@@ -24,7 +24,7 @@ filter_split p q r [] h = omega arith
 filter_split p q r (x ∷ xs) h = go (p x) (q x) (r x) (h x) (filter_split p q r xs h)
   where
     go : (a b c : Bool) → (a ≡ true → (b ≡ true) ⊎ (c ≡ true)) → length (filter p xs) ≤ length (filter q xs) + length (filter r xs)
-      → length (cond a (x ∷ filter p xs) (filter p xs)) ≤ length (cond b (x ∷ filter q xs) (filter q xs)) + length (cond c (x ∷ filter r xs) (filter r xs))
+        → length (cond a (x ∷ filter p xs) (filter p xs)) ≤ length (cond b (x ∷ filter q xs) (filter q xs)) + length (cond c (x ∷ filter r xs) (filter r xs))
     go true true true k i = omega arith
     go true true false k i = omega arith
     go true false true k i = omega arith
@@ -70,8 +70,10 @@ touched_some n c cs below = some (touched n (c ∷ cs)) (any_filtered (λ x. lis
   where
     same : (x : ℕ) → (x == x) ≡ true
     same x = grind (arith, tests)
+
     here : list_any (λ (y : Change). y.block == c.block) (c ∷ cs) ≡ true
     here = let t : (c.block == c.block) ≡ true = same c.block in rw t refl
+
     some : (xs : List ℕ) → list_any (λ x. x == c.block) xs ≡ true → 1 ≤ length xs
     some [] h = absurd (let z : false ≡ true = h in cc)
     some (x ∷ xs) h = omega arith
@@ -83,6 +85,7 @@ lands-target d c l = elim l.spares [ inl low ↦ low_target d c.block l.behind l
   where
     low_target : (d : Disk) (b : ℕ) → 0 < b → b < 4 → is_target d b ≡ true
     low_target d b from to = grind (arith, tests)
+
     high_target : (d : Disk) (b : ℕ) → 4 + d.journal ≤ b → b < d.blocks → is_target d b ≡ true
     high_target d b from to = grind (arith, tests)
 

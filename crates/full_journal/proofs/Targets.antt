@@ -78,10 +78,13 @@ found_or_not b xs =
           let here : position (λ x. x == b) xs ≡ Some m = rw t refl in
           let what : (m < length xs) × ((get_or xs m 0 == b) ≡ true) × ((k : ℕ) → k < m → (get_or xs k 0 == b) ≡ false) = position-Some (λ x. x == b) xs m 0 here in
           inl (m, here, what.0, same_number (get_or xs m 0) b what.1)
-      | inr f ↦ inr (rw f refl, elim (bool_is (list_any (λ x. x == b) xs)) [
+      | inr f ↦ inr (
+        rw f refl,
+        elim (bool_is (list_any (λ x. x == b) xs)) [
           | inl any ↦ let less : m < length xs = any_below (λ x. x == b) xs any in absurd (not_below m (length xs) f less)
           | inr none ↦ none
-        ])
+        ],
+      )
     ]
   where
     not_below : (m n : ℕ) → nat_lt m n ≡ false → m < n → ⊥

@@ -83,6 +83,7 @@ operation n jl line s r xs op (Ok cs) good name is rest h =
   where
     plus : (j k : ℕ) → j + (1 + k) ≡ j + 1 + k
     plus j k = omega arith
+
     within : (a b : ℕ) → nat_lt b a ≡ false → a ≤ b
     within a b h = grind (arith, tests)
 
@@ -119,12 +120,12 @@ act_logged n jl line (Do op) s r xs good names rest h = operation n jl line s r 
 act_logged n jl line (Group a) s r xs good names rest h =
     let next : Tracing = record s { current = Some a; opened = s.opened ++ a ∷ [] } in
     on_test n jl (is_some s.current || is_among a s.opened) (fault.GroupFault line) (ops_of xs) s next r xs
-      (λ e. same_log n jl (ops_of xs) s next r refl refl refl refl (rest next good e)) h
+    (λ e. same_log n jl (ops_of xs) s next r refl refl refl refl (rest next good e)) h
 act_logged n jl line End s r xs good names rest h = on_end n jl line s r xs s.current good rest h
 act_logged n jl line (Depend b a) s r xs good names rest h =
     let next : Tracing = record s { links = s.links ++ (b, a) ∷ [] } in
     on_test n jl (not (is_among a s.ended) || bytes_eq b a || list_any (λ e. is_same_group e.group b) s.emitted) (fault.GroupFault line) (ops_of xs) s next r xs
-      (λ e. same_log n jl (ops_of xs) s next r refl refl refl refl (rest next good e)) h
+    (λ e. same_log n jl (ops_of xs) s next r refl refl refl refl (rest next good e)) h
 
 all_split : (xs ys : List Op) → All GivesName (xs ++ ys) → All GivesName xs × All GivesName ys
 all_split [] ys all = (All-nil GivesName, all)

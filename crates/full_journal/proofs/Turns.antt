@@ -30,7 +30,7 @@ pub record IsTurned (n jl : ℕ) (d e f : Disk) (t j : ℕ) (cs : List Change) (
   pub found : committed ≡ true → (b cur : ℕ) → b < n → IsOutside jl b
       → (done ≡ true → cur ≡ b) → ((cur ≡ b) ⊎ ((4 ≤ cur) × (cur < j))) → block_of e cur ≡ block_of d b
       → let now = unwrap_or (copy_in (block_of f j) j b) cur in
-        (done ≡ true → now ≡ b) × ((now ≡ b) ⊎ ((4 ≤ now) × (now < j + 1 + length (touched n cs)))) × (block_of f now ≡ block_of (applied d cs) b)
+      (done ≡ true → now ≡ b) × ((now ≡ b) ⊎ ((4 ≤ now) × (now < j + 1 + length (touched n cs)))) × (block_of f now ≡ block_of (applied d cs) b)
 
 -- ---- the places of a transaction
 
@@ -79,29 +79,30 @@ pub placed-turn : (n jl : ℕ) (d after : Disk) (t j : ℕ) (cs : List Change) �
 placed-turn n jl d after t j cs room turn =
     let fits : j + 1 + length (touched n cs) ≤ 4 + jl = turn.room in
     let few : length (touched n cs) ≤ 8 = turn.few in
-    placed-append n (copy_places after (j + 1) (touched n cs)) _ (placed-copies n after (j + 1) (touched n cs) (omega arith))
-      (record { inside = omega arith; known = omega arith },
-      placed-append n (change_places cs) _ turn.placed (record { inside = omega arith; known = omega arith }, tt))
+    placed-append n (copy_places after (j + 1) (touched n cs)) _ (placed-copies n after (j + 1) (touched n cs) (omega arith)) (
+      record { inside = omega arith; known = omega arith },
+      placed-append n (change_places cs) _ turn.placed (record { inside = omega arith; known = omega arith }, tt),
+    )
 
 -- and are not in other blocks of the journal than its own
 pub avoid-turn : (after : Disk) (t j : ℕ) (targets : List ℕ) (cs : List Change) (x : ℕ) → (x < j) ⊎ (j + 1 + length targets ≤ x) → Avoid x (change_places cs) → Avoid x (turn_places after t j targets cs)
 avoid-turn after t j targets cs x h changes =
     let apart : x ≢ j = grind arith in
     avoid-append x (copy_places after (j + 1) targets) _ (avoid-copies after (j + 1) targets x (elim h [ inl l ↦ inl (omega arith) | inr r ↦ inr (omega arith) ]))
-      (apart, avoid-append x (change_places cs) _ changes (apart, tt))
+    (apart, avoid-append x (change_places cs) _ changes (apart, tt))
 
 pub placed-log : (n jl : ℕ) (d : Disk) (t j : ℕ) (ops : List (List Change)) → IsShaped n jl d → 4 + jl ≤ n → 4 ≤ j → IsLog n jl d j ops → ArePlaced n (log_places n d t j ops)
 placed-log n jl d t j [] s room least log = tt
 placed-log n jl d t j (cs ∷ ops) s room least log =
     placed-append n (turn_places (applied d cs) t j (touched n cs) cs) _ (placed-turn n jl d (applied d cs) t j cs room log.0)
-      (placed-log n jl (applied d cs) (t + 1) (j + 1 + length (touched n cs)) ops (shaped-applied n jl d j cs s log.0) room (omega arith) log.1)
+    (placed-log n jl (applied d cs) (t + 1) (j + 1 + length (touched n cs)) ops (shaped-applied n jl d j cs s log.0) room (omega arith) log.1)
 
 pub avoid-log : (n jl : ℕ) (d : Disk) (t j x : ℕ) (ops : List (List Change)) → IsShaped n jl d → IsLog n jl d j ops → 4 ≤ x → x < j → x < 4 + jl → Avoid x (log_places n d t j ops)
 avoid-log n jl d t j x [] s log least below inside = tt
 avoid-log n jl d t j x (cs ∷ ops) s log least below inside =
     avoid-append x (turn_places (applied d cs) t j (touched n cs) cs) _
-      (avoid-turn (applied d cs) t j (touched n cs) cs x (inl below) (avoid_journal d jl cs x s.journal log.0.aimed least inside))
-      (avoid-log n jl (applied d cs) (t + 1) (j + 1 + length (touched n cs)) x ops (shaped-applied n jl d j cs s log.0) log.1 least (omega arith) inside)
+    (avoid-turn (applied d cs) t j (touched n cs) cs x (inl below) (avoid_journal d jl cs x s.journal log.0.aimed least inside))
+    (avoid-log n jl (applied d cs) (t + 1) (j + 1 + length (touched n cs)) x ops (shaped-applied n jl d j cs s log.0) log.1 least (omega arith) inside)
 
 -- ---- what a set has of a transaction
 
@@ -120,15 +121,15 @@ turn_open id e after t j targets cs before done set closed none_yet =
     let e2 : length (change_places cs ++ (last ∷ [])) ≡ length (change_places cs) + length (last ∷ []) = length-append (change_places cs) (last ∷ []) in
     image-append id e (copy_places after (j + 1) targets) rest set (id + k) (omega arith)
     ∙ image-none (id + k) e1 rest set (λ q from to. elim (bool_is (has set q)) [
-        | inr f ↦ f
-        | inl t ↦ elim (where_is q (id + k) (id + k + 1 + length cs) from (omega arith)) [
-          | inl here ↦ let z : has set (id + k) ≡ true = subst (λ (m : ℕ). has set m ≡ true) here t in absurd (cc)
-          | inr rest ↦ elim rest [
-            | inl mid ↦ let z : has set (id + k) ≡ true = closed.after_commit q mid.0 mid.1 t in absurd (cc)
-            | inr end ↦ let z : has set (id + k) ≡ true = closed.done_last (subst (λ (m : ℕ). has set m ≡ true) end t) (id + k) (omega arith) (omega arith) in absurd (cc)
-          ]
+      | inr f ↦ f
+      | inl t ↦ elim (where_is q (id + k) (id + k + 1 + length cs) from (omega arith)) [
+        | inl here ↦ let z : has set (id + k) ≡ true = subst (λ (m : ℕ). has set m ≡ true) here t in absurd (cc)
+        | inr rest ↦ elim rest [
+          | inl mid ↦ let z : has set (id + k) ≡ true = closed.after_commit q mid.0 mid.1 t in absurd (cc)
+          | inr end ↦ let z : has set (id + k) ≡ true = closed.done_last (subst (λ (m : ℕ). has set m ≡ true) end t) (id + k) (omega arith) (omega arith) in absurd (cc)
         ]
-      ])
+      ]
+    ])
   where
     where_is : (q a b : ℕ) → a ≤ q → q < b + 1 → (q ≡ a) ⊎ (((a < q) × (q < b)) ⊎ (q ≡ b))
     where_is q a b from to = grind arith
@@ -137,8 +138,8 @@ turn_open id e after t j targets cs before done set closed none_yet =
 turn_held : (id : ℕ) (e after : Disk) (t j : ℕ) (targets : List ℕ) (cs : List Change) (before done : Bool) (set : ℕ)
     → IsTurnClosed id (length targets) (length cs) before done set → has set (id + length targets) ≡ true
     → let e2 = put (all_put e (copy_places after (j + 1) targets)) j 0 (0xC7 ∷ t ∷ length targets ∷ targets) in
-      let e3 = image_from (id + length targets + 1) e2 (change_places cs) set in
-      image_from id e (turn_places after t j targets cs) set ≡ cond (has set (id + length targets + 1 + length cs)) (put e3 j 0 (0xC8 ∷ [])) e3
+    let e3 = image_from (id + length targets + 1) e2 (change_places cs) set in
+    image_from id e (turn_places after t j targets cs) set ≡ cond (has set (id + length targets + 1 + length cs)) (put e3 j 0 (0xC8 ∷ [])) e3
 turn_held id e after t j targets cs before done set closed held =
     let commit : Place = place j 0 (0xC7 ∷ t ∷ length targets ∷ targets) in
     let last : Place = place j 0 (0xC8 ∷ []) in
@@ -179,15 +180,15 @@ copies-at n jl e after j (b ∷ bs) zero r s fits less known =
     let old : length (block_of e j) ≡ 128 = length-block e j (shaped-inside n jl e j r in_j) in
     let ok : IsPlaced n p = record { inside = omega arith; known = in_j } in
     subst (λ (x : ℕ). block_of (all_put (put e j 0 (block_of after b)) (copy_places after (j + 1) bs)) x ≡ block_of after b) (omega arith)
-      (kept-all n jl (put e j 0 (block_of after b)) (copy_places after (j + 1) bs) j (shaped-put n jl e p r ok) (placed-copies n after (j + 1) bs (omega arith)) in_j (avoid-copies after (j + 1) bs j (inl (omega arith)))
-      ∙ block-put_same e j 0 (block_of after b) (omega arith) (shaped-inside n jl e j r in_j)
-      ∙ over-all (block_of e j) (block_of after b) (omega arith))
+    (kept-all n jl (put e j 0 (block_of after b)) (copy_places after (j + 1) bs) j (shaped-put n jl e p r ok) (placed-copies n after (j + 1) bs (omega arith)) in_j (avoid-copies after (j + 1) bs j (inl (omega arith)))
+    ∙ block-put_same e j 0 (block_of after b) (omega arith) (shaped-inside n jl e j r in_j)
+    ∙ over-all (block_of e j) (block_of after b) (omega arith))
 copies-at n jl e after j (b ∷ bs) (suc m) r s fits less known =
     let in_j : j < n = omega arith in
     let p : Place = place j 0 (block_of after b) in
     let ok : IsPlaced n p = record { inside = (let f : length (block_of after b) ≤ 128 = row-fits after b in omega arith); known = in_j } in
     subst (λ (x : ℕ). block_of (all_put (put e j 0 (block_of after b)) (copy_places after (j + 1) bs)) x ≡ block_of after (get_or bs m 0)) (omega arith)
-      (copies-at n jl (put e j 0 (block_of after b)) after (j + 1) bs m (shaped-put n jl e p r ok) s (omega arith) (omega arith) (λ i h. known (suc i) (omega arith)))
+    (copies-at n jl (put e j 0 (block_of after b)) after (j + 1) bs m (shaped-put n jl e p r ok) s (omega arith) (omega arith) (λ i h. known (suc i) (omega arith)))
 
 -- ---- the header
 
@@ -218,7 +219,7 @@ good_row g j t done targets rest some few fits up aimed =
     go done b1 b3 b4 b5 b6 e
   where
     go : (dn : Bool) → nat_lt j (4 + g.journal) ≡ true → (t == t) ≡ true → nat_le 1 (length targets) ≡ true → nat_le (length targets) 8 ≡ true → nat_le (j + length targets) (3 + g.journal) ≡ true
-      → take (length targets) (targets ++ rest) ≡ targets → is_header g j t (mark_of dn ∷ t ∷ length targets ∷ (targets ++ rest)) ≡ true
+        → take (length targets) (targets ++ rest) ≡ targets → is_header g j t (mark_of dn ∷ t ∷ length targets ∷ (targets ++ rest)) ≡ true
     go true b1 b3 b4 b5 b6 e = rw (b1, b3, b4, b5, b6, e) (rw (up, aimed) refl)
     go false b1 b3 b4 b5 b6 e = rw (b1, b3, b4, b5, b6, e) (rw (up, aimed) refl)
 
@@ -263,8 +264,8 @@ pub record IsStaged (n jl : ℕ) (e d' : Disk) (t j : ℕ) (cs : List Change) (e
 staged : (n jl : ℕ) (d e : Disk) (id t j : ℕ) (cs : List Change) (set : ℕ)
     → IsShaped n jl d → IsShaped n jl e → 4 + jl ≤ n → 4 ≤ j → IsTurn n jl d j cs
     → let e1 = all_put e (copy_places (applied d cs) (j + 1) (touched n cs)) in
-      let e2 = put e1 j 0 (0xC7 ∷ t ∷ length (touched n cs) ∷ touched n cs) in
-      IsStaged n jl e (applied d cs) t j cs e1 e2 (image_from (id + length (touched n cs) + 1) e2 (change_places cs) set)
+    let e2 = put e1 j 0 (0xC7 ∷ t ∷ length (touched n cs) ∷ touched n cs) in
+    IsStaged n jl e (applied d cs) t j cs e1 e2 (image_from (id + length (touched n cs) + 1) e2 (change_places cs) set)
 staged n jl d e id t j cs set s r room least turn =
     let k : ℕ = length (touched n cs) in
     let d' : Disk = applied d cs in
@@ -318,17 +319,17 @@ found_done n jl d e id t j cs set b cur e1 e2 e3 s turn room least stage all bel
     let fits : j + 1 + k ≤ 4 + jl = turn.room in
     let f : Disk = put e3 j 0 (0xC8 ∷ []) in
     let row : HasRow 0xC8 t (touched n cs) (block_of f j) = row_after true n jl t j (touched n cs) e3 stage.third (omega arith)
-        (record { rest = stage.row.rest; is = stage.kept_three j (omega arith) (avoid_journal d jl cs j s.journal turn.aimed least (omega arith)) ∙ stage.row.is }) in
+    (record { rest = stage.row.rest; is = stage.kept_three j (omega arith) (avoid_journal d jl cs j s.journal turn.aimed least (omega arith)) ∙ stage.row.is }) in
     let none : copy_in (block_of f j) j b ≡ None = copy_done t j b (touched n cs) (block_of f j) row in
     let now : unwrap_or (copy_in (block_of f j) j b) cur ≡ b = ap (λ (o : Option ℕ). unwrap_or o cur) none ∙ is in
     let apart : b ≢ j = outside_apart jl b j out least (omega arith) in
     let far : (b < j) ⊎ (j + 1 + k ≤ b) = elim out [ inl l ↦ inl (omega arith) | inr r ↦ inr (omega arith) ] in
     let before : block_of e2 b ≡ block_of d b = stage.kept_one b below far ∙ subst (λ (x : ℕ). block_of e x ≡ block_of d b) is same in
     let here : block_of f b ≡ block_of (applied d cs) b =
-        block_after true n jl j b e3 stage.third (omega arith) below apart
-        ∙ ap (λ (g : Disk). block_of g b) all
-        ∙ same-all n jl d e2 (change_places cs) b s stage.second turn.placed below before
-        ∙ ap (λ (g : Disk). block_of g b) (sym (applied-all d cs)) in
+    block_after true n jl j b e3 stage.third (omega arith) below apart
+    ∙ ap (λ (g : Disk). block_of g b) all
+    ∙ same-all n jl d e2 (change_places cs) b s stage.second turn.placed below before
+    ∙ ap (λ (g : Disk). block_of g b) (sym (applied-all d cs)) in
     subst (λ (x : ℕ). IsFoundAt f (applied d cs) (j + 1 + k) true b x) (sym now) ((λ h. refl), inl refl, here)
 
 -- not settled: the copy, or where it was before
@@ -341,7 +342,7 @@ found_open n jl d e id t j cs set b cur e1 e2 e3 s r turn room least stage below
     let k : ℕ = length (touched n cs) in
     let fits : j + 1 + k ≤ 4 + jl = turn.room in
     let row : HasRow 0xC7 t (touched n cs) (block_of e3 j) =
-        record { rest = stage.row.rest; is = stage.kept_three j (omega arith) (avoid_journal d jl cs j s.journal turn.aimed least (omega arith)) ∙ stage.row.is } in
+    record { rest = stage.row.rest; is = stage.kept_three j (omega arith) (avoid_journal d jl cs j s.journal turn.aimed least (omega arith)) ∙ stage.row.is } in
     let where_it_is : copy_in (block_of e3 j) j b ≡ option_map (λ m. j + 1 + m) (position (λ x. x == b) (touched n cs)) = copy_held t j b (touched n cs) (block_of e3 j) row in
     elim (found_or_not b (touched n cs)) [
       | inl at ↦
@@ -350,23 +351,23 @@ found_open n jl d e id t j cs set b cur e1 e2 e3 s r turn room least stage below
           let now : unwrap_or (copy_in (block_of e3 j) j b) cur ≡ j + 1 + m = ap (λ (o : Option ℕ). unwrap_or o cur) (where_it_is ∙ ap (λ (o : Option ℕ). option_map (λ m. j + 1 + m) o) at.1) in
           let apart : j + 1 + m ≢ j = grind arith in
           let here : block_of e3 (j + 1 + m) ≡ block_of (applied d cs) b =
-              stage.kept_three (j + 1 + m) (omega arith) (avoid_journal d jl cs (j + 1 + m) s.journal turn.aimed (omega arith) (omega arith))
-              ∙ stage.kept_two (j + 1 + m) (omega arith) apart
-              ∙ stage.copied m less
-              ∙ ap (λ (x : ℕ). block_of (applied d cs) x) at.3 in
+          stage.kept_three (j + 1 + m) (omega arith) (avoid_journal d jl cs (j + 1 + m) s.journal turn.aimed (omega arith) (omega arith))
+          ∙ stage.kept_two (j + 1 + m) (omega arith) apart
+          ∙ stage.copied m less
+          ∙ ap (λ (x : ℕ). block_of (applied d cs) x) at.3 in
           subst (λ (x : ℕ). IsFoundAt e3 (applied d cs) (j + 1 + k) false b x) (sym now) ((λ h. absurd (cc)), inr (omega arith, omega arith), here)
       | inr none ↦
           let now : unwrap_or (copy_in (block_of e3 j) j b) cur ≡ cur = ap (λ (o : Option ℕ). unwrap_or o cur) (where_it_is ∙ ap (λ (o : Option ℕ). option_map (λ m. j + 1 + m) o) none.0) in
           let avoid : Avoid b (change_places cs) = avoid_untouched n cs b below none.1 in
           let after : block_of (applied d cs) b ≡ block_of d b = ap (λ (g : Disk). block_of g b) (applied-all d cs) ∙ kept-all n jl d (change_places cs) b s turn.placed below avoid in
           let here : block_of e3 cur ≡ block_of e cur = elim source [
-              | inl is ↦ subst (λ (x : ℕ). block_of e3 x ≡ block_of e x) (sym is)
-                  (stage.kept_three b below avoid ∙ stage.kept_one b below (elim out [ inl l ↦ inl (omega arith) | inr g ↦ inr (omega arith) ]))
-              | inr old ↦ let low : cur < j = old.1 in let from : 4 ≤ cur = old.0 in
-                  stage.kept_three cur (omega arith) (avoid_journal d jl cs cur s.journal turn.aimed from (omega arith)) ∙ stage.kept_one cur (omega arith) (inl low)
-            ] in
+            | inl is ↦ subst (λ (x : ℕ). block_of e3 x ≡ block_of e x) (sym is)
+                (stage.kept_three b below avoid ∙ stage.kept_one b below (elim out [ inl l ↦ inl (omega arith) | inr g ↦ inr (omega arith) ]))
+            | inr old ↦ let low : cur < j = old.1 in let from : 4 ≤ cur = old.0 in
+                stage.kept_three cur (omega arith) (avoid_journal d jl cs cur s.journal turn.aimed from (omega arith)) ∙ stage.kept_one cur (omega arith) (inl low)
+          ] in
           subst (λ (x : ℕ). IsFoundAt e3 (applied d cs) (j + 1 + k) false b x) (sym now)
-            ((λ h. absurd (cc)), elim source [ inl is ↦ inl is | inr old ↦ inr (old.0, (let low : cur < j = old.1 in omega arith)) ], here ∙ same ∙ sym after)
+          ((λ h. absurd (cc)), elim source [ inl is ↦ inl is | inr old ↦ inr (old.0, (let low : cur < j = old.1 in omega arith)) ], here ∙ same ∙ sym after)
     ]
 
 pub turned : (n jl : ℕ) (d e : Disk) (id t j : ℕ) (cs : List Change) (before done : Bool) (set : ℕ)
@@ -397,26 +398,27 @@ turned n jl d e id t j cs before done set s r room least turn closed =
           ∙ kept-image n jl id e copies set x r placed_copies less (avoid-copies d' (j + 1) (touched n cs) x (elim out [ inl l ↦ inl (omega arith) | inr g ↦ inr (omega arith) ]));
       header = λ held g gb gj at_j.
           let row : HasRow (mark_of (has set (id + k + 1 + length cs))) t (touched n cs) (block_of f j) =
-              subst (λ (h : Disk). HasRow (mark_of (has set (id + k + 1 + length cs))) t (touched n cs) (block_of h j)) (sym (turn_held id e d' t j (touched n cs) cs before done set closed held))
-                (row_after (has set (id + k + 1 + length cs)) n jl t j (touched n cs) e3 stage.third (omega arith)
-                  (record { rest = stage.row.rest; is = stage.kept_three j (omega arith) (avoid_journal d jl cs j dj turn.aimed least (omega arith)) ∙ stage.row.is })) in
+          subst (λ (h : Disk). HasRow (mark_of (has set (id + k + 1 + length cs))) t (touched n cs) (block_of h j)) (sym (turn_held id e d' t j (touched n cs) cs before done set closed held))
+          (row_after (has set (id + k + 1 + length cs)) n jl t j (touched n cs) e3 stage.third (omega arith)
+          (record { rest = stage.row.rest; is = stage.kept_three j (omega arith) (avoid_journal d jl cs j dj turn.aimed least (omega arith)) ∙ stage.row.is })) in
           let what : block_of g j ≡ mark_of (has set (id + k + 1 + length cs)) ∷ t ∷ k ∷ (touched n cs ++ row.rest) = at_j ∙ row.is in
-          let aimed : list_all (is_target g) (touched n cs) ≡ true = same_targets g d (touched n cs) (gb ∙ sym dn) (gj ∙ sym dj) ∙ touched_targets d n cs turn.aimed in
-          (ap (λ (row : List ℕ). is_header g j t row) what
-            ∙ good_row g j t (has set (id + k + 1 + length cs)) (touched n cs) row.rest turn.some turn.few (subst (λ (m : ℕ). j + 1 + k ≤ 4 + m) (sym gj) fits) (touched_ascending n cs) aimed,
-          ap (λ (row : List ℕ). count_of row) what);
+          let aimed : list_all (is_target g) (touched n cs) ≡ true = same_targets g d (touched n cs) (gb ∙ sym dn) (gj ∙ sym dj) ∙ touched_targets d n cs turn.aimed in (
+            ap (λ (row : List ℕ). is_header g j t row) what
+                ∙ good_row g j t (has set (id + k + 1 + length cs)) (touched n cs) row.rest turn.some turn.few (subst (λ (m : ℕ). j + 1 + k ≤ 4 + m) (sym gj) fits) (touched_ascending n cs) aimed,
+            ap (λ (row : List ℕ). count_of row) what,
+          );
       found = λ held b cur less out settled source same.
           subst (λ (g : Disk). IsFoundAt g d' (j + 1 + k) (has set (id + k + 1 + length cs)) b (unwrap_or (copy_in (block_of g j) j b) cur)) (sym (turn_held id e d' t j (touched n cs) cs before done set closed held))
-            (by_done (has set (id + k + 1 + length cs)) n jl d e id t j cs set b cur e1 e2 e3 s r turn room least stage
-              (λ all. image-all (id + k + 1) e2 (change_places cs) set (λ q from to. closed.done_last all q (omega arith) (let more : length (change_places cs) ≡ length cs = length-map cs (λ (c : Change). place c.block c.offset c.new.items) in omega arith)))
-              less out settled source same);
+          (by_done (has set (id + k + 1 + length cs)) n jl d e id t j cs set b cur e1 e2 e3 s r turn room least stage
+          (λ all. image-all (id + k + 1) e2 (change_places cs) set (λ q from to. closed.done_last all q (omega arith) (let more : length (change_places cs) ≡ length cs = length-map cs (λ (c : Change). place c.block c.offset c.new.items) in omega arith)))
+          less out settled source same);
     }
   where
     by_done : (dn : Bool) (n jl : ℕ) (d e : Disk) (id t j : ℕ) (cs : List Change) (set b cur : ℕ) (e1 e2 e3 : Disk)
-      → IsShaped n jl d → IsShaped n jl e → IsTurn n jl d j cs → 4 + jl ≤ n → 4 ≤ j
-      → IsStaged n jl e (applied d cs) t j cs e1 e2 e3 → (dn ≡ true → e3 ≡ all_put e2 (change_places cs))
-      → b < n → IsOutside jl b → (dn ≡ true → cur ≡ b) → ((cur ≡ b) ⊎ ((4 ≤ cur) × (cur < j))) → block_of e cur ≡ block_of d b
-      → let g = cond dn (put e3 j 0 (0xC8 ∷ [])) e3 in IsFoundAt g (applied d cs) (j + 1 + length (touched n cs)) dn b (unwrap_or (copy_in (block_of g j) j b) cur)
+        → IsShaped n jl d → IsShaped n jl e → IsTurn n jl d j cs → 4 + jl ≤ n → 4 ≤ j
+        → IsStaged n jl e (applied d cs) t j cs e1 e2 e3 → (dn ≡ true → e3 ≡ all_put e2 (change_places cs))
+        → b < n → IsOutside jl b → (dn ≡ true → cur ≡ b) → ((cur ≡ b) ⊎ ((4 ≤ cur) × (cur < j))) → block_of e cur ≡ block_of d b
+        → let g = cond dn (put e3 j 0 (0xC8 ∷ [])) e3 in IsFoundAt g (applied d cs) (j + 1 + length (touched n cs)) dn b (unwrap_or (copy_in (block_of g j) j b) cur)
     by_done true n jl d e id t j cs set b cur e1 e2 e3 s r turn room least stage all less out settled source same =
         found_done n jl d e id t j cs set b cur e1 e2 e3 s turn room least stage (all refl) less out (settled refl) same
     by_done false n jl d e id t j cs set b cur e1 e2 e3 s r turn room least stage all less out settled source same =
