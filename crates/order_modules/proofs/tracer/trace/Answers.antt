@@ -24,7 +24,7 @@ returns-clause-full g c = λ full sound zeros.
     let ended : length steps ≤ c.loop-step.step-index = omega (arith, c.loop-step-test.false, c.loop-step.auto) in
     let is_traced : traced Full (begun base) steps ≡ Ok t.tracing = subst (λ (k : Module). traced k (begun base) steps ≡ Ok t.tracing) full (traced_end c.args.module base steps c.loop-step.step-index t ended c.loop-step.invariant) in
     let graph : IsGraphOf Full base t.tracing c.into_graph.result =
-        subst (λ (k : Module). IsGraphOf k base t.tracing c.into_graph.result) (c.loop-step.invariant.same_kind ∙ full)
-        (subst (λ (d : Disk). IsGraphOf t.log.kind d t.tracing c.into_graph.result) c.loop-step.invariant.same_base c.into_graph.ensures.graph) in
+    subst (λ (k : Module). IsGraphOf k base t.tracing c.into_graph.result) (c.loop-step.invariant.same_kind ∙ full)
+    (subst (λ (d : Disk). IsGraphOf t.log.kind d t.tracing c.into_graph.result) c.loop-step.invariant.same_base c.into_graph.ensures.graph) in
     let names = traced_names c.args.module base steps c.loop-step.step-index t ended c.loop-step.invariant in
     (t.tracing, is_traced, λ set closed. recovered base steps t.tracing c.into_graph.result set c.in_ok-tracer.ensures.disk sound zeros names is_traced graph closed)
