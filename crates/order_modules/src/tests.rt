@@ -150,7 +150,8 @@ fn a_group_waits_for_another(rt: HostRuntime) -> Result<(), Fail> {
             (4, 20, &[3, 1, b'b'], &[0, 1, 2]),
         ],
     );
-    let refused = trace(rt.alloc(), &image, &steps[3..], Module::Async);
+    let after_the_group = steps.get(3..).ok_or("too few steps")?;
+    let refused = trace(rt.alloc(), &image, after_the_group, Module::Async);
     assert!(rt; matches!(&refused, Err(TraceFault::GroupFault { line: 4 })));
     let mut base = image.try_copy()?;
     let group_in_base = build_base(&mut base, &steps[..1]);
