@@ -10,8 +10,8 @@ use Rattle.crash_model.specs.Trace.{Emitted, Part, InPlace, Copy, Commit, Done, 
 use Rattle.crash_model.specs.declared.plans.Change.{Change}
 use Rattle.crash_model.specs.declared.plans.Role.{Role}
 use Rattle.crash_model.specs.declared.steps.Module.TheVariants.{Full}
-use Rattle.full_journal.specs.Safe.{IsLogClosed}
-use Rattle.full_journal.specs.Logs.{log_emitted, IsClosedIn}
+use Rattle.full_journal.proofs.Transactions.{IsLogClosed}
+use Rattle.full_journal.proofs.Logs.{log_emitted, IsClosedIn}
 
 -- ---- elements by their places
 

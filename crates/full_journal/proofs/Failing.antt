@@ -1,9 +1,8 @@
 -- No set fails under the full journal.
-use Rattle.std.proofs.Common.{◌≡◌, ℕ, ◌+◌, ◌<◌, ◌≤◌, List, [], ◌∷◌, length, get_or, arith, refl, sym, ◌∙◌, ap, subst}
+use Rattle.std.proofs.Common.{◌≡◌, ℕ, ◌+◌, ◌<◌, List, [], ◌∷◌, length, get_or, arith, refl, sym, ◌∙◌, ap, subst}
 use Rattle.std.proofs.lemmas.List.Elements.{Contains-get_or}
 use Rattle.patch_sets.specs.Sets.{AreAllInOrder}
-use Rattle.patch_sets.specs.Closed.{IsClosed}
-use Rattle.crash_model.specs.Disk.{Disk, byte, block_of}
+use Rattle.crash_model.specs.Disk.{Disk}
 use Rattle.crash_model.specs.Sound.{HasZeroJournal}
 use Rattle.crash_model.specs.Failing.{IsFailing}
 use Rattle.crash_model.specs.declared.patches.Patch.{Patch}

@@ -20,8 +20,9 @@ use Rattle.crash_model.specs.declared.plans.Change.{Change}
 use Rattle.crash_model.specs.declared.patches.Patch.{Patch}
 use Rattle.crash_model.specs.declared.steps.Module.TheVariants.{Full}
 use Rattle.crash_model.specs.declared.steps.Step.{Step}
-use Rattle.full_journal.specs.Safe.{IsShaped, IsLogClosed, IsOutside, copy_places, change_places, turn_places, log_places, committed_disk, replayed_block}
-use Rattle.full_journal.specs.Logs.{log_emitted, IsClosedIn, IsGood, ArePlans}
+use Rattle.full_journal.proofs.Transactions.{IsShaped, IsLogClosed, copy_places, change_places, turn_places, log_places, committed_disk, replayed_block}
+use Rattle.full_journal.specs.Full.{IsOutside}
+use Rattle.full_journal.proofs.Logs.{log_emitted, IsClosedIn, IsGood, ArePlans}
 use Rattle.journal_replay.proofs.Blocks.{length-block, block-at}
 use Rattle.full_journal.proofs.Images.{shaped-image, shaped-inside}
 use Rattle.full_journal.proofs.Targets.{bool_is, same_number, equal_test, found_or_not}

@@ -4,7 +4,7 @@ use Rattle.crash_model.specs.Disk.{Disk, block_of, put, overwrite}
 use Rattle.patch_sets.specs.Sets.{has}
 use Rattle.crash_model.specs.Patches.{Place, image_from}
 use Rattle.crash_model.proofs.Bytes.{length-overwrite}
-use Rattle.full_journal.specs.Safe.{IsShaped, IsPlaced, ArePlaced}
+use Rattle.full_journal.proofs.Transactions.{IsShaped, IsPlaced, ArePlaced}
 use Rattle.journal_replay.proofs.Blocks.{Inside, block-put_other, block-put_same}
 
 -- the disk with places put one after another

@@ -8,7 +8,8 @@ use Rattle.crash_model.specs.Plan.{applied}
 use Rattle.crash_model.specs.Trace.{touched}
 use Rattle.crash_model.specs.Replay.{is_header, copy_in, copy_after, count_of, headers_from}
 use Rattle.crash_model.specs.declared.plans.Change.{Change}
-use Rattle.full_journal.specs.Safe.{IsShaped, IsLogClosed, IsOutside, turn_places, log_places, IsLog, committed_disk, replayed_block, LogSafe}
+use Rattle.full_journal.proofs.Transactions.{IsShaped, IsLogClosed, turn_places, log_places, IsLog, committed_disk, replayed_block, LogSafe}
+use Rattle.full_journal.specs.Full.{IsOutside}
 use Rattle.full_journal.proofs.Images.{image-append, kept-image, shaped-image}
 use Rattle.full_journal.proofs.Turns.{IsTurned, turned, length-turn, shaped-applied, placed-log, avoid-log}
 

@@ -1,3 +1,5 @@
+pub mod Transactions
+pub mod Logs
 pub mod Images
 pub mod Targets
 pub mod Turns

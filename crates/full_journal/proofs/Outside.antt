@@ -12,7 +12,7 @@ use Rattle.sound_tables.proofs.Puts.{SameBlock, within-same, same_tables, place-
 use Rattle.sound_tables.proofs.ToTables.{sound-tables}
 use Rattle.sound_tables.proofs.FromTables.{tables-sound}
 use Rattle.journal_replay.proofs.Blocks.{block-at}
-use Rattle.full_journal.specs.Safe.{IsOutside}
+use Rattle.full_journal.specs.Full.{IsOutside}
 
 -- a block by its bytes
 pub block-bytes : (d e : Disk) (b : ℕ) → 128 * b + 128 ≤ length d.bytes → length e.bytes ≡ length d.bytes → block_of e b ≡ block_of d b → SameBlock d e b

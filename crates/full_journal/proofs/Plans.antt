@@ -12,8 +12,8 @@ use Rattle.inode_fs.specs.Inside.{GivesName}
 use Rattle.inode_fs.proofs.Lands.{Lands, AllLand, plan-lands, applied-disk, applied-size}
 use Rattle.inode_fs.proofs.Counts.{plan-count}
 use Rattle.inode_fs.proofs.Sounds.{plan-keeps}
-use Rattle.full_journal.specs.Safe.{IsTurn, ArePlaced, AreAimed, change_places}
-use Rattle.full_journal.specs.Logs.{IsGood}
+use Rattle.full_journal.proofs.Transactions.{IsTurn, ArePlaced, AreAimed, change_places}
+use Rattle.full_journal.proofs.Logs.{IsGood}
 use Rattle.full_journal.proofs.Targets.{bool_is, same_number, any_filtered}
 
 -- ---- how many blocks changes touch

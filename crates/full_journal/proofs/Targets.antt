@@ -7,7 +7,8 @@ use Rattle.crash_model.specs.Disk.{Disk}
 use Rattle.crash_model.specs.Trace.{touched}
 use Rattle.crash_model.specs.Replay.{is_target, is_ascending}
 use Rattle.crash_model.specs.declared.plans.Change.{Change}
-use Rattle.full_journal.specs.Safe.{AreAimed, IsOutside, change_places}
+use Rattle.full_journal.proofs.Transactions.{AreAimed, change_places}
+use Rattle.full_journal.specs.Full.{IsOutside}
 use Rattle.full_journal.proofs.Images.{Avoid}
 
 pub bool_is : (b : Bool) → (b ≡ true) ⊎ (b ≡ false)

@@ -18,8 +18,8 @@ use Rattle.crash_model.specs.declared.steps.Act.{Act}
 use Rattle.crash_model.specs.declared.steps.Step.{Step}
 use Rattle.inode_fs.specs.Inside.{GivesName}
 use Rattle.inode_fs.proofs.Lands.{applied-size}
-use Rattle.full_journal.specs.Safe.{IsLog}
-use Rattle.full_journal.specs.Logs.{log_emitted, IsGood, ArePlans}
+use Rattle.full_journal.proofs.Transactions.{IsLog}
+use Rattle.full_journal.proofs.Logs.{log_emitted, IsGood, ArePlans}
 use Rattle.full_journal.specs.Full.{ops_at, ops_of}
 use Rattle.full_journal.proofs.Targets.{bool_is}
 use Rattle.full_journal.proofs.Plans.{plan-good, plan-turn}

@@ -10,7 +10,8 @@ use Rattle.crash_model.specs.Plan.{applied}
 use Rattle.crash_model.specs.Trace.{touched}
 use Rattle.crash_model.specs.Replay.{is_header, copy_in, count_of, is_target, is_ascending}
 use Rattle.crash_model.specs.declared.plans.Change.{Change}
-use Rattle.full_journal.specs.Safe.{IsShaped, IsPlaced, ArePlaced, IsTurn, IsTurnClosed, IsOutside, copy_places, change_places, turn_places, log_places, IsLog}
+use Rattle.full_journal.proofs.Transactions.{IsShaped, IsPlaced, ArePlaced, IsTurn, IsTurnClosed, copy_places, change_places, turn_places, log_places, IsLog}
+use Rattle.full_journal.specs.Full.{IsOutside}
 use Rattle.journal_replay.proofs.Blocks.{length-block, block-put_same}
 use Rattle.full_journal.proofs.Images.{Avoid, all_put, image-append, image-none, image-all, shaped-inside, shaped-put, shaped-image, shaped-all, kept-put, kept-image, kept-all, same-all}
 use Rattle.full_journal.proofs.Targets.{bool_is, found_or_not, touched_targets, touched_ascending, avoid_journal, avoid_untouched}

@@ -1,5 +1,5 @@
 -- The promise of the full journal.
-use Rattle.std.specs.Prelude.{◌≡◌, ℕ, ◌+◌, ◌<◌, List, [], ◌∷◌, flat_map, take, Bool, true, false, ◌&&◌, if◌then◌else◌, Ok}
+use Rattle.std.specs.Prelude.{◌≡◌, ℕ, ◌+◌, ◌<◌, ◌≤◌, ◌⊎◌, List, [], ◌∷◌, flat_map, take, Bool, true, false, ◌&&◌, if◌then◌else◌, Ok}
 use Rattle.patch_sets.specs.Sets.{has}
 use Rattle.patch_sets.specs.Closed.{IsClosed}
 use Rattle.crash_model.specs.Disk.{Disk, block_of}
@@ -14,7 +14,6 @@ use Rattle.crash_model.specs.declared.steps.Act.{Act}
 use Rattle.crash_model.specs.declared.steps.Act.TheVariants.{Do}
 use Rattle.crash_model.specs.declared.steps.Module.TheVariants.{Full}
 use Rattle.crash_model.specs.declared.steps.Step.{Step}
-use Rattle.full_journal.specs.Safe.{IsOutside}
 
 -- the operations of steps, in order
 abbrev pub ops_at : Act → List Op
@@ -28,6 +27,10 @@ ops_of steps = flat_map (λ x. ops_at x.act) steps
 abbrev pub after_ops : Disk → List Op → Disk
 after_ops d [] = d
 after_ops d (op ∷ ops) = after_ops (result_applied d (plan_of d op)) ops
+
+-- a block outside of a journal of jl blocks
+abbrev pub IsOutside : ℕ → ℕ → Type 0
+IsOutside jl block = (block < 4) ⊎ (4 + jl ≤ block)
 
 abbrev pub is_commit : Part → Bool
 is_commit Commit = true

@@ -99,6 +99,29 @@ fn replay_of_a_metadata_journal_can_undo_reused_data(rt: HostRuntime) -> Result<
     Ok(())
 }
 
+/// A directory's block is used again for file data: replay of the metadata journal can put the directory back over it,
+/// and under the full journal it can't.
+#[test]
+fn a_full_journal_is_safe_where_a_metadata_journal_is_not(rt: HostRuntime) -> Result<(), Fail> {
+    let script = b"mkdir /d\ncreate /d/x\ncreate /f\nstart\nunlink /d/x\nrmdir /d\nwrite /f\n";
+    begins(
+        &rt,
+        &["--module", "meta", "--blocks", "24", "--journal", "12"],
+        script,
+        1,
+        "module meta\npatches 21\nclosed 629\nfailing 48\n",
+    )?;
+    exactly(
+        &rt,
+        &["--module", "full", "--blocks", "24", "--journal", "12"],
+        script,
+        0,
+        "module full\npatches 22\nclosed 1105\nfailing 0\n",
+        "",
+    )?;
+    Ok(())
+}
+
 #[test]
 fn a_full_journal_leaves_nothing_torn(rt: HostRuntime) -> Result<(), Fail> {
     exactly(

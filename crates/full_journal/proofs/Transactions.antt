@@ -1,11 +1,12 @@
--- What a journal that all changes go through keeps.
-use Rattle.std.specs.Prelude.{◌≡◌, ℕ, ◌+◌, ◌*◌, ◌≤◌, ◌<◌, ◌⊎◌, List, [], ◌∷◌, ◌++◌, length, map, slice_index, Bool, true, if◌then◌else◌}
+-- Transactions of the full journal: their places, and what a closed set has of them.
+use Rattle.std.specs.Prelude.{◌≡◌, ℕ, ◌+◌, ◌*◌, ◌≤◌, ◌<◌, List, [], ◌∷◌, ◌++◌, length, map, slice_index, Bool, true, if◌then◌else◌}
 use Rattle.crash_model.specs.Disk.{Disk, block_of}
 use Rattle.patch_sets.specs.Sets.{has}
 use Rattle.crash_model.specs.Patches.{Place, place, image_from}
 use Rattle.crash_model.specs.Plan.{applied}
 use Rattle.crash_model.specs.Replay.{is_target, headers_from, copy_after}
 use Rattle.crash_model.specs.Trace.{touched}
+use Rattle.full_journal.specs.Full.{IsOutside}
 use Rattle.crash_model.specs.declared.plans.Change.{Change}
 
 -- ---- the places of a log of operations
@@ -55,9 +56,6 @@ committed_disk n d id (cs ∷ ops) set =
     else d
 
 -- ---- what operations keep
-
-abbrev pub IsOutside : ℕ → ℕ → Type 0
-IsOutside jl x = (x < 4) ⊎ (4 + jl ≤ x)
 
 -- a disk of n blocks, jl of them the journal's
 pub record IsShaped (n jl : ℕ) (d : Disk) : Type 0 where
