@@ -54,17 +54,18 @@ fn every_number_of_workers_gives_the_same_report(rt: HostRuntime) -> Result<(), 
     Ok(())
 }
 
-/// Holds each claimer of one of the first sets until all of them are claimed.
+/// Holds each claimer of a set of one patch, `below` a bound, until as many as `expected` are claimed.
 #[derive(Drop)]
 struct Meeting {
     expected: u64,
+    below: u128,
     claimed: AtomicU64,
     gave_up: AtomicU64,
 }
 
 impl Gate for Meeting {
     fn claimed(&self, _worker: usize, set: u128) {
-        if set == 0 || !set.is_power_of_two() || set >= 1 << self.expected {
+        if set == 0 || !set.is_power_of_two() || set >= self.below {
             return;
         }
         self.claimed.fetch_add(1, SeqCst);
@@ -82,6 +83,7 @@ impl Gate for Meeting {
 fn two_workers_run_at_once(rt: HostRuntime) -> Result<(), Fail> {
     let gate = Meeting {
         expected: 2,
+        below: 1 << 2,
         claimed: AtomicU64::new(0),
         gave_up: AtomicU64::new(0),
     };
@@ -94,6 +96,7 @@ fn two_workers_run_at_once(rt: HostRuntime) -> Result<(), Fail> {
 fn four_workers_run_at_once(rt: HostRuntime) -> Result<(), Fail> {
     let gate = Meeting {
         expected: 4,
+        below: 1 << 4,
         claimed: AtomicU64::new(0),
         gave_up: AtomicU64::new(0),
     };
