@@ -1,5 +1,5 @@
--- What new hands hold: nothing, and ways to the deques of all of them.
-use Rattle.std.specs.Prelude.{◌≡◌, ℕ, ◌-◌, List, [], length, map, All}
+-- The hands of one call of `hands`: which deques they are of, what new ones hold, and what stays of them.
+use Rattle.std.specs.Prelude.{◌≡◌, ℕ, ◌-◌, ◌≤◌, List, [], length, map, All}
 use Rattle.atomic_blocks.specs.Lent.{RowsId}
 use Rattle.hands.specs.Accounts.{held}
 use Rattle.hands.specs.Known.{Way, Known}
@@ -7,6 +7,11 @@ use Rattle.hands.specs.Known.{Way, Known}
 module _ {T A : Type 0} where
   abbrev pub way_homes : List (Way T A) → List (RowsId × A)
   way_homes ways = map (λ w. w.home) ways
+
+  abbrev pub hand_homes : List (Known T A) → List (RowsId × A)
+  hand_homes hands = map (λ h. h.home) hands
+
+  -- ---- new
 
   abbrev pub IsFreshWay : Way T A → Type 0
   IsFreshWay w = w.holds ≡ held [] [] 1
@@ -22,5 +27,25 @@ module _ {T A : Type 0} where
   pub record AreFresh (workers : ℕ) (hands : List (Known T A)) : Type 0 where
     pub homes : List (RowsId × A)
     pub count : length homes ≡ workers
-    pub own : map (λ h. h.home) hands ≡ homes
+    pub own : hand_homes hands ≡ homes
     pub each : All (IsFreshHand homes) hands
+
+  -- ---- in use
+
+  -- a way that has one part still, and through which nothing was pushed
+  abbrev pub IsWay : Way T A → Type 0
+  IsWay w = (w.holds.parts ≡ 1) × (w.holds.pushed ≡ [])
+
+  abbrev pub AreWays : List (RowsId × A) → List (Way T A) → Type 0
+  AreWays homes ways = (way_homes ways ≡ homes) × All IsWay ways
+
+  -- a hand with ways to these deques, whatever was pushed and taken
+  abbrev pub IsHandOf : List (RowsId × A) → Known T A → Type 0
+  IsHandOf homes hand = (hand.own.parts ≡ 17 - length homes) × AreWays homes hand.ways
+
+  -- all hands of one call, whatever was pushed and taken
+  pub record AreTogether (hands : List (Known T A)) : Type 0 where
+    pub homes : List (RowsId × A)
+    pub few : length homes ≤ 16
+    pub own : hand_homes hands ≡ homes
+    pub each : All (IsHandOf homes) hands

@@ -1,3 +1,4 @@
 pub mod Accounts
 pub mod Known
 pub mod Fresh
+pub mod Steps

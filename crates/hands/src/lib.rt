@@ -1,6 +1,14 @@
-//! Hands.
+//! Hands, with which the workers of a pool pass tasks on.
+//!
+//! [`hands`] makes one [`Hand`] for each worker. A worker pushes tasks on its own deque and pops the newest of them, and
+//! steals the oldest of another's. Each hand may go to a thread of its own, and none of its calls waits.
 #![tactic(auto)]
 
-pub mod account;
-pub mod hand;
-pub mod reach;
+mod account;
+mod hand;
+mod making;
+mod reach;
+
+pub use hand::{Deque, Hand, tasks_left};
+pub use making::hands;
+pub use reach::Reach;
