@@ -1,5 +1,5 @@
 -- The full journal is safe.
-use Rattle.std.proofs.Common.{◌≡◌, ℕ, zero, suc, ◌+◌, ◌*◌, ◌<◌, ◌≤◌, inl, inr, List, [], ◌∷◌, ◌++◌, length, take, drop, map, Bool, true, false, cond, Option, Result, Ok, arith, tests, refl, sym, ◌∙◌, ap, subst}
+use Rattle.std.proofs.Common.{◌≡◌, ℕ, zero, suc, ◌+◌, ◌*◌, ◌<◌, ◌≤◌, inl, inr, List, [], ◌∷◌, ◌++◌, length, take, drop, map, Bool, true, false, cond, Option, Result, Ok, arith, refl, sym, ◌∙◌, ap, subst}
 use Rattle.std.specs.Prelude.{slice_get, slice_index, unwrap_or, ◌==◌}
 use Rattle.std.specs.List.{flat_map, range_with_len}
 use Rattle.std.proofs.lemmas.List.{length-append, length-take, map-append, take_at, drop_at, drop-drop}
@@ -20,12 +20,13 @@ use Rattle.crash_model.specs.declared.plans.Change.{Change}
 use Rattle.crash_model.specs.declared.patches.Patch.{Patch}
 use Rattle.crash_model.specs.declared.steps.Module.TheVariants.{Full}
 use Rattle.crash_model.specs.declared.steps.Step.{Step}
-use Rattle.full_journal.proofs.Transactions.{IsShaped, IsLogClosed, copy_places, change_places, turn_places, log_places, committed_disk, replayed_block}
+use Rattle.full_journal.proofs.Transactions.{IsLogClosed, copy_places, change_places, turn_places, log_places, committed_disk, replayed_block}
 use Rattle.full_journal.specs.Full.{IsOutside}
 use Rattle.full_journal.proofs.Logs.{log_emitted, IsClosedIn, IsGood, ArePlans}
-use Rattle.journal_replay.proofs.Blocks.{length-block, block-at}
-use Rattle.full_journal.proofs.Images.{shaped-image, shaped-inside}
-use Rattle.full_journal.proofs.Targets.{bool_is, same_number, equal_test, found_or_not}
+use Rattle.journal_replay.proofs.Blocks.{IsShaped, length-block, block-at, shaped-inside}
+use Rattle.journal_replay.proofs.Targets.{bool_is, same_number, found_or_not, header_fits}
+use Rattle.full_journal.proofs.Images.{shaped-image}
+use Rattle.full_journal.proofs.Targets.{equal_test}
 use Rattle.full_journal.specs.Full.{ops_of, after_ops, commits_from, IsRecovered}
 use Rattle.full_journal.proofs.Plans.{plan-good}
 use Rattle.full_journal.proofs.Outside.{sound-outside}
@@ -105,9 +106,6 @@ after_inside (suc most) n jl d j t b cur e room less = elim (bool_is (is_header 
       rw is (after_inside most n jl d (j + 1 + count_of (block_of d j)) (t + 1) b (unwrap_or (copy_in (block_of d j) j b) cur) e room
       (copy_inside n jl (block_of d j) j b cur room less (omega arith)))
 ]
-  where
-    header_fits : (d : Disk) (j t : ℕ) (row : List ℕ) → is_header d j t row ≡ true → j + count_of row ≤ 3 + d.journal
-    header_fits d j t row h = grind (arith, tests)
 
 pub replayed_at : (n jl : ℕ) (d : Disk) (b : ℕ) → IsShaped n jl d → 4 + jl ≤ n → b < n → block_of (replayed d) b ≡ replayed_block d jl 4 1 b b
 replayed_at n jl d b s room less =

@@ -1,11 +1,11 @@
 -- Images of sets, a stretch of patches at a time.
-use Rattle.std.proofs.Common.{◌≡◌, ◌≢◌, ℕ, ◌+◌, ◌*◌, ◌<◌, ◌≤◌, ◌⊎◌, inl, inr, List, [], ◌∷◌, ◌++◌, length, Bool, true, false, cond, arith, refl, sym, ◌∙◌, ap, subst}
+use Rattle.std.proofs.Common.{◌≡◌, ◌≢◌, ℕ, ◌+◌, ◌<◌, ◌≤◌, ◌⊎◌, inl, inr, List, [], ◌∷◌, ◌++◌, length, Bool, true, false, cond, arith, refl, sym, ◌∙◌, ap, subst}
 use Rattle.crash_model.specs.Disk.{Disk, block_of, put, overwrite}
 use Rattle.patch_sets.specs.Sets.{has}
 use Rattle.crash_model.specs.Patches.{Place, image_from}
-use Rattle.crash_model.proofs.Bytes.{length-overwrite}
-use Rattle.full_journal.proofs.Transactions.{IsShaped, IsPlaced, ArePlaced}
-use Rattle.journal_replay.proofs.Blocks.{Inside, block-put_other, block-put_same}
+use Rattle.full_journal.proofs.Transactions.{IsPlaced, ArePlaced}
+use Rattle.journal_replay.proofs.Blocks as blocks
+use Rattle.journal_replay.proofs.Blocks.{IsShaped, shaped-inside, block-put_other, block-put_same}
 
 -- the disk with places put one after another
 abbrev pub all_put : Disk → List Place → Disk
@@ -26,19 +26,12 @@ pub image-all : (id : ℕ) (d : Disk) (ps : List Place) (set : ℕ) → ((q : �
 image-all id d [] set every = refl
 image-all id d (p ∷ ps) set every = rw (every id (omega arith) (omega arith)) (image-all (id + 1) (put d p.block p.offset p.new) ps set (λ q a b. every q (omega arith) (omega arith)))
 
-pub shaped-inside : (n jl : ℕ) (d : Disk) (x : ℕ) → IsShaped n jl d → x < n → Inside d x
-shaped-inside n jl d x s h = let l : length d.bytes ≡ 128 * n = s.long in record { fits = omega arith }
-
 abbrev pub Avoid : ℕ → List Place → Type 0
 Avoid x [] = Unit {0}
 Avoid x (p ∷ ps) = (x ≢ p.block) × Avoid x ps
 
 pub shaped-put : (n jl : ℕ) (d : Disk) (p : Place) → IsShaped n jl d → IsPlaced n p → IsShaped n jl (put d p.block p.offset p.new)
-shaped-put n jl d p s i =
-    let l : length d.bytes ≡ 128 * n = s.long in
-    let a : p.offset + length p.new ≤ 128 = i.inside in
-    let b : p.block < n = i.known in
-    record { blocks = s.blocks; journal = s.journal; long = length-overwrite d.bytes (128 * p.block + p.offset) p.new (omega arith) ∙ l }
+shaped-put n jl d p s i = blocks.shaped-put n jl d p.block p.offset p.new s i.inside i.known
 
 shaped-step : (n jl : ℕ) (b : Bool) (d : Disk) (p : Place) → IsShaped n jl d → IsPlaced n p → IsShaped n jl (cond b (put d p.block p.offset p.new) d)
 shaped-step n jl true d p s i = shaped-put n jl d p s i

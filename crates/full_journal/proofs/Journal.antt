@@ -8,14 +8,12 @@ use Rattle.crash_model.specs.Plan.{applied}
 use Rattle.crash_model.specs.Trace.{touched}
 use Rattle.crash_model.specs.Replay.{is_header, copy_in, copy_after, count_of, headers_from}
 use Rattle.crash_model.specs.declared.plans.Change.{Change}
-use Rattle.full_journal.proofs.Transactions.{IsShaped, IsLogClosed, turn_places, log_places, IsLog, committed_disk, replayed_block, LogSafe}
+use Rattle.full_journal.proofs.Transactions.{IsLogClosed, turn_places, log_places, IsLog, committed_disk, replayed_block, LogSafe}
 use Rattle.full_journal.specs.Full.{IsOutside}
+use Rattle.journal_replay.proofs.Blocks.{IsShaped}
+use Rattle.journal_replay.proofs.Targets.{bool_is}
 use Rattle.full_journal.proofs.Images.{image-append, kept-image, shaped-image}
 use Rattle.full_journal.proofs.Turns.{IsTurned, turned, length-turn, shaped-applied, placed-log, avoid-log}
-
-bool_is : (b : Bool) → (b ≡ true) ⊎ (b ≡ false)
-bool_is true = inl refl
-bool_is false = inr refl
 
 -- no header where the journal ends, or where byte 0 is 0
 no_header : (d : Disk) (j t : ℕ) (row : List ℕ) → (j < 4 + d.journal → get_or row 0 0 ≡ 0) → is_header d j t row ≡ false

@@ -14,7 +14,8 @@ use Rattle.inode_fs.proofs.Counts.{plan-count}
 use Rattle.inode_fs.proofs.Sounds.{plan-keeps}
 use Rattle.full_journal.proofs.Transactions.{IsTurn, ArePlaced, AreAimed, change_places}
 use Rattle.full_journal.proofs.Logs.{IsGood}
-use Rattle.full_journal.proofs.Targets.{bool_is, same_number, any_filtered}
+use Rattle.journal_replay.proofs.Targets.{bool_is, same_number}
+use Rattle.full_journal.proofs.Targets.{any_filtered}
 
 -- ---- how many blocks changes touch
 

@@ -1,28 +1,18 @@
 -- The blocks that changes touch.
-use Rattle.std.proofs.Common.{◌≡◌, ◌≢◌, ℕ, zero, suc, ◌+◌, ◌<◌, ◌≤◌, ◌⊎◌, inl, inr, List, [], ◌∷◌, length, get_or, Bool, true, false, nat_lt, Some, None, arith, tests, refl, sym, subst}
-use Rattle.std.specs.List.{filter, list_any, list_all, range_with_len, position, position_or_len}
+use Rattle.std.proofs.Common.{◌≡◌, ◌≢◌, ℕ, zero, suc, ◌+◌, ◌<◌, ◌≤◌, inl, inr, List, [], ◌∷◌, Bool, true, false, nat_lt, arith, tests, refl, sym, subst}
+use Rattle.std.specs.List.{filter, list_any, list_all, range_with_len}
 use Rattle.std.specs.Prelude.{◌==◌}
-use Rattle.std.proofs.lemmas.List.Quantifiers.{position-Some}
 use Rattle.crash_model.specs.Disk.{Disk}
 use Rattle.crash_model.specs.Trace.{touched}
 use Rattle.crash_model.specs.Replay.{is_target, is_ascending}
 use Rattle.crash_model.specs.declared.plans.Change.{Change}
 use Rattle.full_journal.proofs.Transactions.{AreAimed, change_places}
 use Rattle.full_journal.specs.Full.{IsOutside}
+use Rattle.journal_replay.proofs.Targets.{bool_is, same_number, not_equal_test}
 use Rattle.full_journal.proofs.Images.{Avoid}
-
-pub bool_is : (b : Bool) → (b ≡ true) ⊎ (b ≡ false)
-bool_is true = inl refl
-bool_is false = inr refl
-
-pub same_number : (x y : ℕ) → (x == y) ≡ true → x ≡ y
-same_number x y h = grind (arith, tests)
 
 pub equal_test : (x y : ℕ) → x ≡ y → (x == y) ≡ true
 equal_test x y h = grind (arith, tests)
-
-pub not_equal_test : (x y : ℕ) → (x == y) ≡ false → x ≢ y
-not_equal_test x y h = grind (arith, tests)
 
 -- ---- lists
 
@@ -62,34 +52,6 @@ any_filtered q a (suc n) b from to h = elim (bool_is (a == b)) [
         | inr f ↦ rw f (any_filtered q (a + 1) n b (grind arith) (omega arith) h)
       ]
 ]
-
-any_below : (p : ℕ → Bool) (xs : List ℕ) → list_any p xs ≡ true → position_or_len p xs < length xs
-any_below p [] h = absurd (cc)
-any_below p (x ∷ xs) h = elim (bool_is (p x)) [
-  | inl t ↦ rw t (omega arith)
-  | inr f ↦ let less : position_or_len p xs < length xs = any_below p xs (rw f at h) in rw f (omega arith)
-]
-
--- a number is at some place of a list, or at none
-pub found_or_not : (b : ℕ) (xs : List ℕ) → ((m : ℕ) × (position (λ x. x == b) xs ≡ Some m) × (m < length xs) × (get_or xs m 0 ≡ b)) ⊎ ((position (λ x. x == b) xs ≡ None) × (list_any (λ x. x == b) xs ≡ false))
-found_or_not b xs =
-    let m : ℕ = position_or_len (λ x. x == b) xs in
-    elim (bool_is (nat_lt m (length xs))) [
-      | inl t ↦
-          let here : position (λ x. x == b) xs ≡ Some m = rw t refl in
-          let what : (m < length xs) × ((get_or xs m 0 == b) ≡ true) × ((k : ℕ) → k < m → (get_or xs k 0 == b) ≡ false) = position-Some (λ x. x == b) xs m 0 here in
-          inl (m, here, what.0, same_number (get_or xs m 0) b what.1)
-      | inr f ↦ inr (
-        rw f refl,
-        elim (bool_is (list_any (λ x. x == b) xs)) [
-          | inl any ↦ let less : m < length xs = any_below (λ x. x == b) xs any in absurd (not_below m (length xs) f less)
-          | inr none ↦ none
-        ],
-      )
-    ]
-  where
-    not_below : (m n : ℕ) → nat_lt m n ≡ false → m < n → ⊥
-    not_below m n f less = grind (arith, tests)
 
 -- ---- targets
 

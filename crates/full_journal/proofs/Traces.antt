@@ -21,7 +21,7 @@ use Rattle.inode_fs.proofs.Lands.{applied-size}
 use Rattle.full_journal.proofs.Transactions.{IsLog}
 use Rattle.full_journal.proofs.Logs.{log_emitted, IsGood, ArePlans}
 use Rattle.full_journal.specs.Full.{ops_at, ops_of}
-use Rattle.full_journal.proofs.Targets.{bool_is}
+use Rattle.journal_replay.proofs.Targets.{bool_is}
 use Rattle.full_journal.proofs.Plans.{plan-good, plan-turn}
 
 -- the changes of operations, each with its group

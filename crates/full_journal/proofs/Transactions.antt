@@ -1,5 +1,5 @@
 -- Transactions of the full journal: their places, and what a closed set has of them.
-use Rattle.std.specs.Prelude.{◌≡◌, ℕ, ◌+◌, ◌*◌, ◌≤◌, ◌<◌, List, [], ◌∷◌, ◌++◌, length, map, slice_index, Bool, true, if◌then◌else◌}
+use Rattle.std.specs.Prelude.{◌≡◌, ℕ, ◌+◌, ◌≤◌, ◌<◌, List, [], ◌∷◌, ◌++◌, length, map, slice_index, Bool, true, if◌then◌else◌}
 use Rattle.crash_model.specs.Disk.{Disk, block_of}
 use Rattle.patch_sets.specs.Sets.{has}
 use Rattle.crash_model.specs.Patches.{Place, place, image_from}
@@ -7,6 +7,7 @@ use Rattle.crash_model.specs.Plan.{applied}
 use Rattle.crash_model.specs.Replay.{is_target, headers_from, copy_after}
 use Rattle.crash_model.specs.Trace.{touched}
 use Rattle.full_journal.specs.Full.{IsOutside}
+use Rattle.journal_replay.proofs.Blocks.{IsShaped}
 use Rattle.crash_model.specs.declared.plans.Change.{Change}
 
 -- ---- the places of a log of operations
@@ -56,12 +57,6 @@ committed_disk n d id (cs ∷ ops) set =
     else d
 
 -- ---- what operations keep
-
--- a disk of n blocks, jl of them the journal's
-pub record IsShaped (n jl : ℕ) (d : Disk) : Type 0 where
-  pub blocks : d.blocks ≡ n
-  pub journal : d.journal ≡ jl
-  pub long : length d.bytes ≡ 128 * n
 
 -- a place inside a block of a disk of n blocks
 pub record IsPlaced (n : ℕ) (p : Place) : Type 0 where

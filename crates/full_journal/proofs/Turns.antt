@@ -1,8 +1,8 @@
 -- What the patches of one transaction do to a disk.
-use Rattle.std.proofs.Common.{◌≡◌, ◌≢◌, ℕ, zero, suc, ◌+◌, ◌*◌, ◌<◌, ◌≤◌, ◌⊎◌, inl, inr, List, [], ◌∷◌, ◌++◌, length, take, drop, get_or, Bool, true, false, cond, nat_lt, nat_le, ◌&&◌, ◌||◌, Option, None, min, append-nil, arith, tests, refl, sym, ◌∙◌, ap, subst}
+use Rattle.std.proofs.Common.{◌≡◌, ◌≢◌, ℕ, zero, suc, ◌+◌, ◌*◌, ◌<◌, ◌≤◌, ◌⊎◌, inl, inr, List, [], ◌∷◌, ◌++◌, length, take, drop, get_or, Bool, true, false, cond, nat_lt, nat_le, ◌&&◌, ◌||◌, Option, None, min, arith, tests, refl, sym, ◌∙◌, ap, subst}
 use Rattle.std.specs.Prelude.{unwrap_or, option_map, ◌==◌}
 use Rattle.std.specs.List.{list_all, position}
-use Rattle.std.proofs.lemmas.List.{length-append, length-map, length-take, take_at, drop_all}
+use Rattle.std.proofs.lemmas.List.{length-append, length-map, length-take, take_at}
 use Rattle.crash_model.specs.Disk.{Disk, block_of, put, overwrite}
 use Rattle.patch_sets.specs.Sets.{has}
 use Rattle.crash_model.specs.Patches.{Place, place, image_from}
@@ -10,11 +10,12 @@ use Rattle.crash_model.specs.Plan.{applied}
 use Rattle.crash_model.specs.Trace.{touched}
 use Rattle.crash_model.specs.Replay.{is_header, copy_in, count_of, is_target, is_ascending}
 use Rattle.crash_model.specs.declared.plans.Change.{Change}
-use Rattle.full_journal.proofs.Transactions.{IsShaped, IsPlaced, ArePlaced, IsTurn, IsTurnClosed, copy_places, change_places, turn_places, log_places, IsLog}
+use Rattle.full_journal.proofs.Transactions.{IsPlaced, ArePlaced, IsTurn, IsTurnClosed, copy_places, change_places, turn_places, log_places, IsLog}
 use Rattle.full_journal.specs.Full.{IsOutside}
-use Rattle.journal_replay.proofs.Blocks.{length-block, block-put_same}
-use Rattle.full_journal.proofs.Images.{Avoid, all_put, image-append, image-none, image-all, shaped-inside, shaped-put, shaped-image, shaped-all, kept-put, kept-image, kept-all, same-all}
-use Rattle.full_journal.proofs.Targets.{bool_is, found_or_not, touched_targets, touched_ascending, avoid_journal, avoid_untouched}
+use Rattle.journal_replay.proofs.Blocks.{IsShaped, shaped-inside, length-block, overwrite-all, block-put_same}
+use Rattle.journal_replay.proofs.Targets.{bool_is, found_or_not, outside_apart}
+use Rattle.full_journal.proofs.Images.{Avoid, all_put, image-append, image-none, image-all, shaped-put, shaped-image, shaped-all, kept-put, kept-image, kept-all, same-all}
+use Rattle.full_journal.proofs.Targets.{touched_targets, touched_ascending, avoid_journal, avoid_untouched}
 
 -- What the patches of a set, of one transaction, make of disk e, where d is the disk that the operation was planned on.
 pub record IsTurned (n jl : ℕ) (d e f : Disk) (t j : ℕ) (cs : List Change) (committed done : Bool) : Type 0 where
@@ -162,9 +163,6 @@ over-start : (xs new : List ℕ) → overwrite xs 0 new ≡ new ++ drop (length 
 unfolding overwrite
 over-start xs new = let e : 0 + length new ≡ length new = omega arith in ap (λ (m : ℕ). new ++ drop m xs) e
 
-pub over-all : (xs new : List ℕ) → length xs ≤ length new → overwrite xs 0 new ≡ new
-over-all xs new h = over-start xs new ∙ ap (λ (ys : List ℕ). new ++ ys) (drop_all (length new) xs h) ∙ append-nil new
-
 pub all_at : (p : ℕ → Bool) (xs : List ℕ) (m : ℕ) → list_all p xs ≡ true → m < length xs → p (get_or xs m 0) ≡ true
 all_at p [] m h less = absurd (omega arith)
 all_at p (x ∷ xs) zero h less = elim (bool_is (p x)) [ inl t ↦ t | inr f ↦ (let z : false ≡ true = rw f at h in absurd (cc)) ]
@@ -183,7 +181,7 @@ copies-at n jl e after j (b ∷ bs) zero r s fits less known =
     subst (λ (x : ℕ). block_of (all_put (put e j 0 (block_of after b)) (copy_places after (j + 1) bs)) x ≡ block_of after b) (omega arith)
     (kept-all n jl (put e j 0 (block_of after b)) (copy_places after (j + 1) bs) j (shaped-put n jl e p r ok) (placed-copies n after (j + 1) bs (omega arith)) in_j (avoid-copies after (j + 1) bs j (inl (omega arith)))
     ∙ block-put_same e j 0 (block_of after b) (omega arith) (shaped-inside n jl e j r in_j)
-    ∙ over-all (block_of e j) (block_of after b) (omega arith))
+    ∙ overwrite-all (block_of e j) (block_of after b) (omega arith))
 copies-at n jl e after j (b ∷ bs) (suc m) r s fits less known =
     let in_j : j < n = omega arith in
     let p : Place = place j 0 (block_of after b) in
@@ -305,9 +303,6 @@ staged n jl d e id t j cs set s r room least turn =
 -- where replay looks for block b after the transaction, and that it finds it there
 abbrev pub IsFoundAt : Disk → Disk → ℕ → Bool → ℕ → ℕ → Type 0
 IsFoundAt f d' next done b now = (done ≡ true → now ≡ b) × ((now ≡ b) ⊎ ((4 ≤ now) × (now < next))) × (block_of f now ≡ block_of d' b)
-
-pub outside_apart : (jl x y : ℕ) → IsOutside jl x → 4 ≤ y → y < 4 + jl → x ≢ y
-outside_apart jl x y out from to = elim out [ inl l ↦ grind arith | inr r ↦ grind arith ]
 
 -- settled: the block itself
 found_done : (n jl : ℕ) (d e : Disk) (id t j : ℕ) (cs : List Change) (set b cur : ℕ) (e1 e2 e3 : Disk)

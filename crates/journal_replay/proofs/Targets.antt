@@ -11,10 +11,10 @@ pub bool_is : (b : Bool) → (b ≡ true) ⊎ (b ≡ false)
 bool_is true = inl refl
 bool_is false = inr refl
 
-same_number : (x y : ℕ) → (x == y) ≡ true → x ≡ y
+pub same_number : (x y : ℕ) → (x == y) ≡ true → x ≡ y
 same_number x y h = grind (arith, tests)
 
-not_equal_test : (x y : ℕ) → (x == y) ≡ false → x ≢ y
+pub not_equal_test : (x y : ℕ) → (x == y) ≡ false → x ≢ y
 not_equal_test x y h = grind (arith, tests)
 
 any_below : (p : ℕ → Bool) (xs : List ℕ) → list_any p xs ≡ true → position_or_len p xs < length xs
