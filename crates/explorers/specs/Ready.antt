@@ -10,6 +10,15 @@ use Rattle.explorers.specs.declared.worker.Left.{Left}
 abbrev pub IsIdle : {S : Type 0} → Shown S → Known → Type 0
 IsIdle b s = IsOf b s × (s.right ≡ 0) × (s.claims ≡ 0)
 
+-- the word is an entry that the seat has seen, and the claim is as it was
+pub record PutsIn (word : ℕ) (before after : Known) : Type 0 where
+  pub board : after.board ≡ before.board
+  pub limit : after.limit ≡ before.limit
+  pub free : after.right ≡ 0
+  pub claims : after.claims ≡ before.claims
+  pub place : after.place ≡ before.place
+  pub has : Has after.seen word
+
 -- the seat is at the entry that it has claimed, and the first k successors are entries that it has seen
 pub record Expands {S : Type 0} (b : Shown S) (before : List (List ℕ)) (place : Place) (next : List ℕ) (k : ℕ) (s : Known) : Type 0 where
   pub of : IsOf b s

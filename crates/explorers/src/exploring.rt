@@ -1,5 +1,5 @@
 //! Exploring with many workers.
-ghost use Rattle.std.specs.Prelude.{◌≡◌, ℕ, ◌<◌, ◌≤◌, IfOk, IsErrOf};
+ghost use Rattle.std.specs.Prelude.{◌≡◌, ℕ, ◌<◌, ◌≤◌, length, IfOk, IsErrOf};
 ghost use Rattle.std.specs.List.{All};
 ghost use Rattle.state_space.specs.Reach.{IsReached};
 ghost use Rattle.state_space.specs.Counts.{HoldsOf, Outnumbers};
@@ -8,13 +8,15 @@ ghost use Rattle.explorers.specs.Ready.{IsIdle, IsLeft};
 
 use crate::answers::{answer, join_all};
 use crate::gate::Gate;
+use crate::jobs::{Job, share};
+use crate::tasks::{Task, Tasks};
 use crate::worker::{Left, Worker, work};
+use hands::{Hand, hands};
 use plain_explorer::{ExploreFault, Explored};
-use seen_board::{Board, BoardSeat};
+use seen_board::{Board, BoardSeat, Place};
 use state_space::Space;
 use std::alloc::{AllocError, Allocator};
 use std::sync::Wait;
-use std::thread;
 use std::thread::Threads;
 
 /// Explores a space from its initial word, with 1 to 16 workers over one board.
@@ -49,7 +51,8 @@ where
     ensures too_many { IsErrOf result ExploreFault.TooMany → Outnumbers (IsReached (S.successors space.now) (S.initial space.now)) limit }
 {
     let (board, mut seat) = Board::open(alloc, space, limit)?;
-    let ready = new_workers(alloc, &board, space, &mut seat, workers)?;
+    let hands = first_hands(alloc, space, workers)?;
+    let ready = new_workers(alloc, &board, space, &mut seat, hands)?;
     let before = Left {
         seat,
         is_over: false,
@@ -58,25 +61,76 @@ where
     answer(alloc, space, limit, board, left)
 }
 
-/// The workers, each with a seat that is split off. Worker 1 is the last.
+/// A hand for each worker. The first has the initial word as its task.
+fn first_hands<S: Space, A: Allocator + Copy>(
+    alloc: A,
+    space: &S,
+    workers: usize,
+) -> Result<Vec<Hand<Task, A>, A>, AllocError>
+    requires workers { (1 ≤ workers) × (workers ≤ 16) }
+    ensures count { IfOk result (λ hands. length hands.items ≡ workers) }
+    ensures ways { IfOk result (λ hands. All (λ hand. length hand.ways ≡ workers) hands.items) }
+{
+    let mut all = hands(alloc, workers)?;
+    let word = space.start();
+    let place = Place {
+        shard: (word % 13) as u8,
+        at: 0,
+    };
+    match all[0].push(Task { word, place }) {
+        Ok(()) => Ok(all),
+        Err(_) => Err(AllocError),
+    }
+}
+
+/// A worker for each hand, with a seat that is split off. Worker 1, whose hand is the first, is the last.
 fn new_workers<S: Space, A: Allocator + Copy>(
     alloc: A,
     board: &Board<S, A>,
     space: &S,
     seat: &mut BoardSeat,
-    count: usize,
-) -> Result<Vec<Worker<S>, A>, AllocError>
+    mut hands: Vec<Hand<Task, A>, A>,
+) -> Result<Vec<Worker<S, A>, A>, AllocError>
     requires idle { IsIdle board.now seat.old }
+    requires few { length hands.items ≤ 16 }
+    requires ways { All (λ hand. length hand.ways ≡ length hands.items) hands.items }
     ensures idle { IsIdle board.now seat.new }
+    ensures count { IfOk result (λ workers. length workers.items ≡ length hands.items) }
     ensures ready { IfOk result (λ workers. All (λ w. IsIdle board.now w.seat × S.is_own space.now w.scratch) workers.items) }
 {
+    let count = hands.len();
     let mut workers = Vec::new(alloc);
-    for before in 0..count {
+    while let Some(hand) = hands.pop() {
+        let own = hands.len();
         let scratch = space.scratch()?;
         let seat = board.split(seat);
-        workers.push(Worker::new(count - before, seat, scratch))?;
+        let tasks = Tasks::new(hand, own, count);
+        workers.push(Worker::new(own + 1, seat, scratch, tasks))?;
     }
     Ok(workers)
+}
+
+/// Exploring a space over a board.
+#[derive(Drop)]
+struct Exploration<'a, S: Space, G: Gate, A: Allocator> {
+    board: &'a Board<S, A>,
+    space: &'a S,
+    gate: &'a G,
+}
+
+impl<'a, S: Space, G: Gate, A: Allocator> Job for Exploration<'a, S, G, A> {
+    type Worker = Worker<S, A>;
+
+    ghost use Rattle.std.specs.Prelude.{◌≡◌};
+    ghost use Rattle.explorers.specs.Ready.{IsIdle, IsLeft};
+
+    ghost is_ready = { λ e worker. (e.board.now.space ≡ e.space.now) × IsIdle e.board.now worker.seat × S.is_own e.space.now worker.scratch };
+
+    ghost is_left = { λ e left. IsLeft e.board.now left };
+
+    fn work<R: Wait>(&self, rt: &R, worker: Worker<S, A>) -> Left {
+        work(rt, self.board, self.space, self.gate, worker)
+    }
 }
 
 /// The workers work side by side, the last of them on the caller's thread. What they leave is joined to what is there.
@@ -86,7 +140,7 @@ fn work_together<R, S, G, A>(
     space: &S,
     gate: &G,
     before: Left,
-    workers: Vec<Worker<S>, A>,
+    workers: Vec<Worker<S, A>, A>,
 ) -> Result<Left, AllocError>
 where
     R: Threads + Wait + Sync,
@@ -99,6 +153,7 @@ where
     requires ready { All (λ w. IsIdle board.now w.seat × S.is_own space.now w.scratch) workers.items }
     ensures left { IfOk result (IsLeft board.now) }
 {
-    let left = thread::map_vec(rt, workers, &|mine| work(rt, board, space, gate, mine))?;
+    let exploration = Exploration { board, space, gate };
+    let left = share(rt, &exploration, workers)?;
     Ok(join_all(board, before, left))
 }

@@ -6,8 +6,13 @@
 
 mod answers;
 mod collected;
+mod expanding;
 mod exploring;
 mod gate;
+mod jobs;
+mod searching;
+mod stealing;
+mod tasks;
 #[cfg(test)]
 mod tests;
 mod worker;

@@ -1,8 +1,11 @@
-//! Ladders of words, on which each word leads to the next two.
-ghost use Rattle.std.specs.Prelude.{◌≡◌, ◌+◌, ◌≤◌, ◌<◌, ℕ, List, [], ◌∷◌, nat_lt, if◌then◌else◌};
+//! Ladders of words, on which each word leads to the next two, and the sets of two patches.
+ghost use Rattle.std.specs.Prelude.{◌≡◌, ◌+◌, ◌≤◌, ◌<◌, ℕ, List, [], ◌∷◌, nat_eq, nat_lt, if◌then◌else◌};
 
+use crate::tasks::{Task, Tasks};
 use crate::{ExploreFault, Gate, OpenGate, explore};
+use hands::hands;
 use plain_explorer::explore_plain;
+use seen_board::Place;
 use state_space::Space;
 use std::alloc::AllocError;
 use std::sync::atomic::{AtomicU64, Ordering};
@@ -55,6 +58,77 @@ impl Space for Ladder {
     ghost initial_lawful = { λ ladder. tt };
 
     ghost successor_lawful = { λ ladder word next lawful after. tt };
+}
+
+// The sets of patches 0 and 1, of which neither depends on the other, as their bits: the empty set leads to the two sets of
+// one patch, and each of them to the set of both. All are good.
+struct TwoPatches;
+
+impl Space for TwoPatches {
+    type Scratch = ();
+
+    ghost is_lawful = { λ patches word. Unit {0} };
+
+    ghost initial = { λ patches. 0 };
+
+    ghost successors = { λ patches word. if nat_eq word 0 then 1 ∷ 2 ∷ [] else (if nat_lt word 3 then 3 ∷ [] else []) };
+
+    ghost is_good = { λ patches word. Unit {0} };
+
+    ghost is_own = { λ patches scratch. Unit {0} };
+
+    fn start(&self) -> u128 {
+        0
+    }
+
+    fn scratch(&self) -> Result<(), AllocError> {
+        Ok(())
+    }
+
+    fn degree(&self, word: u128) -> u32 {
+        if word == 0 {
+            2
+        } else if word < 3 {
+            1
+        } else {
+            0
+        }
+    }
+
+    fn next(&self, word: u128, k: u32) -> u128 {
+        if word > 0 {
+            3
+        } else if k == 0 {
+            1
+        } else {
+            2
+        }
+    }
+
+    fn judge(&self, _scratch: &mut (), _word: u128) -> Result<bool, AllocError> {
+        Ok(true)
+    }
+
+    ghost initial_lawful = { λ patches. tt };
+
+    ghost successor_lawful = { λ patches word next lawful after. tt };
+}
+
+// Writes the sets down in the order in which one worker claims them, as the digits of a number after a 1.
+#[derive(Drop)]
+struct Diary {
+    digits: AtomicU64,
+}
+
+impl Gate for Diary {
+    fn claimed(&self, _worker: usize, set: u128) {
+        let digits = self.digits.load(Ordering::SeqCst);
+        let digit = (set % 10) as u64;
+        self.digits.store(
+            digits.wrapping_mul(10).wrapping_add(digit),
+            Ordering::SeqCst,
+        );
+    }
 }
 
 // Counts the claims.
@@ -153,5 +227,42 @@ fn two_workers_meet(rt: HostRuntime) -> Result<(), Fail> {
     assert_eq!(rt; found.total, 4);
     assert_eq!(rt; meeting.here.load(Ordering::SeqCst), 2);
     assert_eq!(rt; meeting.missed.load(Ordering::SeqCst), 0);
+    Ok(())
+}
+
+#[test]
+fn one_worker_takes_the_newest_first(rt: HostRuntime) -> Result<(), Fail> {
+    let diary = Diary {
+        digits: AtomicU64::new(1),
+    };
+    let found = explore(&rt, rt.alloc(), &TwoPatches, 4, 1, &diary)?;
+    assert_eq!(rt; found.total, 4);
+    assert_eq!(rt; found.broken.len(), 0);
+    assert_eq!(rt; diary.digits.load(Ordering::SeqCst), 10231);
+    Ok(())
+}
+
+fn task_of(at: u16) -> Task {
+    Task {
+        word: u128::from(at),
+        place: Place { shard: 0, at },
+    }
+}
+
+#[test]
+fn the_oldest_is_stolen_and_the_newest_popped(rt: HostRuntime) -> Result<(), Fail> {
+    let mut all = hands(rt.alloc(), 2)?;
+    let second = all.pop().ok_or("a hand")?;
+    let first = all.pop().ok_or("a hand")?;
+    let mut thief = Tasks::new(second, 1, 2);
+    let mut owner = Tasks::new(first, 0, 2);
+    for at in [1, 2, 3, 4] {
+        assert!(rt; owner.push(task_of(at)) == Ok(()));
+    }
+    assert!(rt; thief.pop() == None);
+    assert!(rt; thief.steal() == Some(task_of(1)));
+    assert!(rt; (owner.steal(), owner.pop()) == (None, Some(task_of(4))));
+    assert!(rt; (owner.pop(), owner.pop()) == (Some(task_of(3)), Some(task_of(2))));
+    assert!(rt; (owner.pop(), thief.steal()) == (None, None));
     Ok(())
 }

@@ -1,39 +1,46 @@
 //! What one worker does.
-ghost use Rattle.std.specs.Prelude.{◌≡◌, ◌<◌, ◌≤◌, true, false, length, IfOk};
-ghost use Rattle.board_rule.specs.Lists.{row_of};
-ghost use Rattle.seen_board.specs.Clauses.{IsOf, HasClaim, HasPlace, SeesOn};
+ghost use Rattle.std.specs.Prelude.{◌≡◌, true, false, IfOk};
 ghost use Rattle.explorers.specs.Ready.{IsIdle, IsLeft};
 
+use crate::expanding::take;
 use crate::gate::Gate;
-use seen_board::{Board, BoardSeat, Place, Put};
+use crate::searching::search;
+use crate::stealing::learn;
+use crate::tasks::Tasks;
+use seen_board::{Board, BoardSeat};
 use state_space::Space;
 use std::alloc::{AllocError, Allocator};
 use std::sync::Wait;
 use std::thread::yield_now;
 
-/// The shards of a board.
-const SHARDS: u8 = 13;
+/// After so many rounds in a row in which all deques were found empty, a worker searches the rows.
+const EMPTY_ROUNDS: u8 = 64;
 
-/// A worker: its number, from 1, its seat at the board, what it judges in, and how many places of each shard it has
-/// tried to claim. A place that was tried waits no more.
+/// A worker: its number, from 1, its seat at the board, what it judges in, its tasks, and how many places of each shard it
+/// has tried to claim in a search of the rows. A place that was tried waits no more.
 #[derive(Drop)]
-pub(crate) struct Worker<S: Space> {
+pub(crate) struct Worker<S: Space, A: Allocator> {
     pub number: usize,
     pub seat: BoardSeat,
     pub scratch: S::Scratch,
+    pub tasks: Tasks<A>,
+    pub empty_rounds: u8,
     pub tried: [u16; 13],
 }
 
-impl<S: Space> Worker<S> {
+impl<S: Space, A: Allocator> Worker<S, A> {
     /// A worker that has tried nothing.
-    pub fn new(number: usize, seat: BoardSeat, scratch: S::Scratch) -> Worker<S>
+    pub fn new(number: usize, seat: BoardSeat, scratch: S::Scratch, tasks: Tasks<A>) -> Worker<S, A>
         ensures seat { result.seat ≡ seat }
         ensures scratch { result.scratch ≡ scratch }
+        ensures tasks { result.tasks ≡ tasks }
     {
         Worker {
             number,
             seat,
             scratch,
+            tasks,
+            empty_rounds: 0,
             tried: [0; 13],
         }
     }
@@ -52,7 +59,7 @@ pub(crate) fn work<R: Wait, S: Space, G: Gate, A: Allocator>(
     board: &Board<S, A>,
     space: &S,
     gate: &G,
-    mut mine: Worker<S>,
+    mut mine: Worker<S, A>,
 ) -> Left
     requires space { board.now.space ≡ space.now }
     requires idle { IsIdle board.now mine.seat }
@@ -64,8 +71,8 @@ pub(crate) fn work<R: Wait, S: Space, G: Gate, A: Allocator>(
         if board.finished(&mut mine.seat) || board.stopped(&mut mine.seat) {
             break;
         }
-        match visit(rt, board, space, gate, &mut mine) {
-            Ok(true) => yield_now(),
+        match turn(rt, board, space, gate, &mut mine) {
+            Ok(true) => {}
             Ok(false) => {
                 is_over = true;
                 break;
@@ -77,19 +84,21 @@ pub(crate) fn work<R: Wait, S: Space, G: Gate, A: Allocator>(
         number: _,
         seat,
         scratch: _,
+        tasks: _,
+        empty_rounds: _,
         tried: _,
     } = mine;
     Left { seat, is_over }
 }
 
-/// Looks at each shard once, and expands what it claims there. `false` where more words than the limit are reached; the
-/// error is want of memory.
-fn visit<R: Wait, S: Space, G: Gate, A: Allocator>(
+/// Takes the newest of its own tasks, else the oldest of another worker's, else notes an empty round. `false` where more
+/// words than the limit are reached; the error is want of memory.
+fn turn<R: Wait, S: Space, G: Gate, A: Allocator>(
     rt: &R,
     board: &Board<S, A>,
     space: &S,
     gate: &G,
-    mine: &mut Worker<S>,
+    mine: &mut Worker<S, A>,
 ) -> Result<bool, AllocError>
     requires space { board.now.space ≡ space.now }
     requires idle { IsIdle board.now mine.old.seat }
@@ -98,118 +107,39 @@ fn visit<R: Wait, S: Space, G: Gate, A: Allocator>(
     ensures own { S.is_own space.now mine.new.scratch }
     ensures over { IfOk result (λ within. within ≡ false → mine.new.seat.over ≡ 1) }
 {
-    for shard in 0..SHARDS {
-        if !visit_shard(rt, board, space, gate, mine, shard)? {
-            return Ok(false);
-        }
+    if let Some(task) = mine.tasks.pop() {
+        mine.empty_rounds = 0;
+        return take(rt, board, space, gate, mine, task.place);
     }
-    Ok(true)
-}
-
-/// Tries to claim each place of a shard that it has not tried, and expands what it claims. The answers are those of
-/// `visit`.
-fn visit_shard<R: Wait, S: Space, G: Gate, A: Allocator>(
-    rt: &R,
-    board: &Board<S, A>,
-    space: &S,
-    gate: &G,
-    mine: &mut Worker<S>,
-    shard: u8,
-) -> Result<bool, AllocError>
-    requires space { board.now.space ≡ space.now }
-    requires idle { IsIdle board.now mine.old.seat }
-    requires own { S.is_own space.now mine.old.scratch }
-    requires shard { shard < 13 }
-    ensures idle { IsIdle board.now mine.new.seat }
-    ensures own { S.is_own space.now mine.new.scratch }
-    ensures over { IfOk result (λ within. within ≡ false → mine.new.seat.over ≡ 1) }
-{
-    let count = count_of(rt, board, &mut mine.seat, shard);
-    for at in mine.tried[shard as usize]..count {
-        mine.tried[shard as usize] = at + 1;
-        if !visit_place(rt, board, space, gate, mine, Place { shard, at })? {
-            return Ok(false);
-        }
+    if let Some(task) = mine.tasks.steal() {
+        mine.empty_rounds = 0;
+        learn(rt, board, &mut mine.seat, task.word);
+        return take(rt, board, space, gate, mine, task.place);
     }
-    Ok(true)
+    pass(rt, board, space, gate, mine)
 }
 
-/// The number of a shard's entries, which the seat then has seen.
-fn count_of<R: Wait, S: Space, A: Allocator>(
-    rt: &R,
-    board: &Board<S, A>,
-    seat: &mut BoardSeat,
-    shard: u8,
-) -> u16
-    requires idle { IsIdle board.now seat.old }
-    requires shard { shard < 13 }
-    ensures idle { IsIdle board.now seat.new }
-    ensures seen { result ≤ length (row_of seat.new.seen shard) }
-{
-    board.read(rt, seat, shard);
-    let count = board.see(seat, shard);
-    board.leave(seat, shard);
-    count
-}
-
-/// Expands the entry at a place if it can claim it, and tells the gate before. The answers are those of `visit`.
-fn visit_place<R: Wait, S: Space, G: Gate, A: Allocator>(
+/// Passes a round in which all deques were found empty, and searches the rows in the last of many. The answers are those
+/// of `turn`.
+fn pass<R: Wait, S: Space, G: Gate, A: Allocator>(
     rt: &R,
     board: &Board<S, A>,
     space: &S,
     gate: &G,
-    mine: &mut Worker<S>,
-    place: Place,
+    mine: &mut Worker<S, A>,
 ) -> Result<bool, AllocError>
     requires space { board.now.space ≡ space.now }
     requires idle { IsIdle board.now mine.old.seat }
     requires own { S.is_own space.now mine.old.scratch }
-    requires seen { HasPlace mine.old.seat.seen place }
     ensures idle { IsIdle board.now mine.new.seat }
-    ensures sees { SeesOn mine.old.seat.seen mine.new.seat.seen }
     ensures own { S.is_own space.now mine.new.scratch }
     ensures over { IfOk result (λ within. within ≡ false → mine.new.seat.over ≡ 1) }
 {
-    if !board.claim(&mut mine.seat, place) {
+    yield_now();
+    mine.empty_rounds = mine.empty_rounds.saturating_add(1);
+    if mine.empty_rounds < EMPTY_ROUNDS {
         return Ok(true);
     }
-    let word = board.at(&mut mine.seat, place);
-    gate.claimed(mine.number, word);
-    expand(rt, board, space, &mut mine.scratch, &mut mine.seat, place)
-}
-
-/// Puts the successors of a claimed entry in, in the order of the list, judges it and settles it. `false` where more
-/// words than the limit are reached. Where memory is refused it tells the others to stop.
-fn expand<S: Space, A: Allocator, R: Wait>(
-    rt: &R,
-    board: &Board<S, A>,
-    space: &S,
-    scratch: &mut S::Scratch,
-    seat: &mut BoardSeat,
-    place: Place,
-) -> Result<bool, AllocError>
-    requires board { IsOf board.now seat.old × (board.now.space ≡ space.now) }
-    requires own { S.is_own space.now scratch.old }
-    requires free { seat.old.right ≡ 0 }
-    requires claim { HasClaim seat.old place × HasPlace seat.old.seen place }
-    ensures idle { IsIdle board.now seat.new }
-    ensures sees { SeesOn seat.old.seen seat.new.seen }
-    ensures own { S.is_own space.now scratch.new }
-    ensures over { IfOk result (λ within. within ≡ false → seat.new.over ≡ 1) }
-{
-    let word = board.at(seat, place);
-    for k in 0..space.degree(word) {
-        match board.insert(rt, seat, space.next(word, k)) {
-            Put::Over => return Ok(false),
-            _ => {}
-        }
-    }
-    match space.judge(scratch, word) {
-        Ok(good) => board.settle(seat, place, good),
-        Err(refused) => {
-            board.stop(seat);
-            return Err(refused);
-        }
-    }
-    Ok(true)
+    mine.empty_rounds = 0;
+    search(rt, board, space, gate, mine)
 }

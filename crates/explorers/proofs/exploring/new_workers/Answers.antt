@@ -1,16 +1,18 @@
-use Rattle.std.proofs.Common.{refl, sym, subst, ◌∙◌}
-use Rattle.std.proofs.lemmas.List.Elements.{All-push}
+use Rattle.std.proofs.Common.{◌≡◌, length, arith, refl, sym, subst, ◌∙◌}
+use Rattle.std.proofs.lemmas.List.Elements.{All-push, All-pop}
 use Rattle.explorers.specs.Ready.{IsIdle}
 use Rattle.explorers.proofs.exploring.new_workers.Goals as goal
 
-pub loop-before-preserved : goal.loop-before-preserved
-loop-before-preserved g c =
+pub loop-hand-preserved : goal.loop-hand-preserved
+loop-hand-preserved g c =
     let b = c.args.board.now in
     let own = g.S.Space.is_own c.args.space.now in
-    let idle = c.loop-before.invariant.idle in
+    let idle = c.loop-hand.invariant.idle in
     let seat : IsIdle b c.new.result.seat = subst (IsIdle b) (sym (c.new.ensures.seat ∙ c.split-seat.ensures.new)) (idle.0, refl, refl) in
     let scratch : own c.new.result.scratch = subst own (sym c.new.ensures.scratch) c.in_ok-scratch.ensures in
     record {
       idle = subst (IsIdle b) (sym c.split-seat.ensures.same) idle;
-      ready = rw c.in_ok-push.ensures.items (All-push (λ w. IsIdle b w.seat × own w.scratch) c.loop-before.workers.items c.new.result c.loop-before.invariant.ready (seat, scratch));
+      ready = rw c.in_ok-push.ensures.items (All-push (λ w. IsIdle b w.seat × own w.scratch) c.loop-hand.workers.items c.new.result c.loop-hand.invariant.ready (seat, scratch));
+      ways = (All-pop (λ hand. length hand.ways ≡ c.len-count.result) c.loop-hand.hands.items c.pop.new.self.items c.pop.result c.pop.ensures.items c.loop-hand.invariant.ways).0;
+      count = omega (arith, c.in-Some.ensures.cases, c.in_ok-push.ensures.len, c.loop-hand.invariant.count);
     }

@@ -1,6 +1,16 @@
+use Rattle.std.specs.Prelude.{◌≡◌, ◌+◌, length}
 use Rattle.std.specs.List.{All}
+use Rattle.std.proofs.Common.{vec_len}
 use Rattle.explorers.specs.Ready.{IsIdle}
 use Rattle.explorers.proofs.exploring.new_workers.Given as goal
 
-abbrev pub invariant-loop-before : goal.invariant-loop-before
-invariant-loop-before g l = record { idle : IsIdle l.board l.seat; ready : All (λ w. IsIdle l.board w.seat × g.S.Space.is_own l.space w.scratch) l.workers.items }
+abbrev pub invariant-loop-hand : goal.invariant-loop-hand
+invariant-loop-hand g l = record {
+  idle : IsIdle l.board l.seat;
+  ready : All (λ w. IsIdle l.board w.seat × g.S.Space.is_own l.space w.scratch) l.workers.items;
+  ways : All (λ hand. length hand.ways ≡ l.count) l.hands.items;
+  count : length l.workers.items + length l.hands.items ≡ l.count;
+}
+
+abbrev pub decreases-loop-hand : goal.decreases-loop-hand
+decreases-loop-hand g l = vec_len l.hands

@@ -1,24 +1,18 @@
-use Rattle.std.proofs.Common.{arith, subst, ◌≡◌}
+use Rattle.std.proofs.Common.{rules, arith, subst, ◌≡◌}
 use Rattle.seen_board.specs.Known.{Known}
 use Rattle.seen_board.specs.Clauses.{HasPlace, word_at, SeesOn}
-use Rattle.explorers.proofs.Expanding.{place_on, expands_put, expands_over, expands_successor, expands_all}
-use Rattle.explorers.proofs.worker.expand.Goals as goal
+use Rattle.seen_board.proofs.Chains.{sees_on_trans}
+use Rattle.explorers.proofs.Successors.{place_on, expands_next, expands_successor, expands_all}
+use Rattle.explorers.proofs.expanding.expand.Goals as goal
 
-pub insert-requires-clause-successor : goal.insert-requires-clause-successor
-insert-requires-clause-successor g c = let same = c.at-word.ensures.same in let word : c.at-word.result ≡ word_at c.at-word.new.seat.seen c.args.place = rw same c.at-word.ensures.word in let after = g.S.Space.successors c.args.space.now in
+pub put_in-requires-clause-successor : goal.put_in-requires-clause-successor
+put_in-requires-clause-successor g c = let same = c.at-word.ensures.same in let word : c.at-word.result ≡ word_at c.at-word.new.seat.seen c.args.place = rw same c.at-word.ensures.word in let after = g.S.Space.successors c.args.space.now in
     let has : HasPlace c.at-word.new.seat.seen c.args.place = rw same c.requires.claim.1 in
     rw c.requires.board.1 (expands_successor c.args.board.now after c.at-word.new.seat.seen c.args.place c.loop-k.k c.next.result c.loop-k.seat has c.loop-k.invariant (rw (← word) (omega (arith, c.loop-k-test.true, c.degree-k-end.ensures))) (rw (← word) c.next.ensures))
 
-pub returns-in-Over-clause-idle : goal.returns-in-Over-clause-idle
-returns-in-Over-clause-idle g c = (expands_over c.args.board.now c.at-word.new.seat.seen c.args.place (g.S.Space.successors c.args.space.now (word_at c.at-word.new.seat.seen c.args.place)) c.loop-k.k c.next.result c.loop-k.seat c.insert.new.seat c.insert.result c.loop-k.invariant c.insert.ensures.put c.in-Over.is).0
-
-pub returns-in-Over-clause-sees : goal.returns-in-Over-clause-sees
-returns-in-Over-clause-sees g c = subst (λ (s : Known). SeesOn s.seen c.insert.new.seat.seen) c.at-word.ensures.same
-    (expands_over c.args.board.now c.at-word.new.seat.seen c.args.place (g.S.Space.successors c.args.space.now (word_at c.at-word.new.seat.seen c.args.place)) c.loop-k.k c.next.result c.loop-k.seat c.insert.new.seat c.insert.result c.loop-k.invariant c.insert.ensures.put c.in-Over.is).1
-
 pub loop-k-preserved : goal.loop-k-preserved
 loop-k-preserved g c = let same = c.at-word.ensures.same in let word : c.at-word.result ≡ word_at c.at-word.new.seat.seen c.args.place = rw same c.at-word.ensures.word in
-    expands_put c.args.board.now c.at-word.new.seat.seen c.args.place (g.S.Space.successors c.args.space.now (word_at c.at-word.new.seat.seen c.args.place)) c.loop-k.k c.next.result c.loop-k.seat c.insert.new.seat c.insert.result c.loop-k.invariant (rw (← word) c.next.ensures) c.insert.ensures.put c.in_default.not-Over c.insert.ensures.done
+    expands_next c.args.board.now c.at-word.new.seat.seen c.args.place (g.S.Space.successors c.args.space.now (word_at c.at-word.new.seat.seen c.args.place)) c.loop-k.k c.next.result c.loop-k.seat c.put_in.new.seat c.loop-k.invariant (rw (← word) c.next.ensures) c.put_in.ensures.sees (search rules)
 
 pub settle-requires-clause-seen : goal.settle-requires-clause-seen
 settle-requires-clause-seen g c = (place_on c.at-word.new.seat.seen c.loop-k.seat.seen c.args.place c.loop-k.invariant.sees (rw c.at-word.ensures.same c.requires.claim.1)).0
@@ -39,5 +33,8 @@ returns-in-Err-clause-sees g c = rw c.stop.ensures (subst (λ (s : Known). SeesO
 pub returns-clause-sees : goal.returns-clause-sees
 returns-clause-sees g c = rw c.settle.ensures (subst (λ (s : Known). SeesOn s.seen c.loop-k.seat.seen) c.at-word.ensures.same c.loop-k.invariant.sees)
 
-pub returns-in-Over-clause-over : goal.returns-in-Over-clause-over
-returns-in-Over-clause-over g c = λ no. (expands_over c.args.board.now c.at-word.new.seat.seen c.args.place (g.S.Space.successors c.args.space.now (word_at c.at-word.new.seat.seen c.args.place)) c.loop-k.k c.next.result c.loop-k.seat c.insert.new.seat c.insert.result c.loop-k.invariant c.insert.ensures.put c.in-Over.is).2
+pub returns-in_err-put_in-clause-sees : goal.returns-in_err-put_in-clause-sees
+returns-in_err-put_in-clause-sees g c = subst (λ (s : Known). SeesOn s.seen c.put_in.new.seat.seen) c.at-word.ensures.same (sees_on_trans c.at-word.new.seat.seen c.loop-k.seat.seen c.put_in.new.seat.seen c.loop-k.invariant.sees c.put_in.ensures.sees)
+
+pub returns-then-not-branch-clause-sees : goal.returns-then-not-branch-clause-sees
+returns-then-not-branch-clause-sees g c = subst (λ (s : Known). SeesOn s.seen c.put_in.new.seat.seen) c.at-word.ensures.same (sees_on_trans c.at-word.new.seat.seen c.loop-k.seat.seen c.put_in.new.seat.seen c.loop-k.invariant.sees c.put_in.ensures.sees)

@@ -11,7 +11,7 @@ use Rattle.seen_board.specs.declared.answers.Place.{Place}
 use Rattle.seen_board.specs.declared.answers.Put.{Put}
 use Rattle.seen_board.specs.declared.answers.Put.TheVariants.{New, Known as Found, Busy, Over}
 use Rattle.seen_board.proofs.Chains.{sees_on_refl, sees_on_trans}
-use Rattle.explorers.specs.Ready.{IsIdle, Expands}
+use Rattle.explorers.specs.Ready.{IsIdle, PutsIn, Expands}
 
 pub has_on : (seen rows : List (List ℕ)) (y : ℕ) → SeesOn seen rows → Has seen y → Has rows y
 has_on seen rows y sees has = let s = sees (y % 13) (omega arith) in (has.0, omega (arith, has.1, starts-length (row_of rows (y % 13)) (row_of seen (y % 13)) s), starts-at (row_of rows (y % 13)) (row_of seen (y % 13)) has.0 s has.1 ∙ has.2)
@@ -22,32 +22,50 @@ names_has rows place x named = subst (λ (q : ℕ). (j : ℕ) × (j < length (ro
 pub place_on : (seen rows : List (List ℕ)) (place : Place) → SeesOn seen rows → HasPlace seen place → HasPlace rows place × (word_at rows place ≡ word_at seen place)
 place_on seen rows place sees has = let s = sees place.shard has.0 in ((has.0, omega (arith, has.1, starts-length (row_of rows place.shard) (row_of seen place.shard) s)), starts-at (row_of rows place.shard) (row_of seen place.shard) place.at s has.1)
 
+pub put_sees : (x : ℕ) (s w : Known) (put : Put) → PutOk x s w put → SeesOn s.seen w.seen
+put_sees x s w (New p) (e, sees, named, absent) = sees
+put_sees x s w (Found p) ((e, sees), named) = sees
+put_sees x s w Busy (e, sees) = sees
+put_sees x s w Over (e, sees) = sees
+
+pub puts_in : (x : ℕ) (s w : Known) (put : Put) → PutOk x s w put → put ≢ Over → put ≢ Busy → PutsIn x s w
+puts_in x s w (New p) (e, sees, named, absent) not-over not-busy = record {
+  board = ap (λ (u : Known). u.board) e;
+  limit = ap (λ (u : Known). u.limit) e;
+  free = ap (λ (u : Known). u.right) e;
+  claims = ap (λ (u : Known). u.claims) e;
+  place = ap (λ (u : Known). u.place) e;
+  has = names_has w.seen p x named;
+}
+puts_in x s w (Found p) ((e, sees), named) not-over not-busy = record {
+  board = ap (λ (u : Known). u.board) e;
+  limit = ap (λ (u : Known). u.limit) e;
+  free = ap (λ (u : Known). u.right) e;
+  claims = ap (λ (u : Known). u.claims) e;
+  place = ap (λ (u : Known). u.place) e;
+  has = names_has w.seen p x named;
+}
+puts_in x s w Busy ok not-over not-busy = absurd (not-busy refl)
+puts_in x s w Over ok not-over not-busy = absurd (not-over refl)
+
 module _ {S : Type 0} (b : Shown S) where
   pub expands_start : (place : Place) (next : List ℕ) (s : Known) → IsOf b s → s.right ≡ 0 → HasClaim s place → Expands b s.seen place next 0 s
   expands_start place next s of free claim = record { of = of; free = free; claim = claim; sees = sees_on_refl s.seen; has = λ j h. absurd (omega (arith, h)) }
 
   -- one more successor is an entry that was seen
-  grown : (before : List (List ℕ)) (place : Place) (next : List ℕ) (k x : ℕ) (s w : Known) → Expands b before place next k s → x ≡ get_or next k 0 → w.board ≡ s.board → w.limit ≡ s.limit → w.right ≡ 0 → w.claims ≡ s.claims → w.place ≡ s.place → SeesOn s.seen w.seen → Has w.seen x → Expands b before place next (k + 1) w
-  grown before place next k x s w o is same-board same-limit free same-claims same-place sees has = record {
-    of = (same-board ∙ o.of.0, same-limit ∙ o.of.1);
-    free = free;
-    claim = (same-claims ∙ o.claim.0, same-place ∙ o.claim.1);
+  pub expands_next : (before : List (List ℕ)) (place : Place) (next : List ℕ) (k x : ℕ) (s w : Known) → Expands b before place next k s → x ≡ get_or next k 0 → SeesOn s.seen w.seen → PutsIn x s w → Expands b before place next (k + 1) w
+  expands_next before place next k x s w o is sees put = record {
+    of = (put.board ∙ o.of.0, put.limit ∙ o.of.1);
+    free = put.free;
+    claim = (put.claims ∙ o.claim.0, put.place ∙ o.claim.1);
     sees = sees_on_trans before s.seen w.seen o.sees sees;
-    has = below_more (λ j. Has w.seen (get_or next j 0)) k (λ j h. has_on s.seen w.seen (get_or next j 0) sees (o.has j h)) (subst (Has w.seen) is has);
+    has = below_more (λ j. Has w.seen (get_or next j 0)) k (λ j h. has_on s.seen w.seen (get_or next j 0) sees (o.has j h)) (subst (Has w.seen) is put.has);
   }
 
-  pub expands_put : (before : List (List ℕ)) (place : Place) (next : List ℕ) (k x : ℕ) (s w : Known) (put : Put) → Expands b before place next k s → x ≡ get_or next k 0 → PutOk x s w put → put ≢ Over → put ≢ Busy → Expands b before place next (k + 1) w
-  expands_put before place next k x s w (New p) o is (e, sees, named, absent) not-over not-busy =
-      grown before place next k x s w o is (ap (λ (u : Known). u.board) e) (ap (λ (u : Known). u.limit) e) (ap (λ (u : Known). u.right) e) (ap (λ (u : Known). u.claims) e) (ap (λ (u : Known). u.place) e) sees (names_has w.seen p x named)
-  expands_put before place next k x s w (Found p) o is ((e, sees), named) not-over not-busy =
-      grown before place next k x s w o is (ap (λ (u : Known). u.board) e) (ap (λ (u : Known). u.limit) e) (ap (λ (u : Known). u.right) e) (ap (λ (u : Known). u.claims) e) (ap (λ (u : Known). u.place) e) sees (names_has w.seen p x named)
-  expands_put before place next k x s w Busy o is put not-over not-busy = absurd (not-busy refl)
-  expands_put before place next k x s w Over o is put not-over not-busy = absurd (not-over refl)
-
   -- where the board is outgrown, the seat is idle
-  pub expands_over : (before : List (List ℕ)) (place : Place) (next : List ℕ) (k x : ℕ) (s w : Known) (put : Put) → Expands b before place next k s → PutOk x s w put → put ≡ Over → IsIdle b w × SeesOn before w.seen × (w.over ≡ 1)
-  expands_over before place next k x s w put o ok over = let t : PutOk x s w Over = subst (PutOk x s w) over ok in
-      (((ap (λ (u : Known). u.board) t.0 ∙ o.of.0, ap (λ (u : Known). u.limit) t.0 ∙ o.of.1), ap (λ (u : Known). u.right) t.0, ap (λ (u : Known). u.claims) t.0), sees_on_trans before s.seen w.seen o.sees t.1, ap (λ (u : Known). u.over) t.0)
+  pub put_over : (x : ℕ) (s w : Known) (put : Put) → IsOf b s → PutOk x s w put → put ≡ Over → IsIdle b w × (w.over ≡ 1)
+  put_over x s w put of ok over = let t : PutOk x s w Over = subst (PutOk x s w) over ok in
+      (((ap (λ (u : Known). u.board) t.0 ∙ of.0, ap (λ (u : Known). u.limit) t.0 ∙ of.1), ap (λ (u : Known). u.right) t.0, ap (λ (u : Known). u.claims) t.0), ap (λ (u : Known). u.over) t.0)
 
   -- the word at k of the list is a successor of the claimed one
   pub expands_successor : (after : ℕ → List ℕ) (before : List (List ℕ)) (place : Place) (k x : ℕ) (s : Known) → HasPlace before place → Expands b before place (after (word_at before place)) k s → k < length (after (word_at before place)) → x ≡ get_or (after (word_at before place)) k 0 → IsSuccessor after s x

@@ -1,6 +1,6 @@
 use Rattle.seen_board.specs.Clauses.{word_at}
 use Rattle.explorers.specs.Ready.{Expands}
-use Rattle.explorers.proofs.worker.expand.Given as goal
+use Rattle.explorers.proofs.expanding.expand.Given as goal
 
 abbrev pub invariant-loop-k : goal.invariant-loop-k
 invariant-loop-k g l = Expands l.board l.initial.seat.seen l.place (g.S.Space.successors l.space (word_at l.initial.seat.seen l.place)) l.k l.seat

@@ -1,0 +1,11 @@
+use Rattle.std.proofs.Common.{arith}
+use Rattle.board_rule.specs.Lists.{row_of}
+use Rattle.board_rule.proofs.Sums.{starts-length}
+use Rattle.explorers.proofs.searching.search_shard.Goals as goal
+
+pub loop-at-preserved : goal.loop-at-preserved
+loop-at-preserved g c = record {
+  idle = c.visit.ensures.idle;
+  own = c.visit.ensures.own;
+  seen = omega (arith, c.loop-at.invariant.seen, starts-length (row_of c.visit.new.mine.seat.seen c.args.shard) (row_of c.loop-at.mine.seat.seen c.args.shard) (c.visit.ensures.sees c.args.shard c.requires.shard));
+}

@@ -1,0 +1,25 @@
+//! A place that another worker handed over.
+ghost use Rattle.std.specs.Prelude.{◌≡◌};
+ghost use Rattle.seen_board.specs.Clauses.{SeesOn};
+ghost use Rattle.explorers.specs.Ready.{IsIdle};
+
+use crate::searching::count_of;
+use seen_board::{Board, BoardSeat};
+use state_space::Space;
+use std::alloc::Allocator;
+use std::sync::Wait;
+
+/// Sees the entry of a word. Where the index does not name it, the seat sees the whole row of the word's shard.
+pub(crate) fn learn<R: Wait, S: Space, A: Allocator>(
+    rt: &R,
+    board: &Board<S, A>,
+    seat: &mut BoardSeat,
+    word: u128,
+)
+    requires idle { IsIdle board.now seat.old }
+    ensures idle { IsIdle board.now seat.new }
+{
+    if board.find(seat, word).is_none() {
+        count_of(rt, board, seat, (word % 13) as u8);
+    }
+}
