@@ -1,17 +1,17 @@
 -- A seat while it expands the entry that it has claimed.
-use Rattle.std.proofs.Common.{◌≡◌, ◌≢◌, ℕ, ◌+◌, ◌/◌, ◌%◌, ◌<◌, List, length, get_or, refl, ap, sym, ◌∙◌, subst, arith, below_more}
+use Rattle.std.proofs.Common.{◌≡◌, ◌≢◌, ℕ, ◌+◌, ◌/◌, ◌%◌, ◌<◌, List, [], ◌∷◌, ◌++◌, length, get_or, refl, ap, sym, ◌∙◌, subst, arith, below_more}
 use Rattle.std.specs.List.{Contains}
 use Rattle.std.proofs.lemmas.List.{get_or_default}
 use Rattle.board_rule.specs.Lists.{row_of, Has}
 use Rattle.board_rule.proofs.Sums.{starts-length, starts-at}
 use Rattle.seen_board.specs.Known.{Shown, Known}
-use Rattle.seen_board.specs.Clauses.{IsOf, SeesOn, HasClaim, HasPlace, word_at, Names}
+use Rattle.seen_board.specs.Clauses.{IsOf, SeesOn, HasClaim, HasPlace, word_at, Names, number}
 use Rattle.seen_board.specs.Inserts.{IsSuccessor, PutOk}
 use Rattle.seen_board.specs.declared.answers.Place.{Place}
 use Rattle.seen_board.specs.declared.answers.Put.{Put}
 use Rattle.seen_board.specs.declared.answers.Put.TheVariants.{New, Known as Found, Busy, Over}
 use Rattle.seen_board.proofs.Chains.{sees_on_refl, sees_on_trans}
-use Rattle.board_trials.specs.Worker.{IsIdle, IsAt, Expands}
+use Rattle.board_trials.specs.Worker.{IsIdle, IsAt, Expands, CameOf, EachCame}
 
 pub has_on : (seen rows : List (List ℕ)) (y : ℕ) → SeesOn seen rows → Has seen y → Has rows y
 has_on seen rows y sees has = let s = sees (y % 13) (omega arith) in (has.0, omega (arith, has.1, starts-length (row_of rows (y % 13)) (row_of seen (y % 13)) s), starts-at (row_of rows (y % 13)) (row_of seen (y % 13)) has.0 s has.1 ∙ has.2)
@@ -23,35 +23,34 @@ pub place_on : (seen rows : List (List ℕ)) (place : Place) → SeesOn seen row
 place_on seen rows place sees has = let s = sees place.shard has.0 in ((has.0, omega (arith, has.1, starts-length (row_of rows place.shard) (row_of seen place.shard) s)), starts-at (row_of rows place.shard) (row_of seen place.shard) place.at s has.1)
 
 module _ {S : Type 0} (b : Shown S) where
-  pub expands_start : (place : Place) (next : List ℕ) (s : Known) → IsOf b s → s.right ≡ 0 → HasClaim s place → Expands b s.seen place next 0 s
-  expands_start place next s of free claim = record { of = of; free = free; claim = claim; sees = sees_on_refl s.seen; has = λ j h. absurd (omega (arith, h)) }
+  pub expands_start : (place : Place) (next : List ℕ) (s : Known) → IsOf b s → s.right ≡ 0 → HasClaim s place → Expands b s place next 0 s
+  expands_start place next s of free claim = record { of = of; free = free; claim = claim; sees = sees_on_refl s.seen; learned = refl; has = λ j h. absurd (omega (arith, h)) }
 
   -- one more successor is an entry that was seen
-  grown : (before : List (List ℕ)) (place : Place) (next : List ℕ) (k x : ℕ) (s w : Known) → Expands b before place next k s → x ≡ get_or next k 0 → w.board ≡ s.board → w.limit ≡ s.limit → w.right ≡ 0 → w.claims ≡ s.claims → w.place ≡ s.place → SeesOn s.seen w.seen → Has w.seen x → Expands b before place next (k + 1) w
-  grown before place next k x s w o is same-board same-limit free same-claims same-place sees has = record {
-    of = (same-board ∙ o.of.0, same-limit ∙ o.of.1);
-    free = free;
-    claim = (same-claims ∙ o.claim.0, same-place ∙ o.claim.1);
-    sees = sees_on_trans before s.seen w.seen o.sees sees;
+  grown : (v : Known) (place : Place) (next : List ℕ) (k x : ℕ) (s w : Known) → Expands b v place next k s → x ≡ get_or next k 0 → (added : List ℕ) (held : ℕ) → w ≡ record s { seen = w.seen; held = held; right = 0; added = added } → SeesOn s.seen w.seen → Has w.seen x → Expands b v place next (k + 1) w
+  grown v place next k x s w o is added held e sees has = record {
+    of = (ap (λ (u : Known). u.board) e ∙ o.of.0, ap (λ (u : Known). u.limit) e ∙ o.of.1);
+    free = ap (λ (u : Known). u.right) e;
+    claim = (ap (λ (u : Known). u.claims) e ∙ o.claim.0, ap (λ (u : Known). u.place) e ∙ o.claim.1);
+    sees = sees_on_trans v.seen s.seen w.seen o.sees sees;
+    learned = ap (λ (u : Known). u.learned) e ∙ o.learned;
     has = below_more (λ j. Has w.seen (get_or next j 0)) k (λ j h. has_on s.seen w.seen (get_or next j 0) sees (o.has j h)) (subst (Has w.seen) is has);
   }
 
-  pub expands_put : (before : List (List ℕ)) (place : Place) (next : List ℕ) (k x : ℕ) (s w : Known) (put : Put) → Expands b before place next k s → x ≡ get_or next k 0 → PutOk x s w put → put ≢ Over → put ≢ Busy → Expands b before place next (k + 1) w
-  expands_put before place next k x s w (New p) o is (e, sees, named, absent) not-over not-busy =
-      grown before place next k x s w o is (ap (λ (u : Known). u.board) e) (ap (λ (u : Known). u.limit) e) (ap (λ (u : Known). u.right) e) (ap (λ (u : Known). u.claims) e) (ap (λ (u : Known). u.place) e) sees (names_has w.seen p x named)
-  expands_put before place next k x s w (Found p) o is ((e, sees), named) not-over not-busy =
-      grown before place next k x s w o is (ap (λ (u : Known). u.board) e) (ap (λ (u : Known). u.limit) e) (ap (λ (u : Known). u.right) e) (ap (λ (u : Known). u.claims) e) (ap (λ (u : Known). u.place) e) sees (names_has w.seen p x named)
-  expands_put before place next k x s w Busy o is put not-over not-busy = absurd (not-busy refl)
-  expands_put before place next k x s w Over o is put not-over not-busy = absurd (not-over refl)
+  pub expands_put : (v : Known) (place : Place) (next : List ℕ) (k x : ℕ) (s w : Known) (put : Put) → Expands b v place next k s → x ≡ get_or next k 0 → PutOk x s w put → put ≢ Over → put ≢ Busy → Expands b v place next (k + 1) w
+  expands_put v place next k x s w (New p) o is (e, sees, named, absent) not-over not-busy = grown v place next k x s w o is (s.added ++ number p ∷ []) w.held e sees (names_has w.seen p x named)
+  expands_put v place next k x s w (Found p) o is ((e, sees), named) not-over not-busy = grown v place next k x s w o is s.added w.held e sees (names_has w.seen p x named)
+  expands_put v place next k x s w Busy o is put not-over not-busy = absurd (not-busy refl)
+  expands_put v place next k x s w Over o is put not-over not-busy = absurd (not-over refl)
 
-  -- where the board is outgrown, the seat is idle
-  pub expands_over : (before : List (List ℕ)) (place : Place) (next : List ℕ) (k x : ℕ) (s w : Known) (put : Put) → Expands b before place next k s → PutOk x s w put → put ≡ Over → IsIdle b w × SeesOn before w.seen
-  expands_over before place next k x s w put o ok over = let t : PutOk x s w Over = subst (PutOk x s w) over ok in
-      (((ap (λ (u : Known). u.board) t.0 ∙ o.of.0, ap (λ (u : Known). u.limit) t.0 ∙ o.of.1), ap (λ (u : Known). u.right) t.0, ap (λ (u : Known). u.claims) t.0), sees_on_trans before s.seen w.seen o.sees t.1)
+  -- where the board is outgrown, the seat is idle and knows it
+  pub expands_over : (v : Known) (place : Place) (next : List ℕ) (k x : ℕ) (s w : Known) (put : Put) → Expands b v place next k s → PutOk x s w put → put ≡ Over → IsIdle b w × SeesOn v.seen w.seen × (w.over ≡ 1)
+  expands_over v place next k x s w put o ok over = let t : PutOk x s w Over = subst (PutOk x s w) over ok in
+      (((ap (λ (u : Known). u.board) t.0 ∙ o.of.0, ap (λ (u : Known). u.limit) t.0 ∙ o.of.1), ap (λ (u : Known). u.right) t.0, ap (λ (u : Known). u.claims) t.0), sees_on_trans v.seen s.seen w.seen o.sees t.1, ap (λ (u : Known). u.over) t.0)
 
   -- the word at k of the list is a successor of the claimed one
-  pub expands_successor : (after : ℕ → List ℕ) (before : List (List ℕ)) (place : Place) (k x : ℕ) (s : Known) → HasPlace before place → Expands b before place (after (word_at before place)) k s → k < length (after (word_at before place)) → x ≡ get_or (after (word_at before place)) k 0 → IsSuccessor after s x
-  expands_successor after before place k x s has o inside is = let next = after (word_at before place) in let there = place_on before s.seen place o.sees has in
+  pub expands_successor : (after : ℕ → List ℕ) (v : Known) (place : Place) (k x : ℕ) (s : Known) → HasPlace v.seen place → Expands b v place (after (word_at v.seen place)) k s → k < length (after (word_at v.seen place)) → x ≡ get_or (after (word_at v.seen place)) k 0 → IsSuccessor after s x
+  expands_successor after v place k x s has o inside is = let next = after (word_at v.seen place) in let there = place_on v.seen s.seen place o.sees has in
       let shard : s.place % 13 ≡ place.shard = omega (arith, o.claim.1, has.0) in let at : s.place / 13 ≡ place.at = omega (arith, o.claim.1, has.0) in (
         o.claim.0,
         (
@@ -61,8 +60,8 @@ module _ {S : Type 0} (b : Shown S) where
       )
 
   -- once all are, the entry can be settled
-  pub expands_all : (before : List (List ℕ)) (place : Place) (next : List ℕ) (k : ℕ) (s : Known) → Expands b before place next k s → k ≡ length next → (y : ℕ) → Contains next y → Has s.seen y
-  expands_all before place next k s o all y has = subst (Has s.seen) (get_or_default next has.0 0 y has.1 ∙ has.2) (o.has has.0 (omega (arith, all, has.1)))
+  pub expands_all : (v : Known) (place : Place) (next : List ℕ) (k : ℕ) (s : Known) → Expands b v place next k s → k ≡ length next → (y : ℕ) → Contains next y → Has s.seen y
+  expands_all v place next k s o all y has = subst (Has s.seen) (get_or_default next has.0 0 y has.1 ∙ has.2) (o.has has.0 (omega (arith, all, has.1)))
 
 pub put_sees : (x : ℕ) (s w : Known) (put : Put) → PutOk x s w put → SeesOn s.seen w.seen
 put_sees x s w (New p) (e, sees, named, absent) = sees
@@ -96,3 +95,33 @@ put_after b x s w (New p) (e, sees, named, absent) of = ((ap (λ (u : Known). u.
 put_after b x s w (Found p) ((e, sees), named) of = ((ap (λ (u : Known). u.board) e ∙ of.0, ap (λ (u : Known). u.limit) e ∙ of.1), ap (λ (u : Known). u.right) e)
 put_after b x s w Busy (e, sees) of = ((ap (λ (u : Known). u.board) e ∙ of.0, ap (λ (u : Known). u.limit) e ∙ of.1), ap (λ (u : Known). u.right) e)
 put_after b x s w Over (e, sees) of = ((ap (λ (u : Known). u.board) e ∙ of.0, ap (λ (u : Known). u.limit) e ∙ of.1), ap (λ (u : Known). u.right) e)
+
+pub put_came : (x : ℕ) (s w : Known) (put : Put) → PutOk x s w put → CameOf w.seen x put
+put_came x s w (New p) (e, sees, named, absent) = named
+put_came x s w (Found p) ((e, sees), named) = named
+put_came x s w Busy ok = tt
+put_came x s w Over ok = tt
+
+pub put_outgrown : (x : ℕ) (s w : Known) (put : Put) → PutOk x s w put → put ≡ Over → w.over ≡ 1
+put_outgrown x s w put ok over = let t : PutOk x s w Over = subst (PutOk x s w) over ok in ap (λ (u : Known). u.over) t.0
+
+came_on : (seen rows : List (List ℕ)) (x : ℕ) (put : Put) → SeesOn seen rows → CameOf seen x put → CameOf rows x put
+came_on seen rows x (New p) sees named = let t = place_on seen rows p sees named.0 in (t.0, t.1 ∙ named.1, named.2)
+came_on seen rows x (Found p) sees named = let t = place_on seen rows p sees named.0 in (t.0, t.1 ∙ named.1, named.2)
+came_on seen rows x Busy sees named = tt
+came_on seen rows x Over sees named = tt
+
+-- what became of words goes on where more is seen
+each_on : (seen rows : List (List ℕ)) (words : List ℕ) (puts : List Put) → SeesOn seen rows → EachCame seen words puts → EachCame rows words puts
+each_on seen rows words [] sees each = tt
+each_on seen rows [] (p ∷ ps) sees each = absurd each
+each_on seen rows (x ∷ xs) (p ∷ ps) sees each = (came_on seen rows x p sees each.0, each_on seen rows xs ps sees each.1)
+
+each_more : (seen : List (List ℕ)) (words : List ℕ) (puts : List Put) (put : Put) → EachCame seen words puts → length puts < length words → CameOf seen (get_or words (length puts) 0) put → EachCame seen words (puts ++ put ∷ [])
+each_more seen [] puts put each h came = absurd (omega (arith, h))
+each_more seen (x ∷ xs) [] put each h came = (came, tt)
+each_more seen (x ∷ xs) (p ∷ ps) put each h came = (each.0, each_more seen xs ps put each.1 (omega (arith, h)) came)
+
+-- one more word was tried
+pub each_put : (seen rows : List (List ℕ)) (words : List ℕ) (puts : List Put) (put : Put) (k : ℕ) → SeesOn seen rows → EachCame seen words puts → length puts ≡ k → k < length words → CameOf rows (get_or words k 0) put → EachCame rows words (puts ++ put ∷ [])
+each_put seen rows words puts put k sees each is inside came = each_more rows words puts put (each_on seen rows words puts sees each) (omega (arith, is, inside)) (subst (λ (j : ℕ). CameOf rows (get_or words j 0) put) (sym is) came)
