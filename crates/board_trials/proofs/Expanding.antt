@@ -11,7 +11,7 @@ use Rattle.seen_board.specs.declared.answers.Place.{Place}
 use Rattle.seen_board.specs.declared.answers.Put.{Put}
 use Rattle.seen_board.specs.declared.answers.Put.TheVariants.{New, Known as Found, Busy, Over}
 use Rattle.seen_board.proofs.Chains.{sees_on_refl, sees_on_trans}
-use Rattle.board_trials.specs.Worker.{IsIdle, IsAt, Expands, CameOf, EachCame}
+use Rattle.board_trials.specs.Worker.{IsIdle, IsAt, Expands, Tries}
 
 pub has_on : (seen rows : List (List ℕ)) (y : ℕ) → SeesOn seen rows → Has seen y → Has rows y
 has_on seen rows y sees has = let s = sees (y % 13) (omega arith) in (has.0, omega (arith, has.1, starts-length (row_of rows (y % 13)) (row_of seen (y % 13)) s), starts-at (row_of rows (y % 13)) (row_of seen (y % 13)) has.0 s has.1 ∙ has.2)
@@ -96,32 +96,8 @@ put_after b x s w (Found p) ((e, sees), named) of = ((ap (λ (u : Known). u.boar
 put_after b x s w Busy (e, sees) of = ((ap (λ (u : Known). u.board) e ∙ of.0, ap (λ (u : Known). u.limit) e ∙ of.1), ap (λ (u : Known). u.right) e)
 put_after b x s w Over (e, sees) of = ((ap (λ (u : Known). u.board) e ∙ of.0, ap (λ (u : Known). u.limit) e ∙ of.1), ap (λ (u : Known). u.right) e)
 
-pub put_came : (x : ℕ) (s w : Known) (put : Put) → PutOk x s w put → CameOf w.seen x put
-put_came x s w (New p) (e, sees, named, absent) = named
-put_came x s w (Found p) ((e, sees), named) = named
-put_came x s w Busy ok = tt
-put_came x s w Over ok = tt
-
-pub put_outgrown : (x : ℕ) (s w : Known) (put : Put) → PutOk x s w put → put ≡ Over → w.over ≡ 1
-put_outgrown x s w put ok over = let t : PutOk x s w Over = subst (PutOk x s w) over ok in ap (λ (u : Known). u.over) t.0
-
-came_on : (seen rows : List (List ℕ)) (x : ℕ) (put : Put) → SeesOn seen rows → CameOf seen x put → CameOf rows x put
-came_on seen rows x (New p) sees named = let t = place_on seen rows p sees named.0 in (t.0, t.1 ∙ named.1, named.2)
-came_on seen rows x (Found p) sees named = let t = place_on seen rows p sees named.0 in (t.0, t.1 ∙ named.1, named.2)
-came_on seen rows x Busy sees named = tt
-came_on seen rows x Over sees named = tt
-
--- what became of words goes on where more is seen
-each_on : (seen rows : List (List ℕ)) (words : List ℕ) (puts : List Put) → SeesOn seen rows → EachCame seen words puts → EachCame rows words puts
-each_on seen rows words [] sees each = tt
-each_on seen rows [] (p ∷ ps) sees each = absurd each
-each_on seen rows (x ∷ xs) (p ∷ ps) sees each = (came_on seen rows x p sees each.0, each_on seen rows xs ps sees each.1)
-
-each_more : (seen : List (List ℕ)) (words : List ℕ) (puts : List Put) (put : Put) → EachCame seen words puts → length puts < length words → CameOf seen (get_or words (length puts) 0) put → EachCame seen words (puts ++ put ∷ [])
-each_more seen [] puts put each h came = absurd (omega (arith, h))
-each_more seen (x ∷ xs) [] put each h came = (came, tt)
-each_more seen (x ∷ xs) (p ∷ ps) put each h came = (each.0, each_more seen xs ps put each.1 (omega (arith, h)) came)
-
 -- one more word was tried
-pub each_put : (seen rows : List (List ℕ)) (words : List ℕ) (puts : List Put) (put : Put) (k : ℕ) → SeesOn seen rows → EachCame seen words puts → length puts ≡ k → k < length words → CameOf rows (get_or words k 0) put → EachCame rows words (puts ++ put ∷ [])
-each_put seen rows words puts put k sees each is inside came = each_more rows words puts put (each_on seen rows words puts sees each) (omega (arith, is, inside)) (subst (λ (j : ℕ). CameOf rows (get_or words j 0) put) (sym is) came)
+pub tried_more : (words : List ℕ) (v u w : Known) (puts : List Put) (put : Put) → Tries words v u puts → length puts < length words → PutOk (get_or words (length puts) 0) u w put → Tries words v w (puts ++ put ∷ [])
+tried_more [] v u w puts put tried h ok = absurd (omega (arith, h))
+tried_more (x ∷ xs) v u w [] put tried h ok = (w, subst (λ (s : Known). PutOk x s w put) tried ok, refl)
+tried_more (x ∷ xs) v u w (p ∷ ps) put tried h ok = (tried.0, tried.1, tried_more xs tried.0 u w ps put tried.2 (omega (arith, h)) ok)

@@ -1,10 +1,10 @@
 use Rattle.std.specs.Prelude.{◌≡◌, ◌↔◌, ℕ, ◌<◌, Bool, IsTrue, List, [], ◌∷◌, ◌++◌, slice_index}
 use Rattle.board_rule.specs.Lists.{Has}
 use Rattle.seen_board.specs.Known.{Shown, Known}
-use Rattle.seen_board.specs.Clauses.{IsOf, SeesOn, HasClaim, HasPlace, word_at, Names, number, settled_as}
+use Rattle.seen_board.specs.Clauses.{IsOf, SeesOn, HasClaim, HasPlace, word_at, number, settled_as}
+use Rattle.seen_board.specs.Inserts.{PutOk}
 use Rattle.seen_board.specs.declared.answers.Place.{Place}
 use Rattle.seen_board.specs.declared.answers.Put.{Put}
-use Rattle.seen_board.specs.declared.answers.Put.TheVariants.{New, Known as Found, Busy, Over}
 
 -- a seat of the board with no right and no claim
 abbrev pub IsIdle : {S : Type 0} → Shown S → Known → Type 0
@@ -27,15 +27,8 @@ pub record Expands {S : Type 0} (b : Shown S) (v : Known) (place : Place) (next 
 abbrev pub HasSettled : Type 0 → Place → Known → Known → Type 0
 HasSettled good place v w = (verdict : Bool) × (IsTrue verdict ↔ good) × (w.learned ≡ v.learned ++ (number place, settled_as verdict) ∷ [])
 
--- a word that was put in or known stands at the place that was answered
-abbrev pub CameOf : List (List ℕ) → ℕ → Put → Type 0
-CameOf seen word (New place) = Names seen place word
-CameOf seen word (Found place) = Names seen place word
-CameOf seen word Busy = Unit {0}
-CameOf seen word Over = Unit {0}
-
--- so does each of the words, in their order and as far as there are answers
-abbrev pub EachCame : List (List ℕ) → List ℕ → List Put → Type 0
-EachCame seen words [] = Unit {0}
-EachCame seen [] (p ∷ ps) = ⊥
-EachCame seen (x ∷ xs) (p ∷ ps) = CameOf seen x p × EachCame seen xs ps
+-- what tries to put the words in, in their order and as far as there are answers, made of the seat
+abbrev pub Tries : List ℕ → Known → Known → List Put → Type 0
+Tries words v w [] = w ≡ v
+Tries [] v w (p ∷ ps) = ⊥
+Tries (x ∷ xs) v w (p ∷ ps) = (u : Known) × PutOk x v u p × Tries xs u w ps

@@ -164,7 +164,12 @@ fn a_word_is_new_once_and_the_entry_settled_later(rt: HostRuntime) -> Result<(),
     assert!(rt; !board.finished(&mut other));
     assert!(rt; put_after_start(&rt, &board, &Diamond, &mut seat, 0) == Put::Known(place));
     assert!(rt; !board.finished(&mut seat));
-    assert!(rt; matches!(expand(&rt, &board, &Diamond, &mut (), &mut seat, START), Ok(true)));
+    assert!(rt;
+        matches!(
+            expand(&rt, &board, &Diamond, &mut (), &mut seat, START),
+            Ok(true)
+        )
+    );
     assert!(rt; !board.finished(&mut other));
     let mut seat = work(&rt, &board, &Diamond, seat);
     assert!(rt; board.finished(&mut other));

@@ -1,7 +1,7 @@
 ghost use Rattle.std.specs.Prelude.{◌≡◌, ◌≢◌, ◌<◌, ◌⊎◌, true, false, length, slice_index, IfOk};
 ghost use Rattle.seen_board.specs.Clauses.{IsOf, SeesOn, HasClaim, HasPlace, word_at};
 ghost use Rattle.seen_board.specs.Inserts.{PutOk};
-ghost use Rattle.board_trials.specs.Worker.{IsIdle, IsAt, HasSettled, EachCame};
+ghost use Rattle.board_trials.specs.Worker.{IsIdle, IsAt, HasSettled, Tries};
 
 use seen_board::{Board, BoardSeat, Place, Put};
 use state_space::Space;
@@ -129,7 +129,7 @@ pub fn put_each<S: Space, A: Allocator>(
     requires free { seat.old.right ≡ 0 }
     requires claim { HasClaim seat.old place × HasPlace seat.old.seen place }
     ensures after { IsOf board.now seat.new × (seat.new.right ≡ 0) }
-    ensures each { IfOk result (λ puts. EachCame seat.new.seen (S.successors space.now (word_at seat.old.seen place)) puts.items) }
+    ensures each { IfOk result (λ puts. Tries (S.successors space.now (word_at seat.old.seen place)) seat.old seat.new puts.items) }
     ensures all { IfOk result (λ puts. (length puts.items ≡ length (S.successors space.now (word_at seat.old.seen place))) ⊎ (seat.new.over ≡ 1)) }
 {
     let mut puts = Vec::new(alloc);
