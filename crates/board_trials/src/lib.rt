@@ -5,6 +5,8 @@
 mod diamond;
 mod fan;
 #[cfg(test)]
+mod finishing;
+#[cfg(test)]
 mod tests;
 mod worker;
 

@@ -75,7 +75,7 @@ fn two_readers_are_in_at_once(rt: HostRuntime) -> Result<(), Fail> {
 }
 
 // Puts in the successor at place `k` of the first entry, which the seat has claimed.
-fn put_after_start<S: Space>(
+pub(crate) fn put_after_start<S: Space>(
     rt: &impl Abort,
     board: &Board<S, Global>,
     space: &S,
@@ -107,6 +107,25 @@ fn an_entry_is_found_without_a_right(rt: HostRuntime) -> Result<(), Fail> {
     assert!(rt; put_after_start(&rt, &board, &fan, &mut seat, 1) == Put::Busy);
     assert!(rt; put_after_start(&rt, &board, &fan, &mut seat, 0) == Put::Known(place));
     assert_eq!(rt; board.find(&mut seat, 1), Some(place));
+    Ok(())
+}
+
+#[test]
+fn a_word_that_is_known_needs_no_right(rt: HostRuntime) -> Result<(), Fail> {
+    let (board, mut seat) = Board::open(rt.alloc(), &Diamond, 4)?;
+    let place = Place { shard: 1, at: 0 };
+    assert!(rt; board.claim(&mut seat, START));
+    assert_eq!(rt; board.find(&mut seat, 0), Some(START));
+    assert_eq!(rt; board.find(&mut seat, 1), None);
+    assert!(rt; seat.has_seen(START));
+    assert!(rt; put_after_start(&rt, &board, &Diamond, &mut seat, 0) == Put::New(place));
+    assert_eq!(rt; board.find(&mut seat, 1), Some(place));
+    let mut other = board.split(&mut seat);
+    assert!(rt; board.try_write(&mut other, 1) == Got::Right);
+    assert!(rt; board.try_read(&mut seat, 1) == Got::Busy);
+    assert_eq!(rt; board.find(&mut seat, 1), Some(place));
+    assert!(rt; seat.has_seen(START));
+    assert!(rt; put_after_start(&rt, &board, &Diamond, &mut seat, 0) == Put::Known(place));
     Ok(())
 }
 

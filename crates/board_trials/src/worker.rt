@@ -1,6 +1,7 @@
-ghost use Rattle.std.specs.Prelude.{◌≡◌, ◌≢◌, ◌<◌, length};
+ghost use Rattle.std.specs.Prelude.{◌≡◌, ◌≢◌, ◌<◌, ◌⊎◌, true, false, length, slice_index, IfOk};
 ghost use Rattle.seen_board.specs.Clauses.{IsOf, SeesOn, HasClaim, HasPlace, word_at};
-ghost use Rattle.board_trials.specs.Worker.{IsIdle, IsAt};
+ghost use Rattle.seen_board.specs.Inserts.{PutOk};
+ghost use Rattle.board_trials.specs.Worker.{IsIdle, IsAt, HasSettled, Tries};
 
 use seen_board::{Board, BoardSeat, Place, Put};
 use state_space::Space;
@@ -25,6 +26,8 @@ pub fn expand<S: Space, A: Allocator, R: Wait>(
     ensures idle { IsIdle board.now seat.new }
     ensures sees { SeesOn seat.old.seen seat.new.seen }
     ensures own { S.is_own space.now scratch.new }
+    ensures settled { IfOk result (λ within. within ≡ true → HasSettled (S.is_good space.now (word_at seat.old.seen place)) place seat.old seat.new) }
+    ensures over { IfOk result (λ within. within ≡ false → seat.new.over ≡ 1) }
 {
     let word = board.at(seat, place);
     for k in 0..space.degree(word) {
@@ -58,6 +61,7 @@ pub(crate) fn visit_place<S: Space, A: Allocator, R: Wait>(
     ensures idle { IsIdle board.now seat.new }
     ensures sees { SeesOn seat.old.seen seat.new.seen }
     ensures own { S.is_own space.now scratch.new }
+    ensures over { IfOk result (λ within. within ≡ false → seat.new.over ≡ 1) }
 {
     if !board.claim(seat, place) {
         return Ok(true);
@@ -77,6 +81,7 @@ pub fn visit<S: Space, A: Allocator, R: Wait>(
     requires own { S.is_own space.now scratch.old }
     ensures idle { IsIdle board.now seat.new }
     ensures own { S.is_own space.now scratch.new }
+    ensures over { IfOk result (λ within. within ≡ false → seat.new.over ≡ 1) }
 {
     for shard in 0..13 {
         board.read(rt, seat, shard);
@@ -103,6 +108,7 @@ pub fn put_successor<S: Space, A: Allocator>(
     requires free { seat.old.right ≡ 0 }
     requires claim { HasClaim seat.old place × HasPlace seat.old.seen place }
     requires below { k < length (S.successors space.now (word_at seat.old.seen place)) }
+    ensures put { PutOk (slice_index (S.successors space.now (word_at seat.old.seen place)) k) seat.old seat.new result }
     ensures sees { SeesOn seat.old.seen seat.new.seen }
     ensures still { result ≢ Put.Over → IsAt board.now place (word_at seat.old.seen place) seat.new }
     ensures after { IsOf board.now seat.new × (seat.new.right ≡ 0) }
@@ -123,6 +129,8 @@ pub fn put_each<S: Space, A: Allocator>(
     requires free { seat.old.right ≡ 0 }
     requires claim { HasClaim seat.old place × HasPlace seat.old.seen place }
     ensures after { IsOf board.now seat.new × (seat.new.right ≡ 0) }
+    ensures each { IfOk result (λ puts. Tries (S.successors space.now (word_at seat.old.seen place)) seat.old seat.new puts.items) }
+    ensures all { IfOk result (λ puts. (length puts.items ≡ length (S.successors space.now (word_at seat.old.seen place))) ⊎ (seat.new.over ≡ 1)) }
 {
     let mut puts = Vec::new(alloc);
     let word = board.at(seat, place);

@@ -1,5 +1,10 @@
-use Rattle.board_trials.specs.Worker.{IsAt}
+use Rattle.std.specs.Prelude.{◌≡◌, length}
+use Rattle.board_trials.specs.Worker.{IsAt, Tries}
 use Rattle.board_trials.proofs.worker.put_each.Given as goal
 
 abbrev pub invariant-loop-k : goal.invariant-loop-k
-invariant-loop-k g l = IsAt l.board l.place l.word l.seat
+invariant-loop-k g l = record {
+  at : IsAt l.board l.place l.word l.seat;
+  size : length l.puts.items ≡ l.k;
+  tried : Tries (g.S.Space.successors l.space l.word) l.initial.seat l.seat l.puts.items;
+}

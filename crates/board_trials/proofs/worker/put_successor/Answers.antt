@@ -1,6 +1,7 @@
-use Rattle.std.proofs.Common.{subst, ◌≡◌}
+use Rattle.std.proofs.Common.{subst, get_or, ◌≡◌}
 use Rattle.seen_board.specs.Known.{Known}
 use Rattle.seen_board.specs.Clauses.{HasPlace, word_at, SeesOn}
+use Rattle.seen_board.specs.Inserts.{PutOk}
 use Rattle.board_trials.specs.Worker.{IsAt}
 use Rattle.board_trials.proofs.Expanding.{successor_at, put_sees, put_still, put_after}
 use Rattle.board_trials.proofs.worker.put_successor.Goals as goal
@@ -10,6 +11,9 @@ try_insert-requires-clause-successor g c = let same = c.at-word.ensures.same in 
     let s = c.at-word.new.seat in
     let has : HasPlace s.seen c.args.place = rw same c.requires.claim.1 in
     rw c.requires.board.1 (successor_at c.args.board.now after c.args.place c.args.k c.next.result s (rw same c.requires.board.0) (rw same c.requires.free) (rw same c.requires.claim.0) has (rw same c.requires.below) (rw (← word) c.next.ensures))
+
+pub returns-clause-put : goal.returns-clause-put
+returns-clause-put g c = subst (λ (s : Known). PutOk (get_or (g.S.Space.successors c.args.space.now (word_at c.args.seat.now.seen c.args.place)) c.args.k 0) s c.try_insert.new.seat c.try_insert.result) c.at-word.ensures.same (rw (← c.at-word.ensures.word) (rw (← c.next.ensures) c.try_insert.ensures.put))
 
 pub returns-clause-sees : goal.returns-clause-sees
 returns-clause-sees g c = subst (λ (s : Known). SeesOn s.seen c.try_insert.new.seat.seen) c.at-word.ensures.same (put_sees c.next.result c.at-word.new.seat c.try_insert.new.seat c.try_insert.result c.try_insert.ensures.put)
