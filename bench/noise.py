@@ -44,18 +44,22 @@ def random_bytes(chance):
 
 
 def piece(chance):
-    """A piece of a script, from any byte to any byte."""
+    """A piece of a script: from any byte to any byte, or whole lines."""
     script = chance.choice(SCRIPTS)
+    if chance.random() < 0.5:
+        lines = script.split(b"\n")
+        first, last = sorted(chance.choices(range(len(lines) + 1), k=2))
+        return b"".join(line + b"\n" for line in lines[first:last] if line != b"start")
     first, last = sorted(chance.choices(range(len(script) + 1), k=2))
     return script[first:last]
 
 
 def spliced(chance):
-    """Pieces of scripts one behind the other, now and then with a byte changed."""
-    script = bytearray(b"".join(piece(chance) for _ in range(chance.randrange(1, 7))))
-    if chance.random() < 0.5:
-        script = bytearray(chance.choice(SCRIPTS)[:chance.randrange(60)]) + script
-    while script and chance.random() < 0.3:
+    """Pieces of scripts one behind the other, often behind a beginning, now and then with a byte changed."""
+    head = chance.choice(SCRIPTS)
+    script = head[:chance.choice([0, len(head), chance.randrange(len(head))])]
+    script = bytearray(script + b"".join(piece(chance) for _ in range(chance.randrange(4))))
+    while script and chance.random() < 0.2:
         script[chance.randrange(len(script))] = chance.randrange(256)
     return bytes(script)
 
@@ -88,8 +92,8 @@ def wordy(chance):
 
 def operations(chance):
     """Lines that a script may have, on few paths: many are refused only by what stands before them."""
-    lines = []
-    for _ in range(chance.randrange(1, 10)):
+    lines = [b"mkdir /d", b"create /a", b"create /d/x"][:chance.choice([0, 3, 3])]
+    for _ in range(chance.randrange(1, 4)):
         name = chance.choice(OPERATIONS)
         paths = chance.choices(PATHS, k=2 if name in (b"link", b"rename") else 1)
         lines.append(b" ".join([name] + paths))
@@ -104,9 +108,9 @@ def settings(chance):
     """The words of a command line; few closed sets, so that many scripts are answered."""
     module = chance.choice(["async", "soft", "meta", "full"])
     blocks = chance.choice([16, 24, 64, 128])
-    journal = chance.choice([0, 6, 10] if blocks == 16 else [0, 6, 12, 18])
+    journal = chance.choice([0, 6, 10] if blocks == 16 else [0, 12, 18, 18])
     words = ["--module", module, "--blocks", str(blocks), "--journal", str(journal)]
-    words += ["--limit", str(chance.choice([1, 50, 300])), "--workers", str(chance.choice([1, 1, 2, 8]))]
+    words += ["--limit", str(chance.choice([1, 50, 300, 300, 300])), "--workers", str(chance.choice([1, 1, 2, 8]))]
     return words + ["--json"] * chance.choice([0, 0, 1])
 
 

@@ -5,7 +5,7 @@ use std::sync::atomic::AtomicU64;
 use std::sync::atomic::Ordering::SeqCst;
 use std::thread::yield_now;
 
-/// Holds each claim for up to seven turns, as many as a mix of the seed, the worker and the set says.
+/// Holds about one claim in eight for one to four turns, as a mix of the seed, the worker and the set says.
 #[derive(Drop)]
 pub struct Shuffled {
     pub seed: u64,
@@ -19,8 +19,10 @@ impl Gate for Shuffled {
         }
         mixed = (mixed ^ worker as u64).wrapping_mul(0x9E37_79B9_7F4A_7C15);
         let [highest, ..] = mixed.to_be_bytes();
-        for _ in 0..highest % 8 {
-            yield_now();
+        if highest % 8 == 0 {
+            for _ in 0..1 + highest / 8 % 4 {
+                yield_now();
+            }
         }
     }
 }

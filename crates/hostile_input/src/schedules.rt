@@ -4,24 +4,23 @@ ghost use Rattle.std.specs.Prelude.{◌≤◌};
 
 use crate::asked::{Asked, CREATE, JOURNAL, REUSE, WRITE, reports};
 use crate::gates::{HeldAt, Shuffled, UntilAnother};
+use std::ops::Range;
 use std::process::Abort;
 use std::sync::Wait;
 use std::sync::atomic::AtomicU64;
 use std::test::Fail;
 use std::thread::Threads;
 
-/// How many schedules are drawn for each script and number of workers.
-const SEEDS: u64 = 200;
-
-/// The report is the same under each of the drawn schedules.
-fn reports_under_all<R: Abort + AllocGlobal + Threads + Wait + Sync>(
+/// The report is the same under the schedule of each of these seeds.
+fn reports_under<R: Abort + AllocGlobal + Threads + Wait + Sync>(
     rt: &R,
     asked: &Asked,
     workers: usize,
+    seeds: Range<u64>,
 ) -> Result<(), Fail>
     requires { (1 ≤ workers) × (workers ≤ 16) }
 {
-    for seed in 0..SEEDS {
+    for seed in seeds {
         reports(rt, asked, workers, &Shuffled { seed })?;
     }
     Ok(())
@@ -29,47 +28,72 @@ fn reports_under_all<R: Abort + AllocGlobal + Threads + Wait + Sync>(
 
 #[test]
 fn two_workers_write(rt: HostRuntime) -> Result<(), Fail> {
-    reports_under_all(&rt, &WRITE, 2)
-}
-
-#[test]
-fn four_workers_write(rt: HostRuntime) -> Result<(), Fail> {
-    reports_under_all(&rt, &WRITE, 4)
-}
-
-#[test]
-fn eight_workers_write(rt: HostRuntime) -> Result<(), Fail> {
-    reports_under_all(&rt, &WRITE, 8)
+    reports_under(&rt, &WRITE, 2, 0..200)
 }
 
 #[test]
 fn two_workers_use_a_block_again(rt: HostRuntime) -> Result<(), Fail> {
-    reports_under_all(&rt, &REUSE, 2)
+    reports_under(&rt, &REUSE, 2, 0..200)
+}
+
+#[test]
+fn four_workers_write(rt: HostRuntime) -> Result<(), Fail> {
+    reports_under(&rt, &WRITE, 4, 0..200)
 }
 
 #[test]
 fn four_workers_use_a_block_again(rt: HostRuntime) -> Result<(), Fail> {
-    reports_under_all(&rt, &REUSE, 4)
+    reports_under(&rt, &REUSE, 4, 0..200)
+}
+
+#[test]
+fn eight_workers_write(rt: HostRuntime) -> Result<(), Fail> {
+    reports_under(&rt, &WRITE, 8, 0..200)
 }
 
 #[test]
 fn eight_workers_use_a_block_again(rt: HostRuntime) -> Result<(), Fail> {
-    reports_under_all(&rt, &REUSE, 8)
+    reports_under(&rt, &REUSE, 8, 0..200)
 }
 
 #[test]
-fn two_workers_behind_a_journal(rt: HostRuntime) -> Result<(), Fail> {
-    reports_under_all(&rt, &JOURNAL, 2)
+fn two_workers_behind_a_journal_first(rt: HostRuntime) -> Result<(), Fail> {
+    reports_under(&rt, &JOURNAL, 2, 0..100)
 }
 
 #[test]
-fn four_workers_behind_a_journal(rt: HostRuntime) -> Result<(), Fail> {
-    reports_under_all(&rt, &JOURNAL, 4)
+fn two_workers_behind_a_journal_second(rt: HostRuntime) -> Result<(), Fail> {
+    reports_under(&rt, &JOURNAL, 2, 100..200)
 }
 
 #[test]
-fn eight_workers_behind_a_journal(rt: HostRuntime) -> Result<(), Fail> {
-    reports_under_all(&rt, &JOURNAL, 8)
+fn four_workers_behind_a_journal_first(rt: HostRuntime) -> Result<(), Fail> {
+    reports_under(&rt, &JOURNAL, 4, 0..100)
+}
+
+#[test]
+fn four_workers_behind_a_journal_second(rt: HostRuntime) -> Result<(), Fail> {
+    reports_under(&rt, &JOURNAL, 4, 100..200)
+}
+
+#[test]
+fn eight_workers_behind_a_journal_first(rt: HostRuntime) -> Result<(), Fail> {
+    reports_under(&rt, &JOURNAL, 8, 0..50)
+}
+
+#[test]
+fn eight_workers_behind_a_journal_second(rt: HostRuntime) -> Result<(), Fail> {
+    reports_under(&rt, &JOURNAL, 8, 50..100)
+}
+
+#[test]
+fn eight_workers_behind_a_journal_third(rt: HostRuntime) -> Result<(), Fail> {
+    reports_under(&rt, &JOURNAL, 8, 100..150)
+}
+
+#[test]
+fn eight_workers_behind_a_journal_fourth(rt: HostRuntime) -> Result<(), Fail> {
+    reports_under(&rt, &JOURNAL, 8, 150..200)
 }
 
 #[test]

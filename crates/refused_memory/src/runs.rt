@@ -56,8 +56,8 @@ fn refuse_each<R: Abort + AllocGlobal + Threads + Wait + Sync>(
     Ok(())
 }
 
-/// In text, in JSON, and in text with all requests from one on refused.
-fn refuse_in_each_form<R: Abort + AllocGlobal + Threads + Wait + Sync>(
+/// In text and in JSON.
+fn refuse_in_both_forms<R: Abort + AllocGlobal + Threads + Wait + Sync>(
     rt: &R,
     asked: &Asked,
     workers: usize,
@@ -65,68 +65,100 @@ fn refuse_in_each_form<R: Abort + AllocGlobal + Threads + Wait + Sync>(
     requires { (1 ≤ workers) × (workers ≤ 16) }
 {
     refuse_each(rt, asked, false, workers, false)?;
-    refuse_each(rt, asked, true, workers, false)?;
-    refuse_each(rt, asked, false, workers, true)
+    refuse_each(rt, asked, true, workers, false)
 }
 
 #[test]
 fn one_worker_creates(rt: HostRuntime) -> Result<(), Fail> {
-    refuse_in_each_form(&rt, &CREATE, 1)
+    refuse_in_both_forms(&rt, &CREATE, 1)
 }
 
 #[test]
 fn one_worker_uses_a_block_again(rt: HostRuntime) -> Result<(), Fail> {
-    refuse_in_each_form(&rt, &REUSE, 1)
-}
-
-#[test]
-fn one_worker_behind_a_journal(rt: HostRuntime) -> Result<(), Fail> {
-    refuse_in_each_form(&rt, &JOURNAL, 1)
+    refuse_in_both_forms(&rt, &REUSE, 1)
 }
 
 #[test]
 fn one_worker_links_to_and_fro(rt: HostRuntime) -> Result<(), Fail> {
-    refuse_in_each_form(&rt, &LINKS, 1)
+    refuse_in_both_forms(&rt, &LINKS, 1)
+}
+
+#[test]
+fn one_worker_behind_a_journal_in_text(rt: HostRuntime) -> Result<(), Fail> {
+    refuse_each(&rt, &JOURNAL, false, 1, false)
+}
+
+#[test]
+fn one_worker_behind_a_journal_in_json(rt: HostRuntime) -> Result<(), Fail> {
+    refuse_each(&rt, &JOURNAL, true, 1, false)
+}
+
+#[test]
+fn one_worker_loses_memory_for_good(rt: HostRuntime) -> Result<(), Fail> {
+    refuse_each(&rt, &CREATE, false, 1, true)?;
+    refuse_each(&rt, &REUSE, false, 1, true)
 }
 
 #[test]
 fn two_workers_create(rt: HostRuntime) -> Result<(), Fail> {
-    refuse_in_each_form(&rt, &CREATE, 2)
+    refuse_in_both_forms(&rt, &CREATE, 2)
 }
 
 #[test]
 fn two_workers_use_a_block_again(rt: HostRuntime) -> Result<(), Fail> {
-    refuse_in_each_form(&rt, &REUSE, 2)
-}
-
-#[test]
-fn two_workers_behind_a_journal(rt: HostRuntime) -> Result<(), Fail> {
-    refuse_in_each_form(&rt, &JOURNAL, 2)
+    refuse_in_both_forms(&rt, &REUSE, 2)
 }
 
 #[test]
 fn two_workers_link_to_and_fro(rt: HostRuntime) -> Result<(), Fail> {
-    refuse_in_each_form(&rt, &LINKS, 2)
+    refuse_in_both_forms(&rt, &LINKS, 2)
+}
+
+#[test]
+fn two_workers_behind_a_journal_in_text(rt: HostRuntime) -> Result<(), Fail> {
+    refuse_each(&rt, &JOURNAL, false, 2, false)
+}
+
+#[test]
+fn two_workers_behind_a_journal_in_json(rt: HostRuntime) -> Result<(), Fail> {
+    refuse_each(&rt, &JOURNAL, true, 2, false)
+}
+
+#[test]
+fn two_workers_lose_memory_for_good(rt: HostRuntime) -> Result<(), Fail> {
+    refuse_each(&rt, &CREATE, false, 2, true)?;
+    refuse_each(&rt, &REUSE, false, 2, true)
 }
 
 #[test]
 fn four_workers_create(rt: HostRuntime) -> Result<(), Fail> {
-    refuse_in_each_form(&rt, &CREATE, 4)
+    refuse_in_both_forms(&rt, &CREATE, 4)
 }
 
 #[test]
 fn four_workers_use_a_block_again(rt: HostRuntime) -> Result<(), Fail> {
-    refuse_in_each_form(&rt, &REUSE, 4)
-}
-
-#[test]
-fn four_workers_behind_a_journal(rt: HostRuntime) -> Result<(), Fail> {
-    refuse_in_each_form(&rt, &JOURNAL, 4)
+    refuse_in_both_forms(&rt, &REUSE, 4)
 }
 
 #[test]
 fn four_workers_link_to_and_fro(rt: HostRuntime) -> Result<(), Fail> {
-    refuse_in_each_form(&rt, &LINKS, 4)
+    refuse_in_both_forms(&rt, &LINKS, 4)
+}
+
+#[test]
+fn four_workers_behind_a_journal_in_text(rt: HostRuntime) -> Result<(), Fail> {
+    refuse_each(&rt, &JOURNAL, false, 4, false)
+}
+
+#[test]
+fn four_workers_behind_a_journal_in_json(rt: HostRuntime) -> Result<(), Fail> {
+    refuse_each(&rt, &JOURNAL, true, 4, false)
+}
+
+#[test]
+fn four_workers_lose_memory_for_good(rt: HostRuntime) -> Result<(), Fail> {
+    refuse_each(&rt, &CREATE, false, 4, true)?;
+    refuse_each(&rt, &REUSE, false, 4, true)
 }
 
 #[test]
