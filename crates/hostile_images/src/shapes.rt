@@ -144,7 +144,11 @@ fn header(noise: &mut Noise, journal: usize, turn: u8, count: u8) -> [u8; 6] {
     ];
     let first = noise.below(4u8.saturating_sub(count).max(1));
     let mut header = [mark, turn, count, 0, 0, 0];
-    for (place, target) in header.iter_mut().skip(3).zip(targets.iter().skip(usize::from(first))) {
+    for (place, target) in header
+        .iter_mut()
+        .skip(3)
+        .zip(targets.iter().skip(usize::from(first)))
+    {
         *place = *target;
     }
     if noise.below(6) == 0 {

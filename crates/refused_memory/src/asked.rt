@@ -94,7 +94,15 @@ pub fn answers<R: Abort + AllocGlobal + Threads + Wait + Sync>(
         limit: LIMIT,
         json,
     };
-    match run(rt, heap, memory, asked.script, &settings, workers, &OpenGate) {
+    match run(
+        rt,
+        heap,
+        memory,
+        asked.script,
+        &settings,
+        workers,
+        &OpenGate,
+    ) {
         Ok(outcome) => {
             let expected = if json { asked.json } else { asked.text };
             expect_report(rt, heap, &outcome, expected)?;
@@ -134,7 +142,15 @@ pub fn refuses_too_many<R: Abort + AllocGlobal + Threads + Wait + Sync>(
         json: false,
     };
     let script = b"start\ncreate /a\nwrite /a\n";
-    match run(rt, rt.alloc(), memory, script, &settings, workers, &OpenGate) {
+    match run(
+        rt,
+        rt.alloc(),
+        memory,
+        script,
+        &settings,
+        workers,
+        &OpenGate,
+    ) {
         Ok(_) => {
             assert!(rt; false, "24 closed sets are more than 23");
             Ok(false)
