@@ -6,7 +6,7 @@ use Rattle.std.proofs.lemmas.List.Edits.{map_over_more}
 use Rattle.std.proofs.lemmas.List.Elements.{All-set, All-map, All-same}
 use Rattle.hands.specs.Accounts.{held}
 use Rattle.hands.specs.Known.{Way, Known}
-use Rattle.hands.specs.Fresh.{way_homes, hand_homes, IsFreshWay, AreFreshWays, AreFresh}
+use Rattle.hands.specs.Together.{way_homes, hand_homes, IsFreshWay, AreFreshWays, AreFresh}
 use Rattle.hands.specs.Steps.{with_one_less, new_way}
 
 module _ {T A : Type 0} where

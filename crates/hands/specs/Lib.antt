@@ -1,4 +1,5 @@
 pub mod Accounts
 pub mod Known
-pub mod Fresh
+pub mod Together
+pub mod Left
 pub mod Steps

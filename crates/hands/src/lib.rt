@@ -6,9 +6,13 @@
 
 mod account;
 mod hand;
+mod left;
 mod making;
 mod reach;
 
-pub use hand::{Deque, Hand, tasks_left};
+pub use hand::Hand;
+pub use left::tasks_left;
 pub use making::hands;
-pub use reach::Reach;
+
+#[cfg(test)]
+mod tests;

@@ -1,6 +1,6 @@
 //! Hands are made.
 ghost use Rattle.std.specs.Prelude.{◌≡◌, ◌<◌, ◌≤◌, length, map, All, IfOk};
-ghost use Rattle.hands.specs.Fresh.{AreFresh, AreFreshWays, hand_homes};
+ghost use Rattle.hands.specs.Together.{AreFresh, AreTogether, AreFreshWays, hand_homes};
 ghost use Rattle.hands.specs.Steps.{IsBare, with_one_less, new_way};
 
 use crate::account::OnePart;
@@ -19,6 +19,7 @@ pub fn hands<T: Drop, A: Allocator + Copy>(
 ) -> Result<Vec<Hand<T, A>, A>, AllocError>
     requires workers { (1 ≤ workers) × (workers ≤ 16) }
     ensures fresh { IfOk result (λ hands. AreFresh workers hands.items) }
+    ensures together { IfOk result (λ hands. AreTogether hands.items) }
     ensures count { IfOk result (λ hands. length hands.items ≡ workers) }
     ensures ways { IfOk result (λ hands. All (λ hand. length hand.ways ≡ workers) hands.items) }
 {

@@ -10,7 +10,7 @@ use std::marker::Model;
 
 /// A way to a deque: what takes tasks at its front, and the pass that holds what was taken.
 #[derive(Drop)]
-pub struct Reach<T, A: Allocator> {
+pub(crate) struct Reach<T, A: Allocator> {
     pub(crate) stealer: Stealer<T, A, Held<T>, Accounts>,
     pub(crate) pass: Pass<T, Held<T>, A>,
 }

@@ -1,4 +1,5 @@
 use Rattle.std.proofs.Common.{arith, ap, ◌∙◌, subst}
+use Rattle.hands.proofs.Kept.{fresh-together}
 use Rattle.hands.proofs.NewHands.{Made, next, done, ways-counted}
 use Rattle.hands.proofs.making.hands.Goals as goal
 
@@ -10,4 +11,5 @@ loop-worker-preserved g c =
 pub returns : goal.returns
 returns g c =
     let made : Made c.args.workers c.args.workers c.loop-worker.hands.items = subst (λ n. Made c.args.workers n c.loop-worker.hands.items) (omega arith) c.loop-worker.invariant in
-    record { fresh = done _ _ made; count = made.count; ways = ways-counted _ _ made }
+    let fresh = done _ _ made in
+    record { fresh = fresh; together = fresh-together c.args.workers c.loop-worker.hands.items (omega arith) fresh; count = made.count; ways = ways-counted _ _ made }

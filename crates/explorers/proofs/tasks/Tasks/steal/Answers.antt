@@ -6,7 +6,7 @@ use Rattle.explorers.proofs.tasks.Tasks.steal.Goals as goal
 pub invariant_of-self-in-Some : goal.invariant_of-self-in-Some
 invariant_of-self-in-Some g c =
     let before = c.loop-step.self-inside.hand in
-    let step = c.in-Some.ensures (record { home = before.home; holds = before.own }) in
+    let step = c.in-Some.ensures.stolen (record { home = before.home; holds = before.own }) in
     let same = ap (λ h. length h.ways) step ∙ length-set _ _ _ in
     let hand = ap (λ h. length h.ways) c.loop-step.invariant.hand in
     omega (arith, same, hand, c.self.invariant, c.loop-step.invariant.own, c.loop-step.invariant.workers)
@@ -19,12 +19,12 @@ returns-in-Some g c =
     (record {
       from = (inside.own + c.loop-step.step) % inside.workers;
       inside = search rules;
-      is = c.in-Some.ensures;
+      is = c.in-Some.ensures.stolen;
     })
 
 pub loop-step-preserved : goal.loop-step-preserved
 loop-step-preserved g c = let before = c.loop-step.self-inside.hand in record {
-  hand = c.in_default.ensures (record { home = before.home; holds = before.own }) ∙ c.loop-step.invariant.hand;
+  hand = c.in_default.ensures.stolen (record { home = before.home; holds = before.own }) ∙ c.loop-step.invariant.hand;
   own = c.loop-step.invariant.own;
   workers = c.loop-step.invariant.workers;
 }

@@ -49,3 +49,7 @@ module _ {T A : Type 0} where
     pub few : length homes ≤ 16
     pub own : hand_homes hands ≡ homes
     pub each : All (IsHandOf homes) hands
+
+  -- a hand after some of its calls: its deque and its ways are the same
+  abbrev pub IsSameHand : Known T A → Known T A → Type 0
+  IsSameHand old new = (new.home ≡ old.home) × ((homes : List (RowsId × A)) → IsHandOf homes old → IsHandOf homes new)
