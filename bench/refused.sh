@@ -2,7 +2,7 @@
 # refused.sh [SCRIPT [OPTION..]]: runs the program again and again, with its first request for memory refused, then its second,
 # and so on until none is refused, and checks each answer: `crashmap: 99 out of memory`, status 2 and nothing on standard output,
 # or the report where no request was refused. These are all requests of the program, those of the command line and of JSON
-# too. With `--workers 2` and more the report may come in place of a refusal: a worker whose thread has no memory to start runs
+# too. With `--workers 2` and more the report may come in place of a refusal, as where a thread cannot start and its worker runs
 # on the first one's. Without a script it takes one with a failing set, in text and in JSON. Needs a C compiler, cc. Not part
 # of the gate.
 set -eu
