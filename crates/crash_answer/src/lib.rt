@@ -1,13 +1,17 @@
 //! All that the program does, over any reader and writers.
 #![tactic(auto)]
 
-ghost use Rattle.std.specs.Prelude.{◌≡◌, ◌≤◌};
+ghost use Rattle.std.specs.Prelude.{◌≡◌, ◌-◌, ◌^◌, ◌<◌, ◌≤◌, None, IfOk, IfSome};
 ghost use Rattle.command_line.specs.Ranges.{IsInRanges};
+ghost use Rattle.crash_text.specs.Served.{IsServed};
+ghost use Rattle.crash_answer.specs.Status.{IsServedFailing};
 
 use clap::error::ErrorKind;
 use command_line::{Call, settings_of};
 use crash_model::refusals::RunFault;
 use crash_text::serve::serve;
+use devices::sink::Sink;
+use devices::source::Source;
 use devices::standard::Counted;
 use explorers::OpenGate;
 use std::alloc::{Allocator, Global};
@@ -42,63 +46,76 @@ where
     E: Write,
     ensures { result ≤ 2 }
 {
-    let call = match settings_of(heap, words) {
-        Ok(call) => call,
-        Err(error) => return tell(out, err, error),
-    };
-    match serve_call(rt, heap, alloc, &call, input, out) {
+    match settings_of(heap, words) {
+        Ok(call) => {
+            let (mut source, mut sink) = (Counted::new(input), Counted::new(out));
+            answer_call(rt, heap, alloc, &call, &mut source, &mut sink, err)
+        }
+        Err(error) => tell(out, err, error),
+    }
+}
+
+/// Serves the script that the call names, else the source, prints a refusal to `err`, and gives the exit status.
+///
+/// For a script of the source, 0 and 1 stand for its whole report in the sink: 0 where no set fails, 1 where one does.
+pub fn answer_call<R, A, S, K, E>(
+    rt: &R,
+    heap: Global,
+    alloc: A,
+    call: &Call<'_>,
+    source: &mut S,
+    sink: &mut K,
+    err: &mut E,
+) -> u8
+where
+    R: Files + Threads + Wait + Sync,
+    A: Allocator + Copy + Send + Sync,
+    S: Source,
+    K: Sink,
+    E: Write,
+    requires call { IsInRanges call.now }
+    requires source { S.failures source.old < 2 ^ 64 - 1 }
+    requires sink { K.failures sink.old < 2 ^ 64 - 1 }
+    ensures known { result ≤ 2 }
+    ensures clean { result ≡ 0 → call.now.script ≡ None → IfSome (S.coming source.old) (λ bytes. IsServed bytes call.now.settings 0 (K.taken sink.old) (K.taken sink.new)) }
+    ensures failing { result ≡ 1 → call.now.script ≡ None → IfSome (S.coming source.old) (λ bytes. IsServedFailing bytes call.now.settings (K.taken sink.old) (K.taken sink.new)) }
+{
+    match serve_call(rt, heap, alloc, call, source, sink) {
         Ok(0) => 0,
         Ok(_) => 1,
         Err(fault) => refuse(err, fault),
     }
 }
 
-/// Serves the script that the call names, else the input.
-fn serve_call<R, A, I, O>(
+/// Serves the script that the call names, else the source. It gives the number of failing sets.
+fn serve_call<R, A, S, K>(
     rt: &R,
     heap: Global,
     alloc: A,
     call: &Call<'_>,
-    input: &mut I,
-    out: &mut O,
+    source: &mut S,
+    sink: &mut K,
 ) -> Result<usize, RunFault>
 where
     R: Files + Threads + Wait + Sync,
     A: Allocator + Copy + Send + Sync,
-    I: Read,
-    O: Write,
-    requires { IsInRanges call.now }
+    S: Source,
+    K: Sink,
+    requires call { IsInRanges call.now }
+    requires source { S.failures source.old < 2 ^ 64 - 1 }
+    requires sink { K.failures sink.old < 2 ^ 64 - 1 }
+    ensures { call.now.script ≡ None → IfOk result (λ failing. IfSome (S.coming source.old) (λ bytes. IsServed bytes call.now.settings failing (K.taken sink.old) (K.taken sink.new))) }
 {
-    let mut sink = Counted::new(out);
     let (settings, workers) = (&call.settings, call.workers);
     match call.script {
         Some(name) => {
             let file = File::open(rt, name).map_err(open_fault)?;
-            let mut source = Counted::new(file);
+            let mut file = Counted::new(file);
             serve(
-                rt,
-                heap,
-                alloc,
-                &mut source,
-                &mut sink,
-                settings,
-                workers,
-                &OpenGate,
+                rt, heap, alloc, &mut file, sink, settings, workers, &OpenGate,
             )
         }
-        None => {
-            let mut source = Counted::new(input);
-            serve(
-                rt,
-                heap,
-                alloc,
-                &mut source,
-                &mut sink,
-                settings,
-                workers,
-                &OpenGate,
-            )
-        }
+        None => serve(rt, heap, alloc, source, sink, settings, workers, &OpenGate),
     }
 }
 

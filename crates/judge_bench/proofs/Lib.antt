@@ -1,1 +1,2 @@
 pub mod MoreClosed
+pub mod Counted

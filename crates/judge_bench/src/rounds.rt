@@ -1,9 +1,11 @@
 //! Judging, and the time that it takes.
 
-ghost use Rattle.std.specs.Prelude.{◌≡◌, ◌<◌};
+ghost use Rattle.std.specs.Prelude.{◌≡◌, ◌<◌, IfOk};
 ghost use Rattle.std.specs.List.{All};
 ghost use Rattle.patch_sets.specs.Closed.{IsClosed};
 ghost use Rattle.crash_model.specs.Patches.{deps_of, AreUndo};
+ghost use Rattle.crash_image.specs.Moves.{IsGood};
+ghost use Rattle.judge_bench.specs.Counted.{IsCountOfOthers};
 
 use crash_image::{PatchSpace, Scratch};
 use disk_image::Image;
@@ -49,7 +51,8 @@ fn count_failing<'a>(
 ) -> Result<usize, AllocError>
     requires own { scratch.old ≡ space.now }
     requires closed { All (IsClosed (deps_of space.now.patches)) sets.now }
-    ensures { scratch.new ≡ space.now }
+    ensures own { scratch.new ≡ space.now }
+    ensures counted { IfOk result (IsCountOfOthers (IsGood space.now) sets.now) }
 {
     let mut failing = 0;
     for set in sets {
