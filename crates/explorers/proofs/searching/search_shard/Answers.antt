@@ -7,5 +7,6 @@ pub loop-at-preserved : goal.loop-at-preserved
 loop-at-preserved g c = record {
   idle = c.visit.ensures.idle;
   own = c.visit.ensures.own;
+  met = c.visit.ensures.met;
   seen = omega (arith, c.loop-at.invariant.seen, starts-length (row_of c.visit.new.mine.seat.seen c.args.shard) (row_of c.loop-at.mine.seat.seen c.args.shard) (c.visit.ensures.sees c.args.shard c.requires.shard));
 }
