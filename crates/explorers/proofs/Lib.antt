@@ -1,3 +1,3 @@
 pub mod Entries
-pub mod Met
+pub mod Meeting
 pub mod Successors

@@ -78,7 +78,7 @@ pub(crate) fn visit<R: Wait, S: Space, G: Gate, A: Allocator + Copy>(
 
 /// Puts the successors of a claimed entry in, in the order of the list, judges it and settles it. `false` where more
 /// words than the limit are reached. Where memory is refused it tells the others to stop.
-fn expand<S: Space, A: Allocator, R: Wait>(
+fn expand<S: Space, A: Allocator + Copy, R: Wait>(
     rt: &R,
     board: &Board<S, A>,
     space: &S,
@@ -117,7 +117,7 @@ fn expand<S: Space, A: Allocator, R: Wait>(
 
 /// Puts a successor of the claimed entry in unless it was met, and makes a task of it if it is new. `false` where more words
 /// than the limit are reached. Where memory is refused it tells the others to stop.
-fn put_in<S: Space, A: Allocator, R: Wait>(
+fn put_in<S: Space, A: Allocator + Copy, R: Wait>(
     rt: &R,
     board: &Board<S, A>,
     seat: &mut BoardSeat,

@@ -107,7 +107,8 @@ fn new_workers<S: Space, A: Allocator + Copy>(
         let scratch = space.scratch()?;
         let seat = board.split(seat);
         let tasks = Tasks::new(hand, own, count);
-        workers.push(Worker::new(own + 1, seat, scratch, tasks, Met::new(alloc)))?;
+        let met = Met::new(alloc);
+        workers.push(Worker::new(own + 1, seat, scratch, tasks, met))?;
     }
     Ok(workers)
 }

@@ -73,7 +73,7 @@ fn search_shard<R: Wait, S: Space, G: Gate, A: Allocator + Copy>(
 }
 
 /// The number of a shard's entries, which the seat then has seen.
-pub(crate) fn count_of<R: Wait, S: Space, A: Allocator + Copy>(
+pub(crate) fn count_of<R: Wait, S: Space, A: Allocator>(
     rt: &R,
     board: &Board<S, A>,
     seat: &mut BoardSeat,

@@ -1,4 +1,4 @@
-use Rattle.std.specs.Prelude.{◌≡◌, ◌≤◌, slice_index, length}
+use Rattle.std.specs.Prelude.{◌≡◌, slice_index}
 use Rattle.explorers.specs.Met.{AreMet}
 use Rattle.explorers.proofs.met.meet.Given as goal
 
