@@ -1,3 +1,4 @@
 pub mod Entries
+pub mod Met
 pub mod Ready
 pub mod Tasks

@@ -4,11 +4,13 @@ ghost use Rattle.std.specs.List.{All};
 ghost use Rattle.state_space.specs.Reach.{IsReached};
 ghost use Rattle.state_space.specs.Counts.{HoldsOf, Outnumbers};
 ghost use Rattle.patch_sets.specs.Sets.{AreAllInOrder};
+ghost use Rattle.explorers.specs.Met.{AreMet};
 ghost use Rattle.explorers.specs.Ready.{IsIdle, IsLeft};
 
 use crate::answers::{answer, join_all};
 use crate::gate::Gate;
 use crate::jobs::{Job, share};
+use crate::met::Met;
 use crate::tasks::{Task, Tasks};
 use crate::worker::{Left, Worker, work};
 use hands::{Hand, hands};
@@ -96,7 +98,7 @@ fn new_workers<S: Space, A: Allocator + Copy>(
     requires ways { All (λ hand. length hand.ways ≡ length hands.items) hands.items }
     ensures idle { IsIdle board.now seat.new }
     ensures count { IfOk result (λ workers. length workers.items ≡ length hands.items) }
-    ensures ready { IfOk result (λ workers. All (λ w. IsIdle board.now w.seat × S.is_own space.now w.scratch) workers.items) }
+    ensures ready { IfOk result (λ workers. All (λ w. IsIdle board.now w.seat × S.is_own space.now w.scratch × AreMet w.met.words.keys w.met.counts w.seat.seen) workers.items) }
 {
     let count = hands.len();
     let mut workers = Vec::new(alloc);
@@ -105,26 +107,28 @@ fn new_workers<S: Space, A: Allocator + Copy>(
         let scratch = space.scratch()?;
         let seat = board.split(seat);
         let tasks = Tasks::new(hand, own, count);
-        workers.push(Worker::new(own + 1, seat, scratch, tasks))?;
+        let met = Met::new(alloc);
+        workers.push(Worker::new(own + 1, seat, scratch, tasks, met))?;
     }
     Ok(workers)
 }
 
 /// Exploring a space over a board.
 #[derive(Drop)]
-struct Exploration<'a, S: Space, G: Gate, A: Allocator> {
+struct Exploration<'a, S: Space, G: Gate, A: Allocator + Copy> {
     board: &'a Board<S, A>,
     space: &'a S,
     gate: &'a G,
 }
 
-impl<'a, S: Space, G: Gate, A: Allocator> Job for Exploration<'a, S, G, A> {
+impl<'a, S: Space, G: Gate, A: Allocator + Copy> Job for Exploration<'a, S, G, A> {
     type Worker = Worker<S, A>;
 
     ghost use Rattle.std.specs.Prelude.{◌≡◌};
+    ghost use Rattle.explorers.specs.Met.{AreMet};
     ghost use Rattle.explorers.specs.Ready.{IsIdle, IsLeft};
 
-    ghost is_ready = { λ e worker. (e.board.now.space ≡ e.space.now) × IsIdle e.board.now worker.seat × S.is_own e.space.now worker.scratch };
+    ghost is_ready = { λ e worker. (e.board.now.space ≡ e.space.now) × IsIdle e.board.now worker.seat × S.is_own e.space.now worker.scratch × AreMet worker.met.words.keys worker.met.counts worker.seat.seen };
 
     ghost is_left = { λ e left. IsLeft e.board.now left };
 
@@ -150,7 +154,7 @@ where
     G: Gate + Sync,
     requires space { board.now.space ≡ space.now }
     requires before { IsLeft board.now before }
-    requires ready { All (λ w. IsIdle board.now w.seat × S.is_own space.now w.scratch) workers.items }
+    requires ready { All (λ w. IsIdle board.now w.seat × S.is_own space.now w.scratch × AreMet w.met.words.keys w.met.counts w.seat.seen) workers.items }
     ensures left { IfOk result (IsLeft board.now) }
 {
     let exploration = Exploration { board, space, gate };

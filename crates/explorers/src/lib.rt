@@ -10,6 +10,7 @@ mod expanding;
 mod exploring;
 mod gate;
 mod jobs;
+mod met;
 mod searching;
 mod stealing;
 mod tasks;

@@ -18,6 +18,7 @@ pub(crate) fn learn<R: Wait, S: Space, A: Allocator>(
 )
     requires idle { IsIdle board.now seat.old }
     ensures idle { IsIdle board.now seat.new }
+    ensures sees { SeesOn seat.old.seen seat.new.seen }
 {
     if board.find(seat, word).is_none() {
         count_of(rt, board, seat, (word % 13) as u8);

@@ -1,9 +1,11 @@
 //! What one worker does.
 ghost use Rattle.std.specs.Prelude.{◌≡◌, true, false, IfOk};
+ghost use Rattle.explorers.specs.Met.{AreMet};
 ghost use Rattle.explorers.specs.Ready.{IsIdle, IsLeft};
 
 use crate::expanding::take;
 use crate::gate::Gate;
+use crate::met::Met;
 use crate::searching::search;
 use crate::stealing::learn;
 use crate::tasks::Tasks;
@@ -16,30 +18,39 @@ use std::thread::yield_now;
 /// After so many rounds in a row in which all deques were found empty, a worker searches the rows.
 const EMPTY_ROUNDS: u8 = 64;
 
-/// A worker: its number, from 1, its seat at the board, what it judges in, its tasks, and how many places of each shard it
-/// has tried to claim in a search of the rows. A place that was tried waits no more.
+/// A worker: its number, from 1, its seat at the board, what it judges in, its tasks, the words that it has met, and how
+/// many places of each shard it has tried to claim in a search of the rows. A place that was tried waits no more.
 #[derive(Drop)]
 pub(crate) struct Worker<S: Space, A: Allocator> {
     pub number: usize,
     pub seat: BoardSeat,
     pub scratch: S::Scratch,
     pub tasks: Tasks<A>,
+    pub met: Met<A>,
     pub empty_rounds: u8,
     pub tried: [u16; 13],
 }
 
 impl<S: Space, A: Allocator> Worker<S, A> {
     /// A worker that has tried nothing.
-    pub fn new(number: usize, seat: BoardSeat, scratch: S::Scratch, tasks: Tasks<A>) -> Worker<S, A>
+    pub fn new(
+        number: usize,
+        seat: BoardSeat,
+        scratch: S::Scratch,
+        tasks: Tasks<A>,
+        met: Met<A>,
+    ) -> Worker<S, A>
         ensures seat { result.seat ≡ seat }
         ensures scratch { result.scratch ≡ scratch }
         ensures tasks { result.tasks ≡ tasks }
+        ensures met { result.met ≡ met }
     {
         Worker {
             number,
             seat,
             scratch,
             tasks,
+            met,
             empty_rounds: 0,
             tried: [0; 13],
         }
@@ -54,7 +65,7 @@ pub(crate) struct Left {
 }
 
 /// Works until the board is finished, a stop was read, more words than the limit are reached or memory was refused.
-pub(crate) fn work<R: Wait, S: Space, G: Gate, A: Allocator>(
+pub(crate) fn work<R: Wait, S: Space, G: Gate, A: Allocator + Copy>(
     rt: &R,
     board: &Board<S, A>,
     space: &S,
@@ -64,6 +75,7 @@ pub(crate) fn work<R: Wait, S: Space, G: Gate, A: Allocator>(
     requires space { board.now.space ≡ space.now }
     requires idle { IsIdle board.now mine.seat }
     requires own { S.is_own space.now mine.scratch }
+    requires met { AreMet mine.met.words.keys mine.met.counts mine.seat.seen }
     ensures left { IsLeft board.now result }
 {
     let mut is_over = false;
@@ -85,6 +97,7 @@ pub(crate) fn work<R: Wait, S: Space, G: Gate, A: Allocator>(
         seat,
         scratch: _,
         tasks: _,
+        met: _,
         empty_rounds: _,
         tried: _,
     } = mine;
@@ -93,7 +106,7 @@ pub(crate) fn work<R: Wait, S: Space, G: Gate, A: Allocator>(
 
 /// Takes the newest of its own tasks, else the oldest of another worker's, else notes an empty round. `false` where more
 /// words than the limit are reached; the error is want of memory.
-fn turn<R: Wait, S: Space, G: Gate, A: Allocator>(
+fn turn<R: Wait, S: Space, G: Gate, A: Allocator + Copy>(
     rt: &R,
     board: &Board<S, A>,
     space: &S,
@@ -103,8 +116,10 @@ fn turn<R: Wait, S: Space, G: Gate, A: Allocator>(
     requires space { board.now.space ≡ space.now }
     requires idle { IsIdle board.now mine.old.seat }
     requires own { S.is_own space.now mine.old.scratch }
+    requires met { AreMet mine.old.met.words.keys mine.old.met.counts mine.old.seat.seen }
     ensures idle { IsIdle board.now mine.new.seat }
     ensures own { S.is_own space.now mine.new.scratch }
+    ensures met { AreMet mine.new.met.words.keys mine.new.met.counts mine.new.seat.seen }
     ensures over { IfOk result (λ within. within ≡ false → mine.new.seat.over ≡ 1) }
 {
     if let Some(task) = mine.tasks.pop() {
@@ -121,7 +136,7 @@ fn turn<R: Wait, S: Space, G: Gate, A: Allocator>(
 
 /// Passes a round in which all deques were found empty, and searches the rows in the last of many. The answers are those
 /// of `turn`.
-fn pass<R: Wait, S: Space, G: Gate, A: Allocator>(
+fn pass<R: Wait, S: Space, G: Gate, A: Allocator + Copy>(
     rt: &R,
     board: &Board<S, A>,
     space: &S,
@@ -131,8 +146,10 @@ fn pass<R: Wait, S: Space, G: Gate, A: Allocator>(
     requires space { board.now.space ≡ space.now }
     requires idle { IsIdle board.now mine.old.seat }
     requires own { S.is_own space.now mine.old.scratch }
+    requires met { AreMet mine.old.met.words.keys mine.old.met.counts mine.old.seat.seen }
     ensures idle { IsIdle board.now mine.new.seat }
     ensures own { S.is_own space.now mine.new.scratch }
+    ensures met { AreMet mine.new.met.words.keys mine.new.met.counts mine.new.seat.seen }
     ensures over { IfOk result (λ within. within ≡ false → mine.new.seat.over ≡ 1) }
 {
     yield_now();

@@ -2,7 +2,7 @@ ghost use Rattle.std.specs.Prelude.{◌≡◌, ℕ, true, false, ◌+◌, ◌/�
 ghost use Rattle.board_rule.specs.Layout.{writer};
 ghost use Rattle.board_rule.specs.Lists.{row_of};
 ghost use Rattle.board_rule.specs.Changes.{with_entry};
-ghost use Rattle.seen_board.specs.Clauses.{IsOf, Lacks, Writes};
+ghost use Rattle.seen_board.specs.Clauses.{IsOf, Lacks, LacksBelow, Writes};
 ghost use Rattle.seen_board.specs.Inserts.{IsSuccessor, Follows, Returns, PutOk, AddOk, LookedOk, Paid, Filed, Appends};
 
 use crate::answers::{Got, Looked, Place, Put};
@@ -78,11 +78,12 @@ impl<S: Space, A: Allocator> Board<S, A> {
         self.table.shared.fetch_add::<Count>(seat, COUNT, 1) < self.limit as u64
     }
 
-    // Looks a word up under the read right, which is given up again.
-    fn look_reading(&self, seat: &mut BoardSeat, shard: u8, word: u128) -> Looked
+    // Looks a word up under the read right, which is given up again, where no place below `from` has it.
+    fn look_reading(&self, seat: &mut BoardSeat, shard: u8, from: u16, word: u128) -> Looked
         requires seat { IsOf self.now seat.old }
         requires shard { word % 13 ≡ shard }
         requires free { seat.old.right ≡ 0 }
+        requires before { LacksBelow from (row_of seat.old.seen (word % 13)) word }
         ensures returns { Returns seat.old seat.new }
         ensures looked { LookedOk word seat.new result }
     {
@@ -90,7 +91,7 @@ impl<S: Space, A: Allocator> Board<S, A> {
             Got::Busy => return Looked::Taken,
             Got::Right => {}
         }
-        let found = self.look_from(seat, shard, 0, word);
+        let found = self.look_from(seat, shard, from, word);
         self.leave(seat, shard);
         match found {
             Some(at) => Looked::At(at),
@@ -167,11 +168,23 @@ impl<S: Space, A: Allocator> Board<S, A> {
         requires successor { IsSuccessor (S.successors self.now.space) seat.old word }
         ensures put { PutOk word seat.old seat.new result }
     {
+        self.try_insert_from(seat, 0, word)
+    }
+
+    /// Tries to put a word in, as `try_insert`, where no place below `from` of its shard has it, as far as the seat has
+    /// seen. Those places are not searched, which spares a caller that keeps the words which it has seen the longest walks.
+    pub fn try_insert_from(&self, seat: &mut BoardSeat, from: u16, word: u128) -> Put
+        requires seat { IsOf self.now seat.old }
+        requires free { seat.old.right ≡ 0 }
+        requires successor { IsSuccessor (S.successors self.now.space) seat.old word }
+        requires before { LacksBelow from (row_of seat.old.seen (word % 13)) word }
+        ensures put { PutOk word seat.old seat.new result }
+    {
         if let Some(place) = self.find(seat, word) {
             return Put::Known(place);
         }
         let shard = (word % 13) as u8;
-        match self.look_reading(seat, shard, word) {
+        match self.look_reading(seat, shard, from, word) {
             Looked::Taken => Put::Busy,
             Looked::At(at) => Put::Known(Place { shard, at }),
             Looked::Absent => self.insert_writing(seat, shard, word),

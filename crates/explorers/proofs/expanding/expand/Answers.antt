@@ -8,33 +8,33 @@ use Rattle.explorers.proofs.expanding.expand.Goals as goal
 pub put_in-requires-clause-successor : goal.put_in-requires-clause-successor
 put_in-requires-clause-successor g c = let same = c.at-word.ensures.same in let word : c.at-word.result ≡ word_at c.at-word.new.seat.seen c.args.place = rw same c.at-word.ensures.word in let after = g.S.Space.successors c.args.space.now in
     let has : HasPlace c.at-word.new.seat.seen c.args.place = rw same c.requires.claim.1 in
-    rw c.requires.board.1 (expands_successor c.args.board.now after c.at-word.new.seat.seen c.args.place c.loop-k.k c.next.result c.loop-k.seat has c.loop-k.invariant (rw (← word) (omega (arith, c.loop-k-test.true, c.degree-k-end.ensures))) (rw (← word) c.next.ensures))
+    rw c.requires.board.1 (expands_successor c.args.board.now after c.at-word.new.seat.seen c.args.place c.loop-k.k c.next.result c.loop-k.seat has c.loop-k.invariant.expands (rw (← word) (omega (arith, c.loop-k-test.true, c.degree-k-end.ensures))) (rw (← word) c.next.ensures))
 
 pub loop-k-preserved : goal.loop-k-preserved
 loop-k-preserved g c = let same = c.at-word.ensures.same in let word : c.at-word.result ≡ word_at c.at-word.new.seat.seen c.args.place = rw same c.at-word.ensures.word in
-    expands_next c.args.board.now c.at-word.new.seat.seen c.args.place (g.S.Space.successors c.args.space.now (word_at c.at-word.new.seat.seen c.args.place)) c.loop-k.k c.next.result c.loop-k.seat c.put_in.new.seat c.loop-k.invariant (rw (← word) c.next.ensures) c.put_in.ensures.sees (search rules)
+    record { expands = expands_next c.args.board.now c.at-word.new.seat.seen c.args.place (g.S.Space.successors c.args.space.now (word_at c.at-word.new.seat.seen c.args.place)) c.loop-k.k c.next.result c.loop-k.seat c.put_in.new.seat c.loop-k.invariant.expands (rw (← word) c.next.ensures) c.put_in.ensures.sees (search rules); met = c.put_in.ensures.met }
 
 pub settle-requires-clause-seen : goal.settle-requires-clause-seen
-settle-requires-clause-seen g c = (place_on c.at-word.new.seat.seen c.loop-k.seat.seen c.args.place c.loop-k.invariant.sees (rw c.at-word.ensures.same c.requires.claim.1)).0
+settle-requires-clause-seen g c = (place_on c.at-word.new.seat.seen c.loop-k.seat.seen c.args.place c.loop-k.invariant.expands.sees (rw c.at-word.ensures.same c.requires.claim.1)).0
 
 pub settle-requires-clause-successors : goal.settle-requires-clause-successors
 settle-requires-clause-successors g c = let same = c.at-word.ensures.same in let word : c.at-word.result ≡ word_at c.at-word.new.seat.seen c.args.place = rw same c.at-word.ensures.word in
-    let there = (place_on c.at-word.new.seat.seen c.loop-k.seat.seen c.args.place c.loop-k.invariant.sees (rw same c.requires.claim.1)).1 in
-    rw c.requires.board.1 (rw there (expands_all c.args.board.now c.at-word.new.seat.seen c.args.place (g.S.Space.successors c.args.space.now (word_at c.at-word.new.seat.seen c.args.place)) c.loop-k.k c.loop-k.seat c.loop-k.invariant (rw (← word) (omega (arith, c.loop-k-test.false, c.loop-k.auto.k-end, c.degree-k-end.ensures)))))
+    let there = (place_on c.at-word.new.seat.seen c.loop-k.seat.seen c.args.place c.loop-k.invariant.expands.sees (rw same c.requires.claim.1)).1 in
+    rw c.requires.board.1 (rw there (expands_all c.args.board.now c.at-word.new.seat.seen c.args.place (g.S.Space.successors c.args.space.now (word_at c.at-word.new.seat.seen c.args.place)) c.loop-k.k c.loop-k.seat c.loop-k.invariant.expands (rw (← word) (omega (arith, c.loop-k-test.false, c.loop-k.auto.k-end, c.degree-k-end.ensures)))))
 
 pub settle-requires-clause-verdict : goal.settle-requires-clause-verdict
 settle-requires-clause-verdict g c = let same = c.at-word.ensures.same in let word : c.at-word.result ≡ word_at c.at-word.new.seat.seen c.args.place = rw same c.at-word.ensures.word in
-    let there = (place_on c.at-word.new.seat.seen c.loop-k.seat.seen c.args.place c.loop-k.invariant.sees (rw same c.requires.claim.1)).1 in
+    let there = (place_on c.at-word.new.seat.seen c.loop-k.seat.seen c.args.place c.loop-k.invariant.expands.sees (rw same c.requires.claim.1)).1 in
     rw c.requires.board.1 (rw there (rw (← word) c.in-Ok.ensures.good))
 
 pub returns-in-Err-clause-sees : goal.returns-in-Err-clause-sees
-returns-in-Err-clause-sees g c = rw c.stop.ensures (subst (λ (s : Known). SeesOn s.seen c.loop-k.seat.seen) c.at-word.ensures.same c.loop-k.invariant.sees)
+returns-in-Err-clause-sees g c = rw c.stop.ensures (subst (λ (s : Known). SeesOn s.seen c.loop-k.seat.seen) c.at-word.ensures.same c.loop-k.invariant.expands.sees)
 
 pub returns-clause-sees : goal.returns-clause-sees
-returns-clause-sees g c = rw c.settle.ensures (subst (λ (s : Known). SeesOn s.seen c.loop-k.seat.seen) c.at-word.ensures.same c.loop-k.invariant.sees)
+returns-clause-sees g c = rw c.settle.ensures (subst (λ (s : Known). SeesOn s.seen c.loop-k.seat.seen) c.at-word.ensures.same c.loop-k.invariant.expands.sees)
 
 pub returns-in_err-put_in-clause-sees : goal.returns-in_err-put_in-clause-sees
-returns-in_err-put_in-clause-sees g c = subst (λ (s : Known). SeesOn s.seen c.put_in.new.seat.seen) c.at-word.ensures.same (sees_on_trans c.at-word.new.seat.seen c.loop-k.seat.seen c.put_in.new.seat.seen c.loop-k.invariant.sees c.put_in.ensures.sees)
+returns-in_err-put_in-clause-sees g c = subst (λ (s : Known). SeesOn s.seen c.put_in.new.seat.seen) c.at-word.ensures.same (sees_on_trans c.at-word.new.seat.seen c.loop-k.seat.seen c.put_in.new.seat.seen c.loop-k.invariant.expands.sees c.put_in.ensures.sees)
 
 pub returns-then-not-branch-clause-sees : goal.returns-then-not-branch-clause-sees
-returns-then-not-branch-clause-sees g c = subst (λ (s : Known). SeesOn s.seen c.put_in.new.seat.seen) c.at-word.ensures.same (sees_on_trans c.at-word.new.seat.seen c.loop-k.seat.seen c.put_in.new.seat.seen c.loop-k.invariant.sees c.put_in.ensures.sees)
+returns-then-not-branch-clause-sees g c = subst (λ (s : Known). SeesOn s.seen c.put_in.new.seat.seen) c.at-word.ensures.same (sees_on_trans c.at-word.new.seat.seen c.loop-k.seat.seen c.put_in.new.seat.seen c.loop-k.invariant.expands.sees c.put_in.ensures.sees)

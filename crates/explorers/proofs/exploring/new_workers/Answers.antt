@@ -1,5 +1,6 @@
-use Rattle.std.proofs.Common.{◌≡◌, length, arith, refl, sym, subst, ◌∙◌}
+use Rattle.std.proofs.Common.{◌≡◌, length, IfSome, arith, refl, sym, ap, subst, ◌∙◌}
 use Rattle.std.proofs.lemmas.List.Elements.{All-push, All-pop}
+use Rattle.explorers.specs.Met.{AreMet}
 use Rattle.explorers.specs.Ready.{IsIdle}
 use Rattle.explorers.proofs.exploring.new_workers.Goals as goal
 
@@ -10,9 +11,24 @@ loop-hand-preserved g c =
     let idle = c.loop-hand.invariant.idle in
     let seat : IsIdle b c.new.result.seat = subst (IsIdle b) (sym (c.new.ensures.seat ∙ c.split-seat.ensures.new)) (idle.0, refl, refl) in
     let scratch : own c.new.result.scratch = subst own (sym c.new.ensures.scratch) c.in_ok-scratch.ensures in
+    let met : AreMet c.new.result.met.words.keys c.new.result.met.counts c.new.result.seat.seen = rw c.new.ensures.met (c.new-met.ensures c.new.result.seat.seen) in
     record {
       idle = subst (IsIdle b) (sym c.split-seat.ensures.same) idle;
-      ready = rw c.in_ok-push.ensures.items (All-push (λ w. IsIdle b w.seat × own w.scratch) c.loop-hand.workers.items c.new.result c.loop-hand.invariant.ready (seat, scratch));
+      ready = rw c.in_ok-push.ensures.items (All-push (λ w. IsIdle b w.seat × own w.scratch × AreMet w.met.words.keys w.met.counts w.seat.seen) c.loop-hand.workers.items c.new.result c.loop-hand.invariant.ready (seat, scratch, met));
       ways = (All-pop (λ hand. length hand.ways ≡ c.len-count.result) c.loop-hand.hands.items c.pop.new.self.items c.pop.result c.pop.ensures.items c.loop-hand.invariant.ways).0;
       count = omega (arith, c.in-Some.ensures.cases, c.in_ok-push.ensures.len, c.loop-hand.invariant.count);
     }
+
+pub loop-hand-init : goal.loop-hand-init
+loop-hand-init g c = record {
+  idle = c.requires.idle;
+  ready = λ k d inside. absurd (omega (arith, inside, ap length c.new-workers.ensures.items));
+  ways = λ k d inside. omega (arith, c.requires.ways k d inside, c.len-count.ensures, c.args.hands.ok);
+  count = omega (arith, c.len-count.ensures, ap length c.new-workers.ensures.items, c.args.hands.ok);
+}
+
+pub new-tasks-requires-clause-ways : goal.new-tasks-requires-clause-ways
+new-tasks-requires-clause-ways g c =
+    let taken = All-pop (λ hand. length hand.ways ≡ c.len-count.result) c.loop-hand.hands.items c.pop.new.self.items c.pop.result c.pop.ensures.items c.loop-hand.invariant.ways in
+    let here : length c.in-Some.hand.ways ≡ c.len-count.result = subst (λ r. IfSome r (λ hand. length hand.ways ≡ c.len-count.result)) c.in-Some.is taken.1 in
+    omega (arith, here)
