@@ -12,6 +12,7 @@ pub struct Noise {
 }
 
 impl Noise {
+    /// The source of a seed.
     pub fn new(seed: u64) -> Noise {
         Noise {
             state: seed.wrapping_mul(0x9E37_79B9_7F4A_7C15),

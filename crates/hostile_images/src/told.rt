@@ -32,6 +32,7 @@ pub struct Told {
 }
 
 impl Told {
+    /// Nothing so far.
     pub fn new() -> Told {
         Told {
             digest: Sha1::new(),

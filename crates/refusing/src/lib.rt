@@ -63,6 +63,7 @@ pub struct Refusing<B: Allocator> {
 }
 
 impl<B: Allocator> Refusing<B> {
+    /// Over an allocator. It refuses nothing at first.
     pub fn new(inner: B) -> Refusing<B> {
         Refusing {
             inner,
@@ -70,6 +71,7 @@ impl<B: Allocator> Refusing<B> {
         }
     }
 
+    /// What counts its requests and says which are refused.
     pub fn gauge(&self) -> &Gauge {
         &self.gauge
     }
