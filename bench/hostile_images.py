@@ -9,8 +9,8 @@ Operation, Refused and REFUSAL_TEXTS. The images are those of crates/hostile_ima
 
 import argparse
 import hashlib
-import importlib.util
-import sys
+
+from reference import load
 
 TELLING = [0, 0, 0, 1, 1, 2, 2, 3, 4, 5, 10, 15, 0x44, 0x46, 0xC7, 0xC8]
 ROLES = ["InodeInit", "EntrySet", "EntryClear", "MapSet", "MapClear", "InitFile", "InitDir", "Ptr", "LinkUp", "LinkDown",
@@ -156,14 +156,6 @@ class Told:
         for change in changes:
             self.digest.update(changed.block(change.block))
         self.planned += 1
-
-
-def load(path):
-    spec = importlib.util.spec_from_file_location("reference", path)
-    module = importlib.util.module_from_spec(spec)
-    sys.modules["reference"] = module
-    spec.loader.exec_module(module)
-    return module
 
 
 def main():

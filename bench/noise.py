@@ -11,12 +11,13 @@ three have to be what it answers. Prints each mismatch, how often each answer ca
 import argparse
 import collections
 import concurrent.futures
-import importlib.util
 import io
 import random
 import re
 import subprocess
 import sys
+
+from reference import load
 
 SCRIPTS = [
     b"start\ncreate /a\n",
@@ -121,16 +122,6 @@ def case(seed, number):
     return kind.__name__, settings(chance), kind(chance)
 
 
-def load(path):
-    if path is None:
-        return None
-    spec = importlib.util.spec_from_file_location("reference", path)
-    module = importlib.util.module_from_spec(spec)
-    sys.modules["reference"] = module
-    spec.loader.exec_module(module)
-    return module
-
-
 def wanted(reference, words, script):
     """Status, standard output and standard error by the definitions."""
     out, err = io.BytesIO(), io.BytesIO()
@@ -167,7 +158,7 @@ def run_case(program, call, reference, number):
 def share(task):
     """The cases of one process."""
     program, call, numbers = task
-    reference = load(call.reference)
+    reference = load(call.reference) if call.reference else None
     return [(number,) + run_case(program, call, reference, number) for number in numbers]
 
 

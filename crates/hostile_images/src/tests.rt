@@ -2,7 +2,7 @@
 
 use crate::shapes::{Shape, image_of};
 use crate::told::{Counts, Told};
-use std::alloc::{AllocError, Global};
+use std::alloc::Global;
 use std::process::Abort;
 use std::test::Fail;
 
@@ -18,21 +18,13 @@ struct Row {
     digest: &'static str,
 }
 
-fn hex_of(alloc: Global, bytes: &[u8]) -> Result<String, AllocError> {
-    let mut hex = String::new(alloc);
-    for byte in bytes {
-        hex.push_str(format!(in alloc; "{byte:02x}")?.as_str())?;
-    }
-    Ok(hex)
-}
-
 /// All that is told of the images of a shape is what the reference program tells.
 fn expect_told(rt: &impl Abort, alloc: Global, shape: Shape, rows: &[Row]) -> Result<(), Fail> {
     for row in rows {
         let told = told_of(alloc, shape, row)?;
         assert_eq!(rt; told.counts, row.counts, "{} blocks", row.blocks);
-        let hex = hex_of(alloc, &told.digest.finalize())?;
-        assert!(rt; hex.as_str() == row.digest, "{} blocks", row.blocks);
+        let digest = hex::encode(alloc, told.digest.finalize())?;
+        assert!(rt; digest.as_str() == row.digest, "{} blocks", row.blocks);
     }
     Ok(())
 }

@@ -1,0 +1,70 @@
+#!/usr/bin/env python3
+"""Prints what a reference program answers to scripts of noise, as the digests that the tests of crates/hostile_input expect.
+
+hostile_scripts.py --reference FILE [--count N]
+
+FILE is a Python module with `program(words, input, out, err)`, which answers a command line by the definitions and gives the
+exit status. The scripts are those of crates/hostile_input, made by the same rules from the same seeds.
+"""
+
+import argparse
+import collections
+import hashlib
+import io
+
+from reference import load
+
+TELLING = b"start\ncreate /abd\nlinkmw \n# /A1\xff"
+LINES = [b"write /b\n", b"create /a\n", b"create /b\n", b"write /a\n", b"unlink /a\n", b"mkdir /d\n", b"create /d/x\n",
+         b"rmdir /d\n", b"link /a /d/y\n", b"rename /a /b\n", b"group A\n", b"end\n", b"depend B A\n", b"group B\n", b"# x\n",
+         b"create /c\n"]
+BASE = b"mkdir /d\ncreate /a\n"
+MODULES = ["async", "soft", "meta", "full"]
+
+
+class Noise:
+    def __init__(self, seed):
+        self.state = seed * 0x9E3779B97F4A7C15 % 2 ** 64
+
+    def byte(self):
+        self.state = (self.state * 6364136223846793005 + 1442695040888963407) % 2 ** 64
+        return self.state >> 56
+
+
+def any_bytes(noise, seed):
+    return bytes(noise.byte() for _ in range(seed * 7))
+
+
+def telling_bytes(noise, seed):
+    return bytes(TELLING[noise.byte() % 32] for _ in range(seed * 7))
+
+
+def known_lines(noise, seed):
+    lines = [BASE] if noise.byte() % 4 != 0 else []
+    start = noise.byte() % 3
+    for place in range(noise.byte() % 6):
+        if place == start:
+            lines.append(b"start\n")
+        lines.append(LINES[noise.byte() % 16])
+    return b"".join(lines)
+
+
+def main():
+    parser = argparse.ArgumentParser(usage=__doc__)
+    parser.add_argument("--reference", required=True)
+    parser.add_argument("--count", type=int, default=300)
+    call = parser.parse_args()
+    reference = load(call.reference)
+    for kind in (any_bytes, telling_bytes, known_lines):
+        digest, answers = hashlib.sha1(), collections.Counter()
+        for seed in range(call.count):
+            words = ["--module", MODULES[seed % 4], "--blocks", "24", "--journal", "12"]
+            out, err = io.BytesIO(), io.BytesIO()
+            status = reference.program(words, io.BytesIO(kind(Noise(seed), seed)), out, err)
+            digest.update(bytes([status]) + out.getvalue() + err.getvalue())
+            answers[status] += 1
+        print("%s: statuses %s digest %s" % (kind.__name__, sorted(answers.items()), digest.hexdigest()))
+
+
+if __name__ == "__main__":
+    main()
