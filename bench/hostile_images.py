@@ -11,6 +11,7 @@ import argparse
 import hashlib
 
 from reference import load
+from seeded import Noise
 
 TELLING = [0, 0, 0, 1, 1, 2, 2, 3, 4, 5, 10, 15, 0x44, 0x46, 0xC7, 0xC8]
 ROLES = ["InodeInit", "EntrySet", "EntryClear", "MapSet", "MapClear", "InitFile", "InitDir", "Ptr", "LinkUp", "LinkDown",
@@ -24,19 +25,8 @@ SIZES = [(16, 6), (64, 20), (128, 60)]
 SPELLED_A = bytes([1]) + b"a" + bytes(9)
 
 
-class Noise:
-    def __init__(self, seed):
-        self.state = seed * 0x9E3779B97F4A7C15 % 2 ** 64
-
-    def byte(self):
-        self.state = (self.state * 6364136223846793005 + 1442695040888963407) % 2 ** 64
-        return self.state >> 56
-
-    def below(self, bound):
-        return self.byte() % bound
-
-    def telling(self):
-        return TELLING[self.below(16)]
+def telling(noise):
+    return TELLING[noise.below(16)]
 
 
 def operation(reference, text):
@@ -46,14 +36,14 @@ def operation(reference, text):
 
 def fill(image, noise, few):
     for block in range(image.blocks):
-        image.put(block, 0, bytes(noise.telling() if few else noise.byte() for _ in range(128)))
+        image.put(block, 0, bytes(telling(noise) if few else noise.byte() for _ in range(128)))
 
 
 def damage(image, noise):
     for _ in range(10):
         block = 1 + noise.below(3) if noise.below(2) == 0 else image.journal + 4 + noise.below(4)
         offset = noise.below(64)
-        value = noise.telling()
+        value = telling(noise)
         if block < image.blocks:
             image.put(block, offset, bytes([value]))
 
@@ -66,7 +56,7 @@ def header(noise, journal, turn, count):
     result = bytearray([mark, turn, count] + (targets[first:] + [0, 0, 0])[:3])
     if noise.below(6) == 0:
         place = noise.below(6)
-        result[place] = noise.telling()
+        result[place] = telling(noise)
     return bytes(result)
 
 

@@ -13,6 +13,7 @@ import hashlib
 import io
 
 from reference import load
+from seeded import Noise
 
 TELLING = b"start\ncreate /abd\nlinkmw \n# /A1\xff"
 LINES = [b"write /b\n", b"create /a\n", b"create /b\n", b"write /a\n", b"unlink /a\n", b"mkdir /d\n", b"create /d/x\n",
@@ -22,30 +23,21 @@ BASE = b"mkdir /d\ncreate /a\n"
 MODULES = ["async", "soft", "meta", "full"]
 
 
-class Noise:
-    def __init__(self, seed):
-        self.state = seed * 0x9E3779B97F4A7C15 % 2 ** 64
-
-    def byte(self):
-        self.state = (self.state * 6364136223846793005 + 1442695040888963407) % 2 ** 64
-        return self.state >> 56
-
-
 def any_bytes(noise, seed):
     return bytes(noise.byte() for _ in range(seed * 7))
 
 
 def telling_bytes(noise, seed):
-    return bytes(TELLING[noise.byte() % 32] for _ in range(seed * 7))
+    return bytes(TELLING[noise.below(32)] for _ in range(seed * 7))
 
 
 def known_lines(noise, seed):
-    lines = [BASE] if noise.byte() % 4 != 0 else []
-    start = noise.byte() % 3
-    for place in range(noise.byte() % 6):
+    lines = [BASE] if noise.below(4) != 0 else []
+    start = noise.below(3)
+    for place in range(noise.below(6)):
         if place == start:
             lines.append(b"start\n")
-        lines.append(LINES[noise.byte() % 16])
+        lines.append(LINES[noise.below(16)])
     return b"".join(lines)
 
 
