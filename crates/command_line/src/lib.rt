@@ -137,7 +137,7 @@ fn module_of(matches: &ArgMatches<'_>) -> Module {
 
 /// Reads the words of a command line, which stand without the program's name.
 ///
-/// A fault of the command line, a request for help and want of memory are `clap`'s errors.
+/// A fault of the command line, a request for help and out of memory are `clap`'s errors.
 pub fn settings_of<'a>(heap: Global, words: &'a [&'a str]) -> Result<Call<'a>, Error>
     ensures { IfOk result IsInRanges }
 {

@@ -12,7 +12,7 @@ use std::alloc::{AllocError, Allocator};
 
 /// The disk that a set of patches leaves: the base with the patches put in ascending order of their ids.
 ///
-/// The patches change blocks of the base, and the set has ids of the graph. It fails only for want of memory.
+/// The patches change blocks of the base, and the set has ids of the graph. It fails only when out of memory.
 pub fn build<A: Allocator + Copy>(
     base: &Image<A>,
     graph: &Graph<A>,

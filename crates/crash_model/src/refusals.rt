@@ -51,7 +51,7 @@ impl FsFault {
     }
 }
 
-/// Why a step is refused, and its line, from 1; or want of memory.
+/// Why a step is refused, and its line, from 1; or out of memory.
 #[derive(Clone, Copy, Debug, PartialEq, Eq, Error)]
 pub enum TraceFault {
     #[error("2 too many patches")]
@@ -84,7 +84,7 @@ pub enum TraceFault {
     OutOfMemory,
 }
 
-/// Why a script is refused, and the first refused line, from 1; or want of memory.
+/// Why a script is refused, and the first refused line, from 1; or out of memory.
 ///
 /// A script without a start line is refused at the number of its lines plus 1.
 #[derive(Clone, Copy, Debug, PartialEq, Eq, Error)]

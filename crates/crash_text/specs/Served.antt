@@ -16,7 +16,7 @@ abbrev pub IsCut : List ℕ → Settings → Option (List ℕ) → Option (List 
 IsCut bytes settings before behind =
     (front : List ℕ) × (rest : List ℕ) × (failing : ℕ) × IsAnswer bytes settings (Reported (front ++ rest) failing) × Appends before behind front
 
--- a refusal that is not a device's, nor of a script too long, nor for want of memory, is the script's answer
+-- a refusal that is not a device's, nor of a script too long, nor out of memory, is the script's answer
 abbrev pub IsRefusedBy : List ℕ → Settings → RunFault → Type 0
 IsRefusedBy bytes settings fault =
     (fault ≢ CannotRead) → (fault ≢ CannotWrite) → (fault ≢ ScriptTooLong) → (fault ≢ OutOfMemory) → IsAnswer bytes settings (Refused fault)

@@ -31,7 +31,7 @@ pub struct Outcome<A: Allocator> {
 
 /// Answers a script: reads it, builds the base, traces the rest, explores what a crash can leave, and reports.
 ///
-/// For every number of workers, 1 to 16, and every schedule, an answer other than want of memory is the one defined for the
+/// For every number of workers, 1 to 16, and every schedule, an answer other than out of memory is the one defined for the
 /// script's bytes and the settings, without threads. `heap` is what JSON is made with. The gate is told of each claim of a
 /// worker. Under the full journal no set fails, whatever the script.
 pub fn run<R, A, G>(
@@ -117,7 +117,7 @@ where
     })
 }
 
-/// The report on the failing sets, in the form that the settings ask for. It fails only for want of memory.
+/// The report on the failing sets, in the form that the settings ask for. It fails only when out of memory.
 fn report_of<A: Allocator + Copy>(
     heap: Global,
     alloc: A,

@@ -15,7 +15,7 @@ use std::alloc::{AllocError, Allocator};
 use std::sync::Wait;
 
 /// Expands the entry of a task if the seat has seen its place and can claim it. `false` where more words than the limit
-/// are reached; the error is want of memory.
+/// are reached; the error is out of memory.
 pub(crate) fn take<R: Wait, S: Space, G: Gate, A: Allocator + Copy>(
     rt: &R,
     board: &Board<S, A>,

@@ -23,7 +23,7 @@ use std::thread::Threads;
 
 /// Explores a space from its initial word, with 1 to 16 workers over one board.
 ///
-/// For every number of workers and every schedule, an answer other than want of memory is the one that is defined
+/// For every number of workers and every schedule, an answer other than out of memory is the one that is defined
 /// without threads: the number of the words that are reached and those of them that are not good, in canonical order, or
 /// that more words than the limit are reached.
 ///

@@ -17,7 +17,7 @@ use std::sync::Wait;
 const SHARDS: u8 = 13;
 
 /// Looks at each shard once, and expands what it claims there. `false` where more words than the limit are reached; the
-/// error is want of memory.
+/// error is out of memory.
 pub(crate) fn search<R: Wait, S: Space, G: Gate, A: Allocator + Copy>(
     rt: &R,
     board: &Board<S, A>,

@@ -105,7 +105,7 @@ pub(crate) fn work<R: Wait, S: Space, G: Gate, A: Allocator + Copy>(
 }
 
 /// Takes the newest of its own tasks, else the oldest of another worker's, else notes an empty round. `false` where more
-/// words than the limit are reached; the error is want of memory.
+/// words than the limit are reached; the error is out of memory.
 fn turn<R: Wait, S: Space, G: Gate, A: Allocator + Copy>(
     rt: &R,
     board: &Board<S, A>,

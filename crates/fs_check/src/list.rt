@@ -13,7 +13,7 @@ use std::alloc::{AllocError, Allocator};
 
 /// The faults of an image: by kind, in the order of [`Fault`]'s variants, and those of one kind by place.
 ///
-/// It fails only for want of memory. An image is clean exactly where the list is empty.
+/// It fails only when out of memory. An image is clean exactly where the list is empty.
 #[tactic(auto, unfolding(crash_model::specs::Faults::faults))]
 pub fn faults<A: Allocator + Copy>(alloc: A, image: &Image<A>) -> Result<Vec<Fault, A>, AllocError>
     ensures { IfOk result (λ found. found.items ≡ faults image.now) }

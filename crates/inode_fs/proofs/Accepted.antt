@@ -2,7 +2,7 @@
 use Rattle.std.proofs.Common.{◌≡◌, ℕ, ◌+◌, ◌-◌, ◌<◌, List, [], ◌∷◌, false, Option, Some, None, Ok, ◌∙◌, ap}
 use Rattle.std.specs.Prelude.{unwrap_or, option_to_list, nat_lt, if◌then◌else◌}
 use Rattle.std.proofs.lemmas.Bool.{eqb-true, leb-false}
-use Rattle.sound_tables.proofs.Answered.{then_ok-ok, at_entry-ok, unless-ok, answer-ok, some-found, none-found, test-holds}
+use Rattle.soundness_laws.proofs.Answered.{then_ok-ok, at_entry-ok, unless-ok, answer-ok, some-found, none-found, test-holds}
 use Rattle.crash_model.specs.Disk.{Disk}
 use Rattle.crash_model.specs.Layout.{kind_of, links_of, target_of}
 use Rattle.crash_model.specs.Plan.{entry_named, walked, free_inode, free_block, free_entry, free_slot, has_entries, relinked, inode_init, inode_free, link_count, pointer_set, entry_set, entry_clear, map_set, map_clear_at, map_clears, init_block, plan_of}

@@ -9,22 +9,22 @@ use Rattle.crash_model.specs.Plan.{spelled, inode_init, inode_free, map_set, map
 use Rattle.crash_model.specs.declared.names.Path.{Path}
 use Rattle.crash_model.specs.declared.plans.Change.{Change}
 use Rattle.crash_model.specs.declared.plans.Role.TheVariants.{InitFile, InitDir, LinkUp, LinkDown}
-use Rattle.sound_tables.specs.Tables.{Tables, Place, tables_of, changed, with_inode, with_links, with_pointer, with_used, with_mark, with_entry, with_place, created, grown, linked, unlinked, removed, made, HasPointer, Sound}
-use Rattle.sound_tables.specs.Tables.Place.{Free, Leads}
-use Rattle.sound_tables.specs.Tables.Mark.{FileOf, DirectoryOf}
-use Rattle.sound_tables.proofs.Sums.{changed-same, changed-other}
-use Rattle.sound_tables.proofs.Names.{left_back}
-use Rattle.sound_tables.proofs.OnTables.{place-no_directory, place-no_block}
-use Rattle.sound_tables.proofs.ByTables.{kind-at, pointer-at, entry-at, entry-bytes}
-use Rattle.sound_tables.proofs.Views.{links-at, entry-is}
-use Rattle.sound_tables.proofs.Searches.{first_below-is_none}
-use Rattle.sound_tables.proofs.Answered.{none-found}
-use Rattle.sound_tables.proofs.FromTables.{area}
-use Rattle.sound_tables.proofs.Inodes.{not-fresh}
-use Rattle.sound_tables.proofs.Blocks.{FreesBlocks}
-use Rattle.sound_tables.proofs.Steps.{Stands, init-makes, free-makes, links-makes, pointer-makes, pointer-kind, empty-place, map_set-makes, block-makes, set-makes, clear-makes}
-use Rattle.sound_tables.proofs.Kept.{CanCreate, CanMake, CanGrow, CanLink, CanUnlink, CanRemove, file-leaf}
-use Rattle.sound_tables.proofs.Meant.{renamed}
+use Rattle.soundness_laws.specs.Tables.{Tables, Place, tables_of, changed, with_inode, with_links, with_pointer, with_used, with_mark, with_entry, with_place, created, grown, linked, unlinked, removed, made, HasPointer, Sound}
+use Rattle.soundness_laws.specs.Tables.Place.{Free, Leads}
+use Rattle.soundness_laws.specs.Tables.Mark.{FileOf, DirectoryOf}
+use Rattle.soundness_laws.proofs.Sums.{changed-same, changed-other}
+use Rattle.soundness_laws.proofs.Names.{left_back}
+use Rattle.soundness_laws.proofs.OnTables.{place-no_directory, place-no_block}
+use Rattle.soundness_laws.proofs.ByTables.{kind-at, pointer-at, entry-at, entry-bytes}
+use Rattle.soundness_laws.proofs.Views.{links-at, entry-is}
+use Rattle.soundness_laws.proofs.Searches.{first_below-is_none}
+use Rattle.soundness_laws.proofs.Answered.{none-found}
+use Rattle.soundness_laws.proofs.FromTables.{area}
+use Rattle.soundness_laws.proofs.Inodes.{not-fresh}
+use Rattle.soundness_laws.proofs.Blocks.{FreesBlocks}
+use Rattle.soundness_laws.proofs.Steps.{Stands, init-makes, free-makes, links-makes, pointer-makes, pointer-kind, empty-place, map_set-makes, block-makes, set-makes, clear-makes}
+use Rattle.soundness_laws.proofs.Kept.{CanCreate, CanMake, CanGrow, CanLink, CanUnlink, CanRemove, file-leaf}
+use Rattle.soundness_laws.proofs.Meant.{renamed}
 use Rattle.inode_fs.proofs.Accepted.{CreateFound, WriteFound, RelinkFound, LinkFound, RenameFound, UnlinkFound, MkdirFound, RmdirFound}
 use Rattle.inode_fs.proofs.Searched.{Walked, walk-found, fresh-found, block-found, slot-found, named-found, place-found}
 use Rattle.inode_fs.proofs.Clears.{clears-make, clears-free}

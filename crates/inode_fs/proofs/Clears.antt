@@ -7,14 +7,14 @@ use Rattle.crash_model.specs.Lists.{some_below, when}
 use Rattle.crash_model.specs.Layout.{pointer_of, is_data}
 use Rattle.crash_model.specs.Plan.{map_clear, map_clear_at, applied}
 use Rattle.crash_model.specs.declared.plans.Change.{Change}
-use Rattle.sound_tables.specs.Tables.{Tables, tables_of, changed, HasPointer, Sound}
-use Rattle.sound_tables.proofs.Sums.{changed-same, changed-other}
-use Rattle.sound_tables.proofs.Puts.{data-block}
-use Rattle.sound_tables.proofs.ByTables.{pointer-at, live-at}
-use Rattle.sound_tables.proofs.Steps.{map_clear-makes}
-use Rattle.sound_tables.proofs.Blocks.{FreesBlocks}
-use Rattle.sound_tables.proofs.FromTables.{area}
-use Rattle.sound_tables.proofs.ToTables.{pointer-bytes}
+use Rattle.soundness_laws.specs.Tables.{Tables, tables_of, changed, HasPointer, Sound}
+use Rattle.soundness_laws.proofs.Sums.{changed-same, changed-other}
+use Rattle.soundness_laws.proofs.Puts.{data-block}
+use Rattle.soundness_laws.proofs.ByTables.{pointer-at, live-at}
+use Rattle.soundness_laws.proofs.Steps.{map_clear-makes}
+use Rattle.soundness_laws.proofs.Blocks.{FreesBlocks}
+use Rattle.soundness_laws.proofs.FromTables.{area}
+use Rattle.soundness_laws.proofs.ToTables.{pointer-bytes}
 use Rattle.inode_fs.proofs.Lands.{applied-size}
 
 pub applied-append : (d : Disk) (cs es : List Change) → applied d (cs ++ es) ≡ applied (applied d cs) es

@@ -16,9 +16,9 @@ use Rattle.crash_model.specs.declared.plans.Change.{Change}
 use Rattle.crash_model.specs.declared.plans.Role.{Role}
 use Rattle.crash_model.specs.declared.plans.Role.TheVariants.{InodeInit, InodeFree, InitFile, InitDir, LinkUp, LinkDown, EntrySet, EntryClear, Ptr, MapSet, MapClear}
 use Rattle.crash_model.proofs.Bytes.{length-overwrite}
-use Rattle.sound_tables.proofs.Searches.{first_below-is_some}
-use Rattle.sound_tables.proofs.OnTables.{counts-parts}
-use Rattle.sound_tables.proofs.Puts.{data-block, range-outside}
+use Rattle.soundness_laws.proofs.Searches.{first_below-is_some}
+use Rattle.soundness_laws.proofs.OnTables.{counts-parts}
+use Rattle.soundness_laws.proofs.Puts.{data-block, range-outside}
 use Rattle.inode_fs.specs.Inside.{LiesInside, HasSameJournal, GivesName}
 use Rattle.inode_fs.proofs.Accepted.{CreateFound, create-ok, WriteFound, write-ok, LinkFound, RenameFound, link-ok, rename-ok, UnlinkFound, unlink-ok, MkdirFound, mkdir-ok, RmdirFound, rmdir-ok}
 

@@ -14,15 +14,15 @@ use Rattle.crash_model.specs.declared.names.Op.{Op}
 use Rattle.crash_model.specs.declared.names.Path.{Path}
 use Rattle.crash_model.specs.declared.names.Op.TheVariants.{Create, Write, Link, Unlink, Rename, Mkdir, Rmdir}
 use Rattle.crash_model.specs.declared.plans.Change.{Change}
-use Rattle.sound_tables.specs.Tables.{Tables, tables_of, view, SameView, Sound}
-use Rattle.sound_tables.specs.Tables.Place.{Leads}
-use Rattle.sound_tables.proofs.Answered.{then_ok-ok}
-use Rattle.sound_tables.proofs.Becomes.{same-self, same-all_of, becomes-same}
-use Rattle.sound_tables.proofs.ByTables.{kind-at}
-use Rattle.sound_tables.proofs.Views.{same-view}
-use Rattle.sound_tables.proofs.ToTables.{sound-tables}
-use Rattle.sound_tables.proofs.Kept.{linked-sound}
-use Rattle.sound_tables.proofs.Meant.{created-becomes, grown-becomes, linked-becomes, unlinked-becomes, removed-becomes, renamed-becomes, made-becomes}
+use Rattle.soundness_laws.specs.Tables.{Tables, tables_of, view, SameView, Sound}
+use Rattle.soundness_laws.specs.Tables.Place.{Leads}
+use Rattle.soundness_laws.proofs.Answered.{then_ok-ok}
+use Rattle.soundness_laws.proofs.Becomes.{same-self, same-all_of, becomes-same}
+use Rattle.soundness_laws.proofs.ByTables.{kind-at}
+use Rattle.soundness_laws.proofs.Views.{same-view}
+use Rattle.soundness_laws.proofs.ToTables.{sound-tables}
+use Rattle.soundness_laws.proofs.Kept.{linked-sound}
+use Rattle.soundness_laws.proofs.Meant.{created-becomes, grown-becomes, linked-becomes, unlinked-becomes, removed-becomes, renamed-becomes, made-becomes}
 use Rattle.inode_fs.specs.Inside.{GivesName}
 use Rattle.inode_fs.proofs.Accepted.{create-ok, write-ok, link-ok, rename-ok, unlink-ok, mkdir-ok, rmdir-ok}
 use Rattle.inode_fs.proofs.Searched.{Walked, walk-found, fresh-found, fresh-lowest, block-found, slot-found, named-found}

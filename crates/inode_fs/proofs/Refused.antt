@@ -14,9 +14,9 @@ use Rattle.crash_model.specs.declared.names.Op.{Op}
 use Rattle.crash_model.specs.declared.names.Path.{Path}
 use Rattle.crash_model.specs.declared.names.Op.TheVariants.{Create, Write, Link, Unlink, Rename, Mkdir, Rmdir}
 use Rattle.crash_model.specs.declared.plans.Change.{Change}
-use Rattle.sound_tables.specs.Tables.{tables_of, Sound}
-use Rattle.sound_tables.proofs.ByTables.{kind-at}
-use Rattle.sound_tables.proofs.ToTables.{sound-tables}
+use Rattle.soundness_laws.specs.Tables.{tables_of, Sound}
+use Rattle.soundness_laws.proofs.ByTables.{kind-at}
+use Rattle.soundness_laws.proofs.ToTables.{sound-tables}
 use Rattle.inode_fs.proofs.Accepted.{link_changes, rename_changes}
 use Rattle.inode_fs.proofs.Searched.{Walked, walk-found, NamedEntry, named-found}
 use Rattle.inode_fs.proofs.Means.{kind-of, name-of, walks, root-walked}

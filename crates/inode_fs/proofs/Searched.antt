@@ -7,14 +7,14 @@ use Rattle.crash_model.specs.Disk.{Disk}
 use Rattle.crash_model.specs.Names.{IsName}
 use Rattle.crash_model.specs.Layout.{kind_of, pointer_of, map_of, is_data, is_live, is_entry, target_of, counts, entry_of, spelling_of}
 use Rattle.crash_model.specs.Plan.{spelled, is_named, entry_named, walked, is_free_entry, free_entry, has_no_kind, free_inode, is_free_block, free_block, is_free_slot, free_slot}
-use Rattle.sound_tables.specs.Tables.{tables_of, place_of, Sound}
-use Rattle.sound_tables.specs.Tables.Place.{Free, Leads}
-use Rattle.sound_tables.proofs.Searches.{first_below-is_none, first_below-is_some}
-use Rattle.sound_tables.proofs.Puts.{data-block}
-use Rattle.sound_tables.proofs.ByTables.{kind-at, pointer-at, entry-at, live-at, EntryBytes, entry-bytes, walked-is_ok}
-use Rattle.sound_tables.proofs.Views.{used-at, place-leads, entry-is}
-use Rattle.sound_tables.proofs.Inodes.{IsFresh}
-use Rattle.sound_tables.proofs.Kept.{IsPlace}
+use Rattle.soundness_laws.specs.Tables.{tables_of, place_of, Sound}
+use Rattle.soundness_laws.specs.Tables.Place.{Free, Leads}
+use Rattle.soundness_laws.proofs.Searches.{first_below-is_none, first_below-is_some}
+use Rattle.soundness_laws.proofs.Puts.{data-block}
+use Rattle.soundness_laws.proofs.ByTables.{kind-at, pointer-at, entry-at, live-at, EntryBytes, entry-bytes, walked-is_ok}
+use Rattle.soundness_laws.proofs.Views.{used-at, place-leads, entry-is}
+use Rattle.soundness_laws.proofs.Inodes.{IsFresh}
+use Rattle.soundness_laws.proofs.Kept.{IsPlace}
 
 -- ---- what is free
 

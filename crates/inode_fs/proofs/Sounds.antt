@@ -8,14 +8,14 @@ use Rattle.crash_model.specs.declared.names.Op.{Op}
 use Rattle.crash_model.specs.declared.names.Path.{Path}
 use Rattle.crash_model.specs.declared.names.Op.TheVariants.{Create, Write, Link, Unlink, Rename, Mkdir, Rmdir}
 use Rattle.crash_model.specs.declared.plans.Change.{Change}
-use Rattle.sound_tables.specs.Tables.{Tables, tables_of, linked, Sound}
-use Rattle.sound_tables.specs.Tables.Place.{Leads}
-use Rattle.sound_tables.proofs.Sums.{changed-same}
-use Rattle.sound_tables.proofs.Names.{entry_kept}
-use Rattle.sound_tables.proofs.ToTables.{sound-tables}
-use Rattle.sound_tables.proofs.FromTables.{tables-sound}
-use Rattle.sound_tables.proofs.Kept.{CanLink, created-sound, made-sound, grown-sound, linked-sound, unlinked-sound, removed-sound}
-use Rattle.sound_tables.proofs.Meant.{renamed}
+use Rattle.soundness_laws.specs.Tables.{Tables, tables_of, linked, Sound}
+use Rattle.soundness_laws.specs.Tables.Place.{Leads}
+use Rattle.soundness_laws.proofs.Sums.{changed-same}
+use Rattle.soundness_laws.proofs.Names.{entry_kept}
+use Rattle.soundness_laws.proofs.ToTables.{sound-tables}
+use Rattle.soundness_laws.proofs.FromTables.{tables-sound}
+use Rattle.soundness_laws.proofs.Kept.{CanLink, created-sound, made-sound, grown-sound, linked-sound, unlinked-sound, removed-sound}
+use Rattle.soundness_laws.proofs.Meant.{renamed}
 use Rattle.inode_fs.specs.Inside.{GivesName}
 use Rattle.inode_fs.proofs.Accepted.{create-ok, write-ok, RelinkFound, link-ok, rename-ok, unlink-ok, mkdir-ok, rmdir-ok}
 use Rattle.inode_fs.proofs.Searched.{walk-found, named-found}

@@ -9,14 +9,14 @@ use Rattle.crash_model.specs.Lists.{first_below}
 use Rattle.crash_model.specs.Plan.{spelled, entry_named, has_no_kind, free_inode, is_free_block, free_block, is_free_entry, free_entry, is_free_slot, free_slot, is_full_dir, has_entries}
 use Rattle.crash_model.specs.View.{view_of}
 use Rattle.crash_model.specs.Meaning.{LeadsTo, IsKind, IsFull, NoInodeLeft, NoBlockLeft, IsFreeSlot}
-use Rattle.sound_tables.specs.Tables.{tables_of, Sound}
-use Rattle.sound_tables.specs.Tables.Place.{Leads}
-use Rattle.sound_tables.proofs.Searches.{first_below-is_none, first_below-is_some}
-use Rattle.sound_tables.proofs.Pigeons.{each-taken}
-use Rattle.sound_tables.proofs.ByTables.{kind-at, pointer-at, entry-bytes, counts-by_tables}
-use Rattle.sound_tables.proofs.Views.{links-at, used-at, entry-is, same-view}
-use Rattle.sound_tables.proofs.FromTables.{entry-in, area}
-use Rattle.sound_tables.proofs.Meant.{spelled-injective}
+use Rattle.soundness_laws.specs.Tables.{tables_of, Sound}
+use Rattle.soundness_laws.specs.Tables.Place.{Leads}
+use Rattle.soundness_laws.proofs.Searches.{first_below-is_none, first_below-is_some}
+use Rattle.soundness_laws.proofs.Pigeons.{each-taken}
+use Rattle.soundness_laws.proofs.ByTables.{kind-at, pointer-at, entry-bytes, counts-by_tables}
+use Rattle.soundness_laws.proofs.Views.{links-at, used-at, entry-is, same-view}
+use Rattle.soundness_laws.proofs.FromTables.{entry-in, area}
+use Rattle.soundness_laws.proofs.Meant.{spelled-injective}
 use Rattle.inode_fs.proofs.Searched.{Walked, fresh-found, block-found, slot-found, named-found, absent-found}
 use Rattle.inode_fs.proofs.Means.{name-of, kind-of}
 

@@ -11,7 +11,7 @@ use Rattle.crash_model.specs.declared.steps.Module.{Module}
 use Rattle.crash_model.specs.declared.steps.Step.{Step}
 use Rattle.crash_model.specs.declared.names.Op.{Op}
 use Rattle.inode_fs.specs.Inside.{GivesName}
-use Rattle.full_journal.specs.Full.{ops_at, ops_of}
+use Rattle.full_journal_laws.specs.Full.{ops_at, ops_of}
 use Rattle.order_modules.specs.Tracer.{Trace, Moves}
 
 then_then : (kind : Module) (ys : List Step) (r : Result Tracing TraceFault) (f g : Tracing → Result Tracing TraceFault) → ((next : Tracing) → f next ≡ then_trace (g next) (λ end. traced kind end ys))

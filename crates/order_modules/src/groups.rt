@@ -6,7 +6,7 @@ ghost use Rattle.crash_model.specs.Trace.{step as step_of};
 ghost use Rattle.crash_model.specs.declared.steps.Act.TheVariants.{Group, End, Depend};
 ghost use Rattle.crash_model.specs.declared.refusals.TraceFault.TheVariants as fault;
 ghost use Rattle.inode_fs.specs.Inside.{GivesName};
-ghost use Rattle.full_journal.specs.Full.{ops_at};
+ghost use Rattle.full_journal_laws.specs.Full.{ops_at};
 ghost use Rattle.order_modules.specs.Tracer.{Moves};
 
 use crate::tracer::Tracer;

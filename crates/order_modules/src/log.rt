@@ -102,7 +102,7 @@ impl<'a, A: Allocator + Copy> PatchLog<'a, A> {
     /// Adds a patch: new bytes from byte `offset` of a block on.
     ///
     /// It waits for the patches that it overlaps, and for those that its label says. Its undo data are the bytes
-    /// before it. It fails only for want of memory, and then the log is as it was.
+    /// before it. It fails only when out of memory, and then the log is as it was.
     pub fn emit(
         &mut self,
         label: Label<'a>,

@@ -8,7 +8,7 @@ ghost use Rattle.crash_model.specs.declared.refusals.TraceFault.TheVariants as f
 ghost use Rattle.crash_model.specs.Sound.{IsSound, HasZeroJournal};
 ghost use Rattle.crash_model.specs.declared.steps.Module.TheVariants.{Full};
 ghost use Rattle.inode_fs.specs.Inside.{LiesInside, GivesName};
-ghost use Rattle.full_journal.specs.Full.{ops_of, IsFullSafe};
+ghost use Rattle.full_journal_laws.specs.Full.{ops_of, IsFullSafe};
 ghost use Rattle.order_modules.specs.Tracer.{Moves, IsOrdered, IsJournaled};
 
 use crate::log::PatchLog;
@@ -30,7 +30,7 @@ use std::marker::Model;
 /// the patches of groups by the script's `depend` lines, and on what the ordering module says. A step is refused by
 /// the operation itself, by a full journal, by too many patches (the graph holds 124), or by the rules of groups: a
 /// group is opened once and only while none is open, `depend b a` takes an ended group a and a group b, not a, that
-/// has no patch. It fails for want of memory too.
+/// has no patch. It fails when out of memory too.
 ///
 /// Under the full journal, from a sound image whose journal is zero, replay recovers from every crash: whatever closed
 /// set of the patches is on disk, replay leaves a sound image that is, outside the journal, the image after the first

@@ -157,7 +157,7 @@ impl<A: Allocator + Copy> Graph<A> {
     /// The set's ids of the graph in ascending order, cut into longest runs of one block.
     ///
     /// For a closed set the writes, one after another, are a run of the disk from nothing to that set. It fails
-    /// only for want of memory.
+    /// only when out of memory.
     pub fn writes_to(&self, set: u128) -> Result<Vec<BlockWrite, A>, AllocError>
         ensures runs { IfOk result (λ writes. AreRuns (homes_of self.now) set writes.items) }
         ensures leads { IfOk result (λ writes. IsClosed (deps_of self.now) set → LeadTo (deps_of self.now) (homes_of self.now) (events_of writes.items) set) }

@@ -35,7 +35,7 @@ pub fn is_below(set: u128, n: usize) -> bool
     set >> n == 0
 }
 
-/// The ids below `n` of a set, in ascending order. It fails only for want of memory.
+/// The ids below `n` of a set, in ascending order. It fails only when out of memory.
 pub fn ids_of<A: Allocator>(alloc: A, n: usize, set: u128) -> Result<Vec<usize, A>, AllocError>
     requires { n ≤ 128 }
     ensures { IfOk result (λ ids. ids.items ≡ ids_of n set) }

@@ -21,7 +21,7 @@ pub struct Explored<A: Allocator> {
 /// Explores a space from its initial word.
 ///
 /// It answers that there are too many words where a further one is found and as many as the limit are known
-/// already. Its other error is want of memory, its own or the space's.
+/// already. Its other error is out of memory, its own or the space's.
 pub fn explore_plain<A: Allocator + Copy, S: Space>(
     alloc: A,
     space: &S,

@@ -20,7 +20,7 @@ use std::alloc::{AllocError, Allocator, Global};
 ///
 /// `base` is the image that the traced steps began on, `graph` has their patches, which change blocks of it, and
 /// `found` the sets of its ids to report. JSON takes its memory from `heap`, and sections take theirs from `alloc`.
-/// It fails only for want of memory.
+/// It fails only when out of memory.
 pub fn report_json<A: Allocator + Copy>(
     heap: Global,
     alloc: A,

@@ -26,7 +26,7 @@ impl<A: Allocator + Copy> Section<A> {
 
     /// What is told of a set of the graph's ids, whose patches change blocks of the base.
     ///
-    /// It fails only for want of memory.
+    /// It fails only when out of memory.
     pub fn of_set(
         alloc: A,
         base: &Image<A>,

@@ -17,7 +17,7 @@ use std::alloc::{AllocError, Allocator};
 /// for each block write that leads to it and one for each fault of its replayed image.
 ///
 /// `base` is the image that the traced steps began on, `graph` has their patches, which change blocks of it, and
-/// `found` the sets of its ids to report. It fails only for want of memory.
+/// `found` the sets of its ids to report. It fails only when out of memory.
 pub fn report_text<A: Allocator + Copy>(
     alloc: A,
     base: &Image<A>,

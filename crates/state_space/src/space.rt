@@ -25,7 +25,7 @@ pub trait Space {
     fn start(&self) -> u128
         ensures { result ≡ initial self.now };
 
-    /// Room for `judge`. It fails only for want of memory.
+    /// Room for `judge`. It fails only when out of memory.
     fn scratch(&self) -> Result<Self::Scratch, AllocError>
         ensures { IfOk result (is_own self.now) };
 
@@ -40,7 +40,7 @@ pub trait Space {
         requires below { k < length (successors self.now word) }
         ensures { result ≡ slice_index (successors self.now word) k };
 
-    /// Whether a word is good, whatever words the scratch judged before. It fails only for want of memory.
+    /// Whether a word is good, whatever words the scratch judged before. It fails only when out of memory.
     fn judge(&self, scratch: &mut Self::Scratch, word: u128) -> Result<bool, AllocError>
         requires lawful { is_lawful self.now word }
         requires own { is_own self.now scratch.old }

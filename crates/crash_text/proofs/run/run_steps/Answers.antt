@@ -2,7 +2,7 @@ use Rattle.std.proofs.Common.{◌≡◌, ◌∙◌}
 use Rattle.std.specs.Prelude.{string_bytes}
 use Rattle.std.proofs.lemmas.Result.{IfOk-weaker}
 use Rattle.crash_model.specs.Answer.{IsGraphAnswer, Reported}
-use Rattle.full_journal.proofs.Failing.{none-failing, zero-kept}
+use Rattle.full_journal_laws.proofs.Failing.{none-failing, zero-kept}
 use Rattle.crash_text.proofs.run.run_steps.Goals as goal
 
 pub returns-clause-full : goal.returns-clause-full

@@ -4,7 +4,7 @@ use Rattle.crash_model.specs.Disk.{Disk}
 use Rattle.crash_model.specs.Trace.{begun, traced, IsGraphOf}
 use Rattle.crash_model.specs.declared.steps.Module.{Module}
 use Rattle.crash_model.specs.declared.steps.Module.TheVariants.{Full}
-use Rattle.full_journal.proofs.Final.{recovered}
+use Rattle.full_journal_laws.proofs.Final.{recovered}
 use Rattle.order_modules.proofs.Steps.{step_taken, step_refused, traced_end, traced_names}
 use Rattle.order_modules.proofs.tracer.trace.Goals as goal
 

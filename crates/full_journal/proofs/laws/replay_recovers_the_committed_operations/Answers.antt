@@ -1,5 +1,0 @@
-use Rattle.full_journal.proofs.Final.{recovered}
-use Rattle.full_journal.proofs.laws.replay_recovers_the_committed_operations.Goals as goal
-
-pub returns : goal.returns
-returns c = recovered

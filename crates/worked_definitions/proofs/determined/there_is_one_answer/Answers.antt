@@ -1,9 +1,0 @@
-use Rattle.worked_definitions.proofs.OneAnswer.{answer_one}
-use Rattle.worked_definitions.proofs.SomeAnswer.{some_answer}
-use Rattle.worked_definitions.proofs.determined.there_is_one_answer.Goals as goal
-
-pub returns-clause-some : goal.returns-clause-some
-returns-clause-some c = λ bytes settings. some_answer settings bytes
-
-pub returns-clause-one : goal.returns-clause-one
-returns-clause-one c = λ bytes settings answer other is also. answer_one settings bytes answer other is also

@@ -1,0 +1,136 @@
+-- The answer about a script that is written down as acts.
+use Rattle.std.proofs.Common.{◌≡◌, ℕ, ◌+◌, ◌<◌, List, length, map, Bool, true, false, ◌&&◌, nat_le, nat_lt, refl, sym, subst, inl, inr}
+use Rattle.std.specs.Prelude.{◌==◌, Result, Ok, Err}
+use Rattle.std.proofs.lemmas.Bool.{and_parts, leb-true, le-leb, ltb-true}
+use Rattle.patch_sets.proofs.Ids.{eq_from_true}
+use Rattle.crash_model.specs.Answer.{Answer, Refused, Reported, IsTracedAnswer, IsBaseAnswer, IsAnswer}
+use Rattle.crash_model.specs.Disk.{Disk, formatted, IsGeometry}
+use Rattle.crash_model.specs.Patches.{deps_of}
+use Rattle.crash_model.specs.Refusals.{run_of_trace}
+use Rattle.crash_model.specs.Report.{report}
+use Rattle.crash_model.specs.Trace.{begun, traced, based}
+use Rattle.crash_model.specs.declared.refusals.TraceFault.{TraceFault}
+use Rattle.crash_model.specs.declared.refusals.RunFault.TheVariants.{BadGeometry, TooMany}
+use Rattle.crash_model.specs.declared.settings.Settings.{Settings}
+use Rattle.crash_model.specs.declared.steps.Act.{Act}
+use Rattle.worked_example_laws.specs.Computed.{closed_sets, failing_sets, are_in_order, trace_of, is_accepted, explores, section_of, have_runs}
+use Rattle.worked_example_laws.specs.Examples.{numbered}
+use Rattle.worked_example_laws.specs.Spelled.{are_acts, script, based_or, base_of, is_based, traced_acts, graph, is_geometry, is_told}
+use Rattle.worked_example_laws.proofs.FailingSets.{accepted_is, counts_closed, all_failing}
+use Rattle.worked_example_laws.proofs.Graphs.{earlier, graph_is}
+use Rattle.worked_example_laws.proofs.Runs.{sections_if}
+use Rattle.worked_example_laws.proofs.Spelling.{script_is}
+
+pub geometry_if : (settings : Settings) → is_geometry settings ≡ true → IsGeometry settings.blocks settings.journal
+geometry_if settings e =
+    let first = and_parts (nat_le 16 settings.blocks) (nat_le settings.blocks 128 && nat_le (settings.journal + 6) settings.blocks) e in
+    let more = and_parts (nat_le settings.blocks 128) (nat_le (settings.journal + 6) settings.blocks) first.1 in
+    record { least = leb-true 16 settings.blocks first.0; most = leb-true settings.blocks 128 more.0; room = leb-true (settings.journal + 6) settings.blocks more.1 }
+
+based_is : (d : Disk) (r : Result Disk TraceFault) → is_based r ≡ true → r ≡ Ok (based_or d r)
+based_is d (Err fault) e = cc
+based_is d (Ok base) e = refl
+
+-- the answer about the traced steps is the answer about the script
+module _ (settings : Settings) (before behind : List Act) (read : are_acts before ≡ true) (read_too : are_acts behind ≡ true) (geometry : is_geometry settings ≡ true) where
+  from_based : (answer : Answer) → IsBaseAnswer settings (based (formatted settings.blocks settings.journal) (numbered 1 before)) (traced_acts before behind) answer
+      → IsAnswer (script before behind) settings answer
+  from_based answer is = inr (numbered 1 before, traced_acts before behind, script_is before behind read read_too, inr (geometry_if settings geometry, is))
+
+  from_traced : (answer : Answer) → is_based (based (formatted settings.blocks settings.journal) (numbered 1 before)) ≡ true
+      → IsTracedAnswer settings (base_of settings before) (traced settings.module (begun (base_of settings before)) (traced_acts before behind)) answer
+      → IsAnswer (script before behind) settings answer
+  from_traced answer whole is = from_based answer
+      (subst (λ r. IsBaseAnswer settings r (traced_acts before behind) answer)
+      (sym (based_is (formatted settings.blocks settings.journal) (based (formatted settings.blocks settings.journal) (numbered 1 before)) whole)) is)
+
+-- an act before the start line is refused
+pub refused_base : (settings : Settings) (before behind : List Act) (fault : TraceFault)
+    → are_acts before ≡ true → are_acts behind ≡ true → is_geometry settings ≡ true
+    → based (formatted settings.blocks settings.journal) (numbered 1 before) ≡ Err fault
+    → IsAnswer (script before behind) settings (Refused (run_of_trace fault))
+refused_base settings before behind fault read read_too geometry is =
+    from_based settings before behind read read_too geometry (Refused (run_of_trace fault))
+    (subst (λ r. IsBaseAnswer settings r (traced_acts before behind) (Refused (run_of_trace fault))) (sym is) refl)
+
+-- an act behind it is refused
+pub refused_trace : (settings : Settings) (before behind : List Act) (fault : TraceFault)
+    → are_acts before ≡ true → are_acts behind ≡ true → is_geometry settings ≡ true
+    → is_based (based (formatted settings.blocks settings.journal) (numbered 1 before)) ≡ true
+    → traced settings.module (begun (base_of settings before)) (traced_acts before behind) ≡ Err fault
+    → IsAnswer (script before behind) settings (Refused (run_of_trace fault))
+refused_trace settings before behind fault read read_too geometry whole is =
+    from_traced settings before behind read read_too geometry (Refused (run_of_trace fault)) whole
+    (subst (λ r. IsTracedAnswer settings (base_of settings before) r (Refused (run_of_trace fault))) (sym is) refl)
+
+-- the report
+pub reported : (settings : Settings) (before behind : List Act) (closed : ℕ) (failing : List ℕ) (text : List ℕ)
+    → is_told settings before behind closed failing ≡ true
+    → text ≡ report settings.json settings.module (length (graph settings before behind)) closed (map (section_of (base_of settings before) (graph settings before behind)) failing)
+    → IsAnswer (script before behind) settings (Reported text (length failing))
+reported settings before behind closed failing text told is =
+    let base = base_of settings before in
+    let steps = traced_acts before behind in
+    let last = trace_of settings.module base steps in
+    let patches = graph settings before behind in
+    let one = and_parts (are_acts before) _ told in
+    let two = and_parts (are_acts behind) _ one.1 in
+    let three = and_parts (is_geometry settings) _ two.1 in
+    let four = and_parts (is_based (based (formatted settings.blocks settings.journal) (numbered 1 before))) _ three.1 in
+    let five = and_parts (explores settings.module base steps closed failing) (nat_le closed settings.limit && have_runs patches failing) four.1 in
+    let six = and_parts (nat_le closed settings.limit) (have_runs patches failing) five.1 in
+    let seven = and_parts (is_accepted (traced settings.module (begun base) steps)) _ five.0 in
+    let eight = and_parts (length (closed_sets (deps_of patches)) == closed) (are_in_order (length (deps_of patches)) failing (failing_sets base patches)) seven.1 in
+    let first = earlier settings.module base last in
+    from_traced settings before behind one.0 two.0 three.0 (Reported text (length failing)) four.0
+    (subst (λ r. IsTracedAnswer settings base r (Reported text (length failing))) (sym (accepted_is base (traced settings.module (begun base) steps) seven.0)) (
+      patches,
+      graph_is settings.module base last,
+      record {
+        total = closed;
+        counted = counts_closed patches closed first (eq_from_true _ _ eight.0);
+        within = leb-true closed settings.limit six.0;
+        sets = failing;
+        exactly = all_failing base patches failing first eight.1;
+        number = refl;
+        sections = map (section_of base patches) failing;
+        told = sections_if base patches failing six.1;
+        whole = is;
+      },
+    ))
+
+-- a disk that can't be
+both : (a b : Bool) → a ≡ true → b ≡ true → (a && b) ≡ true
+both a b p q = rw (p, q) refl
+
+pub no_geometry : (settings : Settings) → is_geometry settings ≡ false → ¬ (IsGeometry settings.blocks settings.journal)
+no_geometry settings none g =
+    let is : is_geometry settings ≡ true = both (nat_le 16 settings.blocks) (nat_le settings.blocks 128 && nat_le (settings.journal + 6) settings.blocks) (le-leb 16 settings.blocks g.least)
+    (both (nat_le settings.blocks 128) (nat_le (settings.journal + 6) settings.blocks) (le-leb settings.blocks 128 g.most) (le-leb (settings.journal + 6) settings.blocks g.room)) in
+    cc
+
+pub refused_geometry : (settings : Settings) (before behind : List Act) → are_acts before ≡ true → are_acts behind ≡ true
+    → is_geometry settings ≡ false → IsAnswer (script before behind) settings (Refused BadGeometry)
+refused_geometry settings before behind read read_too none =
+    inr (numbered 1 before, traced_acts before behind, script_is before behind read read_too, inl (no_geometry settings none, refl))
+
+-- more closed sets than the limit
+pub refused_limit : (settings : Settings) (before behind : List Act)
+    → are_acts before ≡ true → are_acts behind ≡ true → is_geometry settings ≡ true
+    → is_based (based (formatted settings.blocks settings.journal) (numbered 1 before)) ≡ true
+    → is_accepted (traced settings.module (begun (base_of settings before)) (traced_acts before behind)) ≡ true
+    → nat_lt settings.limit (length (closed_sets (deps_of (graph settings before behind)))) ≡ true
+    → IsAnswer (script before behind) settings (Refused TooMany)
+refused_limit settings before behind read read_too geometry whole run more =
+    let base = base_of settings before in
+    let steps = traced_acts before behind in
+    let last = trace_of settings.module base steps in
+    let patches = graph settings before behind in
+    let first = earlier settings.module base last in
+    let all = counts_closed patches (length (closed_sets (deps_of patches))) first refl in
+    from_traced settings before behind read read_too geometry (Refused TooMany) whole
+    (subst (λ r. IsTracedAnswer settings base r (Refused TooMany)) (sym (accepted_is base (traced settings.module (begun base) steps) run)) (
+      patches,
+      graph_is settings.module base last,
+      ((all.0, record { distinct = all.1.distinct; each = all.1.each }, subst (λ (n : ℕ). settings.limit < n) (sym all.2) (ltb-true settings.limit (length (closed_sets (deps_of patches))) more)), refl),
+    ))

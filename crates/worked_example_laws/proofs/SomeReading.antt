@@ -1,0 +1,459 @@
+-- Each script is read or refused.
+use Rattle.std.proofs.Common.{◌≡◌, ◌≢◌, ℕ, zero, suc, ◌+◌, ◌<◌, ◌≤◌, List, [], ◌∷◌, ◌++◌, length, Bool, true, false, not, ◌&&◌, arith, refl, sym, subst, ap, ◌∙◌, inl, inr, get_or, append_assoc, append-nil}
+use Rattle.std.specs.Prelude.{◌⊎◌, ◌==◌, codes, flat_map, Option, Some, None, bytes_eq, IsUtf8, slice_get, if◌then◌else◌}
+use Rattle.std.specs.Str.{is_utf8}
+use Rattle.std.specs.List.{All, Contains, list_all}
+use Rattle.std.proofs.lemmas.Bool.{and_parts, ltb-true, leb-true}
+use Rattle.std.proofs.lemmas.List.Elements.{All-nil, All-cons, All-head, All-tail, All-push}
+use Rattle.std.proofs.lemmas.Slice.Eq.{bytes_eq-Decides}
+use Rattle.std.proofs.lemmas.Str.{IsUtf8-from_is_utf8, is_utf8-from_IsUtf8}
+use Rattle.patch_sets.proofs.Bits.{eq_or_not}
+use Rattle.patch_sets.proofs.Ids.{eq_from_true, ne_from_false, false_from_ne}
+use Rattle.crash_model.proofs.Cuts.{Lacks}
+use Rattle.crash_model.specs.Lists.{joined}
+use Rattle.crash_model.specs.Names.{IsName, is_name_byte}
+use Rattle.crash_model.specs.Script.{ArePlain, AreLines, spelt, AreWords, path_text, IsPath, IsPathWord, Operand, PathOperand, GroupOperand, forms, Fits, HasPaths, HasForm, Line, Skipped, Start, Says, IsAct, words_of, IsSkipped, Reads, AreSteps, IsScript, AreAccepted, IsFirstRefused, IsBadLine, IsBadPath, IsScriptRefusal}
+use Rattle.crash_model.specs.declared.names.Op.TheVariants.{Create, Write, Link, Unlink, Rename, Mkdir, Rmdir}
+use Rattle.crash_model.specs.declared.names.Path.{Path}
+use Rattle.crash_model.specs.declared.refusals.ScriptFault.{ScriptFault}
+use Rattle.crash_model.specs.declared.refusals.ScriptFault.TheVariants.{BadUtf8, BadLine, BadPath, NoStart}
+use Rattle.crash_model.specs.declared.steps.Act.{Act}
+use Rattle.crash_model.specs.declared.steps.Act.TheVariants.{Do, Group, End, Depend}
+use Rattle.crash_model.specs.declared.steps.Step.{Step}
+use Rattle.worked_example_laws.specs.Spelled.{is_word}
+use Rattle.worked_example_laws.proofs.Pieces.{AreLacking, onto, pieces, pieces_joined}
+use Rattle.worked_example_laws.proofs.Readings.{path_from, path_of_pieces, path_of, no_path, fit, fitting, lookup, form_of, in_forms, no_form, plain_from}
+use Rattle.worked_example_laws.proofs.Refused.{fits_if, not_skipped, not_text}
+use Rattle.std.proofs.lemmas.Option.{slice_get-get_or}
+use Rattle.worked_example_laws.proofs.Scripts.{IsRefusedLine, get_contains, get_front, get_middle}
+use Rattle.worked_example_laws.proofs.Spelling.{names_if}
+
+same_bytes : (xs ys : List ℕ) → (xs ≡ ys) ⊎ (xs ≢ ys)
+same_bytes xs ys = by_test (bytes_eq xs ys) refl
+  where
+    by_test : (b : Bool) → bytes_eq xs ys ≡ b → (xs ≡ ys) ⊎ (xs ≢ ys)
+    by_test true e = inl ((bytes_eq-Decides xs ys).0 e)
+    by_test false e = inr (λ same. let one : bytes_eq xs ys ≡ true = (bytes_eq-Decides xs ys).1 same in cc)
+
+-- ---- lines
+
+-- bytes as lines with a line feed behind each, and what is left
+record AreCut (bytes : List ℕ) (front : List (List ℕ)) (last : List ℕ) : Type 0 where
+  lacks : AreLacking 10 front
+  lacks_last : Lacks 10 last
+  whole : bytes ≡ spelt front ++ last
+
+cut_of : (bytes : List ℕ) → (front : List (List ℕ)) × (last : List ℕ) × AreCut bytes front last
+cut_of [] = ([], [], record { lacks = tt; lacks_last = tt; whole = refl })
+cut_of (c ∷ cs) = by_byte (eq_or_not c 10) (cut_of cs)
+  where
+    by_front : (front : List (List ℕ)) (last : List ℕ) → c ≢ 10 → AreCut cs front last → (front : List (List ℕ)) × (last : List ℕ) × AreCut (c ∷ cs) front last
+    by_front [] last other cut = ([], c ∷ last, record { lacks = tt; lacks_last = (other, cut.lacks_last); whole = ap (λ bs. c ∷ bs) cut.whole })
+    by_front (line ∷ front) last other cut =
+        ((c ∷ line) ∷ front, last, record { lacks = ((other, cut.lacks.0), cut.lacks.1); lacks_last = cut.lacks_last; whole = ap (λ bs. c ∷ bs) cut.whole })
+
+    by_byte : (c ≡ 10) ⊎ (c ≢ 10) → (front : List (List ℕ)) × (last : List ℕ) × AreCut cs front last → (front : List (List ℕ)) × (last : List ℕ) × AreCut (c ∷ cs) front last
+    by_byte (inl same) (front, last, cut) =
+        ([] ∷ front, last, record { lacks = (tt, cut.lacks); lacks_last = cut.lacks_last; whole = ap (λ b. b ∷ cs) same ∙ ap (λ bs. 10 ∷ bs) cut.whole })
+    by_byte (inr other) (front, last, cut) = by_front front last other cut
+
+pub some_lines : (bytes : List ℕ) → (lines : List (List ℕ)) × AreLines bytes lines
+some_lines bytes = by_last (cut_of bytes)
+  where
+    lacking_push : (front : List (List ℕ)) (last : List ℕ) → AreLacking 10 front → Lacks 10 last → AreLacking 10 (front ++ last ∷ [])
+    lacking_push [] last lacks more = (more, tt)
+    lacking_push (line ∷ front) last lacks more = (lacks.0, lacking_push front last lacks.1 more)
+
+    by_last : (front : List (List ℕ)) × (last : List ℕ) × AreCut bytes front last → (lines : List (List ℕ)) × AreLines bytes lines
+    by_last (front, [], cut) = (front, record { plain = plain_from 10 front cut.lacks; whole = inl (cut.whole ∙ append-nil (spelt front)) })
+    by_last (front, c ∷ cs, cut) = (
+      front ++ (c ∷ cs) ∷ [],
+      record {
+        plain = plain_from 10 (front ++ (c ∷ cs) ∷ []) (lacking_push front (c ∷ cs) cut.lacks cut.lacks_last);
+        whole = inr (front, c ∷ cs, (λ e. cc), refl, cut.whole);
+      },
+    )
+
+-- ---- words and names
+
+pieces_lack : (s : ℕ) (xs : List ℕ) → AreLacking s (pieces s xs)
+pieces_lack s [] = (tt, tt)
+pieces_lack s (c ∷ cs) = by_test (c == s) refl (eq_or_not c s) (pieces s cs) (pieces_lack s cs)
+  where
+    by_test : (b : Bool) → (c == s) ≡ b → (c ≡ s) ⊎ (c ≢ s) → (ps : List (List ℕ)) → AreLacking s ps → AreLacking s (if b then [] ∷ ps else onto c ps)
+    by_test true e which ps lacks = (tt, lacks)
+    by_test false e (inl same) ps lacks = absurd (ne_from_false c s e same)
+    by_test false e (inr other) [] lacks = ((other, tt), tt)
+    by_test false e (inr other) (p ∷ ps) lacks = ((other, lacks.0), lacks.1)
+
+some_pieces : (s : ℕ) (xs : List ℕ) → (p : List ℕ) × (ps : List (List ℕ)) × (pieces s xs ≡ p ∷ ps)
+some_pieces s [] = ([], [], refl)
+some_pieces s (c ∷ cs) = by_test (c == s) (pieces s cs)
+  where
+    by_test : (b : Bool) (ps : List (List ℕ)) → (p : List ℕ) × (qs : List (List ℕ)) × ((if b then [] ∷ ps else onto c ps) ≡ p ∷ qs)
+    by_test true ps = ([], ps, refl)
+    by_test false [] = (c ∷ [], [], refl)
+    by_test false (p ∷ ps) = (c ∷ p, ps, refl)
+
+joined_pieces : (s : ℕ) (xs : List ℕ) → joined s (pieces s xs) ≡ xs
+joined_pieces s [] = refl
+joined_pieces s (c ∷ cs) = by_test (c == s) refl (some_pieces s cs) (joined_pieces s cs)
+  where
+    by_test : (b : Bool) → (c == s) ≡ b → (p : List ℕ) × (ps : List (List ℕ)) × (pieces s cs ≡ p ∷ ps) → joined s (pieces s cs) ≡ cs → joined s (if b then [] ∷ pieces s cs else onto c (pieces s cs)) ≡ c ∷ cs
+    by_test true e (p, ps, is) rest = ap (λ qs. joined s ([] ∷ qs)) is ∙ (ap (λ qs. s ∷ joined s qs) (sym is) ∙ (ap (λ xs. s ∷ xs) rest ∙ ap (λ d. d ∷ cs) (sym (eq_from_true c s e))))
+    by_test false e (p, ps, is) rest = ap (λ qs. joined s (onto c qs)) is ∙ (ahead p ps ∙ ap (λ xs. c ∷ xs) (ap (joined s) (sym is) ∙ rest))
+      where
+        ahead : (p : List ℕ) (ps : List (List ℕ)) → joined s ((c ∷ p) ∷ ps) ≡ c ∷ joined s (p ∷ ps)
+        ahead p [] = refl
+        ahead p (q ∷ qs) = refl
+
+-- ---- paths
+
+joined_slashed : (name : List ℕ) (names : List (List ℕ)) → joined 47 ([] ∷ name ∷ names) ≡ flat_map (λ n. 47 ∷ n) (name ∷ names)
+joined_slashed name [] = ap (λ xs. 47 ∷ xs) (sym (append-nil name))
+joined_slashed name (next ∷ names) = ap (λ xs. 47 ∷ (name ++ xs)) (joined_slashed next names)
+
+-- names of a path, and the path
+record IsNamed (names : List (List ℕ)) (path : Path) : Type 0 where
+  few : length path.through.items ≤ 3
+  names_are : names ≡ path.through.items ++ path.last ∷ []
+
+named_from : (names : List (List ℕ)) (path : Path) → path_from names ≡ Some path → IsNamed names path
+named_from [] path e = cc
+named_from (a ∷ []) path e = subst (IsNamed (a ∷ [])) (inside e) (record { few = omega arith; names_are = refl })
+  where
+    inside : {p q : Path} → Some p ≡ Some q → p ≡ q
+    inside e = cc
+named_from (a ∷ b ∷ []) path e = subst (IsNamed (a ∷ b ∷ [])) (inside e) (record { few = omega arith; names_are = refl })
+  where
+    inside : {p q : Path} → Some p ≡ Some q → p ≡ q
+    inside e = cc
+named_from (a ∷ b ∷ c ∷ []) path e = subst (IsNamed (a ∷ b ∷ c ∷ [])) (inside e) (record { few = omega arith; names_are = refl })
+  where
+    inside : {p q : Path} → Some p ≡ Some q → p ≡ q
+    inside e = cc
+named_from (a ∷ b ∷ c ∷ d ∷ []) path e = subst (IsNamed (a ∷ b ∷ c ∷ d ∷ [])) (inside e) (record { few = omega arith; names_are = refl })
+  where
+    inside : {p q : Path} → Some p ≡ Some q → p ≡ q
+    inside e = cc
+named_from (a ∷ b ∷ c ∷ d ∷ f ∷ more) path e = cc
+
+names_front : (xs ys : List (List ℕ)) → All IsName (xs ++ ys) → All IsName xs × All IsName ys
+names_front [] ys all = (All-nil IsName, all)
+names_front (x ∷ xs) ys all =
+    let rest = names_front xs ys (All-tail IsName x (xs ++ ys) all) in
+    (All-cons IsName x xs (All-head IsName x (xs ++ ys) all) rest.0, rest.1)
+
+path_here : (word : List ℕ) (path : Path) → path_of word ≡ Some path → IsPath path × (word ≡ path_text path)
+path_here word path e = by_pieces (pieces 47 word) refl e
+  where
+    by_names : (names : List (List ℕ)) → pieces 47 word ≡ [] ∷ names → (b : Bool) → list_all (is_word is_name_byte) names ≡ b → (if b then path_from names else None) ≡ Some path → IsPath path × (word ≡ path_text path)
+    by_names [] is true all e = cc
+    by_names (name ∷ names) is true all e =
+        let named = named_from (name ∷ names) path e in
+        let each : All IsName (path.through.items ++ path.last ∷ []) = subst (All IsName) named.names_are (names_if (name ∷ names) all) in
+        let parts = names_front path.through.items (path.last ∷ []) each in (
+          record { few = named.few; through = parts.0; last = All-head IsName path.last [] parts.1 },
+          sym (joined_pieces 47 word) ∙ (ap (joined 47) is ∙ (joined_slashed name names ∙ ap (λ ns. flat_map (λ n. 47 ∷ n) ns) named.names_are)),
+        )
+    by_names names is false all e = cc
+
+    by_pieces : (ps : List (List ℕ)) → pieces 47 word ≡ ps → path_of_pieces ps ≡ Some path → IsPath path × (word ≡ path_text path)
+    by_pieces [] is e = cc
+    by_pieces ([] ∷ names) is e = by_names names is (list_all (is_word is_name_byte) names) refl e
+    by_pieces ((c ∷ cs) ∷ names) is e = cc
+
+path_or_not : (word : List ℕ) → IsPathWord word ⊎ (¬ (IsPathWord word))
+path_or_not word = by_case (path_of word) refl
+  where
+    by_case : (o : Option Path) → path_of word ≡ o → IsPathWord word ⊎ (¬ (IsPathWord word))
+    by_case None e = inr (no_path word e)
+    by_case (Some path) e = let it = path_here word path e in inl (path, it.0, it.1)
+
+paths_or_not : (operands : List Operand) (words : List (List ℕ)) → HasPaths operands words ⊎ (¬ (HasPaths operands words))
+paths_or_not [] words = inl (none words)
+  where
+    none : (words : List (List ℕ)) → HasPaths [] words
+    none [] = tt
+    none (word ∷ words) = tt
+paths_or_not (PathOperand ∷ operands) [] = inl tt
+paths_or_not (PathOperand ∷ operands) (word ∷ words) = by_parts (path_or_not word) (paths_or_not operands words)
+  where
+    by_parts : IsPathWord word ⊎ (¬ (IsPathWord word)) → HasPaths operands words ⊎ (¬ (HasPaths operands words)) → HasPaths (PathOperand ∷ operands) (word ∷ words) ⊎ (¬ (HasPaths (PathOperand ∷ operands) (word ∷ words)))
+    by_parts (inl here) (inl more) = inl (here, more)
+    by_parts (inl here) (inr none) = inr (λ paths. none paths.1)
+    by_parts (inr none) more = inr (λ paths. none paths.0)
+paths_or_not (GroupOperand ∷ operands) [] = inl tt
+paths_or_not (GroupOperand ∷ operands) (word ∷ words) = paths_or_not operands words
+
+-- ---- forms
+
+-- which form has this first word
+form_place : (first : List ℕ) → ((k : ℕ) × (operands : List Operand) × (k < 11) × (get_or forms k (first, operands) ≡ (first, operands))) ⊎ (lookup forms first ≡ None)
+form_place first = by_place (lookup_place forms)
+  where
+    Found : List (List ℕ × List Operand) → Type 0
+    Found fs = ((k : ℕ) × (operands : List Operand) × (k < length fs) × (get_or fs k (first, operands) ≡ (first, operands))) ⊎ (lookup fs first ≡ None)
+
+    behind : (form : List ℕ × List Operand) (fs : List (List ℕ × List Operand)) (b : Bool) → bytes_eq first form.0 ≡ b → Found fs → Found (form ∷ fs)
+    behind form fs true e rest = inl (zero, form.1, omega arith, ap (λ f. (f, form.1)) (sym ((bytes_eq-Decides first form.0).0 e)))
+    behind form fs false e (inl (k, operands, below, at)) = inl (suc k, operands, omega arith, at)
+    behind form fs false e (inr none) = inr (rw e none)
+
+    lookup_place : (fs : List (List ℕ × List Operand)) → Found fs
+    lookup_place [] = inr refl
+    lookup_place (form ∷ fs) = behind form fs (bytes_eq first form.0) refl (lookup_place fs)
+
+    by_place : Found forms → ((k : ℕ) × (operands : List Operand) × (k < 11) × (get_or forms k (first, operands) ≡ (first, operands))) ⊎ (lookup forms first ≡ None)
+    by_place found = found
+
+-- ---- what a line of a form says
+
+abbrev Read : List ℕ → Type 0
+Read line = (what : Line) × Reads line what
+
+abbrev ReadAs : List ℕ → List (List ℕ) → List ℕ → List Operand → Type 0
+ReadAs line words first operands = AreWords line (first ∷ words) → Fits operands words → HasPaths operands words → Read line
+
+module _ (line : List ℕ) where
+  one_path : (first : List ℕ) (make : Path → Act) → ((p : Path) → words_of (make p) ≡ first ∷ path_text p ∷ []) → ((p : Path) → IsPath p → IsAct (make p))
+      → (words : List (List ℕ)) → ReadAs line words first (PathOperand ∷ [])
+  one_path first make spelt act [] cut fits paths = absurd fits
+  one_path first make spelt act (word ∷ []) cut fits paths =
+      let p = paths.0 in
+      (Says (make p.0), (act p.0 p.1, cut.whole ∙ (ap (λ w. joined 32 (first ∷ w ∷ [])) p.2 ∙ ap (joined 32) (sym (spelt p.0)))))
+  one_path first make spelt act (word ∷ more ∷ words) cut fits paths = absurd fits.1
+
+  two_paths : (first : List ℕ) (make : Path → Path → Act) → ((p q : Path) → words_of (make p q) ≡ first ∷ path_text p ∷ path_text q ∷ []) → ((p q : Path) → IsPath p → IsPath q → IsAct (make p q))
+      → (words : List (List ℕ)) → ReadAs line words first (PathOperand ∷ PathOperand ∷ [])
+  two_paths first make spelt act [] cut fits paths = absurd fits
+  two_paths first make spelt act (word ∷ []) cut fits paths = absurd fits.1
+  two_paths first make spelt act (word ∷ other ∷ []) cut fits paths =
+      let p = paths.0 in
+      let q = paths.1.0 in (
+        Says (make p.0 q.0),
+        (
+          act p.0 q.0 p.1 q.1,
+          cut.whole ∙ ((λ i. joined 32 (first ∷ p.2 i ∷ q.2 i ∷ [])) ∙ ap (joined 32) (sym (spelt p.0 q.0))),
+        ),
+      )
+  two_paths first make spelt act (word ∷ other ∷ more ∷ words) cut fits paths = absurd fits.1.1
+
+  one_group : (words : List (List ℕ)) → ReadAs line words (codes "group") (GroupOperand ∷ [])
+  one_group [] cut fits paths = absurd fits
+  one_group (word ∷ []) cut fits paths = (Says (Group word), (fits.0, cut.whole))
+  one_group (word ∷ more ∷ words) cut fits paths = absurd fits.1
+
+  two_groups : (words : List (List ℕ)) → ReadAs line words (codes "depend") (GroupOperand ∷ GroupOperand ∷ [])
+  two_groups [] cut fits paths = absurd fits
+  two_groups (word ∷ []) cut fits paths = absurd fits.1
+  two_groups (word ∷ other ∷ []) cut fits paths = (Says (Depend word other), ((fits.0, fits.1.0), cut.whole))
+  two_groups (word ∷ other ∷ more ∷ words) cut fits paths = absurd fits.1.1
+
+  an_end : (words : List (List ℕ)) → ReadAs line words (codes "end") []
+  an_end [] cut fits paths = (Says End, (tt, cut.whole))
+  an_end (word ∷ words) cut fits paths = absurd fits
+
+  a_start : (words : List (List ℕ)) → ReadAs line words (codes "start") []
+  a_start [] cut fits paths = (Start, cut.whole)
+  a_start (word ∷ words) cut fits paths = absurd fits
+
+  by_place : (k : ℕ) (first : List ℕ) (operands : List Operand) (words : List (List ℕ)) → k < 11 → get_or forms k (first, operands) ≡ (first, operands) → ReadAs line words first operands
+  by_place k first operands words below at = case_of k below at
+    where
+      as_form : (form : List ℕ × List Operand) → ReadAs line words form.0 form.1 → form ≡ (first, operands) → ReadAs line words first operands
+      as_form form read e = subst (λ (f : List ℕ × List Operand). ReadAs line words f.0 f.1) e read
+
+      case_of : (k : ℕ) → k < 11 → get_or forms k (first, operands) ≡ (first, operands) → ReadAs line words first operands
+      case_of zero below e = as_form (codes "create", PathOperand ∷ []) (one_path (codes "create") (λ p. Do (Create p)) (λ p. refl) (λ p is. is) words) e
+      case_of (suc zero) below e = as_form (codes "write", PathOperand ∷ []) (one_path (codes "write") (λ p. Do (Write p)) (λ p. refl) (λ p is. is) words) e
+      case_of (suc (suc zero)) below e = as_form (codes "link", PathOperand ∷ PathOperand ∷ []) (two_paths (codes "link") (λ p q. Do (Link p q)) (λ p q. refl) (λ p q is also. (is, also)) words) e
+      case_of (suc (suc (suc zero))) below e = as_form (codes "unlink", PathOperand ∷ []) (one_path (codes "unlink") (λ p. Do (Unlink p)) (λ p. refl) (λ p is. is) words) e
+      case_of (suc (suc (suc (suc zero)))) below e = as_form (codes "rename", PathOperand ∷ PathOperand ∷ []) (two_paths (codes "rename") (λ p q. Do (Rename p q)) (λ p q. refl) (λ p q is also. (is, also)) words) e
+      case_of (suc (suc (suc (suc (suc zero))))) below e = as_form (codes "mkdir", PathOperand ∷ []) (one_path (codes "mkdir") (λ p. Do (Mkdir p)) (λ p. refl) (λ p is. is) words) e
+      case_of (suc (suc (suc (suc (suc (suc zero)))))) below e = as_form (codes "rmdir", PathOperand ∷ []) (one_path (codes "rmdir") (λ p. Do (Rmdir p)) (λ p. refl) (λ p is. is) words) e
+      case_of (suc (suc (suc (suc (suc (suc (suc zero))))))) below e = as_form (codes "group", GroupOperand ∷ []) (one_group words) e
+      case_of (suc (suc (suc (suc (suc (suc (suc (suc zero)))))))) below e = as_form (codes "end", []) (an_end words) e
+      case_of (suc (suc (suc (suc (suc (suc (suc (suc (suc zero))))))))) below e = as_form (codes "depend", GroupOperand ∷ GroupOperand ∷ []) (two_groups words) e
+      case_of (suc (suc (suc (suc (suc (suc (suc (suc (suc (suc zero)))))))))) below e = as_form (codes "start", []) (a_start words) e
+      case_of (suc (suc (suc (suc (suc (suc (suc (suc (suc (suc (suc k))))))))))) below e = absurd (omega arith)
+
+  says_if : (operands : List Operand) (words : List (List ℕ)) → HasForm line operands words → HasPaths operands words → Read line
+  says_if operands words form paths = by_place form.is_form.0 form.first operands words form.is_form.1 form.is_form.2 form.cut form.fits paths
+
+  -- ---- a line is read, or refused in one of the three ways, wherever it stands
+
+  abbrev Judged : Type 0
+  Judged = Read line ⊎ ((before : List (List ℕ)) → IsRefusedLine before line)
+
+  module _ (text : IsUtf8 line) (told : ¬ (IsSkipped line)) (first : List ℕ) (words : List (List ℕ)) (is : pieces 32 line ≡ first ∷ words) where
+    no_form_here : form_of (pieces 32 line) ≡ None → Judged
+    no_form_here none = inr (λ before. inr (inl (inl (text, told, no_form line none))))
+
+    by_paths : (operands : List Operand) → HasForm line operands words → HasPaths operands words ⊎ (¬ (HasPaths operands words)) → Judged
+    by_paths operands form (inl paths) = inl (says_if operands words form paths)
+    by_paths operands form (inr none) = inr (λ before. inr (inr (text, told, (operands, words, form, none))))
+
+    by_fit : (k : ℕ) (operands : List Operand) → k < 11 → get_or forms k (first, operands) ≡ (first, operands) → (b : Bool) → fit operands words ≡ b → Judged
+    by_fit k operands below at true e =
+        let lacks : AreLacking 32 (first ∷ words) = subst (AreLacking 32) is (pieces_lack 32 line) in
+        by_paths operands (record {
+          first = first;
+          is_form = (k, below, at);
+          cut = record { plain = plain_from 32 (first ∷ words) lacks; some = λ e. cc; whole = sym (joined_pieces 32 line) ∙ ap (joined 32) is };
+          fits = fits_if operands words e;
+        }) (paths_or_not operands words)
+    by_fit k operands below at false e =
+        no_form_here (ap form_of is ∙ (ap (fitting words) (in_forms k first operands below at) ∙ ap (λ b. if b then Some (operands, words) else None) e))
+
+    by_form : ((k : ℕ) × (operands : List Operand) × (k < 11) × (get_or forms k (first, operands) ≡ (first, operands))) ⊎ (lookup forms first ≡ None) → Judged
+    by_form (inl found) = by_fit found.0 found.1 found.2 found.3 (fit found.1 words) refl
+    by_form (inr none) = no_form_here (ap form_of is ∙ ap (fitting words) none)
+
+  by_told : IsUtf8 line → (¬ (IsSkipped line)) → Judged
+  by_told text told = let ps = some_pieces 32 line in by_form text told ps.0 ps.1 ps.2 (form_place ps.0)
+
+judged : (line : List ℕ) → Judged line
+judged line = by_text line (is_utf8 line) refl
+  where
+    by_line : (line : List ℕ) → IsUtf8 line → Judged line
+    by_line [] text = inl (Skipped, inl refl)
+    by_line (c ∷ cs) text = elim (eq_or_not c 35) [
+      | inl same ↦ inl (Skipped, inr (text, (cs, ap (λ b. b ∷ cs) same)))
+      | inr other ↦ by_told (c ∷ cs) text (not_skipped (c ∷ cs) (false_from_ne c 35 other))
+    ]
+
+    by_text : (line : List ℕ) (b : Bool) → is_utf8 line ≡ b → Judged line
+    by_text line true e = by_line line (IsUtf8-from_is_utf8 line e)
+    by_text line false e = inr (λ before. inl (not_text line e))
+
+-- ---- scripts
+
+not_in : (line : List ℕ) (lines : List (List ℕ)) → line ≢ codes "start" → ¬ (Contains lines (codes "start")) → Contains (line ∷ lines) (codes "start") → ⊥
+not_in line lines other none (zero, within, is) = other is
+not_in line lines other none (suc k, within, is) = none (k, omega arith, is)
+
+start_or_not : (lines : List (List ℕ)) → Contains lines (codes "start") ⊎ (¬ (Contains lines (codes "start")))
+start_or_not [] = inr (λ is. omega (arith, is.1))
+start_or_not (line ∷ lines) = elim (same_bytes line (codes "start")) [
+  | inl same ↦ inl (zero, omega arith, same)
+  | inr other ↦ elim (start_or_not lines) [
+    | inl is ↦ inl (suc is.0, omega (arith, is.1), is.2)
+    | inr none ↦ inr (not_in line lines other none)
+  ]
+]
+
+-- where the start line stands, in lines with one more at the end
+place_of : (before : List (List ℕ)) (line : List ℕ) (i : ℕ) → slice_get (before ++ line ∷ []) i ≡ Some (codes "start") → (slice_get before i ≡ Some (codes "start")) ⊎ ((i ≡ length before) × (line ≡ codes "start"))
+place_of [] line zero e = inr (refl, (let same : line ≡ codes "start" = cc in same))
+place_of [] line (suc i) e = cc
+place_of (x ∷ before) line zero e = inl e
+place_of (x ∷ before) line (suc i) e = elim (place_of before line i e) [ inl at ↦ inl at | inr it ↦ inr (ap suc it.0, it.1) ]
+
+accepted_push : (before : List (List ℕ)) (line : List ℕ) → AreAccepted before → Read line → (line ≡ codes "start" → ¬ (Contains before (codes "start"))) → AreAccepted (before ++ line ∷ [])
+accepted_push before line accepted read only = record {
+  each = All-push (λ line. (says : Line) × Reads line says) before line accepted.each read;
+  one_start = λ i j at_i at_j. by_places i j (place_of before line i at_i) (place_of before line j at_j);
+}
+  where
+    by_places : (i j : ℕ) → (slice_get before i ≡ Some (codes "start")) ⊎ ((i ≡ length before) × (line ≡ codes "start"))
+        → (slice_get before j ≡ Some (codes "start")) ⊎ ((j ≡ length before) × (line ≡ codes "start")) → i ≡ j
+    by_places i j (inl at) (inl also) = accepted.one_start i j at also
+    by_places i j (inl at) (inr end) = absurd (only end.1 (get_contains before i (codes "start") at))
+    by_places i j (inr end) (inl at) = absurd (only end.1 (get_contains before j (codes "start") at))
+    by_places i j (inr end) (inr also) = end.0 ∙ sym also.0
+
+-- all lines are accepted, or there is a first that is refused
+abbrev Scanned : List (List ℕ) → Type 0
+Scanned lines = AreAccepted lines
+    ⊎ ((before : List (List ℕ)) × (line : List ℕ) × (behind : List (List ℕ)) × (lines ≡ before ++ line ∷ behind) × AreAccepted before × IsRefusedLine before line)
+
+scan_step : (line : List ℕ) (rest before : List (List ℕ)) → AreAccepted before → Judged line → ((more : List (List ℕ)) → AreAccepted more → Scanned (more ++ rest)) → Scanned (before ++ line ∷ rest)
+scan_step line rest before accepted (inr refused) more = inr (before, line, rest, refl, accepted, refused before)
+scan_step line rest before accepted (inl read) more = by_start (same_bytes line (codes "start")) (start_or_not before)
+  where
+    go_on : (line ≡ codes "start" → ¬ (Contains before (codes "start"))) → Scanned (before ++ line ∷ rest)
+    go_on only = subst Scanned (append_assoc before (line ∷ []) rest) (more (before ++ line ∷ []) (accepted_push before line accepted read only))
+
+    by_start : (line ≡ codes "start") ⊎ (line ≢ codes "start") → Contains before (codes "start") ⊎ (¬ (Contains before (codes "start"))) → Scanned (before ++ line ∷ rest)
+    by_start (inl same) (inl is) = inr (before, line, rest, refl, accepted, inr (inl (inr (same, is))))
+    by_start (inl same) (inr none) = go_on (λ e. none)
+    by_start (inr other) where_it_is = go_on (λ e. absurd (other e))
+
+scan : (rest before : List (List ℕ)) → AreAccepted before → Scanned (before ++ rest)
+scan [] before accepted = inl (subst AreAccepted (sym (append-nil before)) accepted)
+scan (line ∷ rest) before accepted = scan_step line rest before accepted (judged line) (λ more good. scan rest more good)
+
+split_start : (lines : List (List ℕ)) → Contains lines (codes "start") → (before : List (List ℕ)) × (behind : List (List ℕ)) × (lines ≡ before ++ codes "start" ∷ behind)
+split_start [] is = absurd (omega (arith, is.1))
+split_start (line ∷ lines) (zero, within, is) = ([], lines, ap (λ l. l ∷ lines) is)
+split_start (line ∷ lines) (suc k, within, is) = let it = split_start lines (k, omega arith, is) in (line ∷ it.0, it.1, ap (λ ls. line ∷ ls) it.2)
+
+get_behind : (xs : List (List ℕ)) (x : List ℕ) (ys : List (List ℕ)) (k : ℕ) (z : List ℕ) → slice_get ys k ≡ Some z → (i : ℕ) × (length xs < i) × (slice_get (xs ++ x ∷ ys) i ≡ Some z)
+get_behind [] x ys k z e = (suc k, omega arith, e)
+get_behind (a ∷ xs) x ys k z e = let it = get_behind xs x ys k z e in (suc it.0, omega (arith, it.1), it.2)
+
+-- steps for lines of which none is the start line
+some_steps : (n : ℕ) (lines : List (List ℕ)) → All (λ line. (says : Line) × Reads line says) lines → ¬ (Contains lines (codes "start")) → (steps : List Step) × AreSteps n lines steps
+some_steps n [] all none = ([], refl)
+some_steps n (line ∷ lines) all none =
+    let read = All-head (λ line. (says : Line) × Reads line says) line lines all in
+    by_line read.0 read.1 (some_steps (n + 1) lines (All-tail (λ line. (says : Line) × Reads line says) line lines all) (λ is. none (suc is.0, omega (arith, is.1), is.2)))
+  where
+    by_line : (what : Line) → Reads line what → (steps : List Step) × AreSteps (n + 1) lines steps → (steps : List Step) × AreSteps n (line ∷ lines) steps
+    by_line Skipped is rest = (rest.0, inl (is, rest.1))
+    by_line Start is rest = absurd (none (zero, omega arith, is))
+    by_line (Says act) is rest = (record { line = n; act = act } ∷ rest.0, inr (act, rest.0, is, rest.1, refl))
+
+-- a script is read or refused
+pub some_reading : (bytes : List ℕ) → ((base : List Step) × (traced : List Step) × IsScript bytes base traced) ⊎ ((fault : ScriptFault) × IsScriptRefusal bytes fault)
+some_reading bytes = by_scan (some_lines bytes).0 (some_lines bytes).1 (scan (some_lines bytes).0 [] no_lines)
+  where
+    no_lines : AreAccepted []
+    no_lines = record { each = All-nil (λ line. (says : Line) × Reads line says); one_start = λ i j at_i at_j. absurd (none_there i at_i) }
+      where
+        none_there : (i : ℕ) → slice_get {X = List ℕ} [] i ≡ Some (codes "start") → ⊥
+        none_there i e = cc
+
+    from_split : (lines : List (List ℕ)) → AreLines bytes lines → AreAccepted lines → (before : List (List ℕ)) × (behind : List (List ℕ)) × (lines ≡ before ++ codes "start" ∷ behind)
+        → (base : List Step) × (traced : List Step) × IsScript bytes base traced
+    from_split lines are accepted (before, behind, e) =
+        let good : AreAccepted (before ++ codes "start" ∷ behind) = subst AreAccepted e accepted in
+        let none_before : ¬ (Contains before (codes "start")) = λ is.
+        let same : is.0 ≡ length before = good.one_start is.0 (length before) (get_front before (codes "start" ∷ behind) is.0 (codes "start") is.1 is.2) (get_middle before (codes "start") behind) in
+        omega (arith, is.1, same) in
+        let none_behind : ¬ (Contains behind (codes "start")) = λ is.
+        let at = get_behind before (codes "start") behind is.0 (codes "start") (slice_get-get_or behind is.0 (codes "start") is.1 ∙ ap Some is.2) in
+        let same : at.0 ≡ length before = good.one_start at.0 (length before) at.2 (get_middle before (codes "start") behind) in
+        omega (arith, at.1, same) in
+        let parts = reads_apart before (codes "start" ∷ behind) good.each in
+        let base = some_steps 1 before parts.0 none_before in
+        let traced = some_steps (length before + 2) behind (All-tail (λ line. (says : Line) × Reads line says) (codes "start") behind parts.1) none_behind in
+        (base.0, traced.0, record { before = before; behind = behind; lines = subst (AreLines bytes) e are; base_steps = base.1; traced_steps = traced.1 })
+      where
+        reads_apart : (xs ys : List (List ℕ)) → All (λ line. (says : Line) × Reads line says) (xs ++ ys) → All (λ line. (says : Line) × Reads line says) xs × All (λ line. (says : Line) × Reads line says) ys
+        reads_apart [] ys all = (All-nil (λ line. (says : Line) × Reads line says), all)
+        reads_apart (x ∷ xs) ys all =
+            let rest = reads_apart xs ys (All-tail (λ line. (says : Line) × Reads line says) x (xs ++ ys) all) in
+            (All-cons (λ line. (says : Line) × Reads line says) x xs (All-head (λ line. (says : Line) × Reads line says) x (xs ++ ys) all) rest.0, rest.1)
+
+    by_way : (lines before : List (List ℕ)) (line : List ℕ) (behind : List (List ℕ)) → AreLines bytes lines → lines ≡ before ++ line ∷ behind → AreAccepted before → IsRefusedLine before line → (fault : ScriptFault) × IsScriptRefusal bytes fault
+    by_way lines before line behind are e accepted (inl bad) = (
+      BadUtf8 (length before + 1),
+      record { before = before; line = line; behind = behind; lines = subst (AreLines bytes) e are; accepted = accepted; number = refl; refused = bad },
+    )
+    by_way lines before line behind are e accepted (inr (inl bad)) = (
+      BadLine (length before + 1),
+      record { before = before; line = line; behind = behind; lines = subst (AreLines bytes) e are; accepted = accepted; number = refl; refused = bad },
+    )
+    by_way lines before line behind are e accepted (inr (inr bad)) = (
+      BadPath (length before + 1),
+      record { before = before; line = line; behind = behind; lines = subst (AreLines bytes) e are; accepted = accepted; number = refl; refused = bad },
+    )
+
+    by_scan : (lines : List (List ℕ)) → AreLines bytes lines → Scanned lines → ((base : List Step) × (traced : List Step) × IsScript bytes base traced) ⊎ ((fault : ScriptFault) × IsScriptRefusal bytes fault)
+    by_scan lines are (inl accepted) = elim (start_or_not lines) [
+      | inl is ↦ inl (from_split lines are accepted (split_start lines is))
+      | inr none ↦ inr (NoStart (length lines + 1), (lines, are, accepted, none, refl))
+    ]
+    by_scan lines are (inr (before, line, behind, e, accepted, refused)) = inr (by_way lines before line behind are e accepted refused)

@@ -1,0 +1,97 @@
+-- A script that is written down as acts is read as these acts.
+use Rattle.std.proofs.Common.{◌≡◌, ℕ, zero, suc, ◌+◌, List, [], ◌∷◌, length, map, Bool, true, false, not, ◌&&◌, ◌||◌, nat_lt, nat_le, arith, refl, inl, inr}
+use Rattle.std.specs.Prelude.{◌==◌, codes}
+use Rattle.std.specs.List.{All, Contains, list_all, list_any}
+use Rattle.std.proofs.lemmas.Bool.{and_parts, ltb-true, leb-true}
+use Rattle.std.proofs.lemmas.List.Elements.{All-nil, All-cons, All-append}
+use Rattle.crash_model.specs.Names.{IsWord, IsName, is_name_byte, is_group_byte}
+use Rattle.crash_model.specs.Script.{ArePlain, IsPath, IsAct, AreSteps, IsScript}
+use Rattle.crash_model.specs.declared.names.Op.TheVariants.{Create, Write, Link, Unlink, Rename, Mkdir, Rmdir}
+use Rattle.crash_model.specs.declared.names.Path.{Path}
+use Rattle.crash_model.specs.declared.steps.Act.{Act}
+use Rattle.crash_model.specs.declared.steps.Act.TheVariants.{Do, Group, End, Depend}
+use Rattle.worked_example_laws.specs.Examples.{numbered}
+use Rattle.worked_example_laws.specs.Spelled.{is_word, is_path, is_act, line_of, is_plain, are_acts, script}
+use Rattle.patch_sets.proofs.Ids.{true_from_eq}
+
+pub word_if : (passes : ℕ → Bool) (word : List ℕ) → is_word passes word ≡ true → IsWord passes word
+word_if passes word e =
+    let first = and_parts (nat_lt 0 (length word)) (nat_le (length word) 10 && list_all passes word) e in
+    let more = and_parts (nat_le (length word) 10) (list_all passes word) first.1 in
+    record { some = ltb-true 0 (length word) first.0; few = leb-true (length word) 10 more.0; plain = more.1 }
+
+pub names_if : (names : List (List ℕ)) → list_all (is_word is_name_byte) names ≡ true → All IsName names
+names_if [] e = All-nil IsName
+names_if (name ∷ names) e =
+    let parts = and_parts (is_word is_name_byte name) (list_all (is_word is_name_byte) names) e in
+    All-cons IsName name names (word_if is_name_byte name parts.0) (names_if names parts.1)
+
+path_if : (path : Path) → is_path path ≡ true → IsPath path
+path_if path e =
+    let first = and_parts (nat_le (length path.through.items) 3) (list_all (is_word is_name_byte) path.through.items && is_word is_name_byte path.last) e in
+    let more = and_parts (list_all (is_word is_name_byte) path.through.items) (is_word is_name_byte path.last) first.1 in
+    record { few = leb-true (length path.through.items) 3 first.0; through = names_if path.through.items more.0; last = word_if is_name_byte path.last more.1 }
+
+paths_if : (p q : Path) → (is_path p && is_path q) ≡ true → IsPath p × IsPath q
+paths_if p q e = let parts = and_parts (is_path p) (is_path q) e in (path_if p parts.0, path_if q parts.1)
+
+act_if : (act : Act) → is_act act ≡ true → IsAct act
+act_if (Do (Create p)) e = path_if p e
+act_if (Do (Write p)) e = path_if p e
+act_if (Do (Link p q)) e = paths_if p q e
+act_if (Do (Unlink p)) e = path_if p e
+act_if (Do (Rename p q)) e = paths_if p q e
+act_if (Do (Mkdir p)) e = path_if p e
+act_if (Do (Rmdir p)) e = path_if p e
+act_if (Group a) e = word_if is_group_byte a e
+act_if End e = tt
+act_if (Depend b a) e =
+    let parts = and_parts (is_word is_group_byte b) (is_word is_group_byte a) e in
+    (word_if is_group_byte b parts.0, word_if is_group_byte a parts.1)
+
+-- ---- lines
+
+pub lacks_if : (line : List ℕ) (c : ℕ) → list_any (λ b. b == c) line ≡ false → Contains line c → ⊥
+lacks_if [] c e (k, within, is) = omega arith
+lacks_if (b ∷ line) c e (zero, within, is) = let here : (b == c) ≡ true = true_from_eq b c is in either_none (b == c) (list_any (λ b. b == c) line) e here
+  where
+    either_none : (p q : Bool) → (p || q) ≡ false → p ≡ true → ⊥
+    either_none p q e h = cc
+lacks_if (b ∷ line) c e (suc k, within, is) = lacks_if line c (second (b == c) (list_any (λ b. b == c) line) e) (k, omega arith, is)
+  where
+    second : (p q : Bool) → (p || q) ≡ false → q ≡ false
+    second false q e = e
+    second true q e = cc
+
+not_false : (a : Bool) → not a ≡ true → a ≡ false
+not_false false e = refl
+not_false true e = cc
+
+pub plain_lines : (acts : List Act) → are_acts acts ≡ true → ArePlain (map line_of acts)
+plain_lines [] e = All-nil (λ line. ¬ (Contains line 10))
+plain_lines (act ∷ acts) e =
+    let parts = and_parts (is_act act && is_plain (line_of act)) (are_acts acts) e in
+    let mine = and_parts (is_act act) (is_plain (line_of act)) parts.0 in
+    All-cons (λ line. ¬ (Contains line 10)) (line_of act) (map line_of acts)
+    (lacks_if (line_of act) 10 (not_false (list_any (λ c. c == 10) (line_of act)) mine.1)) (plain_lines acts parts.1)
+
+pub steps_are : (n : ℕ) (acts : List Act) → are_acts acts ≡ true → AreSteps n (map line_of acts) (numbered n acts)
+steps_are n [] e = refl
+steps_are n (act ∷ acts) e =
+    let parts = and_parts (is_act act && is_plain (line_of act)) (are_acts acts) e in
+    let mine = and_parts (is_act act) (is_plain (line_of act)) parts.0 in
+    inr (act, numbered (n + 1) acts, (act_if act mine.0, refl), steps_are (n + 1) acts parts.1, refl)
+
+pub script_is : (before behind : List Act) → are_acts before ≡ true → are_acts behind ≡ true
+    → IsScript (script before behind) (numbered 1 before) (numbered (length (map line_of before) + 2) behind)
+script_is before behind e f = record {
+  before = map line_of before;
+  behind = map line_of behind;
+  lines = record {
+    plain = All-append (λ line. ¬ (Contains line 10)) (map line_of before) (codes "start" ∷ map line_of behind) (plain_lines before e)
+        (All-cons (λ line. ¬ (Contains line 10)) (codes "start") (map line_of behind) (lacks_if (codes "start") 10 refl) (plain_lines behind f));
+    whole = inl refl;
+  };
+  base_steps = steps_are 1 before e;
+  traced_steps = steps_are (length (map line_of before) + 2) behind f;
+}

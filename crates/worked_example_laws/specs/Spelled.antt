@@ -1,0 +1,93 @@
+-- Scripts that are written down as acts, and tests of what a script's words are.
+use Rattle.std.specs.Prelude.{ℕ, ◌+◌, List, ◌∷◌, ◌++◌, length, map, codes, Bool, true, false, not, ◌&&◌, ◌==◌, nat_lt, nat_le, Result, Ok, Err}
+use Rattle.std.specs.List.{list_all, list_any}
+use Rattle.crash_model.specs.Disk.{Disk, formatted}
+use Rattle.crash_model.specs.Lists.{joined}
+use Rattle.crash_model.specs.Trace.{based}
+use Rattle.crash_model.specs.declared.patches.Patch.{Patch}
+use Rattle.crash_model.specs.declared.refusals.TraceFault.{TraceFault}
+use Rattle.crash_model.specs.declared.settings.Settings.{Settings}
+use Rattle.crash_model.specs.declared.steps.Module.{Module}
+use Rattle.crash_model.specs.declared.steps.Step.{Step}
+use Rattle.worked_example_laws.specs.Computed.{graph_of, trace_of, explores, have_runs}
+use Rattle.worked_example_laws.specs.Examples.{numbered}
+use Rattle.crash_model.specs.Names.{is_name_byte, is_group_byte}
+use Rattle.crash_model.specs.Script.{spelt, words_of}
+use Rattle.crash_model.specs.declared.names.Op.TheVariants.{Create, Write, Link, Unlink, Rename, Mkdir, Rmdir}
+use Rattle.crash_model.specs.declared.names.Path.{Path}
+use Rattle.crash_model.specs.declared.steps.Act.{Act}
+use Rattle.crash_model.specs.declared.steps.Act.TheVariants.{Do, Group, End, Depend}
+
+-- 1 to 10 bytes that pass
+abbrev pub is_word : (ℕ → Bool) → List ℕ → Bool
+is_word passes word = nat_lt 0 (length word) && (nat_le (length word) 10 && list_all passes word)
+
+abbrev pub is_path : Path → Bool
+is_path path = nat_le (length path.through.items) 3 && (list_all (is_word is_name_byte) path.through.items && is_word is_name_byte path.last)
+
+abbrev pub is_act : Act → Bool
+is_act (Do (Create p)) = is_path p
+is_act (Do (Write p)) = is_path p
+is_act (Do (Link p q)) = is_path p && is_path q
+is_act (Do (Unlink p)) = is_path p
+is_act (Do (Rename p q)) = is_path p && is_path q
+is_act (Do (Mkdir p)) = is_path p
+is_act (Do (Rmdir p)) = is_path p
+is_act (Group a) = is_word is_group_byte a
+is_act End = true
+is_act (Depend b a) = is_word is_group_byte b && is_word is_group_byte a
+
+-- the line of an act, and the lines of a script
+abbrev pub line_of : Act → List ℕ
+line_of act = joined 32 (words_of act)
+
+abbrev pub lines_of : List Act → List Act → List (List ℕ)
+lines_of before behind = map line_of before ++ codes "start" ∷ map line_of behind
+
+abbrev pub is_plain : List ℕ → Bool
+is_plain line = not (list_any (λ c. c == 10) line)
+
+-- the acts have names and paths, and no line feed is in a line
+abbrev pub are_acts : List Act → Bool
+are_acts acts = list_all (λ act. is_act act && is_plain (line_of act)) acts
+
+-- the script's bytes
+abbrev pub script : List Act → List Act → List ℕ
+script before behind = spelt (lines_of before behind)
+
+-- ---- answers
+
+-- the base of a script with these acts before its start line, or a new disk where one of them is refused
+abbrev pub based_or : Disk → Result Disk TraceFault → Disk
+based_or d (Err fault) = d
+based_or d (Ok base) = base
+
+abbrev pub base_of : Settings → List Act → Disk
+base_of settings before = based_or (formatted settings.blocks settings.journal) (based (formatted settings.blocks settings.journal) (numbered 1 before))
+
+abbrev pub is_based : Result Disk TraceFault → Bool
+is_based (Err fault) = false
+is_based (Ok base) = true
+
+abbrev pub traced_acts : List Act → List Act → List Step
+traced_acts before behind = numbered (length (map line_of before) + 2) behind
+
+-- the graph of the script
+abbrev pub graph : Settings → List Act → List Act → List Patch
+graph settings before behind = graph_of settings.module (base_of settings before) (trace_of settings.module (base_of settings before) (traced_acts before behind))
+
+abbrev pub is_geometry : Settings → Bool
+is_geometry settings = nat_le 16 settings.blocks && (nat_le settings.blocks 128 && nat_le (settings.journal + 6) settings.blocks)
+
+-- the script is read, its acts are accepted, these sets fail, and there are so many closed sets
+abbrev pub is_told : Settings → List Act → List Act → ℕ → List ℕ → Bool
+is_told settings before behind closed failing =
+    let base = base_of settings before in
+    let patches = graph settings before behind in
+    are_acts before && (are_acts behind && (is_geometry settings
+    && (is_based (based (formatted settings.blocks settings.journal) (numbered 1 before))
+    && (explores settings.module base (traced_acts before behind) closed failing
+    && (nat_le closed settings.limit && have_runs patches failing)))))
+
+abbrev pub settings_of : Module → ℕ → ℕ → ℕ → Bool → Settings
+settings_of kind blocks journal limit json = record { «module» = kind; blocks = blocks; journal = journal; limit = limit; json = json }
