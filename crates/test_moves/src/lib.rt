@@ -4,7 +4,11 @@
 #![tactic(auto)]
 
 #[cfg(test)]
+mod graphs;
+#[cfg(test)]
 mod moves;
+#[cfg(test)]
+mod no_patches;
 #[cfg(test)]
 mod scripts;
 #[cfg(test)]

@@ -8,6 +8,10 @@ mod asked;
 #[cfg(test)]
 mod broken_devices;
 #[cfg(test)]
+mod deques;
+#[cfg(test)]
+mod ladders;
+#[cfg(test)]
 mod lines;
 #[cfg(test)]
 mod orderings;

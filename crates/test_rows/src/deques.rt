@@ -1,7 +1,9 @@
+//! Hands over deques, in one thread.
+
 ghost use Rattle.std.specs.Prelude.{◌≡◌, ◌<◌, length};
 ghost use Rattle.hands.specs.Together.{AreTogether};
 
-use crate::{Hand, hands, tasks_left};
+use hands::{Hand, hands, tasks_left};
 use linked_list_allocator::LocalHeap;
 use std::alloc::{AllocError, Global};
 use std::test::*;

@@ -1,4 +1,6 @@
-use crate::{Mover, PatchSpace, build};
+//! A graph with no patch.
+
+use crash_image::{Mover, PatchSpace, build};
 use disk_image::Image;
 use patch_graph::Graph;
 use state_space::Space;

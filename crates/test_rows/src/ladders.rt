@@ -1,11 +1,8 @@
 //! Ladders of words, on which each word leads to the next two, and the sets of two patches.
 ghost use Rattle.std.specs.Prelude.{◌≡◌, ◌+◌, ◌≤◌, ◌<◌, ℕ, List, [], ◌∷◌, nat_eq, nat_lt, if◌then◌else◌};
 
-use crate::tasks::{Task, Tasks};
-use crate::{ExploreFault, Gate, OpenGate, explore};
-use hands::hands;
+use explorers::{ExploreFault, Gate, OpenGate, explore};
 use plain_explorer::explore_plain;
-use seen_board::Place;
 use state_space::Space;
 use std::alloc::AllocError;
 use std::sync::atomic::{AtomicU64, Ordering};
@@ -190,9 +187,25 @@ fn a_small_ladder(rt: HostRuntime) -> Result<(), Fail> {
         last: 5,
         good_to: 2,
     };
+    let plain = explore_plain(rt.alloc(), &ladder, 6)?;
     let found = explore(&rt, rt.alloc(), &ladder, 6, 2, &OpenGate)?;
-    assert_eq!(rt; found.total, 6);
-    assert_eq!(rt; found.broken.as_slice(), [4, 3, 5].as_slice());
+    for explored in [&plain, &found] {
+        assert_eq!(rt; explored.total, 6);
+        assert_eq!(rt; explored.broken.as_slice(), [4, 3, 5].as_slice());
+    }
+    let refused = explore_plain(rt.alloc(), &ladder, 5);
+    assert!(rt; matches!(&refused, Err(ExploreFault::TooMany)));
+    Ok(())
+}
+
+#[test]
+fn faults_as_they_are_printed(rt: HostRuntime) -> Result<(), Fail> {
+    for (fault, text) in [
+        (ExploreFault::TooMany, "30 too many closed sets"),
+        (ExploreFault::OutOfMemory, "99 out of memory"),
+    ] {
+        assert_eq!(rt; format!(in rt.alloc(); "{fault}")?.as_str(), text);
+    }
     Ok(())
 }
 
@@ -239,30 +252,5 @@ fn one_worker_takes_the_newest_first(rt: HostRuntime) -> Result<(), Fail> {
     assert_eq!(rt; found.total, 4);
     assert_eq!(rt; found.broken.len(), 0);
     assert_eq!(rt; diary.digits.load(Ordering::SeqCst), 10231);
-    Ok(())
-}
-
-fn task_of(at: u16) -> Task {
-    Task {
-        word: u128::from(at),
-        place: Place { shard: 0, at },
-    }
-}
-
-#[test]
-fn the_oldest_is_stolen_and_the_newest_popped(rt: HostRuntime) -> Result<(), Fail> {
-    let mut all = hands(rt.alloc(), 2)?;
-    let second = all.pop().ok_or("a hand")?;
-    let first = all.pop().ok_or("a hand")?;
-    let mut thief = Tasks::new(second, 1, 2);
-    let mut owner = Tasks::new(first, 0, 2);
-    for at in [1, 2, 3, 4] {
-        assert!(rt; owner.push(task_of(at)) == Ok(()));
-    }
-    assert!(rt; thief.pop() == None);
-    assert!(rt; thief.steal() == Some(task_of(1)));
-    assert!(rt; (owner.steal(), owner.pop()) == (None, Some(task_of(4))));
-    assert!(rt; (owner.pop(), owner.pop()) == (Some(task_of(3)), Some(task_of(2))));
-    assert!(rt; (owner.pop(), thief.steal()) == (None, None));
     Ok(())
 }

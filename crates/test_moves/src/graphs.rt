@@ -1,11 +1,11 @@
+//! Graphs made of patches of one byte.
+
 ghost use Rattle.std.specs.Prelude.{◌≡◌, ◌+◌, ◌<◌, ◌≤◌};
 ghost use Rattle.patch_graph.specs.Graph.{IsPatch};
 
-use crate::fault::GraphFault;
-use crate::graph::{Graph, MAX_PATCHES};
 use arrayvec::ArrayVec;
 use crash_model::patches::Patch;
-use patch_sets::write::BlockWrite;
+use patch_graph::{BlockWrite, Graph, GraphFault, MAX_PATCHES};
 use std::test::Fail;
 
 /// A patch of one byte.

@@ -1,8 +1,17 @@
+//! What exploring a space of words finds, and why it finds nothing.
 ghost use Rattle.std.specs.Prelude.{◌≡◌};
-ghost use Rattle.plain_explorer.specs.declared.fault.ExploreFault.TheVariants as fault;
+ghost use Rattle.patch_sets.specs.declared.explored.ExploreFault.TheVariants as fault;
 
-use std::alloc::{AllocError, AllocFailed};
+use std::alloc::{AllocError, AllocFailed, Allocator};
 use thiserror::Error;
+
+/// How many words are reached, and which of them are not good, in canonical order: fewer ids first, then the
+/// smaller number.
+#[derive(Drop)]
+pub struct Explored<A: Allocator> {
+    pub total: usize,
+    pub broken: Vec<u128, A>,
+}
 
 /// Why a space is not explored to its end.
 #[derive(Clone, Copy, Debug, PartialEq, Eq, Error)]
