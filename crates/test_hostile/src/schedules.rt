@@ -2,13 +2,13 @@
 
 ghost use Rattle.std.specs.Prelude.{◌≤◌};
 
-use crate::asked::{Asked, CREATE, JOURNAL, REUSE, WRITE, reports};
-use crate::gates::{HeldAt, Shuffled, UntilAnother};
+use crate::reports::reports;
 use std::process::Abort;
 use std::sync::Wait;
-use std::sync::atomic::AtomicU64;
 use std::test::Fail;
 use std::thread::Threads;
+use test_support::asked::{Asked, JOURNAL, REUSE, SOFT_CREATE, WRITE};
+use test_support::gates::{HeldAt, Shuffled, UntilAnother};
 
 /// How many schedules are tried of each script and number of workers.
 const SEEDS: u64 = 200;
@@ -74,16 +74,13 @@ fn eight_workers_behind_a_journal(rt: HostRuntime) -> Result<(), Fail> {
 
 #[test]
 fn the_claimer_of_one_set_is_held(rt: HostRuntime) -> Result<(), Fail> {
-    reports(&rt, &CREATE, 4, &HeldAt { set: 1 })
+    reports(&rt, &SOFT_CREATE, 4, &HeldAt { set: 1 })
 }
 
 #[test]
 fn each_claimer_waits_for_another(rt: HostRuntime) -> Result<(), Fail> {
     for asked in [&WRITE, &JOURNAL] {
-        let gate = UntilAnother {
-            last: AtomicU64::new(0),
-        };
-        reports(&rt, asked, 4, &gate)?;
+        reports(&rt, asked, 4, &UntilAnother::new())?;
     }
     Ok(())
 }

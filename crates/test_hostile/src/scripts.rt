@@ -10,6 +10,7 @@ use std::rt::Files;
 use std::sync::Wait;
 use std::test::Fail;
 use std::thread::Threads;
+use test_support::noise::Noise;
 
 /// How many scripts of each kind are drawn.
 const SEEDS: u64 = 300;
@@ -46,29 +47,6 @@ enum Kind {
     AnyBytes,
     TellingBytes,
     KnownLines,
-}
-
-/// A source of bytes, the same ones for the same seed.
-#[derive(Drop)]
-struct Noise {
-    state: u64,
-}
-
-impl Noise {
-    fn new(seed: u64) -> Noise {
-        Noise {
-            state: seed.wrapping_mul(0x9E37_79B9_7F4A_7C15),
-        }
-    }
-
-    fn byte(&mut self) -> u8 {
-        self.state = self
-            .state
-            .wrapping_mul(6_364_136_223_846_793_005)
-            .wrapping_add(1_442_695_040_888_963_407);
-        let [highest, ..] = self.state.to_be_bytes();
-        highest
-    }
 }
 
 fn noisy_bytes(alloc: Global, seed: u64, any: bool) -> Result<Vec<u8>, AllocError> {

@@ -4,7 +4,7 @@ use seen_board::{Board, Got, Life, Place, Put};
 use state_space::Space;
 use std::test::Fail;
 use test_board::{Diamond, put_successor, work};
-use test_support::Refusing;
+use test_support::refusing::Refusing;
 
 /// The place of the first word.
 const START: Place = Place { shard: 0, at: 0 };

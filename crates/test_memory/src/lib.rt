@@ -5,11 +5,13 @@
 #![tactic(auto)]
 
 #[cfg(test)]
-mod asked;
+mod answers;
 #[cfg(test)]
 mod boards;
 #[cfg(test)]
 mod pushes;
+#[cfg(test)]
+mod refuses;
 #[cfg(test)]
 mod runs;
 #[cfg(test)]

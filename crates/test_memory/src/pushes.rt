@@ -9,7 +9,7 @@ use patch_graph::{Graph, GraphFault};
 use std::alloc::Global;
 use std::process::Abort;
 use std::test::Fail;
-use test_support::Refusing;
+use test_support::refusing::Refusing;
 
 /// A change of one byte. Two and two of them are of the same byte.
 fn one_byte(number: u8) -> Patch

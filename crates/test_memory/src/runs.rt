@@ -2,13 +2,14 @@
 
 ghost use Rattle.std.specs.Prelude.{◌≤◌};
 
-use crate::asked::{Asked, CREATE, JOURNAL, LINKS, REUSE, answers, refuses_too_many};
+use crate::answers::{answers, refuses_too_many};
 use std::alloc::Global;
 use std::process::Abort;
 use std::sync::Wait;
 use std::test::Fail;
 use std::thread::Threads;
-use test_support::Refusing;
+use test_support::asked::{Asked, CREATE, JOURNAL, REUSE, SOFT_LINKS};
+use test_support::refusing::Refusing;
 
 /// More requests than any run here makes.
 const MOST: u64 = 20_000;
@@ -81,7 +82,7 @@ fn one_worker_uses_a_block_again(rt: HostRuntime) -> Result<(), Fail> {
 
 #[test]
 fn one_worker_links_to_and_fro(rt: HostRuntime) -> Result<(), Fail> {
-    refuse_in_both_forms(&rt, &LINKS, 1)
+    refuse_in_both_forms(&rt, &SOFT_LINKS, 1)
 }
 
 #[test]
@@ -112,7 +113,7 @@ fn two_workers_use_a_block_again(rt: HostRuntime) -> Result<(), Fail> {
 
 #[test]
 fn two_workers_link_to_and_fro(rt: HostRuntime) -> Result<(), Fail> {
-    refuse_in_both_forms(&rt, &LINKS, 2)
+    refuse_in_both_forms(&rt, &SOFT_LINKS, 2)
 }
 
 #[test]
@@ -143,7 +144,7 @@ fn four_workers_use_a_block_again(rt: HostRuntime) -> Result<(), Fail> {
 
 #[test]
 fn four_workers_link_to_and_fro(rt: HostRuntime) -> Result<(), Fail> {
-    refuse_in_both_forms(&rt, &LINKS, 4)
+    refuse_in_both_forms(&rt, &SOFT_LINKS, 4)
 }
 
 #[test]

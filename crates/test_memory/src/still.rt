@@ -18,7 +18,7 @@ use state_space::Space;
 use std::alloc::Global;
 use std::process::Abort;
 use std::test::Fail;
-use test_support::Refusing;
+use test_support::refusing::Refusing;
 
 /// The memory of these tests.
 type Memory<'m> = &'m Refusing<Global>;

@@ -1,203 +1,118 @@
-//! Many workers give the answer of one, whatever the schedule.
+//! Every number of workers gives the report of the reference program, whatever the schedule.
 
 ghost use Rattle.std.specs.Prelude.{◌≤◌};
 
-use crash_model::settings::Settings;
-use crash_model::steps::Module;
+use crash_model::refusals::RunFault;
 use crash_text::run::run;
 use explorers::{Gate, OpenGate};
+use sha1::Sha1;
 use std::process::Abort;
 use std::sync::Wait;
-use std::sync::atomic::AtomicU64;
-use std::sync::atomic::Ordering::SeqCst;
 use std::test::Fail;
-use std::thread::{Threads, yield_now};
+use std::thread::Threads;
+use test_support::asked::{Asked, CREATE, HALF_LINKS, LINKS, REUSE, WRITE};
+use test_support::gates::{Diary, Meeting, Slow};
 
-const ASYNC: Settings = Settings {
-    module: Module::Async,
-    blocks: 16,
-    journal: 0,
-    limit: 4096,
-    json: false,
-};
-
-const SOFT: Settings = Settings {
-    module: Module::Soft,
-    blocks: 16,
-    journal: 0,
-    limit: 4096,
-    json: false,
-};
-
-const META: Settings = Settings {
-    module: Module::Meta,
-    blocks: 24,
-    journal: 12,
-    limit: 4096,
-    json: false,
-};
-
-const JOURNAL: &[u8] =
-    b"mkdir /d\ncreate /d/x\ncreate /f\nstart\nunlink /d/x\nrmdir /d\nwrite /f\n";
-
-const REUSE: &[u8] = b"create /a\nwrite /a\ncreate /b\nstart\nunlink /a\nwrite /b\n";
-
-const WRITE: &[u8] = b"start\ncreate /a\nwrite /a\n";
-
-/// The most turns that a gate holds a worker.
-const TURNS: u64 = 10_000_000;
-
-/// So many workers give the same outcome as one.
-fn as_one<R: Abort + AllocGlobal + Threads + Wait + Sync, G: Gate + Sync>(
+/// So many workers behind a gate give exactly the report, with a limit that is just enough.
+fn reports<R: Abort + AllocGlobal + Threads + Wait + Sync, G: Gate + Sync>(
     rt: &R,
-    settings: &Settings,
-    script: &[u8],
+    asked: &Asked,
     workers: usize,
     gate: &G,
 ) -> Result<(), Fail>
-    requires limit { (1 ≤ settings.now.limit) × (settings.now.limit ≤ 32768) }
-    requires workers { (1 ≤ workers) × (workers ≤ 16) }
+    requires { (1 ≤ workers) × (workers ≤ 16) }
 {
     let heap = rt.alloc();
-    let one = run(rt, heap, heap, script, settings, 1, &OpenGate)?;
-    let many = run(rt, heap, heap, script, settings, workers, gate)?;
-    assert_eq!(rt; many.failing, one.failing);
-    assert!(rt; many.text.as_str() == one.text.as_str());
+    let script = asked.whole_script(heap)?;
+    let limit = asked.closed.clamp(1, 32768);
+    let settings = asked.settings(limit, false);
+    let outcome = run(rt, heap, heap, &script, &settings, workers, gate)?;
+    assert_eq!(rt; outcome.failing, asked.failing);
+    let digest = hex::encode(heap, Sha1::digest(outcome.text.as_bytes()))?;
+    assert!(rt; digest.as_str() == asked.text, "{workers} workers");
+    Ok(())
+}
+
+/// So many workers refuse a limit that is one too low.
+fn refuses_one_fewer<R: Abort + AllocGlobal + Threads + Wait + Sync>(
+    rt: &R,
+    asked: &Asked,
+    workers: usize,
+) -> Result<(), Fail>
+    requires { (1 ≤ workers) × (workers ≤ 16) }
+{
+    let heap = rt.alloc();
+    let script = asked.whole_script(heap)?;
+    let limit = asked.closed.saturating_sub(1).clamp(1, 32768);
+    let settings = asked.settings(limit, false);
+    let refused = run(rt, heap, heap, &script, &settings, workers, &OpenGate).err();
+    assert!(rt; refused == Some(RunFault::TooMany), "{workers} workers");
     Ok(())
 }
 
 #[test]
-fn every_number_of_workers_gives_the_same_report(rt: HostRuntime) -> Result<(), Fail> {
+fn a_block_that_is_used_again_with_every_number_of_workers(rt: HostRuntime) -> Result<(), Fail> {
     for workers in [1usize, 2, 8, 16] {
-        as_one(&rt, &ASYNC, REUSE, workers, &OpenGate)?;
-        as_one(&rt, &ASYNC, WRITE, workers, &OpenGate)?;
+        reports(&rt, &REUSE, workers, &OpenGate)?;
     }
     Ok(())
-}
-
-/// Holds each claimer of a set of one patch, `below` a bound, until as many as `expected` are claimed.
-#[derive(Drop)]
-struct Meeting {
-    expected: u64,
-    below: u128,
-    claimed: AtomicU64,
-    gave_up: AtomicU64,
-}
-
-impl Gate for Meeting {
-    fn claimed(&self, _worker: usize, set: u128) {
-        if set == 0 || !set.is_power_of_two() || set >= self.below {
-            return;
-        }
-        self.claimed.fetch_add(1, SeqCst);
-        for _ in 0..TURNS {
-            if self.claimed.load(SeqCst) >= self.expected {
-                return;
-            }
-            yield_now();
-        }
-        self.gave_up.store(1, SeqCst);
-    }
-}
-
-#[test]
-fn two_workers_run_at_once(rt: HostRuntime) -> Result<(), Fail> {
-    let gate = Meeting {
-        expected: 2,
-        below: 1 << 2,
-        claimed: AtomicU64::new(0),
-        gave_up: AtomicU64::new(0),
-    };
-    as_one(&rt, &ASYNC, b"start\ncreate /a\n", 2, &gate)?;
-    assert!(rt; gate.gave_up.load(SeqCst) == 0 && gate.claimed.load(SeqCst) == 2);
-    Ok(())
-}
-
-#[test]
-fn four_workers_run_at_once(rt: HostRuntime) -> Result<(), Fail> {
-    let gate = Meeting {
-        expected: 4,
-        below: 1 << 4,
-        claimed: AtomicU64::new(0),
-        gave_up: AtomicU64::new(0),
-    };
-    as_one(&rt, &ASYNC, WRITE, 4, &gate)?;
-    assert!(rt; gate.gave_up.load(SeqCst) == 0 && gate.claimed.load(SeqCst) == 4);
-    Ok(())
-}
-
-/// Yields at each claim of one worker.
-struct Slow;
-
-impl Gate for Slow {
-    fn claimed(&self, worker: usize, _set: u128) {
-        if worker == 1 {
-            for _ in 0..100 {
-                yield_now();
-            }
-        }
-    }
 }
 
 #[test]
 fn a_slow_worker_changes_nothing(rt: HostRuntime) -> Result<(), Fail> {
     for workers in [1usize, 2, 8, 16] {
-        as_one(&rt, &ASYNC, REUSE, workers, &Slow)?;
+        reports(&rt, &REUSE, workers, &Slow { worker: 1 })?;
     }
     Ok(())
 }
 
-/// Holds the claimer of one set for 10,000 turns.
-#[derive(Drop)]
-struct HeldAt {
-    set: u128,
-}
-
-impl Gate for HeldAt {
-    fn claimed(&self, _worker: usize, set: u128) {
-        if set == self.set {
-            for _ in 0..10_000 {
-                yield_now();
-            }
-        }
-    }
-}
-
 #[test]
-fn the_claimer_of_one_set_is_held(rt: HostRuntime) -> Result<(), Fail> {
-    let heap = rt.alloc();
-    let script = b"start\ncreate /a\n";
-    let outcome = run(&rt, heap, heap, script, &SOFT, 4, &HeldAt { set: 1 })?;
-    let expected = "module soft\npatches 2\nclosed 3\nfailing 0\n";
-    assert!(rt; outcome.text.as_str() == expected);
+fn the_limit_is_met_exactly_with_every_number_of_workers(rt: HostRuntime) -> Result<(), Fail> {
+    for workers in [1usize, 2, 8, 16] {
+        reports(&rt, &WRITE, workers, &OpenGate)?;
+        refuses_one_fewer(&rt, &WRITE, workers)?;
+    }
     Ok(())
 }
 
-/// Holds each claimer until another worker has claimed since, for at most 1,000 turns.
-#[derive(Drop)]
-struct UntilAnother {
-    /// The worker of the last claim.
-    last: AtomicU64,
-}
-
-impl Gate for UntilAnother {
-    fn claimed(&self, worker: usize, _set: u128) {
-        let mine = worker as u64;
-        self.last.store(mine, SeqCst);
-        for _ in 0..1_000 {
-            if self.last.load(SeqCst) != mine {
-                return;
-            }
-            yield_now();
-        }
+#[test]
+fn links_to_and_fro_with_every_number_of_workers(rt: HostRuntime) -> Result<(), Fail> {
+    for workers in [1usize, 2, 8, 16] {
+        reports(&rt, &HALF_LINKS, workers, &OpenGate)?;
     }
+    Ok(())
 }
 
 #[test]
-fn each_claimer_waits_for_another(rt: HostRuntime) -> Result<(), Fail> {
-    let gate = UntilAnother {
-        last: AtomicU64::new(0),
-    };
-    as_one(&rt, &ASYNC, WRITE, 4, &gate)?;
-    as_one(&rt, &META, JOURNAL, 4, &gate)
+fn as_many_patches_as_a_graph_can_have(rt: HostRuntime) -> Result<(), Fail> {
+    for workers in [1usize, 16] {
+        reports(&rt, &LINKS, workers, &OpenGate)?;
+        refuses_one_fewer(&rt, &LINKS, workers)?;
+    }
+    Ok(())
+}
+
+#[test]
+fn two_workers_run_at_once(rt: HostRuntime) -> Result<(), Fail> {
+    let gate = Meeting::new(2, 1 << 2);
+    reports(&rt, &CREATE, 2, &gate)?;
+    assert!(rt; gate.was_held());
+    Ok(())
+}
+
+#[test]
+fn four_workers_run_at_once(rt: HostRuntime) -> Result<(), Fail> {
+    let gate = Meeting::new(4, 1 << 4);
+    reports(&rt, &WRITE, 4, &gate)?;
+    assert!(rt; gate.was_held());
+    Ok(())
+}
+
+/// A lone worker takes the newest task first: the sets are {}, {1}, {0, 1} and {0}.
+#[test]
+fn a_lone_worker_takes_the_newest_first(rt: HostRuntime) -> Result<(), Fail> {
+    let gate = Diary::new();
+    reports(&rt, &CREATE, 1, &gate)?;
+    assert_eq!(rt; gate.digits(), 10231);
+    Ok(())
 }

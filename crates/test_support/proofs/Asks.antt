@@ -15,8 +15,8 @@ use denote.Builtin.{bool}
 use denote.Steps.{nothing, only}
 use denote.Triple.Statement.{Contract}
 use denote.Triple.Spec.{triple_of}
-use Rattle.test_support.specs.contracts.Gauge as GA
-use Rattle.test_support.specs.contracts.refuses as RE
+use Rattle.test_support.specs.contracts.refusing.Gauge as GA
+use Rattle.test_support.specs.contracts.refusing.refuses as RE
 
 abbrev pub Meter : RattleType
 Meter = GA.the_row

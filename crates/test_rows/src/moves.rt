@@ -4,7 +4,7 @@ ghost use Rattle.std.specs.Prelude.{◌≡◌, ◌<◌};
 ghost use Rattle.std.specs.List.{All};
 ghost use Rattle.crash_model.specs.Patches.{AreUndo};
 
-use crate::scripts::{Trace, closed_sets, trace_of};
+use crate::traces::{Trace, closed_sets, trace_of};
 use crash_image::{Mover, build};
 use crash_model::steps::Module;
 use disk_image::Image;

@@ -1,7 +1,9 @@
-use crate::Refusing;
+//! The allocator that the tests refuse memory by refuses just what it is told to.
+
 use std::alloc::{AllocError, Global};
 use std::test::Fail;
 use std::thread;
+use test_support::refusing::Refusing;
 
 #[test]
 fn refuses_the_second_request(rt: HostRuntime) -> Result<(), Fail> {

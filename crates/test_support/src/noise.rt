@@ -2,9 +2,6 @@
 
 ghost use Rattle.std.specs.Prelude.{◌<◌};
 
-/// Bytes that mean something in an image.
-const TELLING: [u8; 16] = [0, 0, 0, 1, 1, 2, 2, 3, 4, 5, 10, 15, 0x44, 0x46, 0xC7, 0xC8];
-
 /// A source of bytes, the same ones for the same seed.
 #[derive(Drop)]
 pub struct Noise {
@@ -35,10 +32,5 @@ impl Noise {
         ensures { result < bound }
     {
         self.byte() % bound
-    }
-
-    /// One of a few bytes that mean something in an image.
-    pub fn telling(&mut self) -> u8 {
-        TELLING[usize::from(self.below(16))]
     }
 }

@@ -1,11 +1,14 @@
 //! Images that no operation makes.
 
-use crate::noise::Noise;
 use crate::steps::first_steps;
 use disk_image::Image;
 use inode_fs::{apply, plan};
 use std::alloc::Global;
 use std::test::Fail;
+use test_support::noise::Noise;
+
+/// Bytes that mean something in an image.
+const TELLING: [u8; 16] = [0, 0, 0, 1, 1, 2, 2, 3, 4, 5, 10, 15, 0x44, 0x46, 0xC7, 0xC8];
 
 /// How an image is made.
 #[derive(Clone, Copy, Debug, PartialEq, Eq)]
@@ -48,10 +51,15 @@ pub fn image_of(
     Ok(image)
 }
 
+/// One of a few bytes that mean something in an image.
+fn telling(noise: &mut Noise) -> u8 {
+    TELLING[usize::from(noise.below(16))]
+}
+
 fn noisy_row(noise: &mut Noise, few: bool) -> [u8; 128] {
     let mut row = [0; 128];
     for byte in &mut row {
-        *byte = if few { noise.telling() } else { noise.byte() };
+        *byte = if few { telling(noise) } else { noise.byte() };
     }
     row
 }
@@ -94,7 +102,7 @@ fn damage(image: &mut Image<Global>, noise: &mut Noise) {
             image.journal() + 4 + usize::from(noise.below(4))
         };
         let offset = usize::from(noise.below(64));
-        let value = noise.telling();
+        let value = telling(noise);
         if block < image.blocks() {
             image.put(block, offset, &[value]);
         }
@@ -153,7 +161,7 @@ fn header(noise: &mut Noise, journal: usize, turn: u8, count: u8) -> [u8; 6] {
     }
     if noise.below(6) == 0 {
         let place = usize::from(noise.below(6));
-        header[place] = noise.telling();
+        header[place] = telling(noise);
     }
     header
 }
