@@ -5,4 +5,5 @@ pub mod LowestHighest
 pub mod Lists
 pub mod Runs
 pub mod Successors
+pub mod Stepped
 pub mod Writes

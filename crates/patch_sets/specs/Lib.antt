@@ -3,3 +3,4 @@ pub mod Closed
 pub mod Machine
 pub mod Writes
 pub mod Ends
+pub mod Iter

@@ -16,4 +16,6 @@ mod refusals;
 #[cfg(test)]
 mod reports;
 #[cfg(test)]
+mod sets;
+#[cfg(test)]
 mod workers;
