@@ -10,8 +10,6 @@ mod laws;
 mod mover;
 mod puts;
 mod space;
-#[cfg(test)]
-mod tests;
 
 pub use images::{build, rebuild};
 pub use laws::{exploring_finds_the_failing_sets, reach_is_the_closed_sets};

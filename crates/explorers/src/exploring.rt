@@ -1,9 +1,7 @@
 //! Exploring with many workers.
 ghost use Rattle.std.specs.Prelude.{◌≡◌, ℕ, ◌<◌, ◌≤◌, length, IfOk, IsErrOf};
 ghost use Rattle.std.specs.List.{All};
-ghost use Rattle.state_space.specs.Reach.{IsReached};
-ghost use Rattle.state_space.specs.Counts.{HoldsOf, Outnumbers};
-ghost use Rattle.patch_sets.specs.Sets.{AreAllInOrder};
+ghost use Rattle.patch_sets.specs.Explored.{IsExplored, ReachExceeds};
 ghost use Rattle.explorers.specs.Met.{AreMet};
 ghost use Rattle.explorers.specs.Ready.{IsIdle, IsLeft};
 
@@ -14,7 +12,7 @@ use crate::met::Met;
 use crate::tasks::{Task, Tasks};
 use crate::worker::{Left, Worker, work};
 use hands::{Hand, hands};
-use plain_explorer::{ExploreFault, Explored};
+use patch_sets::explored::{ExploreFault, Explored};
 use seen_board::{Board, BoardSeat, Place};
 use state_space::Space;
 use std::alloc::{AllocError, Allocator};
@@ -45,12 +43,8 @@ where
     G: Gate + Sync,
     requires limit { (0 < limit) × (limit ≤ 32768) }
     requires workers { (1 ≤ workers) × (workers ≤ 16) }
-
-    ensures total { IfOk result (λ explored. HoldsOf (IsReached (S.successors space.now) (S.initial space.now)) explored.total) }
-    ensures within { IfOk result (λ explored. explored.total ≤ limit) }
-    ensures broken { IfOk result (λ explored. AreAllInOrder (λ word. IsReached (S.successors space.now) (S.initial space.now) word × ¬ (S.is_good space.now word)) explored.broken.items) }
-
-    ensures too_many { IsErrOf result ExploreFault.TooMany → Outnumbers (IsReached (S.successors space.now) (S.initial space.now)) limit }
+    ensures found { IfOk result (IsExplored (S.successors space.now) (S.initial space.now) (S.is_good space.now) limit) }
+    ensures too_many { IsErrOf result ExploreFault.TooMany → ReachExceeds (S.successors space.now) (S.initial space.now) limit }
 {
     let (board, mut seat) = Board::open(alloc, space, limit)?;
     let hands = first_hands(alloc, space, workers)?;

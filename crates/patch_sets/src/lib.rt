@@ -5,6 +5,7 @@
 #![tactic(auto)]
 
 pub mod ends;
+pub mod explored;
 pub mod iter;
 pub mod laws;
 pub mod order;

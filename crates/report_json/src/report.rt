@@ -11,7 +11,7 @@ use crate::values::section_value;
 use crash_model::steps::Module;
 use disk_image::Image;
 use patch_graph::Graph;
-use plain_explorer::Explored;
+use patch_sets::explored::Explored;
 use report_sections::SectionMaker;
 use serde_json::Value;
 use std::alloc::{AllocError, Allocator, Global};

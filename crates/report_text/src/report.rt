@@ -9,7 +9,7 @@ use crate::lines::{write_head, write_section};
 use crash_model::steps::Module;
 use disk_image::Image;
 use patch_graph::Graph;
-use plain_explorer::Explored;
+use patch_sets::explored::Explored;
 use report_sections::SectionMaker;
 use std::alloc::{AllocError, Allocator};
 
