@@ -27,6 +27,8 @@ mod refusals;
 #[cfg(test)]
 mod reports;
 #[cfg(test)]
+mod sets;
+#[cfg(test)]
 mod spaces;
 #[cfg(test)]
 mod traces;
