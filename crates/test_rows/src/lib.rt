@@ -7,15 +7,23 @@
 #[cfg(test)]
 mod asked;
 #[cfg(test)]
+mod boards;
+#[cfg(test)]
 mod broken_devices;
+#[cfg(test)]
+mod disks;
 #[cfg(test)]
 mod lines;
 #[cfg(test)]
 mod moves;
 #[cfg(test)]
+mod operations;
+#[cfg(test)]
 mod orderings;
 #[cfg(test)]
 mod refusals;
+#[cfg(test)]
+mod replays;
 #[cfg(test)]
 mod reports;
 #[cfg(test)]
