@@ -7,9 +7,13 @@
 #[cfg(test)]
 mod asked;
 #[cfg(test)]
+mod boards;
+#[cfg(test)]
 mod broken_devices;
 #[cfg(test)]
 mod deques;
+#[cfg(test)]
+mod disks;
 #[cfg(test)]
 mod graphs;
 #[cfg(test)]
@@ -21,9 +25,13 @@ mod moves;
 #[cfg(test)]
 mod no_patches;
 #[cfg(test)]
+mod operations;
+#[cfg(test)]
 mod orderings;
 #[cfg(test)]
 mod refusals;
+#[cfg(test)]
+mod replays;
 #[cfg(test)]
 mod reports;
 #[cfg(test)]

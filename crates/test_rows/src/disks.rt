@@ -1,4 +1,6 @@
-use crate::{Image, ImageFault};
+//! The bytes of a formatted disk, and what is read of a disk.
+
+use disk_image::{Image, ImageFault};
 use std::test::Fail;
 
 /// The bytes of a formatted disk of 16 blocks with no journal.

@@ -1,5 +1,7 @@
-use crate::replay;
+//! What replay does on images whose journal no operation writes.
+
 use disk_image::Image;
+use journal_replay::replay;
 use std::alloc::Global;
 use std::process::Abort;
 use std::test::Fail;

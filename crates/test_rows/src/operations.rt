@@ -1,5 +1,7 @@
-use crate::{FsFault, Op, Path, apply, plan};
+//! What operations change on an image, and when they are refused.
+
 use disk_image::Image;
+use inode_fs::{FsFault, Op, Path, apply, plan};
 use std::alloc::Global;
 use std::process::Abort;
 use std::test::Fail;
