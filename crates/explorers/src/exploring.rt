@@ -46,8 +46,8 @@ where
     ensures found { IfOk result (IsExplored (S.successors space.now) (S.initial space.now) (S.is_good space.now) limit) }
     ensures too_many { IsErrOf result ExploreFault.TooMany → ReachExceeds (S.successors space.now) (S.initial space.now) limit }
 {
-    let (board, mut seat) = Board::open(alloc, space, limit)?;
-    let hands = first_hands(alloc, space, workers)?;
+    let (board, mut seat, place) = Board::open(alloc, space, limit)?;
+    let hands = first_hands(alloc, space, place, workers)?;
     let ready = new_workers(alloc, &board, space, &mut seat, hands)?;
     let before = Left {
         seat,
@@ -62,10 +62,11 @@ where
     answer(alloc, space, limit, board, left)
 }
 
-/// A hand for each worker. The first has the initial word as its task.
+/// A hand for each worker. The first has the initial word, which stands at the place, as its task.
 fn first_hands<S: Space, A: Allocator + Copy>(
     alloc: A,
     space: &S,
+    place: Place,
     workers: usize,
 ) -> Result<Vec<Hand<Task, A>, A>, AllocError>
     requires workers { (1 ≤ workers) × (workers ≤ 16) }
@@ -74,10 +75,6 @@ fn first_hands<S: Space, A: Allocator + Copy>(
 {
     let mut all = hands(alloc, workers)?;
     let word = space.start();
-    let place = Place {
-        shard: (word % 13) as u8,
-        at: 0,
-    };
     match all[0].push(Task { word, place }) {
         Ok(()) => Ok(all),
         Err(_) => Err(AllocError),

@@ -5,6 +5,7 @@ pub mod Ids
 pub mod LowestHighest
 pub mod Lists
 pub mod Runs
+pub mod Stepped
 pub mod Successors
 pub mod WordSets
 pub mod Writes

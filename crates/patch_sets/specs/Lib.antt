@@ -4,3 +4,4 @@ pub mod Machine
 pub mod Writes
 pub mod Ends
 pub mod Explored
+pub mod Iter

@@ -6,9 +6,8 @@
 
 pub mod ends;
 pub mod explored;
+pub mod iter;
 pub mod laws;
 pub mod order;
 pub mod set;
-#[cfg(test)]
-mod tests;
 pub mod write;
