@@ -29,6 +29,8 @@ mod reports;
 #[cfg(test)]
 mod spaces;
 #[cfg(test)]
+mod texts;
+#[cfg(test)]
 mod traces;
 #[cfg(test)]
 mod workers;
