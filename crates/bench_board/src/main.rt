@@ -6,7 +6,7 @@
 ghost use Rattle.std.specs.Prelude.{◌≡◌, ◌<◌, IfOk, length};
 ghost use Rattle.seen_board.specs.Clauses.{IsOf};
 
-use seen_board::{Board, BoardSeat, Place};
+use seen_board::{Board, BoardSeat};
 use state_space::Space;
 use std::alloc::{AllocError, Global};
 use std::rt::Runtime;
@@ -17,9 +17,6 @@ use test_board::{Fan, expand};
 
 /// The most words of a board.
 const LIMIT: usize = 32768;
-
-/// Where the initial word of a `Fan` stands.
-const START: Place = Place { shard: 0, at: 0 };
 
 /// Different words, scattered over 128 bits.
 fn scattered(heap: Global, count: u32) -> Result<Vec<u128>, AllocError>
@@ -38,12 +35,12 @@ fn time_words<R: Wait + Runtime + AllocGlobal>(rt: &R, count: u32) -> Result<(),
 {
     let words = scattered(rt.alloc(), count)?;
     let space = Fan { after: &words };
-    let (board, mut seat) = Board::open(rt.alloc(), &space, LIMIT)?;
-    if !board.claim(&mut seat, START) {
+    let (board, mut seat, place) = Board::open(rt.alloc(), &space, LIMIT)?;
+    if !board.claim(&mut seat, place) {
         return Ok(());
     }
     let start = Instant::now(rt)?;
-    expand(rt, &board, &space, &mut (), &mut seat, START)?;
+    expand(rt, &board, &space, &mut (), &mut seat, place)?;
     let inserting = start.elapsed(rt)?.as_micros().max(1);
     let start = Instant::now(rt)?;
     let found = found_again(&board, &mut seat, &words);

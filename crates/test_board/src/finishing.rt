@@ -134,7 +134,7 @@ fn settle_unfinished<R: Abort + Wait>(
 
 #[test]
 fn finished_comes_with_the_last_verdict(rt: HostRuntime) -> Result<(), Fail> {
-    let (board, mut seat) = Board::open(rt.alloc(), &Diamond, 4)?;
+    let (board, mut seat, _) = Board::open(rt.alloc(), &Diamond, 4)?;
     let mut other = board.split(&mut seat);
     let (shared, space, handle) = (&board, &Diamond, &rt);
     settle_unfinished(handle, shared, space, &mut seat, &mut other, START);
@@ -155,7 +155,7 @@ fn finished_comes_with_the_last_verdict(rt: HostRuntime) -> Result<(), Fail> {
 
 #[test]
 fn a_word_is_new_once_and_the_entry_settled_later(rt: HostRuntime) -> Result<(), Fail> {
-    let (board, mut seat) = Board::open(rt.alloc(), &Diamond, 4)?;
+    let (board, mut seat, _) = Board::open(rt.alloc(), &Diamond, 4)?;
     let mut other = board.split(&mut seat);
     let place = Place { shard: 1, at: 0 };
     assert!(rt; board.claim(&mut seat, START));
@@ -201,7 +201,7 @@ fn finished_is_false_amid_an_expansion(rt: HostRuntime) -> Result<(), Fail> {
         judging: AtomicBool::new(false),
         goes_on: AtomicBool::new(false),
     };
-    let (board, mut seat) = Board::open(rt.alloc(), &paused, 4)?;
+    let (board, mut seat, _) = Board::open(rt.alloc(), &paused, 4)?;
     let other = board.split(&mut seat);
     let (shared, space, handle) = (&board, &paused, &rt);
     let (mut seat, (met, finished, mut other)) = join(
@@ -221,7 +221,7 @@ fn finished_is_false_amid_an_expansion(rt: HostRuntime) -> Result<(), Fail> {
 
 #[test]
 fn a_stop_is_read_and_the_entry_stays_claimed(rt: HostRuntime) -> Result<(), Fail> {
-    let (board, mut seat) = Board::open(rt.alloc(), &Diamond, 4)?;
+    let (board, mut seat, _) = Board::open(rt.alloc(), &Diamond, 4)?;
     let mut other = board.split(&mut seat);
     assert!(rt; !board.stopped(&mut other));
     assert!(rt; board.claim(&mut seat, START));
@@ -297,7 +297,7 @@ fn tick_row(rt: &impl Abort, contents: &Contents<Global>, shard: u8, ticked: &mu
 
 #[test]
 fn a_finished_board_has_each_word_once(rt: HostRuntime) -> Result<(), Fail> {
-    let (board, mut seat) = Board::open(rt.alloc(), &Ladder, 41)?;
+    let (board, mut seat, _) = Board::open(rt.alloc(), &Ladder, 41)?;
     let other = board.split(&mut seat);
     let (shared, space, handle) = (&board, &Ladder, &rt);
     let (mut seat, other) = join(

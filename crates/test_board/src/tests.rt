@@ -17,7 +17,7 @@ const START: Place = Place { shard: 0, at: 0 };
 
 #[test]
 fn a_writer_keeps_others_out(rt: HostRuntime) -> Result<(), Fail> {
-    let (board, mut seat) = Board::open(rt.alloc(), &Diamond, 16)?;
+    let (board, mut seat, _) = Board::open(rt.alloc(), &Diamond, 16)?;
     let mut other = board.split(&mut seat);
     assert!(rt; board.try_write(&mut seat, 0) == Got::Right);
     assert!(rt; board.try_read(&mut other, 0) == Got::Busy);
@@ -56,7 +56,7 @@ fn reads_beside_another<R: Wait>(
 
 #[test]
 fn two_readers_are_in_at_once(rt: HostRuntime) -> Result<(), Fail> {
-    let (board, mut seat) = Board::open(rt.alloc(), &Diamond, 16)?;
+    let (board, mut seat, _) = Board::open(rt.alloc(), &Diamond, 16)?;
     let mut other = board.split(&mut seat);
     let (first, second) = (AtomicBool::new(false), AtomicBool::new(false));
     let (shared, handle, one, two) = (&board, &rt, &first, &second);
@@ -95,7 +95,7 @@ pub(crate) fn put_after_start<S: Space>(
 #[test]
 fn an_entry_is_found_without_a_right(rt: HostRuntime) -> Result<(), Fail> {
     let fan = Fan { after: &[1, 14] };
-    let (board, mut seat) = Board::open(rt.alloc(), &fan, 16)?;
+    let (board, mut seat, _) = Board::open(rt.alloc(), &fan, 16)?;
     let mut other = board.split(&mut seat);
     let place = Place { shard: 1, at: 0 };
     assert_eq!(rt; board.find(&mut other, 0), Some(START));
@@ -112,7 +112,7 @@ fn an_entry_is_found_without_a_right(rt: HostRuntime) -> Result<(), Fail> {
 
 #[test]
 fn a_word_that_is_known_needs_no_right(rt: HostRuntime) -> Result<(), Fail> {
-    let (board, mut seat) = Board::open(rt.alloc(), &Diamond, 4)?;
+    let (board, mut seat, _) = Board::open(rt.alloc(), &Diamond, 4)?;
     let place = Place { shard: 1, at: 0 };
     assert!(rt; board.claim(&mut seat, START));
     assert_eq!(rt; board.find(&mut seat, 0), Some(START));
@@ -131,7 +131,8 @@ fn a_word_that_is_known_needs_no_right(rt: HostRuntime) -> Result<(), Fail> {
 
 #[test]
 fn an_entry_is_claimed_once(rt: HostRuntime) -> Result<(), Fail> {
-    let (board, mut seat) = Board::open(rt.alloc(), &Diamond, 16)?;
+    let (board, mut seat, start) = Board::open(rt.alloc(), &Diamond, 16)?;
+    assert_eq!(rt; start, START);
     let mut other = board.split(&mut seat);
     assert!(rt; other.has_seen(START));
     assert!(rt; !other.has_seen(Place { shard: 0, at: 1 }));
@@ -145,7 +146,7 @@ fn an_entry_is_claimed_once(rt: HostRuntime) -> Result<(), Fail> {
 fn words_whose_low_halves_are_equal_are_two_entries(rt: HostRuntime) -> Result<(), Fail> {
     let after = [5, 5 + 13 * 0x1_0000_0000_0000_0000, 5];
     let fan = Fan { after: &after };
-    let (board, mut seat) = Board::open(rt.alloc(), &fan, 16)?;
+    let (board, mut seat, _) = Board::open(rt.alloc(), &fan, 16)?;
     assert!(rt; board.claim(&mut seat, START));
     let puts = put_each(rt.alloc(), &board, &fan, &mut seat, START)?;
     let (first, second) = (Place { shard: 5, at: 0 }, Place { shard: 5, at: 1 });
@@ -164,7 +165,7 @@ fn words_whose_low_halves_are_equal_are_two_entries(rt: HostRuntime) -> Result<(
 #[test]
 fn one_word_more_than_the_limit_is_over(rt: HostRuntime) -> Result<(), Fail> {
     let fan = Fan { after: &[1, 2] };
-    let (board, mut seat) = Board::open(rt.alloc(), &fan, 2)?;
+    let (board, mut seat, _) = Board::open(rt.alloc(), &fan, 2)?;
     assert!(rt; board.claim(&mut seat, START));
     let puts = put_each(rt.alloc(), &board, &fan, &mut seat, START)?;
     assert!(rt; puts.as_slice() == [Put::New(Place { shard: 1, at: 0 }), Put::Over].as_slice());
@@ -174,7 +175,7 @@ fn one_word_more_than_the_limit_is_over(rt: HostRuntime) -> Result<(), Fail> {
 #[test]
 fn a_full_row_is_over(rt: HostRuntime) -> Result<(), Fail> {
     let fan = Fan { after: &[13, 26] };
-    let (board, mut seat) = Board::open(rt.alloc(), &fan, 2)?;
+    let (board, mut seat, _) = Board::open(rt.alloc(), &fan, 2)?;
     assert!(rt; board.claim(&mut seat, START));
     let puts = put_each(rt.alloc(), &board, &fan, &mut seat, START)?;
     assert!(rt; puts.as_slice() == [Put::New(Place { shard: 0, at: 1 }), Put::Over].as_slice());
@@ -183,7 +184,7 @@ fn a_full_row_is_over(rt: HostRuntime) -> Result<(), Fail> {
 
 #[test]
 fn one_seat_settles_all_entries(rt: HostRuntime) -> Result<(), Fail> {
-    let (board, seat) = Board::open(rt.alloc(), &Diamond, 4)?;
+    let (board, seat, _) = Board::open(rt.alloc(), &Diamond, 4)?;
     let mut seat = work(&rt, &board, &Diamond, seat);
     assert!(rt; board.finished(&mut seat));
     assert!(rt; !board.stopped(&mut seat));
@@ -200,7 +201,7 @@ fn one_seat_settles_all_entries(rt: HostRuntime) -> Result<(), Fail> {
 
 #[test]
 fn two_seats_in_two_threads_settle_all_entries(rt: HostRuntime) -> Result<(), Fail> {
-    let (board, mut seat) = Board::open(rt.alloc(), &Diamond, 4)?;
+    let (board, mut seat, _) = Board::open(rt.alloc(), &Diamond, 4)?;
     let other = board.split(&mut seat);
     let (shared, space, handle) = (&board, &Diamond, &rt);
     let (mut seat, other) = join(
@@ -237,7 +238,7 @@ fn work_in_two<R: Threads + Wait + Sync>(
 
 #[test]
 fn four_seats_in_four_threads_settle_all_entries(rt: HostRuntime) -> Result<(), Fail> {
-    let (board, mut seat) = Board::open(rt.alloc(), &Diamond, 4)?;
+    let (board, mut seat, _) = Board::open(rt.alloc(), &Diamond, 4)?;
     let (two, three) = (board.split(&mut seat), board.split(&mut seat));
     let four = board.split(&mut seat);
     let (shared, space, handle) = (&board, &Diamond, &rt);

@@ -12,7 +12,7 @@ const START: Place = Place { shard: 0, at: 0 };
 #[test]
 fn exploring_takes_none(rt: HostRuntime) -> Result<(), Fail> {
     let memory = Refusing::new(rt.alloc());
-    let (board, mut seat) = Board::open(&memory, &Diamond, 4)?;
+    let (board, mut seat, _) = Board::open(&memory, &Diamond, 4)?;
     memory.gauge().refuse(1, u64::MAX);
     let other = board.split(&mut seat);
     let mut seat = work(&rt, &board, &Diamond, seat);
@@ -34,7 +34,7 @@ fn exploring_takes_none(rt: HostRuntime) -> Result<(), Fail> {
 #[test]
 fn rights_and_claims_take_none(rt: HostRuntime) -> Result<(), Fail> {
     let memory = Refusing::new(rt.alloc());
-    let (board, mut seat) = Board::open(&memory, &Diamond, 4)?;
+    let (board, mut seat, _) = Board::open(&memory, &Diamond, 4)?;
     memory.gauge().refuse(1, u64::MAX);
     let mut other = board.split(&mut seat);
     board.write(&rt, &mut seat, 0);

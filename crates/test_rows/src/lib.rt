@@ -11,11 +11,19 @@ mod boards;
 #[cfg(test)]
 mod broken_devices;
 #[cfg(test)]
+mod deques;
+#[cfg(test)]
 mod disks;
+#[cfg(test)]
+mod graphs;
+#[cfg(test)]
+mod ladders;
 #[cfg(test)]
 mod lines;
 #[cfg(test)]
 mod moves;
+#[cfg(test)]
+mod no_patches;
 #[cfg(test)]
 mod operations;
 #[cfg(test)]
@@ -26,6 +34,8 @@ mod refusals;
 mod replays;
 #[cfg(test)]
 mod reports;
+#[cfg(test)]
+mod sets;
 #[cfg(test)]
 mod spaces;
 #[cfg(test)]
