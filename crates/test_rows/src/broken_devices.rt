@@ -14,6 +14,7 @@ use devices::source::{DeviceFault, MAX_SCRIPT_BYTES, Source};
 use explorers::OpenGate;
 use std::alloc::Allocator;
 use std::test::Fail;
+use test_support::refusing::Refusing;
 
 const CREATE: &[u8] = b"start\ncreate /a\n";
 
@@ -260,6 +261,41 @@ fn a_refusal_that_cannot_be_printed_keeps_its_status(rt: HostRuntime) -> Result<
         2
     );
     assert!(rt; out.is_empty());
+    Ok(())
+}
+
+#[test]
+fn a_report_that_cannot_be_written_is_told(rt: HostRuntime) -> Result<(), Fail> {
+    let heap = rt.alloc();
+    let mut nowhere: [u8; 0] = [];
+    let mut out = nowhere.as_mut_slice();
+    let mut err = Vec::new(heap);
+    let mut input: &[u8] = b"start\n";
+    assert_eq!(rt;
+        answer(&rt, heap, heap, &[], &mut input, &mut out, &mut err),
+        2
+    );
+    assert_eq!(rt;
+        err.as_slice(),
+        b"crashmap: 51 cannot write the report\n".as_slice()
+    );
+    Ok(())
+}
+
+#[test]
+fn refused_memory_is_told(rt: HostRuntime) -> Result<(), Fail> {
+    let heap = rt.alloc();
+    let memory = Refusing::new(heap);
+    memory.gauge().refuse(1, u64::MAX);
+    let mut out = Vec::new(heap);
+    let mut err = Vec::new(heap);
+    let mut input: &[u8] = CREATE;
+    assert_eq!(rt;
+        answer(&rt, heap, &memory, &[], &mut input, &mut out, &mut err),
+        2
+    );
+    assert!(rt; out.is_empty());
+    assert_eq!(rt; err.as_slice(), b"crashmap: 99 out of memory\n".as_slice());
     Ok(())
 }
 

@@ -41,6 +41,8 @@ mod sets;
 #[cfg(test)]
 mod spaces;
 #[cfg(test)]
+mod texts;
+#[cfg(test)]
 mod traces;
 #[cfg(test)]
 mod workers;

@@ -75,6 +75,54 @@ fn the_limit_is_met_exactly_with_every_number_of_workers(rt: HostRuntime) -> Res
     Ok(())
 }
 
+/// The first and the last line of a report that names a set, and its last line.
+fn first_and_last<R: Abort + AllocGlobal + Threads + Wait + Sync>(
+    rt: &R,
+    asked: &Asked,
+    first: &str,
+    last: &str,
+    fault: &str,
+) -> Result<(), Fail> {
+    let heap = rt.alloc();
+    let script = asked.whole_script(heap)?;
+    let settings = asked.settings(4096, false);
+    let outcome = run(rt, heap, heap, &script, &settings, 1, &OpenGate)?;
+    let mut first_set = "";
+    let mut last_set = "";
+    let mut last_line = "";
+    for line in outcome.text.as_str().lines() {
+        if line.starts_with("set ") {
+            last_set = line;
+            if first_set.is_empty() {
+                first_set = line;
+            }
+        }
+        last_line = line;
+    }
+    assert!(rt; first_set == first);
+    assert!(rt; last_set == last);
+    assert!(rt; last_line == fault);
+    Ok(())
+}
+
+/// The first failing set is {1}, and the last has all patches but the last but one.
+#[test]
+fn links_to_and_fro_fail_from_one_patch_to_all_but_one(rt: HostRuntime) -> Result<(), Fail> {
+    let fault = "fault 4 low link count: inode 1 entries 2 links 1";
+    let most =
+        "set 0 1 2 3 4 5 6 7 8 9 10 11 12 13 14 15 16 17 18 19 20 21 22 23 24 25 26 27 28 29 \
+        30 31 32 33 34 35 36 37 38 39 40 41 42 43 44 45 46 47 48 49 50 51 52 53 54 55 56 57 \
+        58 59 61";
+    first_and_last(&rt, &HALF_LINKS, "set 1", most, fault)?;
+    let most =
+        "set 0 1 2 3 4 5 6 7 8 9 10 11 12 13 14 15 16 17 18 19 20 21 22 23 24 25 26 27 28 29 \
+        30 31 32 33 34 35 36 37 38 39 40 41 42 43 44 45 46 47 48 49 50 51 52 53 54 55 56 57 \
+        58 59 60 61 62 63 64 65 66 67 68 69 70 71 72 73 74 75 76 77 78 79 80 81 82 83 84 85 \
+        86 87 88 89 90 91 92 93 94 95 96 97 98 99 100 101 102 103 104 105 106 107 108 109 \
+        110 111 112 113 114 115 116 117 118 119 120 121 123";
+    first_and_last(&rt, &LINKS, "set 1", most, fault)
+}
+
 #[test]
 fn links_to_and_fro_with_every_number_of_workers(rt: HostRuntime) -> Result<(), Fail> {
     for workers in [1usize, 2, 8, 16] {

@@ -7,6 +7,7 @@ use crash_model::steps::Module;
 use std::alloc::{AllocError, Global};
 
 /// A script with its settings, and what the reference program reports of it.
+#[derive(Drop)]
 pub struct Asked {
     /// The script's first lines.
     pub script: &'static [u8],
