@@ -1,6 +1,6 @@
 -- The objects of sections, one after another.
-use Rattle.std.proofs.Common.{◌≡◌, ℕ, zero, suc, ◌+◌, ◌<◌, ◌≤◌, List, [], ◌∷◌, ◌++◌, length, get_or, take, map, codes, decimal, refl, sym, ap, ◌∙◌, arith, append_assoc, length-take, length-map}
-use Rattle.std.proofs.lemmas.List.{map-append}
+use Rattle.std.proofs.Common.{◌≡◌, ℕ, zero, suc, ◌+◌, ◌<◌, ◌≤◌, List, [], ◌∷◌, ◌++◌, length, get_or, take, map, codes, decimal, refl, sym, ap, ◌∙◌, arith, append_assoc, length-take}
+use Rattle.std.proofs.lemmas.List.{map-append, length-map}
 use Rattle.crash_model.specs.Lists.{joined}
 use Rattle.crash_model.specs.Disk.{Disk}
 use Rattle.crash_model.specs.Report.{Section, section_json, module_text, json_report}
@@ -48,9 +48,12 @@ told_more base patches sets i n old so_far after text s within number tells is w
     regroup a b c d = simp append_assoc
 
     place : i ≡ length (map form tells.sections)
-    place = omega (arith, length-map form tells.sections, length-sections base patches (take i sets) tells.sections tells.are, length-take i sets)
+    place = omega (arith, length-map tells.sections form, length-sections base patches (take i sets) tells.sections tells.are, length-take i sets)
 
 -- ---- the whole
+
+regroup_13 : (a b c d e f g h i j k l m : List ℕ) → a ++ b ++ (c ++ d) ++ e ++ ((f ++ (g ++ h)) ++ i ++ (j ++ k) ++ l ++ m) ≡ a ++ b ++ c ++ (d ++ e ++ f) ++ g ++ (h ++ i ++ j) ++ k ++ l ++ m
+regroup_13 a b c d e f g h i j k l m = simp append_assoc
 
 pub is_report : (base : Disk) (patches : List Patch) (kind : Module) (n closed : ℕ) (sets start most text : List ℕ) → TellsSections base patches sets start most → n ≡ length patches → start ≡ start_text closed → text ≡ most ++ end_text kind n → IsJsonReport base patches kind closed sets text
 unfolding json_report
@@ -65,4 +68,5 @@ is_report base patches kind n closed sets start most text tells number first las
     frame : (closed items name patches : List ℕ)
         → codes "{\"closed\":" ++ closed ++ codes ",\"failing\":[" ++ items ++ (codes "],\"module\":\"" ++ name ++ codes "\",\"patches\":" ++ patches ++ codes "}\n")
         ≡ codes "{\"closed\":" ++ closed ++ codes ",\"failing\":" ++ (codes "[" ++ items ++ codes "]") ++ codes ",\"module\":" ++ (codes "\"" ++ name ++ codes "\"") ++ codes ",\"patches\":" ++ patches ++ codes "}\n"
-    frame closed items name patches = simp append_assoc
+    frame closed items name patches =
+        regroup_13 (codes "{\"closed\":") closed (codes ",\"failing\":") (codes "[") items (codes "]") (codes ",\"module\":") (codes "\"") name (codes "\"") (codes ",\"patches\":") patches (codes "}\n")

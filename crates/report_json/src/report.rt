@@ -51,11 +51,12 @@ fn write_start(out: &mut String, closed: usize) -> Result<(), AllocError>
 fn write_end(out: &mut String, module: Module, patches: usize) -> Result<(), AllocError>
     ensures { OnOk result (string_bytes out.new ≡ string_bytes out.old ++ end_text «module» patches) }
 {
-    let name = module.name();
-    write!(
-        out,
-        "],\"module\":\"{name}\",\"patches\":{patches}}}\n"
-    )
+    out.push_str("],\"module\":\"")?;
+    out.push_str(module.name())?;
+    out.push_str("\",\"patches\":")?;
+    write!(out, "{patches}")?;
+    out.push_str("}\n")?;
+    Ok(())
 }
 
 /// The objects of the sets, with a comma between two. Each is a value of its own, which is freed once it is written.

@@ -5,6 +5,7 @@ use Rattle.patch_sets.specs.Sets.{ids_of}
 use Rattle.patch_sets.proofs.Stepped.{next_id, no_next_id}
 use Rattle.serde_json.specs.Data.{Data, array}
 use Rattle.serde_json.specs.View.{view, items_of}
+use Rattle.serde_json.proofs.Views.{view-Array}
 use Rattle.report_json.specs.Values.{number_data}
 use Rattle.report_json.proofs.Ids.{id_put, all_put}
 use Rattle.report_json.proofs.values.ids_value.Goals as goal
@@ -17,5 +18,6 @@ loop-id-preserved c =
 
 pub returns : goal.returns
 returns c =
-    ap (λ (ds : List Data). array (items_of ds))
+    view-Array c.loop-id.ids
+    ∙ ap (λ (ds : List Data). array (items_of ds))
     (all_put (ids_left c.loop-id.id-iterator) (map view c.loop-id.ids.items) (map number_data (ids_of c.args.patches c.args.set)) c.loop-id.invariant (no_next_id c.loop-id.id-iterator c.next.new.self c.next.result c.in-None.is c.next.ensures.steps))

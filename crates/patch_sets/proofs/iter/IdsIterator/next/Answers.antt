@@ -10,8 +10,12 @@ returns-in-Some-clause-steps c = ids_lowest most_ids c.args.self.now.left c.in-S
 
 pub returns-in-Some-clause-goes : goal.returns-in-Some-clause-goes
 returns-in-Some-clause-goes c = record {
-  on = λ finite. (tt, tt, fewer_left most_ids c.args.self.now.left c.in-Some.id c.without-self.result
-      (ids_lowest most_ids c.args.self.now.left c.in-Some.id c.without-self.result (most c.in-Some.id c.in-Some.ensures.within) c.in-Some.ensures.found c.without-self.ensures.others));
+  on = λ finite. (
+    tt,
+    tt,
+    fewer_left most_ids c.args.self.now.left c.in-Some.id c.without-self.result
+        (ids_lowest most_ids c.args.self.now.left c.in-Some.id c.without-self.result (most c.in-Some.id c.in-Some.ensures.within) c.in-Some.ensures.found c.without-self.ensures.others),
+  );
   keeps = tt;
   rests = λ finite. tt;
 }
