@@ -2,12 +2,13 @@
 use Rattle.std.proofs.Common.{◌≡◌, ◌≢◌, ℕ, zero, suc, ◌+◌, ◌*◌, ◌<◌, ◌≤◌, ◌⊎◌, ◌↔◌, inl, inr, List, [], length, Bool, true, false, ◌&&◌, ◌==◌, not, nat_lt, IsTrue, Option, None, arith, refl, sym, ap, ◌∙◌, subst, length-append}
 use Rattle.std.proofs.lemmas.Bool.{cases_lt, false≢true, ne_eqb, lt-ltb, le-ltb, le-leb, and_right}
 use Rattle.std.specs.Prelude.{option_to_list}
-use Rattle.crash_model.specs.Lists.{each_below, some_below}
+use Rattle.crash_model.specs.Lists.{each_below, some_below, when}
 use Rattle.crash_model.specs.Disk.{Disk, IsDisk, byte}
 use Rattle.crash_model.specs.Layout.{kind_of, links_of, pointer_of, map_of, is_live, is_data, counts, is_entry, entry_of, is_pointer}
-use Rattle.crash_model.specs.Faults.{IsClean, is_tame, is_wild, is_unwritten, is_right_mark, is_marked_free, namer_at, namers_in, namers, entry_leading, entries_in, entries_to}
+use Rattle.crash_model.specs.Faults.{IsClean, is_tame, is_wild, is_unwritten, is_right_mark, is_marked_free, names_block, namers, leads_to, each_slot, each_entry, entries_to}
 use Rattle.crash_model.specs.View.{HasPointer}
 use Rattle.crash_model.specs.Sound.{IsSound}
+use Rattle.crash_model.proofs.Clean.{no_fault_clean}
 use Rattle.crash_model.proofs.EachBelow.{each_below-none, some_below-none, length-option}
 
 -- inode 0 alone, with one block, which holds no entries
@@ -80,8 +81,8 @@ no-entry d dir k root a b = elim (zero_or_more dir) [
     no-root-entry d k root b = rw (root.block, root.empty k b) refl
 
 no-entries : (d : Disk) (inode : ℕ) → HasRootAlone d → length (entries_to d inode) ≡ 0
-unfolding entries_to entries_in
-no-entries d inode root = ap length (each_below-none 16 (entries_in d inode) (λ dir a. some_below-none 10 (entry_leading d inode dir) (λ k b. rw (no-entry d dir k root a b) refl)))
+unfolding entries_to each_entry
+no-entries d inode root = ap length (each_below-none 16 _ (λ dir a. some_below-none 10 (λ k. when (leads_to d dir k inode) (dir, k)) (λ k b. rw (no-entry d dir k root a b) refl)))
 
 no-pointer : (d : Disk) (i s : ℕ) → HasRootAlone d → s < 4 → (0 < i) ⊎ (0 < s) → is_pointer d i s ≡ false
 no-pointer d i s root b (inl some) = rw (live-others d i root some) refl
@@ -108,14 +109,15 @@ no-fault d test root first others i s b = elim (root_or_none d i s root b) [
 ]
 
 few-namers : (d : Disk) (block : ℕ) → HasRootAlone d → length (namers d block) ≤ 1
-unfolding namers namers_in
+unfolding namers each_slot
 few-namers d block root =
+    let namer : ℕ → ℕ → Option (ℕ × ℕ) = λ i s. when (names_block d i s block) (i, s) in
     let unnamed = λ (i s : ℕ) (none : is_pointer d i s ≡ false). no_namer d block i s none in
-    let first : length (namers_in d block 0) ≤ 1 = some_below-first 4 (namer_at d block 0) (λ s some b. unnamed 0 s (no-pointer d 0 s root b (inr some))) in
-    let all = each_below-first 16 (namers_in d block) (λ i some a. some_below-none 4 (namer_at d block i) (λ s b. unnamed i s (no-pointer d i s root b (inl some)))) in
+    let first : length (some_below 4 (namer 0)) ≤ 1 = some_below-first 4 (namer 0) (λ s some b. unnamed 0 s (no-pointer d 0 s root b (inr some))) in
+    let all = each_below-first 16 (λ i. some_below 4 (namer i)) (λ i some a. some_below-none 4 (namer i) (λ s b. unnamed i s (no-pointer d i s root b (inl some)))) in
     omega (arith, first, all)
   where
-    no_namer : (d : Disk) (block i s : ℕ) → is_pointer d i s ≡ false → namer_at d block i s ≡ None
+    no_namer : (d : Disk) (block i s : ℕ) → is_pointer d i s ≡ false → when {X = ℕ × ℕ} (names_block d i s block) (i, s) ≡ None
     no_namer d block i s none = rw none refl
 
 -- the root's block is its own, and in use
@@ -132,7 +134,7 @@ pointer-root : (d : Disk) → HasRootAlone d → is_pointer d 0 0 ≡ true
 pointer-root d root = rw (live-root d root, ne_eqb (pointer_of d 0 0) 0 (λ e. absurd (omega (arith, e, root.block)))) refl
 
 clean-root : (d : Disk) → HasRootAlone d → IsClean d
-clean-root d root = record {
+clean-root d root = no_fault_clean d record {
   no_dangling = λ dir a k b. rw (no-entry d dir k root a b) refl;
   no_twice = λ block below. le-ltb 1 (length (namers d block)) (few-namers d block root);
   no_unwritten = λ i a s b. no-fault d (is_unwritten d) root (rw (marked-root d root) (and_right (is_tame d 0 0) false refl)) (λ i s none. rw none refl) i s b;

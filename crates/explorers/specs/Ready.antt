@@ -1,14 +1,30 @@
--- A worker's seat between two turns, during an expansion and at the end.
+-- A worker between two turns, during an expansion and at the end.
 use Rattle.std.specs.Prelude.{◌≡◌, ℕ, ◌<◌, List, true, slice_index}
 use Rattle.board_rule.specs.Lists.{Has}
 use Rattle.seen_board.specs.Known.{Shown, Known}
 use Rattle.seen_board.specs.Clauses.{IsOf, SeesOn, HasClaim}
 use Rattle.seen_board.specs.declared.answers.Place.{Place}
+use Rattle.explorers.specs.Met.{AreMet}
 use Rattle.explorers.specs.declared.worker.Left.{Left}
+use Rattle.explorers.specs.declared.worker.Worker.{Worker}
 
 -- a seat of the board with no right and no claim
 abbrev pub IsIdle : {S : Type 0} → Shown S → Known → Type 0
 IsIdle b s = IsOf b s × (s.right ≡ 0) × (s.claims ≡ 0)
+
+-- The space is that of the board. The worker's seat is of the board and has no right, its scratch is the space's own, and
+-- its seat has seen the words that it has met.
+pub record IsFree {S C A : Type 0} (b : Shown S) (s : S) (is_own : S → C → Type 0) (worker : Worker C A) : Type 0 where
+  pub explored : b.space ≡ s
+  pub of : IsOf b worker.seat
+  pub free : worker.seat.right ≡ 0
+  pub own : is_own s worker.scratch
+  pub met : AreMet worker.met.words.keys worker.met.counts worker.seat.seen
+
+-- so it is between two turns, and has no claim
+pub record IsReady {S C A : Type 0} (b : Shown S) (s : S) (is_own : S → C → Type 0) (worker : Worker C A) : Type 0 where
+  pub free : IsFree b s is_own worker
+  pub unclaimed : worker.seat.claims ≡ 0
 
 -- the word is an entry that the seat has seen, and the claim is as it was
 pub record PutsIn (word : ℕ) (before after : Known) : Type 0 where

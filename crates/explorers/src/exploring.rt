@@ -2,15 +2,15 @@
 ghost use Rattle.std.specs.Prelude.{◌≡◌, ℕ, ◌<◌, ◌≤◌, length, IfOk, IsErrOf};
 ghost use Rattle.std.specs.List.{All};
 ghost use Rattle.patch_sets.specs.Explored.{IsExplored, ReachExceeds};
-ghost use Rattle.explorers.specs.Met.{AreMet};
-ghost use Rattle.explorers.specs.Ready.{IsIdle, IsLeft};
+ghost use Rattle.explorers.specs.Ready.{IsIdle, IsReady};
 
 use crate::answers::{answer, join_all};
+use crate::exploration::Exploration;
 use crate::gate::Gate;
-use crate::jobs::{Job, share};
+use crate::jobs::share;
 use crate::met::Met;
 use crate::tasks::{Task, Tasks};
-use crate::worker::{Left, Worker, work};
+use crate::worker::{Left, Worker};
 use hands::{Hand, hands};
 use patch_sets::explored::{ExploreFault, Explored};
 use seen_board::{Board, BoardSeat, Place};
@@ -53,7 +53,12 @@ where
         seat,
         is_over: false,
     };
-    let left = work_together(rt, &board, space, gate, before, ready)?;
+    let exploration = Exploration {
+        board: &board,
+        space,
+        gate,
+    };
+    let left = join_all(&board, before, share(rt, &exploration, ready)?);
     answer(alloc, space, limit, board, left)
 }
 
@@ -83,13 +88,14 @@ fn new_workers<S: Space, A: Allocator + Copy>(
     space: &S,
     seat: &mut BoardSeat,
     mut hands: Vec<Hand<Task, A>, A>,
-) -> Result<Vec<Worker<S, A>, A>, AllocError>
+) -> Result<Vec<Worker<S::Scratch, A>, A>, AllocError>
+    requires space { board.now.space ≡ space.now }
     requires idle { IsIdle board.now seat.old }
     requires few { length hands.items ≤ 16 }
     requires ways { All (λ hand. length hand.ways ≡ length hands.items) hands.items }
     ensures idle { IsIdle board.now seat.new }
     ensures count { IfOk result (λ workers. length workers.items ≡ length hands.items) }
-    ensures ready { IfOk result (λ workers. All (λ w. IsIdle board.now w.seat × S.is_own space.now w.scratch × AreMet w.met.words.keys w.met.counts w.seat.seen) workers.items) }
+    ensures ready { IfOk result (λ workers. All (IsReady board.now space.now S.is_own) workers.items) }
 {
     let count = hands.len();
     let mut workers = Vec::new(alloc);
@@ -102,53 +108,4 @@ fn new_workers<S: Space, A: Allocator + Copy>(
         workers.push(Worker::new(own + 1, seat, scratch, tasks, met))?;
     }
     Ok(workers)
-}
-
-/// Exploring a space over a board.
-#[derive(Drop)]
-struct Exploration<'a, S: Space, G: Gate, A: Allocator + Copy> {
-    board: &'a Board<S, A>,
-    space: &'a S,
-    gate: &'a G,
-}
-
-impl<'a, S: Space, G: Gate, A: Allocator + Copy> Job for Exploration<'a, S, G, A> {
-    type Worker = Worker<S, A>;
-
-    ghost use Rattle.std.specs.Prelude.{◌≡◌};
-    ghost use Rattle.explorers.specs.Met.{AreMet};
-    ghost use Rattle.explorers.specs.Ready.{IsIdle, IsLeft};
-
-    ghost is_ready = { λ e worker. (e.board.now.space ≡ e.space.now) × IsIdle e.board.now worker.seat × S.is_own e.space.now worker.scratch × AreMet worker.met.words.keys worker.met.counts worker.seat.seen };
-
-    ghost is_left = { λ e left. IsLeft e.board.now left };
-
-    fn work<R: Wait>(&self, rt: &R, worker: Worker<S, A>) -> Left {
-        work(rt, self.board, self.space, self.gate, worker)
-    }
-}
-
-/// The workers work side by side, the last of them on the caller's thread. What they leave is joined to what is there.
-fn work_together<R, S, G, A>(
-    rt: &R,
-    board: &Board<S, A>,
-    space: &S,
-    gate: &G,
-    before: Left,
-    workers: Vec<Worker<S, A>, A>,
-) -> Result<Left, AllocError>
-where
-    R: Threads + Wait + Sync,
-    A: Allocator + Copy + Send + Sync,
-    S: Space + Sync,
-    S::Scratch: Send,
-    G: Gate + Sync,
-    requires space { board.now.space ≡ space.now }
-    requires before { IsLeft board.now before }
-    requires ready { All (λ w. IsIdle board.now w.seat × S.is_own space.now w.scratch × AreMet w.met.words.keys w.met.counts w.seat.seen) workers.items }
-    ensures left { IfOk result (IsLeft board.now) }
-{
-    let exploration = Exploration { board, space, gate };
-    let left = share(rt, &exploration, workers)?;
-    Ok(join_all(board, before, left))
 }

@@ -7,6 +7,7 @@
 mod answers;
 mod collected;
 mod expanding;
+mod exploration;
 mod exploring;
 mod gate;
 mod jobs;

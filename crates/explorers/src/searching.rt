@@ -1,11 +1,11 @@
 //! The rows searched for what waits.
-ghost use Rattle.std.specs.Prelude.{◌≡◌, ◌<◌, ◌≤◌, true, false, length, IfOk};
+ghost use Rattle.std.specs.Prelude.{◌≡◌, ◌<◌, ◌≤◌, length, IfOk};
 ghost use Rattle.board_rule.specs.Lists.{row_of};
 ghost use Rattle.seen_board.specs.Clauses.{SeesOn};
-ghost use Rattle.explorers.specs.Met.{AreMet};
-ghost use Rattle.explorers.specs.Ready.{IsIdle};
+ghost use Rattle.explorers.specs.Ready.{IsIdle, IsReady};
+ghost use Rattle.explorers.specs.declared.exploration.Turn.TheVariants as turn;
 
-use crate::expanding::visit;
+use crate::exploration::{Exploration, Turn};
 use crate::gate::Gate;
 use crate::worker::Worker;
 use seen_board::{Board, BoardSeat, Place};
@@ -16,60 +16,46 @@ use std::sync::Wait;
 /// The shards of a board.
 const SHARDS: u8 = 13;
 
-/// Looks at each shard once, and expands what it claims there. `false` where more words than the limit are reached; the
-/// error is out of memory.
-pub(crate) fn search<R: Wait, S: Space, G: Gate, A: Allocator + Copy>(
-    rt: &R,
-    board: &Board<S, A>,
-    space: &S,
-    gate: &G,
-    mine: &mut Worker<S, A>,
-) -> Result<bool, AllocError>
-    requires space { board.now.space ≡ space.now }
-    requires idle { IsIdle board.now mine.old.seat }
-    requires own { S.is_own space.now mine.old.scratch }
-    requires met { AreMet mine.old.met.words.keys mine.old.met.counts mine.old.seat.seen }
-    ensures idle { IsIdle board.now mine.new.seat }
-    ensures own { S.is_own space.now mine.new.scratch }
-    ensures met { AreMet mine.new.met.words.keys mine.new.met.counts mine.new.seat.seen }
-    ensures over { IfOk result (λ within. within ≡ false → mine.new.seat.over ≡ 1) }
-{
-    for shard in 0..SHARDS {
-        if !search_shard(rt, board, space, gate, mine, shard)? {
-            return Ok(false);
+impl<S: Space, G: Gate, A: Allocator + Copy> Exploration<'_, S, G, A> {
+    /// Looks at each shard once, and expands what the worker claims there.
+    pub(crate) fn search<R: Wait>(
+        &self,
+        rt: &R,
+        mine: &mut Worker<S::Scratch, A>,
+    ) -> Result<Turn, AllocError>
+        requires ready { IsReady self.now.board.now self.now.space.now S.is_own mine.old }
+        ensures ready { IsReady self.now.board.now self.now.space.now S.is_own mine.new }
+        ensures over { IfOk result (λ t. t ≡ turn.Over → mine.new.seat.over ≡ 1) }
+    {
+        for shard in 0..SHARDS {
+            if let Turn::Over = self.search_shard(rt, mine, shard)? {
+                return Ok(Turn::Over);
+            }
         }
+        Ok(Turn::Within)
     }
-    Ok(true)
-}
 
-/// Tries to claim each place of a shard that it has not tried, and expands what it claims. The answers are those of
-/// `search`.
-fn search_shard<R: Wait, S: Space, G: Gate, A: Allocator + Copy>(
-    rt: &R,
-    board: &Board<S, A>,
-    space: &S,
-    gate: &G,
-    mine: &mut Worker<S, A>,
-    shard: u8,
-) -> Result<bool, AllocError>
-    requires space { board.now.space ≡ space.now }
-    requires idle { IsIdle board.now mine.old.seat }
-    requires own { S.is_own space.now mine.old.scratch }
-    requires met { AreMet mine.old.met.words.keys mine.old.met.counts mine.old.seat.seen }
-    requires shard { shard < 13 }
-    ensures idle { IsIdle board.now mine.new.seat }
-    ensures own { S.is_own space.now mine.new.scratch }
-    ensures met { AreMet mine.new.met.words.keys mine.new.met.counts mine.new.seat.seen }
-    ensures over { IfOk result (λ within. within ≡ false → mine.new.seat.over ≡ 1) }
-{
-    let count = count_of(rt, board, &mut mine.seat, shard);
-    for at in mine.tried[shard as usize]..count {
-        mine.tried[shard as usize] = at + 1;
-        if !visit(rt, board, space, gate, mine, Place { shard, at })? {
-            return Ok(false);
+    /// Tries to claim each place of a shard that the worker has not tried, and expands what it claims.
+    fn search_shard<R: Wait>(
+        &self,
+        rt: &R,
+        mine: &mut Worker<S::Scratch, A>,
+        shard: u8,
+    ) -> Result<Turn, AllocError>
+        requires ready { IsReady self.now.board.now self.now.space.now S.is_own mine.old }
+        requires shard { shard < 13 }
+        ensures ready { IsReady self.now.board.now self.now.space.now S.is_own mine.new }
+        ensures over { IfOk result (λ t. t ≡ turn.Over → mine.new.seat.over ≡ 1) }
+    {
+        let count = count_of(rt, self.board, &mut mine.seat, shard);
+        for at in mine.tried[shard as usize]..count {
+            mine.tried[shard as usize] = at + 1;
+            if let Turn::Over = self.visit(rt, mine, Place { shard, at })? {
+                return Ok(Turn::Over);
+            }
         }
+        Ok(Turn::Within)
     }
-    Ok(true)
 }
 
 /// The number of a shard's entries, which the seat then has seen.

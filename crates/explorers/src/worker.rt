@@ -1,15 +1,15 @@
 //! What one worker does.
-ghost use Rattle.std.specs.Prelude.{◌≡◌, true, false, IfOk};
-ghost use Rattle.explorers.specs.Met.{AreMet};
-ghost use Rattle.explorers.specs.Ready.{IsIdle, IsLeft};
+ghost use Rattle.std.specs.Prelude.{◌≡◌, IfOk};
+ghost use Rattle.explorers.specs.Ready.{IsReady};
+ghost use Rattle.explorers.specs.declared.exploration.Turn.TheVariants as turn;
 
-use crate::expanding::take;
+use crate::exploration::{Exploration, Turn};
 use crate::gate::Gate;
+use crate::jobs::Job;
 use crate::met::Met;
-use crate::searching::search;
 use crate::stealing::learn;
 use crate::tasks::Tasks;
-use seen_board::{Board, BoardSeat};
+use seen_board::BoardSeat;
 use state_space::Space;
 use std::alloc::{AllocError, Allocator};
 use std::sync::Wait;
@@ -21,25 +21,25 @@ const EMPTY_ROUNDS: u8 = 64;
 /// A worker: its number, from 1, its seat at the board, what it judges in, its tasks, the words that it has met, and how
 /// many places of each shard it has tried to claim in a search of the rows. A place that was tried waits no more.
 #[derive(Drop)]
-pub(crate) struct Worker<S: Space, A: Allocator> {
+pub(crate) struct Worker<C, A: Allocator> {
     pub number: usize,
     pub seat: BoardSeat,
-    pub scratch: S::Scratch,
+    pub scratch: C,
     pub tasks: Tasks<A>,
     pub met: Met<A>,
     pub empty_rounds: u8,
     pub tried: [u16; 13],
 }
 
-impl<S: Space, A: Allocator> Worker<S, A> {
+impl<C, A: Allocator> Worker<C, A> {
     /// A worker that has tried nothing.
     pub fn new(
         number: usize,
         seat: BoardSeat,
-        scratch: S::Scratch,
+        scratch: C,
         tasks: Tasks<A>,
         met: Met<A>,
-    ) -> Worker<S, A>
+    ) -> Worker<C, A>
         ensures seat { result.seat ≡ seat }
         ensures scratch { result.scratch ≡ scratch }
         ensures tasks { result.tasks ≡ tasks }
@@ -64,99 +64,70 @@ pub(crate) struct Left {
     pub is_over: bool,
 }
 
-/// Works until the board is finished, a stop was read, more words than the limit are reached or memory was refused.
-pub(crate) fn work<R: Wait, S: Space, G: Gate, A: Allocator + Copy>(
-    rt: &R,
-    board: &Board<S, A>,
-    space: &S,
-    gate: &G,
-    mut mine: Worker<S, A>,
-) -> Left
-    requires space { board.now.space ≡ space.now }
-    requires idle { IsIdle board.now mine.seat }
-    requires own { S.is_own space.now mine.scratch }
-    requires met { AreMet mine.met.words.keys mine.met.counts mine.seat.seen }
-    ensures left { IsLeft board.now result }
-{
-    let mut is_over = false;
-    for _ in rt.forever() {
-        if board.finished(&mut mine.seat) || board.stopped(&mut mine.seat) {
-            break;
-        }
-        match turn(rt, board, space, gate, &mut mine) {
-            Ok(true) => {}
-            Ok(false) => {
-                is_over = true;
-                break;
+impl<'a, S: Space, G: Gate, A: Allocator + Copy> Job for Exploration<'a, S, G, A> {
+    type Worker = Worker<S::Scratch, A>;
+
+    ghost use Rattle.explorers.specs.Ready.{IsReady, IsLeft};
+
+    ghost is_ready = { λ e worker. IsReady e.board.now e.space.now S.is_own worker };
+
+    ghost is_left = { λ e left. IsLeft e.board.now left };
+
+    /// Works until the board is finished, a stop was read, more words than the limit are reached or memory was refused.
+    fn work<R: Wait>(&self, rt: &R, mut worker: Worker<S::Scratch, A>) -> Left {
+        let mut is_over = false;
+        for _ in rt.forever() {
+            match self.turn(rt, &mut worker) {
+                Ok(Turn::Within) => {}
+                Ok(Turn::Over) => {
+                    is_over = true;
+                    break;
+                }
+                Ok(Turn::Ended) | Err(_) => break,
             }
-            Err(_) => break,
         }
+        let Worker { seat, .. } = worker;
+        Left { seat, is_over }
     }
-    let Worker {
-        number: _,
-        seat,
-        scratch: _,
-        tasks: _,
-        met: _,
-        empty_rounds: _,
-        tried: _,
-    } = mine;
-    Left { seat, is_over }
 }
 
-/// Takes the newest of its own tasks, else the oldest of another worker's, else notes an empty round. `false` where more
-/// words than the limit are reached; the error is out of memory.
-fn turn<R: Wait, S: Space, G: Gate, A: Allocator + Copy>(
-    rt: &R,
-    board: &Board<S, A>,
-    space: &S,
-    gate: &G,
-    mine: &mut Worker<S, A>,
-) -> Result<bool, AllocError>
-    requires space { board.now.space ≡ space.now }
-    requires idle { IsIdle board.now mine.old.seat }
-    requires own { S.is_own space.now mine.old.scratch }
-    requires met { AreMet mine.old.met.words.keys mine.old.met.counts mine.old.seat.seen }
-    ensures idle { IsIdle board.now mine.new.seat }
-    ensures own { S.is_own space.now mine.new.scratch }
-    ensures met { AreMet mine.new.met.words.keys mine.new.met.counts mine.new.seat.seen }
-    ensures over { IfOk result (λ within. within ≡ false → mine.new.seat.over ≡ 1) }
-{
-    if let Some(task) = mine.tasks.pop() {
-        mine.empty_rounds = 0;
-        return take(rt, board, space, gate, mine, task.place);
+impl<S: Space, G: Gate, A: Allocator + Copy> Exploration<'_, S, G, A> {
+    /// Takes the newest of its own tasks, else the oldest of another worker's, else passes the round.
+    fn turn<R: Wait>(&self, rt: &R, mine: &mut Worker<S::Scratch, A>) -> Result<Turn, AllocError>
+        requires ready { IsReady self.now.board.now self.now.space.now S.is_own mine.old }
+        ensures ready { IsReady self.now.board.now self.now.space.now S.is_own mine.new }
+        ensures over { IfOk result (λ t. t ≡ turn.Over → mine.new.seat.over ≡ 1) }
+    {
+        if self.board.stopped(&mut mine.seat) {
+            return Ok(Turn::Ended);
+        }
+        if let Some(task) = mine.tasks.pop() {
+            mine.empty_rounds = 0;
+            return self.take(rt, mine, task.place);
+        }
+        if let Some(task) = mine.tasks.steal() {
+            mine.empty_rounds = 0;
+            learn(rt, self.board, &mut mine.seat, task.word);
+            return self.take(rt, mine, task.place);
+        }
+        self.pass(rt, mine)
     }
-    if let Some(task) = mine.tasks.steal() {
-        mine.empty_rounds = 0;
-        learn(rt, board, &mut mine.seat, task.word);
-        return take(rt, board, space, gate, mine, task.place);
-    }
-    pass(rt, board, space, gate, mine)
-}
 
-/// Passes a round in which all deques were found empty, and searches the rows in the last of many. The answers are those
-/// of `turn`.
-fn pass<R: Wait, S: Space, G: Gate, A: Allocator + Copy>(
-    rt: &R,
-    board: &Board<S, A>,
-    space: &S,
-    gate: &G,
-    mine: &mut Worker<S, A>,
-) -> Result<bool, AllocError>
-    requires space { board.now.space ≡ space.now }
-    requires idle { IsIdle board.now mine.old.seat }
-    requires own { S.is_own space.now mine.old.scratch }
-    requires met { AreMet mine.old.met.words.keys mine.old.met.counts mine.old.seat.seen }
-    ensures idle { IsIdle board.now mine.new.seat }
-    ensures own { S.is_own space.now mine.new.scratch }
-    ensures met { AreMet mine.new.met.words.keys mine.new.met.counts mine.new.seat.seen }
-    ensures over { IfOk result (λ within. within ≡ false → mine.new.seat.over ≡ 1) }
-{
-    yield_now();
-    mine.empty_rounds = mine.empty_rounds.saturating_add(1);
-    if mine.empty_rounds < EMPTY_ROUNDS {
-        return Ok(true);
+    /// Passes a round in which all deques were found empty, and searches the rows in the last of many.
+    fn pass<R: Wait>(&self, rt: &R, mine: &mut Worker<S::Scratch, A>) -> Result<Turn, AllocError>
+        requires ready { IsReady self.now.board.now self.now.space.now S.is_own mine.old }
+        ensures ready { IsReady self.now.board.now self.now.space.now S.is_own mine.new }
+        ensures over { IfOk result (λ t. t ≡ turn.Over → mine.new.seat.over ≡ 1) }
+    {
+        if self.board.finished(&mut mine.seat) {
+            return Ok(Turn::Ended);
+        }
+        yield_now();
+        mine.empty_rounds = mine.empty_rounds.saturating_add(1);
+        if mine.empty_rounds < EMPTY_ROUNDS {
+            return Ok(Turn::Within);
+        }
+        mine.empty_rounds = 0;
+        self.search(rt, mine)
     }
-    mine.empty_rounds = 0;
-    search(rt, board, space, gate, mine)
 }

@@ -1,3 +1,6 @@
 pub mod Counting
+pub mod Passed
 pub mod Slots
 pub mod Entries
+pub mod Halves
+pub mod Found

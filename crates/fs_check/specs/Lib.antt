@@ -1,2 +1,3 @@
 pub mod Tally
 pub mod Passed
+pub mod References

@@ -1,8 +1,9 @@
 -- What the checker knows of the pointers and the entries that it has passed.
-use Rattle.std.specs.Prelude.{◌≡◌, ℕ, ◌<◌, ◌≤◌, List, length, slice_index, Bool, false, ◌&&◌, ◌==◌, not, IsTrue}
+use Rattle.std.specs.Prelude.{◌≡◌, ℕ, ◌<◌, ◌≤◌, List, length, slice_index, Bool, false, ◌&&◌, ◌||◌, ◌==◌, not, Option}
 use Rattle.crash_model.specs.Disk.{Disk, byte}
-use Rattle.crash_model.specs.Layout.{kind_of, links_of, map_of, is_live, is_data}
-use Rattle.crash_model.specs.Faults.{is_dangling, is_twice, is_unwritten, has_low_links, is_marked_free, is_wild, is_right_mark, namer_at, entry_leading}
+use Rattle.crash_model.specs.Layout.{kind_of, links_of, map_of, is_data}
+use Rattle.crash_model.specs.Lists.{when}
+use Rattle.crash_model.specs.Faults.{is_dangling, is_twice, is_unwritten, has_low_links, is_marked_free, is_wild, is_right_mark, names_block, leads_to}
 use Rattle.fs_check.specs.Tally.{IsTally}
 
 -- no fault of a pointer holds
@@ -25,26 +26,40 @@ is_marked d inode block = is_right_mark (kind_of d inode) (byte d block 0) && by
 abbrev pub is_right_block : Disk → ℕ → ℕ → Bool
 is_right_block d inode block = is_data d block && not (map_of d block == 0) && is_marked d inode block
 
--- no fault of one slot alone
-pub record IsCleanSlot (d : Disk) (inode slot : ℕ) : Type 0 where
-  pub written : is_unwritten d inode slot ≡ false
-  pub marked_used : is_marked_free d inode slot ≡ false
-  pub tame : is_wild d inode slot ≡ false
+-- Places in rows of one width, the keys below a number, what stands at a place for a key, which places have a fault of
+-- their own, and the most places that may stand for a key.
+pub record Table : Type 0 where
+  pub width : ℕ
+  pub keys : ℕ
+  pub element : ℕ → ℕ → ℕ → Option (ℕ × ℕ)
+  pub is_faulty : ℕ → ℕ → Bool
+  pub most : ℕ → ℕ
 
--- The slots before a place are clean; the counts are those of the pointers among them that name each block, and none
--- is named twice.
-pub record HavePassedSlots (d : Disk) (inode slot : ℕ) (named : List ℕ) : Type 0 where
-  pub rows : (i : ℕ) → i < inode → (s : ℕ) → s < 4 → IsCleanSlot d i s
-  pub row : (s : ℕ) → s < slot → IsCleanSlot d inode s
-  pub size : length named ≡ 128
-  pub tally : IsTally 4 (namer_at d) inode slot named
-  pub once : (block : ℕ) → block < 128 → slice_index named block ≤ 1
+-- the slots by inode, which stand for the blocks that they name
+abbrev pub slots_of : Disk → Table
+slots_of d = record {
+  width = 4;
+  keys = 128;
+  element = λ block inode slot. when (names_block d inode slot block) (inode, slot);
+  is_faulty = λ inode slot. is_unwritten d inode slot || is_marked_free d inode slot || is_wild d inode slot;
+  most = λ block. 1;
+}
 
--- The entries before a place lead to live inodes; the counts are those of the entries among them that lead to each
--- inode, and no live inode has fewer links.
-pub record HavePassedEntries (d : Disk) (dir k : ℕ) (entries : List ℕ) : Type 0 where
-  pub rows : (i : ℕ) → i < dir → (j : ℕ) → j < 10 → is_dangling d i j ≡ false
-  pub row : (j : ℕ) → j < k → is_dangling d dir j ≡ false
-  pub size : length entries ≡ 16
-  pub tally : IsTally 10 (entry_leading d) dir k entries
-  pub few : (inode : ℕ) → IsTrue (is_live d inode) → slice_index entries inode ≤ links_of d inode
+-- the entries by directory, which stand for the inodes that they lead to
+abbrev pub entries_of : Disk → Table
+entries_of d = record {
+  width = 10;
+  keys = 16;
+  element = λ inode dir k. when (leads_to d dir k inode) (dir, k);
+  is_faulty = is_dangling d;
+  most = links_of d;
+}
+
+-- The places before one have no fault of their own, the counts are those of the places among them that stand for each
+-- key, and none is too large.
+pub record HavePassed (t : Table) (row column : ℕ) (counts : List ℕ) : Type 0 where
+  pub rows_right : (r : ℕ) → r < row → (c : ℕ) → c < t.width → t.is_faulty r c ≡ false
+  pub row_right : (c : ℕ) → c < column → t.is_faulty row c ≡ false
+  pub size : length counts ≡ t.keys
+  pub tally : IsTally t.width t.element row column counts
+  pub few : (key : ℕ) → key < t.keys → slice_index counts key ≤ t.most key

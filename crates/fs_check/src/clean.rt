@@ -3,7 +3,7 @@
 ghost use Rattle.std.specs.Prelude.{◌≡◌, ◌+◌, ◌<◌, ◌↔◌, IsTrue, MatchBool};
 ghost use Rattle.crash_model.specs.Layout.{is_live, counts};
 ghost use Rattle.crash_model.specs.Faults.{IsClean};
-ghost use Rattle.fs_check.specs.Passed.{HasCleanPointers, HasCleanEntries, HavePassedSlots, HavePassedEntries, is_marked, is_right_block};
+ghost use Rattle.fs_check.specs.Passed.{HasCleanPointers, HasCleanEntries, HavePassed, slots_of, entries_of, is_marked, is_right_block};
 
 use disk_image::Image;
 use std::alloc::Allocator;
@@ -33,8 +33,8 @@ fn has_clean_pointers<A: Allocator + Copy>(image: &Image<A>) -> bool
 fn has_clean_slots<A: Allocator + Copy>(image: &Image<A>, inode: u8, named: &mut [u8; 128]) -> bool
     requires inode { inode < 16 }
     requires live { IsTrue (is_live image.now inode) }
-    requires passed { HavePassedSlots image.now inode 0 named.old }
-    ensures { MatchBool result (HavePassedSlots image.now (inode + 1) 0 named.new) (¬ (HasCleanPointers image.now)) }
+    requires passed { HavePassed (slots_of image.now) inode 0 named.old }
+    ensures { MatchBool result (HavePassed (slots_of image.now) (inode + 1) 0 named.new) (¬ (HasCleanPointers image.now)) }
 {
     for slot in 0..4u8 {
         let block = image.pointer(inode, slot);
@@ -93,8 +93,8 @@ fn has_clean_directory<A: Allocator + Copy>(
 ) -> bool
     requires dir { dir < 16 }
     requires counts { IsTrue (counts image.now dir) }
-    requires passed { HavePassedEntries image.now dir 0 entries.old }
-    ensures { MatchBool result (HavePassedEntries image.now (dir + 1) 0 entries.new) (¬ (HasCleanEntries image.now)) }
+    requires passed { HavePassed (entries_of image.now) dir 0 entries.old }
+    ensures { MatchBool result (HavePassed (entries_of image.now) (dir + 1) 0 entries.new) (¬ (HasCleanEntries image.now)) }
 {
     for k in 0..10u8 {
         let entry = image.entry(dir, k);

@@ -7,9 +7,7 @@
 mod clean;
 mod laws;
 mod list;
-mod tally;
-#[cfg(test)]
-mod tests;
+mod references;
 
 pub use clean::is_clean;
 pub use crash_model::fault::Fault;

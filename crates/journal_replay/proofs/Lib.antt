@@ -1,3 +1,4 @@
 pub mod Blocks
 pub mod Targets
 pub mod Walk
+pub mod Changed

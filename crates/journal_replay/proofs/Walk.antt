@@ -161,7 +161,7 @@ pub record IsWalking (start d : Disk) (at turn : ℕ) : Type 0 where
 pub walking-start : (d : Disk) → IsDisk d → IsWalking d d 4 1
 walking-start d disk = record { inside = omega arith; from = omega arith; counted = omega arith; journal = refl; blocks = refl; disk = disk; rest = (d.journal, omega arith, refl) }
 
-shaped-disk : (d : Disk) → IsDisk d → IsShaped d.blocks d.journal d
+pub shaped-disk : (d : Disk) → IsDisk d → IsShaped d.blocks d.journal d
 shaped-disk d i = record { blocks = refl; journal = refl; long = i.whole }
 
 disk-shaped : (d e : Disk) → IsDisk d → IsShaped d.blocks d.journal e → IsDisk e

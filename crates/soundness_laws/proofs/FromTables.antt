@@ -7,6 +7,7 @@ use Rattle.crash_model.specs.Layout.{kind_of, links_of, pointer_of, map_of, is_d
 use Rattle.crash_model.specs.Faults.{IsClean, is_tame, is_right_mark, names_block, namers, entries_to}
 use Rattle.crash_model.specs.View.{HasPointer}
 use Rattle.crash_model.specs.Sound.{IsSound, ReachedIn}
+use Rattle.crash_model.proofs.Clean.{no_fault_clean}
 use Rattle.soundness_laws.specs.Tables.{tables_of, mark_at, HasPointer as PointerIn, ReachedIn as ReachedBy, count_to, SoundNames, Sound}
 use Rattle.soundness_laws.specs.Tables.Place.{Leads}
 use Rattle.soundness_laws.specs.Tables.Mark.{Plain, FileOf, DirectoryOf}
@@ -67,7 +68,7 @@ clean-tables : (d : Disk) → IsDisk d → Sound (tables_of d) → IsClean d
 clean-tables d disk sound =
     let t = tables_of d in
     let tame_parts : (i s : ℕ) → is_tame d i s ≡ true → (is_pointer d i s ≡ true) × (is_data d (pointer_of d i s) ≡ true) = λ i s e. and-parts (is_pointer d i s) (is_data d (pointer_of d i s)) e in
-    record {
+    no_fault_clean d record {
       no_dangling = λ dir in_dir k in_place. without (is_entry d dir k) (not (is_live d (target_of d dir k))) (λ e.
           let live = live-at d (target_of d dir k) (sound.names.no_dangling dir k (target_of d dir k) (spelling_of d dir k) (entry-in d dir k in_dir in_place e)) in
           ap not live.1);

@@ -4,7 +4,9 @@ use Rattle.std.proofs.lemmas.Bool.{cases_eq, cases_order, eq-eqb, ne_eqb}
 use Rattle.std.proofs.lemmas.Bool.Decides.{nat_tests}
 use Rattle.crash_model.specs.Disk.{Disk, IsDisk, byte}
 use Rattle.crash_model.specs.Layout.{kind_of, links_of, pointer_of, map_of, is_data, is_live, is_entry, is_pointer, target_of, counts, entry_of, spelling_of}
-use Rattle.crash_model.specs.Faults.{is_tame, is_wild, is_right_mark, names_block, namers_in, namers, leads_to, entries_in, entries_to}
+use Rattle.crash_model.specs.Faults.{is_tame, is_wild, is_right_mark, names_block, each_slot, namers, leads_to, each_entry, entries_to}
+use Rattle.crash_model.specs.Lists.{some_below, when}
+use Rattle.crash_model.proofs.Clean.{clean_no_fault}
 use Rattle.crash_model.specs.Plan.{spelled}
 use Rattle.crash_model.specs.Sound.{IsSound, ReachedIn}
 use Rattle.soundness_laws.specs.Tables.{Place, tables_of, place_of, place_at, HasPointer as PointerIn, ReachedIn as ReachedBy, leads, sum_below, count_to, SoundBlocks, SoundInodes, SoundNames, SoundCounts, Sound}
@@ -59,10 +61,11 @@ mark-directory d b i inside first second =
 -- ---- how many name a block, and lead to an inode
 
 pub namers-count : (d : Disk) (b : ℕ) → length (namers d b) ≡ sum_below 16 (λ i. sum_below 4 (λ s. one_if (names_block d i s b)))
-unfolding namers namers_in
+unfolding namers each_slot
 namers-count d b =
-    length-each_below 16 (namers_in d b)
-    ∙ sum_below-same 16 (λ i. sum_below 4 (λ s. one_if (names_block d i s b))) (λ i. length (namers_in d b i)) (λ i _. length-some_below 4 (λ s. names_block d i s b) (λ s. (i, s)))
+    let named : ℕ → List (ℕ × ℕ) = λ i. some_below 4 (λ s. when (names_block d i s b) (i, s)) in
+    length-each_below 16 named
+    ∙ sum_below-same 16 (λ i. sum_below 4 (λ s. one_if (names_block d i s b))) (λ i. length (named i)) (λ i _. length-some_below 4 (λ s. names_block d i s b) (λ s. (i, s)))
 
 leads-test : (d : Disk) (dir k i : ℕ) → one_if (leads_to d dir k i) ≡ leads (place_of d dir k) i
 leads-test d dir k i = go (counts d dir) (entry_of d dir k) (spelling_of d dir k)
@@ -76,10 +79,11 @@ leads-test d dir k i = go (counts d dir) (entry_of d dir k) (spelling_of d dir k
         rw (some, same) refl
 
 pub entries-count : (d : Disk) (i : ℕ) → length (entries_to d i) ≡ count_to (tables_of d).entry i
-unfolding entries_to entries_in
+unfolding entries_to each_entry
 entries-count d i =
-    length-each_below 16 (entries_in d i)
-    ∙ sum_below-same 16 (λ dir. sum_below 10 (λ k. leads ((tables_of d).entry dir k) i)) (λ dir. length (entries_in d i dir)) (λ dir less.
+    let leading : ℕ → List (ℕ × ℕ) = λ dir. some_below 10 (λ k. when (leads_to d dir k i) (dir, k)) in
+    length-each_below 16 leading
+    ∙ sum_below-same 16 (λ dir. sum_below 10 (λ k. leads ((tables_of d).entry dir k) i)) (λ dir. length (leading dir)) (λ dir less.
     length-some_below 10 (λ k. leads_to d dir k i) (λ k. (dir, k))
     ∙ sum_below-same 10 (λ k. leads ((tables_of d).entry dir k) i) (λ k. one_if (leads_to d dir k i)) (λ k small. leads-test d dir k i ∙ ap (λ (p : Place). leads p i) (sym (entry-at d dir k less small))))
 
@@ -98,11 +102,12 @@ blocks-sound : (d : Disk) → IsDisk d → IsSound d → (let t = tables_of d in
 unfolding tables_of
 blocks-sound d disk sound =
     let t = tables_of d in
+    let clean = clean_no_fault d sound.clean in
     let bytes = pointer-bytes d in
-    let inside : (i s b : ℕ) → PointerBytes d i s b → is_data d b ≡ true = λ i s b p. ap (is_data d) (sym p.is) ∙ tame d i s p.pointer (sound.clean.no_wild i p.in_inodes s p.in_slots) in
-    let tamed : (i s b : ℕ) → PointerBytes d i s b → is_tame d i s ≡ true = λ i s b p. rw (p.pointer, tame d i s p.pointer (sound.clean.no_wild i p.in_inodes s p.in_slots)) refl in
+    let inside : (i s b : ℕ) → PointerBytes d i s b → is_data d b ≡ true = λ i s b p. ap (is_data d) (sym p.is) ∙ tame d i s p.pointer (clean.no_wild i p.in_inodes s p.in_slots) in
+    let tamed : (i s b : ℕ) → PointerBytes d i s b → is_tame d i s ≡ true = λ i s b p. rw (p.pointer, tame d i s p.pointer (clean.no_wild i p.in_inodes s p.in_slots)) refl in
     let naming : (i s b : ℕ) → PointerBytes d i s b → names_block d i s b ≡ true = λ i s b p. rw (tamed i s b p, eq-eqb (pointer_of d i s) b p.is) refl in
-    let marks : (i s b : ℕ) (p : PointerBytes d i s b) → _ = λ i s b p. marked (is_tame d i s) (kind_of d i) (byte d (pointer_of d i s) 0) (byte d (pointer_of d i s) 1) i (sound.clean.no_unwritten i p.in_inodes s p.in_slots) (tamed i s b p) in
+    let marks : (i s b : ℕ) (p : PointerBytes d i s b) → _ = λ i s b p. marked (is_tame d i s) (kind_of d i) (byte d (pointer_of d i s) 0) (byte d (pointer_of d i s) 1) i (clean.no_unwritten i p.in_inodes s p.in_slots) (tamed i s b p) in
     record {
       slots = λ i s some. (pointer-below d i s some).1;
       once = λ b i s j r h g.
@@ -111,7 +116,7 @@ blocks-sound d disk sound =
           let own = data-block d b (inside i s b p) in
           let one : one_if (names_block d i s b) ≢ 0 = λ z. omega (arith, sym (ap one_if (naming i s b p)) ∙ z) in
           let two : one_if (names_block d j r b) ≢ 0 = λ z. omega (arith, sym (ap one_if (naming j r b q)) ∙ z) in
-          let few : length (namers d b) ≤ 1 = grind (arith, nat_tests, sound.clean.no_twice b own.1) in
+          let few : length (namers d b) ≤ 1 = grind (arith, nat_tests, clean.no_twice b own.1) in
           sum_below-pairs 16 4 (λ k m. one_if (names_block d k m b)) i s j r p.in_inodes q.in_inodes p.in_slots q.in_slots one two (subst (λ (x : ℕ). x ≤ 1) (namers-count d b) few);
       file_blocks = λ i s b h one.
           let p = bytes i s b h in
@@ -199,7 +204,7 @@ names-sound d sound =
       no_dangling = λ dir k i spelling e z.
           let b = bytes dir k i spelling e in
           let at = is dir k i spelling e in
-          let live = living (is_entry d dir k) (is_live d (target_of d dir k)) at.0 (sound.clean.no_dangling dir b.in_dir k b.in_place) in
+          let live = living (is_entry d dir k) (is_live d (target_of d dir k)) at.0 ((clean_no_fault d sound.clean).no_dangling dir b.in_dir k b.in_place) in
           let living_i : is_live d i ≡ true = ap (is_live d) (sym at.1) ∙ live in
           let less : i < 16 = grind (arith, nat_tests) in
           let some : kind_of d i ≢ 0 = grind (arith, nat_tests) in

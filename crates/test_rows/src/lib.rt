@@ -15,6 +15,8 @@ mod deques;
 #[cfg(test)]
 mod disks;
 #[cfg(test)]
+mod faults;
+#[cfg(test)]
 mod graphs;
 #[cfg(test)]
 mod ladders;

@@ -17,7 +17,6 @@ use Rattle.crash_model.specs.Patches.{deps_of, image_of}
 use Rattle.crash_model.specs.Faults.{faults}
 use Rattle.crash_model.specs.Replay.{replayed}
 use Rattle.crash_model.specs.Failing.{IsFailing, CountsClosed}
-use Rattle.crash_model.proofs.Clean.{no_faults, clean_without}
 use Rattle.crash_model.specs.declared.fault.Fault.{Fault}
 use Rattle.crash_model.specs.Trace.{Tracing, begun, traced}
 use Rattle.crash_model.specs.declared.patches.Patch.{Patch}
@@ -76,13 +75,13 @@ module _ (base : Disk) (patches : List Patch) (before : AreEarlier (deps_of patc
       let it = from_filter (fails base patches) (closed_sets (deps_of patches)) set is in
       record {
         closed = (closed_are_all (deps_of patches) before).each set it.0;
-        unclean = λ clean. none_at_true (faults (replayed (image_of base patches set))) it.1 (no_faults (replayed (image_of base patches set)) clean);
+        unclean = λ clean. none_at_true (faults (replayed (image_of base patches set))) it.1 clean.faultless;
       }
 
   pub in_failing : (set : ℕ) → IsFailing base patches set → Contains (failing_sets base patches) set
   in_failing set failing = to_filter (fails base patches) (closed_sets (deps_of patches)) set
       ((closed_are_all (deps_of patches) before).every set failing.closed)
-      (by_fault (faults (replayed (image_of base patches set))) (λ none. failing.unclean (clean_without (replayed (image_of base patches set)) none)))
+      (by_fault (faults (replayed (image_of base patches set))) (λ none. failing.unclean record { faultless = none }))
 
   pub counts_failing : (n : ℕ) → length (failing_sets base patches) ≡ n → HoldsOf (IsFailing base patches) n
   counts_failing n many = (

@@ -9,7 +9,6 @@ use Rattle.crash_model.specs.Layout.{kind_of, links_of, pointer_of, map_of, is_l
 use Rattle.crash_model.specs.Faults.{faults}
 use Rattle.crash_model.specs.Sound.{IsSound, HasZeroJournal}
 use Rattle.crash_model.specs.View.{HasPointer}
-use Rattle.crash_model.proofs.Clean.{clean_without}
 use Rattle.worked_example_laws.specs.Computed.{all_below, has_no_entries, has_root_alone, has_root_block, is_root_mapped, is_zero_journal}
 
 below_or_same : (k n : ℕ) → k < suc n → (k < n) ⊎ (k ≡ n)
@@ -115,7 +114,7 @@ module _ (d : Disk) (clean : faults d ≡ []) (entries : has_no_entries d ≡ tr
 
   pub sound_alone : IsSound d
   sound_alone = record {
-    clean = clean_without d clean;
+    clean = record { faultless = clean };
     root = (record { live = root_live; kind_is = root_inode.0; links_are = root_inode.1 }, root_pointer);
     no_way_up = λ dir a k b is. absurd (no_entry dir a k b is);
     kinds = λ i live. inr (ap (kind_of d) (only_root i live) ∙ root_inode.0);

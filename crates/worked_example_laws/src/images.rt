@@ -1,19 +1,14 @@
 //! What the checker and replay make of images that no operation leaves.
-#![tactic(auto, unfolding(crash_model::specs::Disk::overwrite, crash_model::specs::Lists::each_below, crash_model::specs::Lists::some_below, crash_model::specs::Lists::first_below, crash_model::specs::Faults::namers_in, crash_model::specs::Faults::namers, crash_model::specs::Faults::entries_in, crash_model::specs::Faults::entries_to, crash_model::specs::Faults::dangling_in, crash_model::specs::Faults::dangling, crash_model::specs::Faults::twice, crash_model::specs::Faults::unwritten_in, crash_model::specs::Faults::unwritten, crash_model::specs::Faults::low_links, crash_model::specs::Faults::marked_free_in, crash_model::specs::Faults::marked_free, crash_model::specs::Faults::wild_in, crash_model::specs::Faults::wild, crash_model::specs::Faults::faults))]
+#![tactic(auto, unfolding(crash_model::specs::Disk::overwrite, crash_model::specs::Lists::each_below, crash_model::specs::Lists::some_below, crash_model::specs::Lists::first_below, crash_model::specs::Faults::each_slot, crash_model::specs::Faults::each_entry, crash_model::specs::Faults::namers, crash_model::specs::Faults::entries_to, crash_model::specs::Faults::faults))]
 
-ghost use Rattle.std.specs.Prelude.{◌≡◌, ◌↔◌, ℕ, ◌+◌, ◌*◌, [], ◌∷◌, ◌++◌, replicate, map, flat_map};
+ghost use Rattle.std.specs.Prelude.{◌≡◌, ℕ, ◌+◌, ◌*◌, [], ◌∷◌, ◌++◌, replicate, map, flat_map};
 ghost use Rattle.std.specs.List.{range_with_len};
 ghost use Rattle.crash_model.specs.Disk.{Disk, block_of, put, formatted};
-ghost use Rattle.crash_model.specs.Faults.{IsClean, faults};
+ghost use Rattle.crash_model.specs.Faults.{faults};
 ghost use Rattle.crash_model.specs.Replay.{replayed};
 ghost use Rattle.crash_model.specs.Sound.{IsSound, HasZeroJournal};
 ghost use Rattle.crash_model.specs.declared.fault.Fault.TheVariants.{Dangling, Twice, Unwritten, LowLinks, MarkedFree, Wild};
 ghost use Rattle.worked_example_laws.specs.Examples.{fresh, fresh_with_journal, with_inode_bytes};
-
-/// An image is clean exactly where its list of faults is empty.
-pub fn clean_is_faultless()
-    ensures { (d : Disk) → (IsClean d ↔ (faults d ≡ [])) }
-{}
 
 /// New disks are sound, without a journal and with one, and their journals are zero.
 pub fn a_new_disk_is_sound()

@@ -1,7 +1,6 @@
 use Rattle.std.proofs.Common.{◌≡◌, length, IfSome, arith, refl, sym, ap, subst, ◌∙◌}
 use Rattle.std.proofs.lemmas.List.Elements.{All-push, All-pop}
-use Rattle.explorers.specs.Met.{AreMet}
-use Rattle.explorers.specs.Ready.{IsIdle}
+use Rattle.explorers.specs.Ready.{IsIdle, IsReady}
 use Rattle.explorers.proofs.exploring.new_workers.Goals as goal
 
 pub loop-hand-preserved : goal.loop-hand-preserved
@@ -10,11 +9,19 @@ loop-hand-preserved g c =
     let own = g.S.Space.is_own c.args.space.now in
     let idle = c.loop-hand.invariant.idle in
     let seat : IsIdle b c.new.result.seat = subst (IsIdle b) (sym (c.new.ensures.seat ∙ c.split-seat.ensures.new)) (idle.0, refl, refl) in
-    let scratch : own c.new.result.scratch = subst own (sym c.new.ensures.scratch) c.in_ok-scratch.ensures in
-    let met : AreMet c.new.result.met.words.keys c.new.result.met.counts c.new.result.seat.seen = rw c.new.ensures.met (c.new-met.ensures c.new.result.seat.seen) in
+    let ready : IsReady b c.args.space.now g.S.Space.is_own c.new.result = record {
+      free = record {
+        explored = c.requires.space;
+        of = seat.0;
+        free = seat.1;
+        own = subst own (sym c.new.ensures.scratch) c.in_ok-scratch.ensures;
+        met = rw c.new.ensures.met (c.new-met.ensures c.new.result.seat.seen);
+      };
+      unclaimed = seat.2;
+    } in
     record {
       idle = subst (IsIdle b) (sym c.split-seat.ensures.same) idle;
-      ready = rw c.in_ok-push.ensures.items (All-push (λ w. IsIdle b w.seat × own w.scratch × AreMet w.met.words.keys w.met.counts w.seat.seen) c.loop-hand.workers.items c.new.result c.loop-hand.invariant.ready (seat, scratch, met));
+      ready = rw c.in_ok-push.ensures.items (All-push (IsReady b c.args.space.now g.S.Space.is_own) c.loop-hand.workers.items c.new.result c.loop-hand.invariant.ready ready);
       ways = (All-pop (λ hand. length hand.ways ≡ c.len-count.result) c.loop-hand.hands.items c.pop.new.self.items c.pop.result c.pop.ensures.items c.loop-hand.invariant.ways).0;
       count = omega (arith, c.in-Some.ensures.cases, c.in_ok-push.ensures.len, c.loop-hand.invariant.count);
     }

@@ -1,14 +1,13 @@
 use Rattle.std.specs.Prelude.{◌≡◌, ◌+◌, length}
 use Rattle.std.specs.List.{All}
 use Rattle.std.proofs.Common.{vec_len}
-use Rattle.explorers.specs.Met.{AreMet}
-use Rattle.explorers.specs.Ready.{IsIdle}
+use Rattle.explorers.specs.Ready.{IsIdle, IsReady}
 use Rattle.explorers.proofs.exploring.new_workers.Given as goal
 
 abbrev pub invariant-loop-hand : goal.invariant-loop-hand
 invariant-loop-hand g l = record {
   idle : IsIdle l.board l.seat;
-  ready : All (λ w. IsIdle l.board w.seat × g.S.Space.is_own l.space w.scratch × AreMet w.met.words.keys w.met.counts w.seat.seen) l.workers.items;
+  ready : All (IsReady l.board l.space g.S.Space.is_own) l.workers.items;
   ways : All (λ hand. length hand.ways ≡ l.count) l.hands.items;
   count : length l.workers.items + length l.hands.items ≡ l.count;
 }

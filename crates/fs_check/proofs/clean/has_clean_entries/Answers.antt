@@ -1,10 +1,12 @@
 use Rattle.std.proofs.Common.{arith, sym, ◌∙◌, refl}
-use Rattle.fs_check.proofs.Entries.{entries-start, entries-uncounted, entries-all}
+use Rattle.fs_check.specs.Passed.{entries_of}
+use Rattle.fs_check.proofs.Passed.{passed-start}
+use Rattle.fs_check.proofs.Entries.{entries-uncounted, entries-all}
 use Rattle.fs_check.proofs.clean.has_clean_entries.Goals as goal
 use Rattle.fs_check.proofs.clean.has_clean_entries.Goals.{else-counts-via-then-counts+else-not-has_clean_directory, else-counts-via-else-counts}
 
 pub loop-dir-init : goal.loop-dir-init
-loop-dir-init g c = entries-start c.args.image.now
+loop-dir-init g c = passed-start (entries_of c.args.image.now)
 
 pub loop-dir-preserved : goal.loop-dir-preserved
 loop-dir-preserved g c =

@@ -1,10 +1,12 @@
 use Rattle.std.proofs.Common.{arith, sym, ◌∙◌, refl}
-use Rattle.fs_check.proofs.Slots.{slots-start, slots-dead, slots-all}
+use Rattle.fs_check.specs.Passed.{slots_of}
+use Rattle.fs_check.proofs.Passed.{passed-start}
+use Rattle.fs_check.proofs.Slots.{slots-dead, slots-all}
 use Rattle.fs_check.proofs.clean.has_clean_pointers.Goals as goal
 use Rattle.fs_check.proofs.clean.has_clean_pointers.Goals.{else-is_live-via-then-is_live+else-not-has_clean_slots, else-is_live-via-else-is_live}
 
 pub loop-inode-init : goal.loop-inode-init
-loop-inode-init g c = slots-start c.args.image.now
+loop-inode-init g c = passed-start (slots_of c.args.image.now)
 
 pub loop-inode-preserved : goal.loop-inode-preserved
 loop-inode-preserved g c =

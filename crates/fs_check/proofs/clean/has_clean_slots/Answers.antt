@@ -1,5 +1,7 @@
 use Rattle.std.proofs.Common.{arith, sym, ◌∙◌}
-use Rattle.fs_check.proofs.Slots.{slots-row, slots-empty, slots-named, faulty-wrong, faulty-twice}
+use Rattle.fs_check.specs.Passed.{slots_of}
+use Rattle.fs_check.proofs.Passed.{passed-row}
+use Rattle.fs_check.proofs.Slots.{slots-empty, slots-named, faulty-wrong, faulty-twice}
 use Rattle.fs_check.proofs.clean.has_clean_slots.Goals as goal
 use Rattle.fs_check.proofs.clean.has_clean_slots.Goals.{then-not-is_right_block-via-then-not-is_right_block, then-not-is_right_block-via-else-not-is_right_block+then-named-block-ne0, then-block-ne0+else-not-is_right_block+else-named-block-ne0, else-block-ne0}
 
@@ -23,4 +25,4 @@ loop-slot-preserved g c =
     ]
 
 pub returns : goal.returns
-returns g c = slots-row c.args.image.now c.args.inode c.loop-slot.slot c.loop-slot.named (omega arith) c.loop-slot.invariant
+returns g c = passed-row (slots_of c.args.image.now) c.args.inode c.loop-slot.slot c.loop-slot.named (omega arith) c.loop-slot.invariant

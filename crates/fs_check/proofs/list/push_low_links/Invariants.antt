@@ -1,6 +1,6 @@
 use Rattle.std.proofs.Common.{◌≡◌, ◌++◌}
 use Rattle.crash_model.specs.Lists.{some_below}
-use Rattle.crash_model.specs.Faults.{low_links_at}
+use Rattle.fs_check.specs.References.{low_links_at}
 use Rattle.fs_check.proofs.list.push_low_links.Given as goal
 
 abbrev pub invariant-loop-inode : goal.invariant-loop-inode

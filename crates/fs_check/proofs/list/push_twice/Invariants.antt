@@ -1,6 +1,6 @@
 use Rattle.std.proofs.Common.{◌≡◌, ◌++◌}
 use Rattle.crash_model.specs.Lists.{some_below}
-use Rattle.crash_model.specs.Faults.{twice_at}
+use Rattle.fs_check.specs.References.{twice_at}
 use Rattle.fs_check.proofs.list.push_twice.Given as goal
 
 abbrev pub invariant-loop-block : goal.invariant-loop-block

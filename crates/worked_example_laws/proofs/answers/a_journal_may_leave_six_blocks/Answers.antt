@@ -2,7 +2,7 @@ use Rattle.std.proofs.Common.{refl}
 use Rattle.crash_model.specs.Disk.{overwrite}
 use Rattle.crash_model.specs.Lists.{each_below, some_below, first_below}
 use Rattle.crash_model.specs.Plan.{plan_of}
-use Rattle.crash_model.specs.Faults.{namers_in, namers, entries_in, entries_to, dangling_in, dangling, twice, unwritten_in, unwritten, low_links, marked_free_in, marked_free, wild_in, wild, faults}
+use Rattle.crash_model.specs.Faults.{each_slot, each_entry, namers, entries_to, faults}
 use Rattle.std.proofs.Common.{[]}
 use Rattle.std.specs.Fmt.{digits}
 use Rattle.crash_model.specs.Report.{fault_text, text_report, json_report}
@@ -13,5 +13,5 @@ use Rattle.worked_example_laws.proofs.Answering.{reported}
 use Rattle.worked_example_laws.proofs.answers.a_journal_may_leave_six_blocks.Goals as goal
 
 pub returns : goal.returns
-unfolding overwrite each_below some_below first_below plan_of namers_in namers entries_in entries_to dangling_in dangling twice unwritten_in unwritten low_links marked_free_in marked_free wild_in wild faults fault_text text_report json_report digits
+unfolding overwrite each_below some_below first_below plan_of each_slot each_entry namers entries_to faults fault_text text_report json_report digits
 returns c = reported (settings_of Async 16 10 4096 false) ([]) ([]) 1 [] _ refl refl

@@ -2,7 +2,7 @@ use Rattle.std.proofs.Common.{refl}
 use Rattle.crash_model.specs.Disk.{overwrite}
 use Rattle.crash_model.specs.Lists.{each_below, some_below, first_below}
 use Rattle.crash_model.specs.Plan.{plan_of}
-use Rattle.crash_model.specs.Faults.{namers_in, namers, entries_in, entries_to, dangling_in, dangling, twice, unwritten_in, unwritten, low_links, marked_free_in, marked_free, wild_in, wild, faults}
+use Rattle.crash_model.specs.Faults.{each_slot, each_entry, namers, entries_to, faults}
 use Rattle.std.proofs.Common.{[], ◌∷◌}
 use Rattle.std.specs.Prelude.{codes}
 use Rattle.std.specs.Fmt.{digits}
@@ -17,9 +17,9 @@ use Rattle.worked_example_laws.proofs.Answering.{reported}
 use Rattle.worked_example_laws.proofs.answers.a_new_file_is_reported_in_text.Goals as goal
 
 pub returns-clause-unordered : goal.returns-clause-unordered
-unfolding overwrite each_below some_below first_below plan_of namers_in namers entries_in entries_to dangling_in dangling twice unwritten_in unwritten low_links marked_free_in marked_free wild_in wild faults fault_text text_report json_report digits
+unfolding overwrite each_below some_below first_below plan_of each_slot each_entry namers entries_to faults fault_text text_report json_report digits
 returns-clause-unordered c = reported (settings_of Async 16 0 4096 false) ([]) (Do (Create (root (codes "a"))) ∷ []) 4 (2 ∷ []) _ refl refl
 
 pub returns-clause-soft : goal.returns-clause-soft
-unfolding overwrite each_below some_below first_below plan_of namers_in namers entries_in entries_to dangling_in dangling twice unwritten_in unwritten low_links marked_free_in marked_free wild_in wild faults fault_text text_report json_report digits
+unfolding overwrite each_below some_below first_below plan_of each_slot each_entry namers entries_to faults fault_text text_report json_report digits
 returns-clause-soft c = reported (settings_of Soft 16 0 4096 false) ([]) (Do (Create (root (codes "a"))) ∷ []) 3 [] _ refl refl

@@ -2,7 +2,7 @@ use Rattle.std.proofs.Common.{refl}
 use Rattle.crash_model.specs.Disk.{overwrite}
 use Rattle.crash_model.specs.Lists.{each_below, some_below, first_below}
 use Rattle.crash_model.specs.Plan.{plan_of}
-use Rattle.crash_model.specs.Faults.{namers_in, namers, entries_in, entries_to, dangling_in, dangling, twice, unwritten_in, unwritten, low_links, marked_free_in, marked_free, wild_in, wild, faults}
+use Rattle.crash_model.specs.Faults.{each_slot, each_entry, namers, entries_to, faults}
 use Rattle.std.proofs.Common.{[], ◌∷◌}
 use Rattle.std.specs.Prelude.{codes}
 use Rattle.std.specs.Fmt.{digits}
@@ -17,13 +17,13 @@ use Rattle.worked_example_laws.proofs.Answering.{refused_geometry, refused_limit
 use Rattle.worked_example_laws.proofs.answers.settings_are_refused.Goals as goal
 
 pub returns-clause-room : goal.returns-clause-room
-unfolding overwrite each_below some_below first_below plan_of namers_in namers entries_in entries_to dangling_in dangling twice unwritten_in unwritten low_links marked_free_in marked_free wild_in wild faults fault_text text_report json_report digits
+unfolding overwrite each_below some_below first_below plan_of each_slot each_entry namers entries_to faults fault_text text_report json_report digits
 returns-clause-room c = refused_geometry (settings_of Async 16 11 4096 false) ([]) ([]) refl refl refl
 
 pub returns-clause-limit : goal.returns-clause-limit
-unfolding overwrite each_below some_below first_below plan_of namers_in namers entries_in entries_to dangling_in dangling twice unwritten_in unwritten low_links marked_free_in marked_free wild_in wild faults fault_text text_report json_report digits
+unfolding overwrite each_below some_below first_below plan_of each_slot each_entry namers entries_to faults fault_text text_report json_report digits
 returns-clause-limit c = refused_limit (settings_of Async 16 0 23 false) ([]) (Do (Create (root (codes "a"))) ∷ Do (Write (root (codes "a"))) ∷ []) refl refl refl refl refl refl
 
 pub returns-clause-one : goal.returns-clause-one
-unfolding overwrite each_below some_below first_below plan_of namers_in namers entries_in entries_to dangling_in dangling twice unwritten_in unwritten low_links marked_free_in marked_free wild_in wild faults fault_text text_report json_report digits
+unfolding overwrite each_below some_below first_below plan_of each_slot each_entry namers entries_to faults fault_text text_report json_report digits
 returns-clause-one c = refused_limit (settings_of Async 16 0 1 false) ([]) (Do (Create (root (codes "a"))) ∷ []) refl refl refl refl refl refl

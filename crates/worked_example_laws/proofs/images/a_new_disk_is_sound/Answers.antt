@@ -2,19 +2,19 @@ use Rattle.std.proofs.Common.{refl}
 use Rattle.crash_model.specs.Disk.{overwrite}
 use Rattle.crash_model.specs.Lists.{each_below, some_below, first_below}
 use Rattle.crash_model.specs.Plan.{plan_of}
-use Rattle.crash_model.specs.Faults.{namers_in, namers, entries_in, entries_to, dangling_in, dangling, twice, unwritten_in, unwritten, low_links, marked_free_in, marked_free, wild_in, wild, faults}
+use Rattle.crash_model.specs.Faults.{each_slot, each_entry, namers, entries_to, faults}
 use Rattle.worked_example_laws.specs.Examples.{fresh, fresh_with_journal}
 use Rattle.worked_example_laws.proofs.Sound.{sound_alone, zero_journal}
 use Rattle.worked_example_laws.proofs.images.a_new_disk_is_sound.Goals as goal
 
 pub returns-clause-least : goal.returns-clause-least
-unfolding overwrite each_below some_below first_below plan_of namers_in namers entries_in entries_to dangling_in dangling twice unwritten_in unwritten low_links marked_free_in marked_free wild_in wild faults
+unfolding overwrite each_below some_below first_below plan_of each_slot each_entry namers entries_to faults
 returns-clause-least c = sound_alone fresh refl refl refl refl refl
 
 pub returns-clause-journal : goal.returns-clause-journal
-unfolding overwrite each_below some_below first_below plan_of namers_in namers entries_in entries_to dangling_in dangling twice unwritten_in unwritten low_links marked_free_in marked_free wild_in wild faults
+unfolding overwrite each_below some_below first_below plan_of each_slot each_entry namers entries_to faults
 returns-clause-journal c = sound_alone fresh_with_journal refl refl refl refl refl
 
 pub returns-clause-zero : goal.returns-clause-zero
-unfolding overwrite each_below some_below first_below plan_of namers_in namers entries_in entries_to dangling_in dangling twice unwritten_in unwritten low_links marked_free_in marked_free wild_in wild faults
+unfolding overwrite each_below some_below first_below plan_of each_slot each_entry namers entries_to faults
 returns-clause-zero c = zero_journal fresh_with_journal refl

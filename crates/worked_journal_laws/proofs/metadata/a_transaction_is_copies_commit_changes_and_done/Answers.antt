@@ -2,22 +2,22 @@ use Rattle.std.proofs.Common.{refl}
 use Rattle.crash_model.specs.Disk.{overwrite}
 use Rattle.crash_model.specs.Lists.{each_below, some_below, first_below}
 use Rattle.crash_model.specs.Plan.{plan_of}
-use Rattle.crash_model.specs.Faults.{namers_in, namers, entries_in, entries_to, dangling_in, dangling, twice, unwritten_in, unwritten, low_links, marked_free_in, marked_free, wild_in, wild, faults}
+use Rattle.crash_model.specs.Faults.{each_slot, each_entry, namers, entries_to, faults}
 use Rattle.worked_example_laws.proofs.FailingSets.{explored_if, graph_if}
 use Rattle.worked_journal_laws.proofs.metadata.a_transaction_is_copies_commit_changes_and_done.Goals as goal
 
 pub returns-clause-table : goal.returns-clause-table
-unfolding overwrite each_below some_below first_below plan_of namers_in namers entries_in entries_to dangling_in dangling twice unwritten_in unwritten low_links marked_free_in marked_free wild_in wild faults
+unfolding overwrite each_below some_below first_below plan_of each_slot each_entry namers entries_to faults
 returns-clause-table c = graph_if _ _ _ _ refl refl
 
 pub returns-clause-bytes : goal.returns-clause-bytes
-unfolding overwrite each_below some_below first_below plan_of namers_in namers entries_in entries_to dangling_in dangling twice unwritten_in unwritten low_links marked_free_in marked_free wild_in wild faults
+unfolding overwrite each_below some_below first_below plan_of each_slot each_entry namers entries_to faults
 returns-clause-bytes c = graph_if _ _ _ _ refl refl
 
 pub returns-clause-undo : goal.returns-clause-undo
-unfolding overwrite each_below some_below first_below plan_of namers_in namers entries_in entries_to dangling_in dangling twice unwritten_in unwritten low_links marked_free_in marked_free wild_in wild faults
+unfolding overwrite each_below some_below first_below plan_of each_slot each_entry namers entries_to faults
 returns-clause-undo c = graph_if _ _ _ _ refl refl
 
 pub returns-clause-explored : goal.returns-clause-explored
-unfolding overwrite each_below some_below first_below plan_of namers_in namers entries_in entries_to dangling_in dangling twice unwritten_in unwritten low_links marked_free_in marked_free wild_in wild faults
+unfolding overwrite each_below some_below first_below plan_of each_slot each_entry namers entries_to faults
 returns-clause-explored c = explored_if _ _ _ _ _ refl

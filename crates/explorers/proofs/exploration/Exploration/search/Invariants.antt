@@ -1,0 +1,5 @@
+use Rattle.explorers.specs.Ready.{IsReady}
+use Rattle.explorers.proofs.exploration.Exploration.search.Given as goal
+
+abbrev pub invariant-loop-shard : goal.invariant-loop-shard
+invariant-loop-shard g l = IsReady l.self.board.now l.self.space.now g.S.Space.is_own l.mine

@@ -1,0 +1,24 @@
+//! What the workers of one exploration share.
+
+use seen_board::Board;
+use state_space::Space;
+use std::alloc::Allocator;
+
+/// A space that is explored over a board, and the gate that is told of each claim.
+#[derive(Drop)]
+pub(crate) struct Exploration<'a, S: Space, G, A: Allocator + Copy> {
+    pub board: &'a Board<S, A>,
+    pub space: &'a S,
+    pub gate: &'a G,
+}
+
+/// How a turn of a worker ends, where no memory was refused.
+#[derive(Clone, Copy, Debug, PartialEq, Eq, Drop)]
+pub(crate) enum Turn {
+    /// The worker goes on.
+    Within,
+    /// The worker was told that more words than the limit are reached.
+    Over,
+    /// The board is finished, or a stop was read.
+    Ended,
+}
