@@ -17,7 +17,15 @@ fn members_and_subsets(rt: HostRuntime) -> Result<(), Fail> {
 #[test]
 fn ids_come_in_ascending_order(rt: HostRuntime) -> Result<(), Fail> {
     let set = 1 << 127 | 1 << 123 | 1;
-    for (n, wanted) in [(0, 0), (1, 1), (123, 1), (124, 2), (127, 2), (128, 3), (200, 3)] {
+    for (n, wanted) in [
+        (0, 0),
+        (1, 1),
+        (123, 1),
+        (124, 2),
+        (127, 2),
+        (128, 3),
+        (200, 3),
+    ] {
         let ids: Vec<usize> = Ids::below(set, n).collect(rt.alloc())?;
         assert_eq!(rt; ids.as_slice(), &[0, 123, 127][..wanted], "below {n}");
     }
