@@ -41,15 +41,20 @@ class Clock(threading.Thread):
 
     def __init__(self, top):
         super().__init__(daemon=True)
-        self.top, self.took, self.crates, self.seen = top, {}, {}, {}
+        self.top, self.took, self.crates, self.spans = top, {}, {}, {}
 
     def run(self):
+        last = time.time()
         while True:
-            self.look()
             time.sleep(0.5)
+            now = time.time()
+            for crate in self.look():
+                self.spans[crate] = self.spans.get(crate, 0) + now - last
+            last = now
 
     def look(self):
-        parents, here = {}, {}
+        """Returns the crates that something works on."""
+        parents, here, busy = {}, {}, set()
         for name in os.listdir("/proc"):
             fields = read(f"/proc/{name}/stat").rpartition(")")[2].split() if name.isdigit() else []
             if len(fields) > 19:
@@ -59,8 +64,8 @@ class Clock(threading.Thread):
             if self.is_below(process, parents):
                 crate = self.crates.get(key) or crate_of(process) or self.crates.get(here.get(parents[process], (None,))[0])
                 self.crates[key], self.took[key] = crate, seconds
-                first = self.seen.get(crate, (time.time(), 0))[0]
-                self.seen[crate] = first, time.time()
+                busy.add(crate)
+        return busy
 
     def is_below(self, process, parents):
         while process in parents and process != self.top:
@@ -68,13 +73,12 @@ class Clock(threading.Thread):
         return process == self.top
 
     def table(self):
-        """Returns for each crate the processor minutes and the minutes from first to last sight, longest first."""
+        """Returns for each crate the minutes of processor time, and those by the clock at which it was worked on, longest first."""
         sums = {}
         for key, seconds in self.took.items():
             sums[self.crates[key]] = sums.get(self.crates[key], 0) + seconds
         for crate, seconds in sorted(sums.items(), key=lambda it: -it[1]):
-            first, last = self.seen[crate]
-            yield crate or "rt itself", seconds / 60, (last - first) / 60
+            yield crate or "rt itself", seconds / 60, self.spans.get(crate, 0) / 60
 
 
 def follow(words, clock):
@@ -100,7 +104,7 @@ def main():
     began = time.time()
     passed, failed, watch = follow(["rt", "ci"], True)
     for crate, minutes, span in watch.table():
-        print(f"time: {crate}: {minutes:.1f} minutes of processor time, {span:.1f} from first to last")
+        print(f"time: {crate}: {minutes:.1f} minutes of processor time, {span:.1f} by the clock")
     used = resource.getrusage(resource.RUSAGE_CHILDREN)
     whole, clock = (used.ru_utime + used.ru_stime) / 60, (time.time() - began) / 60
     print(f"time: rt ci in all: {whole:.0f} minutes of processor time, {clock:.0f} by the clock", flush=True)

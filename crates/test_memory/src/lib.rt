@@ -1,7 +1,7 @@
 //! Tests alone: every request for memory refused in turn.
 //!
-//! Each expected value comes from the specification or from an independent reference program. A report stands as the SHA-1
-//! digest of its bytes.
+//! Each expected value comes from the specification or from an independent reference program. A report stands as the
+//! SHA-1 digest of its bytes.
 #![tactic(auto)]
 
 #[cfg(test)]

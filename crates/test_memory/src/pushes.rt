@@ -47,7 +47,8 @@ fn expect_patches(rt: &impl Abort, graph: &Graph<&Refusing<Global>>, count: u8) 
     }
 }
 
-/// Pushes a patch with all memory refused, and then with none refused where that was out of memory. Tells whether it was.
+/// Pushes a patch with all memory refused, and then with none refused where that was out of memory. Tells whether it
+/// was.
 fn push_twice(
     rt: &impl Abort,
     memory: &Refusing<Global>,

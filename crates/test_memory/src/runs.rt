@@ -31,8 +31,8 @@ fn expect_answer(
     refused
 }
 
-/// Refuses each request of a run in turn, until there is none to refuse: with one worker the run is out of memory exactly
-/// where one was, with more only there, and the run after it reports.
+/// Refuses each request of a run in turn, until there is none to refuse: with one worker the run is out of memory
+/// exactly where one was, with more only there, and the run after it reports.
 fn refuse_each<R: Abort + AllocGlobal + Threads + Wait + Sync>(
     rt: &R,
     asked: &Asked,

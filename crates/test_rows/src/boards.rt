@@ -72,7 +72,7 @@ fn settle_entry<S: Space, R: Abort + Wait>(
 fn a_set_is_found_once_it_is_put_in(rt: HostRuntime) -> Result<(), Fail> {
     let script = created(rt.alloc())?;
     let space = PatchSpace::new(&script.base, &script.graph);
-    let (board, mut seat) = Board::open(rt.alloc(), &space, 4)?;
+    let (board, mut seat, _) = Board::open(rt.alloc(), &space, 4)?;
     assert!(rt; board.claim(&mut seat, START));
     assert_eq!(rt; board.find(&mut seat, 0), Some(START));
     assert_eq!(rt; board.find(&mut seat, 1), None);
@@ -91,7 +91,7 @@ fn the_end_comes_with_the_last_of_four_entries(rt: HostRuntime) -> Result<(), Fa
     let script = created(rt.alloc())?;
     let space = PatchSpace::new(&script.base, &script.graph);
     let mut scratch = space.scratch()?;
-    let (board, mut seat) = Board::open(rt.alloc(), &space, 4)?;
+    let (board, mut seat, _) = Board::open(rt.alloc(), &space, 4)?;
     assert!(rt; board.claim(&mut seat, START));
     assert!(rt; put_first(&rt, &board, &space, &mut seat) == Put::New(FIRST));
     assert!(rt; put_first(&rt, &board, &space, &mut seat) == Put::Known(FIRST));

@@ -18,8 +18,8 @@ use test_support::refusing::Refusing;
 
 const CREATE: &[u8] = b"start\ncreate /a\n";
 
-const REPORT: &str =
-    "module async\npatches 2\nclosed 4\nfailing 1\nset 1\nwrite block 4: 1\nfault 1 dangling entry: directory 0 entry 0 inode 1\n";
+const REPORT: &str = "module async\npatches 2\nclosed 4\nfailing 1\nset 1\nwrite block 4: 1\n\
+      fault 1 dangling entry: directory 0 entry 0 inode 1\n";
 
 const SETTINGS: Settings = Settings {
     module: Module::Async,

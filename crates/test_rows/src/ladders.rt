@@ -1,5 +1,6 @@
-//! Ladders of words, on which each word leads to the next two, and the sets of two patches.
-ghost use Rattle.std.specs.Prelude.{◌≡◌, ◌+◌, ◌≤◌, ◌<◌, ℕ, List, [], ◌∷◌, nat_eq, nat_lt, if◌then◌else◌};
+//! Ladders of words, on which each word leads to the next two.
+
+ghost use Rattle.std.specs.Prelude.{◌≡◌, ◌+◌, ◌≤◌, ◌<◌, ℕ, List, [], ◌∷◌, nat_lt, if◌then◌else◌};
 
 use explorers::{ExploreFault, Gate, OpenGate, explore};
 use plain_explorer::explore_plain;
@@ -7,7 +8,7 @@ use state_space::Space;
 use std::alloc::AllocError;
 use std::sync::atomic::{AtomicU64, Ordering};
 use std::test::Fail;
-use std::thread::yield_now;
+use test_support::gates::Meeting;
 
 #[derive(Clone, Copy)]
 struct Ladder {
@@ -57,78 +58,7 @@ impl Space for Ladder {
     ghost successor_lawful = { λ ladder word next lawful after. tt };
 }
 
-// The sets of patches 0 and 1, of which neither depends on the other, as their bits: the empty set leads to the two sets of
-// one patch, and each of them to the set of both. All are good.
-struct TwoPatches;
-
-impl Space for TwoPatches {
-    type Scratch = ();
-
-    ghost is_lawful = { λ patches word. Unit {0} };
-
-    ghost initial = { λ patches. 0 };
-
-    ghost successors = { λ patches word. if nat_eq word 0 then 1 ∷ 2 ∷ [] else (if nat_lt word 3 then 3 ∷ [] else []) };
-
-    ghost is_good = { λ patches word. Unit {0} };
-
-    ghost is_own = { λ patches scratch. Unit {0} };
-
-    fn start(&self) -> u128 {
-        0
-    }
-
-    fn scratch(&self) -> Result<(), AllocError> {
-        Ok(())
-    }
-
-    fn degree(&self, word: u128) -> u32 {
-        if word == 0 {
-            2
-        } else if word < 3 {
-            1
-        } else {
-            0
-        }
-    }
-
-    fn next(&self, word: u128, k: u32) -> u128 {
-        if word > 0 {
-            3
-        } else if k == 0 {
-            1
-        } else {
-            2
-        }
-    }
-
-    fn judge(&self, _scratch: &mut (), _word: u128) -> Result<bool, AllocError> {
-        Ok(true)
-    }
-
-    ghost initial_lawful = { λ patches. tt };
-
-    ghost successor_lawful = { λ patches word next lawful after. tt };
-}
-
-// Writes the sets down in the order in which one worker claims them, as the digits of a number after a 1.
-#[derive(Drop)]
-struct Diary {
-    digits: AtomicU64,
-}
-
-impl Gate for Diary {
-    fn claimed(&self, _worker: usize, set: u128) {
-        let digits = self.digits.load(Ordering::SeqCst);
-        let digit = (set % 10) as u64;
-        self.digits.store(
-            digits.wrapping_mul(10).wrapping_add(digit),
-            Ordering::SeqCst,
-        );
-    }
-}
-
-// Counts the claims.
+/// Counts the claims.
 #[derive(Drop)]
 struct Counter {
     claims: AtomicU64,
@@ -137,29 +67,6 @@ struct Counter {
 impl Gate for Counter {
     fn claimed(&self, _worker: usize, _set: u128) {
         self.claims.fetch_add(1, Ordering::SeqCst);
-    }
-}
-
-// Holds the worker that claims word 1 or word 2 until both words are claimed, for a bounded number of turns.
-#[derive(Drop)]
-struct Meeting {
-    here: AtomicU64,
-    missed: AtomicU64,
-}
-
-impl Gate for Meeting {
-    fn claimed(&self, _worker: usize, set: u128) {
-        if set != 1 && set != 2 {
-            return;
-        }
-        self.here.fetch_add(1, Ordering::SeqCst);
-        for _ in 0..10_000_000 {
-            if self.here.load(Ordering::SeqCst) == 2 {
-                return;
-            }
-            yield_now();
-        }
-        self.missed.fetch_add(1, Ordering::SeqCst);
     }
 }
 
@@ -232,25 +139,9 @@ fn two_workers_meet(rt: HostRuntime) -> Result<(), Fail> {
         last: 3,
         good_to: 3,
     };
-    let meeting = Meeting {
-        here: AtomicU64::new(0),
-        missed: AtomicU64::new(0),
-    };
+    let meeting = Meeting::new(2, 1 << 2);
     let found = explore(&rt, rt.alloc(), &ladder, 4, 2, &meeting)?;
     assert_eq!(rt; found.total, 4);
-    assert_eq!(rt; meeting.here.load(Ordering::SeqCst), 2);
-    assert_eq!(rt; meeting.missed.load(Ordering::SeqCst), 0);
-    Ok(())
-}
-
-#[test]
-fn one_worker_takes_the_newest_first(rt: HostRuntime) -> Result<(), Fail> {
-    let diary = Diary {
-        digits: AtomicU64::new(1),
-    };
-    let found = explore(&rt, rt.alloc(), &TwoPatches, 4, 1, &diary)?;
-    assert_eq!(rt; found.total, 4);
-    assert_eq!(rt; found.broken.len(), 0);
-    assert_eq!(rt; diary.digits.load(Ordering::SeqCst), 10231);
+    assert!(rt; meeting.was_held());
     Ok(())
 }

@@ -1,7 +1,7 @@
 //! Tests alone: whole runs of the product over memory, and its parts on the graphs of whole scripts.
 //!
-//! Each expected value comes from the specification or from an independent reference program. A report that is long stands as the
-//! SHA-1 digest of its bytes.
+//! Each expected value comes from the specification or from an independent reference program. A report that is long
+//! stands as the SHA-1 digest of its bytes.
 #![tactic(auto)]
 
 #[cfg(test)]

@@ -169,7 +169,8 @@ fn a_last_line_may_go_without_its_line_feed(rt: HostRuntime) -> Result<(), Fail>
         &["--module", "async"],
         b"start\ncreate /a",
         1,
-        "module async\npatches 2\nclosed 4\nfailing 1\nset 1\nwrite block 4: 1\nfault 1 dangling entry: directory 0 entry 0 inode 1\n",
+        "module async\npatches 2\nclosed 4\nfailing 1\nset 1\nwrite block 4: 1\n\
+          fault 1 dangling entry: directory 0 entry 0 inode 1\n",
         "",
     )?;
     Ok(())

@@ -1,7 +1,8 @@
 //! What each ordering leaves open.
 
-use crate::asked::{begins, exactly, refused, shows};
+use crate::asked::{begins, exactly, refused};
 use std::test::Fail;
+use test_support::asked::{HALF_LINKS, SOFT_LINKS};
 
 #[test]
 fn soft_updates_keep_these_scripts_safe(rt: HostRuntime) -> Result<(), Fail> {
@@ -94,7 +95,11 @@ fn replay_of_a_metadata_journal_can_undo_reused_data(rt: HostRuntime) -> Result<
         &["--module", "meta", "--blocks", "24", "--journal", "12"],
         b"mkdir /d\ncreate /d/x\ncreate /f\nstart\nunlink /d/x\nrmdir /d\nwrite /f\n",
         1,
-        "module meta\npatches 21\nclosed 629\nfailing 48\nset 0 1 2 3 6 7 8 9 14 15 16 17\nwrite block 5: 0\nwrite block 6: 1\nwrite block 4: 2\nwrite block 17: 3\nwrite block 8: 6\nwrite block 9: 7\nwrite block 10: 8\nwrite block 7: 9\nwrite block 17: 14\nwrite block 12: 15\nwrite block 13: 16\nwrite block 11: 17\nfault 3 unwritten pointer: inode 3 slot 0 block 17\n",
+        "module meta\npatches 21\nclosed 629\nfailing 48\nset 0 1 2 3 6 7 8 9 14 15 16 17\n\
+          write block 5: 0\nwrite block 6: 1\nwrite block 4: 2\nwrite block 17: 3\n\
+          write block 8: 6\nwrite block 9: 7\nwrite block 10: 8\nwrite block 7: 9\n\
+          write block 17: 14\nwrite block 12: 15\nwrite block 13: 16\nwrite block 11: 17\n\
+          fault 3 unwritten pointer: inode 3 slot 0 block 17\n",
     )?;
     Ok(())
 }
@@ -179,7 +184,9 @@ fn groups_order_what_they_hold(rt: HostRuntime) -> Result<(), Fail> {
         &["--module", "async"],
         b"start\ngroup A\ncreate /a\nend\ndepend B A\ngroup B\ncreate /b\nend\n",
         1,
-        "module async\npatches 4\nclosed 7\nfailing 2\nset 1\nwrite block 4: 1\nfault 1 dangling entry: directory 0 entry 0 inode 1\nset 0 1 3\nwrite block 2: 0\nwrite block 4: 1 3\nfault 1 dangling entry: directory 0 entry 1 inode 2\n",
+        "module async\npatches 4\nclosed 7\nfailing 2\nset 1\nwrite block 4: 1\n\
+          fault 1 dangling entry: directory 0 entry 0 inode 1\nset 0 1 3\nwrite block 2: 0\n\
+          write block 4: 1 3\nfault 1 dangling entry: directory 0 entry 1 inode 2\n",
         "",
     )?;
     Ok(())
@@ -192,7 +199,8 @@ fn an_empty_group_orders_nothing(rt: HostRuntime) -> Result<(), Fail> {
         &["--module", "async"],
         b"start\ngroup A\nend\ndepend B A\ngroup B\ncreate /b\n",
         1,
-        "module async\npatches 2\nclosed 4\nfailing 1\nset 1\nwrite block 4: 1\nfault 1 dangling entry: directory 0 entry 0 inode 1\n",
+        "module async\npatches 2\nclosed 4\nfailing 1\nset 1\nwrite block 4: 1\n\
+          fault 1 dangling entry: directory 0 entry 0 inode 1\n",
         "",
     )?;
     Ok(())
@@ -253,39 +261,29 @@ fn groups_have_rules(rt: HostRuntime) -> Result<(), Fail> {
 
 #[test]
 fn a_graph_has_at_most_124_patches(rt: HostRuntime) -> Result<(), Fail> {
+    let heap = rt.alloc();
     exactly(
         &rt,
         &["--module", "soft"],
-        b"create /a\nstart\nlink /a /b\nunlink /b\nlink /a /b\nunlink /b\nlink /a /b\nunlink /b\nlink /a /b\nunlink /b\nlink /a /b\nunlink /b\nlink /a /b\nunlink /b\nlink /a /b\nunlink /b\nlink /a /b\nunlink /b\nlink /a /b\nunlink /b\nlink /a /b\nunlink /b\nlink /a /b\nunlink /b\nlink /a /b\nunlink /b\nlink /a /b\nunlink /b\nlink /a /b\nunlink /b\nlink /a /b\nunlink /b\nlink /a /b\n",
+        HALF_LINKS.whole_script(heap)?.as_slice(),
         0,
         "module soft\npatches 62\nclosed 63\nfailing 0\n",
         "",
     )?;
+    let mut script = SOFT_LINKS.whole_script(heap)?;
     exactly(
         &rt,
         &["--module", "soft"],
-        b"create /a\nstart\nlink /a /b\nunlink /b\nlink /a /b\nunlink /b\nlink /a /b\nunlink /b\nlink /a /b\nunlink /b\nlink /a /b\nunlink /b\nlink /a /b\nunlink /b\nlink /a /b\nunlink /b\nlink /a /b\nunlink /b\nlink /a /b\nunlink /b\nlink /a /b\nunlink /b\nlink /a /b\nunlink /b\nlink /a /b\nunlink /b\nlink /a /b\nunlink /b\nlink /a /b\nunlink /b\nlink /a /b\nunlink /b\nlink /a /b\nunlink /b\nlink /a /b\nunlink /b\nlink /a /b\nunlink /b\nlink /a /b\nunlink /b\nlink /a /b\nunlink /b\nlink /a /b\nunlink /b\nlink /a /b\nunlink /b\nlink /a /b\nunlink /b\nlink /a /b\nunlink /b\nlink /a /b\nunlink /b\nlink /a /b\nunlink /b\nlink /a /b\nunlink /b\nlink /a /b\nunlink /b\nlink /a /b\nunlink /b\nlink /a /b\nunlink /b\nlink /a /b\nunlink /b\n",
+        script.as_slice(),
         0,
         "module soft\npatches 124\nclosed 125\nfailing 0\n",
         "",
     )?;
+    script.extend_from_slice(b"link /a /b\n")?;
     refused(
         &rt,
         &["--module", "soft"],
-        b"create /a\nstart\nlink /a /b\nunlink /b\nlink /a /b\nunlink /b\nlink /a /b\nunlink /b\nlink /a /b\nunlink /b\nlink /a /b\nunlink /b\nlink /a /b\nunlink /b\nlink /a /b\nunlink /b\nlink /a /b\nunlink /b\nlink /a /b\nunlink /b\nlink /a /b\nunlink /b\nlink /a /b\nunlink /b\nlink /a /b\nunlink /b\nlink /a /b\nunlink /b\nlink /a /b\nunlink /b\nlink /a /b\nunlink /b\nlink /a /b\nunlink /b\nlink /a /b\nunlink /b\nlink /a /b\nunlink /b\nlink /a /b\nunlink /b\nlink /a /b\nunlink /b\nlink /a /b\nunlink /b\nlink /a /b\nunlink /b\nlink /a /b\nunlink /b\nlink /a /b\nunlink /b\nlink /a /b\nunlink /b\nlink /a /b\nunlink /b\nlink /a /b\nunlink /b\nlink /a /b\nunlink /b\nlink /a /b\nunlink /b\nlink /a /b\nunlink /b\nlink /a /b\nunlink /b\nlink /a /b\n",
+        script.as_slice(),
         "crashmap: line 65: 2 too many patches\n",
-    )?;
-    Ok(())
-}
-
-#[test]
-fn links_to_and_fro_without_order(rt: HostRuntime) -> Result<(), Fail> {
-    begins(
-        &rt,
-        &["--module", "async"],
-        b"create /a\nstart\nlink /a /b\nunlink /b\nlink /a /b\nunlink /b\nlink /a /b\nunlink /b\nlink /a /b\nunlink /b\nlink /a /b\nunlink /b\nlink /a /b\nunlink /b\nlink /a /b\nunlink /b\nlink /a /b\nunlink /b\nlink /a /b\nunlink /b\nlink /a /b\nunlink /b\nlink /a /b\nunlink /b\nlink /a /b\nunlink /b\nlink /a /b\nunlink /b\nlink /a /b\nunlink /b\nlink /a /b\nunlink /b\nlink /a /b\n",
-        1,
-        "module async\npatches 62\nclosed 1024\nfailing 256\nset 1\n",
-    )?;
-    Ok(())
+    )
 }

@@ -88,13 +88,17 @@ fn inodes_run_out(rt: HostRuntime) -> Result<(), Fail> {
     refused(
         &rt,
         &["--module", "async"],
-        b"mkdir /d\ncreate /d/0\ncreate /d/1\ncreate /d/2\ncreate /d/3\ncreate /d/4\ncreate /d/5\ncreate /d/6\ncreate /d/7\ncreate /d/8\ncreate /d/9\ncreate /a\ncreate /b\ncreate /c\ncreate /e\nstart\ncreate /f\n",
+        b"mkdir /d\ncreate /d/0\ncreate /d/1\ncreate /d/2\ncreate /d/3\ncreate /d/4\ncreate /d/5\n\
+          create /d/6\ncreate /d/7\ncreate /d/8\ncreate /d/9\ncreate /a\ncreate /b\ncreate /c\n\
+          create /e\nstart\ncreate /f\n",
         "crashmap: line 17: 15 no free inode\n",
     )?;
     refused(
         &rt,
         &["--module", "async"],
-        b"mkdir /d\ncreate /d/0\ncreate /d/1\ncreate /d/2\ncreate /d/3\ncreate /d/4\ncreate /d/5\ncreate /d/6\ncreate /d/7\ncreate /d/8\ncreate /d/9\ncreate /a\ncreate /b\ncreate /c\ncreate /e\nstart\nmkdir /f\n",
+        b"mkdir /d\ncreate /d/0\ncreate /d/1\ncreate /d/2\ncreate /d/3\ncreate /d/4\ncreate /d/5\n\
+          create /d/6\ncreate /d/7\ncreate /d/8\ncreate /d/9\ncreate /a\ncreate /b\ncreate /c\n\
+          create /e\nstart\nmkdir /f\n",
         "crashmap: line 17: 15 no free inode\n",
     )?;
     Ok(())
@@ -116,7 +120,8 @@ fn a_directory_has_ten_entries(rt: HostRuntime) -> Result<(), Fail> {
     refused(
         &rt,
         &["--module", "async"],
-        b"mkdir /d\ncreate /d/0\ncreate /d/1\ncreate /d/2\ncreate /d/3\ncreate /d/4\ncreate /d/5\ncreate /d/6\ncreate /d/7\ncreate /d/8\ncreate /d/9\nstart\ncreate /d/z\n",
+        b"mkdir /d\ncreate /d/0\ncreate /d/1\ncreate /d/2\ncreate /d/3\ncreate /d/4\ncreate /d/5\n\
+          create /d/6\ncreate /d/7\ncreate /d/8\ncreate /d/9\nstart\ncreate /d/z\n",
         "crashmap: line 13: 17 directory full\n",
     )?;
     Ok(())
@@ -138,13 +143,15 @@ fn a_file_has_eight_links(rt: HostRuntime) -> Result<(), Fail> {
     refused(
         &rt,
         &["--module", "async"],
-        b"create /a\nlink /a /b\nlink /a /c\nlink /a /d\nlink /a /e\nlink /a /f\nlink /a /g\nlink /a /h\nstart\nlink /a /i\n",
+        b"create /a\nlink /a /b\nlink /a /c\nlink /a /d\nlink /a /e\nlink /a /f\nlink /a /g\n\
+          link /a /h\nstart\nlink /a /i\n",
         "crashmap: line 10: 19 too many links\n",
     )?;
     refused(
         &rt,
         &["--module", "async"],
-        b"create /a\nlink /a /b\nlink /a /c\nlink /a /d\nlink /a /e\nlink /a /f\nlink /a /g\nlink /a /h\nstart\nrename /a /i\n",
+        b"create /a\nlink /a /b\nlink /a /c\nlink /a /d\nlink /a /e\nlink /a /f\nlink /a /g\n\
+          link /a /h\nstart\nrename /a /i\n",
         "crashmap: line 10: 19 too many links\n",
     )?;
     Ok(())
@@ -184,7 +191,24 @@ fn closed_sets_may_be_as_many_as_the_limit(rt: HostRuntime) -> Result<(), Fail> 
         &["--module", "async", "--limit", "24"],
         b"start\ncreate /a\nwrite /a\n",
         1,
-        "module async\npatches 5\nclosed 24\nfailing 10\nset 1\nwrite block 4: 1\nfault 1 dangling entry: directory 0 entry 0 inode 1\nset 1 2\nwrite block 4: 1\nwrite block 1: 2\nfault 1 dangling entry: directory 0 entry 0 inode 1\nset 1 3\nwrite block 4: 1\nwrite block 5: 3\nfault 1 dangling entry: directory 0 entry 0 inode 1\nset 0 4\nwrite block 2: 0 4\nfault 3 unwritten pointer: inode 1 slot 0 block 5\nfault 5 used block marked free: inode 1 slot 0 block 5\nset 1 2 3\nwrite block 4: 1\nwrite block 1: 2\nwrite block 5: 3\nfault 1 dangling entry: directory 0 entry 0 inode 1\nset 0 1 4\nwrite block 2: 0\nwrite block 4: 1\nwrite block 2: 4\nfault 3 unwritten pointer: inode 1 slot 0 block 5\nfault 5 used block marked free: inode 1 slot 0 block 5\nset 0 2 4\nwrite block 2: 0\nwrite block 1: 2\nwrite block 2: 4\nfault 3 unwritten pointer: inode 1 slot 0 block 5\nset 0 3 4\nwrite block 2: 0\nwrite block 5: 3\nwrite block 2: 4\nfault 5 used block marked free: inode 1 slot 0 block 5\nset 0 1 2 4\nwrite block 2: 0\nwrite block 4: 1\nwrite block 1: 2\nwrite block 2: 4\nfault 3 unwritten pointer: inode 1 slot 0 block 5\nset 0 1 3 4\nwrite block 2: 0\nwrite block 4: 1\nwrite block 5: 3\nwrite block 2: 4\nfault 5 used block marked free: inode 1 slot 0 block 5\n",
+        "module async\npatches 5\nclosed 24\nfailing 10\nset 1\nwrite block 4: 1\n\
+          fault 1 dangling entry: directory 0 entry 0 inode 1\nset 1 2\nwrite block 4: 1\n\
+          write block 1: 2\nfault 1 dangling entry: directory 0 entry 0 inode 1\nset 1 3\n\
+          write block 4: 1\nwrite block 5: 3\n\
+          fault 1 dangling entry: directory 0 entry 0 inode 1\nset 0 4\nwrite block 2: 0 4\n\
+          fault 3 unwritten pointer: inode 1 slot 0 block 5\n\
+          fault 5 used block marked free: inode 1 slot 0 block 5\nset 1 2 3\nwrite block 4: 1\n\
+          write block 1: 2\nwrite block 5: 3\n\
+          fault 1 dangling entry: directory 0 entry 0 inode 1\nset 0 1 4\nwrite block 2: 0\n\
+          write block 4: 1\nwrite block 2: 4\nfault 3 unwritten pointer: inode 1 slot 0 block 5\n\
+          fault 5 used block marked free: inode 1 slot 0 block 5\nset 0 2 4\nwrite block 2: 0\n\
+          write block 1: 2\nwrite block 2: 4\nfault 3 unwritten pointer: inode 1 slot 0 block 5\n\
+          set 0 3 4\nwrite block 2: 0\nwrite block 5: 3\nwrite block 2: 4\n\
+          fault 5 used block marked free: inode 1 slot 0 block 5\nset 0 1 2 4\nwrite block 2: 0\n\
+          write block 4: 1\nwrite block 1: 2\nwrite block 2: 4\n\
+          fault 3 unwritten pointer: inode 1 slot 0 block 5\nset 0 1 3 4\nwrite block 2: 0\n\
+          write block 4: 1\nwrite block 5: 3\nwrite block 2: 4\n\
+          fault 5 used block marked free: inode 1 slot 0 block 5\n",
         "",
     )?;
     refused(
@@ -204,7 +228,17 @@ fn closed_sets_may_be_as_many_as_the_limit(rt: HostRuntime) -> Result<(), Fail> 
         &["--module", "async", "--limit", "16"],
         b"start\ncreate /a\ncreate /b\n",
         1,
-        "module async\npatches 4\nclosed 16\nfailing 7\nset 1\nwrite block 4: 1\nfault 1 dangling entry: directory 0 entry 0 inode 1\nset 3\nwrite block 4: 3\nfault 1 dangling entry: directory 0 entry 1 inode 2\nset 1 2\nwrite block 4: 1\nwrite block 2: 2\nfault 1 dangling entry: directory 0 entry 0 inode 1\nset 0 3\nwrite block 2: 0\nwrite block 4: 3\nfault 1 dangling entry: directory 0 entry 1 inode 2\nset 1 3\nwrite block 4: 1 3\nfault 1 dangling entry: directory 0 entry 0 inode 1\nfault 1 dangling entry: directory 0 entry 1 inode 2\nset 0 1 3\nwrite block 2: 0\nwrite block 4: 1 3\nfault 1 dangling entry: directory 0 entry 1 inode 2\nset 1 2 3\nwrite block 4: 1\nwrite block 2: 2\nwrite block 4: 3\nfault 1 dangling entry: directory 0 entry 0 inode 1\n",
+        "module async\npatches 4\nclosed 16\nfailing 7\nset 1\nwrite block 4: 1\n\
+          fault 1 dangling entry: directory 0 entry 0 inode 1\nset 3\nwrite block 4: 3\n\
+          fault 1 dangling entry: directory 0 entry 1 inode 2\nset 1 2\nwrite block 4: 1\n\
+          write block 2: 2\nfault 1 dangling entry: directory 0 entry 0 inode 1\nset 0 3\n\
+          write block 2: 0\nwrite block 4: 3\n\
+          fault 1 dangling entry: directory 0 entry 1 inode 2\nset 1 3\nwrite block 4: 1 3\n\
+          fault 1 dangling entry: directory 0 entry 0 inode 1\n\
+          fault 1 dangling entry: directory 0 entry 1 inode 2\nset 0 1 3\nwrite block 2: 0\n\
+          write block 4: 1 3\nfault 1 dangling entry: directory 0 entry 1 inode 2\nset 1 2 3\n\
+          write block 4: 1\nwrite block 2: 2\nwrite block 4: 3\n\
+          fault 1 dangling entry: directory 0 entry 0 inode 1\n",
         "",
     )?;
     refused(

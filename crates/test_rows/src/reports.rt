@@ -39,7 +39,8 @@ fn a_created_name_can_dangle(rt: HostRuntime) -> Result<(), Fail> {
         &["--module", "async"],
         b"start\ncreate /a\n",
         1,
-        "module async\npatches 2\nclosed 4\nfailing 1\nset 1\nwrite block 4: 1\nfault 1 dangling entry: directory 0 entry 0 inode 1\n",
+        "module async\npatches 2\nclosed 4\nfailing 1\nset 1\nwrite block 4: 1\n\
+          fault 1 dangling entry: directory 0 entry 0 inode 1\n",
         "",
     )?;
     exactly(
@@ -47,7 +48,10 @@ fn a_created_name_can_dangle(rt: HostRuntime) -> Result<(), Fail> {
         &["--module", "async", "--json"],
         b"start\ncreate /a\n",
         1,
-        "{\"closed\":4,\"failing\":[{\"faults\":[\"1 dangling entry: directory 0 entry 0 inode 1\"],\"set\":[1],\"writes\":[{\"block\":4,\"patches\":[1]}]}],\"module\":\"async\",\"patches\":2}\n",
+        "{\"closed\":4,\
+          \"failing\":[{\"faults\":[\"1 dangling entry: directory 0 entry 0 inode 1\"],\
+          \"set\":[1],\"writes\":[{\"block\":4,\"patches\":[1]}]}],\"module\":\"async\",\
+          \"patches\":2}\n",
         "",
     )?;
     Ok(())
@@ -60,7 +64,17 @@ fn two_creates_have_sixteen_closed_sets(rt: HostRuntime) -> Result<(), Fail> {
         &["--module", "async"],
         b"start\ncreate /a\ncreate /b\n",
         1,
-        "module async\npatches 4\nclosed 16\nfailing 7\nset 1\nwrite block 4: 1\nfault 1 dangling entry: directory 0 entry 0 inode 1\nset 3\nwrite block 4: 3\nfault 1 dangling entry: directory 0 entry 1 inode 2\nset 1 2\nwrite block 4: 1\nwrite block 2: 2\nfault 1 dangling entry: directory 0 entry 0 inode 1\nset 0 3\nwrite block 2: 0\nwrite block 4: 3\nfault 1 dangling entry: directory 0 entry 1 inode 2\nset 1 3\nwrite block 4: 1 3\nfault 1 dangling entry: directory 0 entry 0 inode 1\nfault 1 dangling entry: directory 0 entry 1 inode 2\nset 0 1 3\nwrite block 2: 0\nwrite block 4: 1 3\nfault 1 dangling entry: directory 0 entry 1 inode 2\nset 1 2 3\nwrite block 4: 1\nwrite block 2: 2\nwrite block 4: 3\nfault 1 dangling entry: directory 0 entry 0 inode 1\n",
+        "module async\npatches 4\nclosed 16\nfailing 7\nset 1\nwrite block 4: 1\n\
+          fault 1 dangling entry: directory 0 entry 0 inode 1\nset 3\nwrite block 4: 3\n\
+          fault 1 dangling entry: directory 0 entry 1 inode 2\nset 1 2\nwrite block 4: 1\n\
+          write block 2: 2\nfault 1 dangling entry: directory 0 entry 0 inode 1\nset 0 3\n\
+          write block 2: 0\nwrite block 4: 3\n\
+          fault 1 dangling entry: directory 0 entry 1 inode 2\nset 1 3\nwrite block 4: 1 3\n\
+          fault 1 dangling entry: directory 0 entry 0 inode 1\n\
+          fault 1 dangling entry: directory 0 entry 1 inode 2\nset 0 1 3\nwrite block 2: 0\n\
+          write block 4: 1 3\nfault 1 dangling entry: directory 0 entry 1 inode 2\nset 1 2 3\n\
+          write block 4: 1\nwrite block 2: 2\nwrite block 4: 3\n\
+          fault 1 dangling entry: directory 0 entry 0 inode 1\n",
         "",
     )?;
     Ok(())
@@ -85,7 +99,24 @@ fn a_written_file_depends_on_its_inode_by_overlap(rt: HostRuntime) -> Result<(),
         &["--module", "async"],
         b"start\ncreate /a\nwrite /a\n",
         1,
-        "module async\npatches 5\nclosed 24\nfailing 10\nset 1\nwrite block 4: 1\nfault 1 dangling entry: directory 0 entry 0 inode 1\nset 1 2\nwrite block 4: 1\nwrite block 1: 2\nfault 1 dangling entry: directory 0 entry 0 inode 1\nset 1 3\nwrite block 4: 1\nwrite block 5: 3\nfault 1 dangling entry: directory 0 entry 0 inode 1\nset 0 4\nwrite block 2: 0 4\nfault 3 unwritten pointer: inode 1 slot 0 block 5\nfault 5 used block marked free: inode 1 slot 0 block 5\nset 1 2 3\nwrite block 4: 1\nwrite block 1: 2\nwrite block 5: 3\nfault 1 dangling entry: directory 0 entry 0 inode 1\nset 0 1 4\nwrite block 2: 0\nwrite block 4: 1\nwrite block 2: 4\nfault 3 unwritten pointer: inode 1 slot 0 block 5\nfault 5 used block marked free: inode 1 slot 0 block 5\nset 0 2 4\nwrite block 2: 0\nwrite block 1: 2\nwrite block 2: 4\nfault 3 unwritten pointer: inode 1 slot 0 block 5\nset 0 3 4\nwrite block 2: 0\nwrite block 5: 3\nwrite block 2: 4\nfault 5 used block marked free: inode 1 slot 0 block 5\nset 0 1 2 4\nwrite block 2: 0\nwrite block 4: 1\nwrite block 1: 2\nwrite block 2: 4\nfault 3 unwritten pointer: inode 1 slot 0 block 5\nset 0 1 3 4\nwrite block 2: 0\nwrite block 4: 1\nwrite block 5: 3\nwrite block 2: 4\nfault 5 used block marked free: inode 1 slot 0 block 5\n",
+        "module async\npatches 5\nclosed 24\nfailing 10\nset 1\nwrite block 4: 1\n\
+          fault 1 dangling entry: directory 0 entry 0 inode 1\nset 1 2\nwrite block 4: 1\n\
+          write block 1: 2\nfault 1 dangling entry: directory 0 entry 0 inode 1\nset 1 3\n\
+          write block 4: 1\nwrite block 5: 3\n\
+          fault 1 dangling entry: directory 0 entry 0 inode 1\nset 0 4\nwrite block 2: 0 4\n\
+          fault 3 unwritten pointer: inode 1 slot 0 block 5\n\
+          fault 5 used block marked free: inode 1 slot 0 block 5\nset 1 2 3\nwrite block 4: 1\n\
+          write block 1: 2\nwrite block 5: 3\n\
+          fault 1 dangling entry: directory 0 entry 0 inode 1\nset 0 1 4\nwrite block 2: 0\n\
+          write block 4: 1\nwrite block 2: 4\nfault 3 unwritten pointer: inode 1 slot 0 block 5\n\
+          fault 5 used block marked free: inode 1 slot 0 block 5\nset 0 2 4\nwrite block 2: 0\n\
+          write block 1: 2\nwrite block 2: 4\nfault 3 unwritten pointer: inode 1 slot 0 block 5\n\
+          set 0 3 4\nwrite block 2: 0\nwrite block 5: 3\nwrite block 2: 4\n\
+          fault 5 used block marked free: inode 1 slot 0 block 5\nset 0 1 2 4\nwrite block 2: 0\n\
+          write block 4: 1\nwrite block 1: 2\nwrite block 2: 4\n\
+          fault 3 unwritten pointer: inode 1 slot 0 block 5\nset 0 1 3 4\nwrite block 2: 0\n\
+          write block 4: 1\nwrite block 5: 3\nwrite block 2: 4\n\
+          fault 5 used block marked free: inode 1 slot 0 block 5\n",
         "",
     )?;
     Ok(())
@@ -98,7 +129,8 @@ fn a_link_can_come_before_its_count(rt: HostRuntime) -> Result<(), Fail> {
         &["--module", "async"],
         b"create /a\nstart\nlink /a /b\n",
         1,
-        "module async\npatches 2\nclosed 4\nfailing 1\nset 1\nwrite block 4: 1\nfault 4 low link count: inode 1 entries 2 links 1\n",
+        "module async\npatches 2\nclosed 4\nfailing 1\nset 1\nwrite block 4: 1\n\
+          fault 4 low link count: inode 1 entries 2 links 1\n",
         "",
     )?;
     exactly(
@@ -106,7 +138,9 @@ fn a_link_can_come_before_its_count(rt: HostRuntime) -> Result<(), Fail> {
         &["--module", "async", "--json"],
         b"create /a\nstart\nlink /a /b\n",
         1,
-        "{\"closed\":4,\"failing\":[{\"faults\":[\"4 low link count: inode 1 entries 2 links 1\"],\"set\":[1],\"writes\":[{\"block\":4,\"patches\":[1]}]}],\"module\":\"async\",\"patches\":2}\n",
+        "{\"closed\":4,\
+          \"failing\":[{\"faults\":[\"4 low link count: inode 1 entries 2 links 1\"],\"set\":[1],\
+          \"writes\":[{\"block\":4,\"patches\":[1]}]}],\"module\":\"async\",\"patches\":2}\n",
         "",
     )?;
     Ok(())
@@ -119,7 +153,9 @@ fn a_rename_can_leave_two_names_for_one_link(rt: HostRuntime) -> Result<(), Fail
         &["--module", "async"],
         b"create /a\nstart\nrename /a /b\n",
         1,
-        "module async\npatches 4\nclosed 12\nfailing 2\nset 1\nwrite block 4: 1\nfault 4 low link count: inode 1 entries 2 links 1\nset 0 1 3\nwrite block 2: 0\nwrite block 4: 1\nwrite block 2: 3\nfault 4 low link count: inode 1 entries 2 links 1\n",
+        "module async\npatches 4\nclosed 12\nfailing 2\nset 1\nwrite block 4: 1\n\
+          fault 4 low link count: inode 1 entries 2 links 1\nset 0 1 3\nwrite block 2: 0\n\
+          write block 4: 1\nwrite block 2: 3\nfault 4 low link count: inode 1 entries 2 links 1\n",
         "",
     )?;
     Ok(())
@@ -132,13 +168,15 @@ fn a_freed_block_can_be_used_twice(rt: HostRuntime) -> Result<(), Fail> {
         &["--module", "async"],
         b"create /a\nwrite /a\ncreate /b\nstart\nunlink /a\nwrite /b\n",
         1,
-        "module async\npatches 6\nclosed 48\nfailing 36\nset 1\nwrite block 2: 1\nfault 1 dangling entry: directory 0 entry 0 inode 1\n",
+        "module async\npatches 6\nclosed 48\nfailing 36\nset 1\nwrite block 2: 1\n\
+          fault 1 dangling entry: directory 0 entry 0 inode 1\n",
     )?;
     shows(
         &rt,
         &["--module", "async"],
         b"create /a\nwrite /a\ncreate /b\nstart\nunlink /a\nwrite /b\n",
-        "set 5\nwrite block 2: 5\nfault 2 block used twice: block 5\nfault 3 unwritten pointer: inode 2 slot 0 block 5\n",
+        "set 5\nwrite block 2: 5\nfault 2 block used twice: block 5\n\
+          fault 3 unwritten pointer: inode 2 slot 0 block 5\n",
     )?;
     Ok(())
 }

@@ -89,7 +89,8 @@ impl Gate for UntilAnother {
     }
 }
 
-/// Holds each claimer of a set of one patch until as many such sets as are expected are claimed, for at most 10,000,000 turns.
+/// Holds each claimer of a set of one patch until as many such sets as are expected are claimed, for at most 10,000,000
+/// turns.
 #[derive(Drop)]
 pub struct Meeting {
     expected: u64,
@@ -131,7 +132,8 @@ impl Gate for Meeting {
     }
 }
 
-/// Writes the sets down in the order in which they are claimed, as the digits of a number after a 1; of a set its last digit.
+/// Writes the sets down in the order in which they are claimed, as the digits of a number after a 1; of a set its last
+/// digit.
 #[derive(Drop)]
 pub struct Diary {
     digits: AtomicU64,

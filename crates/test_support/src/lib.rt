@@ -1,4 +1,5 @@
-//! What the test crates share: an allocator that refuses, seeded bytes, gates that hold workers, and scripts with their reports.
+//! What the test crates share: an allocator that refuses, seeded bytes, gates that hold workers, and scripts with their
+//! reports.
 #![tactic(auto)]
 
 pub mod asked;

@@ -1,7 +1,8 @@
 //! An allocator for tests that counts requests for memory and refuses some of them.
 //!
-//! Many threads may share one: a `&Refusing<Global>` is an allocator that is `Copy`, `Send` and `Sync`. That it gives blocks
-//! only of the allocator inside, and gives them back to that one, is proved; which requests it refuses is not, and tests show it.
+//! Many threads may share one: a `&Refusing<Global>` is an allocator that is `Copy`, `Send` and `Sync`. That it gives
+//! blocks only of the allocator inside, and gives them back to that one, is proved; which requests it refuses is not,
+//! and tests show it.
 use std::alloc::{AllocError, Allocator};
 use std::sync::atomic::AtomicU64;
 use std::sync::atomic::Ordering::SeqCst;
