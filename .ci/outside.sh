@@ -7,4 +7,12 @@ if [ ! -x "$1" ]; then
     echo "0 passed, 1 failed"
     exit 1
 fi
-exec bash "$here/refused.sh" "$1"
+passed=0 failed=0
+for part in refused devices; do
+    said=$(bash "$here/$part.sh" "$1") || true
+    echo "${said%$'\n'*}"
+    read -r well _ bad _ <<<"${said##*$'\n'}"
+    passed=$((passed + well)) failed=$((failed + bad))
+done
+echo "$passed passed, $failed failed"
+[ $failed = 0 ]
