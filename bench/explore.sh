@@ -12,9 +12,9 @@
 set -eu
 top=$(cd "$(dirname "${BASH_SOURCE[0]}")/.." && pwd)
 printf 'start\n' | "$top/crashmap" >/dev/null # builds it where it is not built
-(cd "$top/crates/judge_bench" && rt run <stdin >/dev/null 2>&1)
+(cd "$top/crates/bench_judge" && rt run <stdin >/dev/null 2>&1)
 program=$top/crates/crashmap/out/crashmap
-judge=$top/crates/judge_bench/out/judge_bench
+judge=$top/crates/bench_judge/out/bench_judge
 limit=32768
 
 # time_once NAME COMMAND..: keeps under that name how long the shortest run took, in microseconds

@@ -1,10 +1,10 @@
 #!/usr/bin/env python3
-"""Prints what a reference program tells of images of noise, as the table that the tests of crates/hostile_images expect.
+"""Prints what a reference program tells of images of noise, as the table that the tests of crates/test_images expect.
 
 hostile_images.py --reference FILE [--count N]
 
 FILE is a Python module with the functions of the definitions: formatted, plan, apply, faults, replayed and read_path, and
-Operation, Refused and REFUSAL_TEXTS. The images are those of crates/hostile_images, made by the same rules from the same seeds.
+Operation, Refused and REFUSAL_TEXTS. The images are those of crates/test_images, made by the same rules from the same seeds.
 """
 
 import argparse

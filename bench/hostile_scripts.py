@@ -1,10 +1,10 @@
 #!/usr/bin/env python3
-"""Prints what a reference program answers to scripts of noise, as the digests that the tests of crates/hostile_input expect.
+"""Prints what a reference program answers to scripts of noise, as the digests that the tests of crates/test_hostile expect.
 
 hostile_scripts.py --reference FILE [--count N]
 
 FILE is a Python module with `program(words, input, out, err)`, which answers a command line by the definitions and gives the
-exit status. The scripts are those of crates/hostile_input, made by the same rules from the same seeds.
+exit status. The scripts are those of crates/test_hostile, made by the same rules from the same seeds.
 """
 
 import argparse

@@ -4,9 +4,9 @@
 # Not part of the gate.
 set -eu
 top=$(cd "$(dirname "${BASH_SOURCE[0]}")/.." && pwd)
-crate=$top/crates/judge_bench
+crate=$top/crates/bench_judge
 (cd "$crate" && rt run <stdin >/dev/null 2>&1) # builds it where it is not built
-program=$crate/out/judge_bench
+program=$crate/out/bench_judge
 
 if [ $# -gt 0 ]; then
     script=$1

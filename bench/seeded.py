@@ -1,4 +1,4 @@
-"""Bytes that look like chance, the same for the same seed, as crates/hostile_images and crates/hostile_input make them."""
+"""Bytes that look like chance, the same for the same seed, as crates/test_images and crates/test_hostile make them."""
 
 
 class Noise:

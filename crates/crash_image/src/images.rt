@@ -1,4 +1,4 @@
-//! The image of a set, made anew.
+//! The image of a set, made from the base.
 
 ghost use Rattle.std.specs.Prelude.{◌≡◌, ℕ, ◌<◌, length, IfOk};
 ghost use Rattle.std.specs.List.{All};
@@ -25,4 +25,21 @@ pub fn build<A: Allocator + Copy>(
     let mut image = base.try_copy()?;
     redo(&mut image, graph, set);
     Ok(image)
+}
+
+/// Makes of an image with as many blocks as the base the disk that a set of patches leaves, as [`build`] does. It takes
+/// no memory.
+pub fn rebuild<A: Allocator + Copy>(
+    image: &mut Image<A>,
+    base: &Image<A>,
+    graph: &Graph<A>,
+    set: u128,
+)
+    requires size { image.old.blocks ≡ base.now.blocks }
+    requires fits { All (λ patch. patch.block < base.now.blocks) graph.now }
+    requires known { (id : ℕ) → Has set id → id < length graph.now }
+    ensures { image.new ≡ image_of base.now graph.now set }
+{
+    image.copy_from(base);
+    redo(image, graph, set);
 }

@@ -1,6 +1,6 @@
 //! Crash images: the disk that a set of patches leaves, and the space of the sets that a crash can leave.
 //!
-//! [`build`] makes the image of a set anew. A [`Mover`] brings one image from set to set by undo and redo, so that
+//! [`build`] makes the image of a set anew, and [`rebuild`] in an image that there is. A [`Mover`] brings one image from set to set by undo and redo, so that
 //! neighbouring sets cost little. A [`PatchSpace`] has the sets that a crash can leave as its words; a set is good where
 //! its image is clean after replay of the journal.
 #![tactic(auto)]
@@ -10,10 +10,8 @@ mod laws;
 mod mover;
 mod puts;
 mod space;
-#[cfg(test)]
-mod tests;
 
-pub use images::build;
+pub use images::{build, rebuild};
 pub use laws::{exploring_finds_the_failing_sets, reach_is_the_closed_sets};
 pub use mover::Mover;
 pub use space::{PatchSpace, Scratch};

@@ -7,8 +7,6 @@
 mod format;
 mod image;
 mod layout;
-#[cfg(test)]
-mod tests;
 
 pub use format::ImageFault;
 pub use image::Image;

@@ -8,7 +8,7 @@ use Rattle.state_space.specs.Reach.{IsReached}
 use Rattle.state_space.specs.Counts.{IsListOf}
 use Rattle.board_rule.specs.Lists.{row_of}
 use Rattle.board_rule.specs.declared.life.Life.TheVariants.{Broken}
-use Rattle.plain_explorer.proofs.Successors.{some_push}
+use Rattle.patch_sets.proofs.DistinctWords.{some_push}
 use Rattle.seen_board.specs.Ended.{Ended, life_of_entry, Entries, Settled, Done}
 use Rattle.explorers.specs.Entries.{IsBrokenBefore, AreDistinct, AreShort}
 

@@ -10,7 +10,7 @@ use Rattle.std.proofs.lemmas.List.Elements.{Contains-append_left, Contains-push,
 use Rattle.board_rule.specs.Lists.{row_of, Has}
 use Rattle.board_rule.proofs.Sums.{starts-length, starts-at}
 use Rattle.seen_board.specs.Clauses.{SeesOn, LacksBelow}
-use Rattle.plain_explorer.proofs.Known.{HaveSame, known_iff}
+use Rattle.patch_sets.proofs.WordSets.{HaveSame, known_iff}
 use Rattle.explorers.proofs.Successors.{has_on}
 use Rattle.explorers.specs.Met.{AreMet}
 

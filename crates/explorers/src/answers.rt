@@ -1,14 +1,12 @@
 //! From what the workers leave to the answer.
 ghost use Rattle.std.specs.Prelude.{◌≡◌, ℕ, ◌<◌, ◌≤◌, IfOk, IsErrOf};
 ghost use Rattle.std.specs.List.{All};
-ghost use Rattle.state_space.specs.Reach.{IsReached};
-ghost use Rattle.state_space.specs.Counts.{HoldsOf, Outnumbers};
-ghost use Rattle.patch_sets.specs.Sets.{AreAllInOrder};
+ghost use Rattle.patch_sets.specs.Explored.{IsExplored, ReachExceeds};
 ghost use Rattle.explorers.specs.Ready.{IsLeft};
 
 use crate::collected::collect;
 use crate::worker::Left;
-use plain_explorer::{ExploreFault, Explored};
+use patch_sets::explored::{ExploreFault, Explored};
 use seen_board::Board;
 use state_space::Space;
 use std::alloc::Allocator;
@@ -62,12 +60,8 @@ pub(crate) fn answer<S: Space, A: Allocator + Copy>(
     requires board { (board.limit ≡ limit) × (board.space ≡ space.now) }
     requires limit { limit ≤ 32768 }
     requires left { IsLeft board left }
-
-    ensures total { IfOk result (λ explored. HoldsOf (IsReached (S.successors space.now) (S.initial space.now)) explored.total) }
-    ensures within { IfOk result (λ explored. explored.total ≤ limit) }
-    ensures broken { IfOk result (λ explored. AreAllInOrder (λ word. IsReached (S.successors space.now) (S.initial space.now) word × ¬ (S.is_good space.now word)) explored.broken.items) }
-
-    ensures too_many { IsErrOf result ExploreFault.TooMany → Outnumbers (IsReached (S.successors space.now) (S.initial space.now)) limit }
+    ensures found { IfOk result (IsExplored (S.successors space.now) (S.initial space.now) (S.is_good space.now) limit) }
+    ensures too_many { IsErrOf result ExploreFault.TooMany → ReachExceeds (S.successors space.now) (S.initial space.now) limit }
 {
     let Left { mut seat, is_over } = left;
     let is_finished = board.finished(&mut seat);

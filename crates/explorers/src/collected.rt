@@ -1,14 +1,13 @@
 //! What a closed board tells.
 ghost use Rattle.std.specs.Prelude.{◌≡◌, ℕ, ◌+◌, ◌<◌, ◌≤◌, length, IfOk, OnOk, IsErrOf};
 ghost use Rattle.std.specs.List.{concat};
-ghost use Rattle.state_space.specs.Reach.{IsReached};
-ghost use Rattle.state_space.specs.Counts.{IsListOf, HoldsOf, Outnumbers};
-ghost use Rattle.patch_sets.specs.Sets.{AreAllInOrder};
+ghost use Rattle.state_space.specs.Counts.{IsListOf};
+ghost use Rattle.patch_sets.specs.Explored.{IsExplored, ReachExceeds};
 ghost use Rattle.seen_board.specs.Ended.{Entries, Settled, Done};
 ghost use Rattle.explorers.specs.Entries.{IsBrokenBefore, AreDistinct, AreShort};
 
+use patch_sets::explored::{ExploreFault, Explored};
 use patch_sets::order::in_order;
-use plain_explorer::{ExploreFault, Explored};
 use seen_board::{Contents, Life, Place};
 use state_space::Space;
 use std::alloc::{AllocError, Allocator};
@@ -27,12 +26,8 @@ pub(crate) fn collect<S: Space, A: Allocator + Copy>(
     requires entries { Entries (S.successors _space.now) (S.initial _space.now) limit contents.now.rows }
     requires settled { Settled (S.successors _space.now) (S.is_good _space.now) contents.now }
     requires done { Done (S.successors _space.now) (S.initial _space.now) contents.now }
-
-    ensures total { IfOk result (λ explored. HoldsOf (IsReached (S.successors _space.now) (S.initial _space.now)) explored.total) }
-    ensures within { IfOk result (λ explored. explored.total ≤ limit) }
-    ensures broken { IfOk result (λ explored. AreAllInOrder (λ word. IsReached (S.successors _space.now) (S.initial _space.now) word × ¬ (S.is_good _space.now word)) explored.broken.items) }
-
-    ensures too_many { IsErrOf result ExploreFault.TooMany → Outnumbers (IsReached (S.successors _space.now) (S.initial _space.now)) limit }
+    ensures found { IfOk result (IsExplored (S.successors _space.now) (S.initial _space.now) (S.is_good _space.now) limit) }
+    ensures too_many { IsErrOf result ExploreFault.TooMany → ReachExceeds (S.successors _space.now) (S.initial _space.now) limit }
 {
     let total = count_entries(contents);
     if total > limit {

@@ -1,9 +1,7 @@
 //! Exploring with many workers.
 ghost use Rattle.std.specs.Prelude.{◌≡◌, ℕ, ◌<◌, ◌≤◌, length, IfOk, IsErrOf};
 ghost use Rattle.std.specs.List.{All};
-ghost use Rattle.state_space.specs.Reach.{IsReached};
-ghost use Rattle.state_space.specs.Counts.{HoldsOf, Outnumbers};
-ghost use Rattle.patch_sets.specs.Sets.{AreAllInOrder};
+ghost use Rattle.patch_sets.specs.Explored.{IsExplored, ReachExceeds};
 ghost use Rattle.explorers.specs.Met.{AreMet};
 ghost use Rattle.explorers.specs.Ready.{IsIdle, IsLeft};
 
@@ -14,7 +12,7 @@ use crate::met::Met;
 use crate::tasks::{Task, Tasks};
 use crate::worker::{Left, Worker, work};
 use hands::{Hand, hands};
-use plain_explorer::{ExploreFault, Explored};
+use patch_sets::explored::{ExploreFault, Explored};
 use seen_board::{Board, BoardSeat, Place};
 use state_space::Space;
 use std::alloc::{AllocError, Allocator};
@@ -45,15 +43,11 @@ where
     G: Gate + Sync,
     requires limit { (0 < limit) × (limit ≤ 32768) }
     requires workers { (1 ≤ workers) × (workers ≤ 16) }
-
-    ensures total { IfOk result (λ explored. HoldsOf (IsReached (S.successors space.now) (S.initial space.now)) explored.total) }
-    ensures within { IfOk result (λ explored. explored.total ≤ limit) }
-    ensures broken { IfOk result (λ explored. AreAllInOrder (λ word. IsReached (S.successors space.now) (S.initial space.now) word × ¬ (S.is_good space.now word)) explored.broken.items) }
-
-    ensures too_many { IsErrOf result ExploreFault.TooMany → Outnumbers (IsReached (S.successors space.now) (S.initial space.now)) limit }
+    ensures found { IfOk result (IsExplored (S.successors space.now) (S.initial space.now) (S.is_good space.now) limit) }
+    ensures too_many { IsErrOf result ExploreFault.TooMany → ReachExceeds (S.successors space.now) (S.initial space.now) limit }
 {
-    let (board, mut seat) = Board::open(alloc, space, limit)?;
-    let hands = first_hands(alloc, space, workers)?;
+    let (board, mut seat, place) = Board::open(alloc, space, limit)?;
+    let hands = first_hands(alloc, space, place, workers)?;
     let ready = new_workers(alloc, &board, space, &mut seat, hands)?;
     let before = Left {
         seat,
@@ -63,10 +57,11 @@ where
     answer(alloc, space, limit, board, left)
 }
 
-/// A hand for each worker. The first has the initial word as its task.
+/// A hand for each worker. The first has the initial word, which stands at the place, as its task.
 fn first_hands<S: Space, A: Allocator + Copy>(
     alloc: A,
     space: &S,
+    place: Place,
     workers: usize,
 ) -> Result<Vec<Hand<Task, A>, A>, AllocError>
     requires workers { (1 ≤ workers) × (workers ≤ 16) }
@@ -75,10 +70,6 @@ fn first_hands<S: Space, A: Allocator + Copy>(
 {
     let mut all = hands(alloc, workers)?;
     let word = space.start();
-    let place = Place {
-        shard: (word % 13) as u8,
-        at: 0,
-    };
     match all[0].push(Task { word, place }) {
         Ok(()) => Ok(all),
         Err(_) => Err(AllocError),

@@ -14,10 +14,8 @@ mod met;
 mod searching;
 mod stealing;
 mod tasks;
-#[cfg(test)]
-mod tests;
 mod worker;
 
 pub use exploring::explore;
 pub use gate::{Gate, OpenGate};
-pub use plain_explorer::{ExploreFault, Explored};
+pub use patch_sets::explored::{ExploreFault, Explored};

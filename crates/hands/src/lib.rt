@@ -13,6 +13,3 @@ mod reach;
 pub use hand::Hand;
 pub use left::tasks_left;
 pub use making::hands;
-
-#[cfg(test)]
-mod tests;

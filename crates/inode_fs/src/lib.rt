@@ -15,6 +15,3 @@ pub use crash_model::names::{Name, Op, Path};
 pub use crash_model::plans::{Change, Plan, Role};
 pub use crash_model::refusals::FsFault;
 pub use plans::plan;
-
-#[cfg(test)]
-mod tests;

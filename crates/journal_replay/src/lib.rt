@@ -6,7 +6,5 @@
 
 mod header;
 mod journal;
-#[cfg(test)]
-mod tests;
 
 pub use journal::replay;

@@ -7,8 +7,6 @@
 
 pub mod fault;
 pub mod graph;
-#[cfg(test)]
-mod tests;
 
 pub use crash_model::patches::Patch;
 pub use fault::GraphFault;

@@ -44,7 +44,7 @@ ids_more n pass = subst (λ xs. filter pass xs ≡ ids_below n pass ++ cond (pas
     map_id [] = refl
     map_id (x ∷ xs) = ap (λ ys. x ∷ ys) (map_id xs)
 
-ids_suc : (n : ℕ) (pass : ℕ → Bool) → ids_below (suc n) pass ≡ ids_below n pass ++ cond (pass n) (n ∷ []) []
+pub ids_suc : (n : ℕ) (pass : ℕ → Bool) → ids_below (suc n) pass ≡ ids_below n pass ++ cond (pass n) (n ∷ []) []
 ids_suc n pass = ap (λ m. ids_below m pass) (sym (add-one n)) ∙ ids_more n pass
 
 pub ids_push : (n : ℕ) (pass : ℕ → Bool) → pass n ≡ true → ids_below (n + 1) pass ≡ ids_below n pass ++ n ∷ []

@@ -1,8 +1,11 @@
 pub mod Bits
 pub mod Canonical
+pub mod DistinctWords
 pub mod Ids
 pub mod LowestHighest
 pub mod Lists
 pub mod Runs
+pub mod Stepped
 pub mod Successors
+pub mod WordSets
 pub mod Writes

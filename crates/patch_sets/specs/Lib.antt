@@ -3,3 +3,5 @@ pub mod Closed
 pub mod Machine
 pub mod Writes
 pub mod Ends
+pub mod Explored
+pub mod Iter

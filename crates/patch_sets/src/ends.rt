@@ -40,20 +40,3 @@ pub fn difference(set: u128, other: u128) -> u128
 {
     set & !other
 }
-
-#[cfg(test)]
-mod tests {
-    use super::*;
-    use std::test::Fail;
-
-    #[test]
-    fn the_ends_of_a_set_of_two(rt: HostRuntime) -> Result<(), Fail> {
-        let set = 1 << 5 | 1 << 127;
-        assert_eq!(rt; lowest(set), Some(5));
-        assert_eq!(rt; highest(set), Some(127));
-        assert_eq!(rt; lowest(without(set, 5)), Some(127));
-        assert_eq!(rt; difference(set, 1 << 127), 1 << 5);
-        assert_eq!(rt; highest(0), None);
-        Ok(())
-    }
-}

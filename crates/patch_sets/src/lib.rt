@@ -5,9 +5,9 @@
 #![tactic(auto)]
 
 pub mod ends;
+pub mod explored;
+pub mod iter;
 pub mod laws;
 pub mod order;
 pub mod set;
-#[cfg(test)]
-mod tests;
 pub mod write;

@@ -1,8 +1,6 @@
-//! Membership, sets with one id more, and the ids of a set.
-ghost use Rattle.std.specs.Prelude.{◌≡◌, ℕ, ◌<◌, ◌≤◌, ◌↔◌, IsTrue, IfOk};
-ghost use Rattle.patch_sets.specs.Sets.{Has, IsSubset, with_id, ids_of};
-
-use std::alloc::{AllocError, Allocator};
+//! Membership, and sets with one id more.
+ghost use Rattle.std.specs.Prelude.{◌≡◌, ℕ, ◌<◌, ◌↔◌, IsTrue};
+ghost use Rattle.patch_sets.specs.Sets.{Has, IsSubset, with_id};
 
 /// Whether the id is in the set.
 pub fn has(set: u128, id: usize) -> bool
@@ -33,18 +31,4 @@ pub fn is_below(set: u128, n: usize) -> bool
     ensures { IsTrue result ↔ ((id : ℕ) → Has set id → id < n) }
 {
     set >> n == 0
-}
-
-/// The ids below `n` of a set, in ascending order. It fails only when out of memory.
-pub fn ids_of<A: Allocator>(alloc: A, n: usize, set: u128) -> Result<Vec<usize, A>, AllocError>
-    requires { n ≤ 128 }
-    ensures { IfOk result (λ ids. ids.items ≡ ids_of n set) }
-{
-    let mut ids = Vec::new(alloc);
-    for id in 0..n {
-        if has(set, id) {
-            ids.push(id)?;
-        }
-    }
-    Ok(ids)
 }

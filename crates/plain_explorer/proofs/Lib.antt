@@ -1,4 +1,2 @@
-pub mod Answer
-pub mod Known
 pub mod Progress
 pub mod Successors

@@ -6,7 +6,7 @@ use Rattle.std.proofs.lemmas.List.Elements.{All-contains, All-get_or, Contains-a
 use Rattle.state_space.specs.Reach.{IsReached}
 use Rattle.state_space.specs.Counts.{IsSome, IsListOf}
 use Rattle.state_space.proofs.Runs.{along}
-use Rattle.plain_explorer.proofs.Successors.{some_push}
+use Rattle.patch_sets.proofs.DistinctWords.{some_push}
 
 -- The list has words that have been reached, and the start. Those below done have their successors in it, and bad has the ones of them that are not good.
 pub record Progress (next : ℕ → List ℕ) (start : ℕ) (good : ℕ → Type 0) (done : ℕ) (found bad : List ℕ) : Type 0 where

@@ -1,23 +1,11 @@
 -- Lists of different words that are reached.
-use Rattle.std.proofs.Common.{◌≡◌, ◌≢◌, ℕ, ◌+◌, ◌<◌, List, [], ◌∷◌, ◌++◌, length, get_or, arith, length-append, subst, ap, ◌∙◌, below_more, append_assoc}
+use Rattle.std.proofs.Common.{◌≡◌, ℕ, ◌+◌, ◌<◌, List, [], ◌∷◌, ◌++◌, length, get_or, ap, ◌∙◌, below_more, append_assoc}
 use Rattle.std.specs.List.{Contains}
-use Rattle.std.proofs.lemmas.List.Elements.{All-push, Contains-get_or, Contains-append_left, Contains-push}
-use Rattle.std.proofs.lemmas.List.Quantifiers.{all_pairs_push}
+use Rattle.std.proofs.lemmas.List.Elements.{Contains-get_or, Contains-append_left, Contains-push}
 use Rattle.state_space.specs.Reach.{IsReached}
-use Rattle.state_space.specs.Counts.{IsSome, Outnumbers}
+use Rattle.state_space.specs.Counts.{IsSome}
 use Rattle.state_space.proofs.Runs.{reached_next}
-
--- a word more, which the list lacks
-pub some_push : (P : ℕ → Type 0) (words : List ℕ) (word : ℕ) → IsSome P words → P word → (Contains words word → ⊥) → IsSome P (words ++ word ∷ [])
-some_push P words word some holds absent = record {
-  distinct = all_pairs_push (λ x y. x ≢ y) words word some.distinct (λ k d within same. absent (subst (λ w. Contains words w) same (Contains-get_or words k d within)));
-  each = All-push P words word some.each holds;
-}
-
--- a full list and a word more
-pub outnumbers_push : (P : ℕ → Type 0) (words : List ℕ) (word limit : ℕ) → IsSome P words → P word → (Contains words word → ⊥) → length words ≡ limit → Outnumbers P limit
-outnumbers_push P words word limit some holds absent full =
-    (words ++ word ∷ [], some_push P words word some holds absent, omega (arith, length-append words (word ∷ [])))
+use Rattle.patch_sets.proofs.DistinctWords.{some_push}
 
 -- how far the successors of a word have been put in: those below k are in the list, which has grown at its end from the one before
 pub record Inserted (next : ℕ → List ℕ) (start word : ℕ) (before : List ℕ) (k : ℕ) (found : List ℕ) : Type 0 where

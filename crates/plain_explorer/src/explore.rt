@@ -1,22 +1,14 @@
 ghost use Rattle.std.specs.Prelude.{◌≡◌, ◌<◌, ◌≤◌, ◌++◌, List, ℕ, length, Contains, IfOk, OnOk, IsErrOf};
 ghost use Rattle.std.specs.List.{All};
 ghost use Rattle.state_space.specs.Reach.{IsReached};
-ghost use Rattle.state_space.specs.Counts.{IsSome, HoldsOf, Outnumbers};
-ghost use Rattle.patch_sets.specs.Sets.{AreAllInOrder};
+ghost use Rattle.state_space.specs.Counts.{IsSome};
+ghost use Rattle.patch_sets.specs.Explored.{IsExplored, ReachExceeds};
 
-use crate::fault::ExploreFault;
 use crate::found::Found;
+use patch_sets::explored::{ExploreFault, Explored};
 use patch_sets::order::in_order;
 use state_space::Space;
 use std::alloc::Allocator;
-
-/// How many words are reached, and which of them are not good, in canonical order: fewer ids first, then the
-/// smaller number.
-#[derive(Drop)]
-pub struct Explored<A: Allocator> {
-    pub total: usize,
-    pub broken: Vec<u128, A>,
-}
 
 /// Explores a space from its initial word.
 ///
@@ -28,12 +20,8 @@ pub fn explore_plain<A: Allocator + Copy, S: Space>(
     limit: usize,
 ) -> Result<Explored<A>, ExploreFault>
     requires { 0 < limit }
-
-    ensures total { IfOk result (λ explored. HoldsOf (IsReached (S.successors space.now) (S.initial space.now)) explored.total) }
-    ensures within { IfOk result (λ explored. explored.total ≤ limit) }
-    ensures broken { IfOk result (λ explored. AreAllInOrder (λ word. IsReached (S.successors space.now) (S.initial space.now) word × ¬ (S.is_good space.now word)) explored.broken.items) }
-
-    ensures too_many { IsErrOf result ExploreFault.TooMany → Outnumbers (IsReached (S.successors space.now) (S.initial space.now)) limit }
+    ensures found { IfOk result (IsExplored (S.successors space.now) (S.initial space.now) (S.is_good space.now) limit) }
+    ensures too_many { IsErrOf result ExploreFault.TooMany → ReachExceeds (S.successors space.now) (S.initial space.now) limit }
 {
     let mut scratch = space.scratch()?;
     let mut found = Found::new(alloc);
@@ -70,7 +58,7 @@ fn find_successors<A: Allocator + Copy, S: Space>(
     ensures some { IsSome (IsReached (S.successors space.now) (S.initial space.now)) found.new }
     ensures within { length found.new ≤ limit }
     ensures successors { OnOk result (All (Contains found.new) (S.successors space.now word)) }
-    ensures too_many { IsErrOf result ExploreFault.TooMany → Outnumbers (IsReached (S.successors space.now) (S.initial space.now)) limit }
+    ensures too_many { IsErrOf result ExploreFault.TooMany → ReachExceeds (S.successors space.now) (S.initial space.now) limit }
 {
     for k in 0..space.degree(word) {
         let next = space.next(word, k);

@@ -6,10 +6,6 @@
 #![tactic(auto)]
 
 mod explore;
-mod fault;
 mod found;
-#[cfg(test)]
-mod tests;
 
-pub use explore::{Explored, explore_plain};
-pub use fault::ExploreFault;
+pub use explore::explore_plain;

@@ -1,4 +1,4 @@
--- The bytes of the values of a report.
+-- The bytes of the values of a section.
 use Rattle.std.proofs.Common.{◌≡◌, ℕ, zero, suc, ◌/◌, ◌%◌, ◌≤◌, Bool, true, false, cond, eqb, List, [], ◌∷◌, ◌++◌, map, codes, decimal, refl, sym, ap, ◌∙◌, arith, append_assoc}
 use Rattle.std.specs.Fmt.{digits, digits_onto, digit_glyph}
 use Rattle.std.proofs.lemmas.Bool.Decides.{nat_tests}
@@ -10,12 +10,10 @@ use Rattle.serde_json.specs.Data.{Data, string, array}
 use Rattle.serde_json.specs.View.{items_of}
 use Rattle.serde_json.specs.Written.{compact_text, items_text, has_float, items_have_float}
 use Rattle.crash_model.specs.Lists.{joined}
-use Rattle.crash_model.specs.Report.{Section, fault_text, module_text, quoted, json_array, ids_json, write_json, section_json, json_report}
+use Rattle.crash_model.specs.Report.{Section, fault_text, quoted, json_array, ids_json, write_json, section_json}
 use Rattle.crash_model.specs.declared.fault.Fault.{Fault}
 use Rattle.crash_model.specs.declared.fault.Fault.TheVariants.{Dangling, Twice, Unwritten, LowLinks, MarkedFree, Wild}
-use Rattle.crash_model.specs.declared.steps.Module.{Module}
-use Rattle.crash_model.specs.declared.steps.Module.TheVariants.{Async, Soft, Meta, Full}
-use Rattle.report_json.specs.Values.{number_data, ids_data, write_data, writes_data, fault_data, faults_data, section_data, report_data}
+use Rattle.report_json.specs.Values.{number_data, ids_data, write_data, writes_data, fault_data, faults_data, section_data}
 
 -- ---- text that needs no escapes
 
@@ -50,13 +48,6 @@ decimal_plain : (n : ℕ) → IsPlain (decimal n)
 unfolding digits
 decimal_plain n = digits_plain 64 n [] refl
 
-module_plain : (kind : Module) → IsPlain (module_text kind)
-unfolding escape_byte
-module_plain Async = refl
-module_plain Soft = refl
-module_plain Meta = refl
-module_plain Full = refl
-
 fault_plain : (f : Fault) → IsPlain (fault_text f)
 unfolding fault_text escape_byte
 fault_plain (Dangling d k i) =
@@ -82,7 +73,7 @@ items_bytes f g same x (y ∷ ys) =
     ap (λ (t : List ℕ). t ++ (44 ∷ (compact_text (f y) ++ items_text true (items_of (map f ys))))) (same x)
     ∙ (ap (λ (t : List ℕ). g x ++ (44 ∷ t)) (items_bytes f g same y ys) ∙ sym (append_assoc (g x) (44 ∷ joined 44 (map g (y ∷ ys))) (93 ∷ [])))
 
-pub array_bytes : {X : Type 0} (f : X → Data) (g : X → List ℕ) → ((x : X) → compact_text (f x) ≡ g x) → (xs : List X) → compact_text (array (items_of (map f xs))) ≡ json_array (map g xs)
+array_bytes : {X : Type 0} (f : X → Data) (g : X → List ℕ) → ((x : X) → compact_text (f x) ≡ g x) → (xs : List X) → compact_text (array (items_of (map f xs))) ≡ json_array (map g xs)
 array_bytes f g same [] = refl
 array_bytes f g same (x ∷ xs) = ap (λ (t : List ℕ). 91 ∷ t) (items_bytes f g same x xs)
 
@@ -97,9 +88,6 @@ regroup_5 a b c d e = simp append_assoc
 regroup_7 : (a b c d e f g : List ℕ) → a ++ (b ++ (c ++ (d ++ (e ++ (f ++ g))))) ≡ a ++ b ++ c ++ d ++ e ++ f ++ g
 regroup_7 a b c d e f g = simp append_assoc
 
-regroup_9 : (a b c d e f g h i j : List ℕ) → (a ++ (b ++ (c ++ (d ++ (e ++ (f ++ (g ++ (h ++ i)))))))) ++ j ≡ a ++ b ++ c ++ d ++ e ++ f ++ g ++ h ++ (i ++ j)
-regroup_9 a b c d e f g h i j = simp append_assoc
-
 write_bytes : (patches : ℕ) (w : BlockWrite) → compact_text (write_data patches w) ≡ write_json patches w
 unfolding escape_byte
 write_bytes patches w =
@@ -113,7 +101,7 @@ fault_json f = quoted (fault_text f)
 fault_bytes : (f : Fault) → compact_text (fault_data f) ≡ fault_json f
 fault_bytes f = string_bytes (fault_text f) (fault_plain f)
 
-section_bytes : (patches : ℕ) (s : Section) → compact_text (section_data patches s) ≡ section_json patches s
+pub section_bytes : (patches : ℕ) (s : Section) → compact_text (section_data patches s) ≡ section_json patches s
 unfolding escape_byte
 section_bytes patches s =
     let form = λ (faults set writes : List ℕ). codes "{\"faults\":" ++ (faults ++ (codes ",\"set\":" ++ (set ++ (codes ",\"writes\":" ++ (writes ++ codes "}"))))) in
@@ -127,20 +115,6 @@ section_bytes patches s =
     ∙ (ap (λ (t : List ℕ). form (json_array (map fault_json s.found)) (ids_json patches s.set) t) writes
     ∙ regroup_7 (codes "{\"faults\":") (json_array (map fault_json s.found)) (codes ",\"set\":") (ids_json patches s.set) (codes ",\"writes\":") (json_array (map (write_json patches) s.writes)) (codes "}"))))
 
--- the bytes of the report's value are those of the report
-pub report_bytes : (kind : Module) (patches closed : ℕ) (sections : List Section) → compact_text (report_data kind patches closed (items_of (map (section_data patches) sections))) ++ codes "\n" ≡ json_report kind patches closed sections
-unfolding escape_byte json_report
-report_bytes kind patches closed sections =
-    let form = λ (failing name : List ℕ). (codes "{\"closed\":" ++ (decimal closed ++ (codes ",\"failing\":" ++ (failing ++ (codes ",\"module\":" ++ (name ++ (codes ",\"patches\":" ++ (decimal patches ++ codes "}")))))))) ++ codes "\n" in
-    let items = array (items_of (map (section_data patches) sections)) in
-    let failing = array_bytes (section_data patches) (section_json patches) (section_bytes patches) sections in
-    let name = string_bytes (module_text kind) (module_plain kind) in
-    let spelt : compact_text (report_data kind patches closed (items_of (map (section_data patches) sections))) ++ codes "\n" ≡ form (compact_text items) (compact_text (string (module_text kind))) = refl in
-    spelt
-    ∙ (ap (λ (t : List ℕ). form t (compact_text (string (module_text kind)))) failing
-    ∙ (ap (λ (t : List ℕ). form (json_array (map (section_json patches) sections)) t) name
-    ∙ regroup_9 (codes "{\"closed\":") (decimal closed) (codes ",\"failing\":") (json_array (map (section_json patches) sections)) (codes ",\"module\":") (quoted (module_text kind)) (codes ",\"patches\":") (decimal patches) (codes "}") (codes "\n")))
-
 -- ---- no value is a float
 
 none_float : {X : Type 0} (f : X → Data) → ((x : X) → has_float (f x) ≡ false) → (xs : List X) → items_have_float (items_of (map f xs)) ≡ false
@@ -150,9 +124,6 @@ none_float f each (x ∷ xs) = rw (each x) (none_float f each xs)
 write_no_float : (patches : ℕ) (w : BlockWrite) → has_float (write_data patches w) ≡ false
 write_no_float patches w = rw (none_float number_data (λ _. refl) (ids_of patches w.ids)) refl
 
-section_no_float : (patches : ℕ) (s : Section) → has_float (section_data patches s) ≡ false
+pub section_no_float : (patches : ℕ) (s : Section) → has_float (section_data patches s) ≡ false
 section_no_float patches s =
     rw (none_float fault_data (λ _. refl) s.found, none_float number_data (λ _. refl) (ids_of patches s.set), none_float (write_data patches) (write_no_float patches) s.writes) refl
-
-pub report_no_float_at : (kind : Module) (n closed patches : ℕ) (sections : List Section) → has_float (report_data kind n closed (items_of (map (section_data patches) sections))) ≡ false
-report_no_float_at kind n closed patches sections = rw (none_float (section_data patches) (section_no_float patches) sections) refl

@@ -1,14 +1,11 @@
--- The JSON values of the parts of a report. Keys stand in ascending order.
-use Rattle.std.specs.Prelude.{◌≡◌, ℕ, List, length, map, codes}
+-- The JSON values of the parts of a section. Keys stand in ascending order.
+use Rattle.std.specs.Prelude.{ℕ, List, map, codes}
 use Rattle.patch_sets.specs.Sets.{ids_of}
 use Rattle.patch_sets.specs.declared.write.BlockWrite.{BlockWrite}
-use Rattle.serde_json.specs.Data.{Data, Items, number, unsigned, string, array, object, member, no_members}
+use Rattle.serde_json.specs.Data.{Data, number, unsigned, string, array, object, member, no_members}
 use Rattle.serde_json.specs.View.{items_of}
-use Rattle.crash_model.specs.Disk.{Disk}
-use Rattle.crash_model.specs.Report.{Section, AreSections, fault_text, module_text}
+use Rattle.crash_model.specs.Report.{Section, fault_text}
 use Rattle.crash_model.specs.declared.fault.Fault.{Fault}
-use Rattle.crash_model.specs.declared.patches.Patch.{Patch}
-use Rattle.crash_model.specs.declared.steps.Module.{Module}
 
 abbrev pub number_data : ℕ → Data
 number_data n = number (unsigned n)
@@ -31,14 +28,3 @@ faults_data fs = array (items_of (map fault_data fs))
 abbrev pub section_data : ℕ → Section → Data
 section_data patches s =
     object (member (codes "faults") (faults_data s.found) (member (codes "set") (ids_data patches s.set) (member (codes "writes") (writes_data patches s.writes) no_members)))
-
-abbrev pub report_data : Module → ℕ → ℕ → Items → Data
-report_data kind patches closed failing =
-    object (member (codes "closed") (number_data closed) (member (codes "failing") (array failing)
-    (member (codes "module") (string (module_text kind)) (member (codes "patches") (number_data patches) no_members))))
-
--- values of the sections of these sets
-pub record AreFailing (base : Disk) (patches : List Patch) (sets : List ℕ) (values : List Data) : Type 0 where
-  pub sections : List Section
-  pub are : AreSections base patches sets sections
-  pub told : values ≡ map (section_data (length patches)) sections

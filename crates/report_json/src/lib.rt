@@ -5,6 +5,3 @@ pub mod report;
 mod values;
 
 pub use report::report_json;
-
-#[cfg(test)]
-mod tests;

@@ -1,33 +1,16 @@
-//! JSON values of the parts of a report.
+//! JSON values of the parts of a section.
 
-ghost use Rattle.std.specs.Prelude.{◌≡◌, ◌≤◌, ℕ, [], map, IfOk};
-ghost use Rattle.patch_sets.specs.Sets.{ids_of};
-ghost use Rattle.serde_json.specs.View.{view, items_view, items_of};
+ghost use Rattle.std.specs.Prelude.{◌≡◌, IfOk};
+ghost use Rattle.serde_json.specs.View.{view};
 ghost use Rattle.report_sections.specs.Sections.{told};
-ghost use Rattle.report_json.specs.Values.{ids_data, write_data, writes_data, faults_data, section_data, report_data};
+ghost use Rattle.report_json.specs.Values.{ids_data, write_data, writes_data, faults_data, section_data};
 
 use crash_model::fault::Fault;
-use crash_model::steps::Module;
-use patch_sets::set::has;
+use patch_sets::iter::Ids;
 use patch_sets::write::BlockWrite;
 use report_sections::Section;
 use serde_json::{Value, json};
 use std::alloc::{AllocError, Allocator, Global};
-
-/// The whole report. `failing` has the values of its sections.
-pub(crate) fn report_value(
-    heap: Global,
-    module: Module,
-    patches: usize,
-    closed: usize,
-    failing: Vec<Value>,
-) -> Result<Value, AllocError>
-    ensures { IfOk result (λ value. view value ≡ report_data «module» patches closed (items_view failing.items)) }
-{
-    let name = module.name();
-    let failing = Value::Array(failing);
-    json!(in heap; {"closed": closed, "failing": failing, "module": name, "patches": patches})
-}
 
 /// A failing set of a graph with `patches` patches.
 pub(crate) fn section_value<A: Allocator>(
@@ -35,7 +18,6 @@ pub(crate) fn section_value<A: Allocator>(
     patches: usize,
     section: &Section<A>,
 ) -> Result<Value, AllocError>
-    requires { patches ≤ 128 }
     ensures { IfOk result (λ value. view value ≡ section_data patches (told section.now)) }
 {
     let faults = faults_value(heap, &section.faults)?;
@@ -56,7 +38,6 @@ fn faults_value(heap: Global, faults: &[Fault]) -> Result<Value, AllocError>
 }
 
 fn writes_value(heap: Global, patches: usize, writes: &[BlockWrite]) -> Result<Value, AllocError>
-    requires { patches ≤ 128 }
     ensures { IfOk result (λ value. view value ≡ writes_data patches writes.now) }
 {
     let mut values = Vec::new(heap);
@@ -68,7 +49,6 @@ fn writes_value(heap: Global, patches: usize, writes: &[BlockWrite]) -> Result<V
 
 /// A block write: its block, and the ids of its patches.
 fn write_value(heap: Global, patches: usize, write: BlockWrite) -> Result<Value, AllocError>
-    requires { patches ≤ 128 }
     ensures { IfOk result (λ value. view value ≡ write_data patches write) }
 {
     let ids = ids_value(heap, patches, write.ids)?;
@@ -77,14 +57,11 @@ fn write_value(heap: Global, patches: usize, write: BlockWrite) -> Result<Value,
 
 /// The ids of the set, ascending.
 fn ids_value(heap: Global, patches: usize, set: u128) -> Result<Value, AllocError>
-    requires { patches ≤ 128 }
     ensures { IfOk result (λ value. view value ≡ ids_data patches set) }
 {
     let mut ids = Vec::new(heap);
-    for id in 0..patches {
-        if has(set, id) {
-            ids.push(Value::from(id))?;
-        }
+    for id in Ids::below(set, patches) {
+        ids.push(Value::from(id))?;
     }
     Ok(Value::Array(ids))
 }

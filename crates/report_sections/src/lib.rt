@@ -3,4 +3,4 @@
 
 pub mod section;
 
-pub use section::Section;
+pub use section::{Section, SectionMaker};

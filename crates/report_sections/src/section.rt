@@ -1,10 +1,10 @@
 //! Sections of a report.
 
-ghost use Rattle.std.specs.Prelude.{ℕ, ◌<◌, length, IfOk};
+ghost use Rattle.std.specs.Prelude.{◌≡◌, ℕ, ◌<◌, length, IfOk};
 ghost use Rattle.std.specs.List.{All};
 ghost use Rattle.patch_sets.specs.Sets.{Has};
 
-use crash_image::build;
+use crash_image::rebuild;
 use crash_model::fault::Fault;
 use disk_image::Image;
 use fs_check::faults;
@@ -12,6 +12,7 @@ use journal_replay::replay;
 use patch_graph::Graph;
 use patch_sets::write::BlockWrite;
 use std::alloc::{AllocError, Allocator};
+use std::marker::Model;
 
 /// A failing set, block writes that lead to it, and the faults of its replayed image.
 #[derive(Drop)]
@@ -21,30 +22,61 @@ pub struct Section<A: Allocator> {
     pub faults: Vec<Fault, A>,
 }
 
-impl<A: Allocator + Copy> Section<A> {
+/// What the sections of a report are made in: one image, which is made that of a set for each section.
+///
+/// Contracts see the base and the patches.
+#[derive(Drop)]
+pub struct SectionMaker<'a, A: Allocator + Copy> {
+    alloc: A,
+    base: &'a Image<A>,
+    graph: &'a Graph<A>,
+    image: Image<A>,
+}
+
+impl<'a, A: Allocator + Copy> Model for SectionMaker<'a, A> {
+    ghost use Rattle.report_sections.specs.Maker.{Reported, IsMaker};
+
+    ghost Value = { Reported };
+
+    ghost view = { λ s. record { base = s.base.now; patches = s.graph.now } };
+
+    ghost invariant = { λ s. IsMaker s.base.now s.graph.now s.image };
+}
+
+impl<'a, A: Allocator + Copy> SectionMaker<'a, A> {
     ghost use Rattle.report_sections.specs.Sections.{IsSection};
 
-    /// What is told of a set of the graph's ids, whose patches change blocks of the base.
+    /// Makes sections of sets of the graph, whose patches change blocks of the base.
     ///
     /// It fails only when out of memory.
-    pub fn of_set(
+    pub fn new(
         alloc: A,
-        base: &Image<A>,
-        graph: &Graph<A>,
-        set: u128,
-    ) -> Result<Section<A>, AllocError>
+        base: &'a Image<A>,
+        graph: &'a Graph<A>,
+    ) -> Result<SectionMaker<'a, A>, AllocError>
         requires fits { All (λ patch. patch.block < base.now.blocks) graph.now }
-        requires known { (id : ℕ) → Has set id → id < length graph.now }
-        ensures { IfOk result (IsSection base.now graph.now set) }
+        ensures { IfOk result (λ maker. maker ≡ record { base = base.now; patches = graph.now }) }
     {
-        let writes = graph.writes_to(set)?;
-        let mut image = build(base, graph, set)?;
-        replay(&mut image);
-        let faults = faults(alloc, &image)?;
+        Ok(SectionMaker {
+            alloc,
+            base,
+            graph,
+            image: base.try_copy()?,
+        })
+    }
+
+    /// What is told of a set of the graph's ids. It fails only when out of memory.
+    pub fn section(&mut self, set: u128) -> Result<Section<A>, AllocError>
+        requires known { (id : ℕ) → Has set id → id < length self.old.patches }
+        ensures told { IfOk result (IsSection self.old.base self.old.patches set) }
+        ensures kept { self.new ≡ self.old }
+    {
+        rebuild(&mut self.image, self.base, self.graph, set);
+        replay(&mut self.image);
         Ok(Section {
             set,
-            writes,
-            faults,
+            writes: self.graph.writes_to(set)?,
+            faults: faults(self.alloc, &self.image)?,
         })
     }
 }

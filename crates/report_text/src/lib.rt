@@ -5,6 +5,3 @@ mod lines;
 pub mod report;
 
 pub use report::report_text;
-
-#[cfg(test)]
-mod tests;

@@ -1,6 +1,6 @@
 //! The lines of a report.
 
-ghost use Rattle.std.specs.Prelude.{◌≡◌, ◌≤◌, ◌++◌, ℕ, codes, decimal, string_bytes, OnOk, flat_map};
+ghost use Rattle.std.specs.Prelude.{◌≡◌, ◌++◌, ℕ, codes, decimal, string_bytes, OnOk, flat_map};
 ghost use Rattle.patch_sets.specs.Sets.{ids_of};
 ghost use Rattle.crash_model.specs.Report.{line, numbers, write_text, section_text, fault_text};
 ghost use Rattle.report_sections.specs.Sections.{told};
@@ -8,7 +8,8 @@ ghost use Rattle.report_text.specs.TextReport.{head_text};
 
 use crash_model::fault::Fault;
 use crash_model::steps::Module;
-use patch_sets::set::has;
+use itoa::Buffer;
+use patch_sets::iter::Ids;
 use patch_sets::write::BlockWrite;
 use report_sections::Section;
 use std::alloc::{AllocError, Allocator};
@@ -36,7 +37,6 @@ pub(crate) fn write_section<A: Allocator>(
     patches: usize,
     section: &Section<A>,
 ) -> Result<(), AllocError>
-    requires { patches ≤ 128 }
     ensures { OnOk result (string_bytes out.new ≡ string_bytes out.old ++ section_text patches (told section.now)) }
 {
     out.push_str("set")?;
@@ -53,7 +53,6 @@ fn write_writes<A: Allocator>(
     patches: usize,
     writes: &[BlockWrite],
 ) -> Result<(), AllocError>
-    requires { patches ≤ 128 }
     ensures { OnOk result (string_bytes out.new ≡ string_bytes out.old ++ flat_map (write_text patches) writes.now) }
 {
     for write in writes {
@@ -68,11 +67,11 @@ fn write_write<A: Allocator>(
     patches: usize,
     write: BlockWrite,
 ) -> Result<(), AllocError>
-    requires { patches ≤ 128 }
     ensures { OnOk result (string_bytes out.new ≡ string_bytes out.old ++ write_text patches write) }
 {
-    let block = write.block;
-    write!(out, "write block {block}:")?;
+    out.push_str("write block ")?;
+    write_number(out, usize::from(write.block))?;
+    out.push_str(":")?;
     write_ids(out, patches, write.ids)?;
     out.push_str("\n")?;
     Ok(())
@@ -80,14 +79,21 @@ fn write_write<A: Allocator>(
 
 /// The ids of the set, ascending, each behind a space.
 fn write_ids<A: Allocator>(out: &mut String<A>, patches: usize, set: u128) -> Result<(), AllocError>
-    requires { patches ≤ 128 }
     ensures { OnOk result (string_bytes out.new ≡ string_bytes out.old ++ numbers (ids_of patches set)) }
 {
-    for id in 0..patches {
-        if has(set, id) {
-            write!(out, " {id}")?;
-        }
+    for id in Ids::below(set, patches) {
+        out.push_str(" ")?;
+        write_number(out, id)?;
     }
+    Ok(())
+}
+
+/// A number in decimal.
+fn write_number<A: Allocator>(out: &mut String<A>, number: usize) -> Result<(), AllocError>
+    ensures { OnOk result (string_bytes out.new ≡ string_bytes out.old ++ decimal number) }
+{
+    let mut digits = Buffer::new();
+    out.push_str(digits.format(number))?;
     Ok(())
 }
 

@@ -9,8 +9,8 @@ use crate::lines::{write_head, write_section};
 use crash_model::steps::Module;
 use disk_image::Image;
 use patch_graph::Graph;
-use plain_explorer::Explored;
-use report_sections::Section;
+use patch_sets::explored::Explored;
+use report_sections::SectionMaker;
 use std::alloc::{AllocError, Allocator};
 
 /// The report of an exploration as text: four lines of totals, and then for each failing set a line of its ids, one
@@ -49,8 +49,9 @@ fn write_sections<A: Allocator + Copy>(
     ensures { OnOk result (TellsSections base.now graph.now sets.now (string_bytes out.old) (string_bytes out.new)) }
 {
     let patches = graph.len();
+    let mut maker = SectionMaker::new(alloc, base, graph)?;
     for set in sets {
-        let section = Section::of_set(alloc, base, graph, *set)?;
+        let section = maker.section(*set)?;
         write_section(out, patches, &section)?;
     }
     Ok(())

@@ -6,3 +6,4 @@ pub mod AfterRights
 pub mod AfterScans
 pub mod Chains
 pub mod Endings
+pub mod Slots

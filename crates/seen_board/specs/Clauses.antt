@@ -16,6 +16,10 @@ number place = place_of place.shard place.at
 abbrev pub IsOf : {S : Type 0} → Shown S → Known → Type 0
 IsOf b s = (s.board ≡ b.board) × (s.limit ≡ b.limit)
 
+-- and it has no right
+abbrev pub IsAtRest : {S : Type 0} → Shown S → Known → Type 0
+IsAtRest b s = IsOf b s × (s.right ≡ 0)
+
 abbrev pub HasRight : Known → ℕ → Type 0
 HasRight s q = (s.held ≡ q) × (0 < s.right)
 

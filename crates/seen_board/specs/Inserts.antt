@@ -24,6 +24,10 @@ Follows next seen p word = (p / 13 < length (row_of seen (p % 13))) × Contains 
 abbrev pub IsSuccessor : (ℕ → List ℕ) → Known → ℕ → Type 0
 IsSuccessor next s word = (s.claims ≡ 1) × Follows next s.seen s.place word
 
+-- the same of a seat of the table
+abbrev pub IsNext : (ℕ → List ℕ) → View → ℕ → Type 0
+IsNext next v word = (v.lives.claims ≡ 1) × Follows next v.rows.seen v.lives.place word
+
 -- the seat may have seen more and has no right, and is as it was in all else
 abbrev pub Returns : Known → Known → Type 0
 Returns v w = (w ≡ record v { seen = w.seen; held = w.held; right = 0 }) × SeesOn v.seen w.seen
@@ -42,11 +46,11 @@ AddOk word v w (Found place) = ⊥
 AddOk word v w Busy = ⊥
 AddOk word v w Over = (w ≡ record v { seen = w.seen; right = 0; claims = 0; added = w.added; over = 1 }) × SeesOn v.seen w.seen
 
--- what a look under the read right leaves
-abbrev pub LookedOk : ℕ → Known → Looked → Type 0
-LookedOk word w Taken = Unit {0}
-LookedOk word w (At k) = (k < length (row_of w.seen (word % 13))) × (slice_index (row_of w.seen (word % 13)) k ≡ word)
-LookedOk word w Absent = Lacks (row_of w.seen (word % 13)) word
+-- what a look under the read right tells of the row
+abbrev pub LookedOk : List ℕ → ℕ → Looked → Type 0
+LookedOk row word Taken = Unit {0}
+LookedOk row word (At k) = (k < length row) × (slice_index row k ≡ word)
+LookedOk row word Absent = Lacks row word
 
 -- the place is in the index, or none of its word's index words is zero
 abbrev pub Paid : View → Type 0

@@ -3,3 +3,4 @@ pub mod Ended
 pub mod Founds
 pub mod Inserts
 pub mod Known
+pub mod Seats

@@ -1,3 +1,5 @@
+//! What calls answer.
+
 /// A place on a board: a shard, below 13, and a number in the shard's row, below the limit.
 #[derive(Clone, Copy, Debug, PartialEq, Eq, Drop)]
 pub struct Place {
@@ -25,19 +27,19 @@ pub enum Put {
     Over,
 }
 
-// What the index words of a word tell under a right.
+/// What the index words of a word tell under a right.
 #[derive(Clone, Copy, Debug, PartialEq, Eq, Drop)]
 pub(crate) enum Found {
     At(u16),
     Absent,
-    // None of them is zero, and none names the word's place.
+    /// None of them is zero, and none names the word's place.
     Full,
 }
 
-// What a look under the read right told.
+/// What a look under the read right told.
 #[derive(Clone, Copy, Debug, PartialEq, Eq, Drop)]
 pub(crate) enum Looked {
-    // The right was not had.
+    /// The right was not had.
     Taken,
     At(u16),
     Absent,

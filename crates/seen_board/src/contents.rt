@@ -1,11 +1,12 @@
+//! A closed board.
 ghost use Rattle.std.specs.Prelude.{◌≡◌, ◌<◌, length};
 ghost use Rattle.board_rule.specs.Lists.{row_of};
 ghost use Rattle.seen_board.specs.Clauses.{HasPlace, word_at};
 ghost use Rattle.seen_board.specs.Ended.{life_of_entry};
 
 use crate::answers::Place;
-use crate::board::{ENTRIES, LENGTHS, SHARDS};
-use crate::rows::HALF;
+use crate::entries::HALF;
+use crate::layout::Layout;
 use atomic_table::Closed;
 use board_rule::Life;
 use std::alloc::Allocator;
@@ -14,7 +15,7 @@ use std::marker::Model;
 /// A closed board: the final rows, and the life of each entry.
 pub struct Contents<A: Allocator> {
     pub(crate) closed: Closed<(), A>,
-    pub(crate) limit: usize,
+    pub(crate) layout: Layout,
 }
 
 impl<A: Allocator> Model for Contents<A> {
@@ -24,9 +25,9 @@ impl<A: Allocator> Model for Contents<A> {
 
     ghost Value = { Ended };
 
-    ghost view = { λ c. ended c.limit (slots_items c.closed.words) };
+    ghost view = { λ c. ended c.layout.limit (slots_items c.closed.words) };
 
-    ghost invariant = { λ c. IsFull c.closed.words × (slots_len c.closed.slots ≡ 0) × IsReadable c.limit (slots_items c.closed.words) };
+    ghost invariant = { λ c. IsFull c.closed.words × (slots_len c.closed.slots ≡ 0) × IsReadable c.layout.limit (slots_items c.closed.words) };
 }
 
 impl<A: Allocator> Contents<A> {
@@ -35,7 +36,7 @@ impl<A: Allocator> Contents<A> {
         requires { shard < 13 }
         ensures { result ≡ length (row_of self.now.rows shard) }
     {
-        self.closed.word(LENGTHS + shard as usize) as usize
+        self.closed.word(self.layout.length(shard)) as usize
     }
 
     /// The word at a place.
@@ -43,9 +44,9 @@ impl<A: Allocator> Contents<A> {
         requires { HasPlace self.now.rows place }
         ensures { result ≡ word_at self.now.rows place }
     {
-        let entry = ENTRIES + SHARDS * place.at as usize + place.shard as usize;
-        let low = self.closed.word(entry);
-        let high = self.closed.word(entry + SHARDS * self.limit);
+        let at = place.at as usize;
+        let low = self.closed.word(self.layout.low(place.shard, at));
+        let high = self.closed.word(self.layout.high(place.shard, at));
         low as u128 + high as u128 * HALF
     }
 
@@ -54,8 +55,8 @@ impl<A: Allocator> Contents<A> {
         requires { HasPlace self.now.rows place }
         ensures { result ≡ life_of_entry self.now place.shard place.at }
     {
-        let entry = ENTRIES + SHARDS * place.at as usize + place.shard as usize;
-        match self.closed.word(entry + 2 * SHARDS * self.limit) {
+        let life = self.layout.life(place.shard, place.at as usize);
+        match self.closed.word(life) {
             0 => Life::Waiting,
             1 => Life::Claimed,
             2 => Life::Clean,
@@ -66,7 +67,7 @@ impl<A: Allocator> Contents<A> {
 
 impl<A: Allocator> Drop for Contents<A> {
     fn drop(self) {
-        let Contents { closed, limit: _ } = self;
+        let Contents { closed, layout: _ } = self;
         closed.free();
     }
 }

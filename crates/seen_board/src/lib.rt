@@ -3,22 +3,25 @@
 
 mod answers;
 mod board;
+mod claims;
 mod contents;
-mod ends;
-mod finds;
-mod insert;
-mod lives;
+mod entries;
+mod finishing;
+mod insertion;
+mod layout;
 mod locks;
-mod plays;
-mod refuted;
-mod rows;
+mod lookup;
+mod publishing;
+mod refutations;
 mod seat;
-mod seats;
-mod waits;
+mod split_and_join;
+mod steps;
+mod waiting_calls;
 
 pub use answers::{Got, Place, Put};
 pub use board::Board;
 pub use board_rule::Life;
 pub use contents::Contents;
-pub use plays::{About, Order};
+pub use layout::{SHARDS, shard_of};
 pub use seat::BoardSeat;
+pub use steps::{About, Order};

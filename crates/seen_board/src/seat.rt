@@ -1,8 +1,10 @@
+//! The seat of a thread, and what it has seen.
 ghost use Rattle.std.specs.Prelude.{◌≡◌, ◌↔◌, ◌<◌, IsTrue, length};
 ghost use Rattle.board_rule.specs.Lists.{row_of};
 ghost use Rattle.seen_board.specs.Clauses.{HasPlace};
 
 use crate::answers::Place;
+use crate::layout::SHARDS;
 use atomic_table::Seat;
 use board_rule::View;
 use std::marker::Model;
@@ -11,8 +13,8 @@ use std::marker::Model;
 #[derive(Drop)]
 pub struct BoardSeat {
     pub(crate) seat: Seat<(), View>,
-    // How much of each shard's row it has seen.
-    pub(crate) counts: [u16; 13],
+    /// How much of each shard's row it has seen.
+    pub(crate) counts: [u16; SHARDS],
 }
 
 impl Model for BoardSeat {

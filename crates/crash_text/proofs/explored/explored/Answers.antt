@@ -6,12 +6,12 @@ use Rattle.crash_text.proofs.explored.explored.Goals as goal
 pub returns-in-Ok-clause-total : goal.returns-in-Ok-clause-total
 returns-in-Ok-clause-total g c =
     subst (λ s. CountsClosed s.patches c.in-Ok.found.total) c.new-space.ensures
-    (c.exploring_finds_the_failing_sets.ensures.total c.in-Ok.found.total c.in-Ok.ensures.total)
+    (c.exploring_finds_the_failing_sets.ensures.total c.in-Ok.found.total c.in-Ok.ensures.found.total)
 
 pub returns-in-Ok-clause-failing : goal.returns-in-Ok-clause-failing
 returns-in-Ok-clause-failing g c =
     subst (λ s. AreAllInOrder (IsFailing s.base s.patches) c.in-Ok.found.broken.items) c.new-space.ensures
-    (c.exploring_finds_the_failing_sets.ensures.failing c.in-Ok.found.broken.items c.in-Ok.ensures.broken)
+    (c.exploring_finds_the_failing_sets.ensures.failing c.in-Ok.found.broken.items c.in-Ok.ensures.found.broken)
 
 pub returns-in-Err-TooMany-clause-too_many : goal.returns-in-Err-TooMany-clause-too_many
 returns-in-Err-TooMany-clause-too_many g c =

@@ -1,7 +1,7 @@
 use Rattle.std.proofs.Common.{◌≡◌, ◌+◌, ◌<◌, ◌∷◌, [], ◌++◌, length, get_or, arith, sym, subst, ◌∙◌, get_or-set_same}
 use Rattle.board_rule.specs.Lists.{row_of}
 use Rattle.seen_board.specs.Known.{Known}
-use Rattle.plain_explorer.proofs.Known.{HaveSame, same_after}
+use Rattle.patch_sets.proofs.WordSets.{HaveSame, same_after}
 use Rattle.explorers.proofs.Meeting.{met_next, met_other}
 use Rattle.explorers.proofs.met.meet.Goals as goal
 use Rattle.explorers.proofs.met.meet.Goals.{then-word-from+in_ok-insert, else-word-from}

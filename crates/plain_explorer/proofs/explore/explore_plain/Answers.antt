@@ -3,7 +3,7 @@ use Rattle.std.specs.List.{All, Contains}
 use Rattle.std.proofs.lemmas.List.Elements.{All-get_or}
 use Rattle.state_space.specs.Reach.{IsReached}
 use Rattle.state_space.proofs.Runs.{along}
-use Rattle.plain_explorer.proofs.Answer.{all_in_order}
+use Rattle.patch_sets.proofs.DistinctWords.{all_in_order}
 use Rattle.plain_explorer.proofs.Progress.{Progress, found_all, bad_found, goes_good, goes_bad}
 use Rattle.plain_explorer.proofs.explore.explore_plain.Goals as goal
 use Rattle.plain_explorer.proofs.explore.explore_plain.Goals.{then-not-branch+in_ok-push-2, else-not-branch}
@@ -67,17 +67,17 @@ loop-done-preserved g c =
           }
     ]
 
-pub returns-clause-total : goal.returns-clause-total
-returns-clause-total g c =
+pub returns-clause-found : goal.returns-clause-found
+returns-clause-found g c =
     let s = c.args.space.now in
+    let next = g.S.Space.successors s in
+    let start = g.S.Space.initial s in
+    let good = g.S.Space.is_good s in
     let found = c.loop-done.found in
     let all : length found ≤ c.loop-done.done = omega (arith, c.len.ensures, c.loop-done-test.false) in
-    (found, found_all (g.S.Space.successors s) (g.S.Space.initial s) (g.S.Space.is_good s) c.loop-done.done found c.loop-done.broken.items c.loop-done.invariant.so_far all, omega (arith, c.loop-done.invariant.below))
-
-pub returns-clause-broken : goal.returns-clause-broken
-returns-clause-broken g c =
-    let s = c.args.space.now in
-    let found = c.loop-done.found in
-    let all : length found ≤ c.loop-done.done = omega (arith, c.len.ensures, c.loop-done-test.false) in
-    all_in_order (λ word. IsReached (g.S.Space.successors s) (g.S.Space.initial s) word × (g.S.Space.is_good s word → ⊥)) c.loop-done.broken.items c.in_order.result.items
-    (bad_found (g.S.Space.successors s) (g.S.Space.initial s) (g.S.Space.is_good s) c.loop-done.done found c.loop-done.broken.items c.loop-done.invariant.so_far all) c.in_order.ensures.same c.in_order.ensures.ordered
+    record {
+      total = (found, found_all next start good c.loop-done.done found c.loop-done.broken.items c.loop-done.invariant.so_far all, omega (arith, c.loop-done.invariant.below));
+      within = omega (arith, c.loop-done.invariant.below, c.loop-done.invariant.within);
+      broken = all_in_order (λ word. IsReached next start word × (good word → ⊥)) c.loop-done.broken.items c.in_order.result.items
+          (bad_found next start good c.loop-done.done found c.loop-done.broken.items c.loop-done.invariant.so_far all) c.in_order.ensures.same c.in_order.ensures.ordered;
+    }

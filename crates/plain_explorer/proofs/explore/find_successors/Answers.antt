@@ -3,7 +3,8 @@ use Rattle.std.specs.List.{Contains}
 use Rattle.std.proofs.lemmas.List.Elements.{All-from_get_or, Contains-get_or}
 use Rattle.state_space.specs.Reach.{IsReached}
 use Rattle.state_space.proofs.Runs.{reached_next}
-use Rattle.plain_explorer.proofs.Successors.{Inserted, known_one, new_one, outnumbers_push}
+use Rattle.patch_sets.proofs.DistinctWords.{outnumbers_push}
+use Rattle.plain_explorer.proofs.Successors.{Inserted, known_one, new_one}
 use Rattle.plain_explorer.proofs.explore.find_successors.Goals as goal
 use Rattle.plain_explorer.proofs.explore.find_successors.Goals.{then-not-has+else-len-limit+in_ok-push, else-not-has}
 

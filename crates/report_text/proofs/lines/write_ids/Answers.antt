@@ -1,13 +1,15 @@
 use Rattle.std.proofs.Common.{string_bytes}
-use Rattle.report_text.proofs.Told.{id_told, id_passed}
+use Rattle.patch_sets.specs.Iter.{ids_left}
+use Rattle.patch_sets.proofs.Stepped.{next_id, no_next_id}
+use Rattle.report_text.proofs.Told.{id_told, all_told}
 use Rattle.report_text.proofs.lines.write_ids.Goals as goal
-use Rattle.report_text.proofs.lines.write_ids.Goals.{then-has+in_ok-write, else-has}
 
 pub loop-id-preserved : goal.loop-id-preserved
 loop-id-preserved g c =
-    elim c.if-has.branch [
-      | then-has+in_ok-write w ↦
-          rw w.out-is (id_told c.args.set c.loop-id.id-counter c.has.result (string_bytes c.args.out.now) (string_bytes c.loop-id.out) _ c.has.ensures w.if-has.true c.loop-id.invariant w.in_ok-write.ensures.bytes)
-      | else-has w ↦
-          rw w.out-is (id_passed c.args.set c.loop-id.id-counter c.has.result (string_bytes c.args.out.now) (string_bytes c.loop-id.out) c.has.ensures w.if-has.false c.loop-id.invariant)
-    ]
+    id_told (ids_left c.loop-id.id-iterator) (ids_left c.next.new.self) c.in-Some.id (string_bytes c.loop-id.out) _ _ _ c.loop-id.invariant
+    (next_id c.loop-id.id-iterator c.next.new.self c.next.result c.in-Some.id c.in-Some.is c.next.ensures.steps) c.in_ok-push_str.ensures.bytes c.in_ok-write_number.ensures
+
+pub returns : goal.returns
+returns g c =
+    all_told (ids_left c.loop-id.id-iterator) (string_bytes c.loop-id.out) _ c.loop-id.invariant
+    (no_next_id c.loop-id.id-iterator c.next.new.self c.next.result c.in-None.is c.next.ensures.steps)

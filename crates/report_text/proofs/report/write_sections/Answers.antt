@@ -1,6 +1,14 @@
+use Rattle.std.proofs.Common.{◌≡◌, get_or, subst, ◌∙◌}
+use Rattle.report_sections.specs.Maker.{Reported}
+use Rattle.report_sections.specs.Sections.{IsSection}
 use Rattle.report_text.proofs.Reports.{told_more}
 use Rattle.report_text.proofs.report.write_sections.Goals as goal
 
 pub loop-set-preserved : goal.loop-set-preserved
 loop-set-preserved g c =
-    told_more c.args.base.now c.args.graph.now c.args.sets.now c.loop-set.set-index c.len-patches.result _ _ _ c.in_ok-section.section c.loop-set-test.true c.len-patches.ensures.number c.loop-set.invariant c.in_ok-section.ensures c.in_ok-write_section.ensures
+    let kept : c.section.new.self ≡ c.loop-set.maker = cc in
+    let is = subst (λ (m : Reported). IsSection m.base m.patches (get_or c.args.sets.now c.loop-set.set-index 0) c.in_ok-section.section) c.loop-set.invariant.of_report c.in_ok-section.ensures.told in
+    record {
+      told = told_more c.args.base.now c.args.graph.now c.args.sets.now c.loop-set.set-index c.len-patches.result _ _ _ c.in_ok-section.section c.loop-set-test.true c.len-patches.ensures.number c.loop-set.invariant.told is c.in_ok-write_section.ensures;
+      of_report = kept ∙ c.loop-set.invariant.of_report;
+    }

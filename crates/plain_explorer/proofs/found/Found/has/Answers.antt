@@ -1,6 +1,6 @@
 use Rattle.std.proofs.Common.{IsTrue, subst, sym}
 use Rattle.std.specs.Prelude.{◌↔◌, Contains}
-use Rattle.plain_explorer.proofs.Known.{HaveSame, known_iff}
+use Rattle.patch_sets.proofs.WordSets.{HaveSame, known_iff}
 use Rattle.plain_explorer.proofs.found.Found.has.Goals as goal
 
 pub returns : goal.returns

@@ -1,5 +1,5 @@
 use Rattle.std.proofs.Common.{◌≡◌, [], ◌∷◌, ◌++◌, rules, subst, sym, refl}
-use Rattle.plain_explorer.proofs.Known.{HaveSame, same_still, same_after}
+use Rattle.patch_sets.proofs.WordSets.{HaveSame, same_still, same_after}
 use Rattle.plain_explorer.proofs.found.Found.push.Goals as goal
 
 pub invariant_of-self : goal.invariant_of-self

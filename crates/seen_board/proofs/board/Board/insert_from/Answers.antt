@@ -4,7 +4,7 @@ use Rattle.seen_board.proofs.AfterInserts.{returns_same, returns_successor, put_
 use Rattle.seen_board.proofs.board.Board.insert_from.Goals as goal
 
 pub loop-init : goal.loop-init
-loop-init g c = returns_same c.args.seat.now c.args.seat.now c.requires.free (λ i. c.args.seat.now)
+loop-init g c = returns_same c.args.seat.now c.args.seat.now c.requires.seat.1 (λ i. c.args.seat.now)
 
 pub try_insert_from-requires-clause-successor : goal.try_insert_from-requires-clause-successor
 try_insert_from-requires-clause-successor g c = returns_successor (g.S.Space.successors c.args.self.now.space) c.args.seat.now c.loop.seat c.args.word c.loop.invariant c.requires.successor

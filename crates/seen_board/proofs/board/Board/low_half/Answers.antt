@@ -1,4 +1,4 @@
-use Rattle.std.proofs.Common.{rules, refl}
+use Rattle.std.proofs.Common.{rules}
 use Rattle.board_rule.proofs.RowSteps.{glances_low}
 use Rattle.seen_board.proofs.board.Board.low_half.Goals as goal
 
@@ -6,4 +6,4 @@ pub load-requires : goal.load-requires
 load-requires g c = (search rules, search rules, glances_low _ _ _ g.F.EntryFact.holds_of _ _ _ _ (rw (← c.self.view_is) at c.requires.fact))
 
 pub returns-clause-fact : goal.returns-clause-fact
-returns-clause-fact g c = (c.load.ensures.2.1 c.args.shard c.args.at refl c.requires.seen.0 c.requires.seen.1).1
+returns-clause-fact g c = (c.load.ensures.2.1 c.args.shard c.args.at c.low.ensures c.requires.seen.0 c.requires.seen.1).1

@@ -1,7 +1,0 @@
-use Rattle.std.specs.List.{All}
-use Rattle.patch_sets.specs.Closed.{IsClosed}
-use Rattle.crash_model.specs.Patches.{deps_of}
-use Rattle.judge_bench.proofs.sets.closed_sets.Given as goal
-
-abbrev pub invariant-loop-id : goal.invariant-loop-id
-invariant-loop-id l = All (IsClosed (deps_of l.graph)) l.sets.items

@@ -1,0 +1,38 @@
+//! Reading that all is finished, and telling the others to stop.
+ghost use Rattle.std.specs.Prelude.{◌≡◌, true, false};
+ghost use Rattle.seen_board.specs.Clauses.{IsOf};
+
+use crate::board::Board;
+use crate::layout::{PENDING, STOP};
+use crate::seat::BoardSeat;
+use crate::steps::{End, Peek, Stop};
+use state_space::Space;
+use std::alloc::Allocator;
+
+impl<S: Space, A: Allocator> Board<S, A> {
+    /// Whether pending was read as 0. Then the seat knows that all entries are settled and that no word is on its
+    /// way, and that this stays so; `close` says what follows.
+    pub fn finished(&self, seat: &mut BoardSeat) -> bool
+        requires seat { IsOf self.now seat.old }
+        ensures yes { result ≡ true → seat.new ≡ record seat.old { finished = 1 } }
+        ensures no { result ≡ false → seat.new ≡ seat.old }
+    {
+        self.table.shared.load::<End>(&mut seat.seat, PENDING) == 0
+    }
+
+    /// Tells the other seats to stop, which is a hint alone. The seat's claim ends, and its entry stays claimed.
+    pub fn stop(&self, seat: &mut BoardSeat)
+        requires seat { IsOf self.now seat.old }
+        ensures { seat.new ≡ record seat.old { claims = 0 } }
+    {
+        self.table.shared.store::<Stop>(&mut seat.seat, STOP, 1);
+    }
+
+    /// Whether a stop was read. Nothing rests on it.
+    pub fn stopped(&self, seat: &mut BoardSeat) -> bool
+        requires seat { IsOf self.now seat.old }
+        ensures { seat.new ≡ seat.old }
+    {
+        self.table.shared.load::<Peek>(&mut seat.seat, STOP) != 0
+    }
+}

@@ -1,0 +1,110 @@
+//! Putting words in, each a successor of the one that the seat has claimed.
+ghost use Rattle.std.specs.Prelude.{◌≡◌, ◌%◌, ◌≤◌, length};
+ghost use Rattle.board_rule.specs.Lists.{row_of};
+ghost use Rattle.seen_board.specs.Clauses.{IsOf, IsAtRest, Lacks, LacksBelow, Writes};
+ghost use Rattle.seen_board.specs.Inserts.{IsSuccessor, Returns, PutOk, LookedOk};
+ghost use Rattle.seen_board.specs.Seats.{IsSought};
+
+use crate::answers::{Got, Looked, Place, Put};
+use crate::board::Board;
+use crate::layout::{STOP, Sought};
+use crate::seat::BoardSeat;
+use crate::steps::Overflow;
+use state_space::Space;
+use std::alloc::Allocator;
+
+impl<S: Space, A: Allocator> Board<S, A> {
+    /// Looks a word up under the read right, which is given up again, where no place below `from` has it.
+    fn look_reading(&self, seat: &mut BoardSeat, from: u16, sought: Sought) -> Looked
+        requires seat { IsAtRest self.now seat.old }
+        requires sought { IsSought self.now.limit sought }
+        requires before { LacksBelow from (row_of seat.old.seen sought.shard) sought.word }
+        ensures returns { Returns seat.old seat.new }
+        ensures looked { LookedOk (row_of seat.new.seen sought.shard) sought.word result }
+    {
+        match self.try_read(seat, sought.shard) {
+            Got::Busy => return Looked::Taken,
+            Got::Right => {}
+        }
+        let found = self.look_from(seat, from, sought);
+        self.leave(seat, sought.shard);
+        match found {
+            Some(at) => Looked::At(at),
+            None => Looked::Absent,
+        }
+    }
+
+    /// Tells that a full row lacks a word that is reached. The stop is set, and the claim ends.
+    fn overflow(&self, seat: &mut BoardSeat, sought: Sought)
+        requires seat { IsOf self.now seat.old }
+        requires sought { IsSought self.now.limit sought }
+        requires writes { Writes seat.old sought.shard }
+        requires successor { IsSuccessor (S.successors self.now.space) seat.old sought.word }
+        requires full { self.now.limit ≤ length (row_of seat.old.seen sought.shard) }
+        requires absent { Lacks (row_of seat.old.seen sought.shard) sought.word }
+        ensures { seat.new ≡ record seat.old { claims = 0; over = 1 } }
+    {
+        self.table.shared.store::<Overflow>(&mut seat.seat, STOP, 1);
+    }
+
+    /// Takes the write right and puts a word in, where the part of the row that was seen lacks it.
+    fn insert_writing(&self, seat: &mut BoardSeat, sought: Sought) -> Put
+        requires seat { IsAtRest self.now seat.old }
+        requires sought { IsSought self.now.limit sought }
+        requires successor { IsSuccessor (S.successors self.now.space) seat.old sought.word }
+        requires absent { Lacks (row_of seat.old.seen sought.shard) sought.word }
+        ensures put { PutOk sought.word seat.old seat.new result }
+    {
+        let shard = sought.shard;
+        let seen = seat.counts[shard as usize];
+        match self.try_write(seat, shard) {
+            Got::Busy => return Put::Busy,
+            Got::Right => {}
+        }
+        if let Some(at) = self.look_from(seat, seen, sought) {
+            self.give(seat, shard);
+            return Put::Known(Place { shard, at });
+        }
+        if seat.counts[shard as usize] as usize == self.layout.limit {
+            self.overflow(seat, sought);
+            self.give(seat, shard);
+            return Put::Over;
+        }
+        self.add(seat, sought)
+    }
+
+    /// Tries to put a word in that is a successor of the one that the seat has claimed.
+    ///
+    /// After `New` and `Known` the seat has seen the word at that place; `New` put it in, `Known` and `Busy` put nothing
+    /// in, and all three leave the claim. After `Over` the seat knows that more words than the limit are reached, the
+    /// stop is set, the claim has ended and its entry stays claimed; the word may have been put in.
+    pub fn try_insert(&self, seat: &mut BoardSeat, word: u128) -> Put
+        requires seat { IsAtRest self.now seat.old }
+        requires successor { IsSuccessor (S.successors self.now.space) seat.old word }
+        ensures put { PutOk word seat.old seat.new result }
+    {
+        self.try_insert_from(seat, 0, word)
+    }
+
+    /// Tries to put a word in, as `try_insert`, where no place below `from` of its shard has it, as far as the seat has
+    /// seen. Those places are not searched, which spares a caller that keeps the words which it has seen the longest walks.
+    pub fn try_insert_from(&self, seat: &mut BoardSeat, from: u16, word: u128) -> Put
+        requires seat { IsAtRest self.now seat.old }
+        requires successor { IsSuccessor (S.successors self.now.space) seat.old word }
+        requires before { LacksBelow from (row_of seat.old.seen (word % 13)) word }
+        ensures put { PutOk word seat.old seat.new result }
+    {
+        let sought = self.sought(word);
+        if let Some(place) = self.find_sought(seat, sought) {
+            return Put::Known(place);
+        }
+        match self.look_reading(seat, from, sought) {
+            Looked::Taken => Put::Busy,
+            Looked::At(at) => Put::Known(Place {
+                shard: sought.shard,
+                at,
+            }),
+            Looked::Absent => self.insert_writing(seat, sought),
+        }
+    }
+}

@@ -1,0 +1,135 @@
+//! Where the words of a board lie in its table, which shard a word belongs to, and at which index words it is looked for.
+ghost use Rattle.std.specs.Prelude.{◌≡◌, ℕ, ◌*◌, ◌+◌, ◌%◌, ◌<◌, ◌≤◌};
+ghost use Rattle.board_rule.specs.Layout.{lock_word, length_word, low_word, high_word, life_word, index_word, size_for, slot, window};
+ghost use Rattle.seen_board.specs.Seats.{IsSought};
+
+/// The number of shards of a board.
+pub const SHARDS: usize = 13;
+
+/// The number of entries that are not settled, and of the words that are on their way.
+pub(crate) const PENDING: usize = 0;
+
+/// The number of entries that were counted.
+pub(crate) const COUNT: usize = 1;
+
+/// Whether the workers are to stop.
+pub(crate) const STOP: usize = 2;
+
+const LOCKS: usize = 3;
+
+const LENGTHS: usize = LOCKS + SHARDS;
+
+const BLOCKS: usize = LENGTHS + SHARDS;
+
+/// The shard of a word: its remainder by the number of shards.
+pub fn shard_of(word: u128) -> u8
+    ensures { result ≡ word % 13 }
+{
+    (word % SHARDS as u128) as u8
+}
+
+/// The table of a board whose rows have up to `limit` places. Behind the counters, the locks and the lengths come four
+/// blocks with a word for each place: low halves, high halves, lives, and the index. In a block the shards take turns.
+#[derive(Clone, Copy, Debug, Drop)]
+pub(crate) struct Layout {
+    pub limit: usize,
+}
+
+impl Layout {
+    /// How many words there are.
+    pub fn size(&self) -> usize
+        requires small { self.now.limit ≤ 32768 }
+        ensures { result ≡ size_for self.now.limit }
+    {
+        BLOCKS + 4 * SHARDS * self.limit
+    }
+
+    /// The lock of a shard.
+    pub fn lock(&self, shard: u8) -> usize
+        requires shard { shard < 13 }
+        ensures { result ≡ lock_word shard }
+    {
+        LOCKS + shard as usize
+    }
+
+    /// The length of a shard's row.
+    pub fn length(&self, shard: u8) -> usize
+        requires shard { shard < 13 }
+        ensures { result ≡ length_word shard }
+    {
+        LENGTHS + shard as usize
+    }
+
+    /// The low half of the entry at a place.
+    pub fn low(&self, shard: u8, at: usize) -> usize
+        requires place { (shard < 13) × (at < 65536) × (self.now.limit ≤ 32768) }
+        ensures { result ≡ low_word shard at }
+    {
+        BLOCKS + SHARDS * at + shard as usize
+    }
+
+    /// The high half of the entry at a place.
+    pub fn high(&self, shard: u8, at: usize) -> usize
+        requires place { (shard < 13) × (at < 65536) × (self.now.limit ≤ 32768) }
+        ensures { result ≡ high_word self.now.limit shard at }
+    {
+        BLOCKS + SHARDS * self.limit + SHARDS * at + shard as usize
+    }
+
+    /// The life of the entry at a place.
+    pub fn life(&self, shard: u8, at: usize) -> usize
+        requires place { (shard < 13) × (at < 65536) × (self.now.limit ≤ 32768) }
+        ensures { result ≡ life_word self.now.limit shard at }
+    {
+        BLOCKS + 2 * SHARDS * self.limit + SHARDS * at + shard as usize
+    }
+
+    /// A word of a shard's index, which has as many as the row has places.
+    pub fn mark(&self, shard: u8, slot: usize) -> usize
+        requires place { (shard < 13) × (slot < self.now.limit) × (self.now.limit ≤ 32768) }
+        ensures { result ≡ index_word self.now.limit shard slot }
+    {
+        BLOCKS + 3 * SHARDS * self.limit + SHARDS * slot + shard as usize
+    }
+
+    /// How many words of its shard's index a word has.
+    pub fn window(&self) -> usize
+        ensures window { result ≡ window self.now.limit }
+        ensures within { result ≤ self.now.limit }
+        ensures eight { result ≤ 8 }
+    {
+        if self.limit < 8 { self.limit } else { 8 }
+    }
+
+    /// The first index word of a word.
+    pub fn first_slot(&self, word: u128) -> usize
+        requires limit { 0 < self.now.limit }
+        ensures slot { result ≡ slot self.now.limit word 0 }
+        ensures below { result < self.now.limit }
+    {
+        (word / SHARDS as u128 % self.limit as u128) as usize
+    }
+
+    /// The t-th index word of a word, counted from 0. Behind the last word of the index comes word 0.
+    pub fn slot(&self, sought: Sought, t: usize) -> usize
+        requires sought { IsSought self.now.limit sought }
+        requires range { (t ≤ self.now.limit) × (self.now.limit ≤ 32768) }
+        ensures slot { result ≡ slot self.now.limit sought.word t }
+        ensures below { result < self.now.limit }
+    {
+        let slot = sought.first + t;
+        if slot < self.limit {
+            slot
+        } else {
+            slot - self.limit
+        }
+    }
+}
+
+/// A word that is looked for, with its shard and the first of its index words.
+#[derive(Clone, Copy, Debug, Drop)]
+pub(crate) struct Sought {
+    pub word: u128,
+    pub shard: u8,
+    pub first: usize,
+}

@@ -1,0 +1,153 @@
+//! Looking words up, with and without a right.
+ghost use Rattle.std.specs.Prelude.{◌≡◌, ◌≢◌, ℕ, ◌<◌, ◌≤◌, ◌%◌, length, slice_index, MatchOption};
+ghost use Rattle.board_rule.specs.Lists.{row_of};
+ghost use Rattle.seen_board.specs.Clauses.{IsOf, HasRight, Lacks, Names, Sees};
+ghost use Rattle.seen_board.specs.Founds.{FoundOk};
+ghost use Rattle.seen_board.specs.Seats.{SitsAt, IsSame, HasRightOf, IsSought};
+
+use crate::answers::{Found, Place};
+use crate::board::Board;
+use crate::layout::{Sought, shard_of};
+use crate::seat::BoardSeat;
+use crate::steps::{Mark, Scan};
+use atomic_table::Seat;
+use board_rule::View;
+use state_space::Space;
+use std::alloc::Allocator;
+
+impl<S: Space, A: Allocator> Board<S, A> {
+    /// What is computed once of a word that is looked for.
+    pub(crate) fn sought(&self, word: u128) -> Sought
+        ensures word { result.word ≡ word }
+        ensures sought { IsSought self.now.limit result }
+    {
+        Sought {
+            word,
+            shard: shard_of(word),
+            first: self.layout.first_slot(word),
+        }
+    }
+
+    /// What the index tells of a word, under a right of its shard and with nothing to file.
+    fn search(&self, seat: &mut Seat<(), View>, sought: Sought) -> Found
+        requires seat { SitsAt self.now seat.old }
+        requires sought { IsSought self.now.limit sought }
+        requires right { HasRightOf seat.old.me.0 sought.shard }
+        requires filed { seat.old.me.0.rows.unfiled ≡ 0 }
+        requires short { length (row_of seat.old.me.0.rows.seen sought.shard) ≤ self.now.limit }
+        ensures same { IsSame seat.old seat.new }
+        ensures found { FoundOk (row_of seat.old.me.0.rows.seen sought.shard) sought.word result }
+    {
+        for t in 0..self.layout.window() {
+            let slot = self.layout.slot(sought, t);
+            let mark = self
+                .table
+                .shared
+                .load::<Mark>(seat, self.layout.mark(sought.shard, slot));
+            if mark == 0 {
+                return Found::Absent;
+            }
+            let at = mark as usize - 1;
+            if self.entry(seat, sought.shard, at) == sought.word {
+                return Found::At(at as u16);
+            }
+        }
+        Found::Full
+    }
+
+    /// The place of a word among those from `from` up to `to`.
+    fn walk(&self, seat: &mut BoardSeat, shard: u8, from: u16, to: u16, word: u128) -> Option<u16>
+        requires seat { IsOf self.now seat.old }
+        requires range { (shard < 13) × (to ≤ length (row_of seat.old.seen shard)) }
+        ensures same { seat.new ≡ seat.old }
+        ensures found { MatchOption result ((k : ℕ) → from ≤ k → k < to → slice_index (row_of seat.old.seen shard) k ≢ word) (λ k. (k < to) × (slice_index (row_of seat.old.seen shard) k ≡ word)) }
+    {
+        for at in from..to {
+            if self.at(seat, Place { shard, at }) == word {
+                return Some(at);
+            }
+        }
+        None
+    }
+
+    /// The place of a word under a right of its shard, where no place below `from` has it.
+    pub(crate) fn look_from(&self, seat: &mut BoardSeat, from: u16, sought: Sought) -> Option<u16>
+        requires seat { IsOf self.now seat.old }
+        requires sought { IsSought self.now.limit sought }
+        requires right { HasRight seat.old sought.shard }
+        requires before { (k : ℕ) → k < from → slice_index (row_of seat.old.seen sought.shard) k ≢ sought.word }
+        ensures same { seat.new ≡ seat.old }
+        ensures found { MatchOption result (Lacks (row_of seat.old.seen sought.shard) sought.word) (λ k. (k < length (row_of seat.old.seen sought.shard)) × (slice_index (row_of seat.old.seen sought.shard) k ≡ sought.word)) }
+    {
+        match self.search(&mut seat.seat, sought) {
+            Found::At(at) => Some(at),
+            Found::Absent => None,
+            Found::Full => {
+                let count = seat.counts[sought.shard as usize];
+                self.walk(seat, sought.shard, from, count, sought.word)
+            }
+        }
+    }
+
+    /// The place of a word under a right of its shard, or `None` where the shard lacks it.
+    pub fn look(&self, seat: &mut BoardSeat, word: u128) -> Option<Place>
+        requires seat { IsOf self.now seat.old }
+        requires right { HasRight seat.old (word % 13) }
+        ensures same { seat.new ≡ seat.old }
+        ensures found { MatchOption result (Lacks (row_of seat.old.seen (word % 13)) word) (λ place. Names seat.old.seen place word) }
+    {
+        let sought = self.sought(word);
+        let shard = sought.shard;
+        self.look_from(seat, 0, sought)
+            .map(|at| Place { shard, at })
+    }
+
+    /// Loads an index word. The places up to the one that it names are published, so the seat has seen them.
+    fn scan(&self, seat: &mut BoardSeat, shard: u8, slot: usize) -> u64
+        requires seat { IsOf self.now seat.old }
+        requires range { (shard < 13) × (slot < self.now.limit) }
+        ensures sees { Sees seat.old seat.new }
+        ensures named { result ≤ length (row_of seat.new.seen shard) }
+        ensures within { result ≤ self.now.limit }
+    {
+        let mark = self
+            .table
+            .shared
+            .load::<Scan>(&mut seat.seat, self.layout.mark(shard, slot));
+        seat.counts[shard as usize] = seat.counts[shard as usize].max(mark as u16);
+        mark
+    }
+
+    /// Looks a word up with no right. `None` says nothing: the word may be an entry, or become one.
+    pub fn find(&self, seat: &mut BoardSeat, word: u128) -> Option<Place>
+        requires seat { IsOf self.now seat.old }
+        ensures sees { Sees seat.old seat.new }
+        ensures found { MatchOption result (Unit {0}) (λ place. Names seat.new.seen place word) }
+    {
+        self.find_sought(seat, self.sought(word))
+    }
+
+    /// Looks a word up with no right, as `find`.
+    pub(crate) fn find_sought(&self, seat: &mut BoardSeat, sought: Sought) -> Option<Place>
+        requires seat { IsOf self.now seat.old }
+        requires sought { IsSought self.now.limit sought }
+        ensures sees { Sees seat.old seat.new }
+        ensures found { MatchOption result (Unit {0}) (λ place. Names seat.new.seen place sought.word) }
+    {
+        let shard = sought.shard;
+        for t in 0..self.layout.window() {
+            let mark = self.scan(seat, shard, self.layout.slot(sought, t));
+            if mark == 0 {
+                return None;
+            }
+            let at = mark as usize - 1;
+            if self.entry(&mut seat.seat, shard, at) == sought.word {
+                return Some(Place {
+                    shard,
+                    at: at as u16,
+                });
+            }
+        }
+        None
+    }
+}

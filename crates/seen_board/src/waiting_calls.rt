@@ -1,0 +1,71 @@
+//! The calls that try until the answer is not Busy. That they return is not promised.
+ghost use Rattle.std.specs.Prelude.{◌≡◌, ◌≢◌, ◌<◌, ◌%◌};
+ghost use Rattle.board_rule.specs.Layout.{writer};
+ghost use Rattle.board_rule.specs.Lists.{row_of};
+ghost use Rattle.seen_board.specs.Clauses.{IsAtRest, Gains, LacksBelow};
+ghost use Rattle.seen_board.specs.Inserts.{IsSuccessor, PutOk};
+
+use crate::answers::{Got, Put};
+use crate::board::Board;
+use crate::seat::BoardSeat;
+use state_space::Space;
+use std::alloc::Allocator;
+use std::sync::Wait;
+use std::thread::yield_now;
+
+impl<S: Space, A: Allocator> Board<S, A> {
+    /// Waits for the read right of a shard.
+    pub fn read<R: Wait>(&self, rt: &R, seat: &mut BoardSeat, shard: u8)
+        requires seat { IsAtRest self.now seat.old }
+        requires shard { shard < 13 }
+        ensures right { Gains seat.old 1 shard seat.new }
+    {
+        for _ in rt.forever() {
+            match self.try_read(seat, shard) {
+                Got::Right => return,
+                Got::Busy => yield_now(),
+            }
+        }
+    }
+
+    /// Waits for the write right of a shard.
+    pub fn write<R: Wait>(&self, rt: &R, seat: &mut BoardSeat, shard: u8)
+        requires seat { IsAtRest self.now seat.old }
+        requires shard { shard < 13 }
+        ensures right { Gains seat.old writer shard seat.new }
+    {
+        for _ in rt.forever() {
+            match self.try_write(seat, shard) {
+                Got::Right => return,
+                Got::Busy => yield_now(),
+            }
+        }
+    }
+
+    /// Puts a word in, as `try_insert`, and waits where a right is not had.
+    pub fn insert<R: Wait>(&self, rt: &R, seat: &mut BoardSeat, word: u128) -> Put
+        requires seat { IsAtRest self.now seat.old }
+        requires successor { IsSuccessor (S.successors self.now.space) seat.old word }
+        ensures put { PutOk word seat.old seat.new result }
+        ensures done { result ≢ Put.Busy }
+    {
+        self.insert_from(rt, seat, 0, word)
+    }
+
+    /// Puts a word in, as `try_insert_from`, and waits where a right is not had.
+    pub fn insert_from<R: Wait>(&self, rt: &R, seat: &mut BoardSeat, from: u16, word: u128) -> Put
+        requires seat { IsAtRest self.now seat.old }
+        requires successor { IsSuccessor (S.successors self.now.space) seat.old word }
+        requires before { LacksBelow from (row_of seat.old.seen (word % 13)) word }
+        ensures put { PutOk word seat.old seat.new result }
+        ensures done { result ≢ Put.Busy }
+    {
+        for _ in rt.forever() {
+            match self.try_insert_from(seat, from, word) {
+                Put::Busy => yield_now(),
+                put => return put,
+            }
+        }
+        unreachable!()
+    }
+}

@@ -1,0 +1,31 @@
+//! A run behind a gate gives exactly the report that is expected.
+
+ghost use Rattle.std.specs.Prelude.{◌≤◌};
+
+use crash_text::run::run;
+use explorers::Gate;
+use sha1::Sha1;
+use std::process::Abort;
+use std::sync::Wait;
+use std::test::Fail;
+use std::thread::Threads;
+use test_support::asked::Asked;
+
+/// So many workers behind this gate give exactly the report.
+pub fn reports<R: Abort + AllocGlobal + Threads + Wait + Sync, G: Gate + Sync>(
+    rt: &R,
+    asked: &Asked,
+    workers: usize,
+    gate: &G,
+) -> Result<(), Fail>
+    requires { (1 ≤ workers) × (workers ≤ 16) }
+{
+    let heap = rt.alloc();
+    let script = asked.whole_script(heap)?;
+    let settings = asked.settings(4096, false);
+    let outcome = run(rt, heap, heap, &script, &settings, workers, gate)?;
+    assert_eq!(rt; outcome.failing, asked.failing);
+    let digest = hex::encode(heap, Sha1::digest(outcome.text.as_bytes()))?;
+    assert!(rt; digest.as_str() == asked.text, "{workers} workers");
+    Ok(())
+}

@@ -1,0 +1,44 @@
+//! Tests alone: whole runs of the product over memory, and its parts on the graphs of whole scripts.
+//!
+//! Each expected value comes from the specification or from an independent reference program. A report that is long stands as the
+//! SHA-1 digest of its bytes.
+#![tactic(auto)]
+
+#[cfg(test)]
+mod asked;
+#[cfg(test)]
+mod boards;
+#[cfg(test)]
+mod broken_devices;
+#[cfg(test)]
+mod deques;
+#[cfg(test)]
+mod disks;
+#[cfg(test)]
+mod graphs;
+#[cfg(test)]
+mod ladders;
+#[cfg(test)]
+mod lines;
+#[cfg(test)]
+mod moves;
+#[cfg(test)]
+mod no_patches;
+#[cfg(test)]
+mod operations;
+#[cfg(test)]
+mod orderings;
+#[cfg(test)]
+mod refusals;
+#[cfg(test)]
+mod replays;
+#[cfg(test)]
+mod reports;
+#[cfg(test)]
+mod sets;
+#[cfg(test)]
+mod spaces;
+#[cfg(test)]
+mod traces;
+#[cfg(test)]
+mod workers;

@@ -1,0 +1,94 @@
+//! The sets that a crash can leave, judged.
+
+ghost use Rattle.std.specs.Prelude.{◌≡◌, ◌<◌};
+ghost use Rattle.std.specs.List.{All};
+ghost use Rattle.crash_model.specs.Patches.{AreUndo};
+
+use crate::traces::{Trace, closed_sets, trace_of};
+use crash_image::PatchSpace;
+use crash_model::steps::Module;
+use state_space::Space;
+use std::alloc::Global;
+use std::process::Abort;
+use std::test::Fail;
+
+/// How many of the sets that a crash can leave are not good.
+fn count_failing(rt: &impl Abort, alloc: Global, script: &Trace) -> Result<usize, Fail>
+    requires fits { All (λ patch. patch.block < script.now.base.blocks) script.now.graph }
+    requires undo { AreUndo script.now.base script.now.graph }
+{
+    let space = PatchSpace::new(&script.base, &script.graph);
+    let mut scratch = space.scratch()?;
+    let mut failing = 0;
+    for set in &closed_sets(alloc, &script.graph)? {
+        assert!(rt; script.graph.is_closed(*set));
+        if !space.judge(&mut scratch, *set)? {
+            failing += 1;
+        }
+    }
+    Ok(failing)
+}
+
+#[test]
+fn sets_that_fail_under_no_order(rt: HostRuntime) -> Result<(), Fail> {
+    let script = trace_of(
+        rt.alloc(),
+        b"start\ncreate /a\nwrite /a\n",
+        16,
+        0,
+        Module::Async,
+    )?;
+    assert_eq!(rt; count_failing(&rt, rt.alloc(), &script)?, 10);
+    let script = trace_of(
+        rt.alloc(),
+        b"create /a\nwrite /a\ncreate /b\nstart\nunlink /a\nwrite /b\n",
+        16,
+        0,
+        Module::Async,
+    )?;
+    assert_eq!(rt; count_failing(&rt, rt.alloc(), &script)?, 36);
+    Ok(())
+}
+
+#[test]
+fn no_set_fails_under_soft_updates(rt: HostRuntime) -> Result<(), Fail> {
+    let script = trace_of(
+        rt.alloc(),
+        b"create /a\nwrite /a\ncreate /b\nstart\nunlink /a\nwrite /b\n",
+        16,
+        0,
+        Module::Soft,
+    )?;
+    assert_eq!(rt; count_failing(&rt, rt.alloc(), &script)?, 0);
+    Ok(())
+}
+
+#[test]
+fn replay_over_a_block_that_is_used_again_fails(rt: HostRuntime) -> Result<(), Fail> {
+    let script = trace_of(
+        rt.alloc(),
+        b"mkdir /d\ncreate /d/x\ncreate /f\nstart\nunlink /d/x\nrmdir /d\nwrite /f\n",
+        24,
+        12,
+        Module::Meta,
+    )?;
+    assert_eq!(rt; count_failing(&rt, rt.alloc(), &script)?, 48);
+    Ok(())
+}
+
+#[test]
+fn four_patches_are_ready_at_the_start(rt: HostRuntime) -> Result<(), Fail> {
+    let script = trace_of(
+        rt.alloc(),
+        b"start\ncreate /a\nwrite /a\n",
+        16,
+        0,
+        Module::Async,
+    )?;
+    let space = PatchSpace::new(&script.base, &script.graph);
+    let start = space.start();
+    assert_eq!(rt; start, 0);
+    assert_eq!(rt; space.degree(start), 4);
+    assert_eq!(rt; space.next(start, 3), 8);
+    Ok(())
+}
