@@ -2,7 +2,7 @@
 //!
 //! An operation changes bytes of several blocks. Each change becomes a patch, and the rules of an ordering (none, soft
 //! updates, a journal, or a user's own) say which patches must be committed before which. The user's patch groups add
-//! orders between operations. Replay of the journal is in the crate `journal_replay`.
+//! orders between operations.
 #![tactic(auto)]
 
 mod base;
@@ -18,7 +18,6 @@ pub use crash_model::names::GroupName;
 pub use crash_model::orderings::Ordering;
 pub use crash_model::refusals::TraceFault;
 pub use crash_model::steps::{Act, Module, Step};
-pub use journal_replay::replay;
 pub use labels::{Label, Origin};
 pub use traced::{Reasons, Traced};
-pub use tracer::trace;
+pub use tracer::{trace, trace_under};

@@ -23,6 +23,7 @@ use crash_model::refusals::TraceFault;
 use crash_model::steps::{Act, Module, Step};
 use disk_image::Image;
 use inode_fs::{apply, plan};
+use patch_graph::Graph;
 use std::alloc::{AllocError, Allocator};
 use std::marker::Model;
 
@@ -56,6 +57,26 @@ pub fn trace<'a, A: Allocator + Copy>(
         tracer.step(step)?;
     }
     Ok(tracer.into_traced())
+}
+
+/// The graph of the steps, over this image, under a module with its own rules; or the first refused step.
+///
+/// It is that of `trace` under this ordering.
+pub fn trace_under<A: Allocator + Copy>(
+    alloc: A,
+    image: &Image<A>,
+    steps: &[Step],
+    module: Module,
+) -> Result<Graph<A>, TraceFault>
+    ensures ok { IfOk result (λ graph. (s : Tracing) × (traced «module» (begun image.now) steps.now ≡ Ok s) × IsGraphOf (rules_of «module») image.now s graph) }
+    ensures refused { IfErr result (λ refusal. refusal ≢ fault.OutOfMemory → traced «module» (begun image.now) steps.now ≡ Err refusal) }
+    ensures fits { IfOk result (λ graph. All (λ patch. patch.block < image.now.blocks) graph) }
+    ensures names { IfOk result (λ _. All GivesName (ops_of steps.now)) }
+    ensures full { «module» ≡ Full → IsSound image.now → HasZeroJournal image.now → IfOk result (λ graph. IsFullSafe image.now steps.now graph) }
+{
+    let ordering = Ordering::of(module);
+    let traced = trace(alloc, image, steps, &ordering)?;
+    Ok(traced.into_graph())
 }
 
 /// A trace under way.
