@@ -3,6 +3,7 @@ use Rattle.std.specs.Prelude.{◌≡◌, ℕ, ◌≤◌, ◌⊎◌, List, length
 use Rattle.patch_sets.specs.Sets.{AreAllInOrder}
 use Rattle.crash_model.specs.Disk.{Disk, formatted, IsGeometry}
 use Rattle.crash_model.specs.Refusals.{run_of_script, run_of_trace}
+use Rattle.crash_model.specs.Rules.{rules_of}
 use Rattle.crash_model.specs.Trace.{Tracing, begun, traced, based, IsGraphOf}
 use Rattle.crash_model.specs.Failing.{IsFailing, CountsClosed, ExceedsLimit}
 use Rattle.crash_model.specs.Report.{Section, AreSections, report}
@@ -39,7 +40,7 @@ IsGraphAnswer settings base patches (Reported text failing) = IsReport settings 
 
 abbrev pub IsTracedAnswer : Settings → Disk → Result Tracing TraceFault → Answer → Type 0
 IsTracedAnswer settings base (Err fault) answer = answer ≡ Refused (run_of_trace fault)
-IsTracedAnswer settings base (Ok s) answer = (patches : List Patch) × IsGraphOf settings.module base s patches × IsGraphAnswer settings base patches answer
+IsTracedAnswer settings base (Ok s) answer = (patches : List Patch) × IsGraphOf (rules_of settings.module) base s patches × IsGraphAnswer settings base patches answer
 
 abbrev pub IsBaseAnswer : Settings → Result Disk TraceFault → List Step → Answer → Type 0
 IsBaseAnswer settings (Err fault) steps answer = answer ≡ Refused (run_of_trace fault)

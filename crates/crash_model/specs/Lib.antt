@@ -10,6 +10,7 @@ pub mod Sound
 pub mod Meaning
 pub mod Patches
 pub mod Replay
+pub mod Rules
 pub mod Trace
 pub mod Failing
 pub mod Report

@@ -1,5 +1,5 @@
 -- Patches, and the disk that a set of them leaves.
-use Rattle.std.specs.Prelude.{◌≡◌, ℕ, ◌+◌, ◌*◌, List, [], ◌∷◌, length, map, slice_range, if◌then◌else◌}
+use Rattle.std.specs.Prelude.{◌≡◌, ℕ, ◌+◌, ◌*◌, List, [], ◌∷◌, length, map, slice_range, Bool, ◌&&◌, ◌==◌, nat_lt, if◌then◌else◌}
 use Rattle.patch_sets.specs.Sets.{has}
 use Rattle.crash_model.specs.Disk.{Disk, put}
 use Rattle.crash_model.specs.declared.patches.Patch.{Patch}
@@ -22,6 +22,10 @@ place block offset new = record { block = block; offset = offset; new = new }
 
 abbrev pub places_of : List Patch → List Place
 places_of patches = map (λ p. place p.block p.offset p.new.items) patches
+
+-- two ranges of one block share a byte
+abbrev pub overlap : Place → Place → Bool
+overlap q p = q.block == p.block && nat_lt q.offset (p.offset + length p.new) && nat_lt p.offset (q.offset + length q.new)
 
 -- the disk with the places of a set put in ascending order of their ids, of which the first is `id`
 abbrev pub image_from : ℕ → Disk → List Place → ℕ → Disk

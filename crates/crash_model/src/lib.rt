@@ -7,8 +7,10 @@
 
 pub mod fault;
 pub mod names;
+pub mod orderings;
 pub mod patches;
 pub mod plans;
 pub mod refusals;
+pub mod rules;
 pub mod settings;
 pub mod steps;

@@ -13,7 +13,7 @@ use crash_model::refusals::RunFault;
 use crash_model::settings::Settings;
 use disk_image::{Image, ImageFault};
 use explorers::{Explored, Gate};
-use order_modules::{build_base, trace};
+use order_modules::{build_base, trace_under};
 use patch_graph::Graph;
 use report_json::report_json;
 use report_text::report_text;
@@ -83,7 +83,7 @@ where
         Err(ImageFault::OutOfMemory) => return Err(RunFault::OutOfMemory),
     };
     build_base(&mut base, &script.base)?;
-    let graph = trace(alloc, &base, &script.traced, settings.module)?;
+    let graph = trace_under(alloc, &base, &script.traced, settings.module)?;
     report_on(rt, heap, alloc, &base, &graph, settings, workers, gate)
 }
 

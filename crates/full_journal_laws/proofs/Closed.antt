@@ -1,15 +1,19 @@
 -- What a closed set has of each transaction, from the dependencies alone.
 use Rattle.std.proofs.Common.{◌≡◌, ℕ, zero, suc, ◌+◌, ◌-◌, ◌<◌, ◌≤◌, ◌⊎◌, inl, inr, List, [], ◌∷◌, ◌++◌, length, map, Bool, true, false, nat_lt, ◌&&◌, ◌||◌, Option, Some, arith, tests, refl, sym, ◌∙◌, ap, subst}
 use Rattle.std.specs.Prelude.{slice_get, ◌==◌}
+use Rattle.std.specs.List.{list_any}
 use Rattle.std.proofs.lemmas.List.{length-append, length-map}
 use Rattle.crash_model.specs.Disk.{Disk, block_of}
 use Rattle.patch_sets.specs.Sets.{has}
-use Rattle.crash_model.specs.Patches.{Place, place}
+use Rattle.crash_model.specs.Patches.{Place, place, overlap}
 use Rattle.crash_model.specs.Plan.{applied}
-use Rattle.crash_model.specs.Trace.{Emitted, Part, InPlace, Copy, Commit, Done, part_of, plain, copies, journaled, touched, depends, by_module, is_meta_row, overlap, groups_depend}
+use Rattle.crash_model.specs.Rules.{has_part, are_scoped, journal_rules}
+use Rattle.crash_model.specs.Trace.{Emitted, Origin, part_of, plain, copies, journaled, touched, applies, depends, groups_depend}
+use Rattle.crash_model.specs.declared.rules.Part.{Part}
+use Rattle.crash_model.specs.declared.rules.Part.TheVariants.{InPlace, Copy, Commit, Done}
+use Rattle.crash_model.specs.declared.rules.Rule.{Rule}
 use Rattle.crash_model.specs.declared.plans.Change.{Change}
 use Rattle.crash_model.specs.declared.plans.Role.{Role}
-use Rattle.crash_model.specs.declared.steps.Module.TheVariants.{Full}
 use Rattle.full_journal_laws.proofs.Transactions.{IsLogClosed}
 use Rattle.full_journal_laws.proofs.Logs.{log_emitted, IsClosedIn}
 
@@ -30,17 +34,17 @@ pub record IsPart (kind : Part) (t : ℕ) (x : Emitted) : Type 0 where
   pub part : x.part ≡ kind
   pub turn : x.turn ≡ t
 
-copy_at : (after : Disk) (t j : ℕ) (g : Option (List ℕ)) (bs : List ℕ) (m : ℕ) → m < length bs → (y : Emitted) × (slice_get (copies after t j g bs) m ≡ Some y) × IsPart Copy t y
+copy_at : (after : Disk) (t j : ℕ) (g : Origin) (bs : List ℕ) (m : ℕ) → m < length bs → (y : Emitted) × (slice_get (copies after t j g bs) m ≡ Some y) × IsPart Copy t y
 copy_at after t j g [] m h = absurd (omega arith)
 copy_at after t j g (b ∷ bs) zero h = (part_of t g Copy j 0 (block_of after b), refl, record { part = refl; turn = refl })
 copy_at after t j g (b ∷ bs) (suc m) h = copy_at after t (j + 1) g bs m (omega arith)
 
-plain_at : (t : ℕ) (g : Option (List ℕ)) (cs : List Change) (m : ℕ) → m < length cs → (y : Emitted) × (role : Role) × (slice_get (map (plain t g) cs) m ≡ Some y) × IsPart (InPlace role) t y
+plain_at : (t : ℕ) (g : Origin) (cs : List Change) (m : ℕ) → m < length cs → (y : Emitted) × (role : Role) × (slice_get (map (plain t g) cs) m ≡ Some y) × IsPart (InPlace role) t y
 plain_at t g [] m h = absurd (omega arith)
 plain_at t g (c ∷ cs) zero h = (plain t g c, c.role, refl, record { part = refl; turn = refl })
 plain_at t g (c ∷ cs) (suc m) h = plain_at t g cs m (omega arith)
 
-pub length-copy : (after : Disk) (t j : ℕ) (g : Option (List ℕ)) (bs : List ℕ) → length (copies after t j g bs) ≡ length bs
+pub length-copy : (after : Disk) (t j : ℕ) (g : Origin) (bs : List ℕ) → length (copies after t j g bs) ≡ length bs
 length-copy after t j g [] = refl
 length-copy after t j g (b ∷ bs) = ap suc (length-copy after t (j + 1) g bs)
 
@@ -59,7 +63,7 @@ pub record HasParts (t j : ℕ) (targets : List ℕ) (changes : ℕ) (xs : List 
   pub done_is : IsPart Done t done
   pub done_place : done.place ≡ place j 0 (0xC8 ∷ [])
 
-pub parts_of : (after : Disk) (t j : ℕ) (g : Option (List ℕ)) (targets : List ℕ) (cs : List Change) → HasParts t j targets (length cs) (journaled after t j g targets cs)
+pub parts_of : (after : Disk) (t j : ℕ) (g : Origin) (targets : List ℕ) (cs : List Change) → HasParts t j targets (length cs) (journaled after t j g targets cs)
 parts_of after t j g targets cs =
     let k : ℕ = length targets in
     let ps : List Emitted = copies after t (j + 1) g targets in
@@ -98,33 +102,34 @@ or_left false b h = absurd (cc)
 same_test : (t : ℕ) → (t == t) ≡ true
 same_test t = grind (arith, tests)
 
-pub by_row : (links : List (List ℕ × List ℕ)) (x y : Emitted) (a b : Part) (s t : ℕ) → IsPart a s x → IsPart b t y → is_meta_row a s b t ≡ true → depends Full links x y ≡ true
+-- a rule of the journal orders part a of operation s and part b of operation t
+abbrev is_row : Part → ℕ → Part → ℕ → Bool
+is_row a s b t = list_any (λ (rule : Rule). has_part rule.later a && (has_part rule.earlier b && are_scoped rule.scope s t)) journal_rules
+
+pub by_row : (links : List (List ℕ × List ℕ)) (x y : Emitted) (a b : Part) (s t : ℕ) → IsPart a s x → IsPart b t y → is_row a s b t ≡ true → depends journal_rules links x y ≡ true
 by_row links x y a b s t p q h =
-    or_right (overlap x y || groups_depend links x y) (by_module Full x y)
-    (ap (λ (m : Part). is_meta_row m x.turn y.part y.turn) p.part ∙ ap (λ (m : ℕ). is_meta_row a m y.part y.turn) p.turn
-    ∙ ap (λ (m : Part). is_meta_row a s m y.turn) q.part ∙ ap (λ (m : ℕ). is_meta_row a s b m) q.turn ∙ h)
+    or_right (overlap x.place y.place || groups_depend links x y) (list_any (λ rule. applies rule x y) journal_rules)
+    (ap (λ (m : Part). is_row m x.turn y.part y.turn) p.part ∙ ap (λ (m : ℕ). is_row a m y.part y.turn) p.turn
+    ∙ ap (λ (m : Part). is_row a s m y.turn) q.part ∙ ap (λ (m : ℕ). is_row a s b m) q.turn ∙ h)
 
 -- a done and a commit of one header overlap
-abbrev share : Place → Place → Bool
-share a b = a.block == b.block && nat_lt a.offset (b.offset + length b.new) && nat_lt b.offset (a.offset + length a.new)
-
-shared : (j t k : ℕ) (targets : List ℕ) → share (place j 0 (0xC8 ∷ [])) (place j 0 (0xC7 ∷ t ∷ k ∷ targets)) ≡ true
+shared : (j t k : ℕ) (targets : List ℕ) → overlap (place j 0 (0xC8 ∷ [])) (place j 0 (0xC7 ∷ t ∷ k ∷ targets)) ≡ true
 shared j t k targets =
     let e : nat_lt 0 (0 + suc (suc (suc (length targets)))) ≡ true = grind (arith, tests) in
     rw (same_test j, e) refl
 
-pub by_header : (links : List (List ℕ × List ℕ)) (x y : Emitted) (j t k : ℕ) (targets : List ℕ) → x.place ≡ place j 0 (0xC8 ∷ []) → y.place ≡ place j 0 (0xC7 ∷ t ∷ k ∷ targets) → depends Full links x y ≡ true
+pub by_header : (links : List (List ℕ × List ℕ)) (x y : Emitted) (j t k : ℕ) (targets : List ℕ) → x.place ≡ place j 0 (0xC8 ∷ []) → y.place ≡ place j 0 (0xC7 ∷ t ∷ k ∷ targets) → depends journal_rules links x y ≡ true
 by_header links x y j t k targets p q =
-    or_left (overlap x y || groups_depend links x y) (by_module Full x y) (or_left (overlap x y) (groups_depend links x y)
-    (ap (λ (m : Place). share m y.place) p ∙ ap (λ (m : Place). share (place j 0 (0xC8 ∷ [])) m) q ∙ shared j t k targets))
+    or_left (overlap x.place y.place || groups_depend links x y) (list_any (λ rule. applies rule x y) journal_rules) (or_left (overlap x.place y.place) (groups_depend links x y)
+    (ap (λ (m : Place). overlap m y.place) p ∙ ap (λ (m : Place). overlap (place j 0 (0xC8 ∷ [])) m) q ∙ shared j t k targets))
 
 -- ---- a closed set
 
-pub closed_log : (ops : List (Option (List ℕ) × List Change)) (n : ℕ) (all : List Emitted) (links : List (List ℕ × List ℕ)) (set : ℕ) (d : Disk) (id t j : ℕ) (c done : Bool) → IsClosedIn links all set
+pub closed_log : (ops : List (Origin × List Change)) (n : ℕ) (all : List Emitted) (links : List (List ℕ × List ℕ)) (set : ℕ) (d : Disk) (id t j : ℕ) (c done : Bool) → IsClosedIn links all set
     → ((i : ℕ) (y : Emitted) → slice_get (log_emitted n d t j ops) i ≡ Some y → slice_get all (id + i) ≡ Some y)
     → ((q : ℕ) (x : Emitted) → id ≤ q → slice_get all q ≡ Some x → IsPart Commit t x → has set q ≡ true → c ≡ true)
     → ((q : ℕ) (x : Emitted) → id ≤ q → slice_get all q ≡ Some x → IsPart Done t x → has set q ≡ true → done ≡ true)
-    → IsLogClosed n id c done (map (λ (o : Option (List ℕ) × List Change). o.1) ops) set
+    → IsLogClosed n id c done (map (λ (o : Origin × List Change). o.1) ops) set
 closed_log [] n all links set d id t j c done closed lies before_commit before_done = tt
 closed_log (o ∷ ops) n all links set d id t j c done closed lies before_commit before_done =
     let cs : List Change = o.1 in
@@ -142,19 +147,19 @@ closed_log (o ∷ ops) n all links set d id t j c done closed lies before_commit
         copied = λ held p from to.
             let y = parts.copy (p - id) (omega arith) in
             let y_at : slice_get all p ≡ Some y.0 = ap (λ (m : ℕ). slice_get all m) (minus p id from) ∙ lie (p - id) y.0 y.1 in
-            closed (id + k) p parts.commit y.0 commit_at y_at to (by_row links parts.commit y.0 Commit Copy t t parts.commit_is y.2 (same_test t)) held;
+            closed (id + k) p parts.commit y.0 commit_at y_at to (by_row links parts.commit y.0 Commit Copy t t parts.commit_is y.2 (rw (same_test t) refl)) held;
         chained = before_commit (id + k) parts.commit (omega arith) commit_at parts.commit_is;
         after_commit = λ p from to held.
             let y = parts.change (p - (id + k + 1)) (omega arith) in
             let y_at : slice_get all p ≡ Some y.0 = ap (λ (m : ℕ). slice_get all m) (minus_two p id k from) ∙ lie (k + 1 + (p - (id + k + 1))) y.0 y.2 in
-            closed p (id + k) y.0 parts.commit y_at commit_at from (by_row links y.0 parts.commit (InPlace y.1) Commit t t y.3 parts.commit_is (same_test t)) held;
+            closed p (id + k) y.0 parts.commit y_at commit_at from (by_row links y.0 parts.commit (InPlace y.1) Commit t t y.3 parts.commit_is (rw (same_test t) refl)) held;
         done_last = λ held p from to. elim (here_or_after p (id + k) from) [
           | inl here ↦ subst (λ (m : ℕ). has set m ≡ true) (sym here)
               (closed (id + k + 1 + length cs) (id + k) parts.done parts.commit done_at commit_at (omega arith) (by_header links parts.done parts.commit j t k targets parts.done_place parts.commit_place) held)
           | inr later ↦
               let y = parts.change (p - (id + k + 1)) (omega arith) in
               let y_at : slice_get all p ≡ Some y.0 = ap (λ (m : ℕ). slice_get all m) (minus_two p id k later) ∙ lie (k + 1 + (p - (id + k + 1))) y.0 y.2 in
-              closed (id + k + 1 + length cs) p parts.done y.0 done_at y_at to (by_row links parts.done y.0 Done (InPlace y.1) t t parts.done_is y.3 (same_test t)) held
+              closed (id + k + 1 + length cs) p parts.done y.0 done_at y_at to (by_row links parts.done y.0 Done (InPlace y.1) t t parts.done_is y.3 (rw (same_test t) refl)) held
         ];
         done_chained = before_done (id + k + 1 + length cs) parts.done (omega arith) done_at parts.done_is;
       },
@@ -162,8 +167,8 @@ closed_log (o ∷ ops) n all links set d id t j c done closed lies before_commit
           (λ i y h. let long : length xs ≡ k + 1 + length cs + 1 = parts.long in
           ap (λ (m : ℕ). slice_get all m) (plus_all id k (length cs) i)
           ∙ lies (k + 1 + length cs + 1 + i) y (get-right xs rest i (k + 1 + length cs + 1 + i) (omega arith) ∙ h))
-          (λ q x from at is held. closed q (id + k) x parts.commit at commit_at (omega arith) (by_row links x parts.commit Commit Commit (t + 1) t is parts.commit_is (same_test (t + 1))) held)
-          (λ q x from at is held. closed q (id + k + 1 + length cs) x parts.done at done_at (omega arith) (by_row links x parts.done Done Done (t + 1) t is parts.done_is (same_test (t + 1))) held),
+          (λ q x from at is held. closed q (id + k) x parts.commit at commit_at (omega arith) (by_row links x parts.commit Commit Commit (t + 1) t is parts.commit_is (rw (same_test (t + 1)) refl)) held)
+          (λ q x from at is held. closed q (id + k + 1 + length cs) x parts.done at done_at (omega arith) (by_row links x parts.done Done Done (t + 1) t is parts.done_is (rw (same_test (t + 1)) refl)) held),
     )
   where
     plus : (id k m : ℕ) → id + k + 1 + m ≡ id + (k + 1 + m)

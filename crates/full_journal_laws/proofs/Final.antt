@@ -15,7 +15,11 @@ use Rattle.crash_model.specs.declared.names.Op.{Op}
 use Rattle.crash_model.specs.declared.refusals.FsFault.{FsFault}
 use Rattle.inode_fs.specs.Inside.{GivesName}
 use Rattle.crash_model.specs.Replay.{is_header, headers_from, headers, copy_in, copy_after, count_of, targets_of, replayed}
-use Rattle.crash_model.specs.Trace.{Emitted, Tracing, begun, traced, journaled, copies, plain, part_of, touched, IsGraphOf, Commit, Done}
+use Rattle.crash_model.specs.Trace.{Emitted, Origin, Tracing, begun, traced, journaled, copies, plain, part_of, touched, IsGraphOf}
+use Rattle.crash_model.specs.Rules.{AreAmong, journal_rules}
+use Rattle.crash_model.specs.declared.rules.Part.TheVariants.{Commit, Done}
+use Rattle.crash_model.specs.declared.rules.Rule.{Rule}
+use Rattle.crash_model.proofs.Dependence.{depends-among}
 use Rattle.crash_model.specs.declared.plans.Change.{Change}
 use Rattle.crash_model.specs.declared.patches.Patch.{Patch}
 use Rattle.crash_model.specs.declared.steps.Module.TheVariants.{Full}
@@ -35,23 +39,23 @@ use Rattle.full_journal_laws.proofs.Journal.{log_safe}
 use Rattle.full_journal_laws.proofs.Closed.{closed_log, length-copy, parts_of}
 use Rattle.full_journal_laws.proofs.Traces.{Logged, changes_of, IsLogged, traced_logged}
 
--- a set that is closed by the graph's dependencies is so by the relation
-pub closed_in : (base : Disk) (s : Tracing) (patches : List Patch) (set : ℕ) → IsGraphOf Full base s patches → IsClosed (deps_of patches) set → IsClosedIn s.links s.emitted set
-closed_in base s patches set graph closed q p x y hx hy less dep hq =
-    let mask : Has (slice_index (deps_of patches) q) p = (graph.exactly q p x y less hx hy).1 dep in
+-- a set that is closed by the graph's dependencies has what its members depend on by the rules of the journal
+pub closed_in : (rules : List Rule) (base : Disk) (s : Tracing) (patches : List Patch) (set : ℕ) → AreAmong journal_rules rules → IsGraphOf rules base s patches → IsClosed (deps_of patches) set → IsClosedIn s.links s.emitted set
+closed_in rules base s patches set among graph closed q p x y hx hy less dep hq =
+    let mask : Has (slice_index (deps_of patches) q) p = (graph.exactly q p x y less hx hy).1 (depends-among journal_rules rules s.links x y among dep) in
     equal_test _ 1 (closed.whole q p (same_number _ 1 hq) mask)
 
 -- ---- the places of what is emitted
 
-map-copies : (after : Disk) (t j : ℕ) (g : Option (List ℕ)) (bs : List ℕ) → map (λ (e : Emitted). e.place) (copies after t j g bs) ≡ copy_places after j bs
+map-copies : (after : Disk) (t j : ℕ) (g : Origin) (bs : List ℕ) → map (λ (e : Emitted). e.place) (copies after t j g bs) ≡ copy_places after j bs
 map-copies after t j g [] = refl
 map-copies after t j g (b ∷ bs) = ap (λ (ps : List Place). place j 0 (block_of after b) ∷ ps) (map-copies after t (j + 1) g bs)
 
-map-plain : (t : ℕ) (g : Option (List ℕ)) (cs : List Change) → map (λ (e : Emitted). e.place) (map (plain t g) cs) ≡ change_places cs
+map-plain : (t : ℕ) (g : Origin) (cs : List Change) → map (λ (e : Emitted). e.place) (map (plain t g) cs) ≡ change_places cs
 map-plain t g [] = refl
 map-plain t g (c ∷ cs) = ap (λ (ps : List Place). place c.block c.offset c.new.items ∷ ps) (map-plain t g cs)
 
-map-turn : (after : Disk) (t j : ℕ) (g : Option (List ℕ)) (targets : List ℕ) (cs : List Change) → map (λ (e : Emitted). e.place) (journaled after t j g targets cs) ≡ turn_places after t j targets cs
+map-turn : (after : Disk) (t j : ℕ) (g : Origin) (targets : List ℕ) (cs : List Change) → map (λ (e : Emitted). e.place) (journaled after t j g targets cs) ≡ turn_places after t j targets cs
 map-turn after t j g targets cs =
     let commit : Emitted = part_of t g Commit j 0 (0xC7 ∷ t ∷ length targets ∷ targets) in
     let done : Emitted = part_of t g Done j 0 (0xC8 ∷ []) in
@@ -175,15 +179,15 @@ commits-append id (x ∷ xs) ys set =
     let there = ap (λ (m : ℕ). commits_from m ys set) at in
     omega arith
 
-no_commits_copies : (after : Disk) (t j : ℕ) (g : Option (List ℕ)) (bs : List ℕ) (id set : ℕ) → commits_from id (copies after t j g bs) set ≡ 0
+no_commits_copies : (after : Disk) (t j : ℕ) (g : Origin) (bs : List ℕ) (id set : ℕ) → commits_from id (copies after t j g bs) set ≡ 0
 no_commits_copies after t j g [] id set = refl
 no_commits_copies after t j g (b ∷ bs) id set = let rest = no_commits_copies after t (j + 1) g bs (id + 1) set in omega arith
 
-no_commits_plain : (t : ℕ) (g : Option (List ℕ)) (cs : List Change) (id set : ℕ) → commits_from id (map (plain t g) cs) set ≡ 0
+no_commits_plain : (t : ℕ) (g : Origin) (cs : List Change) (id set : ℕ) → commits_from id (map (plain t g) cs) set ≡ 0
 no_commits_plain t g [] id set = refl
 no_commits_plain t g (c ∷ cs) id set = let rest = no_commits_plain t g cs (id + 1) set in omega arith
 
-turn_commits : (after : Disk) (t j : ℕ) (g : Option (List ℕ)) (targets : List ℕ) (cs : List Change) (id set : ℕ)
+turn_commits : (after : Disk) (t j : ℕ) (g : Origin) (targets : List ℕ) (cs : List Change) (id set : ℕ)
     → commits_from id (journaled after t j g targets cs) set ≡ cond (has set (id + length targets)) 1 0
 turn_commits after t j g targets cs id set =
     let commit : Emitted = part_of t g Commit j 0 (0xC7 ∷ t ∷ length targets ∷ targets) in
@@ -240,8 +244,9 @@ good_after (suc k) n jl (op ∷ ops) (cs ∷ plans) d good names are =
 
 -- ---- the whole
 
-module _ (base : Disk) (steps : List Step) (s : Tracing) (patches : List Patch) (set : ℕ) (disk : IsDisk base) (sound : IsSound base) (zeros : HasZeroJournal base)
-    (names : All GivesName (ops_of steps)) (is_traced : traced Full (begun base) steps ≡ Ok s) (graph : IsGraphOf Full base s patches) (closed : IsClosed (deps_of patches) set) where
+module _ (rules : List Rule) (base : Disk) (steps : List Step) (s : Tracing) (patches : List Patch) (set : ℕ) (disk : IsDisk base) (sound : IsSound base) (zeros : HasZeroJournal base)
+    (names : All GivesName (ops_of steps)) (is_traced : traced Full (begun base) steps ≡ Ok s)
+    (among : AreAmong journal_rules rules) (graph : IsGraphOf rules base s patches) (closed : IsClosed (deps_of patches) set) where
   abbrev n : ℕ
   n = base.blocks
 
@@ -259,7 +264,7 @@ module _ (base : Disk) (steps : List Step) (s : Tracing) (patches : List Patch) 
 
   log_closed : IsLogClosed n 0 true true (changes_of logged.changes) set
   log_closed =
-      closed_log logged.changes n s.emitted s.links set base 0 1 4 true true (closed_in base s patches set graph closed)
+      closed_log logged.changes n s.emitted s.links set base 0 1 4 true true (closed_in rules base s patches set among graph closed)
       (λ i y h. ap (λ (xs : List Emitted). slice_get xs (0 + i)) logged.emits ∙ ap (λ (m : ℕ). slice_get (log_emitted n base 1 4 logged.changes) m) (omega arith) ∙ h)
       (λ q x from at is held. refl) (λ q x from at is held. refl)
 

@@ -4,21 +4,21 @@ use Rattle.crash_model.specs.Disk.{Disk, IsDisk}
 use Rattle.patch_sets.specs.Sets.{has}
 use Rattle.crash_model.specs.Sound.{IsSound}
 use Rattle.crash_model.specs.Plan.{plan_of, applied}
-use Rattle.crash_model.specs.Trace.{Emitted, journaled, touched, depends}
+use Rattle.crash_model.specs.Rules.{journal_rules}
+use Rattle.crash_model.specs.Trace.{Emitted, Origin, journaled, touched, depends}
 use Rattle.crash_model.specs.declared.names.Op.{Op}
 use Rattle.crash_model.specs.declared.plans.Change.{Change}
-use Rattle.crash_model.specs.declared.steps.Module.TheVariants.{Full}
 
--- the emitted patches of operations, each with its group
-abbrev pub log_emitted : ℕ → Disk → ℕ → ℕ → List (Option (List ℕ) × List Change) → List Emitted
+-- the emitted patches of operations, each with its origin
+abbrev pub log_emitted : ℕ → Disk → ℕ → ℕ → List (Origin × List Change) → List Emitted
 log_emitted n d t j [] = []
 log_emitted n d t j (o ∷ ops) =
     journaled (applied d o.1) t j o.0 (touched n o.1) o.1
     ++ log_emitted n (applied d o.1) (t + 1) (j + 1 + length (touched n o.1)) ops
 
--- a set that has what its members depend on, by the list of patches
+-- a set that has what its members depend on by the rules of the journal
 abbrev pub IsClosedIn : List (List ℕ × List ℕ) → List Emitted → ℕ → Type 0
-IsClosedIn links emitted set = (q p : ℕ) (x y : Emitted) → slice_get emitted q ≡ Some x → slice_get emitted p ≡ Some y → p < q → depends Full links x y ≡ true → has set q ≡ true → has set p ≡ true
+IsClosedIn links emitted set = (q p : ℕ) (x y : Emitted) → slice_get emitted q ≡ Some x → slice_get emitted p ≡ Some y → p < q → depends journal_rules links x y ≡ true → has set q ≡ true → has set p ≡ true
 
 -- a sound disk of n blocks, jl of them the journal's
 pub record IsGood (n jl : ℕ) (d : Disk) : Type 0 where

@@ -5,7 +5,7 @@ use Rattle.std.specs.List.{list_any}
 use Rattle.std.proofs.lemmas.List.Elements.{All-nil, All-cons, All-head, All-tail}
 use Rattle.crash_model.specs.Disk.{Disk}
 use Rattle.crash_model.specs.Plan.{plan_of, applied}
-use Rattle.crash_model.specs.Trace.{Emitted, Tracing, traced, step, planned, ended_group, refuse_if, then_trace, journaled, touched, is_among, is_same_group}
+use Rattle.crash_model.specs.Trace.{Emitted, Origin, origin_at, Tracing, traced, step, planned, ended_group, refuse_if, then_trace, journaled, touched, is_among, is_same_group}
 use Rattle.crash_model.specs.Refusals.{trace_fault}
 use Rattle.crash_model.specs.declared.names.Op.{Op}
 use Rattle.crash_model.specs.declared.refusals.FsFault.{FsFault}
@@ -24,12 +24,12 @@ use Rattle.full_journal_laws.specs.Full.{ops_at, ops_of}
 use Rattle.journal_replay.proofs.Targets.{bool_is}
 use Rattle.full_journal_laws.proofs.Plans.{plan-good, plan-turn}
 
--- the changes of operations, each with its group
+-- the changes of operations, each with its origin
 abbrev pub Logged : Type 0
-Logged = List (Option (List ℕ) × List Change)
+Logged = List (Origin × List Change)
 
 abbrev pub changes_of : Logged → List (List Change)
-changes_of log = map (λ (o : Option (List ℕ) × List Change). o.1) log
+changes_of log = map (λ (o : Origin × List Change). o.1) log
 
 -- from state s on to state r the trace emits the log of these operations
 pub record IsLogged (n jl : ℕ) (ops : List Op) (s r : Tracing) : Type 0 where
@@ -48,16 +48,17 @@ IsRest n jl xs r = (next : Tracing) → IsGood n jl next.disk → traced Full ne
 -- an operation
 operation : (n jl : ℕ) (line : ℕ) (s r : Tracing) (xs : List Step) (op : Op) (plan : Result (List Change) FsFault)
     → IsGood n jl s.disk → GivesName op → plan_of s.disk op ≡ plan → IsRest n jl xs r
-    → then_trace (planned Full line s plan) (λ next. traced Full next xs) ≡ Ok r → IsLogged n jl (op ∷ ops_of xs) s r
+    → then_trace (planned Full line op s plan) (λ next. traced Full next xs) ≡ Ok r → IsLogged n jl (op ∷ ops_of xs) s r
 operation n jl line s r xs op (Err e) good name is rest h = absurd (no_ok (trace_fault line e) r _ refl h)
 operation n jl line s r xs op (Ok cs) good name is rest h =
     let after : Disk = applied s.disk cs in
+    let origin : Origin = origin_at line op s.current in
     let k : ℕ = length (touched n cs) in
     let size = applied-size s.disk cs in
     let bs : s.disk.blocks ≡ n = good.blocks in
     let js : s.disk.journal ≡ jl = good.journal in
     let ba : after.blocks ≡ n = size.0 ∙ bs in
-    let more : List Emitted = journaled after s.turn s.journal s.current (touched after.blocks cs) cs in
+    let more : List Emitted = journaled after s.turn s.journal origin (touched after.blocks cs) cs in
     let free : ℕ = s.journal + (1 + length (touched s.disk.blocks cs)) in
     let next : Tracing = record s { disk = after; emitted = s.emitted ++ more; turn = s.turn + 1; journal = free } in
     elim (bool_is (nat_lt (4 + s.disk.journal) free)) [
@@ -70,12 +71,12 @@ operation n jl line s r xs op (Ok cs) good name is rest h =
             let here : free ≡ s.journal + 1 + k = ap (λ (m : ℕ). s.journal + (1 + length (touched m cs))) bs ∙ plus s.journal k in
             let fits : free ≤ 4 + s.disk.journal = within free (4 + s.disk.journal) room in
             record {
-              changes = (s.current, cs) ∷ ih.changes;
+              changes = (origin, cs) ∷ ih.changes;
               plans = (is, ih.plans);
               emits = ih.emits
                   ∙ append_assoc s.emitted more (log_emitted n after (s.turn + 1) free ih.changes)
-                  ∙ ap (λ (m : ℕ). s.emitted ++ (journaled after s.turn s.journal s.current (touched m cs) cs ++ log_emitted n after (s.turn + 1) free ih.changes)) ba
-                  ∙ ap (λ (m : ℕ). s.emitted ++ (journaled after s.turn s.journal s.current (touched n cs) cs ++ log_emitted n after (s.turn + 1) m ih.changes)) here;
+                  ∙ ap (λ (m : ℕ). s.emitted ++ (journaled after s.turn s.journal origin (touched m cs) cs ++ log_emitted n after (s.turn + 1) free ih.changes)) ba
+                  ∙ ap (λ (m : ℕ). s.emitted ++ (journaled after s.turn s.journal origin (touched n cs) cs ++ log_emitted n after (s.turn + 1) m ih.changes)) here;
               log = (plan-turn n jl s.disk op cs good name is s.journal (omega arith), subst (λ (m : ℕ). IsLog n jl after m (changes_of ih.changes)) here ih.log);
             }
       ]
@@ -124,7 +125,7 @@ act_logged n jl line (Group a) s r xs good names rest h =
 act_logged n jl line End s r xs good names rest h = on_end n jl line s r xs s.current good rest h
 act_logged n jl line (Depend b a) s r xs good names rest h =
     let next : Tracing = record s { links = s.links ++ (b, a) ∷ [] } in
-    on_test n jl (not (is_among a s.ended) || bytes_eq b a || list_any (λ e. is_same_group e.group b) s.emitted) (fault.GroupFault line) (ops_of xs) s next r xs
+    on_test n jl (not (is_among a s.ended) || bytes_eq b a || list_any (λ e. is_same_group e.origin.group b) s.emitted) (fault.GroupFault line) (ops_of xs) s next r xs
     (λ e. same_log n jl (ops_of xs) s next r refl refl refl refl (rest next good e)) h
 
 all_split : (xs ys : List Op) → All GivesName (xs ++ ys) → All GivesName xs × All GivesName ys

@@ -7,7 +7,9 @@ use Rattle.crash_model.specs.Plan.{plan_of, result_applied}
 use Rattle.crash_model.specs.Sound.{IsSound}
 use Rattle.crash_model.specs.Patches.{deps_of, image_of}
 use Rattle.crash_model.specs.Replay.{replayed}
-use Rattle.crash_model.specs.Trace.{Emitted, Part, Commit, Tracing, begun, traced}
+use Rattle.crash_model.specs.Trace.{Emitted, Tracing, begun, traced}
+use Rattle.crash_model.specs.declared.rules.Part.{Part}
+use Rattle.crash_model.specs.declared.rules.Part.TheVariants.{Commit}
 use Rattle.crash_model.specs.declared.names.Op.{Op}
 use Rattle.crash_model.specs.declared.patches.Patch.{Patch}
 use Rattle.crash_model.specs.declared.steps.Act.{Act}

@@ -6,17 +6,20 @@ ghost use Rattle.crash_model.specs.Disk.{Disk, IsDisk};
 ghost use Rattle.crash_model.specs.Sound.{IsSound, HasZeroJournal};
 ghost use Rattle.crash_model.specs.Patches.{deps_of};
 ghost use Rattle.crash_model.specs.Trace.{Tracing, begun, traced, IsGraphOf};
+ghost use Rattle.crash_model.specs.Rules.{AreAmong, rules_of};
 ghost use Rattle.crash_model.specs.declared.patches.Patch.{Patch};
+ghost use Rattle.crash_model.specs.declared.rules.Rule.{Rule};
 ghost use Rattle.crash_model.specs.declared.steps.Module.TheVariants.{Full};
 ghost use Rattle.crash_model.specs.declared.steps.Step.{Step};
 ghost use Rattle.inode_fs.specs.Inside.{GivesName};
 ghost use Rattle.full_journal_laws.specs.Full.{ops_of, IsRecovered};
 
 /// From a sound disk with a zero journal, and for every set of patches that a crash can leave: replay makes a sound
-/// disk, which outside the journal is the base after the first k operations, k being how many commit patches the set has.
+/// disk, which outside the journal is the base after the first k operations, k being how many commit patches the set
+/// has. It is so with whatever rules beside those of the journal.
 pub fn replay_recovers_the_committed_operations()
-    ensures { (base : Disk) → (steps : List Step) → (s : Tracing) → (patches : List Patch) → (set : ℕ)
+    ensures { (rules : List Rule) → (base : Disk) → (steps : List Step) → (s : Tracing) → (patches : List Patch) → (set : ℕ)
         → IsDisk base → IsSound base → HasZeroJournal base → All GivesName (ops_of steps)
-        → traced Full (begun base) steps ≡ Ok s → IsGraphOf Full base s patches → IsClosed (deps_of patches) set
+        → traced Full (begun base) steps ≡ Ok s → AreAmong (rules_of Full) rules → IsGraphOf rules base s patches → IsClosed (deps_of patches) set
         → IsRecovered base steps s patches set }
 {}

@@ -4,19 +4,21 @@ use Rattle.std.specs.Prelude.{Option}
 use Rattle.std.specs.List.{filter, list_any}
 use Rattle.std.proofs.lemmas.List.{take_more, length-map, length-take-le, map_push, take-append-drop, take_all}
 use Rattle.crash_model.specs.Disk.{Disk, block_of}
-use Rattle.crash_model.specs.Trace.{Emitted, Copy, Commit, Done, part_of, copies, plain}
+use Rattle.crash_model.specs.declared.rules.Part.TheVariants.{Copy, Commit, Done}
+use Rattle.crash_model.specs.Trace.{Emitted, Origin, part_of, copies, plain}
 use Rattle.crash_model.specs.declared.plans.Change.{Change}
 use Rattle.crash_model.specs.declared.steps.Module.{Module}
 use Rattle.order_modules.specs.Log.{Log, Adds}
 use Rattle.order_modules.specs.Transactions.{is_ahead, ahead, placed, file_data, transaction_of}
 
 pub adds-none : (log : Log) → Adds log log []
-adds-none log = record { base = refl; kind = refl; links = refl; emitted = sym (append-nil log.emitted) }
+adds-none log = record { base = refl; kind = refl; rules = refl; links = refl; emitted = sym (append-nil log.emitted) }
 
 pub adds-then : (a b c : Log) (xs ys : List Emitted) → Adds a b xs → Adds b c ys → Adds a c (xs ++ ys)
 adds-then a b c xs ys one two = record {
   base = two.base ∙ one.base;
   kind = two.kind ∙ one.kind;
+  rules = two.rules ∙ one.rules;
   links = two.links ∙ one.links;
   emitted = two.emitted ∙ ap (λ (es : List Emitted). es ++ ys) one.emitted ∙ append_assoc a.emitted xs ys;
 }
@@ -84,16 +86,16 @@ filter_both p (x ∷ xs) = go (p x) (filter_both p xs)
 
 -- ---- copies
 
-pub copies-push : (after : Disk) (turn j : ℕ) (group : Option (List ℕ)) (bs : List ℕ) (b : ℕ) → copies after turn j group (bs ++ b ∷ []) ≡ copies after turn j group bs ++ part_of turn group Copy (j + length bs) 0 (block_of after b) ∷ []
-copies-push after turn j group [] b = ap (λ (k : ℕ). part_of turn group Copy k 0 (block_of after b) ∷ []) (omega arith)
-copies-push after turn j group (x ∷ bs) b =
-    ap (λ (es : List Emitted). part_of turn group Copy j 0 (block_of after x) ∷ es)
-    (copies-push after turn (j + 1) group bs b
-    ∙ ap (λ (k : ℕ). copies after turn (j + 1) group bs ++ part_of turn group Copy k 0 (block_of after b) ∷ []) (omega arith))
+pub copies-push : (after : Disk) (turn j : ℕ) (origin : Origin) (bs : List ℕ) (b : ℕ) → copies after turn j origin (bs ++ b ∷ []) ≡ copies after turn j origin bs ++ part_of turn origin Copy (j + length bs) 0 (block_of after b) ∷ []
+copies-push after turn j origin [] b = ap (λ (k : ℕ). part_of turn origin Copy k 0 (block_of after b) ∷ []) (omega arith)
+copies-push after turn j origin (x ∷ bs) b =
+    ap (λ (es : List Emitted). part_of turn origin Copy j 0 (block_of after x) ∷ es)
+    (copies-push after turn (j + 1) origin bs b
+    ∙ ap (λ (k : ℕ). copies after turn (j + 1) origin bs ++ part_of turn origin Copy k 0 (block_of after b) ∷ []) (omega arith))
 
-pub length-copies : (after : Disk) (turn j : ℕ) (group : Option (List ℕ)) (bs : List ℕ) → length (copies after turn j group bs) ≡ length bs
-length-copies after turn j group [] = refl
-length-copies after turn j group (b ∷ bs) = ap suc (length-copies after turn (j + 1) group bs)
+pub length-copies : (after : Disk) (turn j : ℕ) (origin : Origin) (bs : List ℕ) → length (copies after turn j origin bs) ≡ length bs
+length-copies after turn j origin [] = refl
+length-copies after turn j origin (b ∷ bs) = ap suc (length-copies after turn (j + 1) origin bs)
 
 -- ---- in the loops
 
@@ -115,27 +117,27 @@ module _ (a b : Log) (p : Change → Bool) (f : Change → Emitted) (xs : List C
 pub chosen_end : (a b : Log) (p : Change → Bool) (f : Change → Emitted) (xs : List Change) (i : ℕ) → length xs ≤ i → Adds a b (map f (filter p (take i xs))) → Adds a b (map f (filter p xs))
 chosen_end a b p f xs i past so_far = adds-same a b (map f (filter p (take i xs))) (map f (filter p xs)) (ap (λ (ys : List Change). map f (filter p ys)) (take_all i xs past)) so_far
 
-module _ (a b : Log) (after : Disk) (turn j : ℕ) (group : Option (List ℕ)) (bs : List ℕ) (i : ℕ) (so_far : Adds a b (copies after turn j group (take i bs))) where
+module _ (a b : Log) (after : Disk) (turn j : ℕ) (origin : Origin) (bs : List ℕ) (i : ℕ) (so_far : Adds a b (copies after turn j origin (take i bs))) where
   pub copies_space : i < length bs → length a.emitted + length bs ≤ 124 → length b.emitted < 124
   copies_space inside room =
-      let long : length b.emitted ≡ length a.emitted + length (copies after turn j group (take i bs)) = adds-long a b (copies after turn j group (take i bs)) so_far in
-      let same : length (copies after turn j group (take i bs)) ≡ length (take i bs) = length-copies after turn j group (take i bs) in
+      let long : length b.emitted ≡ length a.emitted + length (copies after turn j origin (take i bs)) = adds-long a b (copies after turn j origin (take i bs)) so_far in
+      let same : length (copies after turn j origin (take i bs)) ≡ length (take i bs) = length-copies after turn j origin (take i bs) in
       let front : length (take i bs) ≡ i = length-take-le i bs (omega arith) in
       omega arith
 
-  pub copies_next : (d : Log) (block t t' : ℕ) (bytes : List ℕ) → i < length bs → block ≡ j + i → t' ≡ t → t ≡ get_or bs i 0 → bytes ≡ block_of after t' → Adds b d (part_of turn group Copy block 0 bytes ∷ [])
-      → Adds a d (copies after turn j group (take (i + 1) bs))
+  pub copies_next : (d : Log) (block t t' : ℕ) (bytes : List ℕ) → i < length bs → block ≡ j + i → t' ≡ t → t ≡ get_or bs i 0 → bytes ≡ block_of after t' → Adds b d (part_of turn origin Copy block 0 bytes ∷ [])
+      → Adds a d (copies after turn j origin (take (i + 1) bs))
   copies_next d block t t' bytes inside at cast read copied adds =
       let front : length (take i bs) ≡ i = length-take-le i bs (omega arith) in
       let more : take (i + 1) bs ≡ take i bs ++ get_or bs i 0 ∷ [] = take_more bs i 0 inside in
-      let is : copies after turn j group (take (i + 1) bs) ≡ copies after turn j group (take i bs) ++ part_of turn group Copy (j + length (take i bs)) 0 (block_of after (get_or bs i 0)) ∷ [] =
-      ap (λ (xs : List ℕ). copies after turn j group xs) more ∙ copies-push after turn j group (take i bs) (get_or bs i 0) in
-      let one : part_of turn group Copy block 0 bytes ≡ part_of turn group Copy (j + length (take i bs)) 0 (block_of after (get_or bs i 0)) =
-      ap (λ (k : ℕ). part_of turn group Copy k 0 bytes) (at ∙ ap (λ (k : ℕ). j + k) (sym front))
-      ∙ ap (λ (xs : List ℕ). part_of turn group Copy (j + length (take i bs)) 0 xs) (copied ∙ ap (λ (k : ℕ). block_of after k) (cast ∙ read)) in
-      adds-same a d (copies after turn j group (take i bs) ++ part_of turn group Copy block 0 bytes ∷ []) (copies after turn j group (take (i + 1) bs))
-      (ap (λ (e : Emitted). copies after turn j group (take i bs) ++ e ∷ []) one ∙ sym is)
-      (adds-then a b d (copies after turn j group (take i bs)) (part_of turn group Copy block 0 bytes ∷ []) so_far adds)
+      let is : copies after turn j origin (take (i + 1) bs) ≡ copies after turn j origin (take i bs) ++ part_of turn origin Copy (j + length (take i bs)) 0 (block_of after (get_or bs i 0)) ∷ [] =
+      ap (λ (xs : List ℕ). copies after turn j origin xs) more ∙ copies-push after turn j origin (take i bs) (get_or bs i 0) in
+      let one : part_of turn origin Copy block 0 bytes ≡ part_of turn origin Copy (j + length (take i bs)) 0 (block_of after (get_or bs i 0)) =
+      ap (λ (k : ℕ). part_of turn origin Copy k 0 bytes) (at ∙ ap (λ (k : ℕ). j + k) (sym front))
+      ∙ ap (λ (xs : List ℕ). part_of turn origin Copy (j + length (take i bs)) 0 xs) (copied ∙ ap (λ (k : ℕ). block_of after k) (cast ∙ read)) in
+      adds-same a d (copies after turn j origin (take i bs) ++ part_of turn origin Copy block 0 bytes ∷ []) (copies after turn j origin (take (i + 1) bs))
+      (ap (λ (e : Emitted). copies after turn j origin (take i bs) ++ e ∷ []) one ∙ sym is)
+      (adds-then a b d (copies after turn j origin (take i bs)) (part_of turn origin Copy block 0 bytes ∷ []) so_far adds)
 
 -- ---- what is touched
 
@@ -160,18 +162,18 @@ any_chosen p q (y ∷ ys) (suc i) x inside read one two = go (p y) (any_chosen p
 pub transaction_room : (kind : Module) (changes : List Change) → length (ahead kind changes) + length (placed kind changes) ≡ length changes
 transaction_room kind changes = filter_both (is_ahead kind) changes
 
-pub transaction_adds : (kind : Module) (after : Disk) (turn j : ℕ) (group : Option (List ℕ)) (targets : List ℕ) (changes : List Change) (a b c d e f : Log) → kind ≡ a.kind
-    → Adds a b (map (file_data turn group) (ahead a.kind changes)) → Adds b c (copies after turn (j + 1) group targets)
-    → Adds c d (part_of turn group Commit j 0 (0xC7 ∷ turn ∷ length targets ∷ targets) ∷ []) → Adds d e (map (plain turn group) (placed d.kind changes))
-    → Adds e f (part_of turn group Done j 0 (0xC8 ∷ []) ∷ []) → Adds a f (transaction_of a.kind after turn j group targets changes)
-transaction_adds kind after turn j group targets changes a b c d e f same first second third fourth fifth =
-    let xs : List Emitted = map (file_data turn group) (ahead a.kind changes) in
-    let ys : List Emitted = copies after turn (j + 1) group targets in
-    let z : Emitted = part_of turn group Commit j 0 (0xC7 ∷ turn ∷ length targets ∷ targets) in
-    let ws : List Emitted = map (plain turn group) (placed a.kind changes) in
-    let v : Emitted = part_of turn group Done j 0 (0xC8 ∷ []) in
+pub transaction_adds : (kind : Module) (after : Disk) (turn j : ℕ) (origin : Origin) (targets : List ℕ) (changes : List Change) (a b c d e f : Log) → kind ≡ a.kind
+    → Adds a b (map (file_data turn origin) (ahead a.kind changes)) → Adds b c (copies after turn (j + 1) origin targets)
+    → Adds c d (part_of turn origin Commit j 0 (0xC7 ∷ turn ∷ length targets ∷ targets) ∷ []) → Adds d e (map (plain turn origin) (placed d.kind changes))
+    → Adds e f (part_of turn origin Done j 0 (0xC8 ∷ []) ∷ []) → Adds a f (transaction_of a.kind after turn j origin targets changes)
+transaction_adds kind after turn j origin targets changes a b c d e f same first second third fourth fifth =
+    let xs : List Emitted = map (file_data turn origin) (ahead a.kind changes) in
+    let ys : List Emitted = copies after turn (j + 1) origin targets in
+    let z : Emitted = part_of turn origin Commit j 0 (0xC7 ∷ turn ∷ length targets ∷ targets) in
+    let ws : List Emitted = map (plain turn origin) (placed a.kind changes) in
+    let v : Emitted = part_of turn origin Done j 0 (0xC8 ∷ []) in
     let same_kind : d.kind ≡ a.kind = third.kind ∙ second.kind ∙ first.kind in
-    let fourth' : Adds d e ws = subst (λ (k : Module). Adds d e (map (plain turn group) (placed k changes))) same_kind fourth in
+    let fourth' : Adds d e ws = subst (λ (k : Module). Adds d e (map (plain turn origin) (placed k changes))) same_kind fourth in
     adds-then a b f xs (ys ++ (z ∷ (ws ++ v ∷ []))) first
     (adds-then b c f ys (z ∷ (ws ++ v ∷ [])) second
     (adds-then c d f (z ∷ []) (ws ++ v ∷ []) third
@@ -180,5 +182,5 @@ transaction_adds kind after turn j group targets changes a b c d e f same first 
 pub adds-map : (a b : Log) (f : Change → Emitted) (xs : List Change) → Adds a b (map f xs) → length b.emitted ≡ length a.emitted + length xs
 adds-map a b f xs adds = adds-long a b (map f xs) adds ∙ ap (λ (n : ℕ). length a.emitted + n) (length-map xs f)
 
-pub adds-copies : (a b : Log) (after : Disk) (turn j : ℕ) (group : Option (List ℕ)) (bs : List ℕ) → Adds a b (copies after turn j group bs) → length b.emitted ≡ length a.emitted + length bs
-adds-copies a b after turn j group bs adds = adds-long a b (copies after turn j group bs) adds ∙ ap (λ (n : ℕ). length a.emitted + n) (length-copies after turn j group bs)
+pub adds-copies : (a b : Log) (after : Disk) (turn j : ℕ) (origin : Origin) (bs : List ℕ) → Adds a b (copies after turn j origin bs) → length b.emitted ≡ length a.emitted + length bs
+adds-copies a b after turn j origin bs adds = adds-long a b (copies after turn j origin bs) adds ∙ ap (λ (n : ℕ). length a.emitted + n) (length-copies after turn j origin bs)

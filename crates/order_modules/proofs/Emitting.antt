@@ -8,13 +8,13 @@ use Rattle.std.proofs.lemmas.List.Elements.{All-push}
 use Rattle.std.proofs.lemmas.Option.{slice_get_within}
 use Rattle.std.proofs.lemmas.Bool.{cases_lt}
 use Rattle.arrayvec.specs.ArrayVec.{ArrayVec}
-use Rattle.crash_model.specs.declared.steps.Module.TheVariants.{Async, Soft, Meta, Full}
 use Rattle.patch_sets.specs.Sets.{Has}
 use Rattle.patch_sets.proofs.Bits.{eq_or_not, none_in_empty}
 use Rattle.crash_model.specs.Disk.{Disk, block_of, put}
-use Rattle.crash_model.specs.Patches.{Place, place, places_of, deps_of, AreUndo}
-use Rattle.crash_model.specs.Trace.{Emitted, is_same_group, groups_depend, by_module, overlap, depends}
+use Rattle.crash_model.specs.Patches.{Place, place, places_of, deps_of, overlap, AreUndo}
+use Rattle.crash_model.specs.Trace.{Emitted, is_same_group, groups_depend, applies, depends}
 use Rattle.crash_model.specs.declared.patches.Patch.{Patch}
+use Rattle.crash_model.specs.declared.rules.Rule.{Rule}
 use Rattle.crash_model.specs.declared.steps.Module.{Module}
 use Rattle.patch_graph.specs.Graph.{Overlaps, OverlapsAt, AddsOverlaps}
 use Rattle.order_modules.specs.Labels.{emitted_at, emitted_of, emitted_by, group_by, links_by}
@@ -63,10 +63,10 @@ label_at (p ∷ ps) (l ∷ ls) (suc id) e at = label_at ps ls id e at
 
 -- ---- tests
 
-overlap_true : (q p : Emitted) → p.place.block ≡ q.place.block → p.place.offset < q.place.offset + length q.place.new → q.place.offset < p.place.offset + length p.place.new → overlap q p ≡ true
+overlap_true : (q p : Emitted) → p.place.block ≡ q.place.block → p.place.offset < q.place.offset + length q.place.new → q.place.offset < p.place.offset + length p.place.new → overlap q.place p.place ≡ true
 overlap_true q p same below above = grind (arith, tests)
 
-from_overlap : (q p : Emitted) → overlap q p ≡ true → (p.place.block ≡ q.place.block) × (p.place.offset < q.place.offset + length q.place.new) × (q.place.offset < p.place.offset + length p.place.new)
+from_overlap : (q p : Emitted) → overlap q.place p.place ≡ true → (p.place.block ≡ q.place.block) × (p.place.offset < q.place.offset + length q.place.new) × (q.place.offset < p.place.offset + length p.place.new)
 from_overlap q p t = (grind (arith, tests), grind (arith, tests), grind (arith, tests))
 
 or_cases : (a b c : Bool) → (a || b || c) ≡ true → (a ≡ true) ⊎ ((b || c) ≡ true)
@@ -83,13 +83,10 @@ or_rest false b c t = t
 
 -- ---- one patch more
 
--- the dependencies of groups and of the module look at labels alone
-rule_labels : (kind : Module) (links : List (List ℕ × List ℕ)) (p q r s : Place) (l m : Label)
-    → (groups_depend links (emitted_at p l) (emitted_at q m) || by_module kind (emitted_at p l) (emitted_at q m)) ≡ (groups_depend links (emitted_at r l) (emitted_at s m) || by_module kind (emitted_at r l) (emitted_at s m))
-rule_labels Async links p q r s l m = refl
-rule_labels Soft links p q r s l m = refl
-rule_labels Meta links p q r s l m = refl
-rule_labels Full links p q r s l m = refl
+-- the dependencies of groups and of rules look at labels alone
+rule_labels : (rules : List Rule) (links : List (List ℕ × List ℕ)) (p q r s : Place) (l m : Label)
+    → (groups_depend links (emitted_at p l) (emitted_at q m) || list_any (λ rule. applies rule (emitted_at p l) (emitted_at q m)) rules) ≡ (groups_depend links (emitted_at r l) (emitted_at s m) || list_any (λ rule. applies rule (emitted_at r l) (emitted_at s m)) rules)
+rule_labels rules links p q r s l m = refl
 
 patch_at : (ps : List Patch) (id : ℕ) (at : Place) → slice_get (places_of ps) id ≡ Some at → (x : Patch) × (slice_get ps id ≡ Some x) × (at ≡ place x.block x.offset x.new.items)
 patch_at [] id at here = absurd (cc)
@@ -102,7 +99,7 @@ emitted_patch patch label = emitted_at (place patch.block patch.offset patch.new
 
 module _ (log : Log) (labels : List Label) (label : Label) (patch : Patch) (set : ℕ)
     (is : IsLog log) (labelled : length labels ≡ length log.patches) (emitted : log.emitted ≡ emitted_by (places_of log.patches) labels)
-    (adds : (id : ℕ) → Has set id ↔ (Has patch.deps id ⊎ OverlapsAt log.patches patch id)) (waits : (id : ℕ) → Has patch.deps id ↔ WaitsAt log.kind log.links labels label id) where
+    (adds : (id : ℕ) → Has set id ↔ (Has patch.deps id ⊎ OverlapsAt log.patches patch id)) (waits : (id : ℕ) → Has patch.deps id ↔ WaitsAt log.rules log.links labels label id) where
   same_long : length log.emitted ≡ length log.patches
   same_long =
       let places : length (places_of log.patches) ≡ length log.patches = length-map log.patches (λ p. place p.block p.offset p.new.items) in
@@ -111,7 +108,7 @@ module _ (log : Log) (labels : List Label) (label : Label) (patch : Patch) (set 
       omega arith
 
   -- the dependencies of the new patch are those that it is to have
-  new_deps : (p : ℕ) (before : Emitted) → slice_get log.emitted p ≡ Some before → Has set p ↔ IsTrue (depends log.kind log.links (emitted_patch patch label) before)
+  new_deps : (p : ℕ) (before : Emitted) → slice_get log.emitted p ≡ Some before → Has set p ↔ IsTrue (depends log.rules log.links (emitted_patch patch label) before)
   new_deps p before at =
       let found = label_at (places_of log.patches) labels p before (subst (λ (es : List Emitted). slice_get es p ≡ Some before) emitted at) in
       let other : Label = found.0 in
@@ -122,29 +119,29 @@ module _ (log : Log) (labels : List Label) (label : Label) (patch : Patch) (set 
       let earlier : Patch = there.0 in
       let earlier_at : slice_get log.patches p ≡ Some earlier = there.1 in
       let place_is : stood ≡ place earlier.block earlier.offset earlier.new.items = there.2 in
-      let rule = rule_labels log.kind log.links (place 0 0 []) (place 0 0 []) (place patch.block patch.offset patch.new.items) stood label other in
+      let rule = rule_labels log.rules log.links (place 0 0 []) (place 0 0 []) (place patch.block patch.offset patch.new.items) stood label other in
       let e : Emitted = emitted_patch patch label in
       let full : before ≡ emitted_patch earlier other = is_it ∙ ap (λ (at : Place). emitted_at at other) place_is in (
         λ has. elim ((adds p).0 has) [
           | inl own ↦
               let w = (waits p).0 own in
               let same : w.0 ≡ other = some_same (sym w.1 ∙ other_at) in
-              let t = subst (λ (l : Label). IsTrue (groups_depend log.links (emitted_of label) (emitted_of l) || by_module log.kind (emitted_of label) (emitted_of l))) same w.2 in
-              subst (λ (b : Emitted). IsTrue (depends log.kind log.links e b)) (sym is_it)
-              (or_rest (overlap e (emitted_at stood other)) (groups_depend log.links e (emitted_at stood other)) (by_module log.kind e (emitted_at stood other)) (sym rule ∙ t))
+              let t = subst (λ (l : Label). IsTrue (groups_depend log.links (emitted_of label) (emitted_of l) || list_any (λ rule. applies rule (emitted_of label) (emitted_of l)) log.rules)) same w.2 in
+              subst (λ (b : Emitted). IsTrue (depends log.rules log.links e b)) (sym is_it)
+              (or_rest (overlap e.place stood) (groups_depend log.links e (emitted_at stood other)) (list_any (λ rule. applies rule e (emitted_at stood other)) log.rules) (sym rule ∙ t))
           | inr over ↦
               let same : over.0 ≡ earlier = patch_same (sym over.1 ∙ earlier_at) in
               let o : Overlaps earlier patch = subst (λ (x : Patch). Overlaps x patch) same over.2 in
-              subst (λ (b : Emitted). IsTrue (depends log.kind log.links e b)) (sym full)
-              (or_first (overlap e (emitted_patch earlier other)) (groups_depend log.links e (emitted_patch earlier other)) (by_module log.kind e (emitted_patch earlier other))
+              subst (λ (b : Emitted). IsTrue (depends log.rules log.links e b)) (sym full)
+              (or_first (overlap e.place (place earlier.block earlier.offset earlier.new.items)) (groups_depend log.links e (emitted_patch earlier other)) (list_any (λ rule. applies rule e (emitted_patch earlier other)) log.rules)
               (overlap_true e (emitted_patch earlier other) o.together o.below o.above))
         ],
-        λ t. elim (or_cases (overlap e before) (groups_depend log.links e before) (by_module log.kind e before) t) [
+        λ t. elim (or_cases (overlap e.place before.place) (groups_depend log.links e before) (list_any (λ rule. applies rule e before) log.rules) t) [
           | inl over ↦
-              let o = from_overlap e (emitted_patch earlier other) (subst (λ (b : Emitted). overlap e b ≡ true) full over) in
+              let o = from_overlap e (emitted_patch earlier other) (subst (λ (b : Emitted). overlap e.place b.place ≡ true) full over) in
               (adds p).1 (inr (earlier, earlier_at, record { together = o.0; below = o.1; above = o.2 }))
           | inr rest ↦
-              let r = subst (λ (b : Emitted). (groups_depend log.links e b || by_module log.kind e b) ≡ true) is_it rest in
+              let r = subst (λ (b : Emitted). (groups_depend log.links e b || list_any (λ rule. applies rule e b) log.rules) ≡ true) is_it rest in
               (adds p).1 (inl ((waits p).1 (other, other_at, rule ∙ r)))
         ],
       )
@@ -198,7 +195,7 @@ module _ (log : Log) (labels : List Label) (label : Label) (patch : Patch) (set 
       ]
 
       exactly : (q p : ℕ) (later before : Emitted) → p < q → slice_get (log.emitted ++ emitted_patch patch label ∷ []) q ≡ Some later → slice_get (log.emitted ++ emitted_patch patch label ∷ []) p ≡ Some before
-          → (Has (slice_index (deps_of (log.patches ++ record patch { deps = set } ∷ [])) q) p ↔ IsTrue (depends log.kind log.links later before))
+          → (Has (slice_index (deps_of (log.patches ++ record patch { deps = set } ∷ [])) q) p ↔ IsTrue (depends log.rules log.links later before))
       exactly q p later before less at_q at_p =
           elim (get_push log.emitted (emitted_patch patch label) later q at_q) [
             | inl old_q ↦
@@ -208,7 +205,7 @@ module _ (log : Log) (labels : List Label) (label : Label) (patch : Patch) (set 
                       let within : q < length (deps_of log.patches) = omega (arith, same_long, deps_long) in
                       let here : slice_index (deps_of (log.patches ++ record patch { deps = set } ∷ [])) q ≡ slice_index (deps_of log.patches) q =
                       ap (λ (xs : List ℕ). slice_index xs q) deps_push ∙ get_or_append_left (deps_of log.patches) (set ∷ []) 0 q within in
-                      subst (λ (s : ℕ). Has s p ↔ IsTrue (depends log.kind log.links later before)) (sym here) (is.graph.exactly q p later before less old_q old_p)
+                      subst (λ (s : ℕ). Has s p ↔ IsTrue (depends log.rules log.links later before)) (sym here) (is.graph.exactly q p later before less old_q old_p)
                   | inr new_p ↦ let where_p : p ≡ length log.emitted = new_p.0 in absurd (omega arith)
                 ]
             | inr new_q ↦
@@ -217,8 +214,8 @@ module _ (log : Log) (labels : List Label) (label : Label) (patch : Patch) (set 
                   | inl old_p ↦
                       let here : slice_index (deps_of (log.patches ++ record patch { deps = set } ∷ [])) q ≡ set =
                       ap (λ (xs : List ℕ). slice_index xs q) deps_push ∙ get_or_push (deps_of log.patches) set 0 q (omega (arith, same_long, deps_long)) in
-                      subst (λ (s : ℕ). Has s p ↔ IsTrue (depends log.kind log.links later before)) (sym here)
-                      (subst (λ (l : Emitted). Has set p ↔ IsTrue (depends log.kind log.links l before)) (sym new_q.1) (new_deps p before old_p))
+                      subst (λ (s : ℕ). Has s p ↔ IsTrue (depends log.rules log.links later before)) (sym here)
+                      (subst (λ (l : Emitted). Has set p ↔ IsTrue (depends log.rules log.links l before)) (sym new_q.1) (new_deps p before old_p))
                   | inr new_p ↦ let where_p : p ≡ length log.emitted = new_p.0 in absurd (omega arith)
                 ]
           ]
@@ -234,7 +231,7 @@ same_patch patches patch added adds =
 
 pub log-emit : (log : Log) (labels : List Label) (label : Label) (patch added : Patch)
     → IsLog log → length labels ≡ length log.patches → log.emitted ≡ emitted_by (places_of log.patches) labels
-    → AddsOverlaps log.patches patch added → ((id : ℕ) → Has patch.deps id ↔ WaitsAt log.kind log.links labels label id)
+    → AddsOverlaps log.patches patch added → ((id : ℕ) → Has patch.deps id ↔ WaitsAt log.rules log.links labels label id)
     → patch.block < log.base.blocks → patch.undo.items ≡ slice_range log.written.bytes (128 * patch.block + patch.offset) (128 * patch.block + patch.offset + length patch.new.items)
     → IsLog (record log { written = put log.written patch.block patch.offset patch.new.items; emitted = log.emitted ++ emitted_patch patch label ∷ []; patches = log.patches ++ added ∷ [] })
 log-emit log labels label patch added is labelled emitted adds waits known undo =
@@ -246,9 +243,9 @@ pub written_blocks : (log : Log) → IsLog log → log.written.blocks ≡ log.ba
 written_blocks log is = ap (λ (d : Disk). d.blocks) is.written ∙ all_put-blocks log.base (places_of log.patches)
 
 -- the same by what stands in the fields
-module _ (base written : Disk) (kind : Module) (links : List (List ℕ × List ℕ)) (labels : List Label) (label : Label) (patches : List Patch) (patch added : Patch) where
+module _ (base written : Disk) (kind : Module) (rules : List Rule) (links : List (List ℕ × List ℕ)) (labels : List Label) (label : Label) (patches : List Patch) (patch added : Patch) where
   abbrev pub log_before : Log
-  log_before = record { base = base; written = written; kind = kind; links = links; emitted = emitted_by (places_of patches) labels; patches = patches }
+  log_before = record { base = base; written = written; kind = kind; rules = rules; links = links; emitted = emitted_by (places_of patches) labels; patches = patches }
 
   pub emitted_after : length labels ≡ length patches → AddsOverlaps patches patch added
       → emitted_by (places_of (patches ++ added ∷ [])) (labels ++ label ∷ []) ≡ emitted_by (places_of patches) labels ++ emitted_patch patch label ∷ []
@@ -266,13 +263,13 @@ module _ (base written : Disk) (kind : Module) (links : List (List ℕ × List �
       ap (λ (ps : List Patch). emitted_by (places_of ps) labels') new_is ∙ ap (λ (ls : List Label). emitted_by (places_of (patches ++ added ∷ [])) ls) labels_is ∙ emitted_after labelled adds
 
   pub emit_fields : (new : List Patch) (labels' : List Label) (written' : Disk)
-      → IsLog log_before → length labels ≡ length patches → AddsOverlaps patches patch added → ((id : ℕ) → Has patch.deps id ↔ WaitsAt kind links labels label id)
+      → IsLog log_before → length labels ≡ length patches → AddsOverlaps patches patch added → ((id : ℕ) → Has patch.deps id ↔ WaitsAt rules links labels label id)
       → patch.block < base.blocks → patch.undo.items ≡ slice_range written.bytes (128 * patch.block + patch.offset) (128 * patch.block + patch.offset + length patch.new.items)
       → new ≡ patches ++ added ∷ [] → labels' ≡ labels ++ label ∷ [] → written' ≡ put written patch.block patch.offset patch.new.items
-      → IsLog (record { base = base; written = written'; kind = kind; links = links; emitted = emitted_by (places_of new) labels'; patches = new }) × (length labels' ≡ length new)
+      → IsLog (record { base = base; written = written'; kind = kind; rules = rules; links = links; emitted = emitted_by (places_of new) labels'; patches = new }) × (length labels' ≡ length new)
   emit_fields new labels' written' is labelled adds waits known undo new_is labels_is written_is =
       let last = log-emit log_before labels label patch added is labelled refl adds waits known undo in
-      let make : List Patch → List Emitted → Disk → Log = λ ps es d. record { base = base; written = d; kind = kind; links = links; emitted = es; patches = ps } in
+      let make : List Patch → List Emitted → Disk → Log = λ ps es d. record { base = base; written = d; kind = kind; rules = rules; links = links; emitted = es; patches = ps } in
       let es : emitted_by (places_of new) labels' ≡ emitted_by (places_of patches) labels ++ emitted_patch patch label ∷ [] =
       emitted_new new labels' labelled adds new_is labels_is in
       let to : make new (emitted_by (places_of new) labels') written' ≡ make (patches ++ added ∷ []) (emitted_by (places_of patches) labels ++ emitted_patch patch label ∷ []) (put written patch.block patch.offset patch.new.items) =
@@ -284,11 +281,11 @@ module _ (base written : Disk) (kind : Module) (links : List (List ℕ × List �
       (subst IsLog (sym to) last, omega arith)
 
 -- whether some patch is in a group is seen by the labels
-pub any_emitted : (ps : List Place) (ls : List Label) (name : List ℕ) → length ls ≡ length ps → list_any (λ (l : Label). is_same_group (group_by l.group) name) ls ≡ list_any (λ e. is_same_group e.group name) (emitted_by ps ls)
+pub any_emitted : (ps : List Place) (ls : List Label) (name : List ℕ) → length ls ≡ length ps → list_any (λ (l : Label). is_same_group (group_by l.origin.group) name) ls ≡ list_any (λ e. is_same_group e.origin.group name) (emitted_by ps ls)
 any_emitted [] [] name same = refl
 any_emitted [] (l ∷ ls) name same = absurd (omega arith)
 any_emitted (p ∷ ps) [] name same = absurd (omega arith)
-any_emitted (p ∷ ps) (l ∷ ls) name same = ap (λ (t : Bool). is_same_group (group_by l.group) name || t) (any_emitted ps ls name (omega arith))
+any_emitted (p ∷ ps) (l ∷ ls) name same = ap (λ (t : Bool). is_same_group (group_by l.origin.group) name || t) (any_emitted ps ls name (omega arith))
 
 -- the bytes of a range within a block
 pub block_range : (d : Disk) (b o n : ℕ) → o + n ≤ 128 → take ((o + n) - o) (drop o (block_of d b)) ≡ slice_range d.bytes (128 * b + o) (128 * b + o + n)
@@ -317,15 +314,16 @@ pub put_read : (d e : Disk) (b o b' o' : ℕ) (bytes new : List ℕ) → b' ≡ 
 put_read d e b o b' o' bytes new same_b same_o here new_is =
     here ∙ ap (λ (k : ℕ). put d k o' bytes) same_b ∙ ap (λ (k : ℕ). put d b k bytes) same_o ∙ ap (λ (xs : List ℕ). put d b o xs) (sym new_is)
 
-pub waits_read : (kind : Module) (set : ℕ) (links links' : List Link) (labels labels' : List Label) (label : Label) → links' ≡ links → labels' ≡ labels
-    → ((id : ℕ) → Has set id ↔ WaitsAt kind (links_by links') labels' label id) → (id : ℕ) → Has set id ↔ WaitsAt kind (links_by links) labels label id
-waits_read kind set links links' labels labels' label same_links same_labels waits =
-    subst (λ (ls : List Label). (id : ℕ) → Has set id ↔ WaitsAt kind (links_by links) ls label id) same_labels
-    (subst (λ (ls : List Link). (id : ℕ) → Has set id ↔ WaitsAt kind (links_by ls) labels' label id) same_links waits)
+pub waits_read : (rules rules' : List Rule) (set : ℕ) (links links' : List Link) (labels labels' : List Label) (label : Label) → rules' ≡ rules → links' ≡ links → labels' ≡ labels
+    → ((id : ℕ) → Has set id ↔ WaitsAt rules' (links_by links') labels' label id) → (id : ℕ) → Has set id ↔ WaitsAt rules (links_by links) labels label id
+waits_read rules rules' set links links' labels labels' label same_rules same_links same_labels waits =
+    subst (λ (rs : List Rule). (id : ℕ) → Has set id ↔ WaitsAt rs (links_by links) labels label id) same_rules
+    (subst (λ (ls : List Label). (id : ℕ) → Has set id ↔ WaitsAt rules' (links_by links) ls label id) same_labels
+    (subst (λ (ls : List Link). (id : ℕ) → Has set id ↔ WaitsAt rules' (links_by ls) labels' label id) same_links waits))
 
 -- ---- one link more
 
-pub log-link : (log : Log) (later earlier : List ℕ) → IsLog log → list_any (λ e. is_same_group e.group later) log.emitted ≡ false → IsLog (record log { links = log.links ++ (later, earlier) ∷ [] })
+pub log-link : (log : Log) (later earlier : List ℕ) → IsLog log → list_any (λ e. is_same_group e.origin.group later) log.emitted ≡ false → IsLog (record log { links = log.links ++ (later, earlier) ∷ [] })
 log-link log later earlier is none = record {
   written = is.written;
   known = is.known;
@@ -334,7 +332,7 @@ log-link log later earlier is none = record {
     undo = is.graph.undo;
     earlier = is.graph.earlier;
     exactly = λ q p l b less at_q at_p.
-        subst (λ (t : Bool). Has (slice_index (deps_of log.patches) q) p ↔ IsTrue t) (sym (more_links log.kind log.links later earlier l b (none_at log.emitted later q l none at_q)))
+        subst (λ (t : Bool). Has (slice_index (deps_of log.patches) q) p ↔ IsTrue t) (sym (more_links log.rules log.links later earlier l b (none_at log.emitted later q l none at_q)))
         (is.graph.exactly q p l b less at_q at_p);
   };
 }
@@ -347,10 +345,10 @@ log-link log later earlier is none = record {
     or_right true b h = absurd (cc)
     or_right false b h = h
 
-    none_at : (es : List Emitted) (name : List ℕ) (q : ℕ) (l : Emitted) → list_any (λ e. is_same_group e.group name) es ≡ false → slice_get es q ≡ Some l → is_same_group l.group name ≡ false
+    none_at : (es : List Emitted) (name : List ℕ) (q : ℕ) (l : Emitted) → list_any (λ e. is_same_group e.origin.group name) es ≡ false → slice_get es q ≡ Some l → is_same_group l.origin.group name ≡ false
     none_at [] name q l none at = absurd (cc)
-    none_at (e ∷ es) name zero l none at = let same : e ≡ l = cc in subst (λ (x : Emitted). is_same_group x.group name ≡ false) same (or_left (is_same_group e.group name) (list_any (λ e. is_same_group e.group name) es) none)
-    none_at (e ∷ es) name (suc q) l none at = none_at es name q l (or_right (is_same_group e.group name) (list_any (λ e. is_same_group e.group name) es) none) at
+    none_at (e ∷ es) name zero l none at = let same : e ≡ l = cc in subst (λ (x : Emitted). is_same_group x.origin.group name ≡ false) same (or_left (is_same_group e.origin.group name) (list_any (λ e. is_same_group e.origin.group name) es) none)
+    none_at (e ∷ es) name (suc q) l none at = none_at es name q l (or_right (is_same_group e.origin.group name) (list_any (λ e. is_same_group e.origin.group name) es) none) at
 
     or_false : (a b : Bool) → b ≡ false → (a || b) ≡ a
     or_false true b h = refl
@@ -359,20 +357,20 @@ log-link log later earlier is none = record {
     and_false : (a b : Bool) → a ≡ false → (a && b || false) ≡ false
     and_false a b h = rw h refl
 
-    more_links : (kind : Module) (links : List (List ℕ × List ℕ)) (later earlier : List ℕ) (q p : Emitted) → is_same_group q.group later ≡ false → depends kind (links ++ (later, earlier) ∷ []) q p ≡ depends kind links q p
-    more_links kind links later earlier q p none =
-        ap (λ (t : Bool). overlap q p || t || by_module kind q p)
-        (list_any-append (λ link. is_same_group q.group link.0 && is_same_group p.group link.1) links ((later, earlier) ∷ [])
-        ∙ or_false (groups_depend links q p) (is_same_group q.group later && is_same_group p.group earlier || false) (and_false (is_same_group q.group later) (is_same_group p.group earlier) none))
+    more_links : (rules : List Rule) (links : List (List ℕ × List ℕ)) (later earlier : List ℕ) (q p : Emitted) → is_same_group q.origin.group later ≡ false → depends rules (links ++ (later, earlier) ∷ []) q p ≡ depends rules links q p
+    more_links rules links later earlier q p none =
+        ap (λ (t : Bool). overlap q.place p.place || t || list_any (λ rule. applies rule q p) rules)
+        (list_any-append (λ link. is_same_group q.origin.group link.0 && is_same_group p.origin.group link.1) links ((later, earlier) ∷ [])
+        ∙ or_false (groups_depend links q p) (is_same_group q.origin.group later && is_same_group p.origin.group earlier || false) (and_false (is_same_group q.origin.group later) (is_same_group p.origin.group earlier) none))
 
 pub links_push : (links new : List Link) (link : Link) → new ≡ links ++ link ∷ [] → links_by new ≡ links_by links ++ (link.later.now, link.earlier.now) ∷ []
 links_push links new link more = ap (λ (ls : List Link). links_by ls) more ∙ map_push (λ (l : Link). (l.later.now, l.earlier.now)) links link
 
-pub link_fields : (base written : Disk) (kind : Module) (links new : List Link) (labels : List Label) (patches : List Patch) (link : Link)
-    → IsLog (record { base = base; written = written; kind = kind; links = links_by links; emitted = emitted_by (places_of patches) labels; patches = patches })
-    → list_any (λ e. is_same_group e.group link.later.now) (emitted_by (places_of patches) labels) ≡ false → new ≡ links ++ link ∷ []
-    → IsLog (record { base = base; written = written; kind = kind; links = links_by new; emitted = emitted_by (places_of patches) labels; patches = patches })
-link_fields base written kind links new labels patches link is none more =
-    let make : List (List ℕ × List ℕ) → Log = λ ls. record { base = base; written = written; kind = kind; links = ls; emitted = emitted_by (places_of patches) labels; patches = patches } in
+pub link_fields : (base written : Disk) (kind : Module) (rules : List Rule) (links new : List Link) (labels : List Label) (patches : List Patch) (link : Link)
+    → IsLog (record { base = base; written = written; kind = kind; rules = rules; links = links_by links; emitted = emitted_by (places_of patches) labels; patches = patches })
+    → list_any (λ e. is_same_group e.origin.group link.later.now) (emitted_by (places_of patches) labels) ≡ false → new ≡ links ++ link ∷ []
+    → IsLog (record { base = base; written = written; kind = kind; rules = rules; links = links_by new; emitted = emitted_by (places_of patches) labels; patches = patches })
+link_fields base written kind rules links new labels patches link is none more =
+    let make : List (List ℕ × List ℕ) → Log = λ ls. record { base = base; written = written; kind = kind; rules = rules; links = ls; emitted = emitted_by (places_of patches) labels; patches = patches } in
     let to : links_by new ≡ links_by links ++ (link.later.now, link.earlier.now) ∷ [] = links_push links new link more in
     subst (λ (ls : List (List ℕ × List ℕ)). IsLog (make ls)) (sym to) (log-link (make (links_by links)) link.later.now link.earlier.now is none)

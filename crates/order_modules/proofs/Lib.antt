@@ -2,4 +2,5 @@ pub mod Adding
 pub mod Emitting
 pub mod Grouping
 pub mod Planning
+pub mod Labelled
 pub mod Steps

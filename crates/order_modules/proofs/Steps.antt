@@ -7,6 +7,7 @@ use Rattle.std.proofs.lemmas.Grind.{flat_map-append}
 use Rattle.crash_model.specs.Disk.{Disk}
 use Rattle.crash_model.specs.Trace.{Tracing, begun, step, traced, then_trace}
 use Rattle.crash_model.specs.declared.refusals.TraceFault.{TraceFault}
+use Rattle.crash_model.specs.declared.rules.Rule.{Rule}
 use Rattle.crash_model.specs.declared.steps.Module.{Module}
 use Rattle.crash_model.specs.declared.steps.Step.{Step}
 use Rattle.crash_model.specs.declared.names.Op.{Op}
@@ -24,14 +25,15 @@ traced-append kind s [] ys = refl
 traced-append kind s (x ∷ xs) ys = then_then kind ys (step kind s x.line x.act) (λ next. traced kind next (xs ++ ys)) (λ next. traced kind next xs) (λ next. traced-append kind next xs ys)
 
 -- the trace so far, of the steps taken
-pub record IsTraced (kind : Module) (base : Disk) (steps : List Step) (i : ℕ) (t : Trace) : Type 0 where
+pub record IsTraced (kind : Module) (rules : List Rule) (base : Disk) (steps : List Step) (i : ℕ) (t : Trace) : Type 0 where
   pub same_base : t.log.base ≡ base
   pub same_kind : t.log.kind ≡ kind
+  pub same_rules : t.log.rules ≡ rules
   pub turns : t.tracing.turn ≤ i + 1
   pub so_far : traced kind (begun base) (take i steps) ≡ Ok t.tracing
   pub names : All GivesName (ops_of (take i steps))
 
-module _ (kind : Module) (base : Disk) (steps : List Step) (i : ℕ) (t : Trace) (x : Step) (inside : i < length steps) (read : x ≡ get_or steps i x) (is : IsTraced kind base steps i t) where
+module _ (kind : Module) (rules : List Rule) (base : Disk) (steps : List Step) (i : ℕ) (t : Trace) (x : Step) (inside : i < length steps) (read : x ≡ get_or steps i x) (is : IsTraced kind rules base steps i t) where
   with_next : take (i + 1) steps ≡ take i steps ++ x ∷ []
   with_next = take_more steps i x inside ∙ ap (λ (y : Step). take i steps ++ y ∷ []) (sym read)
 
@@ -42,10 +44,11 @@ module _ (kind : Module) (base : Disk) (steps : List Step) (i : ℕ) (t : Trace)
   same_step : step t.log.kind t.tracing x.line x.act ≡ step kind t.tracing x.line x.act
   same_step = ap (λ (k : Module). step k t.tracing x.line x.act) is.same_kind
 
-  pub step_taken : (next : Trace) → Moves t next (step t.log.kind t.tracing x.line x.act) → All GivesName (ops_at x.act) → IsTraced kind base steps (i + 1) next
+  pub step_taken : (next : Trace) → Moves t next (step t.log.kind t.tracing x.line x.act) → All GivesName (ops_at x.act) → IsTraced kind rules base steps (i + 1) next
   step_taken next moves named = record {
     same_base = moves.base ∙ is.same_base;
     same_kind = moves.kind ∙ is.same_kind;
+    same_rules = moves.rules ∙ is.same_rules;
     turns = omega (arith, moves.turns, is.turns);
     so_far = ap (λ (xs : List Step). traced kind (begun base) xs) with_next ∙ after_step []
         ∙ ap (λ (r : Result Tracing TraceFault). then_trace r (λ next. traced kind next [])) (sym same_step ∙ moves.answered);
@@ -61,17 +64,18 @@ module _ (kind : Module) (base : Disk) (steps : List Step) (i : ℕ) (t : Trace)
       ap (λ (xs : List Step). traced kind (begun base) xs) all ∙ after_step (drop (i + 1) steps)
       ∙ ap (λ (r : Result Tracing TraceFault). then_trace r (λ next. traced kind next (drop (i + 1) steps))) (sym same_step ∙ why)
 
-pub traced_start : (kind : Module) (base : Disk) (steps : List Step) (t : Trace) → t.tracing ≡ begun base → t.log.base ≡ base → t.log.kind ≡ kind → IsTraced kind base steps 0 t
-traced_start kind base steps t began same_base same_kind = record {
+pub traced_start : (kind : Module) (rules : List Rule) (base : Disk) (steps : List Step) (t : Trace) → t.tracing ≡ begun base → t.log.base ≡ base → t.log.kind ≡ kind → t.log.rules ≡ rules → IsTraced kind rules base steps 0 t
+traced_start kind rules base steps t began same_base same_kind same_rules = record {
   same_base = same_base;
   same_kind = same_kind;
+  same_rules = same_rules;
   turns = omega (arith, ap (λ (s : Tracing). s.turn) began);
   so_far = ap (λ (s : Tracing). Ok s) (sym began);
   names = All-nil GivesName;
 }
 
-pub traced_end : (kind : Module) (base : Disk) (steps : List Step) (i : ℕ) (t : Trace) → length steps ≤ i → IsTraced kind base steps i t → traced kind (begun base) steps ≡ Ok t.tracing
-traced_end kind base steps i t past is = ap (λ (xs : List Step). traced kind (begun base) xs) (sym (take_all i steps past)) ∙ is.so_far
+pub traced_end : (kind : Module) (rules : List Rule) (base : Disk) (steps : List Step) (i : ℕ) (t : Trace) → length steps ≤ i → IsTraced kind rules base steps i t → traced kind (begun base) steps ≡ Ok t.tracing
+traced_end kind rules base steps i t past is = ap (λ (xs : List Step). traced kind (begun base) xs) (sym (take_all i steps past)) ∙ is.so_far
 
-pub traced_names : (kind : Module) (base : Disk) (steps : List Step) (i : ℕ) (t : Trace) → length steps ≤ i → IsTraced kind base steps i t → All GivesName (ops_of steps)
-traced_names kind base steps i t past is = subst (λ (xs : List Step). All GivesName (ops_of xs)) (take_all i steps past) is.names
+pub traced_names : (kind : Module) (rules : List Rule) (base : Disk) (steps : List Step) (i : ℕ) (t : Trace) → length steps ≤ i → IsTraced kind rules base steps i t → All GivesName (ops_of steps)
+traced_names kind rules base steps i t past is = subst (λ (xs : List Step). All GivesName (ops_of xs)) (take_all i steps past) is.names

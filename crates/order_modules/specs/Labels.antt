@@ -3,25 +3,20 @@ use Rattle.std.specs.Prelude.{ℕ, List, [], ◌∷◌, map, Option, option_map}
 use Rattle.std.specs.Borrow.{Bor}
 use Rattle.crash_model.specs.Patches.{Place, place}
 use Rattle.crash_model.specs.Trace as trace
-use Rattle.crash_model.specs.Trace.{Emitted}
-use Rattle.order_modules.specs.declared.labels.Part.{Part}
-use Rattle.order_modules.specs.declared.labels.Part.TheVariants.{InPlace, FileData, Copy, Commit, Done}
+use Rattle.crash_model.specs.Trace.{Emitted, origin_at}
+use Rattle.order_modules.specs.declared.labels.Origin.{Origin}
 use Rattle.order_modules.specs.declared.labels.Label.{Label}
 use Rattle.order_modules.specs.declared.labels.Link.{Link}
-
-abbrev pub part_by : Part → trace.Part
-part_by (InPlace role) = trace.InPlace role
-part_by FileData = trace.FileData
-part_by Copy = trace.Copy
-part_by Commit = trace.Commit
-part_by Done = trace.Done
 
 abbrev pub group_by : Option (Bor (List ℕ)) → Option (List ℕ)
 group_by group = option_map (λ name. name.now) group
 
+abbrev pub origin_by : Origin → trace.Origin
+origin_by origin = origin_at origin.line origin.op.now (group_by origin.group)
+
 -- a patch at a place, with its label
 abbrev pub emitted_at : Place → Label → Emitted
-emitted_at at label = record { place = at; part = part_by label.part; turn = label.turn; group = group_by label.group }
+emitted_at at label = record { place = at; part = label.part; turn = label.turn; origin = origin_by label.origin }
 
 -- the same, of which only the label matters
 abbrev pub emitted_of : Label → Emitted

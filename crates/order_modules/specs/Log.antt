@@ -1,9 +1,11 @@
 -- The patches so far.
 use Rattle.std.specs.Prelude.{◌≡◌, ℕ, ◌<◌, All, List, [], ◌∷◌, ◌++◌, ◌||◌, Some, slice_get, IsTrue}
+use Rattle.std.specs.List.{list_any}
 use Rattle.crash_model.specs.Disk.{Disk, put}
 use Rattle.crash_model.specs.Patches.{Place, places_of}
-use Rattle.crash_model.specs.Trace.{Emitted, begun, IsGraphOf, groups_depend, by_module}
+use Rattle.crash_model.specs.Trace.{Emitted, begun, IsGraphOf, groups_depend, applies}
 use Rattle.crash_model.specs.declared.patches.Patch.{Patch}
+use Rattle.crash_model.specs.declared.rules.Rule.{Rule}
 use Rattle.crash_model.specs.declared.steps.Module.{Module}
 use Rattle.order_modules.specs.Labels.{emitted_of}
 use Rattle.order_modules.specs.declared.labels.Label.{Label}
@@ -13,6 +15,7 @@ pub record Log : Type 0 where
   pub base : Disk
   pub written : Disk
   pub kind : Module
+  pub rules : List Rule
   pub links : List (List ℕ × List ℕ)
   -- the patches with what they are of their operations, and as they stand in the graph
   pub emitted : List Emitted
@@ -27,22 +30,24 @@ all_put d (p ∷ ps) = all_put (put d p.block p.offset p.new) ps
 pub record IsLog (log : Log) : Type 0 where
   pub written : log.written ≡ all_put log.base (places_of log.patches)
   pub known : All (λ patch. patch.block < log.base.blocks) log.patches
-  pub graph : IsGraphOf log.kind log.base (record (begun log.base) { emitted = log.emitted; links = log.links }) log.patches
+  pub graph : IsGraphOf log.rules log.base (record (begun log.base) { emitted = log.emitted; links = log.links }) log.patches
 
--- the log is over the same base, by the same module
+-- the log is over the same base, by the same ordering
 pub record Keeps (old new : Log) : Type 0 where
   pub base : new.base ≡ old.base
   pub kind : new.kind ≡ old.kind
+  pub rules : new.rules ≡ old.rules
 
 -- the log has these patches more, and is else as it was
 pub record Adds (old new : Log) (more : List Emitted) : Type 0 where
   pub base : new.base ≡ old.base
   pub kind : new.kind ≡ old.kind
+  pub rules : new.rules ≡ old.rules
   pub links : new.links ≡ old.links
   pub emitted : new.emitted ≡ old.emitted ++ more
 
 -- a label waits for the one with this id
-abbrev pub WaitsAt : Module → List (List ℕ × List ℕ) → List Label → Label → ℕ → Type 0
-WaitsAt kind links labels later id =
+abbrev pub WaitsAt : List Rule → List (List ℕ × List ℕ) → List Label → Label → ℕ → Type 0
+WaitsAt rules links labels later id =
     (earlier : Label) × (slice_get labels id ≡ Some earlier)
-    × IsTrue (groups_depend links (emitted_of later) (emitted_of earlier) || by_module kind (emitted_of later) (emitted_of earlier))
+    × IsTrue (groups_depend links (emitted_of later) (emitted_of earlier) || list_any (λ rule. applies rule (emitted_of later) (emitted_of earlier)) rules)

@@ -43,9 +43,10 @@ pub record IsTrace (t : Trace) : Type 0 where
   -- each transaction has taken a journal block at least
   pub counted : IsJournaled t.log.kind → t.tracing.turn + 3 ≤ t.tracing.journal
 
--- the answer is Ok of the new trace, over the same base by the same module
+-- the answer is Ok of the new trace, over the same base by the same ordering
 pub record Moves (old new : Trace) (answer : Result Tracing TraceFault) : Type 0 where
   pub base : new.log.base ≡ old.log.base
   pub kind : new.log.kind ≡ old.log.kind
+  pub rules : new.log.rules ≡ old.log.rules
   pub turns : new.tracing.turn ≤ old.tracing.turn + 1
   pub answered : answer ≡ Ok new.tracing

@@ -1,8 +1,9 @@
 -- The patches of a transaction of the journal, for both journals.
-use Rattle.std.specs.Prelude.{ℕ, ◌+◌, ◌==◌, List, [], ◌∷◌, ◌++◌, length, map, Bool, false, not, Option}
+use Rattle.std.specs.Prelude.{ℕ, ◌+◌, ◌==◌, List, [], ◌∷◌, ◌++◌, length, map, Bool, false, not}
 use Rattle.std.specs.List.{filter, list_any, range_with_len}
 use Rattle.crash_model.specs.Disk.{Disk}
-use Rattle.crash_model.specs.Trace.{Emitted, FileData, Commit, Done, is_file_data, plain, part_of, copies}
+use Rattle.crash_model.specs.Trace.{Emitted, Origin, is_file_data, plain, part_of, copies}
+use Rattle.crash_model.specs.declared.rules.Part.TheVariants.{FileData, Commit, Done}
 use Rattle.crash_model.specs.declared.plans.Change.{Change}
 use Rattle.crash_model.specs.declared.steps.Module.{Module}
 use Rattle.crash_model.specs.declared.steps.Module.TheVariants.{Async, Soft, Meta, Full}
@@ -24,17 +25,17 @@ ahead kind changes = filter (is_ahead kind) changes
 abbrev pub placed : Module → List Change → List Change
 placed kind changes = filter (is_placed kind) changes
 
-abbrev pub file_data : ℕ → Option (List ℕ) → Change → Emitted
-file_data turn group c = part_of turn group FileData c.block c.offset c.new.items
+abbrev pub file_data : ℕ → Origin → Change → Emitted
+file_data turn origin c = part_of turn origin FileData c.block c.offset c.new.items
 
 -- the blocks below n that the changes in place touch, ascending
 abbrev pub targets_of : Module → ℕ → List Change → List ℕ
 targets_of kind n changes = filter (λ b. list_any (λ c. c.block == b) (placed kind changes)) (range_with_len 0 n)
 
-abbrev pub transaction_of : Module → Disk → ℕ → ℕ → Option (List ℕ) → List ℕ → List Change → List Emitted
-transaction_of kind after turn j group targets changes =
-    map (file_data turn group) (ahead kind changes)
-    ++ (copies after turn (j + 1) group targets
-    ++ (part_of turn group Commit j 0 (0xC7 ∷ turn ∷ length targets ∷ targets)
-    ∷ (map (plain turn group) (placed kind changes)
-    ++ (part_of turn group Done j 0 (0xC8 ∷ []) ∷ []))))
+abbrev pub transaction_of : Module → Disk → ℕ → ℕ → Origin → List ℕ → List Change → List Emitted
+transaction_of kind after turn j origin targets changes =
+    map (file_data turn origin) (ahead kind changes)
+    ++ (copies after turn (j + 1) origin targets
+    ++ (part_of turn origin Commit j 0 (0xC7 ∷ turn ∷ length targets ∷ targets)
+    ∷ (map (plain turn origin) (placed kind changes)
+    ++ (part_of turn origin Done j 0 (0xC8 ∷ []) ∷ []))))

@@ -9,9 +9,12 @@ ghost use Rattle.order_modules.specs.Labels.{emitted_at, group_by, links_by};
 ghost use Rattle.order_modules.specs.Log.{Adds, IsLog, Keeps, WaitsAt};
 
 use crate::labels::{Label, Link, is_in_group, waits};
+use crate::traced::Traced;
 use arrayvec::ArrayVec;
 use crash_model::names::GroupName;
+use crash_model::orderings::Ordering;
 use crash_model::patches::Patch;
+use crash_model::rules::Rule;
 use crash_model::steps::Module;
 use disk_image::Image;
 use patch_graph::{Graph, GraphFault, MAX_PATCHES};
@@ -24,9 +27,9 @@ use std::marker::Model;
 pub struct PatchLog<'a, A: Allocator + Copy> {
     base: &'a Image<A>,
     written: Image<A>,
-    module: Module,
+    ordering: &'a Ordering,
     graph: Graph<A>,
-    labels: ArrayVec<Label<'a>, 124>,
+    labels: Vec<Label<'a>, A>,
     links: Vec<Link<'a>, A>,
 }
 
@@ -38,22 +41,27 @@ impl<'a, A: Allocator + Copy> Model for PatchLog<'a, A> {
 
     ghost Value = { Log };
 
-    ghost view = { λ l. record { base = l.base.now; kind = l.module; links = links_by l.links.items; emitted = emitted_by (places_of l.graph) l.labels.items; patches = l.graph; written = l.written } };
+    ghost view = { λ l. record { base = l.base.now; kind = l.ordering.now.«module»; rules = l.ordering.now.rules.items; links = links_by l.links.items; emitted = emitted_by (places_of l.graph) l.labels.items; patches = l.graph; written = l.written } };
 
-    ghost invariant = { λ l. IsLog (record { base = l.base.now; kind = l.module; links = links_by l.links.items; emitted = emitted_by (places_of l.graph) l.labels.items; patches = l.graph; written = l.written }) × (length l.labels.items ≡ length l.graph) };
+    ghost invariant = { λ l. IsLog (record { base = l.base.now; kind = l.ordering.now.«module»; rules = l.ordering.now.rules.items; links = links_by l.links.items; emitted = emitted_by (places_of l.graph) l.labels.items; patches = l.graph; written = l.written }) × (length l.labels.items ≡ length l.graph) };
 }
 
 impl<'a, A: Allocator + Copy> PatchLog<'a, A> {
     /// No patches over this image.
-    pub fn new(alloc: A, base: &'a Image<A>, module: Module) -> Result<PatchLog<'a, A>, AllocError>
-        ensures { IfOk result (λ log. (log.base ≡ base.now) × (log.kind ≡ «module») × (log.links ≡ []) × (log.emitted ≡ [])) }
+    pub fn new(
+        alloc: A,
+        base: &'a Image<A>,
+        ordering: &'a Ordering,
+    ) -> Result<PatchLog<'a, A>, AllocError>
+        ensures ordering { IfOk result (λ log. (log.kind ≡ ordering.now.«module») × (log.rules ≡ ordering.now.rules.items)) }
+        ensures new { IfOk result (λ log. (log.base ≡ base.now) × (log.links ≡ []) × (log.emitted ≡ [])) }
     {
         Ok(PatchLog {
             base,
             written: base.try_copy()?,
-            module,
+            ordering,
             graph: Graph::new(alloc),
-            labels: ArrayVec::new(),
+            labels: Vec::new(alloc),
             links: Vec::new(alloc),
         })
     }
@@ -69,7 +77,7 @@ impl<'a, A: Allocator + Copy> PatchLog<'a, A> {
     pub fn module(&self) -> Module
         ensures { result ≡ self.now.kind }
     {
-        self.module
+        self.ordering.module
     }
 
     /// Whether so many patches more are not too many.
@@ -82,7 +90,7 @@ impl<'a, A: Allocator + Copy> PatchLog<'a, A> {
 
     /// Whether a group has a patch.
     pub fn has_patch_in(&self, name: &GroupName) -> bool
-        ensures { result ≡ list_any (λ e. is_same_group e.group name.now) self.now.emitted }
+        ensures { result ≡ list_any (λ e. is_same_group e.origin.group name.now) self.now.emitted }
     {
         has_label_in(self.labels.as_slice(), name)
     }
@@ -91,7 +99,7 @@ impl<'a, A: Allocator + Copy> PatchLog<'a, A> {
     ///
     /// After an error the log is as it was.
     pub fn link(&mut self, later: &'a GroupName, earlier: &'a GroupName) -> Result<(), AllocError>
-        requires { list_any (λ e. is_same_group e.group later.now) self.old.emitted ≡ false }
+        requires { list_any (λ e. is_same_group e.origin.group later.now) self.old.emitted ≡ false }
         ensures ok { OnOk result (self.new ≡ record self.old { links = self.old.links ++ (later.now, earlier.now) ∷ [] }) }
         ensures err { OnErr result (self.new ≡ self.old) }
     {
@@ -119,7 +127,7 @@ impl<'a, A: Allocator + Copy> PatchLog<'a, A> {
         ensures kept { Keeps self.old self.new }
     {
         let deps = dependencies(
-            self.module,
+            self.ordering.rules.as_slice(),
             self.links.as_slice(),
             self.labels.as_slice(),
             &label,
@@ -132,33 +140,39 @@ impl<'a, A: Allocator + Copy> PatchLog<'a, A> {
             undo: bytes_of(&self.written.block(usize::from(block))[from..from + bytes.len()]),
             deps,
         };
+        self.labels.push(label)?;
         match self.graph.push(patch) {
             Ok(()) => {}
-            Err(GraphFault::OutOfMemory) => return Err(AllocError),
+            Err(GraphFault::OutOfMemory) => {
+                self.labels.pop();
+                return Err(AllocError);
+            }
             Err(GraphFault::TooManyPatches) => unreachable!(),
         }
-        self.labels.push(label);
         self.written.put(usize::from(block), from, bytes);
         Ok(())
     }
 
-    /// The graph of the patches.
-    pub fn into_graph(self) -> Graph<A>
-        ensures patches { result ≡ self.entry.patches }
+    /// The patches with what they are.
+    pub fn into_traced(self) -> Traced<'a, A>
+        ensures patches { result.patches ≡ self.entry.patches }
+        ensures emitted { result.emitted ≡ self.entry.emitted }
+        ensures links { result.links ≡ self.entry.links }
+        ensures rules { result.rules ≡ self.entry.rules }
         ensures log { IsLog self.entry }
     {
-        self.graph
+        Traced::new(self.graph, self.labels, self.links, self.ordering)
     }
 }
 
 /// The ids of the labels that a later one has to wait for.
-fn dependencies(module: Module, links: &[Link<'_>], labels: &[Label<'_>], later: &Label<'_>) -> u128
+fn dependencies(rules: &[Rule], links: &[Link<'_>], labels: &[Label<'_>], later: &Label<'_>) -> u128
     requires { length labels.now ≤ 124 }
-    ensures { (id : ℕ) → Has result id ↔ WaitsAt «module» (links_by links.now) labels.now later.now id }
+    ensures { (id : ℕ) → Has result id ↔ WaitsAt rules.now (links_by links.now) labels.now later.now id }
 {
     let mut ids = 0;
     for (id, earlier) in labels.iter().enumerate() {
-        if waits(module, links, later, earlier) {
+        if waits(rules, links, later, earlier) {
             ids = with(ids, id);
         }
     }
@@ -167,9 +181,11 @@ fn dependencies(module: Module, links: &[Link<'_>], labels: &[Label<'_>], later:
 
 /// Whether a label is of a group.
 fn has_label_in(labels: &[Label<'_>], name: &GroupName) -> bool
-    ensures { result ≡ list_any (λ label. is_same_group (group_by label.group) name.now) labels.now }
+    ensures { result ≡ list_any (λ label. is_same_group (group_by label.origin.group) name.now) labels.now }
 {
-    labels.iter().any(|label| is_in_group(label.group, name))
+    labels
+        .iter()
+        .any(|label| is_in_group(label.origin.group, name))
 }
 
 /// The bytes of a range of a block.

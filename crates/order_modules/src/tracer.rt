@@ -4,6 +4,7 @@ ghost use Rattle.std.specs.Prelude.{◌≡◌, ◌≢◌, ℕ, ◌+◌, ◌<◌,
 ghost use Rattle.crash_model.specs.Trace.{Tracing, begun, planned, step as step_of, traced, IsGraphOf};
 ghost use Rattle.crash_model.specs.Disk.{IsDisk};
 ghost use Rattle.crash_model.specs.Plan.{plan_of};
+ghost use Rattle.crash_model.specs.Rules.{AreAmong, rules_of};
 ghost use Rattle.crash_model.specs.declared.refusals.TraceFault.TheVariants as fault;
 ghost use Rattle.crash_model.specs.Sound.{IsSound, HasZeroJournal};
 ghost use Rattle.crash_model.specs.declared.steps.Module.TheVariants.{Full};
@@ -11,9 +12,12 @@ ghost use Rattle.inode_fs.specs.Inside.{LiesInside, GivesName};
 ghost use Rattle.full_journal_laws.specs.Full.{ops_of, IsFullSafe};
 ghost use Rattle.order_modules.specs.Tracer.{Moves, IsOrdered, IsJournaled};
 
+use crate::labels::Origin;
 use crate::log::PatchLog;
+use crate::traced::Traced;
 use crate::transactions::touched;
 use crash_model::names::{GroupName, Op};
+use crash_model::orderings::Ordering;
 use crash_model::plans::Plan;
 use crash_model::refusals::TraceFault;
 use crash_model::steps::{Act, Module, Step};
@@ -23,35 +27,56 @@ use patch_graph::Graph;
 use std::alloc::{AllocError, Allocator};
 use std::marker::Model;
 
-/// The graph of the steps, over this image, under an ordering module; or the first refused step.
+/// The patches of the steps, over this image, under an ordering; or the first refused step.
 ///
 /// Each operation is planned on the image after those before it. Its patches carry as undo data the bytes that they
 /// replace, in the image after all patches before them. They depend on each earlier patch of an overlapping range, on
-/// the patches of groups by the script's `depend` lines, and on what the ordering module says. A step is refused by
-/// the operation itself, by a full journal, by too many patches (the graph holds 124), or by the rules of groups: a
-/// group is opened once and only while none is open, `depend b a` takes an ended group a and a group b, not a, that
-/// has no patch. It fails when out of memory too.
+/// the patches of groups by the script's `depend` lines, and on those that a rule of the ordering names. A step is
+/// refused by the operation itself, by a full journal, by too many patches (the graph holds 124), or by the rules of
+/// groups: a group is opened once and only while none is open, `depend b a` takes an ended group a and a group b, not
+/// a, that has no patch. It fails when out of memory too.
 ///
-/// Under the full journal, from a sound image whose journal is zero, replay recovers from every crash: whatever closed
-/// set of the patches is on disk, replay leaves a sound image that is, outside the journal, the image after the first
-/// k operations, k being how many of their commits are in the set.
-pub fn trace<A: Allocator + Copy>(
+/// Under the full journal with all its rules, and with any others put in, from a sound image whose journal is zero,
+/// replay recovers from every crash: whatever closed set of the patches is on disk, replay leaves a sound image that
+/// is, outside the journal, the image after the first k operations, k being how many of their commits are in the set.
+pub fn trace<'a, A: Allocator + Copy>(
+    alloc: A,
+    image: &'a Image<A>,
+    steps: &'a [Step],
+    ordering: &'a Ordering,
+) -> Result<Traced<'a, A>, TraceFault>
+    ensures ok { IfOk result (λ t. (s : Tracing) × (traced ordering.now.«module» (begun image.now) steps.now ≡ Ok s) × IsGraphOf ordering.now.rules.items image.now s t.patches × (t.emitted ≡ s.emitted) × (t.links ≡ s.links)) }
+    ensures rules { IfOk result (λ t. t.rules ≡ ordering.now.rules.items) }
+    ensures refused { IfErr result (λ refusal. refusal ≢ fault.OutOfMemory → traced ordering.now.«module» (begun image.now) steps.now ≡ Err refusal) }
+    ensures fits { IfOk result (λ t. All (λ patch. patch.block < image.now.blocks) t.patches) }
+    ensures names { IfOk result (λ _. All GivesName (ops_of steps.now)) }
+    ensures full { ordering.now.«module» ≡ Full → AreAmong (rules_of Full) ordering.now.rules.items → IsSound image.now → HasZeroJournal image.now → IfOk result (λ t. IsFullSafe image.now steps.now t.patches) }
+{
+    let mut tracer = Tracer::new(alloc, image, ordering)?;
+    for step in steps {
+        tracer.step(step)?;
+    }
+    Ok(tracer.into_traced())
+}
+
+/// The graph of the steps, over this image, under a module with its own rules; or the first refused step.
+///
+/// It is that of `trace` under this ordering.
+pub fn trace_under<A: Allocator + Copy>(
     alloc: A,
     image: &Image<A>,
     steps: &[Step],
     module: Module,
 ) -> Result<Graph<A>, TraceFault>
-    ensures ok { IfOk result (λ graph. (s : Tracing) × (traced «module» (begun image.now) steps.now ≡ Ok s) × IsGraphOf «module» image.now s graph) }
+    ensures ok { IfOk result (λ graph. (s : Tracing) × (traced «module» (begun image.now) steps.now ≡ Ok s) × IsGraphOf (rules_of «module») image.now s graph) }
     ensures refused { IfErr result (λ refusal. refusal ≢ fault.OutOfMemory → traced «module» (begun image.now) steps.now ≡ Err refusal) }
     ensures fits { IfOk result (λ graph. All (λ patch. patch.block < image.now.blocks) graph) }
     ensures names { IfOk result (λ _. All GivesName (ops_of steps.now)) }
     ensures full { «module» ≡ Full → IsSound image.now → HasZeroJournal image.now → IfOk result (λ graph. IsFullSafe image.now steps.now graph) }
 {
-    let mut tracer = Tracer::new(alloc, image, module)?;
-    for step in steps {
-        tracer.step(step)?;
-    }
-    Ok(tracer.into_graph())
+    let ordering = Ordering::of(module);
+    let traced = trace(alloc, image, steps, &ordering)?;
+    Ok(traced.into_graph())
 }
 
 /// A trace under way.
@@ -82,13 +107,18 @@ impl<'a, A: Allocator + Copy> Model for Tracer<'a, A> {
 
 impl<'a, A: Allocator + Copy> Tracer<'a, A> {
     /// Nothing traced yet.
-    pub fn new(alloc: A, base: &'a Image<A>, module: Module) -> Result<Tracer<'a, A>, AllocError>
-        ensures begun { IfOk result (λ t. (t.tracing ≡ begun base.now) × (t.log.base ≡ base.now) × (t.log.kind ≡ «module»)) }
+    pub fn new(
+        alloc: A,
+        base: &'a Image<A>,
+        ordering: &'a Ordering,
+    ) -> Result<Tracer<'a, A>, AllocError>
+        ensures begun { IfOk result (λ t. (t.tracing ≡ begun base.now) × (t.log.base ≡ base.now)) }
+        ensures ordering { IfOk result (λ t. (t.log.kind ≡ ordering.now.«module») × (t.log.rules ≡ ordering.now.rules.items)) }
         ensures disk { IfOk result (λ _. IsDisk base.now) }
     {
         Ok(Tracer {
             disk: base.try_copy()?,
-            log: PatchLog::new(alloc, base, module)?,
+            log: PatchLog::new(alloc, base, ordering)?,
             turn: 1,
             next: 4,
             current: None,
@@ -97,56 +127,60 @@ impl<'a, A: Allocator + Copy> Tracer<'a, A> {
         })
     }
 
-    /// The graph of what was traced.
-    pub fn into_graph(self) -> Graph<A>
-        ensures graph { IsGraphOf self.entry.log.kind self.entry.log.base self.entry.tracing result }
-        ensures fits { All (λ patch. patch.block < self.entry.log.base.blocks) result }
+    /// The patches of what was traced.
+    pub fn into_traced(self) -> Traced<'a, A>
+        ensures graph { IsGraphOf self.entry.log.rules self.entry.log.base self.entry.tracing result.patches }
+        ensures emitted { result.emitted ≡ self.entry.tracing.emitted }
+        ensures links { result.links ≡ self.entry.tracing.links }
+        ensures rules { result.rules ≡ self.entry.log.rules }
+        ensures fits { All (λ patch. patch.block < self.entry.log.base.blocks) result.patches }
     {
-        self.log.into_graph()
+        self.log.into_traced()
     }
 
     /// Does an operation: plans it, and adds its patches by the ordering module.
-    pub fn operate(&mut self, line: usize, op: &Op) -> Result<(), TraceFault>
+    pub fn operate(&mut self, line: usize, op: &'a Op) -> Result<(), TraceFault>
         requires { self.old.tracing.turn < 2 ^ 63 }
-        ensures ok { OnOk result (Moves self.old self.new (planned self.old.log.kind line self.old.tracing (plan_of self.old.tracing.disk op.now))) }
+        ensures ok { OnOk result (Moves self.old self.new (planned self.old.log.kind line op.now self.old.tracing (plan_of self.old.tracing.disk op.now))) }
         ensures name { OnOk result (GivesName op.now) }
-        ensures refused { IfErr result (λ refusal. refusal ≢ fault.OutOfMemory → planned self.old.log.kind line self.old.tracing (plan_of self.old.tracing.disk op.now) ≡ Err refusal) }
+        ensures refused { IfErr result (λ refusal. refusal ≢ fault.OutOfMemory → planned self.old.log.kind line op.now self.old.tracing (plan_of self.old.tracing.disk op.now) ≡ Err refusal) }
     {
         let plan = match plan(&self.disk, op) {
             Ok(plan) => plan,
             Err(fault) => return Err(fault.at_line(line)),
         };
         match self.log.module() {
-            Module::Async | Module::Soft => self.write_in_place(line, &plan),
-            Module::Meta | Module::Full => self.write_journaled(line, &plan),
+            Module::Async | Module::Soft => self.write_in_place(line, op, &plan),
+            Module::Meta | Module::Full => self.write_journaled(line, op, &plan),
         }
     }
 
     /// Adds the changes of an operation where they belong.
-    fn write_in_place(&mut self, line: usize, plan: &Plan) -> Result<(), TraceFault>
+    fn write_in_place(&mut self, line: usize, op: &'a Op, plan: &Plan) -> Result<(), TraceFault>
         requires order { IsOrdered self.old.log.kind }
         requires few { self.old.tracing.turn < 2 ^ 63 }
         requires inside { All (LiesInside self.old.tracing.disk.blocks) plan.now.items }
-        ensures ok { OnOk result (Moves self.old self.new (planned self.old.log.kind line self.old.tracing (Ok plan.now.items))) }
-        ensures refused { IfErr result (λ refusal. refusal ≢ fault.OutOfMemory → planned self.old.log.kind line self.old.tracing (Ok plan.now.items) ≡ Err refusal) }
+        ensures ok { OnOk result (Moves self.old self.new (planned self.old.log.kind line op.now self.old.tracing (Ok plan.now.items))) }
+        ensures refused { IfErr result (λ refusal. refusal ≢ fault.OutOfMemory → planned self.old.log.kind line op.now self.old.tracing (Ok plan.now.items) ≡ Err refusal) }
     {
         if !self.log.has_room(plan.len()) {
             return Err(TraceFault::TooManyPatches { line });
         }
         apply(&mut self.disk, plan);
-        self.log
-            .emit_in_place(self.turn, self.current, plan.as_slice())?;
+        let group = self.current;
+        let origin = Origin { line, op, group };
+        self.log.emit_in_place(self.turn, origin, plan.as_slice())?;
         self.turn += 1;
         Ok(())
     }
 
     /// Adds the changes of an operation as a transaction of the journal.
-    fn write_journaled(&mut self, line: usize, plan: &Plan) -> Result<(), TraceFault>
+    fn write_journaled(&mut self, line: usize, op: &'a Op, plan: &Plan) -> Result<(), TraceFault>
         requires order { IsJournaled self.old.log.kind }
         requires few { self.old.tracing.turn < 2 ^ 63 }
         requires inside { All (LiesInside self.old.tracing.disk.blocks) plan.now.items }
-        ensures ok { OnOk result (Moves self.old self.new (planned self.old.log.kind line self.old.tracing (Ok plan.now.items))) }
-        ensures refused { IfErr result (λ refusal. refusal ≢ fault.OutOfMemory → planned self.old.log.kind line self.old.tracing (Ok plan.now.items) ≡ Err refusal) }
+        ensures ok { OnOk result (Moves self.old self.new (planned self.old.log.kind line op.now self.old.tracing (Ok plan.now.items))) }
+        ensures refused { IfErr result (λ refusal. refusal ≢ fault.OutOfMemory → planned self.old.log.kind line op.now self.old.tracing (Ok plan.now.items) ≡ Err refusal) }
     {
         let targets = touched(self.log.module(), self.disk.blocks(), plan.as_slice());
         let next = self.next + 1 + targets.len();
@@ -158,9 +192,11 @@ impl<'a, A: Allocator + Copy> Tracer<'a, A> {
         }
         apply(&mut self.disk, plan);
         let header = self.next as u8;
+        let group = self.current;
+        let origin = Origin { line, op, group };
         self.log.emit_transaction(
             self.turn,
-            self.current,
+            origin,
             header,
             &self.disk,
             targets.as_slice(),

@@ -3,17 +3,17 @@
 ghost use Rattle.std.specs.Prelude.{◌≡◌, ℕ, ◌+◌, ◌<◌, ◌≤◌, ◌==◌, [], ◌∷◌, ◌++◌, length, map, IsTrue, OnOk};
 ghost use Rattle.std.specs.List.{All, list_any, filter, range_with_len};
 ghost use Rattle.crash_model.specs.Trace.{plain, part_of, copies};
-ghost use Rattle.crash_model.specs.Trace as trace;
+ghost use Rattle.crash_model.specs.declared.rules.Part.TheVariants as part;
 ghost use Rattle.inode_fs.specs.Inside.{LiesInside};
-ghost use Rattle.order_modules.specs.Labels.{group_by};
+ghost use Rattle.order_modules.specs.Labels.{origin_by};
 ghost use Rattle.order_modules.specs.Log.{Adds, Keeps};
 ghost use Rattle.order_modules.specs.Transactions.{is_ahead, ahead, placed, file_data, targets_of, transaction_of};
 
-use crate::labels::{Label, Part};
+use crate::labels::{Label, Origin};
 use crate::log::PatchLog;
 use arrayvec::ArrayVec;
-use crash_model::names::GroupName;
 use crash_model::plans::{Change, Role};
+use crash_model::rules::Part;
 use crash_model::steps::Module;
 use disk_image::Image;
 use std::alloc::{AllocError, Allocator};
@@ -64,7 +64,7 @@ impl<'a, A: Allocator + Copy> PatchLog<'a, A> {
     pub fn emit_transaction(
         &mut self,
         turn: usize,
-        group: Option<&'a GroupName>,
+        origin: Origin<'a>,
         header: u8,
         after: &Image<A>,
         targets: &[u8],
@@ -76,26 +76,26 @@ impl<'a, A: Allocator + Copy> PatchLog<'a, A> {
         requires journal { header + 1 + length targets.now ≤ self.old.base.blocks }
         requires known { All (λ target. target < after.now.blocks) targets.now }
         requires room { length self.old.emitted + (length changes.now + length targets.now + 2) ≤ 124 }
-        ensures ok { OnOk result (Adds self.old self.new (transaction_of self.old.kind after.now turn header (group_by group.entry) targets.now changes.now)) }
+        ensures ok { OnOk result (Adds self.old self.new (transaction_of self.old.kind after.now turn header (origin_by origin.entry) targets.now changes.now)) }
         ensures kept { Keeps self.old self.new }
     {
-        self.emit_file_data(turn, group, changes)?;
-        self.emit_copies(turn, group, header + 1, after, targets)?;
-        self.emit_commit(turn, group, header, targets)?;
-        self.emit_in_place(turn, group, changes)?;
-        self.emit_done(turn, group, header)
+        self.emit_file_data(turn, origin, changes)?;
+        self.emit_copies(turn, origin, header + 1, after, targets)?;
+        self.emit_commit(turn, origin, header, targets)?;
+        self.emit_in_place(turn, origin, changes)?;
+        self.emit_done(turn, origin, header)
     }
 
     /// Adds the file data that go ahead of a transaction.
     fn emit_file_data(
         &mut self,
         turn: usize,
-        group: Option<&'a GroupName>,
+        origin: Origin<'a>,
         changes: &[Change],
     ) -> Result<(), AllocError>
         requires inside { All (LiesInside self.old.base.blocks) changes.now }
         requires room { length self.old.emitted + length (ahead self.old.kind changes.now) ≤ 124 }
-        ensures ok { OnOk result (Adds self.old self.new (map (file_data turn (group_by group.entry)) (ahead self.old.kind changes.now))) }
+        ensures ok { OnOk result (Adds self.old self.new (map (file_data turn (origin_by origin.entry)) (ahead self.old.kind changes.now))) }
         ensures kept { Keeps self.old self.new }
     {
         for change in changes {
@@ -103,7 +103,7 @@ impl<'a, A: Allocator + Copy> PatchLog<'a, A> {
                 let label = Label {
                     part: Part::FileData,
                     turn,
-                    group,
+                    origin,
                 };
                 self.emit(label, change.block, change.offset, change.new.as_slice())?;
             }
@@ -115,7 +115,7 @@ impl<'a, A: Allocator + Copy> PatchLog<'a, A> {
     fn emit_copies(
         &mut self,
         turn: usize,
-        group: Option<&'a GroupName>,
+        origin: Origin<'a>,
         first: u8,
         after: &Image<A>,
         targets: &[u8],
@@ -124,7 +124,7 @@ impl<'a, A: Allocator + Copy> PatchLog<'a, A> {
         requires journal { first + length targets.now ≤ self.old.base.blocks }
         requires known { All (λ target. target < after.now.blocks) targets.now }
         requires room { length self.old.emitted + length targets.now ≤ 124 }
-        ensures ok { OnOk result (Adds self.old self.new (copies after.now turn first (group_by group.entry) targets.now)) }
+        ensures ok { OnOk result (Adds self.old self.new (copies after.now turn first (origin_by origin.entry) targets.now)) }
         ensures kept { Keeps self.old self.new }
     {
         let mut block = first;
@@ -132,7 +132,7 @@ impl<'a, A: Allocator + Copy> PatchLog<'a, A> {
             let label = Label {
                 part: Part::Copy,
                 turn,
-                group,
+                origin,
             };
             self.emit(label, block, 0, after.block(usize::from(*target)))?;
             block += 1;
@@ -144,7 +144,7 @@ impl<'a, A: Allocator + Copy> PatchLog<'a, A> {
     fn emit_commit(
         &mut self,
         turn: usize,
-        group: Option<&'a GroupName>,
+        origin: Origin<'a>,
         header: u8,
         targets: &[u8],
     ) -> Result<(), AllocError>
@@ -152,7 +152,7 @@ impl<'a, A: Allocator + Copy> PatchLog<'a, A> {
         requires block { header < self.old.base.blocks }
         requires fits { length targets.now ≤ 125 }
         requires room { length self.old.emitted < 124 }
-        ensures ok { OnOk result (Adds self.old self.new (part_of turn (group_by group.entry) trace.Commit header 0 (0xC7 ∷ turn ∷ length targets.now ∷ targets.now) ∷ [])) }
+        ensures ok { OnOk result (Adds self.old self.new (part_of turn (origin_by origin.entry) part.Commit header 0 (0xC7 ∷ turn ∷ length targets.now ∷ targets.now) ∷ [])) }
         ensures kept { Keeps self.old self.new }
     {
         let mut bytes: ArrayVec<u8, 128> = ArrayVec::new();
@@ -165,7 +165,7 @@ impl<'a, A: Allocator + Copy> PatchLog<'a, A> {
         let label = Label {
             part: Part::Commit,
             turn,
-            group,
+            origin,
         };
         self.emit(label, header, 0, bytes.as_slice())
     }
@@ -174,12 +174,12 @@ impl<'a, A: Allocator + Copy> PatchLog<'a, A> {
     pub fn emit_in_place(
         &mut self,
         turn: usize,
-        group: Option<&'a GroupName>,
+        origin: Origin<'a>,
         changes: &[Change],
     ) -> Result<(), AllocError>
         requires inside { All (LiesInside self.old.base.blocks) changes.now }
         requires room { length self.old.emitted + length (placed self.old.kind changes.now) ≤ 124 }
-        ensures ok { OnOk result (Adds self.old self.new (map (plain turn (group_by group.entry)) (placed self.old.kind changes.now))) }
+        ensures ok { OnOk result (Adds self.old self.new (map (plain turn (origin_by origin.entry)) (placed self.old.kind changes.now))) }
         ensures kept { Keeps self.old self.new }
     {
         for change in changes {
@@ -187,7 +187,7 @@ impl<'a, A: Allocator + Copy> PatchLog<'a, A> {
                 let label = Label {
                     part: Part::InPlace(change.role),
                     turn,
-                    group,
+                    origin,
                 };
                 self.emit(label, change.block, change.offset, change.new.as_slice())?;
             }
@@ -196,21 +196,16 @@ impl<'a, A: Allocator + Copy> PatchLog<'a, A> {
     }
 
     /// Adds the mark that all is in place.
-    fn emit_done(
-        &mut self,
-        turn: usize,
-        group: Option<&'a GroupName>,
-        header: u8,
-    ) -> Result<(), AllocError>
+    fn emit_done(&mut self, turn: usize, origin: Origin<'a>, header: u8) -> Result<(), AllocError>
         requires block { header < self.old.base.blocks }
         requires room { length self.old.emitted < 124 }
-        ensures ok { OnOk result (Adds self.old self.new (part_of turn (group_by group.entry) trace.Done header 0 (0xC8 ∷ []) ∷ [])) }
+        ensures ok { OnOk result (Adds self.old self.new (part_of turn (origin_by origin.entry) part.Done header 0 (0xC8 ∷ []) ∷ [])) }
         ensures kept { Keeps self.old self.new }
     {
         let label = Label {
             part: Part::Done,
             turn,
-            group,
+            origin,
         };
         self.emit(label, header, 0, &[DONE])
     }

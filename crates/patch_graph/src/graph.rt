@@ -183,7 +183,7 @@ impl<A: Allocator + Copy> Graph<A> {
 }
 
 /// Whether the patches are of one block and their ranges share a byte.
-fn overlaps(earlier: &Patch, later: &Patch) -> bool
+pub fn overlaps(earlier: &Patch, later: &Patch) -> bool
     requires first { IsPatch earlier.now }
     requires second { IsPatch later.now }
     ensures { IsTrue result ↔ Overlaps earlier.now later.now }

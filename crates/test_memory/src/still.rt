@@ -11,7 +11,7 @@ use disk_image::Image;
 use fs_check::is_clean;
 use inode_fs::{apply, plan};
 use journal_replay::replay;
-use order_modules::{build_base, trace};
+use order_modules::{Ordering, build_base, trace};
 use patch_graph::Graph;
 use script_text::read_script;
 use state_space::Space;
@@ -43,7 +43,8 @@ fn trace_of<'m>(memory: Memory<'m>) -> Result<Trace<'m>, Fail>
 {
     let script = read_script(memory, b"start\ncreate /a\nwrite /a\n")?;
     let base = Image::formatted(memory, 16, 0)?;
-    let graph = trace(memory, &base, &script.traced, Module::Async)?;
+    let ordering = Ordering::of(Module::Async);
+    let graph = trace(memory, &base, &script.traced, &ordering)?.into_graph();
     Ok(Trace { base, graph })
 }
 

@@ -31,6 +31,8 @@ mod operations;
 #[cfg(test)]
 mod orderings;
 #[cfg(test)]
+mod patches;
+#[cfg(test)]
 mod refusals;
 #[cfg(test)]
 mod replays;

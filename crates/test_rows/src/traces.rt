@@ -6,7 +6,7 @@ ghost use Rattle.crash_model.specs.Patches.{AreUndo};
 
 use crash_model::steps::Module;
 use disk_image::Image;
-use order_modules::{build_base, trace};
+use order_modules::{Ordering, build_base, trace};
 use patch_graph::Graph;
 use script_text::read_script;
 use std::alloc::{AllocError, Global};
@@ -32,7 +32,8 @@ pub fn trace_of(
     let script = read_script(alloc, script)?;
     let mut base = Image::formatted(alloc, blocks, journal)?;
     build_base(&mut base, &script.base)?;
-    let graph = trace(alloc, &base, &script.traced, order)?;
+    let ordering = Ordering::of(order);
+    let graph = trace(alloc, &base, &script.traced, &ordering)?.into_graph();
     Ok(Trace { base, graph })
 }
 

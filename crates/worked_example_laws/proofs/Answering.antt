@@ -4,6 +4,7 @@ use Rattle.std.specs.Prelude.{◌==◌, Result, Ok, Err}
 use Rattle.std.proofs.lemmas.Bool.{and_parts, leb-true, le-leb, ltb-true}
 use Rattle.patch_sets.proofs.Ids.{eq_from_true}
 use Rattle.crash_model.specs.Answer.{Answer, Refused, Reported, IsTracedAnswer, IsBaseAnswer, IsAnswer}
+use Rattle.crash_model.specs.Rules.{rules_of}
 use Rattle.crash_model.specs.Disk.{Disk, formatted, IsGeometry}
 use Rattle.crash_model.specs.Patches.{deps_of}
 use Rattle.crash_model.specs.Refusals.{run_of_trace}
@@ -81,11 +82,11 @@ reported settings before behind closed failing text told is =
     let six = and_parts (nat_le closed settings.limit) (have_runs patches failing) five.1 in
     let seven = and_parts (is_accepted (traced settings.module (begun base) steps)) _ five.0 in
     let eight = and_parts (length (closed_sets (deps_of patches)) == closed) (are_in_order (length (deps_of patches)) failing (failing_sets base patches)) seven.1 in
-    let first = earlier settings.module base last in
+    let first = earlier (rules_of settings.module) base last in
     from_traced settings before behind one.0 two.0 three.0 (Reported text (length failing)) four.0
     (subst (λ r. IsTracedAnswer settings base r (Reported text (length failing))) (sym (accepted_is base (traced settings.module (begun base) steps) seven.0)) (
       patches,
-      graph_is settings.module base last,
+      graph_is (rules_of settings.module) base last,
       record {
         total = closed;
         counted = counts_closed patches closed first (eq_from_true _ _ eight.0);
@@ -126,11 +127,11 @@ refused_limit settings before behind read read_too geometry whole run more =
     let steps = traced_acts before behind in
     let last = trace_of settings.module base steps in
     let patches = graph settings before behind in
-    let first = earlier settings.module base last in
+    let first = earlier (rules_of settings.module) base last in
     let all = counts_closed patches (length (closed_sets (deps_of patches))) first refl in
     from_traced settings before behind read read_too geometry (Refused TooMany) whole
     (subst (λ r. IsTracedAnswer settings base r (Refused TooMany)) (sym (accepted_is base (traced settings.module (begun base) steps) run)) (
       patches,
-      graph_is settings.module base last,
+      graph_is (rules_of settings.module) base last,
       ((all.0, record { distinct = all.1.distinct; each = all.1.each }, subst (λ (n : ℕ). settings.limit < n) (sym all.2) (ltb-true settings.limit (length (closed_sets (deps_of patches))) more)), refl),
     ))

@@ -12,6 +12,7 @@ use Rattle.patch_sets.specs.Closed.{AreEarlier, IsClosed}
 use Rattle.patch_sets.proofs.Bits.{small_from_below}
 use Rattle.patch_sets.proofs.Canonical.{ordered_from_next}
 use Rattle.patch_sets.proofs.Ids.{eq_from_true, true_from_eq}
+use Rattle.crash_model.specs.Rules.{rules_of}
 use Rattle.crash_model.specs.Disk.{Disk}
 use Rattle.crash_model.specs.Patches.{deps_of, image_of}
 use Rattle.crash_model.specs.Faults.{faults}
@@ -153,52 +154,52 @@ accepted_is base (Ok s) e = refl
 
 -- a computed graph that has a property
 pub graph_if : (kind : Module) (base : Disk) (steps : List Step) (P : List Patch → Type 0)
-    → is_accepted (traced kind (begun base) steps) ≡ true → P (graph_of kind base (trace_of kind base steps)) → HasGraph kind base steps P
+    → is_accepted (traced kind (begun base) steps) ≡ true → P (graph_of (rules_of kind) base (trace_of kind base steps)) → HasGraph kind base steps P
 graph_if kind base steps P run holds = has_graph kind base steps P (accepted_is base (traced kind (begun base) steps) run) holds
 
 pub counted_if : (kind : Module) (base : Disk) (steps : List Step) (closed : ℕ)
     → is_accepted (traced kind (begun base) steps) ≡ true
-    → length (closed_sets (deps_of (graph_of kind base (trace_of kind base steps)))) ≡ closed
+    → length (closed_sets (deps_of (graph_of (rules_of kind) base (trace_of kind base steps)))) ≡ closed
     → HasGraph kind base steps (λ patches. CountsClosed patches closed)
 counted_if kind base steps closed run many =
     graph_if kind base steps (λ patches. CountsClosed patches closed) run
-    (counts_closed (graph_of kind base (trace_of kind base steps)) closed (earlier kind base (trace_of kind base steps)) many)
+    (counts_closed (graph_of (rules_of kind) base (trace_of kind base steps)) closed (earlier (rules_of kind) base (trace_of kind base steps)) many)
 
 pub number_if : (kind : Module) (base : Disk) (steps : List Step) (many : ℕ)
     → is_accepted (traced kind (begun base) steps) ≡ true
-    → length (failing_sets base (graph_of kind base (trace_of kind base steps))) ≡ many
+    → length (failing_sets base (graph_of (rules_of kind) base (trace_of kind base steps))) ≡ many
     → HasGraph kind base steps (λ patches. HoldsOf (IsFailing base patches) many)
 number_if kind base steps many run is =
     graph_if kind base steps (λ patches. HoldsOf (IsFailing base patches) many) run
-    (counts_failing base (graph_of kind base (trace_of kind base steps)) (earlier kind base (trace_of kind base steps)) many is)
+    (counts_failing base (graph_of (rules_of kind) base (trace_of kind base steps)) (earlier (rules_of kind) base (trace_of kind base steps)) many is)
 
 pub counted_with_if : (kind : Module) (base : Disk) (steps : List Step) (ids : List ℕ) (held count : ℕ)
     → is_accepted (traced kind (begun base) steps) ≡ true
-    → length (filter (λ set. length (filter (has set) ids) == held) (closed_sets (deps_of (graph_of kind base (trace_of kind base steps))))) ≡ count
+    → length (filter (λ set. length (filter (has set) ids) == held) (closed_sets (deps_of (graph_of (rules_of kind) base (trace_of kind base steps))))) ≡ count
     → HasGraph kind base steps (λ patches. CountsWith patches ids held count)
 counted_with_if kind base steps ids held count run many =
     graph_if kind base steps (λ patches. CountsWith patches ids held count) run
-    (counts_with (graph_of kind base (trace_of kind base steps)) ids held count (earlier kind base (trace_of kind base steps)) many)
+    (counts_with (graph_of (rules_of kind) base (trace_of kind base steps)) ids held count (earlier (rules_of kind) base (trace_of kind base steps)) many)
 
 -- one of the closed sets fails
 pub failing_if : (kind : Module) (base : Disk) (steps : List Step) (set : ℕ)
     → is_accepted (traced kind (begun base) steps) ≡ true
-    → is_in (closed_sets (deps_of (graph_of kind base (trace_of kind base steps)))) set ≡ true
-    → fails base (graph_of kind base (trace_of kind base steps)) set ≡ true
+    → is_in (closed_sets (deps_of (graph_of (rules_of kind) base (trace_of kind base steps)))) set ≡ true
+    → fails base (graph_of (rules_of kind) base (trace_of kind base steps)) set ≡ true
     → HasGraph kind base steps (λ patches. IsFailing base patches set)
 failing_if kind base steps set run is_closed is_failing =
-    let patches = graph_of kind base (trace_of kind base steps) in
+    let patches = graph_of (rules_of kind) base (trace_of kind base steps) in
     graph_if kind base steps (λ ps. IsFailing base ps set) run
-    (failing_at base patches (earlier kind base (trace_of kind base steps)) set
+    (failing_at base patches (earlier (rules_of kind) base (trace_of kind base steps)) set
     (to_filter (fails base patches) (closed_sets (deps_of patches)) set (in_if (closed_sets (deps_of patches)) set is_closed) is_failing))
 
 pub explored_if : (kind : Module) (base : Disk) (steps : List Step) (closed : ℕ) (failing : List ℕ)
     → explores kind base steps closed failing ≡ true → Explored kind base steps closed failing
 explored_if kind base steps closed failing e =
-    let patches = graph_of kind base (trace_of kind base steps) in
-    let before = earlier kind base (trace_of kind base steps) in
+    let patches = graph_of (rules_of kind) base (trace_of kind base steps) in
+    let before = earlier (rules_of kind) base (trace_of kind base steps) in
     let first = and_parts (is_accepted (traced kind (begun base) steps)) _ e in
-    let more = and_parts (length (closed_sets (deps_of (graph_of kind base (trace_of kind base steps)))) == closed) _ first.1 in
+    let more = and_parts (length (closed_sets (deps_of (graph_of (rules_of kind) base (trace_of kind base steps)))) == closed) _ first.1 in
     graph_if kind base steps (λ ps. CountsClosed ps closed × AreAllInOrder (IsFailing base ps) failing) first.0
     (counts_closed patches closed before (eq_from_true _ _ more.0), all_failing base patches failing before more.1)
 
@@ -228,12 +229,12 @@ none_in_parts (suc n) base patches (set ∷ some) low high =
 
 pub all_clean_if : (kind : Module) (base : Disk) (steps : List Step) (closed : ℕ)
     → is_accepted (traced kind (begun base) steps) ≡ true
-    → length (closed_sets (deps_of (graph_of kind base (trace_of kind base steps)))) ≡ closed
-    → none_fails base (graph_of kind base (trace_of kind base steps)) (closed_sets (deps_of (graph_of kind base (trace_of kind base steps)))) ≡ true
+    → length (closed_sets (deps_of (graph_of (rules_of kind) base (trace_of kind base steps)))) ≡ closed
+    → none_fails base (graph_of (rules_of kind) base (trace_of kind base steps)) (closed_sets (deps_of (graph_of (rules_of kind) base (trace_of kind base steps)))) ≡ true
     → Explored kind base steps closed []
 all_clean_if kind base steps closed run many clean =
-    let patches = graph_of kind base (trace_of kind base steps) in
-    let before = earlier kind base (trace_of kind base steps) in
+    let patches = graph_of (rules_of kind) base (trace_of kind base steps) in
+    let before = earlier (rules_of kind) base (trace_of kind base steps) in
     graph_if kind base steps (λ ps. CountsClosed ps closed × AreAllInOrder (IsFailing base ps) []) run
     (counts_closed patches closed before many, all_failing base patches [] before (none_in_order base patches clean))
   where

@@ -6,8 +6,10 @@ use Rattle.patch_sets.specs.Closed.{AreEarlier}
 use Rattle.patch_sets.proofs.Bits.{none_in_empty, in_with_same, in_with_old, in_with_cases}
 use Rattle.crash_model.specs.Disk.{Disk, put}
 use Rattle.crash_model.specs.Patches.{places_of, deps_of, AreUndo}
+use Rattle.crash_model.specs.Rules.{rules_of}
 use Rattle.crash_model.specs.Trace.{Emitted, Tracing, begun, traced, depends, IsGraphOf}
 use Rattle.crash_model.specs.declared.patches.Patch.{Patch}
+use Rattle.crash_model.specs.declared.rules.Rule.{Rule}
 use Rattle.crash_model.specs.declared.steps.Module.{Module}
 use Rattle.crash_model.specs.declared.steps.Step.{Step}
 use Rattle.worked_example_laws.specs.Computed.{set_below, depends_if, needs, patches_from, graph_of, trace_of, HasGraph}
@@ -42,23 +44,23 @@ to_set_below (suc n) passes id below is = by_test (passes n) refl (λ low. to_se
 
 -- ---- the patches
 
-module _ (kind : Module) (links : List (List ℕ × List ℕ)) (all : List Emitted) where
-  places : (q : ℕ) (d : Disk) (es : List Emitted) → places_of (patches_from kind links all q d es) ≡ map (λ e. e.place) es
+module _ (rules : List Rule) (links : List (List ℕ × List ℕ)) (all : List Emitted) where
+  places : (q : ℕ) (d : Disk) (es : List Emitted) → places_of (patches_from rules links all q d es) ≡ map (λ e. e.place) es
   places q d [] = refl
   places q d (e ∷ es) = ap (λ ps. e.place ∷ ps) (places (q + 1) (put d e.place.block e.place.offset e.place.new) es)
 
-  undo : (q : ℕ) (d : Disk) (es : List Emitted) → AreUndo d (patches_from kind links all q d es)
+  undo : (q : ℕ) (d : Disk) (es : List Emitted) → AreUndo d (patches_from rules links all q d es)
   undo q d [] = tt
   undo q d (e ∷ es) = (refl, undo (q + 1) (put d e.place.block e.place.offset e.place.new) es)
 
   -- what the patch at place i depends on
-  deps_at : (es : List Emitted) (q : ℕ) (d : Disk) (i : ℕ) → i < length es → slice_index (deps_of (patches_from kind links all q d es)) i ≡ needs kind links all (q + i)
+  deps_at : (es : List Emitted) (q : ℕ) (d : Disk) (i : ℕ) → i < length es → slice_index (deps_of (patches_from rules links all q d es)) i ≡ needs rules links all (q + i)
   deps_at [] q d i below = absurd (omega arith)
-  deps_at (e ∷ es) q d zero below = ap (needs kind links all) (omega arith)
+  deps_at (e ∷ es) q d zero below = ap (needs rules links all) (omega arith)
   deps_at (e ∷ es) q d (suc i) below =
-      deps_at es (q + 1) (put d e.place.block e.place.offset e.place.new) i (omega arith) ∙ ap (needs kind links all) (omega arith)
+      deps_at es (q + 1) (put d e.place.block e.place.offset e.place.new) i (omega arith) ∙ ap (needs rules links all) (omega arith)
 
-  deps_past : (es : List Emitted) (q : ℕ) (d : Disk) (i : ℕ) → length es ≤ i → slice_index (deps_of (patches_from kind links all q d es)) i ≡ 0
+  deps_past : (es : List Emitted) (q : ℕ) (d : Disk) (i : ℕ) → length es ≤ i → slice_index (deps_of (patches_from rules links all q d es)) i ≡ 0
   deps_past [] q d i past = refl
   deps_past (e ∷ es) q d zero past = absurd (omega arith)
   deps_past (e ∷ es) q d (suc i) past = deps_past es (q + 1) (put d e.place.block e.place.offset e.place.new) i (omega arith)
@@ -71,45 +73,45 @@ get_within [] i x e = cc
 get_within (y ∷ xs) zero x e = omega arith
 get_within (y ∷ xs) (suc i) x e = let low = get_within xs i x e in omega arith
 
-module _ (kind : Module) (base : Disk) (s : Tracing) where
-  deps_is : (q : ℕ) → q < length s.emitted → slice_index (deps_of (graph_of kind base s)) q ≡ needs kind s.links s.emitted q
-  deps_is q below = deps_at kind s.links s.emitted s.emitted 0 base q below ∙ ap (needs kind s.links s.emitted) (omega arith)
+module _ (rules : List Rule) (base : Disk) (s : Tracing) where
+  deps_is : (q : ℕ) → q < length s.emitted → slice_index (deps_of (graph_of rules base s)) q ≡ needs rules s.links s.emitted q
+  deps_is q below = deps_at rules s.links s.emitted s.emitted 0 base q below ∙ ap (needs rules s.links s.emitted) (omega arith)
 
   passes : ℕ → ℕ → Bool
-  passes q p = depends_if kind s.links (slice_get s.emitted q) (slice_get s.emitted p)
+  passes q p = depends_if rules s.links (slice_get s.emitted q) (slice_get s.emitted p)
 
-  pub earlier : AreEarlier (deps_of (graph_of kind base s))
+  pub earlier : AreEarlier (deps_of (graph_of rules base s))
   earlier q p dep = elim (below_or_past q (length s.emitted)) [
-    | inl below ↦ (from_set_below q (λ p. depends_if kind s.links (slice_get s.emitted q) (slice_get s.emitted p)) p (subst (λ d. Has d p) (deps_is q below) dep)).0
-    | inr past ↦ absurd (none_in_empty p (subst (λ d. Has d p) (deps_past kind s.links s.emitted s.emitted 0 base q past) dep))
+    | inl below ↦ (from_set_below q (λ p. depends_if rules s.links (slice_get s.emitted q) (slice_get s.emitted p)) p (subst (λ d. Has d p) (deps_is q below) dep)).0
+    | inr past ↦ absurd (none_in_empty p (subst (λ d. Has d p) (deps_past rules s.links s.emitted s.emitted 0 base q past) dep))
   ]
 
   -- what the graph of a trace asks of its dependencies
   exactly : (q p : ℕ) (later before : Emitted) → p < q → slice_get s.emitted q ≡ Some later → slice_get s.emitted p ≡ Some before
-      → (Has (slice_index (deps_of (graph_of kind base s)) q) p ↔ IsTrue (depends kind s.links later before))
+      → (Has (slice_index (deps_of (graph_of rules base s)) q) p ↔ IsTrue (depends rules s.links later before))
   exactly q p later before less at_q at_p =
       let below : q < length s.emitted = get_within s.emitted q later at_q in
-      let same : depends_if kind s.links (slice_get s.emitted q) (slice_get s.emitted p) ≡ depends kind s.links later before =
+      let same : depends_if rules s.links (slice_get s.emitted q) (slice_get s.emitted p) ≡ depends rules s.links later before =
       rw (at_q, at_p) refl in (
-        λ dep. sym same ∙ ((from_set_below q (λ p. depends_if kind s.links (slice_get s.emitted q) (slice_get s.emitted p)) p (subst (λ d. Has d p) (deps_is q below) dep)).1),
-        λ is. subst (λ d. Has d p) (sym (deps_is q below)) (to_set_below q (λ p. depends_if kind s.links (slice_get s.emitted q) (slice_get s.emitted p)) p less (same ∙ is)),
+        λ dep. sym same ∙ ((from_set_below q (λ p. depends_if rules s.links (slice_get s.emitted q) (slice_get s.emitted p)) p (subst (λ d. Has d p) (deps_is q below) dep)).1),
+        λ is. subst (λ d. Has d p) (sym (deps_is q below)) (to_set_below q (λ p. depends_if rules s.links (slice_get s.emitted q) (slice_get s.emitted p)) p less (same ∙ is)),
       )
 
-  pub graph_is : IsGraphOf kind base s (graph_of kind base s)
+  pub graph_is : IsGraphOf rules base s (graph_of rules base s)
   graph_is = record {
-    places = places kind s.links s.emitted 0 base s.emitted;
-    undo = undo kind s.links s.emitted 0 base s.emitted;
+    places = places rules s.links s.emitted 0 base s.emitted;
+    undo = undo rules s.links s.emitted 0 base s.emitted;
     earlier = earlier;
     exactly = exactly;
   }
 
 -- steps that are accepted have the computed graph
 pub has_graph : (kind : Module) (base : Disk) (steps : List Step) (P : List Patch → Type 0)
-    → traced kind (begun base) steps ≡ Ok (trace_of kind base steps) → P (graph_of kind base (trace_of kind base steps)) → HasGraph kind base steps P
+    → traced kind (begun base) steps ≡ Ok (trace_of kind base steps) → P (graph_of (rules_of kind) base (trace_of kind base steps)) → HasGraph kind base steps P
 has_graph kind base steps P run holds = record {
   last = trace_of kind base steps;
   run = run;
-  patches = graph_of kind base (trace_of kind base steps);
-  graph = graph_is kind base (trace_of kind base steps);
+  patches = graph_of (rules_of kind) base (trace_of kind base steps);
+  graph = graph_is (rules_of kind) base (trace_of kind base steps);
   holds = holds;
 }

@@ -8,6 +8,7 @@ use Rattle.patch_sets.proofs.Bits.{none_in_empty, same_set}
 use Rattle.patch_sets.proofs.Canonical.{one_list}
 use Rattle.patch_sets.proofs.Writes.{one_runs}
 use Rattle.crash_model.specs.Answer.{Answer, Refused, Reported, IsReport, IsGraphAnswer, IsTracedAnswer, IsBaseAnswer, IsStepsAnswer, IsAnswer}
+use Rattle.crash_model.specs.Rules.{rules_of}
 use Rattle.crash_model.specs.Disk.{Disk, put, formatted}
 use Rattle.crash_model.specs.Failing.{IsFailing}
 use Rattle.crash_model.specs.Faults.{faults}
@@ -19,7 +20,7 @@ use Rattle.crash_model.specs.Trace.{Emitted, Tracing, begun, traced, based, IsGr
 use Rattle.crash_model.specs.declared.patches.Patch.{Patch}
 use Rattle.crash_model.specs.declared.refusals.TraceFault.{TraceFault}
 use Rattle.crash_model.specs.declared.settings.Settings.{Settings}
-use Rattle.crash_model.specs.declared.steps.Module.{Module}
+use Rattle.crash_model.specs.declared.rules.Rule.{Rule}
 use Rattle.crash_model.specs.declared.steps.Step.{Step}
 use Rattle.worked_example_laws.proofs.Scripts.{script_one, refusal_one, read_or_refused}
 
@@ -98,11 +99,11 @@ get_some [] i below = absurd (omega arith)
 get_some (x ∷ xs) zero below = (x, refl)
 get_some (x ∷ xs) (suc i) below = get_some xs i (omega arith)
 
-module _ (kind : Module) (base : Disk) (s : Tracing) where
-  length_deps : (ps : List Patch) → IsGraphOf kind base s ps → length (deps_of ps) ≡ length s.emitted
+module _ (rules : List Rule) (base : Disk) (s : Tracing) where
+  length_deps : (ps : List Patch) → IsGraphOf rules base s ps → length (deps_of ps) ≡ length s.emitted
   length_deps ps graph = sym (length_places ps) ∙ (ap length graph.places ∙ length_emitted s.emitted)
 
-  deps_within : (ps qs : List Patch) → IsGraphOf kind base s ps → IsGraphOf kind base s qs → (q : ℕ) → IsSubset (slice_index (deps_of ps) q) (slice_index (deps_of qs) q)
+  deps_within : (ps qs : List Patch) → IsGraphOf rules base s ps → IsGraphOf rules base s qs → (q : ℕ) → IsSubset (slice_index (deps_of ps) q) (slice_index (deps_of qs) q)
   deps_within ps qs graph other q p dep = elim (below_or_past q (length s.emitted)) [
     | inl below ↦
         let before = graph.earlier q p dep in
@@ -112,7 +113,7 @@ module _ (kind : Module) (base : Disk) (s : Tracing) where
     | inr past ↦ absurd (none_in_empty p (subst (λ d. Has d p) (index_past (deps_of ps) q (omega (arith, length_deps ps graph))) dep))
   ]
 
-  pub graph_one : (ps qs : List Patch) → IsGraphOf kind base s ps → IsGraphOf kind base s qs → ps ≡ qs
+  pub graph_one : (ps qs : List Patch) → IsGraphOf rules base s ps → IsGraphOf rules base s qs → ps ≡ qs
   graph_one ps qs graph other =
       let places = graph.places ∙ sym other.places in
       same_patches ps qs places
@@ -148,7 +149,7 @@ module _ (settings : Settings) (base : Disk) where
   traced_one : (r : Result Tracing TraceFault) (answer other : Answer) → IsTracedAnswer settings base r answer → IsTracedAnswer settings base r other → answer ≡ other
   traced_one (Err fault) answer other is also = is ∙ sym also
   traced_one (Ok s) answer other is also =
-      let same : is.0 ≡ also.0 = graph_one settings.module base s is.0 also.0 is.1 also.1 in
+      let same : is.0 ≡ also.0 = graph_one (rules_of settings.module) base s is.0 also.0 is.1 also.1 in
       graph_answer_one also.0 answer other (subst (λ ps. IsGraphAnswer settings base ps answer) same is.2) also.2
 
 module _ (settings : Settings) where

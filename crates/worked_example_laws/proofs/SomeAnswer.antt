@@ -16,6 +16,7 @@ use Rattle.patch_sets.proofs.Bits.{eq_or_not}
 use Rattle.patch_sets.proofs.Canonical.{before_trans}
 use Rattle.patch_sets.proofs.Writes.{AreCutTo, cut_none, cut_skip, cut_alone, cut_joined, runs_from_cut}
 use Rattle.crash_model.specs.Answer.{Answer, Refused, Reported, IsReport, IsGraphAnswer, IsTracedAnswer, IsBaseAnswer, IsStepsAnswer, IsAnswer}
+use Rattle.crash_model.specs.Rules.{rules_of}
 use Rattle.crash_model.specs.Disk.{Disk, formatted}
 use Rattle.crash_model.specs.Failing.{IsFailing, CountsClosed}
 use Rattle.crash_model.specs.Faults.{faults}
@@ -232,8 +233,8 @@ module _ (settings : Settings) where
   from_traced : (base : Disk) (r : Result Tracing TraceFault) → (answer : Answer) × IsTracedAnswer settings base r answer
   from_traced base (Err fault) = (Refused (run_of_trace fault), refl)
   from_traced base (Ok last) =
-      let it = from_graph base (graph_of settings.module base last) (earlier settings.module base last) in
-      (it.0, (graph_of settings.module base last, graph_is settings.module base last, it.1))
+      let it = from_graph base (graph_of (rules_of settings.module) base last) (earlier (rules_of settings.module) base last) in
+      (it.0, (graph_of (rules_of settings.module) base last, graph_is (rules_of settings.module) base last, it.1))
 
   from_base : (r : Result Disk TraceFault) (steps : List Step) → (answer : Answer) × IsBaseAnswer settings r steps answer
   from_base (Err fault) steps = (Refused (run_of_trace fault), refl)

@@ -13,10 +13,12 @@ use Rattle.crash_model.specs.Layout.{kind_of, links_of, pointer_of, map_of, is_l
 use Rattle.crash_model.specs.Patches.{deps_of, homes_of, image_of}
 use Rattle.crash_model.specs.Faults.{faults}
 use Rattle.crash_model.specs.Replay.{replayed}
+use Rattle.crash_model.specs.Rules.{rules_of}
 use Rattle.crash_model.specs.Trace.{Emitted, Tracing, begun, traced, depends, IsGraphOf}
 use Rattle.crash_model.specs.declared.fault.Fault.{Fault}
 use Rattle.crash_model.specs.declared.patches.Patch.{Patch}
 use Rattle.crash_model.specs.declared.refusals.TraceFault.{TraceFault}
+use Rattle.crash_model.specs.declared.rules.Rule.{Rule}
 use Rattle.crash_model.specs.declared.steps.Module.{Module}
 use Rattle.crash_model.specs.declared.steps.Step.{Step}
 
@@ -26,29 +28,29 @@ set_below zero passes = 0
 set_below (suc n) passes = if passes n then with_id (set_below n passes) n else set_below n passes
 
 -- whether the patch at one place depends on the one at another
-abbrev pub depends_if : Module → List (List ℕ × List ℕ) → Option Emitted → Option Emitted → Bool
-depends_if kind links None p = false
-depends_if kind links (Some q) None = false
-depends_if kind links (Some q) (Some p) = depends kind links q p
+abbrev pub depends_if : List Rule → List (List ℕ × List ℕ) → Option Emitted → Option Emitted → Bool
+depends_if rules links None p = false
+depends_if rules links (Some q) None = false
+depends_if rules links (Some q) (Some p) = depends rules links q p
 
-abbrev pub needs : Module → List (List ℕ × List ℕ) → List Emitted → ℕ → ℕ
-needs kind links all q = set_below q (λ p. depends_if kind links (slice_get all q) (slice_get all p))
+abbrev pub needs : List Rule → List (List ℕ × List ℕ) → List Emitted → ℕ → ℕ
+needs rules links all q = set_below q (λ p. depends_if rules links (slice_get all q) (slice_get all p))
 
 -- the patches from place q on, on the disk after those before it
-abbrev pub patches_from : Module → List (List ℕ × List ℕ) → List Emitted → ℕ → Disk → List Emitted → List Patch
-patches_from kind links all q d [] = []
-patches_from kind links all q d (e ∷ es) =
+abbrev pub patches_from : List Rule → List (List ℕ × List ℕ) → List Emitted → ℕ → Disk → List Emitted → List Patch
+patches_from rules links all q d [] = []
+patches_from rules links all q d (e ∷ es) =
     record {
       block = e.place.block;
       offset = e.place.offset;
       new = record { items = e.place.new };
       undo = record { items = slice_range d.bytes (128 * e.place.block + e.place.offset) (128 * e.place.block + e.place.offset + length e.place.new) };
-      deps = needs kind links all q;
+      deps = needs rules links all q;
     }
-    ∷ patches_from kind links all (q + 1) (put d e.place.block e.place.offset e.place.new) es
+    ∷ patches_from rules links all (q + 1) (put d e.place.block e.place.offset e.place.new) es
 
-abbrev pub graph_of : Module → Disk → Tracing → List Patch
-graph_of kind base s = patches_from kind s.links s.emitted 0 base s.emitted
+abbrev pub graph_of : List Rule → Disk → Tracing → List Patch
+graph_of rules base s = patches_from rules s.links s.emitted 0 base s.emitted
 
 -- the closed sets, patch by patch: those so far, and with the next patch those that have what it depends on
 abbrev pub closed_from : ℕ → List ℕ → List ℕ → List ℕ
@@ -115,7 +117,7 @@ pub record HasGraph (kind : Module) (base : Disk) (steps : List Step) (P : List 
   pub last : Tracing
   pub run : traced kind (begun base) steps ≡ Ok last
   pub patches : List Patch
-  pub graph : IsGraphOf kind base last patches
+  pub graph : IsGraphOf (rules_of kind) base last patches
   pub holds : P patches
 
 -- the steps are accepted, so many sets are closed, and these are all that fail, in canonical order
@@ -126,7 +128,7 @@ Explored kind base steps closed failing =
 -- the same as a test
 abbrev pub explores : Module → Disk → List Step → ℕ → List ℕ → Bool
 explores kind base steps closed failing =
-    let patches = graph_of kind base (trace_of kind base steps) in
+    let patches = graph_of (rules_of kind) base (trace_of kind base steps) in
     is_accepted (traced kind (begun base) steps) && ((length (closed_sets (deps_of patches)) == closed)
     && are_in_order (length (deps_of patches)) failing (failing_sets base patches))
 

@@ -1,6 +1,7 @@
 -- Scripts that are written down as acts, and tests of what a script's words are.
 use Rattle.std.specs.Prelude.{ℕ, ◌+◌, List, ◌∷◌, ◌++◌, length, map, codes, Bool, true, false, not, ◌&&◌, ◌==◌, nat_lt, nat_le, Result, Ok, Err}
 use Rattle.std.specs.List.{list_all, list_any}
+use Rattle.crash_model.specs.Rules.{rules_of}
 use Rattle.crash_model.specs.Disk.{Disk, formatted}
 use Rattle.crash_model.specs.Lists.{joined}
 use Rattle.crash_model.specs.Trace.{based}
@@ -74,7 +75,7 @@ traced_acts before behind = numbered (length (map line_of before) + 2) behind
 
 -- the graph of the script
 abbrev pub graph : Settings → List Act → List Act → List Patch
-graph settings before behind = graph_of settings.module (base_of settings before) (trace_of settings.module (base_of settings before) (traced_acts before behind))
+graph settings before behind = graph_of (rules_of settings.module) (base_of settings before) (trace_of settings.module (base_of settings before) (traced_acts before behind))
 
 abbrev pub is_geometry : Settings → Bool
 is_geometry settings = nat_le 16 settings.blocks && (nat_le settings.blocks 128 && nat_le (settings.journal + 6) settings.blocks)

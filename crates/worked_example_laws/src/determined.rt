@@ -10,7 +10,7 @@ ghost use Rattle.crash_model.specs.Trace.{Tracing, IsGraphOf};
 ghost use Rattle.crash_model.specs.declared.patches.Patch.{Patch};
 ghost use Rattle.crash_model.specs.declared.refusals.ScriptFault.{ScriptFault};
 ghost use Rattle.crash_model.specs.declared.settings.Settings.{Settings};
-ghost use Rattle.crash_model.specs.declared.steps.Module.{Module};
+ghost use Rattle.crash_model.specs.declared.rules.Rule.{Rule};
 ghost use Rattle.crash_model.specs.declared.steps.Step.{Step};
 
 /// For every script and settings there is one answer.
@@ -29,8 +29,8 @@ pub fn a_script_has_one_reading_or_one_refusal()
 
 /// The steps that were traced have a graph, and no other.
 pub fn a_trace_has_one_graph()
-    ensures some { (kind : Module) (base : Disk) (last : Tracing) → (patches : List Patch) × IsGraphOf kind base last patches }
-    ensures one { (kind : Module) (base : Disk) (last : Tracing) (patches others : List Patch) → IsGraphOf kind base last patches → IsGraphOf kind base last others → patches ≡ others }
+    ensures some { (rules : List Rule) (base : Disk) (last : Tracing) → (patches : List Patch) × IsGraphOf rules base last patches }
+    ensures one { (rules : List Rule) (base : Disk) (last : Tracing) (patches others : List Patch) → IsGraphOf rules base last patches → IsGraphOf rules base last others → patches ≡ others }
 {}
 
 /// The number of closed sets and the list of those that fail are determined.

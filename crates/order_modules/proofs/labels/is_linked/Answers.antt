@@ -7,10 +7,10 @@ use Rattle.order_modules.specs.declared.labels.Link.{Link}
 use Rattle.order_modules.proofs.labels.is_linked.Goals as goal
 
 linked_at : (links : List Link) (i : ℕ) (link : Link) (later earlier : Emitted) → i < length links → link ≡ get_or links i link
-    → is_same_group later.group link.later.now ≡ true → is_same_group earlier.group link.earlier.now ≡ true → groups_depend (links_by links) later earlier ≡ true
+    → is_same_group later.origin.group link.later.now ≡ true → is_same_group earlier.origin.group link.earlier.now ≡ true → groups_depend (links_by links) later earlier ≡ true
 linked_at links i link later earlier inside read one two =
     let f : Link → List ℕ × List ℕ = λ l. (l.later.now, l.earlier.now) in
-    let p : List ℕ × List ℕ → Bool = λ pair. is_same_group later.group pair.0 && is_same_group earlier.group pair.1 in
+    let p : List ℕ × List ℕ → Bool = λ pair. is_same_group later.origin.group pair.0 && is_same_group earlier.origin.group pair.1 in
     let here : get_or (map f links) i (f link) ≡ f link = get_or-map f links i link (f link) inside ∙ ap f (sym read) in
     let both : p (f link) ≡ true = rw (one, two) refl in
     list_any_at p (map f links) i (f link) (subst (λ (n : ℕ). i < n) (sym (length-map links f)) inside) (ap p here ∙ both)

@@ -14,11 +14,11 @@ block-requires g c =
     let all : c.self.inside.written.blocks ≡ c.self.inside.base.now.blocks = written_blocks _ c.self.invariant.0 in
     omega (arith, c.from.ensures, c.requires.block, same, all)
 
-pub push-requires-clause-earlier : goal.push-requires-clause-earlier
-push-requires-clause-earlier g c = λ id has.
+pub push-requires-2-clause-earlier : goal.push-requires-2-clause-earlier
+push-requires-2-clause-earlier g c = λ id has.
     let w = (c.dependencies-deps.ensures id).0 has in
-    let inside : id < length c.as_slice-2.result.now = slice_get_within c.as_slice-2.result.now id w.0 w.1 in
-    let long : length c.as_slice-2.result.now ≡ length c.self.inside.labels.items = ap (λ (ls : List Label). length ls) c.as_slice-2.ensures.value in
+    let inside : id < length c.as_slice-3.result.now = slice_get_within c.as_slice-3.result.now id w.0 w.1 in
+    let long : length c.as_slice-3.result.now ≡ length c.self.inside.labels.items = ap (λ (ls : List Label). length ls) c.as_slice-3.ensures.value in
     omega (arith, inside, long, c.self.invariant.1)
 
 pub put-requires-clause-block : goal.put-requires-clause-block
@@ -32,13 +32,13 @@ invariant_of-self-2 g c =
     let i = c.self.inside in
     let patch : Patch = record { block = c.args.block; offset = c.args.offset; new = c.bytes_of.result; undo = c.bytes_of-2.result; deps = c.dependencies-deps.result } in
     let ok = c.in-Ok.ensures.ok in
-    emit_fields i.base.now i.written i.module (links_by i.links.items) i.labels.items c.args.label i.graph patch ok.0 c.push.new.self c.push-2.new.self.items c.put.new.self
+    emit_fields i.base.now i.written i.ordering.now.module i.ordering.now.rules.items (links_by i.links.items) i.labels.items c.args.label i.graph patch ok.0 c.push-2.new.self c.push.new.self.items c.put.new.self
     c.self.invariant.0 c.self.invariant.1 ok.1
-    (waits_read i.module c.dependencies-deps.result i.links.items c.as_slice.result.now i.labels.items c.as_slice-2.result.now c.args.label c.as_slice.ensures.value c.as_slice-2.ensures.value c.dependencies-deps.ensures)
+    (waits_read i.ordering.now.rules.items c.as_slice.result.now c.dependencies-deps.result i.links.items c.as_slice-2.result.now i.labels.items c.as_slice-3.result.now c.args.label c.as_slice.ensures.value c.as_slice-2.ensures.value c.as_slice-3.ensures.value c.dependencies-deps.ensures)
     (omega (arith, c.requires.block, ap (λ (l : Log). l.base.blocks) c.self.view_is))
     (undo_read i.written c.args.block c.args.offset c.from.result c.from-from.result c.block.result.now c.bytes_of-2.result.items c.args.bytes.now c.bytes_of.result.items
     c.from.ensures c.from-from.ensures c.requires.inside c.block.ensures.bytes c.bytes_of-2.ensures c.bytes_of.ensures)
-    ok.2 c.push-2.ensures.items
+    ok.2 c.in_ok-push.ensures.items
     (put_read i.written c.put.new.self c.args.block c.args.offset c.from-2.result c.from-from.result c.args.bytes.now c.bytes_of.result.items c.from-2.ensures c.from-from.ensures c.put.ensures c.bytes_of.ensures)
 
 pub returns-clause-ok : goal.returns-clause-ok
@@ -49,9 +49,10 @@ returns-clause-ok g c =
     record {
       base = ap (λ (l : Log). l.base) c.self.view_is;
       kind = ap (λ (l : Log). l.kind) c.self.view_is;
+      rules = ap (λ (l : Log). l.rules) c.self.view_is;
       links = ap (λ (l : Log). l.links) c.self.view_is;
       emitted =
-          emitted_new i.base.now i.written i.module (links_by i.links.items) i.labels.items c.args.label i.graph patch ok.0 c.push.new.self c.push-2.new.self.items c.self.invariant.1 ok.1 ok.2 c.push-2.ensures.items
+          emitted_new i.base.now i.written i.ordering.now.module i.ordering.now.rules.items (links_by i.links.items) i.labels.items c.args.label i.graph patch ok.0 c.push-2.new.self c.push.new.self.items c.self.invariant.1 ok.1 ok.2 c.in_ok-push.ensures.items
           ∙ ap (λ (l : Log). l.emitted ++ emitted_at (place c.args.block c.args.offset c.bytes_of.result.items) c.args.label ∷ []) c.self.view_is
           ∙ ap (λ (xs : List ℕ). c.args.self.now.emitted ++ emitted_at (place c.args.block c.args.offset xs) c.args.label ∷ []) c.bytes_of.ensures;
     }

@@ -1,11 +1,11 @@
 use Rattle.std.proofs.Common.{◌≡◌, ◌+◌, take}
 use Rattle.crash_model.specs.Trace.{copies}
-use Rattle.order_modules.specs.Labels.{group_by}
+use Rattle.order_modules.specs.Labels.{origin_by}
 use Rattle.order_modules.specs.Log.{Adds}
 use Rattle.order_modules.proofs.log.PatchLog.emit_copies.Given as goal
 
 abbrev pub invariant-loop-target : goal.invariant-loop-target
 invariant-loop-target g l = record {
   block : l.block ≡ l.first + l.target-index;
-  adds : Adds l.initial.self l.self (copies l.after l.turn l.first (group_by l.group) (take l.target-index l.targets));
+  adds : Adds l.initial.self l.self (copies l.after l.turn l.first (origin_by l.origin) (take l.target-index l.targets));
 }

@@ -36,6 +36,7 @@ returns-clause-ok g c =
     (record {
       base = refl;
       kind = refl;
+      rules = refl;
       turns = omega arith;
       answered = accepted (is_some (group_by i.current) || is_among name (names_by i.opened.items)) (fault.GroupFault line) _ (or_neither (is_some (group_by i.current)) (is_among name (names_by i.opened.items)) current among)
           ∙ ap (λ (names : List (List ℕ)). Ok (record old.tracing { current = Some name; opened = names })) (sym (names_push i.opened.items c.push.new.self.items c.args.name c.in_ok-push.ensures.items));

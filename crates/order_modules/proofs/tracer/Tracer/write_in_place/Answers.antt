@@ -1,7 +1,7 @@
 use Rattle.std.proofs.Common.{◌≡◌, ◌+◌, ◌≤◌, List, length, map, arith, refl, sym, ap, subst}
 use Rattle.std.specs.Prelude.{All, Ok}
 use Rattle.crash_model.specs.Disk.{IsDisk}
-use Rattle.crash_model.specs.Trace.{plain, planned}
+use Rattle.crash_model.specs.Trace.{origin_at, plain, planned}
 use Rattle.crash_model.specs.declared.plans.Change.{Change}
 use Rattle.inode_fs.specs.Inside.{LiesInside}
 use Rattle.order_modules.specs.Labels.{group_by}
@@ -46,6 +46,6 @@ returns-clause-ok g c =
     let cs = c.args.plan.now.items in
     let order = subst (λ (t : Trace). IsOrdered t.log.kind) (sym c.self.view_is) c.requires.order in
     let room : length i.log.emitted + c.len.result ≤ 124 = c.has_room.ensures.0 c.if-not-has_room.false in
-    let adds = subst (λ (xs : List Change). Adds i.log c.emit_in_place.new.self (map (plain i.turn (group_by i.current)) (placed i.log.kind xs))) c.as_slice.ensures.value c.in_ok-emit_in_place.ensures.ok in
-    subst (λ (t : Trace). Moves t (trace_of c.emit_in_place.new.self c.apply.new.image (i.turn + 1) i.next (group_by i.current) (names_by i.opened.items) (names_by i.ended.items)) (planned t.log.kind c.args.line t.tracing (Ok cs))) c.self.view_is
-    (moves_in_place old c.args.line cs c.emit_in_place.new.self c.apply.new.image (i.turn + 1) i.next refl refl c.apply.ensures.changes order adds refl refl c.self.invariant.to (omega (arith, room, c.len.ensures.value)))
+    let adds = subst (λ (xs : List Change). Adds i.log c.emit_in_place.new.self (map (plain i.turn (origin_at c.args.line c.args.op.now (group_by i.current))) (placed i.log.kind xs))) c.as_slice.ensures.value c.in_ok-emit_in_place.ensures.ok in
+    subst (λ (t : Trace). Moves t (trace_of c.emit_in_place.new.self c.apply.new.image (i.turn + 1) i.next (group_by i.current) (names_by i.opened.items) (names_by i.ended.items)) (planned t.log.kind c.args.line c.args.op.now t.tracing (Ok cs))) c.self.view_is
+    (moves_in_place old c.args.line c.args.op.now cs c.emit_in_place.new.self c.apply.new.image (i.turn + 1) i.next refl refl c.apply.ensures.changes order adds refl refl c.self.invariant.to (omega (arith, room, c.len.ensures.value)))

@@ -1,0 +1,163 @@
+//! Orderings: how operations become patches, and the rules that order these.
+
+ghost use Rattle.std.specs.Prelude.{◌≡◌, ◌≤◌, length};
+ghost use Rattle.crash_model.specs.Rules.{rules_of};
+
+use crate::plans::Role::{
+    EntryClear, EntrySet, InitDir, InitFile, InodeFree, InodeInit, LinkDown, LinkUp, MapClear,
+    MapSet, Ptr,
+};
+use crate::rules::Rule;
+use crate::rules::RulePart::{Change, Commit, Copy, Done, FileData, InPlace};
+use crate::rules::Scope::{Previous, Same};
+use crate::steps::Module;
+use arrayvec::ArrayVec;
+
+/// The rules of soft updates (Ganger and Patt, 1994).
+///
+/// Nothing points to a structure that is not initialised: an entry waits for its inode and that inode's pointer, a
+/// pointer for its block, a block for its mark in the map. Nothing is used again while something points to it: an
+/// inode is freed after its entry, a block after its inode. The last pointer to something stays until a new one is
+/// there: an old entry waits for the new one, and link counts are never too low.
+static SOFT: [Rule; 12] = [
+    Rule {
+        later: Change(EntrySet),
+        earlier: Change(InodeInit),
+        scope: Same,
+    },
+    Rule {
+        later: Change(EntrySet),
+        earlier: Change(LinkUp),
+        scope: Same,
+    },
+    Rule {
+        later: Change(EntrySet),
+        earlier: Change(Ptr),
+        scope: Same,
+    },
+    Rule {
+        later: Change(InitFile),
+        earlier: Change(MapSet),
+        scope: Same,
+    },
+    Rule {
+        later: Change(InitDir),
+        earlier: Change(MapSet),
+        scope: Same,
+    },
+    Rule {
+        later: Change(Ptr),
+        earlier: Change(InitFile),
+        scope: Same,
+    },
+    Rule {
+        later: Change(Ptr),
+        earlier: Change(InitDir),
+        scope: Same,
+    },
+    Rule {
+        later: Change(Ptr),
+        earlier: Change(MapSet),
+        scope: Same,
+    },
+    Rule {
+        later: Change(LinkDown),
+        earlier: Change(EntryClear),
+        scope: Same,
+    },
+    Rule {
+        later: Change(InodeFree),
+        earlier: Change(EntryClear),
+        scope: Same,
+    },
+    Rule {
+        later: Change(MapClear),
+        earlier: Change(InodeFree),
+        scope: Same,
+    },
+    Rule {
+        later: Change(EntryClear),
+        earlier: Change(EntrySet),
+        scope: Same,
+    },
+];
+
+/// The rules of a journal.
+///
+/// File data and a commit wait for the commit before, a commit for its copies and its file data, changes in place
+/// for their commit, and done for the changes in place and the done before.
+static JOURNAL: [Rule; 7] = [
+    Rule {
+        later: FileData,
+        earlier: Commit,
+        scope: Previous,
+    },
+    Rule {
+        later: Commit,
+        earlier: Copy,
+        scope: Same,
+    },
+    Rule {
+        later: Commit,
+        earlier: FileData,
+        scope: Same,
+    },
+    Rule {
+        later: Commit,
+        earlier: Commit,
+        scope: Previous,
+    },
+    Rule {
+        later: InPlace,
+        earlier: Commit,
+        scope: Same,
+    },
+    Rule {
+        later: Done,
+        earlier: InPlace,
+        scope: Same,
+    },
+    Rule {
+        later: Done,
+        earlier: Done,
+        scope: Previous,
+    },
+];
+
+impl Module {
+    /// The rules of the module, in the order in which reports name them.
+    pub fn rules(self) -> &'static [Rule]
+        ensures rules { result.now ≡ rules_of self }
+        ensures few { length result.now ≤ 12 }
+    {
+        match self {
+            Module::Async => &[],
+            Module::Soft => &SOFT,
+            Module::Meta | Module::Full => &JOURNAL,
+        }
+    }
+}
+
+/// How many rules an ordering can have: those of a module, and as many as a user puts in.
+pub const MAX_RULES: usize = 28;
+
+/// An ordering: the module that turns operations into patches, and the rules that order these.
+#[derive(Drop)]
+pub struct Ordering {
+    pub module: Module,
+    pub rules: ArrayVec<Rule, MAX_RULES>,
+}
+
+impl Ordering {
+    /// The ordering with the module's own rules.
+    pub fn of(module: Module) -> Ordering
+        ensures module { result.«module» ≡ «module» }
+        ensures rules { result.rules.items ≡ rules_of «module» }
+    {
+        let mut rules = ArrayVec::new();
+        for rule in module.rules() {
+            rules.push(*rule);
+        }
+        Ordering { module, rules }
+    }
+}

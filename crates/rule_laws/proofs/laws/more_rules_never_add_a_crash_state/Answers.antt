@@ -1,0 +1,8 @@
+use Rattle.rule_laws.proofs.Closed.{closed_more, failing_more}
+use Rattle.rule_laws.proofs.laws.more_rules_never_add_a_crash_state.Goals as goal
+
+pub returns-clause-closed : goal.returns-clause-closed
+returns-clause-closed c = closed_more
+
+pub returns-clause-failing : goal.returns-clause-failing
+returns-clause-failing c = failing_more

@@ -1,0 +1,28 @@
+//! What lists of rules order, as functions that do nothing and promise the law.
+
+ghost use Rattle.std.specs.Prelude.{◌≡◌, ℕ, List};
+ghost use Rattle.std.specs.List.{list_any};
+ghost use Rattle.patch_sets.specs.Closed.{IsClosed};
+ghost use Rattle.crash_model.specs.Disk.{Disk};
+ghost use Rattle.crash_model.specs.Failing.{IsFailing};
+ghost use Rattle.crash_model.specs.Patches.{deps_of};
+ghost use Rattle.crash_model.specs.Rules.{AreAmong, rules_of};
+ghost use Rattle.crash_model.specs.Trace.{Emitted, Tracing, IsGraphOf, applies};
+ghost use Rattle.crash_model.specs.declared.patches.Patch.{Patch};
+ghost use Rattle.crash_model.specs.declared.rules.Rule.{Rule};
+ghost use Rattle.crash_model.specs.declared.steps.Module.{Module};
+ghost use Rattle.rule_laws.specs.Tables.{row, are_in};
+
+/// The rules of a module make a patch wait for an earlier one exactly where the module's table does.
+pub fn the_orderings_are_their_tables()
+    ensures { (kind : Module) (q p : Emitted) → list_any (λ rule. applies rule q p) (rules_of kind) ≡ are_in (row kind q.part p.part) q.turn p.turn }
+{}
+
+/// More rules never add a crash state: of the same patches, what is closed, or fails, under all of the rules is so
+/// under some of them.
+pub fn more_rules_never_add_a_crash_state()
+    ensures closed { (some all : List Rule) (base : Disk) (s : Tracing) (few more : List Patch) (set : ℕ) → AreAmong some all
+        → IsGraphOf some base s few → IsGraphOf all base s more → IsClosed (deps_of more) set → IsClosed (deps_of few) set }
+    ensures failing { (some all : List Rule) (base : Disk) (s : Tracing) (few more : List Patch) (set : ℕ) → AreAmong some all
+        → IsGraphOf some base s few → IsGraphOf all base s more → IsFailing base more set → IsFailing base few set }
+{}
