@@ -1,6 +1,5 @@
 -- Who published what, after a step.
-use Rattle.std.proofs.Common.{◌≡◌, ℕ, ◌+◌, ◌/◌, ◌%◌, ◌<◌, ◌≤◌, List, [], ◌∷◌, ◌++◌, length, get_or, set, cond, refl, ap, sym, ◌∙◌, subst, arith, eqb, eq-eqb, ne_eqb, lt-ltb, le-ltb, length-append, get_or-set_other, get_or-set_same}
-use Rattle.std.specs.List.{Contains}
+use Rattle.std.proofs.Common.{◌≡◌, ℕ, ◌+◌, ◌/◌, ◌%◌, ◌<◌, ◌≤◌, List, [], ◌∷◌, ◌++◌, length, set, cond, refl, ap, sym, ◌∙◌, subst, arith, eqb, ltb, eq-eqb, ne_eqb, lt-ltb, le-ltb, length-append, get_or-set_other, get_or-set_same}
 use mathlib.Core.Logic.{dite}
 use native.Mathlib.Decide.{ℕ_discrete, dec_le}
 use mathlib.Core.Option.{some}
@@ -9,7 +8,7 @@ use Rattle.board_rule.specs.Layout.{place_of}
 use Rattle.board_rule.specs.Lists.{row_of, total}
 use Rattle.board_rule.specs.Rule.{times, published, AddedOk}
 use Rattle.board_rule.specs.declared.view.View.{View}
-use Rattle.board_rule.proofs.Sums.{total-set, total-append, total_term, term_le}
+use Rattle.board_rule.proofs.Sums.{total-set, total-append, term_le}
 
 pub published_yes : (rows : List (List ℕ)) (p : ℕ) → p / 13 < length (row_of rows (p % 13)) → published rows p ≡ 1
 published_yes rows p h = ap {B = ℕ} (λ b. cond b 1 0) (lt-ltb (p / 13) (length (row_of rows (p % 13))) h)
@@ -23,13 +22,13 @@ published_low rows p = dite (dec_le (length (row_of rows (p % 13))) (p / 13)) (�
 pub is_published : (rows : List (List ℕ)) (p : ℕ) → 1 ≤ published rows p → p / 13 < length (row_of rows (p % 13))
 is_published rows p h = dite (dec_le (length (row_of rows (p % 13))) (p / 13)) (λ b. absurd (omega (arith, h, published_no rows p b))) (λ n. omega (arith, n))
 
-pub added_stay : (rows : List (List ℕ)) (views : List View) (i : ℕ) (v w : View) → AddedOk rows views → get_elem? views i ≡ some v → w.rows.added ≡ v.rows.added → AddedOk rows (set views i w)
-added_stay rows views i v w o me same p = omega (arith, o p, total-set (times p) views i v w me, ap (λ (l : List ℕ). total (λ x. cond (eqb x p) 1 0) l) same)
+pub added_stay : (origin : ℕ) (rows : List (List ℕ)) (views : List View) (i : ℕ) (v w : View) → AddedOk origin rows views → get_elem? views i ≡ some v → w.rows.added ≡ v.rows.added → AddedOk origin rows (set views i w)
+added_stay origin rows views i v w o me same p = omega (arith, o p, total-set (times p) views i v w me, ap (λ (l : List ℕ). total (λ x. cond (eqb x p) 1 0) l) same)
 
 -- the row of shard q grows, and the seat that steps is the author
-pub added_grow : (rows : List (List ℕ)) (views : List View) (i q x : ℕ) (v w : View) → q < 13 → length rows ≡ 13 → AddedOk rows views → get_elem? views i ≡ some v
-    → w.rows.added ≡ v.rows.added ++ place_of q (length (row_of rows q)) ∷ [] → AddedOk (set rows q (row_of rows q ++ x ∷ [])) (set views i w)
-added_grow rows views i q x v w near all o me more p = let row = row_of rows q in let r' = row ++ x ∷ [] in let rows' = set rows q r' in let new = place_of q (length row) in
+pub added_grow : (origin : ℕ) (rows : List (List ℕ)) (views : List View) (i q x : ℕ) (v w : View) → q < 13 → length rows ≡ 13 → AddedOk origin rows views → get_elem? views i ≡ some v
+    → w.rows.added ≡ v.rows.added ++ place_of q (length (row_of rows q)) ∷ [] → AddedOk origin (set rows q (row_of rows q ++ x ∷ [])) (set views i w)
+added_grow origin rows views i q x v w near all o me more p = let row = row_of rows q in let r' = row ++ x ∷ [] in let rows' = set rows q r' in let new = place_of q (length row) in
     let at-rows : row_of rows' q ≡ r' = get_or-set_same rows q r' [] (omega (arith, all, near)) in
     let sum = total-set (times p) views i v w me in
     let mine : times p w ≡ times p v + cond (eqb new p) 1 0 = ap (λ (l : List ℕ). total (λ x. cond (eqb x p) 1 0) l) more ∙ total-append (λ x. cond (eqb x p) 1 0) v.rows.added (new ∷ []) ∙ (let z : times p v + (cond (eqb new p) 1 0 + 0) ≡ times p v + cond (eqb new p) 1 0 = omega arith in z) in
@@ -39,18 +38,12 @@ added_grow rows views i q x v w near all o me more p = let row = row_of rows q i
     let after : published rows' p ≡ 1 = published_yes rows' p (subst (λ (y : ℕ). p / 13 < length (row_of rows' y)) (sym shard) (omega (arith, at, ap length at-rows, length-append row (x ∷ [])))) in
     let one : cond (eqb new p) 1 0 ≡ 1 = ap {B = ℕ} (λ b. cond b 1 0) (eq-eqb new p e) in omega (arith, o p, sum, mine, before, after, one))
     (λ ne. let none : cond (eqb new p) 1 0 ≡ 0 = ap {B = ℕ} (λ b. cond b 1 0) (ne_eqb new p ne) in
-    let up : published rows p ≤ published rows' p = dite (dec_le (length (row_of rows (p % 13))) (p / 13)) (λ b. omega (arith, published_no rows p b))
-    (λ n. let inside : p / 13 < length (row_of rows (p % 13)) = omega (arith, n) in let after : published rows' p ≡ 1 = published_yes rows' p (dite (ℕ_discrete (p % 13) q)
-    (λ s. subst (λ (y : ℕ). p / 13 < length (row_of rows' y)) (sym s) (let b : p / 13 < length row = subst (λ (y : ℕ). p / 13 < length (row_of rows y)) s inside in omega (arith, b, ap length at-rows, length-append row (x ∷ []))))
-    (λ ns. subst (λ (l : List ℕ). p / 13 < length l) (sym (get_or-set_other rows q (p % 13) r' [] ns)) inside)) in omega (arith, after, published_yes rows p inside)) in omega (arith, o p, sum, mine, none, up))
+    let same : published rows' p ≡ published rows p = dite (ℕ_discrete (p % 13) q)
+    (λ s. let here : row_of rows' (p % 13) ≡ r' = rw s at-rows in let was : row_of rows (p % 13) ≡ row = rw s refl in dite (dec_le (length row) (p / 13))
+    (λ b. published_no rows' p (omega (arith, ap length here, length-append row (x ∷ []), b, ne, s)) ∙ sym (published_no rows p (omega (arith, ap length was, b))))
+    (λ n. published_yes rows' p (omega (arith, ap length here, length-append row (x ∷ []), n)) ∙ sym (published_yes rows p (omega (arith, ap length was, n)))))
+    (λ ns. ap {B = ℕ} (λ (l : List ℕ). cond (ltb (p / 13) (length l)) 1 0) (get_or-set_other rows q (p % 13) r' [] ns)) in omega (arith, o p, sum, mine, none, same))
 
 -- what a seat has published is there
-pub added_there : (rows : List (List ℕ)) (views : List View) (i p : ℕ) (v : View) → AddedOk rows views → get_elem? views i ≡ some v → 1 ≤ times p v → p / 13 < length (row_of rows (p % 13))
-added_there rows views i p v o me has = is_published rows p (omega (arith, o p, term_le (times p) views i v me, has))
-
--- a place that a seat has published is counted for it
-pub times_in : (v : View) (k d : ℕ) → k < length v.rows.added → 1 ≤ times (get_or v.rows.added k d) v
-times_in v k d h = let p = get_or v.rows.added k d in let one : cond (eqb p p) 1 0 ≡ 1 = ap {B = ℕ} (λ b. cond b 1 0) (eq-eqb p p refl) in omega (arith, one, total_term (λ x. cond (eqb x p) 1 0) v.rows.added k d h)
-
-pub times_of : (v : View) (p : ℕ) → Contains v.rows.added p → 1 ≤ times p v
-times_of v p has = subst (λ (x : ℕ). 1 ≤ times x v) has.2 (times_in v has.0 p has.1)
+pub added_there : (origin : ℕ) (rows : List (List ℕ)) (views : List View) (i p : ℕ) (v : View) → AddedOk origin rows views → get_elem? views i ≡ some v → 1 ≤ times p v → p / 13 < length (row_of rows (p % 13))
+added_there origin rows views i p v o me has = is_published rows p (omega (arith, o p, term_le (times p) views i v me, has))

@@ -12,12 +12,12 @@ use Rattle.board_rule.specs.Layout.{writer, place_of}
 use Rattle.board_rule.specs.Lists.{row_of, total}
 use Rattle.board_rule.specs.Lives.{unsettled}
 use Rattle.board_rule.specs.Views.{Told, OnLives, OnPending, OnCount}
-use Rattle.board_rule.specs.Rule.{claims_at, open_lives, PendingOk, CountOk, Kept}
-use Rattle.board_rule.specs.Changes.{without_claim}
+use Rattle.board_rule.specs.Rule.{claims_on, open_lives, PendingOk, CountOk, Kept}
+use Rattle.board_rule.specs.Changes.{giving_up}
 use Rattle.board_rule.specs.Plays.{announced, repaid, ended, counted, stopped, overflowed}
 use Rattle.board_rule.specs.declared.view.View.{View}
 use Rattle.board_rule.proofs.Sums.{total-set, term_le}
-use Rattle.board_rule.proofs.Lives.{in_range, claim_none, lives_stay}
+use Rattle.board_rule.proofs.Lives.{in_range, claims_given_up, lives_stay}
 use Rattle.board_rule.proofs.Pending.{lives_term, pending_turn, count_turn}
 use Rattle.board_rule.proofs.Bounds.{all_counts, adds_few, total_bound, more_entries, full_row}
 use Rattle.board_rule.proofs.Turns.{unmoved, rest_turn}
@@ -30,7 +30,7 @@ module _ (t : Told) (good : ℕ → Type 0) (S : Type 0) where
 
   -- a step on one of the words 0 to 2
   counter_turn : (s : State S View) (o : Rule s) (id i n : ℕ) (l : OnLives) (p : OnPending) (c : OnCount) (m : Me S View) → i < 3 → get_elem? s.views id ≡ some m.0
-      → ((a : ℕ) → claims_at a (record m.0 { lives = l; pending = p; count = c }) ≤ claims_at a m.0) → l.learned ≡ m.0.lives.learned
+      → ((a : ℕ) → claims_on a (record m.0 { lives = l; pending = p; count = c }) ≡ claims_on a m.0) → l.learned ≡ m.0.lives.learned
       → PendingOk o.lives (set s.words i n) (set s.views id (record m.0 { lives = l; pending = p; count = c }))
       → CountOk t o.rows (set s.words i n) (set s.views id (record m.0 { lives = l; pending = p; count = c }))
       → Rule (stepped s i n id m.1 (record m.0 { lives = l; pending = p; count = c }) keeps)
@@ -111,15 +111,15 @@ module _ (t : Told) (good : ℕ → Type 0) (S : Type 0) where
 
   -- a store of the stop: the claim of the seat that stores it ends
   stop_turn : (s : State S View) (o : Rule s) (id : ℕ) (m : Me S View) (c : OnCount) → get_elem? s.views id ≡ some m.0 → c.uncounted ≡ m.0.count.uncounted → (c.over ≡ 1 → Outnumbers (IsReached t.next t.origin) t.limit)
-      → Rule (stepped s 2 1 id m.1 (record m.0 { lives = record m.0.lives { claims = 0 }; count = c }) keeps)
-  stop_turn s o id m c me same large = let l = record m.0.lives { claims = 0 } in let w : View = record m.0 { lives = l; count = c } in let a = total-set (λ v. v.pending.announced) s.views id m.0 w me in
-      counter_turn s o id 2 1 l m.0.pending c m (omega arith) me (λ p. omega (arith, claim_none w p refl)) refl
+      → Rule (stepped s 2 1 id m.1 (record (giving_up m.0) { count = c }) keeps)
+  stop_turn s o id m c me same large = let l = (giving_up m.0).lives in let w : View = record m.0 { lives = l; count = c } in let a = total-set (λ v. v.pending.announced) s.views id m.0 w me in
+      counter_turn s o id 2 1 l m.0.pending c m (omega arith) me (λ p. claims_given_up m.0 p) refl
       (pending_turn o.lives o.lives s.words (set s.words 2 1) s.views id m.0 w o.pending me (omega (arith, get_or-set_other s.words 2 0 1 0 (λ e. omega (arith, e)))) (omega arith) (o.pending.by_writers id m.0 me)
       (λ none-open _. (none-open, omega arith)) (λ f. let d = o.pending.done id m.0 me f in (d.0, omega (arith, a, d.1))))
       (count_turn t o.rows o.rows s.words (set s.words 2 1) s.views id m.0 w o.counts me (omega (arith, get_or-set_other s.words 2 1 1 0 (λ e. omega (arith, e)), same)) large)
 
   pub stops : (n id : ℕ) (m : Me S View) → Allows Rule n id m 2 (λ _. 1) (λ _. stopped (step n 2 1 0 none) m 1)
-  stops n id m s o wide me _ = (without_claim m.0, keeps, tt, stop_turn s o id m m.0.count me refl (o.counts.over id m.0 me), refl)
+  stops n id m s o wide me _ = (giving_up m.0, keeps, tt, stop_turn s o id m m.0.count me refl (o.counts.over id m.0 me), refl)
 
   -- a full row, under its right, lacks a successor of a word that was seen
   pub overflows : (n id : ℕ) (m : Me S View) (x c k : ℕ) → m.0.rows.right ≡ writer → t.limit ≤ length (row_of m.0.rows.seen m.0.rows.held)
@@ -127,7 +127,7 @@ module _ (t : Told) (good : ℕ → Type 0) (S : Type 0) where
       → ((j : ℕ) → j < length (row_of m.0.rows.seen m.0.rows.held) → get_or (row_of m.0.rows.seen m.0.rows.held) j 0 ≢ x)
       → Allows Rule n id m 2 (λ _. 1) (λ _. overflowed (step n 2 1 0 none) m 1)
   overflows n id m x c k writes full near inside succ absent s o wide me _ = let ok = o.seats id m.0 me in let q = m.0.rows.held in let whole = ok.whole (omega (arith, writes)) in (
-    record (without_claim m.0) { count = record m.0.count { over = 1 } },
+    record (giving_up m.0) { count = record m.0.count { over = 1 } },
     keeps,
     tt,
     stop_turn s o id m (record m.0.count { over = 1 }) me refl (λ _. full_row t o.rows s.words q x o.row ok.near (omega (arith, full, ap length whole)) (reached_successor t good S s o id m c k x me near inside succ)

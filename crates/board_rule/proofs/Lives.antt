@@ -1,5 +1,5 @@
 -- Lives after a step.
-use Rattle.std.proofs.Common.{◌≡◌, ◌≢◌, ℕ, zero, suc, ◌+◌, ◌/◌, ◌%◌, ◌<◌, ◌≤◌, Bool, true, false, List, [], ◌∷◌, ◌++◌, length, get_or, set, cond, eq-eqb, ne_eqb, refl, ap, sym, ◌∙◌, subst, arith, length-set, length-append, get_or-set_other, get_or-set_same}
+use Rattle.std.proofs.Common.{◌≡◌, ◌≢◌, ℕ, zero, suc, ◌+◌, ◌/◌, ◌%◌, ◌<◌, ◌≤◌, Bool, true, false, List, [], ◌∷◌, ◌++◌, length, get_or, set, replicate, cond, eqb, eq-eqb, ne_eqb, refl, ap, sym, ◌∙◌, subst, arith, length-set, length-append, get_or-set_other, get_or-set_same}
 use Rattle.std.specs.Prelude.{Contains}
 use Rattle.std.specs.List.{All}
 use Rattle.std.proofs.lemmas.List.{get_or_append_left}
@@ -12,11 +12,12 @@ use Rattle.board_rule.specs.Layout.{life_word, place_of}
 use Rattle.board_rule.specs.Lists.{row_of, total, Has}
 use Rattle.board_rule.specs.Lives.{life_of, life_at, is_claimed, unsettled, settled, verdict_of, Passes}
 use Rattle.board_rule.specs.Views.{Told}
-use Rattle.board_rule.specs.Rule.{claims_at, LivesOk}
+use Rattle.board_rule.specs.Rule.{times_among, claims_at, claims_on, LivesOk}
+use Rattle.board_rule.specs.Changes.{giving_up}
 use Rattle.board_rule.specs.declared.life.Life.{Life}
 use Rattle.board_rule.specs.declared.life.Life.TheVariants.{Waiting, Claimed, Clean, Broken}
 use Rattle.board_rule.specs.declared.view.View.{View}
-use Rattle.board_rule.proofs.Sums.{total-set, rows_cases, snoc_cases, snoc_zero, seats_turn}
+use Rattle.board_rule.proofs.Sums.{total-set, total-append, rows_cases, snoc_cases, snoc_zero, seats_turn}
 
 pub in_range : (l : List ℕ) (k : ℕ) → 1 ≤ get_or l k 0 → k < length l
 in_range [] k h = absurd (omega (arith, h))
@@ -37,6 +38,16 @@ claim_else v p n = ap {B = ℕ} (λ b. cond b v.lives.claims 0) (ne_eqb v.lives.
 
 pub claim_none : (v : View) (p : ℕ) → v.lives.claims ≡ 0 → claims_at p v ≡ 0
 claim_none v p e = dite (ℕ_discrete v.lives.place p) (λ h. claim_here v p h ∙ e) (λ n. claim_else v p n)
+
+-- a claim weighs as much once it is given up
+times_replicate : (p n x : ℕ) → times_among p (replicate n x) ≡ cond (eqb x p) n 0
+times_replicate p zero x = dite (ℕ_discrete x p) (λ e. sym (ap {B = ℕ} (λ b. cond b 0 0) (eq-eqb x p e))) (λ ne. sym (ap {B = ℕ} (λ b. cond b 0 0) (ne_eqb x p ne)))
+times_replicate p (suc n) x = dite (ℕ_discrete x p)
+    (λ e. omega (arith, times_replicate p n x, ap {B = ℕ} (λ b. cond b 1 0) (eq-eqb x p e), ap {B = ℕ} (λ b. cond b n 0) (eq-eqb x p e), ap {B = ℕ} (λ b. cond b (suc n) 0) (eq-eqb x p e)))
+    (λ ne. omega (arith, times_replicate p n x, ap {B = ℕ} (λ b. cond b 1 0) (ne_eqb x p ne), ap {B = ℕ} (λ b. cond b n 0) (ne_eqb x p ne), ap {B = ℕ} (λ b. cond b (suc n) 0) (ne_eqb x p ne)))
+
+pub claims_given_up : (v : View) (p : ℕ) → claims_on p (giving_up v) ≡ claims_on p v
+claims_given_up v p = omega (arith, claim_none (giving_up v) p refl, total-append (λ x. cond (eqb x p) 1 0) v.lives.given_up (replicate v.lives.claims v.lives.place), times_replicate p v.lives.claims v.lives.place)
 
 -- what a verdict is as a life
 pub verdict_settles : (b : Bool) → (2 ≤ verdict_of b) × (verdict_of b ≤ 3) × (is_claimed (verdict_of b) ≡ 0) × (unsettled (verdict_of b) ≡ 0) × (settled (verdict_of b) ≡ 1)
@@ -92,13 +103,13 @@ learned_on lives lives' met on = All-weaker (λ m. Passes m.1 (life_of (life_at 
 
 -- a step off the lives, after which the seat has no more of a claim
 pub lives_stay : (t : Told) (good : ℕ → Type 0) (rows lives : List (List ℕ)) (words words' : List ℕ) (views : List View) (i : ℕ) (v w : View) → LivesOk t good rows lives words views → get_elem? views i ≡ some v
-    → ((q k : ℕ) → q < 13 → k < t.limit → get_or words' (life_word t.limit q k) 0 ≡ get_or words (life_word t.limit q k) 0) → ((q : ℕ) → q < 13 → length (row_of lives q) ≤ t.limit) → ((p : ℕ) → claims_at p w ≤ claims_at p v) → w.lives.learned ≡ v.lives.learned → LivesOk t good rows lives words' (set views i w)
+    → ((q k : ℕ) → q < 13 → k < t.limit → get_or words' (life_word t.limit q k) 0 ≡ get_or words (life_word t.limit q k) 0) → ((q : ℕ) → q < 13 → length (row_of lives q) ≤ t.limit) → ((p : ℕ) → claims_on p w ≡ claims_on p v) → w.lives.learned ≡ v.lives.learned → LivesOk t good rows lives words' (set views i w)
 lives_stay t good rows lives words words' views i v w o me same short less met = record {
   all = o.all;
   even = o.even;
   shown = λ q k h b. same q k h (omega (arith, b, short q h)) ∙ o.shown q k h b;
   fresh = λ q k h b c. same q k h c ∙ o.fresh q k h b c;
-  claimed = λ q k h. omega (arith, o.claimed q k h, total-set (claims_at (place_of q k)) views i v w me, less (place_of q k));
+  claimed = λ q k h. omega (arith, o.claimed q k h, total-set (claims_on (place_of q k)) views i v w me, less (place_of q k));
   four = o.four;
   clean = o.clean;
   broken = o.broken;
@@ -109,14 +120,14 @@ lives_stay t good rows lives words words' views i v w o me same short less met =
 -- the life at place k of shard q becomes n, and the seat learns of it
 pub lives_turn : (t : Told) (good : ℕ → Type 0) (rows lives : List (List ℕ)) (words : List ℕ) (views : List View) (i : ℕ) (v w : View) (q k n : ℕ) (new_life : Life) → q < 13 → k < length (row_of lives q) → life_word t.limit q k < length words
     → LivesOk t good rows lives words views → get_elem? views i ≡ some v
-    → claims_at (place_of q k) w + is_claimed (get_or (row_of lives q) k 0) ≤ is_claimed n + claims_at (place_of q k) v → ((p : ℕ) → p ≢ place_of q k → claims_at p w ≤ claims_at p v)
+    → claims_on (place_of q k) w + is_claimed (get_or (row_of lives q) k 0) ≡ is_claimed n + claims_on (place_of q k) v → ((p : ℕ) → p ≢ place_of q k → claims_on p w ≡ claims_on p v)
     → n ≤ 3 → (n ≡ 2 → good (get_or (row_of rows q) k 0)) → (n ≡ 3 → good (get_or (row_of rows q) k 0) → ⊥) → (2 ≤ n → (y : ℕ) → Contains (t.next (get_or (row_of rows q) k 0)) y → Has rows y)
     → ((life : Life) → Passes life (life_of (get_or (row_of lives q) k 0)) → Passes life (life_of n))
     → w.lives.learned ≡ v.lives.learned ++ (place_of q k, new_life) ∷ [] → Passes new_life (life_of n)
     → LivesOk t good rows (set lives q (set (row_of lives q) k n)) (set words (life_word t.limit q k) n) (set views i w)
 lives_turn t good rows lives words views i v w q k n new_life near inside long o me gain less top is-clean is-broken shut on more met = let l = row_of lives q in let new = set l k n in let words' = set words (life_word t.limit q k) n in let lives' = set lives q new in
     let away : (p j : ℕ) → p < 13 → (p ≡ q → j ≢ k) → get_or words' (life_word t.limit p j) 0 ≡ get_or words (life_word t.limit p j) 0 = λ p j h ne. get_or-set_other words (life_word t.limit q k) (life_word t.limit p j) n 0 (λ e. ne (omega (arith, e, h, near)) (omega (arith, e, h, near))) in
-    let less_at : (p j : ℕ) → p < 13 → (p ≡ q → j ≢ k) → total (claims_at (place_of p j)) (set views i w) ≤ is_claimed (get_or (row_of lives p) j 0) = λ p j h ne. omega (arith, o.claimed p j h, total-set (claims_at (place_of p j)) views i v w me, less (place_of p j) (λ e. ne (omega (arith, e, h, near)) (omega (arith, e, h, near)))) in
+    let less_at : (p j : ℕ) → p < 13 → (p ≡ q → j ≢ k) → total (claims_on (place_of p j)) (set views i w) ≡ is_claimed (get_or (row_of lives p) j 0) = λ p j h ne. omega (arith, o.claimed p j h, total-set (claims_on (place_of p j)) views i v w me, less (place_of p j) (λ e. ne (omega (arith, e, h, near)) (omega (arith, e, h, near)))) in
     -- a fact of each life, from the old ones and the new one
     let each : (F : ℕ → ℕ → ℕ → Type 0) → ((p j : ℕ) → p < 13 → F p j (get_or (row_of lives p) j 0)) → F q k n → (p j : ℕ) → p < 13 → F p j (get_or (row_of lives' p) j 0) = λ F old here p j h. rows_cases lives q new (λ p l. (j : ℕ) → F p j (get_or l j 0)) o.all near
     (λ j. dite (ℕ_discrete j k) (λ e. subst (λ (y : ℕ). F q y (get_or new y 0)) (sym e) (subst (F q k) (sym (get_or-set_same l k n 0 inside)) here)) (λ ne. subst (F q j) (sym (get_or-set_other l k j n 0 ne)) (old q j near)))
@@ -130,10 +141,10 @@ lives_turn t good rows lives words views i v w q k n new_life near inside long o
       fresh = λ p j h. rows_cases lives q new (λ p l. (j : ℕ) → length l ≤ j → j < t.limit → get_or words' (life_word t.limit p j) 0 ≡ 0) o.all near
           (λ j b c. away q j near (λ _ e. omega (arith, e, b, inside, length-set l k n)) ∙ o.fresh q j near (omega (arith, b, length-set l k n)) c)
           (λ p h ne j b c. away p j h (λ e. absurd (ne e)) ∙ o.fresh p j h b c) p h j;
-      claimed = λ p j h. rows_cases lives q new (λ p l. (j : ℕ) → total (claims_at (place_of p j)) (set views i w) ≤ is_claimed (get_or l j 0)) o.all near
-          (λ j. dite (ℕ_discrete j k) (λ e. subst (λ (y : ℕ). total (claims_at (place_of q y)) (set views i w) ≤ is_claimed (get_or new y 0)) (sym e)
-          (subst (λ (y : ℕ). total (claims_at (place_of q k)) (set views i w) ≤ is_claimed y) (sym (get_or-set_same l k n 0 inside)) (omega (arith, o.claimed q k near, total-set (claims_at (place_of q k)) views i v w me, gain))))
-          (λ ne. subst (λ (y : ℕ). total (claims_at (place_of q j)) (set views i w) ≤ is_claimed y) (sym (get_or-set_other l k j n 0 ne)) (less_at q j near (λ _. ne))))
+      claimed = λ p j h. rows_cases lives q new (λ p l. (j : ℕ) → total (claims_on (place_of p j)) (set views i w) ≡ is_claimed (get_or l j 0)) o.all near
+          (λ j. dite (ℕ_discrete j k) (λ e. subst (λ (y : ℕ). total (claims_on (place_of q y)) (set views i w) ≡ is_claimed (get_or new y 0)) (sym e)
+          (subst (λ (y : ℕ). total (claims_on (place_of q k)) (set views i w) ≡ is_claimed y) (sym (get_or-set_same l k n 0 inside)) (omega (arith, o.claimed q k near, total-set (claims_on (place_of q k)) views i v w me, gain))))
+          (λ ne. subst (λ (y : ℕ). total (claims_on (place_of q j)) (set views i w) ≡ is_claimed y) (sym (get_or-set_other l k j n 0 ne)) (less_at q j near (λ _. ne))))
           (λ p h ne j. less_at p j h (λ e. absurd (ne e))) p h j;
       four = each (λ p j life. life ≤ 3) o.four top;
       clean = each (λ p j life. life ≡ 2 → good (get_or (row_of rows p) j 0)) o.clean is-clean;
@@ -149,7 +160,7 @@ lives_turn t good rows lives words views i v w q k n new_life near inside long o
 
 -- lives beside a row that grows: the new place is waiting
 pub lives_grow : (t : Told) (good : ℕ → Type 0) (rows lives : List (List ℕ)) (words words' : List ℕ) (views : List View) (i q x : ℕ) (v w : View) → q < 13 → length rows ≡ 13 → length (row_of rows q) < t.limit → LivesOk t good rows lives words views → get_elem? views i ≡ some v
-    → ((p k : ℕ) → p < 13 → get_or words' (life_word t.limit p k) 0 ≡ get_or words (life_word t.limit p k) 0) → ((p : ℕ) → claims_at p w ≤ claims_at p v) → w.lives.learned ≡ v.lives.learned
+    → ((p k : ℕ) → p < 13 → get_or words' (life_word t.limit p k) 0 ≡ get_or words (life_word t.limit p k) 0) → ((p : ℕ) → claims_on p w ≡ claims_on p v) → w.lives.learned ≡ v.lives.learned
     → LivesOk t good (set rows q (row_of rows q ++ x ∷ [])) (set lives q (row_of lives q ++ 0 ∷ [])) words' (set views i w)
 lives_grow t good rows lives words words' views i q x v w near all room o me same less met = let row = row_of rows q in let l = row_of lives q in let r' = row ++ x ∷ [] in let l' = l ++ 0 ∷ [] in let lives' = set lives q l' in let long = o.even q near in
     let at-rows : row_of (set rows q r') q ≡ r' = get_or-set_same rows q r' [] (omega (arith, all, near)) in
@@ -165,7 +176,7 @@ lives_grow t good rows lives words words' views i q x v w near all room o me sam
           (λ p h ne j b. same p j h ∙ o.shown p j h b) p h j;
       fresh = λ p j h. rows_cases lives q l' (λ p y. (j : ℕ) → length y ≤ j → j < t.limit → get_or words' (life_word t.limit p j) 0 ≡ 0) o.all near
           (λ j b c. same q j near ∙ o.fresh q j near (omega (arith, b, length-append l (0 ∷ []))) c) (λ p h ne j b c. same p j h ∙ o.fresh p j h b c) p h j;
-      claimed = λ p j h. subst (λ (y : ℕ). total (claims_at (place_of p j)) (set views i w) ≤ is_claimed y) (sym (reads p j h)) (omega (arith, o.claimed p j h, total-set (claims_at (place_of p j)) views i v w me, less (place_of p j)));
+      claimed = λ p j h. subst (λ (y : ℕ). total (claims_on (place_of p j)) (set views i w) ≡ is_claimed y) (sym (reads p j h)) (omega (arith, o.claimed p j h, total-set (claims_on (place_of p j)) views i v w me, less (place_of p j)));
       four = λ p j h. omega (arith, reads p j h, o.four p j h);
       clean = λ p j h two. let was : get_or (row_of lives p) j 0 ≡ 2 = sym (reads p j h) ∙ two in subst good (sym (kept p j h (there p j h (omega (arith, was)))).1) (o.clean p j h was);
       broken = λ p j h three yes. let was : get_or (row_of lives p) j 0 ≡ 3 = sym (reads p j h) ∙ three in o.broken p j h was (subst good (kept p j h (there p j h (omega (arith, was)))).1 yes);

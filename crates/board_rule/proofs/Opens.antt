@@ -1,5 +1,5 @@
 -- A new board keeps the rule.
-use Rattle.std.proofs.Common.{◌≡◌, ◌≢◌, ℕ, zero, suc, ◌*◌, ◌/◌, ◌%◌, ◌<◌, ◌≤◌, List, [], ◌∷◌, length, get_or, set, replicate, sym, refl, ap, ◌∙◌, subst, inl, ◌⊎◌, arith, length-set, get_or-set_other, get_or-set_same}
+use Rattle.std.proofs.Common.{◌≡◌, ◌≢◌, ℕ, zero, suc, ◌*◌, ◌/◌, ◌%◌, ◌<◌, ◌≤◌, List, [], ◌∷◌, length, get_or, set, replicate, cond, eq-eqb, ne_eqb, sym, refl, ap, ◌∙◌, subst, inl, ◌⊎◌, arith, length-set, get_or-set_other, get_or-set_same}
 use Rattle.std.specs.List.{All}
 use Rattle.std.proofs.lemmas.List.{length-replicate}
 use mathlib.Core.Logic.{dite}
@@ -12,15 +12,16 @@ use Rattle.state_space.specs.Counts.{Outnumbers}
 use Rattle.state_space.proofs.Runs.{reached_start}
 use Rattle.board_rule.specs.Layout.{half, writer, lock_word, length_word, low_word, high_word, life_word, index_word, size_for, place_of, slot}
 use Rattle.board_rule.specs.Lists.{row_of, total}
-use Rattle.board_rule.specs.Lives.{life_of, life_at, unsettled, Passes}
+use Rattle.board_rule.specs.Lives.{life_of, life_at, is_claimed, unsettled, Passes}
 use Rattle.board_rule.specs.Views.{Told}
-use Rattle.board_rule.specs.Rule.{EachSeat, open_lives, SeatOk, Stands, Unfiled, Kept}
+use Rattle.board_rule.specs.Rule.{EachSeat, start_place, open_lives, SeatOk, Stands, Unfiled, Kept}
 use Rattle.board_rule.specs.Changes.{opening_rows, opening_words, first_view}
 use Rattle.board_rule.specs.declared.view.View.{View}
 use Rattle.board_rule.proofs.Sums.{rows_cases, starts-refl, total_set_or}
 use Rattle.board_rule.proofs.Locks.{weight_idle}
 use Rattle.board_rule.proofs.Rows.{seat_free}
 use Rattle.board_rule.proofs.Lives.{claim_none}
+use Rattle.board_rule.proofs.Added.{published_yes, published_no}
 use Rattle.board_rule.proofs.Index.{slot_lt}
 
 zero_at : (n i : ℕ) → get_or {A = ℕ} (replicate n 0) i 0 ≡ 0
@@ -111,13 +112,15 @@ opens t good S wide = let start = t.origin in let limit = t.limit in let q = sta
         reached = each (λ p k x. IsReached t.next start x) (reached_start t.next start);
       };
       seats = only (λ u. SeatOk limit rows words u.rows) (seat_free limit rows words v.rows (length-set nils q (start ∷ [])) (λ p h. starts-refl (row_of rows p)) (omega arith) refl refl refl);
-      added = λ p. omega arith;
+      added = λ p. dite (ℕ_discrete p (start_place start))
+          (λ e. omega (arith, ap {B = ℕ} (λ b. cond b 1 0) (eq-eqb p (start_place start) e), published_yes rows p (let here : p % 13 ≡ q = omega (arith, e) in subst (λ (y : ℕ). p / 13 < length (row_of rows y)) (sym here) (omega (arith, e, ap length row)))))
+          (λ ne. omega (arith, ap {B = ℕ} (λ b. cond b 1 0) (ne_eqb p (start_place start) ne), published_no rows p (rows_cases nils q (start ∷ []) (λ y l. p % 13 ≡ y → length l ≤ p / 13) refl near (λ e. omega (arith, e, ne)) (λ y h other _. omega (arith, empty y)) (p % 13) (omega arith) refl)));
       life = record {
         all = length-set nils q (0 ∷ []);
         even = rows_cases nils q (0 ∷ []) (λ p l. length l ≡ length (row_of rows p)) refl near (sym (ap length row)) (λ p h ne. ap length (sym (get_or-set_other nils q p (start ∷ []) [] ne)));
         shown = λ p k h b. lives_blank p k h (omega (arith, b, lives_short p h)) ∙ sym (each-life p k h);
         fresh = λ p k h b c. lives_blank p k h c;
-        claimed = λ p k h. omega (arith, claim_none v (place_of p k) refl);
+        claimed = λ p k h. omega (arith, claim_none v (place_of p k) refl, ap is_claimed (each-life p k h));
         four = λ p k h. omega (arith, each-life p k h);
         clean = λ p k h e. absurd (omega (arith, e, each-life p k h));
         broken = λ p k h e. absurd (omega (arith, e, each-life p k h));

@@ -50,7 +50,7 @@ pending_stay lives words words' views i v w o me same debts writers = let a = to
     (λ f. let d = o.done i v me (let g : v.pending.finished ≡ 1 = omega (arith, f, ap (λ p. p.finished) debts) in g) in (d.0, omega (arith, a, d.1, ann)))
 
 pub count_turn : (t : Told) (rows rows' : List (List ℕ)) (words words' : List ℕ) (views : List View) (i : ℕ) (v w : View) → CountOk t rows words views → get_elem? views i ≡ some v
-    → get_or words' 1 0 + (w.count.uncounted + total length rows) ≤ get_or words 1 0 + (v.count.uncounted + total length rows') → (w.count.over ≡ 1 → Outnumbers (IsReached t.next t.origin) t.limit) → CountOk t rows' words' (set views i w)
+    → get_or words' 1 0 + (w.count.uncounted + total length rows) ≡ get_or words 1 0 + (v.count.uncounted + total length rows') → (w.count.over ≡ 1 → Outnumbers (IsReached t.next t.origin) t.limit) → CountOk t rows' words' (set views i w)
 count_turn t rows rows' words words' views i v w o me sum over = record {
   count = omega (arith, o.count, sum, total-set (λ u. u.count.uncounted) views i v w me);
   over = seats_turn (λ u. u.count.over ≡ 1 → Outnumbers (IsReached t.next t.origin) t.limit) views i w over (λ j u ne e. o.over j u e);

@@ -7,13 +7,13 @@ use Rattle.atomic_table.proofs.Lists.{at_set}
 use Rattle.board_rule.specs.Layout.{writer, place_of}
 use Rattle.board_rule.specs.Lists.{row_of}
 use Rattle.board_rule.specs.Views.{Told}
-use Rattle.board_rule.specs.Rule.{claims_at, times, Kept}
+use Rattle.board_rule.specs.Rule.{claims_on, times, Kept}
 use Rattle.board_rule.specs.Changes.{impossible, spent}
 use Rattle.board_rule.specs.Plays.{never}
 use Rattle.board_rule.specs.declared.view.View.{View}
 use Rattle.board_rule.proofs.Sums.{terms_le, starts-length}
 use Rattle.board_rule.proofs.Locks.{alone}
-use Rattle.board_rule.proofs.Lives.{is_claimed_low, claim_here}
+use Rattle.board_rule.proofs.Lives.{is_claimed_low}
 use Rattle.board_rule.proofs.Added.{published_low}
 
 module _ (t : Told) (good : ℕ → Type 0) (S : Type 0) where
@@ -38,10 +38,10 @@ module _ (t : Told) (good : ℕ → Type 0) (S : Type 0) where
     clashes_unseen some-right fewer = clash (λ s o me at-w apart. let k = o.seats id v me in
         omega (arith, fewer, ap length (k.whole some-right), starts-length (row_of o.rows v.rows.held) (row_of w.rows.seen v.rows.held) ((o.seats other w at-w).saw v.rows.held k.near)))
 
-    -- two claims on one place
-    pub clashes_claim : (q k : ℕ) → q < 13 → v.lives.claims ≡ 1 → v.lives.place ≡ place_of q k → w.lives.claims ≡ 1 → w.lives.place ≡ place_of q k → Joins Rule id v other w (impossible v w) spent
-    clashes_claim q k near a c d e = clash (λ s o me at-w apart.
-        omega (arith, terms_le (claims_at (place_of q k)) s.views id other v w apart me at-w, o.life.claimed q k near, is_claimed_low (get_or (row_of o.lives q) k 0), claim_here v (place_of q k) c, a, claim_here w (place_of q k) e, d))
+    -- two claims on one place, each had or given up
+    pub clashes_claim : (q k : ℕ) → q < 13 → 1 ≤ claims_on (place_of q k) v → 1 ≤ claims_on (place_of q k) w → Joins Rule id v other w (impossible v w) spent
+    clashes_claim q k near a c = clash (λ s o me at-w apart.
+        omega (arith, terms_le (claims_on (place_of q k)) s.views id other v w apart me at-w, o.life.claimed q k near, is_claimed_low (get_or (row_of o.lives q) k 0), a, c))
 
     -- two authors of one entry
     pub clashes_added : (p : ℕ) → 1 ≤ times p v → 1 ≤ times p w → Joins Rule id v other w (impossible v w) spent

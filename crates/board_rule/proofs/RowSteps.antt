@@ -184,7 +184,7 @@ module _ (t : Told) (good : ℕ → Type 0) (S : Type 0) where
               (λ a u ne e. seat_other t.limit o.rows (set o.rows q r) s.words words' q u.rows (o.seats a u e) (λ is-here. alone s.words s.views id a m.0 u o.locks k.near me e ne b.0 is-here)
               (rows_cases o.rows q r (λ p l. StartsWith l (row_of o.rows p)) o.row.all k.near (x ∷ [], refl) (λ p h np. starts-refl (row_of o.rows p))) (λ p np. get_or-set_other o.rows q p r [] np)
               (λ p a h np f. (far (low_word p a) (omega arith), far (high_word t.limit p a) (omega arith))) (λ p a h np f. far (index_word t.limit p a) (omega arith)));
-          added = added_grow o.rows s.views id q x m.0 w k.near o.row.all o.added me (ap (λ (l : List ℕ). m.0.rows.added ++ place_of q (length l) ∷ []) whole);
+          added = added_grow t.origin o.rows s.views id q x m.0 w k.near o.row.all o.added me (ap (λ (l : List ℕ). m.0.rows.added ++ place_of q (length l) ∷ []) whole);
           life = lives_grow t good o.rows o.lives s.words words' s.views id q x m.0 w k.near o.row.all b.2 o.life me (λ p a h. far (life_word t.limit p a) (omega arith)) (λ p. omega arith) refl;
           pending = pending_turn o.lives (set o.lives q (row_of o.lives q ++ 0 ∷ [])) s.words words' s.views id m.0 w o.pending me
               (omega (arith, get_or-set_other s.words j 0 y 0 (λ e. omega (arith, e)), lives_more unsettled o.lives q 0 (omega (arith, k.near, o.life.all)), one-announced))

@@ -15,7 +15,7 @@ use Rattle.board_rule.specs.Layout.{writer, place_of}
 use Rattle.board_rule.specs.Lists.{row_of, StartsWith, total, is_start, longer, merged, agree}
 use Rattle.board_rule.specs.Lives.{life_of, life_at, Passes}
 use Rattle.board_rule.specs.Views.{Told}
-use Rattle.board_rule.specs.Rule.{EachSeat, weight, times, claims_at, open_lives, SeatOk, Unfiled, Kept}
+use Rattle.board_rule.specs.Rule.{EachSeat, weight, times, claims_on, open_lives, SeatOk, Unfiled, Kept}
 use Rattle.board_rule.specs.Changes.{either_one, joined, fresh_seat, spent}
 use Rattle.board_rule.specs.declared.view.View.{View}
 use Rattle.board_rule.proofs.Sums.{starts-refl, starts-length, total-set, total-append, seats_turn}
@@ -157,7 +157,7 @@ module _ (t : Told) (good : ℕ → Type 0) (S : Type 0) where
           even = o.life.even;
           shown = o.life.shown;
           fresh = o.life.fresh;
-          claimed = λ q j h. omega (arith, o.life.claimed q j h, same (claims_at (place_of q j)) (claim_none u (place_of q j) refl));
+          claimed = λ q j h. omega (arith, o.life.claimed q j h, same (claims_on (place_of q j)) (omega (arith, claim_none u (place_of q j) refl)));
           four = o.life.four;
           clean = o.life.clean;
           broken = o.life.broken;
@@ -217,7 +217,7 @@ module _ (t : Told) (good : ℕ → Type 0) (S : Type 0) where
           even = o.life.even;
           shown = o.life.shown;
           fresh = o.life.fresh;
-          claimed = λ q j h. omega (arith, o.life.claimed q j h, same (claims_at (place_of q j)) refl (claim_none w (place_of q j) no-claim) (claim_none spent (place_of q j) refl));
+          claimed = λ q j h. let p = place_of q j in let mine : claims_on p both ≡ claims_on p v + claims_on p w = omega (arith, total-append (λ x. cond (eqb x p) 1 0) v.lives.given_up w.lives.given_up, claim_none w p no-claim) in omega (arith, o.life.claimed q j h, sum (claims_on p), mine, claim_none spent p refl);
           four = o.life.four;
           clean = o.life.clean;
           broken = o.life.broken;

@@ -1,12 +1,13 @@
 -- Sums over the views, where one of them changes, and rows where one of them grows.
-use Rattle.std.proofs.Common.{◌≡◌, ℕ, zero, suc, ◌+◌, ◌<◌, ◌≤◌, ◌≢◌, List, [], ◌∷◌, ◌++◌, length, set, get_or, take, sym, refl, ap, ◌∙◌, subst, arith, ⊎_elim, append_assoc, length-append, get_or-set_same, get_or-set_other}
+use Rattle.std.proofs.Common.{◌≡◌, ℕ, zero, suc, ◌+◌, ◌<◌, ◌≤◌, ◌≢◌, List, [], ◌∷◌, ◌++◌, length, set, get_or, take, cond, eqb, eq-eqb, sym, refl, ap, ◌∙◌, subst, arith, ⊎_elim, append_assoc, length-append, get_or-set_same, get_or-set_other}
+use Rattle.std.specs.List.{Contains}
 use mathlib.Core.Logic.{dite}
 use native.Mathlib.Decide.{ℕ_discrete, dec_le}
 use Rattle.std.proofs.lemmas.List.{get_or_append_left}
 use mathlib.Core.Option.{some, some-injective, some-ne-none}
 use lib.ListN.{get_elem?}
 use Rattle.board_rule.specs.Lists.{total, StartsWith, row_of}
-use Rattle.board_rule.specs.Rule.{EachSeat}
+use Rattle.board_rule.specs.Rule.{EachSeat, times_among}
 use Rattle.board_rule.specs.declared.view.View.{View}
 use Rattle.atomic_table.proofs.Lists.{at_set}
 
@@ -81,6 +82,13 @@ pub total_term : {A : Type 0} (g : A → ℕ) (l : List A) (k : ℕ) (d : A) →
 total_term g [] k d h = absurd (omega (arith, h))
 total_term g (x ∷ xs) zero d h = omega arith
 total_term g (x ∷ xs) (suc k) d h = omega (arith, total_term g xs k d (omega (arith, h)))
+
+-- a place that is among these is counted
+pub among_at : (places : List ℕ) (k d : ℕ) → k < length places → 1 ≤ times_among (get_or places k d) places
+among_at places k d h = let p = get_or places k d in let one : cond (eqb p p) 1 0 ≡ 1 = ap {B = ℕ} (λ b. cond b 1 0) (eq-eqb p p refl) in omega (arith, one, total_term (λ x. cond (eqb x p) 1 0) places k d h)
+
+pub among : (p : ℕ) (places : List ℕ) → Contains places p → 1 ≤ times_among p places
+among p places has = subst (λ (x : ℕ). 1 ≤ times_among x places) has.2 (among_at places has.0 p has.1)
 
 -- a fact of each seat, after the step of one
 pub seats_turn : (F : View → Type 0) (views : List View) (i : ℕ) (w : View) → F w → ((j : ℕ) (u : View) → j ≢ i → get_elem? views j ≡ some u → F u) → EachSeat F (set views i w)

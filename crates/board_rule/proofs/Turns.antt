@@ -43,7 +43,7 @@ module _ (t : Told) (good : ℕ → Type 0) (S : Type 0) where
     locks = locks;
     row = row;
     seats = seats_turn (λ u. SeatOk t.limit o.rows words' u.rows) s.views id w seat others;
-    added = added_stay o.rows s.views id m.0 w o.added me same;
+    added = added_stay t.origin o.rows s.views id m.0 w o.added me same;
     life = lives_stay t good o.rows o.lives s.words words' s.views id m.0 w o.life me (λ q k h b. get_or-set_other s.words i _ n 0 (off _ (omega arith) (omega (arith, h, b)))) (λ q h. omega (arith, o.life.even q h, o.row.short q h)) (λ p. omega arith) refl;
     pending = pending_stay o.lives s.words words' s.views id m.0 w o.pending me (get_or-set_other s.words i 0 n 0 (λ e. omega (arith, e, high))) refl writers;
     counts = count_turn t o.rows o.rows s.words words' s.views id m.0 w o.counts me (omega (arith, get_or-set_other s.words i 1 n 0 (λ e. omega (arith, e, high)))) (o.counts.over id m.0 me);
@@ -70,7 +70,7 @@ module _ (t : Told) (good : ℕ → Type 0) (S : Type 0) where
         locks = locks_stay s.words words' s.views id m.0 w o.locks me (λ q h. early (lock_word q) (omega arith) (omega (arith, h))) (λ q. omega arith);
         row = rows_stay t o.rows s.words words' o.row (λ q h. early (length_word q) (omega arith) (omega (arith, h))) (λ q k h b. halves q k h (omega (arith, b, o.row.short q h)));
         seats = seats_turn (λ u. SeatOk t.limit o.rows words' u.rows) s.views id w (seat_stay t.limit o.rows s.words words' m.0.rows (o.seats id m.0 me) halves marks) (λ j u ne e. seat_stay t.limit o.rows s.words words' u.rows (o.seats j u e) halves marks);
-        added = added_stay o.rows s.views id m.0 w o.added me refl;
+        added = added_stay t.origin o.rows s.views id m.0 w o.added me refl;
         life = life;
         pending = pending;
         counts = counts;

@@ -40,6 +40,10 @@ with_claim v p life = record v { lives = record v.lives { claims = 1; place = p;
 abbrev pub without_claim : View → View
 without_claim v = record v { lives = record v.lives { claims = 0 } }
 
+-- the claim is given up, where there is one, and its entry stays claimed
+abbrev pub giving_up : View → View
+giving_up v = record v { lives = record v.lives { claims = 0; given_up = v.lives.given_up ++ replicate v.lives.claims v.lives.place } }
+
 -- a board with the start as its one entry
 abbrev pub opening_rows : ℕ → List (List ℕ)
 opening_rows start = slice_set (replicate 13 []) (start % 13) (start ∷ [])
@@ -53,7 +57,7 @@ abbrev pub first_view : ℕ → ℕ → View
 first_view limit start = record {
   limit = limit;
   rows = record { seen = opening_rows start; held = 0; right = 0; low = []; high = []; marks = []; unfiled = 0; added = [] };
-  lives = record { claims = 0; place = 0; learned = [] };
+  lives = record { claims = 0; place = 0; given_up = []; learned = [] };
   pending = record { announced = 0; owed = 0; finished = 0 };
   count = record { uncounted = 0; over = 0 };
 }
@@ -62,7 +66,7 @@ first_view limit start = record {
 abbrev pub fresh_seat : View → View
 fresh_seat v = record v {
   rows = record v.rows { right = 0; low = []; high = []; unfiled = 0; added = [] };
-  lives = record v.lives { claims = 0 };
+  lives = record v.lives { claims = 0; given_up = [] };
   pending = record v.pending { announced = 0; owed = 0 };
   count = record v.count { uncounted = 0 };
 }
@@ -72,7 +76,7 @@ abbrev pub spent : View
 spent = record {
   limit = 0;
   rows = record { seen = replicate 13 []; held = 0; right = 0; low = []; high = []; marks = []; unfiled = 0; added = [] };
-  lives = record { claims = 0; place = 0; learned = [] };
+  lives = record { claims = 0; place = 0; given_up = []; learned = [] };
   pending = record { announced = 0; owed = 0; finished = 0 };
   count = record { uncounted = 0; over = 0 };
 }
@@ -84,7 +88,7 @@ either_one a b = cond (a == 1) a b
 abbrev pub joined : View → View → View
 joined v w = record v {
   rows = record v.rows { seen = merged v.rows.seen w.rows.seen; held = cond (agree v.rows.seen w.rows.seen) v.rows.held 13; added = v.rows.added ++ w.rows.added };
-  lives = record v.lives { learned = v.lives.learned ++ w.lives.learned };
+  lives = record v.lives { given_up = v.lives.given_up ++ w.lives.given_up; learned = v.lives.learned ++ w.lives.learned };
   pending = record v.pending { finished = either_one v.pending.finished w.pending.finished };
   count = record v.count { over = either_one v.count.over w.count.over };
 }

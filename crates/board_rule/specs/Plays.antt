@@ -1,12 +1,12 @@
 -- What each kind of step tells: of the step, the seat before, the number found (at a store the number stored) and the seat after.
 -- The shard or the place of a step is known by its address. A play reads no key of the table, so the load of an entry is told which words are reached.
-use Rattle.std.specs.Prelude.{◌≡◌, ◌≢◌, ℕ, ◌+◌, ◌/◌, ◌%◌, ◌<◌, ◌≤◌, List, [], ◌∷◌, length, slice_index, slice_set, max}
+use Rattle.std.specs.Prelude.{◌≡◌, ◌≢◌, ℕ, ◌+◌, ◌/◌, ◌%◌, ◌<◌, ◌≤◌, List, [], ◌∷◌, length, slice_index, slice_set, max, Contains}
 use Rattle.atomic_table.specs.Table.{Me, Step}
 use Rattle.board_rule.specs.Layout.{writer, half, lock_word, length_word, low_word, high_word, life_word, index_word, place_of}
 use Rattle.board_rule.specs.Lists.{row_of, StartsWith}
 use Rattle.board_rule.specs.Lives.{life_of}
 use Rattle.board_rule.specs.Rule.{Complete}
-use Rattle.board_rule.specs.Changes.{with_seen, with_right, without_right, with_entry, with_learned, with_claim, without_claim}
+use Rattle.board_rule.specs.Changes.{with_seen, with_right, without_right, with_entry, with_learned, with_claim, without_claim, giving_up}
 use Rattle.board_rule.specs.declared.life.Life.TheVariants.{Claimed}
 use Rattle.board_rule.specs.declared.view.View.{View}
 
@@ -91,7 +91,7 @@ module _ {S : Type 0} where
   filed st m r n = (marks : List ℕ) × (n ≡ (record m.0 { rows = record m.0.rows { marks = marks; unfiled = 0 } }, m.1))
 
   abbrev pub claimed : Step S → Me S View → ℕ → Me S View → Type 0
-  claimed st m r n = (n.1 ≡ m.1) × ((q k : ℕ) → st.word ≡ life_word m.0.limit q k → q < 13 → (r ≡ 0 → n.0 ≡ with_claim m.0 (place_of q k) Claimed) × (r ≢ 0 → n.0 ≡ with_learned m.0 (place_of q k) Claimed))
+  claimed st m r n = (n.1 ≡ m.1) × ((q k : ℕ) → st.word ≡ life_word m.0.limit q k → q < 13 → (r ≡ 0 → (n.0 ≡ with_claim m.0 (place_of q k) Claimed) × (Contains m.0.lives.given_up (place_of q k) → ⊥)) × (r ≢ 0 → n.0 ≡ with_learned m.0 (place_of q k) Claimed))
 
   abbrev pub settled : Step S → Me S View → ℕ → Me S View → Type 0
   settled st m r n = n ≡ (record (with_learned (without_claim m.0) m.0.lives.place (life_of r)) { pending = record m.0.pending { owed = m.0.pending.owed + 1 } }, m.1)
@@ -109,8 +109,8 @@ module _ {S : Type 0} where
   counted st m r n = (n.1 ≡ m.1) × (r < m.0.limit → n.0 ≡ record m.0 { count = record m.0.count { uncounted = 0 } }) × (m.0.limit ≤ r → n.0 ≡ record m.0 { count = record m.0.count { uncounted = 0; over = 1 } })
 
   abbrev pub stopped : Step S → Me S View → ℕ → Me S View → Type 0
-  stopped st m r n = n ≡ (without_claim m.0, m.1)
+  stopped st m r n = n ≡ (giving_up m.0, m.1)
 
   -- the stop of a seat that has found a full row
   abbrev pub overflowed : Step S → Me S View → ℕ → Me S View → Type 0
-  overflowed st m r n = n ≡ (record (without_claim m.0) { count = record m.0.count { over = 1 } }, m.1)
+  overflowed st m r n = n ≡ (record (giving_up m.0) { count = record m.0.count { over = 1 } }, m.1)

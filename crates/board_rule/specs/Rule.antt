@@ -50,29 +50,41 @@ pub record SeatOk (limit : ℕ) (rows : List (List ℕ)) (words : List ℕ) (r :
   pub marked : 0 < r.right → length r.marks ≡ limit
   pub marks : 0 < r.right → (j : ℕ) → j < limit → slice_index words (index_word limit r.held j) ≡ slice_index r.marks j
 
+-- how often the place p is among these
+abbrev pub times_among : ℕ → List ℕ → ℕ
+times_among p places = total (λ x. cond (x == p) 1 0) places
+
 -- how often a seat has published the place p
 abbrev pub times : ℕ → View → ℕ
-times p v = total (λ x. cond (x == p) 1 0) v.rows.added
+times p v = times_among p v.rows.added
 
 -- 1 for a place that is published, else 0
 abbrev pub published : List (List ℕ) → ℕ → ℕ
 published rows p = cond (nat_lt (p / 13) (length (row_of rows (p % 13)))) 1 0
 
--- Authors: at most one seat has published a place, and only once.
-abbrev pub AddedOk : List (List ℕ) → List View → Type 0
-AddedOk rows views = (p : ℕ) → total (times p) views ≤ published rows p
+-- the place of the start
+abbrev pub start_place : ℕ → ℕ
+start_place origin = place_of (origin % 13) 0
+
+-- Authors: each place that is published but the start's was published by one seat, once, and no other place was.
+abbrev pub AddedOk : ℕ → List (List ℕ) → List View → Type 0
+AddedOk origin rows views = (p : ℕ) → total (times p) views + cond (p == start_place origin) 1 0 ≡ published rows p
 
 -- what a seat has of the claim on the place p
 abbrev pub claims_at : ℕ → View → ℕ
 claims_at p v = cond (v.lives.place == p) v.lives.claims 0
 
--- Lives: beside each row, with at most one claim on a claimed entry. A settled life is the space's verdict, and the successors of its entry are entries. What was learned of a life stays true.
+-- with the claims that it has given up
+abbrev pub claims_on : ℕ → View → ℕ
+claims_on p v = claims_at p v + times_among p v.lives.given_up
+
+-- Lives: beside each row, with one claim on each claimed entry, which a seat has or has given up, and none on another. A settled life is the space's verdict, and the successors of its entry are entries. What was learned of a life stays true.
 pub record LivesOk (t : Told) (good : ℕ → Type 0) (rows lives : List (List ℕ)) (words : List ℕ) (views : List View) : Type 0 where
   pub all : length lives ≡ 13
   pub even : (q : ℕ) → q < 13 → length (row_of lives q) ≡ length (row_of rows q)
   pub shown : (q k : ℕ) → q < 13 → k < length (row_of lives q) → slice_index words (life_word t.limit q k) ≡ slice_index (row_of lives q) k
   pub fresh : (q k : ℕ) → q < 13 → length (row_of lives q) ≤ k → k < t.limit → slice_index words (life_word t.limit q k) ≡ 0
-  pub claimed : (q k : ℕ) → q < 13 → total (claims_at (place_of q k)) views ≤ is_claimed (slice_index (row_of lives q) k)
+  pub claimed : (q k : ℕ) → q < 13 → total (claims_on (place_of q k)) views ≡ is_claimed (slice_index (row_of lives q) k)
   pub four : (q k : ℕ) → q < 13 → slice_index (row_of lives q) k ≤ 3
   pub clean : (q k : ℕ) → q < 13 → slice_index (row_of lives q) k ≡ 2 → good (slice_index (row_of rows q) k)
   pub broken : (q k : ℕ) → q < 13 → slice_index (row_of lives q) k ≡ 3 → good (slice_index (row_of rows q) k) → ⊥
@@ -90,9 +102,9 @@ pub record PendingOk (lives : List (List ℕ)) (words : List ℕ) (views : List 
   pub by_writers : EachSeat (λ v. v.pending.announced * writer ≤ v.rows.right) views
   pub done : EachSeat (λ v. v.pending.finished ≡ 1 → (open_lives lives ≡ 0) × (total (λ u. u.pending.announced) views ≡ 0)) views
 
--- Count: it is no more than the entries, and a seat that knows over is right.
+-- Count: with what is to be counted yet it is the number of entries, and a seat that knows over is right.
 pub record CountOk (t : Told) (rows : List (List ℕ)) (words : List ℕ) (views : List View) : Type 0 where
-  pub count : slice_index words 1 + total (λ v. v.count.uncounted) views ≤ total length rows
+  pub count : slice_index words 1 + total (λ v. v.count.uncounted) views ≡ total length rows
   pub over : EachSeat (λ v. v.count.over ≡ 1 → Outnumbers (IsReached t.next t.origin) t.limit) views
 
 -- the place k of the word x stands before each zero among the word's index words
@@ -123,7 +135,7 @@ pub record Kept (t : Told) (good : ℕ → Type 0) {S : Type 0} (s : State S Vie
   pub locks : LocksOk s.words s.views
   pub row : RowsOk t rows s.words
   pub seats : EachSeat (λ v. SeatOk t.limit rows s.words v.rows) s.views
-  pub added : AddedOk rows s.views
+  pub added : AddedOk t.origin rows s.views
   pub life : LivesOk t good rows lives s.words s.views
   pub pending : PendingOk lives s.words s.views
   pub counts : CountOk t rows s.words s.views

@@ -30,6 +30,8 @@ pub record OnLives : Type 0 where
   -- 1 with a claim, and the place that was claimed last
   pub claims : ℕ
   pub place : ℕ
+  -- the places whose claims it has given up
+  pub given_up : List ℕ
   -- lives that it met, each with its place
   pub learned : List (ℕ × Life)
 

@@ -15,16 +15,17 @@ use Rattle.board_rule.specs.Lists.{row_of, Has, listed}
 use Rattle.board_rule.specs.Lives.{life_of, unsettled, Passes}
 use Rattle.board_rule.specs.Readings.{entry_of, rows_of, lives_of}
 use Rattle.board_rule.specs.Views.{Told}
-use Rattle.board_rule.specs.Rule.{Kept}
+use Rattle.board_rule.specs.Rule.{times_among, Kept}
 use Rattle.board_rule.specs.declared.life.Life.{Life}
 use Rattle.board_rule.specs.declared.life.Life.TheVariants.{Waiting, Claimed, Clean, Broken}
 use Rattle.board_rule.specs.declared.view.View.{View}
 use Rattle.board_rule.proofs.Readings.{rows_read, lives_read}
 use Rattle.board_rule.proofs.LockSteps.{listed-length, listed_at}
 use Rattle.board_rule.proofs.Bounds.{flat_entries, flat_has}
-use Rattle.board_rule.proofs.LifeSteps.{claimed_life}
+use Rattle.board_rule.proofs.LifeSteps.{claimed_life, given_up_life}
 use Rattle.board_rule.proofs.Pending.{lives_term, unsettled_low}
-use Rattle.board_rule.proofs.Added.{added_there, times_in}
+use Rattle.board_rule.proofs.Added.{added_there}
+use Rattle.board_rule.proofs.Sums.{among_at}
 use Rattle.seen_board.specs.Ended.{Ended, ended, life_of_entry, life_in, IsReadable, IsSettled, Entries, Settled, Done}
 use Rattle.seen_board.specs.Clauses.{SeesOn}
 
@@ -122,11 +123,15 @@ module _ (t : Told) (good : ℕ → Type 0) (S : Type 0) (id : ℕ) (v : View) (
   pub end_claimed : v.lives.claims ≡ 1 → life_in (ended t.limit words) v.lives.place ≡ Claimed
   end_claimed has = over (λ z. life_in z v.lives.place ≡ Claimed) (ap life_of (claimed_life t good S s o id (v.lives.place % 13) (v.lives.place / 13) v (omega arith) e.1.1 has (omega arith)))
 
+  pub end_given_up : All (λ p. life_in (ended t.limit words) p ≡ Claimed) v.lives.given_up
+  end_given_up = over (λ z. All (λ p. life_in z p ≡ Claimed) v.lives.given_up) (λ k d h. let p = get_or v.lives.given_up k d in
+      ap life_of (given_up_life t good S s o id (p % 13) (p / 13) v (omega arith) e.1.1 (subst (λ (x : ℕ). 1 ≤ times_among x v.lives.given_up) (omega arith) (among_at v.lives.given_up k d h))))
+
   pub end_learned : All (λ met. Passes met.1 (life_in (ended t.limit words) met.0)) v.lives.learned
   end_learned = over (λ z. All (λ met. Passes met.1 (life_in z met.0)) v.lives.learned) (o.life.learned id v e.1.1)
 
   pub end_added : All (λ p. p / 13 < length (row_of (ended t.limit words).rows (p % 13))) v.rows.added
-  end_added = over (λ z. All (λ p. p / 13 < length (row_of z.rows (p % 13))) v.rows.added) (λ k d h. added_there o.rows s.views id (get_or v.rows.added k d) v o.added e.1.1 (times_in v k d h))
+  end_added = over (λ z. All (λ p. p / 13 < length (row_of z.rows (p % 13))) v.rows.added) (λ k d h. added_there t.origin o.rows s.views id (get_or v.rows.added k d) v o.added e.1.1 (among_at v.rows.added k d h))
 
   pub end_over : v.count.over ≡ 1 → Outnumbers (IsReached t.next t.origin) t.limit
   end_over f = o.counts.over id v e.1.1 f

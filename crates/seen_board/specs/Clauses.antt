@@ -1,5 +1,5 @@
 -- What clauses say of seats and places.
-use Rattle.std.specs.Prelude.{◌≡◌, ◌≢◌, ℕ, ◌<◌, ◌≤◌, Bool, cond, List, [], ◌∷◌, ◌++◌, length, slice_index, ◌%◌}
+use Rattle.std.specs.Prelude.{◌≡◌, ◌≢◌, ◌⊎◌, ℕ, ◌<◌, ◌≤◌, Bool, cond, List, [], ◌∷◌, ◌++◌, length, slice_index, replicate, ◌%◌, Contains}
 use Rattle.board_rule.specs.Layout.{writer, place_of}
 use Rattle.board_rule.specs.Changes.{either_one}
 use Rattle.board_rule.specs.declared.life.Life.{Life}
@@ -32,6 +32,14 @@ Writes s q = (s.held ≡ q) × (s.right ≡ writer)
 abbrev pub HasClaim : Known → Place → Type 0
 HasClaim s place = (s.claims ≡ 1) × (s.place ≡ number place)
 
+-- the seat has the claim of the place, or has given it up
+abbrev pub HasOrGaveUp : Known → Place → Type 0
+HasOrGaveUp s place = HasClaim s place ⊎ Contains s.given_up (number place)
+
+-- the seat's claim ends, where it has one, and the place is noted: its entry stays claimed
+abbrev pub giving_up : Known → Known
+giving_up s = record s { claims = 0; given_up = s.given_up ++ replicate s.claims s.place }
+
 -- what was seen is a beginning of what is seen now
 abbrev pub SeesOn : List (List ℕ) → List (List ℕ) → Type 0
 SeesOn seen rows = (q : ℕ) → q < 13 → StartsWith (row_of rows q) (row_of seen q)
@@ -61,7 +69,7 @@ settled_as good = cond good Clean Broken
 
 -- what two seats know together, with what they have seen
 abbrev pub both_known : Known → Known → List (List ℕ) → Known
-both_known s u seen = record s { seen = seen; learned = s.learned ++ u.learned; added = s.added ++ u.added; finished = either_one s.finished u.finished; over = either_one s.over u.over }
+both_known s u seen = record s { seen = seen; given_up = s.given_up ++ u.given_up; learned = s.learned ++ u.learned; added = s.added ++ u.added; finished = either_one s.finished u.finished; over = either_one s.over u.over }
 
 -- the rows have the place
 abbrev pub HasPlace : List (List ℕ) → Place → Type 0

@@ -26,6 +26,8 @@ pub record Known : Type 0 where
   -- 1 with a claim, and the place that was claimed last
   pub claims : ℕ
   pub place : ℕ
+  -- the places whose claims it has given up: their entries stay claimed
+  pub given_up : List ℕ
   -- lives that it met, each with its place
   pub learned : List (ℕ × Life)
   -- the places that it has put words in
@@ -44,6 +46,7 @@ known_of id v = record {
   held = v.rows.held;
   claims = v.lives.claims;
   place = v.lives.place;
+  given_up = v.lives.given_up;
   learned = v.lives.learned;
   added = v.rows.added;
   finished = v.pending.finished;

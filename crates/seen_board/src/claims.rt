@@ -23,12 +23,13 @@ const BROKEN: u64 = 3;
 
 impl<S: Space, A: Allocator> Board<S, A> {
     /// Claims an entry that the seat has seen: true exactly where this step found it waiting. Either way the seat
-    /// learns that it is not waiting any more.
+    /// learns that it is not waiting any more. An entry whose claim was given up is not claimed again.
     pub fn claim(&self, seat: &mut BoardSeat, place: Place) -> bool
         requires seat { IsOf self.now seat.old }
         requires none { seat.old.claims ≡ 0 }
         requires seen { HasPlace seat.old.seen place }
         ensures yes { result ≡ true → seat.new ≡ record (having_met seat.old place Claimed) { claims = 1; place = number place } }
+        ensures once { result ≡ true → Contains seat.old.given_up (number place) → ⊥ }
         ensures no { result ≡ false → seat.new ≡ having_met seat.old place Claimed }
     {
         let life = self.layout.life(place.shard, place.at as usize);

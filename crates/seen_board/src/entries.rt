@@ -1,5 +1,5 @@
 //! Reading the entries that a seat has seen.
-ghost use Rattle.std.specs.Prelude.{◌≡◌, ℕ, ◌<◌, ◌≤◌, ◌/◌, ◌%◌, length, slice_index};
+ghost use Rattle.std.specs.Prelude.{◌≡◌, ℕ, ◌<◌, ◌/◌, ◌%◌, length, slice_index};
 ghost use Rattle.state_space.specs.Reach.{IsReached};
 ghost use Rattle.board_rule.specs.Layout.{half};
 ghost use Rattle.board_rule.specs.Lists.{row_of};

@@ -1,6 +1,6 @@
 //! Reading that all is finished, and telling the others to stop.
 ghost use Rattle.std.specs.Prelude.{◌≡◌, true, false};
-ghost use Rattle.seen_board.specs.Clauses.{IsOf};
+ghost use Rattle.seen_board.specs.Clauses.{IsOf, giving_up};
 
 use crate::board::Board;
 use crate::layout::{PENDING, STOP};
@@ -20,10 +20,11 @@ impl<S: Space, A: Allocator> Board<S, A> {
         self.table.shared.load::<End>(&mut seat.seat, PENDING) == 0
     }
 
-    /// Tells the other seats to stop, which is a hint alone. The seat's claim ends, and its entry stays claimed.
+    /// Tells the other seats to stop, which is a hint alone. The seat gives its claim up, and its entry stays claimed for
+    /// good.
     pub fn stop(&self, seat: &mut BoardSeat)
         requires seat { IsOf self.now seat.old }
-        ensures { seat.new ≡ record seat.old { claims = 0 } }
+        ensures { seat.new ≡ giving_up seat.old }
     {
         self.table.shared.store::<Stop>(&mut seat.seat, STOP, 1);
     }

@@ -1,7 +1,7 @@
 //! Putting words in, each a successor of the one that the seat has claimed.
 ghost use Rattle.std.specs.Prelude.{◌≡◌, ◌%◌, ◌≤◌, length};
 ghost use Rattle.board_rule.specs.Lists.{row_of};
-ghost use Rattle.seen_board.specs.Clauses.{IsOf, IsAtRest, Lacks, LacksBelow, Writes};
+ghost use Rattle.seen_board.specs.Clauses.{IsOf, IsAtRest, Lacks, LacksBelow, Writes, giving_up};
 ghost use Rattle.seen_board.specs.Inserts.{IsSuccessor, Returns, PutOk, LookedOk};
 ghost use Rattle.seen_board.specs.Seats.{IsSought};
 
@@ -34,7 +34,7 @@ impl<S: Space, A: Allocator> Board<S, A> {
         }
     }
 
-    /// Tells that a full row lacks a word that is reached. The stop is set, and the claim ends.
+    /// Tells that a full row lacks a word that is reached. The stop is set, and the claim is given up.
     fn overflow(&self, seat: &mut BoardSeat, sought: Sought)
         requires seat { IsOf self.now seat.old }
         requires sought { IsSought self.now.limit sought }
@@ -42,7 +42,7 @@ impl<S: Space, A: Allocator> Board<S, A> {
         requires successor { IsSuccessor (S.successors self.now.space) seat.old sought.word }
         requires full { self.now.limit ≤ length (row_of seat.old.seen sought.shard) }
         requires absent { Lacks (row_of seat.old.seen sought.shard) sought.word }
-        ensures { seat.new ≡ record seat.old { claims = 0; over = 1 } }
+        ensures { seat.new ≡ record (giving_up seat.old) { over = 1 } }
     {
         self.table.shared.store::<Overflow>(&mut seat.seat, STOP, 1);
     }
@@ -77,7 +77,7 @@ impl<S: Space, A: Allocator> Board<S, A> {
     ///
     /// After `New` and `Known` the seat has seen the word at that place; `New` put it in, `Known` and `Busy` put nothing
     /// in, and all three leave the claim. After `Over` the seat knows that more words than the limit are reached, the
-    /// stop is set, the claim has ended and its entry stays claimed; the word may have been put in.
+    /// stop is set, the claim is given up and its entry stays claimed for good; the word may have been put in.
     pub fn try_insert(&self, seat: &mut BoardSeat, word: u128) -> Put
         requires seat { IsAtRest self.now seat.old }
         requires successor { IsSuccessor (S.successors self.now.space) seat.old word }

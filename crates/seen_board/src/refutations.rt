@@ -2,7 +2,7 @@
 ghost use Rattle.std.specs.Prelude.{◌≡◌, ◌<◌, length, Contains};
 ghost use Rattle.board_rule.specs.Layout.{writer};
 ghost use Rattle.board_rule.specs.Lists.{row_of};
-ghost use Rattle.seen_board.specs.Clauses.{IsOf, HasRight, HasClaim, number};
+ghost use Rattle.seen_board.specs.Clauses.{IsOf, HasRight, HasOrGaveUp, number};
 
 use crate::answers::Place;
 use crate::board::Board;
@@ -49,11 +49,11 @@ impl<S: Space, A: Allocator> Board<S, A> {
         self.table.shared.load::<Never>(&mut seat, PENDING);
     }
 
-    /// No two seats have the claim of one entry.
+    /// No two seats have the claim of one entry, and none has one that another has given up, or two have given up.
     pub fn refute_two_claims(&self, claiming: BoardSeat, other: BoardSeat, place: Place)
         requires place { place.shard < 13 }
-        requires claiming { IsOf self.now claiming × HasClaim claiming place }
-        requires other { IsOf self.now other × HasClaim other place }
+        requires claiming { IsOf self.now claiming × HasOrGaveUp claiming place }
+        requires other { IsOf self.now other × HasOrGaveUp other place }
         ensures { ⊥ }
     {
         let BoardSeat {

@@ -33,7 +33,7 @@ impl<S: Space, A: Allocator> Board<S, A> {
     pub fn split(&self, seat: &mut BoardSeat) -> BoardSeat
         requires seat { IsOf self.now seat.old }
         ensures same { seat.new ≡ seat.old }
-        ensures new { result ≡ record seat.old { right = 0; claims = 0; added = [] } }
+        ensures new { result ≡ record seat.old { right = 0; claims = 0; given_up = []; added = [] } }
     {
         let counts = seat.counts;
         BoardSeat {
@@ -69,6 +69,7 @@ impl<S: Space, A: Allocator> Board<S, A> {
         ensures entries { Entries (S.successors self.space) (S.initial self.space) self.limit result.rows }
         ensures settled { Settled (S.successors self.space) (S.is_good self.space) result }
         ensures claimed { seat.claims ≡ 1 → life_in result seat.place ≡ Claimed }
+        ensures given_up { All (λ p. life_in result p ≡ Claimed) seat.given_up }
         ensures learned { All (λ met. Passes met.1 (life_in result met.0)) seat.learned }
         ensures added { All (λ p. p / 13 < length (row_of result.rows (p % 13))) seat.added }
         ensures finished { seat.finished ≡ 1 → Done (S.successors self.space) (S.initial self.space) result }

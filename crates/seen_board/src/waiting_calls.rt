@@ -1,5 +1,5 @@
 //! The calls that try until the answer is not Busy. That they return is not promised.
-ghost use Rattle.std.specs.Prelude.{◌≡◌, ◌≢◌, ◌<◌, ◌%◌};
+ghost use Rattle.std.specs.Prelude.{◌≢◌, ◌<◌, ◌%◌};
 ghost use Rattle.board_rule.specs.Layout.{writer};
 ghost use Rattle.board_rule.specs.Lists.{row_of};
 ghost use Rattle.seen_board.specs.Clauses.{IsAtRest, Gains, LacksBelow};

@@ -1,4 +1,4 @@
-use Rattle.seen_board.proofs.Endings.{end_seen, end_whole, end_entries, end_settled, end_claimed, end_learned, end_added, end_done, end_over}
+use Rattle.seen_board.proofs.Endings.{end_seen, end_whole, end_entries, end_settled, end_claimed, end_given_up, end_learned, end_added, end_done, end_over}
 use Rattle.seen_board.proofs.board.Board.close.Goals as goal
 
 pub returns-clause-seen : goal.returns-clause-seen
@@ -15,6 +15,9 @@ returns-clause-settled g c = rw (← c.self.view_is) (end_settled _ _ _ _ _ _ _ 
 
 pub returns-clause-claimed : goal.returns-clause-claimed
 returns-clause-claimed g c = rw (← c.seat.view_is) (end_claimed _ _ _ _ _ _ _ (rw c.self.invariant.2 at c.close_with.ensures.values.2))
+
+pub returns-clause-given_up : goal.returns-clause-given_up
+returns-clause-given_up g c = rw (← c.seat.view_is) (end_given_up _ _ _ _ _ _ _ (rw c.self.invariant.2 at c.close_with.ensures.values.2))
 
 pub returns-clause-learned : goal.returns-clause-learned
 returns-clause-learned g c = rw (← c.seat.view_is) (end_learned _ _ _ _ _ _ _ (rw c.self.invariant.2 at c.close_with.ensures.values.2))

@@ -1,7 +1,7 @@
 use Rattle.std.proofs.Common.{arith, ap, subst, ◌∙◌, ◌≡◌, ◌<◌, ℕ, length, get_or}
 use Rattle.board_rule.specs.Layout.{writer}
 use Rattle.board_rule.specs.Lists.{row_of}
-use Rattle.seen_board.specs.Clauses.{Gains, Lacks}
+use Rattle.seen_board.specs.Clauses.{Gains, Lacks, giving_up}
 use Rattle.seen_board.specs.Known.{Known}
 use Rattle.seen_board.proofs.AfterInserts.{before_lacks, gains_successor, put_known, put_over, put_added}
 use Rattle.seen_board.proofs.board.Board.insert_writing.Goals as goal
@@ -21,7 +21,7 @@ pub returns-in-Some : goal.returns-in-Some
 returns-in-Some g c = record { put = put_known c.args.seat.now c.try_write.new.seat c.give.new.seat writer c.args.sought.shard c.args.sought.word record { shard = c.args.sought.shard; at = c.in-Some.at } (c.try_write.ensures.right c.in-Right.is) (c.give.ensures ∙ ap (λ (s : Known). record s { right = 0 }) c.look_from.ensures.same) ((omega (arith, c.requires.sought.0), c.in-Some.ensures.found.0), c.in-Some.ensures.found.1, c.requires.sought.0) }
 
 pub returns-then-seat-shard : goal.returns-then-seat-shard
-returns-then-seat-shard g c = let same : c.overflow.new.seat ≡ record c.try_write.new.seat { claims = 0; over = 1 } = rw c.look_from.ensures.same at c.overflow.ensures in
+returns-then-seat-shard g c = let same : c.overflow.new.seat ≡ record (giving_up c.try_write.new.seat) { over = 1 } = rw c.look_from.ensures.same at c.overflow.ensures in
     record { put = put_over c.args.seat.now c.try_write.new.seat c.give-then-seat-shard.new.seat writer c.args.sought.shard c.args.sought.word (c.try_write.ensures.right c.in-Right.is) (rw same at c.give-then-seat-shard.ensures) }
 
 pub returns : goal.returns
