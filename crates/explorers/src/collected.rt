@@ -8,12 +8,9 @@ ghost use Rattle.explorers.specs.Entries.{IsBrokenBefore, AreDistinct, AreShort}
 
 use patch_sets::explored::{ExploreFault, Explored};
 use patch_sets::order::in_order;
-use seen_board::{Contents, Life, Place};
+use seen_board::{Contents, Life, Place, SHARDS};
 use state_space::Space;
 use std::alloc::{AllocError, Allocator};
-
-/// The shards of a board.
-const SHARDS: u8 = 13;
 
 /// How many words are reached and which of them are not good, from a finished board.
 pub(crate) fn collect<S: Space, A: Allocator + Copy>(
@@ -47,7 +44,7 @@ fn count_entries<A: Allocator>(contents: &Contents<A>) -> usize
     ensures { result ≡ length (concat contents.now.rows) }
 {
     let mut total = 0;
-    for shard in 0..SHARDS {
+    for shard in 0..SHARDS as u8 {
         total += contents.len(shard);
     }
     total
@@ -63,7 +60,7 @@ fn broken_words<A: Allocator + Copy>(
     ensures { IfOk result (λ broken. IsListOf (IsBrokenBefore contents.now 13 0) broken.items) }
 {
     let mut broken = Vec::new(alloc);
-    for shard in 0..SHARDS {
+    for shard in 0..SHARDS as u8 {
         push_broken(contents, shard, &mut broken)?;
     }
     Ok(broken)

@@ -10,7 +10,7 @@ use crate::gate::Gate;
 use crate::met::meet;
 use crate::tasks::Task;
 use crate::worker::Worker;
-use seen_board::{Place, Put};
+use seen_board::{Place, Put, shard_of};
 use state_space::Space;
 use std::alloc::{AllocError, Allocator};
 use std::sync::Wait;
@@ -101,7 +101,7 @@ impl<S: Space, G: Gate, A: Allocator + Copy> Exploration<'_, S, G, A> {
         if mine.met.words.contains(&word) {
             return Ok(Turn::Within);
         }
-        let shard = (word % 13) as u8;
+        let shard = shard_of(word);
         let from = mine.met.counts[shard as usize];
         match self.board.insert_from(rt, &mut mine.seat, from, word) {
             Put::New(place) => {

@@ -8,13 +8,10 @@ ghost use Rattle.explorers.specs.declared.exploration.Turn.TheVariants as turn;
 use crate::exploration::{Exploration, Turn};
 use crate::gate::Gate;
 use crate::worker::Worker;
-use seen_board::{Board, BoardSeat, Place};
+use seen_board::{Board, BoardSeat, Place, SHARDS};
 use state_space::Space;
 use std::alloc::{AllocError, Allocator};
 use std::sync::Wait;
-
-/// The shards of a board.
-const SHARDS: u8 = 13;
 
 impl<S: Space, G: Gate, A: Allocator + Copy> Exploration<'_, S, G, A> {
     /// Looks at each shard once, and expands what the worker claims there.
@@ -27,7 +24,7 @@ impl<S: Space, G: Gate, A: Allocator + Copy> Exploration<'_, S, G, A> {
         ensures ready { IsReady self.now.board.now self.now.space.now S.is_own mine.new }
         ensures over { IfOk result (λ t. t ≡ turn.Over → mine.new.seat.over ≡ 1) }
     {
-        for shard in 0..SHARDS {
+        for shard in 0..SHARDS as u8 {
             if let Turn::Over = self.search_shard(rt, mine, shard)? {
                 return Ok(Turn::Over);
             }

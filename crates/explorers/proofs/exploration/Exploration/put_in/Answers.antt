@@ -18,7 +18,9 @@ returns-then-contains-clause-within g c = λ _. record {
 }
 
 pub insert_from-requires-clause-before : goal.insert_from-requires-clause-before
-insert_from-requires-clause-before g c = unmet_lacks c.args.mine.now.met.words.keys c.args.mine.now.met.counts c.args.mine.now.seat.seen c.args.word c.requires.free.met (unmet_if c.args.mine.now.met.words c.args.word c.contains.result c.contains.ensures c.if-contains.false)
+insert_from-requires-clause-before g c =
+    rw c.shard_of-shard.ensures (unmet_lacks c.args.mine.now.met.words.keys c.args.mine.now.met.counts c.args.mine.now.seat.seen c.args.word c.requires.free.met
+    (unmet_if c.args.mine.now.met.words c.args.word c.contains.result c.contains.ensures c.if-contains.false))
 
 pub returns-then-is_err-clause-free : goal.returns-then-is_err-clause-free
 returns-then-is_err-clause-free g c = record {
