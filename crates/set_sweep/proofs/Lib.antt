@@ -1,0 +1,5 @@
+pub mod Lists
+pub mod Needs
+pub mod Parts
+pub mod Picks
+pub mod Roots

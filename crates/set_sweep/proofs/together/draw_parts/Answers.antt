@@ -1,0 +1,17 @@
+use Rattle.std.proofs.Common.{◌<◌, length, arith, sym, subst}
+use Rattle.std.specs.List.{All}
+use Rattle.std.proofs.lemmas.List.Elements.{All-push}
+use Rattle.set_sweep.specs.Sweeps.{IsDone}
+use Rattle.set_sweep.proofs.together.draw_parts.Goals as goal
+
+pub loop-preserved : goal.loop-preserved
+loop-preserved g c =
+    let deps = c.args.sweeper.now.deps.now in
+    let tells = g.V.Visitor.tells c.args.sweeper.now.visitor.now in
+    let roots = c.args.roots.now in
+    let inside : c.fetch_add-at.result < length roots = omega (arith, c.if-at-roots.false) in
+    record {
+      own = c.in_ok-part.ensures.own;
+      done = subst (All (λ done. IsDone tells deps c.args.low roots done.at done.part.total done.part.tally)) (sym c.in_ok-push.ensures.items)
+          (All-push (λ done. IsDone tells deps c.args.low roots done.at done.part.total done.part.tally) c.loop.all.items _ c.loop.invariant.done record { known = inside; swept = c.in_ok-part.ensures.swept });
+    }

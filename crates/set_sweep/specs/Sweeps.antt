@@ -1,0 +1,99 @@
+-- Sweeping over the closed sets of a graph in ascending number.
+use Rattle.std.specs.Prelude.{◌≡◌, ◌↔◌, ℕ, ◌+◌, ◌<◌, ◌≤◌, ◌^◌, ◌*◌, ◌/◌, List, Option, length, slice_index, slice_index_or, IfSome, count_ones}
+use Rattle.std.specs.List.{All, AllPairs, Contains}
+use Rattle.patch_sets.specs.Sets.{Has, IsSubset}
+use Rattle.patch_sets.specs.Closed.{IsClosed}
+use Rattle.set_sweep.specs.declared.sweeping.Part.{Part}
+
+-- the list has the words of which P holds, and no others, in ascending order
+pub record IsAscendingListOf (P : ℕ → Type 0) (words : List ℕ) : Type 0 where
+  pub ascend : AllPairs (λ a b. a < b) words
+  pub each : All P words
+  pub every : (word : ℕ) → P word → Contains words word
+
+-- a tally tells of all closed sets of a graph in ascending order, of which there are so many
+pub record IsSweep {T : Type 0} (tells : List ℕ → T → Type 0) (deps : List ℕ) (total : ℕ) (tally : T) : Type 0 where
+  pub sets : List ℕ
+  pub closed : IsAscendingListOf (IsClosed deps) sets
+  pub counted : length sets ≡ total
+  pub told : tells sets tally
+
+-- the picked sets are those of the others of which P holds, and stand in ascending order where the others do
+pub record IsPickOf (P : ℕ → Type 0) (sets picked : List ℕ) : Type 0 where
+  pub exactly : (set : ℕ) → (Contains picked set ↔ (Contains sets set × P set))
+  pub ascend : AllPairs (λ a b. a < b) sets → AllPairs (λ a b. a < b) picked
+
+-- the smallest closed set that has the id
+pub record IsClosure (deps : List ℕ) (id closure : ℕ) : Type 0 where
+  pub closed : IsClosed deps closure
+  pub inside : Has closure id
+  pub low : closure < 2 ^ (id + 1)
+  pub least : (set : ℕ) → IsClosed deps set → Has set id → IsSubset closure set
+
+-- for each id below n its closure
+abbrev pub AreClosuresTo : List ℕ → ℕ → List ℕ → Type 0
+AreClosuresTo deps n closures = (id : ℕ) → id < n → IsClosure deps id (slice_index closures id)
+
+-- for each id of the graph its closure
+pub record AreClosures (deps closures : List ℕ) : Type 0 where
+  pub long : length deps ≤ length closures
+  pub each : AreClosuresTo deps (length deps) closures
+
+-- the lowest id from `id` on that the set lacks
+pub record IsNextOut (set id next : ℕ) : Type 0 where
+  pub from : id ≤ next
+  pub out : ¬ (Has set next)
+  pub between : (q : ℕ) → id ≤ q → q < next → Has set q
+
+-- a closed set that holds whatever closed set agrees with it from id k on must hold
+pub record IsRoot (deps : List ℕ) (k set : ℕ) : Type 0 where
+  pub closed : IsClosed deps set
+  pub least : (other : ℕ) → IsClosed deps other → other / 2 ^ k ≡ set / 2 ^ k → IsSubset set other
+
+-- the first number after those that agree with the set from id k on
+abbrev pub part_end : ℕ → ℕ → ℕ
+part_end set k = (set / 2 ^ k + 1) * 2 ^ k
+
+-- the closed sets whose numbers lie from one number to below another
+pub record IsClosedIn (deps : List ℕ) (from to set : ℕ) : Type 0 where
+  pub closed : IsClosed deps set
+  pub above : from ≤ set
+  pub below : set < to
+
+-- a tally tells of those closed sets in ascending order, of which there are so many
+pub record AreSwept {T : Type 0} (tells : List ℕ → T → Type 0) (deps : List ℕ) (from to count : ℕ) (tally : T) : Type 0 where
+  pub ascends : from ≤ to
+  pub sets : List ℕ
+  pub closed : IsAscendingListOf (IsClosedIn deps from to) sets
+  pub counted : length sets ≡ count
+  pub told : tells sets tally
+
+-- there are so many of those closed sets
+abbrev pub AreCounted : List ℕ → ℕ → ℕ → ℕ → Type 0
+AreCounted deps from to count = AreSwept {T = Unit {0}} (λ sets tally. Unit {0}) deps from to count (tt {0})
+
+-- Sets that cut the closed sets below a number into parts: a part has those that agree with its root from id `low` on.
+pub record AreParts (deps : List ℕ) (low to : ℕ) (roots : List ℕ) : Type 0 where
+  pub each : All (IsRoot deps low) roots
+  pub ascend : AllPairs (λ a b. a / 2 ^ low < b / 2 ^ low) roots
+  pub below : All (λ root. part_end root low ≤ to) roots
+  pub cover : (set : ℕ) → IsClosed deps set → set < to → (j : ℕ) × (j < length roots) × (slice_index roots j / 2 ^ low ≡ set / 2 ^ low)
+
+-- the same of the part with a root
+abbrev pub IsPartSwept : {T : Type 0} → (List ℕ → T → Type 0) → List ℕ → ℕ → ℕ → ℕ → T → Type 0
+IsPartSwept tells deps low root count tally = AreSwept tells deps root (part_end root low) count tally
+
+-- the same of the part at a place
+pub record IsDone {T : Type 0} (tells : List ℕ → T → Type 0) (deps : List ℕ) (low : ℕ) (roots : List ℕ) (at count : ℕ) (tally : T) : Type 0 where
+  pub known : at < length roots
+  pub swept : IsPartSwept tells deps low (slice_index roots at) count tally
+
+-- at each place is what was visited of the part there, or nothing
+abbrev pub ArePlaced : {T : Type 0} → (List ℕ → T → Type 0) → List ℕ → ℕ → List ℕ → List (Option (Part T)) → Type 0
+ArePlaced tells deps low roots places = (at : ℕ) (d : _) → at < length places → IfSome (slice_index_or places at d) (λ part. IsPartSwept tells deps low (slice_index roots at) part.total part.tally)
+
+-- rows for 0 to 128 ids: each has those of the sets with as many ids, in the order of the sets
+pub record AreRows {Row : Type 0} (items : Row → List ℕ) (sets : List ℕ) (rows : List Row) : Type 0 where
+  pub long : length rows ≡ 129
+  pub small : All (λ set. count_ones set < 129) sets
+  pub each : (ids : ℕ) (d : Row) → ids < 129 → IsPickOf (λ set. count_ones set ≡ ids) sets (items (slice_index_or rows ids d))

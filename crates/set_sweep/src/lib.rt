@@ -1,0 +1,23 @@
+//! The closed sets of a graph, each visited once in ascending number, with no table of sets.
+//!
+//! Each patch depends on patches with smaller ids, so a closed set is reached in exactly one way by adding ids, each
+//! with what it needs, in ascending number: the walk adds an id only below the last one that was added. (Enumeration
+//! of the order ideals of a partially ordered set, as by G. Steiner, "An algorithm to generate the ideals of a partial
+//! order", 1986.)
+#![tactic(auto)]
+
+mod closing;
+mod counting;
+mod failing;
+mod joining;
+mod ordering;
+mod parting;
+mod sharing;
+mod sweeping;
+mod together;
+mod visitor;
+
+pub use counting::count_closed;
+pub use failing::sweep;
+pub use together::{Swept, sweep_with};
+pub use visitor::Visitor;

@@ -1,0 +1,237 @@
+//! The sweep of many workers.
+ghost use Rattle.std.specs.Prelude.{◌≡◌, ℕ, ◌<◌, ◌≤◌, ◌^◌, length, IfOk, IsErrOf};
+ghost use Rattle.std.specs.List.{All};
+ghost use Rattle.state_space.specs.Counts.{Outnumbers};
+ghost use Rattle.patch_sets.specs.Closed.{AreEarlier, IsClosed};
+ghost use Rattle.set_sweep.specs.Sweeps.{AreParts, IsSweep, IsDone};
+
+use crate::closing::closures;
+use crate::counting::CountAlone;
+use crate::joining::join_parts;
+use crate::parting::{Parts, parts_of};
+use crate::sharing::{Job, share};
+use crate::sweeping::{Part, Sweeper};
+use crate::visitor::Visitor;
+use patch_sets::explored::ExploreFault;
+use std::alloc::{AllocError, Allocator};
+use std::sync::atomic::{AtomicUsize, Ordering};
+use std::thread::Threads;
+
+/// How many parts there are for each worker: enough that all are busy to the end.
+const PARTS: usize = 64;
+
+/// How many sets were visited, and what was kept of them.
+#[derive(Drop)]
+pub struct Swept<T> {
+    pub total: usize,
+    pub tally: T,
+}
+
+/// Visits each closed set of a graph once, with 1 to 16 workers.
+///
+/// For every number of workers and every schedule, an answer other than out of memory is the one that is defined without
+/// threads: the tally of all closed sets in ascending number, or that they are more than the limit. They are counted
+/// before any is visited.
+pub fn sweep_with<R, A, V>(
+    rt: &R,
+    alloc: A,
+    visitor: &V,
+    deps: &[u128],
+    limit: usize,
+    workers: usize,
+) -> Result<Swept<V::Tally>, ExploreFault>
+where
+    R: Threads + Sync,
+    A: Allocator + Copy + Send + Sync,
+    V: Visitor + Sync,
+    V::Scratch: Send,
+    V::Tally: Send,
+    requires few { length deps.now < 127 }
+    requires earlier { AreEarlier deps.now }
+    requires lawful { (set : ℕ) → IsClosed deps.now set → V.is_lawful visitor.now set }
+    requires workers { (1 ≤ workers) × (workers ≤ 16) }
+
+    ensures swept { IfOk result (λ swept. IsSweep (V.tells visitor.now) deps.now swept.total swept.tally) }
+    ensures within { IfOk result (λ swept. swept.total ≤ limit) }
+    ensures too_many { IsErrOf result ExploreFault.TooMany → Outnumbers (IsClosed deps.now) limit }
+{
+    let closures = closures(deps);
+    let parts = parts_of(alloc, deps, &closures, PARTS * workers)?;
+    let counter = Sweeper {
+        visitor: &CountAlone,
+        deps,
+        closures: &closures,
+        limit,
+    };
+    sweep_all(rt, alloc, &counter, &parts, workers)?;
+    let sweeper = Sweeper {
+        visitor,
+        deps,
+        closures: &closures,
+        limit,
+    };
+    sweep_all(rt, alloc, &sweeper, &parts, workers)
+}
+
+/// Sweeps over all parts with many workers.
+fn sweep_all<R, A, V>(
+    rt: &R,
+    alloc: A,
+    sweeper: &Sweeper<'_, V>,
+    parts: &Parts<A>,
+    workers: usize,
+) -> Result<Swept<V::Tally>, ExploreFault>
+where
+    R: Threads + Sync,
+    A: Allocator + Copy + Send + Sync,
+    V: Visitor + Sync,
+    V::Scratch: Send,
+    V::Tally: Send,
+    requires known { parts.now.low ≤ length sweeper.now.deps.now }
+    requires parts { AreParts sweeper.now.deps.now parts.now.low (2 ^ length sweeper.now.deps.now) parts.now.roots.items }
+    requires lawful { (set : ℕ) → IsClosed sweeper.now.deps.now set → V.is_lawful sweeper.now.visitor.now set }
+    ensures swept { IfOk result (λ swept. IsSweep (V.tells sweeper.now.visitor.now) sweeper.now.deps.now swept.total swept.tally) }
+    ensures within { IfOk result (λ swept. swept.total ≤ sweeper.now.limit) }
+    ensures too_many { IsErrOf result ExploreFault.TooMany → Outnumbers (IsClosed sweeper.now.deps.now) sweeper.now.limit }
+{
+    let scratches = new_scratches(alloc, sweeper.visitor, workers)?;
+    let done = sweep_parts(rt, alloc, sweeper, parts.low, &parts.roots, scratches)?;
+    join_parts(alloc, sweeper, parts.low, &parts.roots, done)
+}
+
+/// A scratch for each worker.
+fn new_scratches<A: Allocator + Copy, V: Visitor>(
+    alloc: A,
+    visitor: &V,
+    workers: usize,
+) -> Result<Vec<V::Scratch, A>, AllocError>
+    ensures { IfOk result (λ scratches. All (V.is_own visitor.now) scratches.items) }
+{
+    let mut scratches = Vec::new(alloc);
+    for _ in 0..workers {
+        let scratch = visitor.scratch()?;
+        scratches.push(scratch)?;
+    }
+    Ok(scratches)
+}
+
+/// What was visited of the part at a place.
+#[derive(Drop)]
+pub(crate) struct Done<T> {
+    pub at: usize,
+    pub part: Part<T>,
+}
+
+/// Sweeping over parts, of which each worker draws one after another.
+#[derive(Drop)]
+struct Sweeping<'a, V: Visitor, A: Allocator + Copy> {
+    sweeper: &'a Sweeper<'a, V>,
+    low: usize,
+    roots: &'a [u128],
+    next: &'a AtomicUsize,
+    seen: &'a AtomicUsize,
+    alloc: A,
+}
+
+impl<'a, V: Visitor, A: Allocator + Copy> Job for Sweeping<'a, V, A> {
+    type Worker = V::Scratch;
+
+    type Left = Result<Vec<Done<V::Tally>, A>, ExploreFault>;
+
+    ghost use Rattle.std.specs.Prelude.{ℕ, ◌^◌, ◌≤◌, length, IfOk, IsErrOf};
+    ghost use Rattle.std.specs.List.{All};
+    ghost use Rattle.state_space.specs.Counts.{Outnumbers};
+    ghost use Rattle.patch_sets.specs.Closed.{IsClosed};
+    ghost use Rattle.patch_sets.specs.declared.explored.ExploreFault.TheVariants as fault;
+    ghost use Rattle.set_sweep.specs.Sweeps.{AreParts, IsDone};
+
+    ghost is_ready = { λ j scratch. (j.low ≤ length j.sweeper.now.deps.now) × AreParts j.sweeper.now.deps.now j.low (2 ^ length j.sweeper.now.deps.now) j.roots.now × ((set : ℕ) → IsClosed j.sweeper.now.deps.now set → V.is_lawful j.sweeper.now.visitor.now set) × V.is_own j.sweeper.now.visitor.now scratch };
+
+    ghost is_left = { λ j left. IfOk left (λ all. All (λ done. IsDone (V.tells j.sweeper.now.visitor.now) j.sweeper.now.deps.now j.low j.roots.now done.at done.part.total done.part.tally) all.items) × (IsErrOf left fault.TooMany → Outnumbers (IsClosed j.sweeper.now.deps.now) j.sweeper.now.limit) };
+
+    fn work(&self, scratch: V::Scratch) -> Result<Vec<Done<V::Tally>, A>, ExploreFault> {
+        draw_parts(
+            self.alloc,
+            self.sweeper,
+            self.low,
+            self.roots,
+            self.next,
+            self.seen,
+            scratch,
+        )
+    }
+}
+
+/// Draws one part after another by their places, and sweeps over it. It stops where more sets than the limit were seen.
+fn draw_parts<A: Allocator + Copy, V: Visitor>(
+    alloc: A,
+    sweeper: &Sweeper<'_, V>,
+    low: usize,
+    roots: &[u128],
+    next: &AtomicUsize,
+    seen: &AtomicUsize,
+    mut scratch: V::Scratch,
+) -> Result<Vec<Done<V::Tally>, A>, ExploreFault>
+    requires known { low ≤ length sweeper.now.deps.now }
+    requires parts { AreParts sweeper.now.deps.now low (2 ^ length sweeper.now.deps.now) roots.now }
+    requires lawful { (set : ℕ) → IsClosed sweeper.now.deps.now set → V.is_lawful sweeper.now.visitor.now set }
+    requires own { V.is_own sweeper.now.visitor.now scratch }
+    ensures done { IfOk result (λ all. All (λ done. IsDone (V.tells sweeper.now.visitor.now) sweeper.now.deps.now low roots.now done.at done.part.total done.part.tally) all.items) }
+    ensures too_many { IsErrOf result ExploreFault.TooMany → Outnumbers (IsClosed sweeper.now.deps.now) sweeper.now.limit }
+{
+    let mut all = Vec::new(alloc);
+    for _ in 0..roots.len() {
+        let at = next.fetch_add(1, Ordering::SeqCst);
+        if at >= roots.len() {
+            break;
+        }
+        if seen.load(Ordering::SeqCst) > sweeper.limit {
+            break;
+        }
+        let part = sweeper.sweep_part(&mut scratch, low, roots[at])?;
+        seen.fetch_add(part.total, Ordering::SeqCst);
+        all.push(Done { at, part })?;
+    }
+    Ok(all)
+}
+
+/// The workers sweep over the parts side by side.
+fn sweep_parts<R, A, V>(
+    rt: &R,
+    alloc: A,
+    sweeper: &Sweeper<'_, V>,
+    low: usize,
+    roots: &[u128],
+    scratches: Vec<V::Scratch, A>,
+) -> Result<Vec<Done<V::Tally>, A>, ExploreFault>
+where
+    R: Threads + Sync,
+    A: Allocator + Copy + Send + Sync,
+    V: Visitor + Sync,
+    V::Scratch: Send,
+    V::Tally: Send,
+    requires known { low ≤ length sweeper.now.deps.now }
+    requires parts { AreParts sweeper.now.deps.now low (2 ^ length sweeper.now.deps.now) roots.now }
+    requires lawful { (set : ℕ) → IsClosed sweeper.now.deps.now set → V.is_lawful sweeper.now.visitor.now set }
+    requires own { All (V.is_own sweeper.now.visitor.now) scratches.items }
+    ensures done { IfOk result (λ all. All (λ done. IsDone (V.tells sweeper.now.visitor.now) sweeper.now.deps.now low roots.now done.at done.part.total done.part.tally) all.items) }
+    ensures too_many { IsErrOf result ExploreFault.TooMany → Outnumbers (IsClosed sweeper.now.deps.now) sweeper.now.limit }
+{
+    let next = AtomicUsize::new(0);
+    let seen = AtomicUsize::new(0);
+    let sweeping = Sweeping {
+        sweeper,
+        low,
+        roots,
+        next: &next,
+        seen: &seen,
+        alloc,
+    };
+    let mut lefts = share(rt, &sweeping, scratches)?;
+    let mut all = Vec::new(alloc);
+    while let Some(left) = lefts.pop() {
+        let mut left = left?;
+        all.append(&mut left)?;
+    }
+    Ok(all)
+}
