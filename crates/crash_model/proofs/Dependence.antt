@@ -1,7 +1,6 @@
 -- Which dependencies more rules keep.
-use Rattle.std.proofs.Common.{◌≡◌, List, Bool, true, false, ◌||◌, ℕ, length, ◌<◌, arith, refl, sym, ap, ◌∙◌}
-use Rattle.std.specs.Prelude.{All, slice_index_or}
-use Rattle.std.specs.List.{Any, Contains, list_any}
+use Rattle.std.proofs.Common.{◌≡◌, List, Bool, true, false, ◌||◌, ℕ, refl, ap, ◌∙◌}
+use Rattle.std.specs.List.{Contains, list_any}
 use Rattle.std.proofs.lemmas.List.Elements.{All-contains}
 use Rattle.std.proofs.lemmas.List.Folds.{Any-from_list_any, list_any_at}
 use Rattle.crash_model.specs.Patches.{overlap}

@@ -19,7 +19,7 @@ use Rattle.crash_model.specs.declared.rules.Part.TheVariants.{InPlace, FileData,
 use Rattle.crash_model.specs.declared.rules.Rule.{Rule}
 use Rattle.crash_model.specs.declared.patches.Patch.{Patch}
 use Rattle.crash_model.specs.declared.steps.Module.{Module}
-use Rattle.crash_model.specs.declared.steps.Module.TheVariants.{Async, Soft, Meta, Full}
+use Rattle.crash_model.specs.declared.steps.Module.TheVariants.{Meta, Full}
 use Rattle.crash_model.specs.declared.steps.Act.{Act}
 use Rattle.crash_model.specs.declared.steps.Act.TheVariants.{Do, Group, End, Depend}
 use Rattle.crash_model.specs.declared.steps.Step.{Step}

@@ -1,5 +1,5 @@
 -- A trace under the full journal as a log.
-use Rattle.std.specs.Prelude.{◌≡◌, ℕ, ◌+◌, ◌<◌, List, [], ◌∷◌, ◌++◌, length, true, Option, Some, Ok, slice_get}
+use Rattle.std.specs.Prelude.{◌≡◌, ℕ, ◌+◌, ◌<◌, List, [], ◌∷◌, ◌++◌, length, true, Some, Ok, slice_get}
 use Rattle.crash_model.specs.Disk.{Disk, IsDisk}
 use Rattle.patch_sets.specs.Sets.{has}
 use Rattle.crash_model.specs.Sound.{IsSound}

@@ -1,6 +1,5 @@
 -- Logs with patches more, some after others.
 use Rattle.std.proofs.Common.{◌≡◌, ℕ, zero, suc, ◌+◌, ◌<◌, ◌≤◌, List, [], ◌∷◌, ◌++◌, length, map, take, drop, get_or, Bool, true, false, cond, not, ◌||◌, arith, refl, sym, ◌∙◌, ap, subst, append_assoc, append-nil, length-append}
-use Rattle.std.specs.Prelude.{Option}
 use Rattle.std.specs.List.{filter, list_any}
 use Rattle.std.proofs.lemmas.List.{take_more, length-map, length-take-le, map_push, take-append-drop, take_all}
 use Rattle.crash_model.specs.Disk.{Disk, block_of}

@@ -1,6 +1,6 @@
 use Rattle.std.proofs.Common.{◌≡◌, ◌∙◌, [], ◌∷◌, ℕ, List, true, false, Bool, sym, ap, subst, map, take, ◌+◌}
 use Rattle.crash_model.specs.declared.rules.Part.TheVariants as part
-use Rattle.crash_model.specs.Trace.{Emitted, part_of, plain}
+use Rattle.crash_model.specs.Trace.{part_of}
 use Rattle.crash_model.specs.declared.plans.Change.{Change}
 use Rattle.crash_model.specs.declared.steps.Module.{Module}
 use Rattle.std.specs.List.{filter}

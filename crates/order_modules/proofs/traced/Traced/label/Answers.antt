@@ -1,7 +1,6 @@
-use Rattle.std.proofs.Common.{◌≡◌, List, Some, sym, ap, ◌∙◌, subst}
+use Rattle.std.proofs.Common.{◌≡◌, List, Some, ap, ◌∙◌, subst}
 use Rattle.std.specs.Prelude.{slice_get}
 use Rattle.crash_model.specs.Patches.{places_of}
-use Rattle.crash_model.specs.Trace.{Emitted}
 use Rattle.order_modules.specs.Traced.{TracedPatches}
 use Rattle.order_modules.specs.declared.labels.Label.{Label}
 use Rattle.order_modules.proofs.Labelled.{label_read}
