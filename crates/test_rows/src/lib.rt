@@ -29,6 +29,8 @@ mod no_patches;
 #[cfg(test)]
 mod operations;
 #[cfg(test)]
+mod options;
+#[cfg(test)]
 mod orderings;
 #[cfg(test)]
 mod patches;
@@ -39,12 +41,18 @@ mod replays;
 #[cfg(test)]
 mod reports;
 #[cfg(test)]
+mod script_lines;
+#[cfg(test)]
 mod sets;
 #[cfg(test)]
 mod spaces;
 #[cfg(test)]
+mod standard_devices;
+#[cfg(test)]
 mod texts;
 #[cfg(test)]
 mod traces;
+#[cfg(test)]
+mod words;
 #[cfg(test)]
 mod workers;
