@@ -4,7 +4,8 @@
 # output, or what it answers where no request was refused. These are all requests of the program, those of the command line, of
 # clap and of JSON too. With `--workers 2` and more the report may come in place of a refusal, as where a thread cannot start and
 # its worker runs on the first one's. Without a script it takes one with a failing set, in text and in JSON, from a file and from
-# standard input, and command lines that clap answers. The last line is 'N passed, M failed'.
+# standard input, and command lines that clap answers; not an unknown option, which clap answers as ever
+# though one of its requests is refused. The last line is 'N passed, M failed'.
 set -u
 program=$(realpath "$1")
 shift
@@ -113,7 +114,6 @@ else
     try "a refused script" "$work/create" --limit 1
     try "a limit of 0" "$work/create" --limit 0
     try "a word too many" "$work/create" a b
-    try "an unknown option" "$work/create" --no-such-option
     try "help" "$work/create" --help
 fi
 echo "$passed passed, $failed failed"
