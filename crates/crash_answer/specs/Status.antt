@@ -1,8 +1,13 @@
 -- What an exit status tells.
-use Rattle.std.specs.Prelude.{ℕ, ◌<◌, List, Option}
+use Rattle.std.specs.Prelude.{ℕ, ◌<◌, List, Option, Some, None}
+use Rattle.command_line.specs.declared.Call.{Call}
 use Rattle.crash_text.specs.Served.{IsServed}
 use Rattle.crash_model.specs.declared.settings.Settings.{Settings}
 
--- the whole report on the script's bytes, with at least one failing set
-abbrev pub IsServedFailing : List ℕ → Settings → Option (List ℕ) → Option (List ℕ) → Type 0
-IsServedFailing bytes settings before behind = (failing : ℕ) × (0 < failing) × IsServed bytes settings failing before behind
+-- the bytes of the call's script, where they are known: those of the source, and none of a file
+abbrev pub script_of : Call → Option (List ℕ) → Option (List ℕ)
+script_of call coming = elim call.script [ Some name ↦ None | None ↦ coming ]
+
+-- the whole report on the script, with at least one failing set
+abbrev pub IsServedFailing : Option (List ℕ) → Settings → Option (List ℕ) → Option (List ℕ) → Type 0
+IsServedFailing script settings before behind = (failing : ℕ) × (0 < failing) × IsServed script settings failing before behind

@@ -1,10 +1,11 @@
 //! All that the program does, over any reader and writers.
 #![tactic(auto)]
 
-ghost use Rattle.std.specs.Prelude.{◌≡◌, ◌-◌, ◌^◌, ◌<◌, ◌≤◌, None, IfOk, IfSome};
+ghost use Rattle.std.specs.Prelude.{◌≡◌, ◌+◌, ◌-◌, ◌^◌, ◌<◌, ◌≤◌, ◌⊎◌, IsSome, IfOk, OnErr};
+ghost use Rattle.std.specs.Io.KnownBytes.{Keeps};
 ghost use Rattle.command_line.specs.Ranges.{IsInRanges};
 ghost use Rattle.crash_text.specs.Served.{IsServed};
-ghost use Rattle.crash_answer.specs.Status.{IsServedFailing};
+ghost use Rattle.crash_answer.specs.Status.{IsServedFailing, script_of};
 
 use clap::error::ErrorKind;
 use command_line::{Call, settings_of};
@@ -27,7 +28,8 @@ const REFUSED: u8 = 2;
 /// Answers a command line, and gives the exit status: 0 with no failing set, 1 with at least one, 2 with a refusal.
 ///
 /// `words` stand without the program's name. It reads the script that they name, else `input`, writes the report to `out`,
-/// and a refusal, as one line, or a fault of the command line to `err`. A request for help is printed on `out`, with status 0.
+/// and a refusal, as one line, or a fault of the command line to `err`. A request for help or for the version is printed on `out`, with
+/// status 0.
 /// `heap` is what the command line and JSON take memory from, whose crates take no other, and `alloc` serves the rest.
 pub fn answer<'a, R, A, I, O, E>(
     rt: &R,
@@ -57,7 +59,9 @@ where
 
 /// Serves the script that the call names, else the source, prints a refusal to `err`, and gives the exit status.
 ///
-/// For a script of the source, 0 and 1 stand for its whole report in the sink: 0 where no set fails, 1 where one does.
+/// 0 and 1 stand for the whole report on the script in the sink: 0 where no set fails, 1 where one does. With 2 the sink
+/// took nothing, unless it failed itself. A named file's bytes are not known: the report is on the bytes that it gave, and
+/// the source is not read.
 pub fn answer_call<R, A, S, K, E>(
     rt: &R,
     heap: Global,
@@ -77,8 +81,10 @@ where
     requires source { S.failures source.old < 2 ^ 64 - 1 }
     requires sink { K.failures sink.old < 2 ^ 64 - 1 }
     ensures known { result ≤ 2 }
-    ensures clean { result ≡ 0 → call.now.script ≡ None → IfSome (S.coming source.old) (λ bytes. IsServed bytes call.now.settings 0 (K.taken sink.old) (K.taken sink.new)) }
-    ensures failing { result ≡ 1 → call.now.script ≡ None → IfSome (S.coming source.old) (λ bytes. IsServedFailing bytes call.now.settings (K.taken sink.old) (K.taken sink.new)) }
+    ensures clean { result ≡ 0 → IsServed (script_of call.now (S.coming source.old)) call.now.settings 0 (K.taken sink.old) (K.taken sink.new) }
+    ensures failing { result ≡ 1 → IsServedFailing (script_of call.now (S.coming source.old)) call.now.settings (K.taken sink.old) (K.taken sink.new) }
+    ensures refused { result ≡ 2 → Keeps (K.taken sink.old) (K.taken sink.new) ⊎ (K.failures sink.new ≡ K.failures sink.old + 1) }
+    ensures unread { IsSome call.now.script → source.new ≡ source.old }
 {
     match serve_call(rt, heap, alloc, call, source, sink) {
         Ok(0) => 0,
@@ -104,7 +110,9 @@ where
     requires call { IsInRanges call.now }
     requires source { S.failures source.old < 2 ^ 64 - 1 }
     requires sink { K.failures sink.old < 2 ^ 64 - 1 }
-    ensures { call.now.script ≡ None → IfOk result (λ failing. IfSome (S.coming source.old) (λ bytes. IsServed bytes call.now.settings failing (K.taken sink.old) (K.taken sink.new))) }
+    ensures served { IfOk result (λ failing. IsServed (script_of call.now (S.coming source.old)) call.now.settings failing (K.taken sink.old) (K.taken sink.new)) }
+    ensures refused { OnErr result (Keeps (K.taken sink.old) (K.taken sink.new) ⊎ (K.failures sink.new ≡ K.failures sink.old + 1)) }
+    ensures unread { IsSome call.now.script → source.new ≡ source.old }
 {
     let (settings, workers) = (&call.settings, call.workers);
     match call.script {
@@ -119,12 +127,24 @@ where
     }
 }
 
+/// Why a script's file is not opened.
 fn open_fault(error: io::Error) -> RunFault {
     if error.kind() == io::ErrorKind::OutOfMemory {
         RunFault::OutOfMemory
     } else {
         RunFault::CannotRead
     }
+}
+
+/// Prints why std gave no words of the command line, as one line: memory was refused, or else a word is not UTF-8.
+pub fn refuse_words<E: Write>(err: &mut E, error: &io::Error) -> u8
+    ensures { result ≡ 2 }
+{
+    if error.kind() == io::ErrorKind::OutOfMemory {
+        return refuse(err, RunFault::OutOfMemory);
+    }
+    let _ = err.write_all(b"error: invalid UTF-8 was detected in one or more arguments\n");
+    REFUSED
 }
 
 /// Prints a refusal as one line. Where that fails too, the status is the same.
@@ -138,7 +158,7 @@ pub fn refuse<E: Write>(err: &mut E, fault: RunFault) -> u8
     REFUSED
 }
 
-/// Prints what `clap` says of a command line: help on `out`, a fault on `err`.
+/// Prints what `clap` says of a command line: help and the version on `out`, a fault on `err`.
 fn tell<O: Write, E: Write>(out: &mut O, err: &mut E, error: clap::Error) -> u8
     ensures { result ≤ 2 }
 {

@@ -1,5 +1,5 @@
 -- Lists made number by number: when they are empty, and how long they are.
-use Rattle.std.proofs.Common.{◌≡◌, ℕ, zero, suc, ◌+◌, ◌<◌, ◌≤◌, List, [], ◌++◌, length, Option, Some, None, arith, refl, length-append}
+use Rattle.std.proofs.Common.{◌≡◌, ℕ, zero, suc, ◌<◌, ◌≤◌, List, [], length, Option, Some, None, arith, refl, length-append}
 use Rattle.std.specs.Prelude.{option_to_list}
 use Rattle.crash_model.specs.Lists.{each_below, some_below}
 

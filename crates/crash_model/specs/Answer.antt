@@ -1,7 +1,10 @@
 -- What a run answers, from a script's bytes and the settings. No worker and no order of discovery is in it.
-use Rattle.std.specs.Prelude.{◌≡◌, ℕ, ◌≤◌, ◌⊎◌, List, length, Result, Ok, Err}
+use Rattle.std.specs.Prelude.{◌≡◌, ℕ, ◌≤◌, List, length, Ok, Err, All}
+use Rattle.patch_sets.specs.Machine.{LeadTo, CanLeave}
 use Rattle.patch_sets.specs.Sets.{AreAllInOrder}
+use Rattle.patch_sets.specs.Writes.{events_of}
 use Rattle.crash_model.specs.Disk.{Disk, formatted, IsGeometry}
+use Rattle.crash_model.specs.Patches.{deps_of, homes_of}
 use Rattle.crash_model.specs.Refusals.{run_of_script, run_of_trace}
 use Rattle.crash_model.specs.Trace.{Tracing, begun, traced, based, IsGraphOf}
 use Rattle.crash_model.specs.Failing.{IsFailing, CountsClosed, ExceedsLimit}
@@ -20,39 +23,49 @@ pub data Answer : Type 0 where
   Refused : RunFault → Answer
   Reported : List ℕ → ℕ → Answer
 
--- the report on a graph: all failing sets in canonical order
+-- the disk at the start line, and the steps behind it
+pub record HasBase (bytes : List ℕ) (settings : Settings) (base : Disk) (steps : List Step) : Type 0 where
+  pub before : List Step
+  pub read : IsScript bytes before steps
+  pub geometry : IsGeometry settings.blocks settings.journal
+  pub built : based (formatted settings.blocks settings.journal) before ≡ Ok base
+
+-- the graph of the patches of those steps
+pub record HasGraph (bytes : List ℕ) (settings : Settings) (base : Disk) (patches : List Patch) : Type 0 where
+  pub steps : List Step
+  pub start : HasBase bytes settings base steps
+  pub last : Tracing
+  pub run : traced settings.module (begun base) steps ≡ Ok last
+  pub graph : IsGraphOf settings.module base last patches
+
+-- the report on a graph: all failing sets in canonical order, each of which a crash can leave by the block writes told of it
 pub record IsReport (settings : Settings) (base : Disk) (patches : List Patch) (text : List ℕ) (failing : ℕ) : Type 0 where
   pub total : ℕ
   pub counted : CountsClosed patches total
   pub within : total ≤ settings.limit
   pub sets : List ℕ
   pub exactly : AreAllInOrder (IsFailing base patches) sets
+  pub left : All (CanLeave (deps_of patches) (homes_of patches)) sets
   pub number : failing ≡ length sets
   pub sections : List Section
   pub told : AreSections base patches sets sections
+  pub lead : All (λ s. LeadTo (deps_of patches) (homes_of patches) (events_of s.writes) s.set) sections
   pub whole : text ≡ report settings.json settings.module (length patches) total sections
 
--- a refusal where the closed sets outnumber the limit, else the report
-abbrev pub IsGraphAnswer : Settings → Disk → List Patch → Answer → Type 0
-IsGraphAnswer settings base patches (Refused fault) = ExceedsLimit patches settings.limit × (fault ≡ TooMany)
-IsGraphAnswer settings base patches (Reported text failing) = IsReport settings base patches text failing
-
-abbrev pub IsTracedAnswer : Settings → Disk → Result Tracing TraceFault → Answer → Type 0
-IsTracedAnswer settings base (Err fault) answer = answer ≡ Refused (run_of_trace fault)
-IsTracedAnswer settings base (Ok s) answer = (patches : List Patch) × IsGraphOf settings.module base s patches × IsGraphAnswer settings base patches answer
-
-abbrev pub IsBaseAnswer : Settings → Result Disk TraceFault → List Step → Answer → Type 0
-IsBaseAnswer settings (Err fault) steps answer = answer ≡ Refused (run_of_trace fault)
-IsBaseAnswer settings (Ok base) steps answer = IsTracedAnswer settings base (traced settings.module (begun base) steps) answer
-
--- the answer about a script's steps
-abbrev pub IsStepsAnswer : Settings → List Step → List Step → Answer → Type 0
-IsStepsAnswer settings base steps answer =
-    ((¬ (IsGeometry settings.blocks settings.journal)) × (answer ≡ Refused BadGeometry))
-    ⊎ (IsGeometry settings.blocks settings.journal × IsBaseAnswer settings (based (formatted settings.blocks settings.journal) base) steps answer)
-
--- the answer about a script
-abbrev pub IsAnswer : List ℕ → Settings → Answer → Type 0
-IsAnswer bytes settings answer =
-    ((fault : ScriptFault) × IsScriptRefusal bytes fault × (answer ≡ Refused (run_of_script fault)))
-    ⊎ ((base : List Step) × (steps : List Step) × IsScript bytes base steps × IsStepsAnswer settings base steps answer)
+-- the answer about a script: the first of these six that holds
+pub data IsAnswer (bytes : List ℕ) (settings : Settings) : Answer → Type 0 where
+  bad_script : (fault : ScriptFault) → IsScriptRefusal bytes fault
+      → IsAnswer bytes settings (Refused (run_of_script fault))
+  bad_geometry : (before steps : List Step) → IsScript bytes before steps → ¬ (IsGeometry settings.blocks settings.journal)
+      → IsAnswer bytes settings (Refused BadGeometry)
+  bad_base : (before steps : List Step) (fault : TraceFault) → IsScript bytes before steps → IsGeometry settings.blocks settings.journal
+      → based (formatted settings.blocks settings.journal) before ≡ Err fault
+      → IsAnswer bytes settings (Refused (run_of_trace fault))
+  bad_trace : (base : Disk) (steps : List Step) (fault : TraceFault) → HasBase bytes settings base steps
+      → traced settings.module (begun base) steps ≡ Err fault
+      → IsAnswer bytes settings (Refused (run_of_trace fault))
+  too_many : (base : Disk) (patches : List Patch) → HasGraph bytes settings base patches → ExceedsLimit patches settings.limit
+      → IsAnswer bytes settings (Refused TooMany)
+  reported : (base : Disk) (patches : List Patch) (text : List ℕ) (failing : ℕ) → HasGraph bytes settings base patches
+      → IsReport settings base patches text failing
+      → IsAnswer bytes settings (Reported text failing)

@@ -1,6 +1,7 @@
 pub mod Lists
 pub mod Names
 pub mod Refusals
+pub mod RefusalLine
 pub mod Disk
 pub mod Layout
 pub mod Faults

@@ -1,5 +1,5 @@
--- Which line a refusal carries, and what a run's refusal is made of.
-use Rattle.std.specs.Prelude.{ℕ, Option, Some, None}
+-- What a run's refusal is made of.
+use Rattle.std.specs.Prelude.{ℕ}
 use Rattle.crash_model.specs.declared.refusals.FsFault.{FsFault}
 use Rattle.crash_model.specs.declared.refusals.FsFault.TheVariants as fs
 use Rattle.crash_model.specs.declared.refusals.TraceFault.{TraceFault}
@@ -44,29 +44,3 @@ run_of_script (script.BadLine line) = run.BadLine line
 run_of_script (script.BadPath line) = run.BadPath line
 run_of_script (script.NoStart line) = run.NoStart line
 run_of_script script.OutOfMemory = run.OutOfMemory
-
--- the line that a refusal carries
-abbrev pub run_line : RunFault → Option ℕ
-run_line run.BadGeometry = None
-run_line (run.TooManyPatches line) = Some line
-run_line (run.NotFound line) = Some line
-run_line (run.NotADirectory line) = Some line
-run_line (run.Exists line) = Some line
-run_line (run.NotAFile line) = Some line
-run_line (run.NotEmpty line) = Some line
-run_line (run.NoInode line) = Some line
-run_line (run.NoBlock line) = Some line
-run_line (run.DirectoryFull line) = Some line
-run_line (run.FileFull line) = Some line
-run_line (run.LinksFull line) = Some line
-run_line (run.JournalFull line) = Some line
-run_line (run.GroupFault line) = Some line
-run_line run.TooMany = None
-run_line (run.BadUtf8 line) = Some line
-run_line (run.BadLine line) = Some line
-run_line (run.BadPath line) = Some line
-run_line (run.NoStart line) = Some line
-run_line run.CannotRead = None
-run_line run.CannotWrite = None
-run_line run.ScriptTooLong = None
-run_line run.OutOfMemory = None

@@ -1,33 +1,27 @@
 //! Refusals. Each has a number, a name and a text; its `Display` writes the number, a space and the text.
+//!
+//! Numbers and texts stand once, in `RunFault`; what a single layer refuses is shown as the run's refusal that it becomes.
 
 ghost use Rattle.std.specs.Prelude.{◌≡◌, ℕ, Some, None};
-ghost use Rattle.crash_model.specs.Refusals.{trace_fault, run_line};
+ghost use Rattle.crash_model.specs.RefusalLine.{line_of};
+ghost use Rattle.crash_model.specs.Refusals.{trace_fault};
 
 use std::alloc::{AllocError, AllocFailed};
 use thiserror::Error;
 
 /// Why an operation is refused on an image.
 #[derive(Clone, Copy, Debug, PartialEq, Eq, Error)]
+#[error("{}", self.at_line(0))]
 pub enum FsFault {
-    #[error("10 not found")]
     NotFound,
-    #[error("11 not a directory")]
     NotADirectory,
-    #[error("12 exists")]
     Exists,
-    #[error("13 not a file")]
     NotAFile,
-    #[error("14 not empty")]
     NotEmpty,
-    #[error("15 no free inode")]
     NoInode,
-    #[error("16 no free block")]
     NoBlock,
-    #[error("17 directory full")]
     DirectoryFull,
-    #[error("18 file full")]
     FileFull,
-    #[error("19 too many links")]
     LinksFull,
 }
 
@@ -53,34 +47,21 @@ impl FsFault {
 
 /// Why a step is refused, and its line, from 1; or out of memory.
 #[derive(Clone, Copy, Debug, PartialEq, Eq, Error)]
+#[error("{}", RunFault::from(*self))]
 pub enum TraceFault {
-    #[error("2 too many patches")]
     TooManyPatches { line: usize },
-    #[error("10 not found")]
     NotFound { line: usize },
-    #[error("11 not a directory")]
     NotADirectory { line: usize },
-    #[error("12 exists")]
     Exists { line: usize },
-    #[error("13 not a file")]
     NotAFile { line: usize },
-    #[error("14 not empty")]
     NotEmpty { line: usize },
-    #[error("15 no free inode")]
     NoInode { line: usize },
-    #[error("16 no free block")]
     NoBlock { line: usize },
-    #[error("17 directory full")]
     DirectoryFull { line: usize },
-    #[error("18 file full")]
     FileFull { line: usize },
-    #[error("19 too many links")]
     LinksFull { line: usize },
-    #[error("20 journal full")]
     JournalFull { line: usize },
-    #[error("21 group fault")]
     GroupFault { line: usize },
-    #[error("99 out of memory")]
     OutOfMemory,
 }
 
@@ -88,16 +69,12 @@ pub enum TraceFault {
 ///
 /// A script without a start line is refused at the number of its lines plus 1.
 #[derive(Clone, Copy, Debug, PartialEq, Eq, Error)]
+#[error("{}", RunFault::from(*self))]
 pub enum ScriptFault {
-    #[error("40 not UTF-8")]
     BadUtf8 { line: usize },
-    #[error("41 bad line")]
     BadLine { line: usize },
-    #[error("42 bad path")]
     BadPath { line: usize },
-    #[error("43 no start line")]
     NoStart { line: usize },
-    #[error("99 out of memory")]
     OutOfMemory,
 }
 
@@ -155,7 +132,7 @@ pub enum RunFault {
 impl RunFault {
     /// The number of the line that is refused, from 1, where the refusal has one.
     pub fn line(&self) -> Option<usize>
-        ensures { result ≡ run_line self.now }
+        ensures { result ≡ line_of self.now }
     {
         match *self {
             RunFault::TooManyPatches { line }
@@ -175,12 +152,7 @@ impl RunFault {
             | RunFault::BadLine { line }
             | RunFault::BadPath { line }
             | RunFault::NoStart { line } => Some(line),
-            RunFault::BadGeometry
-            | RunFault::TooMany
-            | RunFault::CannotRead
-            | RunFault::CannotWrite
-            | RunFault::ScriptTooLong
-            | RunFault::OutOfMemory => None,
+            _ => None,
         }
     }
 }

@@ -1,2 +1,3 @@
-pub mod Serving
+pub mod Answering
 pub mod Reporting
+pub mod Serving

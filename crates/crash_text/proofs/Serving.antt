@@ -1,13 +1,74 @@
--- What is served where the bytes of the devices are known.
-use Rattle.std.proofs.Common.{ℕ, List, ◌++◌, Option, Some, None, IfSome, sym, subst, ap, ◌∙◌, append-nil}
+-- What is served, and which refusals are not a run's.
+use Rattle.std.proofs.Common.{◌≡◌, ℕ, ◌<◌, ◌≤◌, List, ◌++◌, length, Option, Some, None, IfSome, Bool, true, false, refl, sym, subst, ap, ◌∙◌, append-nil, arith}
+use Rattle.std.specs.Prelude.{◌≢◌}
 use Rattle.std.specs.Io.KnownBytes.{Consumes, IsAtEnd}
+use Rattle.crash_model.specs.Answer.{Answer, Refused, Reported, IsAnswer, bad_script, bad_geometry, bad_base, bad_trace, too_many, reported}
+use Rattle.crash_model.specs.Refusals.{run_of_script, run_of_trace}
+use Rattle.crash_model.specs.declared.refusals.RunFault.{RunFault}
+use Rattle.crash_model.specs.declared.refusals.RunFault.TheVariants.{CannotRead, CannotWrite, ScriptTooLong, OutOfMemory}
+use Rattle.crash_model.specs.declared.refusals.ScriptFault.{ScriptFault}
+use Rattle.crash_model.specs.declared.refusals.ScriptFault.TheVariants as script
+use Rattle.crash_model.specs.declared.refusals.TraceFault.{TraceFault}
+use Rattle.crash_model.specs.declared.refusals.TraceFault.TheVariants as trace
+use Rattle.crash_model.specs.declared.settings.Settings.{Settings}
+use Rattle.devices.specs.Counted.{IsReadFault}
+use Rattle.crash_text.specs.Served.{IsWhole, IsRefusedBy}
 
 -- a source that was read to its end had these bytes
-pub known-whole : (P : List ℕ → Type 0) (old new : Option (List ℕ)) (bytes : List ℕ) → Consumes old new bytes → IsAtEnd new → P bytes → IfSome old P
-known-whole P None new bytes all end p = tt
-known-whole P (Some xs) None bytes all end p = absurd all
-known-whole P (Some xs) (Some ys) bytes all end p = subst P (sym (all ∙ ap (λ zs. bytes ++ zs) end ∙ append-nil bytes)) p
+pub whole : (old new : Option (List ℕ)) (bytes : List ℕ) → Consumes old new bytes → IsAtEnd new → IsWhole old bytes
+whole None new bytes all end = tt
+whole (Some xs) None bytes all end = absurd all
+whole (Some xs) (Some ys) bytes all end = sym (all ∙ ap (λ zs. bytes ++ zs) end ∙ append-nil bytes)
 
 pub known-any : (P : List ℕ → Type 0) (old : Option (List ℕ)) → ((bytes : List ℕ) → P bytes) → IfSome old P
 known-any P None all = tt
 known-any P (Some xs) all = all xs
+
+-- a source that was read whole was not too long
+pub not_longer : (P : Type 0) (old : Option (List ℕ)) (bytes : List ℕ) (most : ℕ) → IsWhole old bytes → length bytes ≤ most → IfSome old (λ all. most < length all → P)
+not_longer P None bytes most are few = tt
+not_longer P (Some all) bytes most are few = λ more.
+    let same : length bytes ≡ length all = ap (λ (xs : List ℕ). length xs) are in
+    absurd (omega arith)
+
+-- why a source was not read is no script's answer
+pub unread_refused : (coming : Option (List ℕ)) (settings : Settings) (fault : RunFault) → IsReadFault fault → IsRefusedBy coming settings fault
+unread_refused coming settings CannotRead is = λ a b c d. absurd (a refl)
+unread_refused coming settings ScriptTooLong is = λ a b c d. absurd (c refl)
+unread_refused coming settings OutOfMemory is = λ a b c d. absurd (d refl)
+unread_refused coming settings _ is = absurd is
+
+-- whether a run itself can refuse so
+abbrev pub is_of_run : RunFault → Bool
+is_of_run CannotRead = false
+is_of_run CannotWrite = false
+is_of_run ScriptTooLong = false
+is_of_run _ = true
+
+script_is_of_run : (fault : ScriptFault) → is_of_run (run_of_script fault) ≡ true
+script_is_of_run (script.BadUtf8 line) = refl
+script_is_of_run _ = refl
+
+trace_is_of_run : (fault : TraceFault) → is_of_run (run_of_trace fault) ≡ true
+trace_is_of_run (trace.NotFound line) = refl
+trace_is_of_run _ = refl
+
+abbrev answer_is_of_run : Answer → Bool
+answer_is_of_run (Refused fault) = is_of_run fault
+answer_is_of_run (Reported text failing) = true
+
+of_run : {bytes : List ℕ} {settings : Settings} {answer : Answer} → IsAnswer bytes settings answer → answer_is_of_run answer ≡ true
+of_run (bad_script fault refused) = script_is_of_run fault
+of_run (bad_geometry before steps read none) = refl
+of_run (bad_base before steps fault read geometry is) = trace_is_of_run fault
+of_run (bad_trace base steps fault start is) = trace_is_of_run fault
+of_run (too_many base patches has more) = refl
+of_run (reported base patches text failing has report) = refl
+
+-- a run's refusal is no device's
+pub not_of_device : (bytes : List ℕ) (settings : Settings) (fault device : RunFault) → (fault ≢ OutOfMemory → IsAnswer bytes settings (Refused fault))
+    → is_of_run device ≡ false → fault ≡ device → ⊥
+not_of_device bytes settings fault device answers is same =
+    let memory : fault ≢ OutOfMemory = λ e. let yes : is_of_run device ≡ true = subst (λ f. is_of_run f ≡ true) (sym e ∙ same) refl in cc in
+    let yes : is_of_run device ≡ true = subst (λ f. is_of_run f ≡ true) same (of_run (answers memory)) in
+    cc

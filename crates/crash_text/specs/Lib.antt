@@ -1,1 +1,2 @@
+pub mod BaseRefusal
 pub mod Served

@@ -1,22 +1,36 @@
 -- What a sink has taken after a script was served.
-use Rattle.std.specs.Prelude.{◌≢◌, ℕ, ◌++◌, List, Option}
+use Rattle.std.specs.Prelude.{◌≡◌, ◌≢◌, ℕ, ◌++◌, List, Option, Some, None}
 use Rattle.std.specs.Io.KnownBytes.{Appends}
 use Rattle.crash_model.specs.Answer.{IsAnswer, Reported, Refused}
 use Rattle.crash_model.specs.declared.settings.Settings.{Settings}
 use Rattle.crash_model.specs.declared.refusals.RunFault.{RunFault}
 use Rattle.crash_model.specs.declared.refusals.RunFault.TheVariants.{CannotRead, CannotWrite, ScriptTooLong, OutOfMemory}
 
--- the whole report on the script's bytes
-abbrev pub IsServed : List ℕ → Settings → ℕ → Option (List ℕ) → Option (List ℕ) → Type 0
-IsServed bytes settings failing before behind =
-    (text : List ℕ) × IsAnswer bytes settings (Reported text failing) × Appends before behind text
+-- all bytes that were still to come, where those are known
+abbrev pub IsWhole : Option (List ℕ) → List ℕ → Type 0
+IsWhole None bytes = Unit {0}
+IsWhole (Some all) bytes = bytes ≡ all
+
+-- the whole report on the source's bytes
+pub record IsServed (coming : Option (List ℕ)) (settings : Settings) (failing : ℕ) (before behind : Option (List ℕ)) : Type 0 where
+  pub bytes : List ℕ
+  pub read : IsWhole coming bytes
+  pub text : List ℕ
+  pub answer : IsAnswer bytes settings (Reported text failing)
+  pub taken : Appends before behind text
 
 -- a beginning of it
-abbrev pub IsCut : List ℕ → Settings → Option (List ℕ) → Option (List ℕ) → Type 0
-IsCut bytes settings before behind =
-    (front : List ℕ) × (rest : List ℕ) × (failing : ℕ) × IsAnswer bytes settings (Reported (front ++ rest) failing) × Appends before behind front
+pub record IsCut (coming : Option (List ℕ)) (settings : Settings) (before behind : Option (List ℕ)) : Type 0 where
+  pub bytes : List ℕ
+  pub read : IsWhole coming bytes
+  pub front : List ℕ
+  pub rest : List ℕ
+  pub failing : ℕ
+  pub answer : IsAnswer bytes settings (Reported (front ++ rest) failing)
+  pub taken : Appends before behind front
 
--- a refusal that is not a device's, nor of a script too long, nor out of memory, is the script's answer
-abbrev pub IsRefusedBy : List ℕ → Settings → RunFault → Type 0
-IsRefusedBy bytes settings fault =
-    (fault ≢ CannotRead) → (fault ≢ CannotWrite) → (fault ≢ ScriptTooLong) → (fault ≢ OutOfMemory) → IsAnswer bytes settings (Refused fault)
+-- a refusal that is not a device's, nor of a script too long, nor out of memory, is the answer on the source's bytes
+abbrev pub IsRefusedBy : Option (List ℕ) → Settings → RunFault → Type 0
+IsRefusedBy coming settings fault =
+    (fault ≢ CannotRead) → (fault ≢ CannotWrite) → (fault ≢ ScriptTooLong) → (fault ≢ OutOfMemory)
+    → (bytes : List ℕ) × IsWhole coming bytes × IsAnswer bytes settings (Refused fault)

@@ -1,23 +1,27 @@
 //! The whole product as a function.
 
-ghost use Rattle.std.specs.Prelude.{◌≡◌, ◌≢◌, ℕ, ◌<◌, ◌≤◌, List, IfOk, IfErr, length, string_bytes};
+ghost use Rattle.std.specs.Prelude.{◌≡◌, ◌≢◌, ℕ, ◌<◌, ◌≤◌, List, Ok, OnOk, IfOk, IfErr, length, string_bytes};
 ghost use Rattle.std.specs.List.{All};
 ghost use Rattle.patch_sets.specs.Sets.{Has};
-ghost use Rattle.crash_model.specs.Patches.{AreUndo};
+ghost use Rattle.crash_model.specs.Disk.{formatted, IsGeometry};
+ghost use Rattle.crash_model.specs.Sound.{IsSound, HasZeroJournal};
+ghost use Rattle.crash_model.specs.Trace.{based};
 ghost use Rattle.crash_model.specs.declared.steps.Module.TheVariants.{Full};
 ghost use Rattle.crash_model.specs.Report.{Section, AreSections, report};
-ghost use Rattle.crash_model.specs.Answer.{IsAnswer, IsStepsAnswer, IsGraphAnswer, Reported, Refused};
+ghost use Rattle.crash_model.specs.Answer.{IsAnswer, Reported, Refused};
+ghost use Rattle.crash_text.specs.BaseRefusal.{IsBaseRefusal};
 
 use crate::explored::explored;
 use crash_model::refusals::RunFault;
 use crash_model::settings::Settings;
+use crash_model::steps::Step;
 use disk_image::{Image, ImageFault};
 use explorers::{Explored, Gate};
 use order_modules::{build_base, trace};
 use patch_graph::Graph;
 use report_json::report_json;
 use report_text::report_text;
-use script_text::{Script, read_script};
+use script_text::read_script;
 use std::alloc::{AllocError, Allocator, Global};
 use std::sync::Wait;
 use std::thread::Threads;
@@ -54,67 +58,34 @@ where
     ensures full { settings.now.module ≡ Full → IfOk result (λ outcome. outcome.failing ≡ 0) }
 {
     let script = read_script(alloc, script)?;
-    run_steps(rt, heap, alloc, &script, settings, workers, gate)
+    let base = base_of(alloc, &script.base, settings)?;
+    let graph = trace(alloc, &base, &script.traced, settings.module)?;
+    let found = explored(rt, alloc, &base, &graph, settings.limit, workers, gate)?;
+    let text = report_of(heap, alloc, &base, &graph, settings, &found)?;
+    Ok(Outcome {
+        text,
+        failing: found.broken.len(),
+    })
 }
 
-/// Answers the steps of a script.
-fn run_steps<R, A, G>(
-    rt: &R,
-    heap: Global,
+/// The disk at the start line: the formatted one of the settings, after the steps before that line.
+fn base_of<A: Allocator + Copy>(
     alloc: A,
-    script: &Script<A>,
+    steps: &[Step],
     settings: &Settings,
-    workers: usize,
-    gate: &G,
-) -> Result<Outcome<A>, RunFault>
-where
-    R: Threads + Wait + Sync,
-    A: Allocator + Copy + Send + Sync,
-    G: Gate + Sync,
-    requires limit { (1 ≤ settings.now.limit) × (settings.now.limit ≤ 32768) }
-    requires workers { (1 ≤ workers) × (workers ≤ 16) }
-    ensures reported { IfOk result (λ outcome. IsStepsAnswer settings.now script.now.base.items script.now.traced.items (Reported (string_bytes outcome.text) outcome.failing)) }
-    ensures refused { IfErr result (λ fault. (fault ≢ RunFault.OutOfMemory) → IsStepsAnswer settings.now script.now.base.items script.now.traced.items (Refused fault)) }
-    ensures full { settings.now.module ≡ Full → IfOk result (λ outcome. outcome.failing ≡ 0) }
+) -> Result<Image<A>, RunFault>
+    ensures lawful { OnOk result (IsGeometry settings.now.blocks settings.now.journal) }
+    ensures built { IfOk result (λ base. based (formatted settings.now.blocks settings.now.journal) steps.now ≡ Ok base) }
+    ensures sound { IfOk result (λ base. IsSound base × HasZeroJournal base) }
+    ensures refused { IfErr result (λ fault. (fault ≢ RunFault.OutOfMemory) → IsBaseRefusal settings.now steps.now fault) }
 {
     let mut base = match Image::formatted(alloc, settings.blocks, settings.journal) {
         Ok(base) => base,
         Err(ImageFault::BadGeometry) => return Err(RunFault::BadGeometry),
         Err(ImageFault::OutOfMemory) => return Err(RunFault::OutOfMemory),
     };
-    build_base(&mut base, &script.base)?;
-    let graph = trace(alloc, &base, &script.traced, settings.module)?;
-    report_on(rt, heap, alloc, &base, &graph, settings, workers, gate)
-}
-
-/// Explores and reports what a crash can leave of a graph over its base.
-fn report_on<R, A, G>(
-    rt: &R,
-    heap: Global,
-    alloc: A,
-    base: &Image<A>,
-    graph: &Graph<A>,
-    settings: &Settings,
-    workers: usize,
-    gate: &G,
-) -> Result<Outcome<A>, RunFault>
-where
-    R: Threads + Wait + Sync,
-    A: Allocator + Copy + Send + Sync,
-    G: Gate + Sync,
-    requires limit { (1 ≤ settings.now.limit) × (settings.now.limit ≤ 32768) }
-    requires workers { (1 ≤ workers) × (workers ≤ 16) }
-    requires fits { All (λ patch. patch.block < base.now.blocks) graph.now }
-    requires undo { AreUndo base.now graph.now }
-    ensures reported { IfOk result (λ outcome. IsGraphAnswer settings.now base.now graph.now (Reported (string_bytes outcome.text) outcome.failing)) }
-    ensures refused { IfErr result (λ fault. (fault ≢ RunFault.OutOfMemory) → IsGraphAnswer settings.now base.now graph.now (Refused fault)) }
-{
-    let found = explored(rt, alloc, base, graph, settings.limit, workers, gate)?;
-    let text = report_of(heap, alloc, base, graph, settings, &found)?;
-    Ok(Outcome {
-        text,
-        failing: found.broken.len(),
-    })
+    build_base(&mut base, steps)?;
+    Ok(base)
 }
 
 /// The report on the failing sets, in the form that the settings ask for. It fails only when out of memory.

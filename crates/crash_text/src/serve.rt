@@ -1,8 +1,8 @@
 //! The product between a source and a sink.
 
-ghost use Rattle.std.specs.Prelude.{◌≡◌, ◌≢◌, ℕ, ◌+◌, ◌-◌, ◌^◌, ◌<◌, ◌≤◌, ◌++◌, List, length, IfOk, IfErr, OnOk, OnErr, IfSome, IsErrOf, string_bytes};
-ghost use Rattle.std.specs.Io.KnownBytes.{Consumes, Appends, Keeps, IsAtEnd};
-ghost use Rattle.crash_model.specs.Answer.{IsAnswer, Reported, Refused};
+ghost use Rattle.std.specs.Prelude.{◌≡◌, ℕ, ◌+◌, ◌-◌, ◌^◌, ◌<◌, ◌≤◌, List, length, IfOk, IfErr, OnErr, IfSome, IsErrOf, IsErrAnd};
+ghost use Rattle.std.specs.Io.KnownBytes.{Consumes, Keeps};
+ghost use Rattle.devices.specs.Counted.{IsReadFault};
 ghost use Rattle.crash_text.specs.Served.{IsServed, IsCut, IsRefusedBy};
 
 use crate::run::run;
@@ -17,9 +17,10 @@ use std::thread::Threads;
 
 /// Reads a script from a source, answers it, and writes the report to a sink. It gives the number of failing sets.
 ///
-/// The answer is that of `run`. A script that cannot be read or is too long is refused before it is run, and nothing is
-/// written before the report is whole. After a refusal the sink has taken nothing, unless the sink itself failed, which
-/// then has a beginning of the report.
+/// The answer is that of `run` on all bytes of the source. A script that cannot be read or is too long is refused before it
+/// is run, and one that is too long in no other way but by out of memory or a failed read. Nothing is written before the
+/// report is whole. After a refusal the sink has taken nothing, unless the sink itself failed, which then has a beginning of
+/// the report.
 pub fn serve<R, A, S, K, G>(
     rt: &R,
     heap: Global,
@@ -40,14 +41,16 @@ where
     requires limit { (1 ≤ settings.now.limit) × (settings.now.limit ≤ 32768) }
     requires source { S.failures source.old < 2 ^ 64 - 1 }
     requires sink { K.failures sink.old < 2 ^ 64 - 1 }
-    ensures served { IfOk result (λ failing. IfSome (S.coming source.old) (λ bytes. IsServed bytes settings.now failing (K.taken sink.old) (K.taken sink.new))) }
-    ensures worked { OnOk result ((S.failures source.new ≡ S.failures source.old) × (K.failures sink.new ≡ K.failures sink.old)) }
+    ensures served { IfOk result (λ failing. IsServed (S.coming source.old) settings.now failing (K.taken sink.old) (K.taken sink.new)) }
+    ensures cut { IsErrOf result RunFault.CannotWrite → IsCut (S.coming source.old) settings.now (K.taken sink.old) (K.taken sink.new) }
+    ensures refused { IfErr result (IsRefusedBy (S.coming source.old) settings.now) }
+    ensures bounded { IfSome (S.coming source.old) (λ bytes. MAX_SCRIPT_BYTES < length bytes → IsErrAnd result IsReadFault) }
+    ensures too_long { IsErrOf result RunFault.ScriptTooLong → IfSome (S.coming source.old) (λ bytes. MAX_SCRIPT_BYTES < length bytes) }
     ensures unread { IsErrOf result RunFault.CannotRead → S.failures source.new ≡ S.failures source.old + 1 }
+    ensures no_failed_read { (¬ (IsErrOf result RunFault.CannotRead)) → S.failures source.new ≡ S.failures source.old }
     ensures unwritten { IsErrOf result RunFault.CannotWrite → K.failures sink.new ≡ K.failures sink.old + 1 }
-    ensures cut { IsErrOf result RunFault.CannotWrite → IfSome (S.coming source.old) (λ bytes. IsCut bytes settings.now (K.taken sink.old) (K.taken sink.new)) }
-    ensures long { IsErrOf result RunFault.ScriptTooLong → IfSome (S.coming source.old) (λ bytes. MAX_SCRIPT_BYTES < length bytes) }
-    ensures refused { IfErr result (λ fault. IfSome (S.coming source.old) (λ bytes. IsRefusedBy bytes settings.now fault)) }
-    ensures untouched { OnErr result ((IsErrOf result RunFault.CannotWrite → ⊥) → Keeps (K.taken sink.old) (K.taken sink.new)) }
+    ensures no_failed_write { (¬ (IsErrOf result RunFault.CannotWrite)) → K.failures sink.new ≡ K.failures sink.old }
+    ensures untouched { OnErr result ((¬ (IsErrOf result RunFault.CannotWrite)) → Keeps (K.taken sink.old) (K.taken sink.new)) }
     ensures gone { (bytes : List ℕ) × Consumes (S.coming source.old) (S.coming source.new) bytes }
 {
     let script = read_to_end(alloc, source)?;

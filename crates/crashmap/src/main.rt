@@ -1,20 +1,17 @@
 //! The program: crash states of a small file system, from a script.
 #![tactic(auto)]
 
-use crash_answer::{answer, refuse};
+use crash_answer::{answer, refuse, refuse_words};
 use crash_model::refusals::RunFault;
 use std::alloc::{AllocError, Global};
-use std::env;
 use std::process::ExitCode;
 use std::rt::Env;
+use std::{env, io};
 
 /// The words of the command line, the program's own name first.
-fn words_of<R: Env + AllocGlobal>(rt: &R) -> Result<Vec<String>, AllocError> {
+fn words_of<R: Env + AllocGlobal>(rt: &R) -> io::Result<Vec<String>> {
     let mut words = Vec::new(rt.alloc());
-    let Ok(args) = env::args(rt) else {
-        return Err(AllocError);
-    };
-    for word in args {
+    for word in env::args(rt)? {
         words.push(word)?;
     }
     Ok(words)
@@ -32,8 +29,9 @@ fn texts_of<'a>(heap: Global, words: &'a [String]) -> Result<Vec<&'a str>, Alloc
 fn main(rt: HostRuntime) -> ExitCode {
     let heap = rt.alloc();
     let (mut input, mut out, mut err) = (rt.stdin(), rt.stdout(), rt.stderr());
-    let Ok(words) = words_of(&rt) else {
-        return ExitCode::from(refuse(&mut err, RunFault::OutOfMemory));
+    let words = match words_of(&rt) {
+        Ok(words) => words,
+        Err(error) => return ExitCode::from(refuse_words(&mut err, &error)),
     };
     let Ok(texts) = texts_of(heap, &words) else {
         return ExitCode::from(refuse(&mut err, RunFault::OutOfMemory));

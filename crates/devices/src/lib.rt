@@ -5,5 +5,3 @@ pub mod memory;
 pub mod sink;
 pub mod source;
 pub mod standard;
-#[cfg(test)]
-mod tests;

@@ -13,6 +13,3 @@ mod verb;
 mod words;
 
 pub use script::{Script, read_script};
-
-#[cfg(test)]
-mod tests;

@@ -14,10 +14,18 @@ mod ladders;
 #[cfg(test)]
 mod lines;
 #[cfg(test)]
+mod options;
+#[cfg(test)]
 mod orderings;
 #[cfg(test)]
 mod refusals;
 #[cfg(test)]
 mod reports;
+#[cfg(test)]
+mod script_lines;
+#[cfg(test)]
+mod standard_devices;
+#[cfg(test)]
+mod words;
 #[cfg(test)]
 mod workers;

@@ -1,9 +1,10 @@
 -- The answer about a script that is written down as acts.
-use Rattle.std.proofs.Common.{◌≡◌, ℕ, ◌+◌, ◌<◌, List, length, map, Bool, true, false, ◌&&◌, nat_le, nat_lt, refl, sym, subst, inl, inr}
+use Rattle.std.proofs.Common.{◌≡◌, ℕ, ◌+◌, ◌<◌, List, length, map, Bool, true, false, ◌&&◌, nat_le, nat_lt, refl, sym, subst}
 use Rattle.std.specs.Prelude.{◌==◌, Result, Ok, Err}
 use Rattle.std.proofs.lemmas.Bool.{and_parts, leb-true, le-leb, ltb-true}
 use Rattle.patch_sets.proofs.Ids.{eq_from_true}
-use Rattle.crash_model.specs.Answer.{Answer, Refused, Reported, IsTracedAnswer, IsBaseAnswer, IsAnswer}
+use Rattle.crash_model.specs.Answer as answers
+use Rattle.crash_model.specs.Answer.{Refused, Reported, HasBase, HasGraph, IsAnswer}
 use Rattle.crash_model.specs.Disk.{Disk, formatted, IsGeometry}
 use Rattle.crash_model.specs.Patches.{deps_of}
 use Rattle.crash_model.specs.Refusals.{run_of_trace}
@@ -13,6 +14,7 @@ use Rattle.crash_model.specs.declared.refusals.TraceFault.{TraceFault}
 use Rattle.crash_model.specs.declared.refusals.RunFault.TheVariants.{BadGeometry, TooMany}
 use Rattle.crash_model.specs.declared.settings.Settings.{Settings}
 use Rattle.crash_model.specs.declared.steps.Act.{Act}
+use Rattle.crash_model.proofs.Leading.{failing_closed, closed_are_left, sections_lead}
 use Rattle.worked_example_laws.specs.Computed.{closed_sets, failing_sets, are_in_order, trace_of, is_accepted, explores, section_of, have_runs}
 use Rattle.worked_example_laws.specs.Examples.{numbered}
 use Rattle.worked_example_laws.specs.Spelled.{are_acts, script, based_or, base_of, is_based, traced_acts, graph, is_geometry, is_told}
@@ -31,18 +33,29 @@ based_is : (d : Disk) (r : Result Disk TraceFault) → is_based r ≡ true → r
 based_is d (Err fault) e = cc
 based_is d (Ok base) e = refl
 
--- the answer about the traced steps is the answer about the script
+-- the disk at the start line, and the graph of the steps behind it
 module _ (settings : Settings) (before behind : List Act) (read : are_acts before ≡ true) (read_too : are_acts behind ≡ true) (geometry : is_geometry settings ≡ true) where
-  from_based : (answer : Answer) → IsBaseAnswer settings (based (formatted settings.blocks settings.journal) (numbered 1 before)) (traced_acts before behind) answer
-      → IsAnswer (script before behind) settings answer
-  from_based answer is = inr (numbered 1 before, traced_acts before behind, script_is before behind read read_too, inr (geometry_if settings geometry, is))
+  pub start : is_based (based (formatted settings.blocks settings.journal) (numbered 1 before)) ≡ true
+      → HasBase (script before behind) settings (base_of settings before) (traced_acts before behind)
+  start whole = record {
+    before = numbered 1 before;
+    read = script_is before behind read read_too;
+    geometry = geometry_if settings geometry;
+    built = based_is (formatted settings.blocks settings.journal) (based (formatted settings.blocks settings.journal) (numbered 1 before)) whole;
+  }
 
-  from_traced : (answer : Answer) → is_based (based (formatted settings.blocks settings.journal) (numbered 1 before)) ≡ true
-      → IsTracedAnswer settings (base_of settings before) (traced settings.module (begun (base_of settings before)) (traced_acts before behind)) answer
-      → IsAnswer (script before behind) settings answer
-  from_traced answer whole is = from_based answer
-      (subst (λ r. IsBaseAnswer settings r (traced_acts before behind) answer)
-      (sym (based_is (formatted settings.blocks settings.journal) (based (formatted settings.blocks settings.journal) (numbered 1 before)) whole)) is)
+  pub has_graph : is_based (based (formatted settings.blocks settings.journal) (numbered 1 before)) ≡ true
+      → is_accepted (traced settings.module (begun (base_of settings before)) (traced_acts before behind)) ≡ true
+      → HasGraph (script before behind) settings (base_of settings before) (graph settings before behind)
+  has_graph whole run =
+      let base = base_of settings before in
+      let last = trace_of settings.module base (traced_acts before behind) in record {
+        steps = traced_acts before behind;
+        start = start whole;
+        last = last;
+        run = accepted_is base (traced settings.module (begun base) (traced_acts before behind)) run;
+        graph = graph_is settings.module base last;
+      }
 
 -- an act before the start line is refused
 pub refused_base : (settings : Settings) (before behind : List Act) (fault : TraceFault)
@@ -50,8 +63,7 @@ pub refused_base : (settings : Settings) (before behind : List Act) (fault : Tra
     → based (formatted settings.blocks settings.journal) (numbered 1 before) ≡ Err fault
     → IsAnswer (script before behind) settings (Refused (run_of_trace fault))
 refused_base settings before behind fault read read_too geometry is =
-    from_based settings before behind read read_too geometry (Refused (run_of_trace fault))
-    (subst (λ r. IsBaseAnswer settings r (traced_acts before behind) (Refused (run_of_trace fault))) (sym is) refl)
+    answers.bad_base (numbered 1 before) (traced_acts before behind) fault (script_is before behind read read_too) (geometry_if settings geometry) is
 
 -- an act behind it is refused
 pub refused_trace : (settings : Settings) (before behind : List Act) (fault : TraceFault)
@@ -60,8 +72,7 @@ pub refused_trace : (settings : Settings) (before behind : List Act) (fault : Tr
     → traced settings.module (begun (base_of settings before)) (traced_acts before behind) ≡ Err fault
     → IsAnswer (script before behind) settings (Refused (run_of_trace fault))
 refused_trace settings before behind fault read read_too geometry whole is =
-    from_traced settings before behind read read_too geometry (Refused (run_of_trace fault)) whole
-    (subst (λ r. IsTracedAnswer settings (base_of settings before) r (Refused (run_of_trace fault))) (sym is) refl)
+    answers.bad_trace (base_of settings before) (traced_acts before behind) fault (start settings before behind read read_too geometry whole) is
 
 -- the report
 pub reported : (settings : Settings) (before behind : List Act) (closed : ℕ) (failing : List ℕ) (text : List ℕ)
@@ -82,22 +93,22 @@ reported settings before behind closed failing text told is =
     let seven = and_parts (is_accepted (traced settings.module (begun base) steps)) _ five.0 in
     let eight = and_parts (length (closed_sets (deps_of patches)) == closed) (are_in_order (length (deps_of patches)) failing (failing_sets base patches)) seven.1 in
     let first = earlier settings.module base last in
-    from_traced settings before behind one.0 two.0 three.0 (Reported text (length failing)) four.0
-    (subst (λ r. IsTracedAnswer settings base r (Reported text (length failing))) (sym (accepted_is base (traced settings.module (begun base) steps) seven.0)) (
-      patches,
-      graph_is settings.module base last,
-      record {
-        total = closed;
-        counted = counts_closed patches closed first (eq_from_true _ _ eight.0);
-        within = leb-true closed settings.limit six.0;
-        sets = failing;
-        exactly = all_failing base patches failing first eight.1;
-        number = refl;
-        sections = map (section_of base patches) failing;
-        told = sections_if base patches failing six.1;
-        whole = is;
-      },
-    ))
+    let exactly = all_failing base patches failing first eight.1 in
+    let are_closed = failing_closed base patches failing exactly in
+    let sections = sections_if base patches failing six.1 in
+    answers.reported base patches text (length failing) (has_graph settings before behind one.0 two.0 three.0 four.0 seven.0) (record {
+      total = closed;
+      counted = counts_closed patches closed first (eq_from_true _ _ eight.0);
+      within = leb-true closed settings.limit six.0;
+      sets = failing;
+      exactly = exactly;
+      left = closed_are_left base patches first failing are_closed;
+      number = refl;
+      sections = map (section_of base patches) failing;
+      told = sections;
+      lead = sections_lead base patches first failing (map (section_of base patches) failing) are_closed sections;
+      whole = is;
+    })
 
 -- a disk that can't be
 both : (a b : Bool) → a ≡ true → b ≡ true → (a && b) ≡ true
@@ -112,7 +123,7 @@ no_geometry settings none g =
 pub refused_geometry : (settings : Settings) (before behind : List Act) → are_acts before ≡ true → are_acts behind ≡ true
     → is_geometry settings ≡ false → IsAnswer (script before behind) settings (Refused BadGeometry)
 refused_geometry settings before behind read read_too none =
-    inr (numbered 1 before, traced_acts before behind, script_is before behind read read_too, inl (no_geometry settings none, refl))
+    answers.bad_geometry (numbered 1 before) (traced_acts before behind) (script_is before behind read read_too) (no_geometry settings none)
 
 -- more closed sets than the limit
 pub refused_limit : (settings : Settings) (before behind : List Act)
@@ -123,14 +134,8 @@ pub refused_limit : (settings : Settings) (before behind : List Act)
     → IsAnswer (script before behind) settings (Refused TooMany)
 refused_limit settings before behind read read_too geometry whole run more =
     let base = base_of settings before in
-    let steps = traced_acts before behind in
-    let last = trace_of settings.module base steps in
     let patches = graph settings before behind in
-    let first = earlier settings.module base last in
+    let first = earlier settings.module base (trace_of settings.module base (traced_acts before behind)) in
     let all = counts_closed patches (length (closed_sets (deps_of patches))) first refl in
-    from_traced settings before behind read read_too geometry (Refused TooMany) whole
-    (subst (λ r. IsTracedAnswer settings base r (Refused TooMany)) (sym (accepted_is base (traced settings.module (begun base) steps) run)) (
-      patches,
-      graph_is settings.module base last,
-      ((all.0, record { distinct = all.1.distinct; each = all.1.each }, subst (λ (n : ℕ). settings.limit < n) (sym all.2) (ltb-true settings.limit (length (closed_sets (deps_of patches))) more)), refl),
-    ))
+    answers.too_many base patches (has_graph settings before behind read read_too geometry whole run)
+    (all.0, record { distinct = all.1.distinct; each = all.1.each }, subst (λ (n : ℕ). settings.limit < n) (sym all.2) (ltb-true settings.limit (length (closed_sets (deps_of patches))) more))

@@ -12,3 +12,4 @@ pub mod OneAnswer
 pub mod Refused
 pub mod SomeReading
 pub mod SomeAnswer
+pub mod Stages

@@ -7,7 +7,7 @@ use Rattle.patch_sets.specs.Closed.{IsClosed}
 use Rattle.patch_sets.proofs.Bits.{none_in_empty, same_set}
 use Rattle.patch_sets.proofs.Canonical.{one_list}
 use Rattle.patch_sets.proofs.Writes.{one_runs}
-use Rattle.crash_model.specs.Answer.{Answer, Refused, Reported, IsReport, IsGraphAnswer, IsTracedAnswer, IsBaseAnswer, IsStepsAnswer, IsAnswer}
+use Rattle.crash_model.specs.Answer.{Answer, Refused, Reported, IsReport, IsAnswer}
 use Rattle.crash_model.specs.Disk.{Disk, put, formatted}
 use Rattle.crash_model.specs.Failing.{IsFailing}
 use Rattle.crash_model.specs.Faults.{faults}
@@ -21,6 +21,7 @@ use Rattle.crash_model.specs.declared.refusals.TraceFault.{TraceFault}
 use Rattle.crash_model.specs.declared.settings.Settings.{Settings}
 use Rattle.crash_model.specs.declared.steps.Module.{Module}
 use Rattle.crash_model.specs.declared.steps.Step.{Step}
+use Rattle.worked_example_laws.proofs.Stages.{ComesOfGraph, ComesOfTrace, ComesOfBase, ComesOfSteps, ComesOfScript, stages}
 use Rattle.worked_example_laws.proofs.Scripts.{script_one, refusal_one, read_or_refused}
 
 -- ---- one graph
@@ -139,35 +140,38 @@ module _ (settings : Settings) (base : Disk) where
       let numbers : failing ≡ more = is.number ∙ (ap (λ (some : List ℕ). length some) same ∙ sym also.number) in
       cc (texts, numbers)
 
-  graph_answer_one : (patches : List Patch) (answer other : Answer) → IsGraphAnswer settings base patches answer → IsGraphAnswer settings base patches other → answer ≡ other
+  graph_answer_one : (patches : List Patch) (answer other : Answer) → ComesOfGraph settings base patches answer → ComesOfGraph settings base patches other → answer ≡ other
   graph_answer_one patches (Refused fault) (Refused more) is also = ap Refused (is.1 ∙ sym also.1)
   graph_answer_one patches (Refused fault) (Reported text failing) is also = absurd (not_more (IsClosed (deps_of patches)) also.total settings.limit also.counted also.within is.0)
   graph_answer_one patches (Reported text failing) (Refused fault) is also = absurd (not_more (IsClosed (deps_of patches)) is.total settings.limit is.counted is.within also.0)
   graph_answer_one patches (Reported text failing) (Reported other more) is also = report_one patches text other failing more is also
 
-  traced_one : (r : Result Tracing TraceFault) (answer other : Answer) → IsTracedAnswer settings base r answer → IsTracedAnswer settings base r other → answer ≡ other
+  traced_one : (r : Result Tracing TraceFault) (answer other : Answer) → ComesOfTrace settings base r answer → ComesOfTrace settings base r other → answer ≡ other
   traced_one (Err fault) answer other is also = is ∙ sym also
   traced_one (Ok s) answer other is also =
       let same : is.0 ≡ also.0 = graph_one settings.module base s is.0 also.0 is.1 also.1 in
-      graph_answer_one also.0 answer other (subst (λ ps. IsGraphAnswer settings base ps answer) same is.2) also.2
+      graph_answer_one also.0 answer other (subst (λ ps. ComesOfGraph settings base ps answer) same is.2) also.2
 
 module _ (settings : Settings) where
-  based_one : (r : Result Disk TraceFault) (steps : List Step) (answer other : Answer) → IsBaseAnswer settings r steps answer → IsBaseAnswer settings r steps other → answer ≡ other
+  based_one : (r : Result Disk TraceFault) (steps : List Step) (answer other : Answer) → ComesOfBase settings r steps answer → ComesOfBase settings r steps other → answer ≡ other
   based_one (Err fault) steps answer other is also = is ∙ sym also
   based_one (Ok base) steps answer other is also = traced_one settings base (traced settings.module (begun base) steps) answer other is also
 
-  steps_answer_one : (base steps : List Step) (answer other : Answer) → IsStepsAnswer settings base steps answer → IsStepsAnswer settings base steps other → answer ≡ other
+  steps_answer_one : (base steps : List Step) (answer other : Answer) → ComesOfSteps settings base steps answer → ComesOfSteps settings base steps other → answer ≡ other
   steps_answer_one base steps answer other (inl is) (inl also) = is.1 ∙ sym also.1
   steps_answer_one base steps answer other (inl is) (inr also) = absurd (is.0 also.0)
   steps_answer_one base steps answer other (inr is) (inl also) = absurd (also.0 is.0)
   steps_answer_one base steps answer other (inr is) (inr also) = based_one (based (formatted settings.blocks settings.journal) base) steps answer other is.1 also.1
 
-  pub answer_one : (bytes : List ℕ) (answer other : Answer) → IsAnswer bytes settings answer → IsAnswer bytes settings other → answer ≡ other
-  answer_one bytes answer other (inl is) (inl also) =
+  script_answer_one : (bytes : List ℕ) (answer other : Answer) → ComesOfScript settings bytes answer → ComesOfScript settings bytes other → answer ≡ other
+  script_answer_one bytes answer other (inl is) (inl also) =
       is.2 ∙ (ap (λ f. Refused (run_of_script f)) (refusal_one bytes is.0 also.0 is.1 also.1) ∙ sym also.2)
-  answer_one bytes answer other (inl is) (inr also) = absurd (read_or_refused bytes also.0 also.1 is.0 also.2 is.1)
-  answer_one bytes answer other (inr is) (inl also) = absurd (read_or_refused bytes is.0 is.1 also.0 is.2 also.1)
-  answer_one bytes answer other (inr is) (inr also) =
+  script_answer_one bytes answer other (inl is) (inr also) = absurd (read_or_refused bytes also.0 also.1 is.0 also.2 is.1)
+  script_answer_one bytes answer other (inr is) (inl also) = absurd (read_or_refused bytes is.0 is.1 also.0 is.2 also.1)
+  script_answer_one bytes answer other (inr is) (inr also) =
       let same = script_one bytes is.0 is.1 also.0 also.1 is.2 also.2 in
       steps_answer_one also.0 also.1 answer other
-      (subst (λ b. IsStepsAnswer settings b also.1 answer) same.0 (subst (λ t. IsStepsAnswer settings is.0 t answer) same.1 is.3)) also.3
+      (subst (λ b. ComesOfSteps settings b also.1 answer) same.0 (subst (λ t. ComesOfSteps settings is.0 t answer) same.1 is.3)) also.3
+
+  pub answer_one : (bytes : List ℕ) (answer other : Answer) → IsAnswer bytes settings answer → IsAnswer bytes settings other → answer ≡ other
+  answer_one bytes answer other is also = script_answer_one bytes answer other (stages settings is) (stages settings also)

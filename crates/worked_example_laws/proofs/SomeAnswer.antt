@@ -1,12 +1,11 @@
 -- There is an answer.
-use Rattle.std.proofs.Common.{◌≡◌, ◌≢◌, ℕ, zero, suc, ◌+◌, ◌<◌, ◌≤◌, List, [], ◌∷◌, ◌++◌, length, Bool, true, false, not, arith, refl, sym, subst, ap, ◌∙◌, inl, inr, get_or, add-one, nat_lt}
-use Rattle.std.specs.Prelude.{◌⊎◌, ◌↔◌, Result, Ok, Err, count_ones, slice_index}
+use Rattle.std.proofs.Common.{◌≡◌, ◌≢◌, ℕ, zero, suc, ◌+◌, ◌<◌, ◌≤◌, List, [], ◌∷◌, ◌++◌, length, Bool, true, false, arith, refl, sym, subst, ap, ◌∙◌, inl, inr, get_or, add-one, nat_lt}
+use Rattle.std.specs.Prelude.{◌⊎◌, Result, Ok, Err, count_ones, slice_index}
 use Rattle.std.specs.Int.{bit_at}
 use Rattle.std.specs.List.{AllPairs, Contains}
 use Rattle.std.proofs.lemmas.Bool.{ltb-true}
 use Rattle.std.proofs.lemmas.Bool.Decides.{nat_tests}
 use Rattle.std.proofs.lemmas.List.{get_or_default}
-use Rattle.state_space.specs.Counts.{IsListOf}
 use Rattle.state_space.proofs.Counting.{Order, below, same, above, order_of}
 use Rattle.patch_sets.specs.Sets.{Has, with_id, IsBefore, AreAllInOrder}
 use Rattle.patch_sets.specs.Closed.{AreEarlier}
@@ -15,9 +14,9 @@ use Rattle.patch_sets.specs.declared.write.BlockWrite.{BlockWrite}
 use Rattle.patch_sets.proofs.Bits.{eq_or_not}
 use Rattle.patch_sets.proofs.Canonical.{before_trans}
 use Rattle.patch_sets.proofs.Writes.{AreCutTo, cut_none, cut_skip, cut_alone, cut_joined, runs_from_cut}
-use Rattle.crash_model.specs.Answer.{Answer, Refused, Reported, IsReport, IsGraphAnswer, IsTracedAnswer, IsBaseAnswer, IsStepsAnswer, IsAnswer}
-use Rattle.crash_model.specs.Disk.{Disk, formatted}
-use Rattle.crash_model.specs.Failing.{IsFailing, CountsClosed}
+use Rattle.crash_model.specs.Answer.{Answer, Refused, Reported, HasBase, HasGraph, IsAnswer, bad_script, bad_geometry, bad_base, bad_trace, too_many, reported}
+use Rattle.crash_model.specs.Disk.{Disk, formatted, IsGeometry}
+use Rattle.crash_model.specs.Failing.{IsFailing}
 use Rattle.crash_model.specs.Faults.{faults}
 use Rattle.crash_model.specs.Patches.{deps_of, homes_of, image_of}
 use Rattle.crash_model.specs.Refusals.{run_of_trace, run_of_script}
@@ -31,12 +30,13 @@ use Rattle.crash_model.specs.declared.settings.Settings.{Settings}
 use Rattle.crash_model.specs.Script.{IsScript, IsScriptRefusal}
 use Rattle.crash_model.specs.declared.refusals.ScriptFault.{ScriptFault}
 use Rattle.crash_model.specs.declared.steps.Step.{Step}
+use Rattle.crash_model.proofs.Leading.{failing_closed, closed_are_left, sections_lead}
 use Rattle.worked_example_laws.specs.Computed.{closed_sets, failing_sets, fails, graph_of}
 use Rattle.worked_example_laws.specs.Spelled.{is_geometry}
 use Rattle.worked_example_laws.proofs.Answering.{geometry_if, no_geometry}
 use Rattle.worked_example_laws.proofs.ClosedSets.{AreApart, closed_are_all, apart_filter}
 use Rattle.worked_example_laws.proofs.FailingSets.{counts_closed, failing_at, in_failing}
-use Rattle.worked_example_laws.proofs.Graphs.{earlier, graph_is}
+use Rattle.worked_example_laws.proofs.Graphs.{graph_is}
 use Rattle.worked_example_laws.proofs.SomeReading.{some_reading}
 
 -- ---- lists in canonical order
@@ -196,60 +196,72 @@ some_sections base patches (set ∷ some) =
 
 -- ---- answers
 
-module _ (settings : Settings) where
-  from_graph : (base : Disk) (patches : List Patch) → AreEarlier (deps_of patches) → (answer : Answer) × IsGraphAnswer settings base patches answer
-  from_graph base patches before = by_limit (nat_lt settings.limit (length (closed_sets (deps_of patches)))) refl
+module _ (settings : Settings) (bytes : List ℕ) where
+  from_graph : (base : Disk) (patches : List Patch) → HasGraph bytes settings base patches → (answer : Answer) × IsAnswer bytes settings answer
+  from_graph base patches has = by_limit (nat_lt settings.limit (length (closed_sets (deps_of patches)))) refl
     where
-      by_limit : (b : Bool) → nat_lt settings.limit (length (closed_sets (deps_of patches))) ≡ b → (answer : Answer) × IsGraphAnswer settings base patches answer
+      before : AreEarlier (deps_of patches)
+      before = has.graph.earlier
+
+      by_limit : (b : Bool) → nat_lt settings.limit (length (closed_sets (deps_of patches))) ≡ b → (answer : Answer) × IsAnswer bytes settings answer
       by_limit true e =
           let all = counts_closed patches (length (closed_sets (deps_of patches))) before refl in (
             Refused TooMany,
-            ((all.0, record { distinct = all.1.distinct; each = all.1.each }, subst (λ (n : ℕ). settings.limit < n) (sym all.2) (ltb-true settings.limit (length (closed_sets (deps_of patches))) e)), refl),
+            too_many base patches has
+                (all.0, record { distinct = all.1.distinct; each = all.1.each }, subst (λ (n : ℕ). settings.limit < n) (sym all.2) (ltb-true settings.limit (length (closed_sets (deps_of patches))) e)),
           )
       by_limit false e =
           let ordered = sorted (failing_sets base patches) (apart_filter (fails base patches) (closed_sets (deps_of patches)) (closed_are_all (deps_of patches) before).apart) in
-          let sections = some_sections base patches ordered.0 in (
-            Reported (report settings.json settings.module (length patches) (length (closed_sets (deps_of patches))) sections.0) (length ordered.0),
-            record {
+          let sections = some_sections base patches ordered.0 in
+          let text = report settings.json settings.module (length patches) (length (closed_sets (deps_of patches))) sections.0 in
+          let exactly : AreAllInOrder (IsFailing base patches) ordered.0 = record {
+            ordered = ascending_pairs ordered.0 ordered.1.ascends;
+            exactly = λ set. ((λ is. failing_at base patches before set (ordered.1.from set is)), (λ failing. ordered.1.to set (in_failing base patches before set failing)));
+          } in
+          let closed = failing_closed base patches ordered.0 exactly in (
+            Reported text (length ordered.0),
+            reported base patches text (length ordered.0) has (record {
               total = length (closed_sets (deps_of patches));
               counted = counts_closed patches (length (closed_sets (deps_of patches))) before refl;
               within = not_above settings.limit (length (closed_sets (deps_of patches))) e;
               sets = ordered.0;
-              exactly = record {
-                ordered = ascending_pairs ordered.0 ordered.1.ascends;
-                exactly = λ set. ((λ is. failing_at base patches before set (ordered.1.from set is)), (λ failing. ordered.1.to set (in_failing base patches before set failing)));
-              };
+              exactly = exactly;
+              left = closed_are_left base patches before ordered.0 closed;
               number = refl;
               sections = sections.0;
               told = sections.1;
+              lead = sections_lead base patches before ordered.0 sections.0 closed sections.1;
               whole = refl;
-            },
+            }),
           )
         where
           not_above : (limit n : ℕ) → nat_lt limit n ≡ false → n ≤ limit
           not_above limit n e = grind (arith, nat_tests)
 
-  from_traced : (base : Disk) (r : Result Tracing TraceFault) → (answer : Answer) × IsTracedAnswer settings base r answer
-  from_traced base (Err fault) = (Refused (run_of_trace fault), refl)
-  from_traced base (Ok last) =
-      let it = from_graph base (graph_of settings.module base last) (earlier settings.module base last) in
-      (it.0, (graph_of settings.module base last, graph_is settings.module base last, it.1))
-
-  from_base : (r : Result Disk TraceFault) (steps : List Step) → (answer : Answer) × IsBaseAnswer settings r steps answer
-  from_base (Err fault) steps = (Refused (run_of_trace fault), refl)
-  from_base (Ok base) steps = from_traced base (traced settings.module (begun base) steps)
-
-  from_steps : (base steps : List Step) → (answer : Answer) × IsStepsAnswer settings base steps answer
-  from_steps base steps = by_geometry (is_geometry settings) refl
+  from_base : (base : Disk) (steps : List Step) → HasBase bytes settings base steps → (answer : Answer) × IsAnswer bytes settings answer
+  from_base base steps start = by_trace (traced settings.module (begun base) steps) refl
     where
-      by_geometry : (b : Bool) → is_geometry settings ≡ b → (answer : Answer) × IsStepsAnswer settings base steps answer
-      by_geometry true e = let it = from_base (based (formatted settings.blocks settings.journal) base) steps in (it.0, inr (geometry_if settings e, it.1))
-      by_geometry false e = (Refused BadGeometry, inl (no_geometry settings e, refl))
+      by_trace : (r : Result Tracing TraceFault) → traced settings.module (begun base) steps ≡ r → (answer : Answer) × IsAnswer bytes settings answer
+      by_trace (Err fault) is = (Refused (run_of_trace fault), bad_trace base steps fault start is)
+      by_trace (Ok last) is = from_graph base (graph_of settings.module base last)
+          (record { steps = steps; start = start; last = last; run = is; graph = graph_is settings.module base last })
+
+  from_steps : (before steps : List Step) → IsScript bytes before steps → (answer : Answer) × IsAnswer bytes settings answer
+  from_steps before steps read = by_geometry (is_geometry settings) refl
+    where
+      by_base : IsGeometry settings.blocks settings.journal → (r : Result Disk TraceFault) → based (formatted settings.blocks settings.journal) before ≡ r
+          → (answer : Answer) × IsAnswer bytes settings answer
+      by_base geometry (Err fault) is = (Refused (run_of_trace fault), bad_base before steps fault read geometry is)
+      by_base geometry (Ok base) is = from_base base steps (record { before = before; read = read; geometry = geometry; built = is })
+
+      by_geometry : (b : Bool) → is_geometry settings ≡ b → (answer : Answer) × IsAnswer bytes settings answer
+      by_geometry true e = by_base (geometry_if settings e) (based (formatted settings.blocks settings.journal) before) refl
+      by_geometry false e = (Refused BadGeometry, bad_geometry before steps read (no_geometry settings e))
 
   -- there is an answer
-  pub some_answer : (bytes : List ℕ) → (answer : Answer) × IsAnswer bytes settings answer
-  some_answer bytes = by_reading (some_reading bytes)
+  pub some_answer : (answer : Answer) × IsAnswer bytes settings answer
+  some_answer = by_reading (some_reading bytes)
     where
       by_reading : ((base : List Step) × (steps : List Step) × IsScript bytes base steps) ⊎ ((fault : ScriptFault) × IsScriptRefusal bytes fault) → (answer : Answer) × IsAnswer bytes settings answer
-      by_reading (inl script) = let it = from_steps script.0 script.1 in (it.0, inr (script.0, script.1, script.2, it.1))
-      by_reading (inr refused) = (Refused (run_of_script refused.0), inl (refused.0, refused.1, refl))
+      by_reading (inl script) = from_steps script.0 script.1 script.2
+      by_reading (inr refused) = (Refused (run_of_script refused.0), bad_script refused.0 refused.1)

@@ -1,18 +1,17 @@
 -- Each script is read or refused.
-use Rattle.std.proofs.Common.{◌≡◌, ◌≢◌, ℕ, zero, suc, ◌+◌, ◌<◌, ◌≤◌, List, [], ◌∷◌, ◌++◌, length, Bool, true, false, not, ◌&&◌, arith, refl, sym, subst, ap, ◌∙◌, inl, inr, get_or, append_assoc, append-nil}
+use Rattle.std.proofs.Common.{◌≡◌, ◌≢◌, ℕ, zero, suc, ◌+◌, ◌<◌, ◌≤◌, List, [], ◌∷◌, ◌++◌, length, Bool, true, false, arith, refl, sym, subst, ap, ◌∙◌, inl, inr, get_or, append_assoc, append-nil}
 use Rattle.std.specs.Prelude.{◌⊎◌, ◌==◌, codes, flat_map, Option, Some, None, bytes_eq, IsUtf8, slice_get, if◌then◌else◌}
 use Rattle.std.specs.Str.{is_utf8}
 use Rattle.std.specs.List.{All, Contains, list_all}
-use Rattle.std.proofs.lemmas.Bool.{and_parts, ltb-true, leb-true}
 use Rattle.std.proofs.lemmas.List.Elements.{All-nil, All-cons, All-head, All-tail, All-push}
 use Rattle.std.proofs.lemmas.Slice.Eq.{bytes_eq-Decides}
-use Rattle.std.proofs.lemmas.Str.{IsUtf8-from_is_utf8, is_utf8-from_IsUtf8}
+use Rattle.std.proofs.lemmas.Str.{IsUtf8-from_is_utf8}
 use Rattle.patch_sets.proofs.Bits.{eq_or_not}
 use Rattle.patch_sets.proofs.Ids.{eq_from_true, ne_from_false, false_from_ne}
 use Rattle.crash_model.proofs.Cuts.{Lacks}
 use Rattle.crash_model.specs.Lists.{joined}
 use Rattle.crash_model.specs.Names.{IsName, is_name_byte}
-use Rattle.crash_model.specs.Script.{ArePlain, AreLines, spelt, AreWords, path_text, IsPath, IsPathWord, Operand, PathOperand, GroupOperand, forms, Fits, HasPaths, HasForm, Line, Skipped, Start, Says, IsAct, words_of, IsSkipped, Reads, AreSteps, IsScript, AreAccepted, IsFirstRefused, IsBadLine, IsBadPath, IsScriptRefusal}
+use Rattle.crash_model.specs.Script.{AreLines, spelt, AreWords, path_text, IsPath, IsPathWord, Operand, PathOperand, GroupOperand, forms, Fits, HasPaths, HasForm, Line, Skipped, Start, Says, IsAct, words_of, IsSkipped, Reads, AreSteps, IsScript, AreAccepted, IsScriptRefusal}
 use Rattle.crash_model.specs.declared.names.Op.TheVariants.{Create, Write, Link, Unlink, Rename, Mkdir, Rmdir}
 use Rattle.crash_model.specs.declared.names.Path.{Path}
 use Rattle.crash_model.specs.declared.refusals.ScriptFault.{ScriptFault}
@@ -21,7 +20,7 @@ use Rattle.crash_model.specs.declared.steps.Act.{Act}
 use Rattle.crash_model.specs.declared.steps.Act.TheVariants.{Do, Group, End, Depend}
 use Rattle.crash_model.specs.declared.steps.Step.{Step}
 use Rattle.worked_example_laws.specs.Spelled.{is_word}
-use Rattle.worked_example_laws.proofs.Pieces.{AreLacking, onto, pieces, pieces_joined}
+use Rattle.worked_example_laws.proofs.Pieces.{AreLacking, onto, pieces}
 use Rattle.worked_example_laws.proofs.Readings.{path_from, path_of_pieces, path_of, no_path, fit, fitting, lookup, form_of, in_forms, no_form, plain_from}
 use Rattle.worked_example_laws.proofs.Refused.{fits_if, not_skipped, not_text}
 use Rattle.std.proofs.lemmas.Option.{slice_get-get_or}

@@ -1,9 +1,9 @@
 //! Std's readers and writers as devices: what no clause says.
 
-use crate::memory::Taken;
-use crate::sink::{Sink, write_all};
-use crate::source::{DeviceFault, Source, read_to_end};
-use crate::standard::Counted;
+use devices::memory::Taken;
+use devices::sink::{Sink, write_all};
+use devices::source::{DeviceFault, Source, read_to_end};
+use devices::standard::Counted;
 use std::io::{self, Error, ErrorKind, Read, Write};
 use std::test::Fail;
 

@@ -1,6 +1,8 @@
-use super::*;
+//! The lines of scripts.
+
 use crash_model::refusals::ScriptFault;
 use crash_model::steps::{Act, Step};
+use script_text::read_script;
 use std::test::Fail;
 
 /// The line and a letter for the kind of each step.

@@ -1,6 +1,8 @@
 //! Defaults, values and faults of the command line.
 
-use super::*;
+use command_line::settings_of;
+use crash_model::settings::Settings;
+use crash_model::steps::Module;
 use std::test::Fail;
 
 #[test]
@@ -86,13 +88,12 @@ fn two_scripts_are_a_fault(rt: HostRuntime) {
 }
 
 #[test]
-fn help_is_no_fault(rt: HostRuntime) -> Result<(), Fail> {
-    let words = ["--help"];
-    match settings_of(rt.alloc(), &words) {
-        Ok(_) => assert!(rt; false, "help is taken"),
-        Err(error) => {
-            assert!(rt; !error.use_stderr() && error.exit_code() == 0);
-            println!(rt; "{error}")?;
+fn help_and_the_version_are_no_faults(rt: HostRuntime) -> Result<(), Fail> {
+    for word in ["--help", "-h", "--version", "-V"] {
+        let words = [word];
+        match settings_of(rt.alloc(), &words) {
+            Ok(_) => assert!(rt; false, "{word} is taken"),
+            Err(error) => assert!(rt; !error.use_stderr() && error.exit_code() == 0),
         }
     }
     Ok(())

@@ -1,0 +1,17 @@
+-- Why there is no disk at the start line.
+use Rattle.std.specs.Prelude.{◌≡◌, ◌⊎◌, List, Err}
+use Rattle.crash_model.specs.Disk.{formatted, IsGeometry}
+use Rattle.crash_model.specs.Refusals.{run_of_trace}
+use Rattle.crash_model.specs.Trace.{based}
+use Rattle.crash_model.specs.declared.refusals.TraceFault.{TraceFault}
+use Rattle.crash_model.specs.declared.refusals.RunFault.{RunFault}
+use Rattle.crash_model.specs.declared.refusals.RunFault.TheVariants.{BadGeometry}
+use Rattle.crash_model.specs.declared.settings.Settings.{Settings}
+use Rattle.crash_model.specs.declared.steps.Step.{Step}
+
+-- the geometry is bad, or a step before the start line is refused
+abbrev pub IsBaseRefusal : Settings → List Step → RunFault → Type 0
+IsBaseRefusal settings steps fault =
+    ((¬ (IsGeometry settings.blocks settings.journal)) × (fault ≡ BadGeometry))
+    ⊎ (IsGeometry settings.blocks settings.journal
+    × ((why : TraceFault) × (based (formatted settings.blocks settings.journal) steps ≡ Err why) × (fault ≡ run_of_trace why)))

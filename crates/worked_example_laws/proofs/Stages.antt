@@ -1,0 +1,58 @@
+-- An answer as what comes of the script, its base, its trace and its graph, one after another.
+use Rattle.std.proofs.Common.{◌≡◌, ℕ, List, refl, sym, subst, inl, inr}
+use Rattle.std.specs.Prelude.{◌⊎◌, Result, Ok, Err}
+use Rattle.crash_model.specs.Answer.{Answer, Refused, Reported, HasBase, HasGraph, IsReport, IsAnswer, bad_script, bad_geometry, bad_base, bad_trace, too_many, reported}
+use Rattle.crash_model.specs.Disk.{Disk, formatted, IsGeometry}
+use Rattle.crash_model.specs.Failing.{ExceedsLimit}
+use Rattle.crash_model.specs.Refusals.{run_of_script, run_of_trace}
+use Rattle.crash_model.specs.Script.{IsScript, IsScriptRefusal}
+use Rattle.crash_model.specs.Trace.{Tracing, begun, traced, based, IsGraphOf}
+use Rattle.crash_model.specs.declared.patches.Patch.{Patch}
+use Rattle.crash_model.specs.declared.refusals.RunFault.TheVariants.{BadGeometry, TooMany}
+use Rattle.crash_model.specs.declared.refusals.ScriptFault.{ScriptFault}
+use Rattle.crash_model.specs.declared.refusals.TraceFault.{TraceFault}
+use Rattle.crash_model.specs.declared.settings.Settings.{Settings}
+use Rattle.crash_model.specs.declared.steps.Step.{Step}
+
+module _ (settings : Settings) where
+  abbrev pub ComesOfGraph : Disk → List Patch → Answer → Type 0
+  ComesOfGraph base patches (Refused fault) = ExceedsLimit patches settings.limit × (fault ≡ TooMany)
+  ComesOfGraph base patches (Reported text failing) = IsReport settings base patches text failing
+
+  abbrev pub ComesOfTrace : Disk → Result Tracing TraceFault → Answer → Type 0
+  ComesOfTrace base (Err fault) answer = answer ≡ Refused (run_of_trace fault)
+  ComesOfTrace base (Ok last) answer = (patches : List Patch) × IsGraphOf settings.module base last patches × ComesOfGraph base patches answer
+
+  abbrev pub ComesOfBase : Result Disk TraceFault → List Step → Answer → Type 0
+  ComesOfBase (Err fault) steps answer = answer ≡ Refused (run_of_trace fault)
+  ComesOfBase (Ok base) steps answer = ComesOfTrace base (traced settings.module (begun base) steps) answer
+
+  abbrev pub ComesOfSteps : List Step → List Step → Answer → Type 0
+  ComesOfSteps before steps answer =
+      ((¬ (IsGeometry settings.blocks settings.journal)) × (answer ≡ Refused BadGeometry))
+      ⊎ (IsGeometry settings.blocks settings.journal × ComesOfBase (based (formatted settings.blocks settings.journal) before) steps answer)
+
+  abbrev pub ComesOfScript : List ℕ → Answer → Type 0
+  ComesOfScript bytes answer =
+      ((fault : ScriptFault) × IsScriptRefusal bytes fault × (answer ≡ Refused (run_of_script fault)))
+      ⊎ ((before : List Step) × (steps : List Step) × IsScript bytes before steps × ComesOfSteps before steps answer)
+
+  from_base : (bytes : List ℕ) (base : Disk) (steps : List Step) (answer : Answer) → HasBase bytes settings base steps
+      → ComesOfTrace base (traced settings.module (begun base) steps) answer → ComesOfScript bytes answer
+  from_base bytes base steps answer start comes =
+      inr (start.before, steps, start.read, inr (start.geometry, subst (λ r. ComesOfBase r steps answer) (sym start.built) comes))
+
+  from_graph : (bytes : List ℕ) (base : Disk) (patches : List Patch) (answer : Answer) → HasGraph bytes settings base patches
+      → ComesOfGraph base patches answer → ComesOfScript bytes answer
+  from_graph bytes base patches answer has comes =
+      from_base bytes base has.steps answer has.start (subst (λ r. ComesOfTrace base r answer) (sym has.run) (patches, has.graph, comes))
+
+  pub stages : {bytes : List ℕ} {answer : Answer} → IsAnswer bytes settings answer → ComesOfScript bytes answer
+  stages (bad_script fault refused) = inl (fault, refused, refl)
+  stages (bad_geometry before steps read none) = inr (before, steps, read, inl (none, refl))
+  stages (bad_base before steps fault read geometry is) =
+      inr (before, steps, read, inr (geometry, subst (λ r. ComesOfBase r steps (Refused (run_of_trace fault))) (sym is) refl))
+  stages (bad_trace base steps fault start is) =
+      from_base _ base steps _ start (subst (λ r. ComesOfTrace base r (Refused (run_of_trace fault))) (sym is) refl)
+  stages (too_many base patches has more) = from_graph _ base patches _ has (more, refl)
+  stages (reported base patches text failing has report) = from_graph _ base patches _ has report
