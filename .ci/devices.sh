@@ -26,6 +26,10 @@ expect "a script that is not there" 2 "" "crashmap: 50 cannot read the script
 " no/such/script
 expect "a folder in place of a script" 2 "" "crashmap: 50 cannot read the script
 " .
+not_text="error: invalid UTF-8 was detected in one or more arguments
+"
+expect "a word that is not UTF-8" 2 "" "$not_text" $'\xff'
+expect "an option's value that is not UTF-8" 2 "" "$not_text" --module $'so\xfft'
 status=0
 said=$(printf 'start\n' | "$program" 2>&1 >/dev/full) || status=$?
 if [ "$status" = 2 ] && [ "$said" = "crashmap: 51 cannot write the report" ]; then
