@@ -5,3 +5,4 @@ pub mod Fronts
 pub mod ImageBytes
 pub mod Moved
 pub mod PutSteps
+pub mod Differ

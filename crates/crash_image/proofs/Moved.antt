@@ -49,7 +49,7 @@ undone-shape id d (p ∷ ps) set =
     either_shape (has set id) (undone p (undone_from (id + 1) d ps set)) (undone_from (id + 1) d ps set) d
     record { blocks = rest.blocks; journal = rest.journal } rest
 
-disk-same : (d e : Disk) → SameShape d e → d.bytes ≡ e.bytes → d ≡ e
+pub disk-same : (d e : Disk) → SameShape d e → d.bytes ≡ e.bytes → d ≡ e
 disk-same d e shape bytes =
     ap (λ (n : ℕ). disk n d.journal d.bytes) shape.blocks
     ∙ ap (λ (n : ℕ). disk e.blocks n d.bytes) shape.journal

@@ -1,9 +1,10 @@
 -- Patches put on a disk and taken back.
 use Rattle.std.specs.Prelude.{◌≡◌, ℕ, ◌+◌, ◌<◌, List, [], ◌∷◌, if◌then◌else◌}
 use Rattle.std.specs.List.{All}
-use Rattle.patch_sets.specs.Sets.{has}
+use Rattle.patch_sets.specs.Sets.{Has, has}
 use Rattle.patch_sets.specs.Closed.{IsClosed}
-use Rattle.patch_graph.specs.Graph.{IsGraph}
+use Rattle.patch_graph.specs.Graph.{IsAt, IsGraph}
+use Rattle.journal_replay.specs.Changed.{DifferAtMost}
 use Rattle.crash_model.specs.Disk.{Disk, IsDisk, put}
 use Rattle.crash_model.specs.Patches.{deps_of, image_of, AreUndo}
 use Rattle.crash_model.specs.Replay.{replayed}
@@ -57,3 +58,12 @@ pub record Crashes : Type 0 where
 -- the image that a set leaves is clean after replay
 abbrev pub IsGood : Crashes → ℕ → Type 0
 IsGood crashes set = IsClean (replayed (image_of crashes.base crashes.patches set))
+
+-- a set of blocks has that of each patch of a set
+pub record HasBlocks (patches : List Patch) (set blocks : ℕ) : Type 0 where
+  pub each : (id : ℕ) (patch : Patch) → Has set id → IsAt patches id patch → Has blocks patch.block
+
+-- the image of a closed set after replay, which differs from the one before in these blocks at most
+pub record IsReplayed (a : Applied) (after : Disk) (stale : ℕ) : Type 0 where
+  pub is : after ≡ replayed (image_of a.base a.patches a.set)
+  pub differ : DifferAtMost stale (image_of a.base a.patches a.set) after

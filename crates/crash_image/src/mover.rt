@@ -1,16 +1,20 @@
 //! One image, brought from set to set.
 
-ghost use Rattle.std.specs.Prelude.{◌≡◌, ◌<◌};
+ghost use Rattle.std.specs.Prelude.{◌≡◌, ℕ, ◌<◌, length};
 ghost use Rattle.std.specs.List.{All};
+ghost use Rattle.patch_sets.specs.Sets.{Has, IsSubset};
 ghost use Rattle.patch_sets.specs.Closed.{IsClosed};
 ghost use Rattle.crash_model.specs.Patches.{deps_of, image_of, AreUndo};
 ghost use Rattle.crash_model.specs.Replay.{replayed};
+ghost use Rattle.journal_replay.specs.Changed.{DifferAtMost};
+ghost use Rattle.crash_image.specs.Moves.{HasBlocks};
 
 use crate::puts::{redo, undo};
 use disk_image::Image;
 use journal_replay::replay;
 use patch_graph::Graph;
-use patch_sets::ends::difference;
+use patch_sets::ends::{difference, lowest, without};
+use patch_sets::set::with;
 use std::alloc::Allocator;
 use std::marker::Model;
 
@@ -64,6 +68,16 @@ impl<'a, A: Allocator + Copy> Mover<'a, A> {
         self.set = set;
     }
 
+    /// The blocks that a move to a set changes: the image of that set differs from this one in no other.
+    pub(crate) fn blocks_to(&self, set: u128) -> u128
+        requires { IsClosed (deps_of self.now.patches) set }
+        ensures { DifferAtMost result (image_of self.now.base self.now.patches self.now.set)
+            (image_of self.now.base self.now.patches set) }
+    {
+        let undone = add_blocks(self.graph, difference(self.set, set), 0);
+        add_blocks(self.graph, difference(set, self.set), undone)
+    }
+
     /// The set whose image it is.
     pub fn set(&self) -> u128
         ensures { result ≡ self.now.set }
@@ -86,4 +100,20 @@ impl<'a, A: Allocator + Copy> Mover<'a, A> {
         into.copy_from(&self.image);
         replay(into);
     }
+}
+
+/// The blocks given and those that a set's patches change.
+fn add_blocks<A: Allocator + Copy>(graph: &Graph<A>, set: u128, blocks: u128) -> u128
+    requires few { All (λ patch. patch.block < 128) graph.now }
+    requires known { (id : ℕ) → Has set id → id < length graph.now }
+    ensures old { IsSubset blocks result }
+    ensures more { HasBlocks graph.now set result }
+{
+    let mut all = blocks;
+    let mut left = set;
+    while let Some(id) = lowest(left) {
+        all = with(all, usize::from(graph.patch(id).block));
+        left = without(left, id);
+    }
+    all
 }

@@ -1,12 +1,12 @@
 //! The sets that a crash can leave, as a space to explore.
 
-ghost use Rattle.std.specs.Prelude.{◌≡◌, ◌<◌, ◌↔◌, IsTrue};
+ghost use Rattle.std.specs.Prelude.{◌≡◌, ◌<◌, ◌↔◌, IsTrue, IsOk, IfOk};
 ghost use Rattle.std.specs.List.{All};
 ghost use Rattle.patch_sets.specs.Closed.{IsClosed};
 ghost use Rattle.crash_model.specs.Patches.{deps_of, AreUndo};
 ghost use Rattle.crash_image.specs.Moves.{IsGood};
 
-use crate::mover::Mover;
+use crate::replayer::Replayer;
 use disk_image::Image;
 use fs_check::is_clean;
 use patch_graph::Graph;
@@ -34,24 +34,20 @@ impl<'a, A: Allocator + Copy> Model for PatchSpace<'a, A> {
     ghost invariant = { λ s. AreOver s.base.now s.graph.now };
 }
 
-/// What sets are judged in: a mover, and an image for replay.
+/// What sets are judged in: the image after replay of the set that was judged last.
 ///
-/// Contracts see the mover's base and patches.
+/// Contracts see its base and patches.
 #[derive(Drop)]
 pub struct Scratch<'a, A: Allocator + Copy> {
-    mover: Mover<'a, A>,
-    after_replay: Image<A>,
+    replayer: Replayer<'a, A>,
 }
 
 impl<'a, A: Allocator + Copy> Model for Scratch<'a, A> {
-    ghost use Rattle.std.specs.Prelude.{◌≡◌};
     ghost use Rattle.crash_image.specs.Moves.{Crashes};
 
     ghost Value = { Crashes };
 
-    ghost view = { λ s. record { base = s.mover.base; patches = s.mover.patches } };
-
-    ghost invariant = { λ s. s.after_replay.blocks ≡ s.mover.base.blocks };
+    ghost view = { λ s. record { base = s.replayer.base; patches = s.replayer.patches } };
 }
 
 impl<A: Allocator + Copy> Scratch<'_, A> {
@@ -61,9 +57,8 @@ impl<A: Allocator + Copy> Scratch<'_, A> {
         ensures good { IsTrue result ↔ IsGood self.old set }
         ensures kept { self.new ≡ self.old }
     {
-        self.mover.move_to(set);
-        self.mover.replayed(&mut self.after_replay);
-        is_clean(&self.after_replay)
+        self.replayer.move_to(set);
+        is_clean(self.replayer.image())
     }
 }
 
@@ -108,8 +103,7 @@ impl<'a, A: Allocator + Copy> Space for PatchSpace<'a, A> {
 
     fn scratch(&self) -> Result<Scratch<'a, A>, AllocError> {
         Ok(Scratch {
-            mover: Mover::new(self.base.try_copy()?, self.graph),
-            after_replay: self.base.try_copy()?,
+            replayer: Replayer::new(self.base.try_copy()?, self.base.try_copy()?, self.graph),
         })
     }
 
@@ -121,7 +115,14 @@ impl<'a, A: Allocator + Copy> Space for PatchSpace<'a, A> {
         self.graph.successor(word, k)
     }
 
-    fn judge(&self, scratch: &mut Scratch<'a, A>, word: u128) -> Result<bool, AllocError> {
+    /// Whether the image of the set is clean after replay. It takes no memory, so its answer is Ok.
+    fn judge(&self, scratch: &mut Scratch<'a, A>, word: u128) -> Result<bool, AllocError>
+        requires closed { IsClosed (deps_of self.now.patches) word }
+        requires own { scratch.old ≡ self.now }
+        ensures ok { IsOk result }
+        ensures good { IfOk result (λ good. IsTrue good ↔ IsGood self.now word) }
+        ensures own { scratch.new ≡ self.now }
+    {
         Ok(scratch.is_good(word))
     }
 
