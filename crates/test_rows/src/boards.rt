@@ -1,12 +1,14 @@
-//! A lone seat and a second one on the board of a script's own space, whose limit is just enough.
+//! A lone seat on the board of a script's own space, whose limit is just enough.
 
-ghost use Rattle.std.specs.Prelude.{◌≡◌, ◌≢◌};
+ghost use Rattle.std.specs.Prelude.{◌≡◌, ◌≢◌, ◌<◌, IfOk};
+ghost use Rattle.std.specs.List.{All};
+ghost use Rattle.crash_model.specs.Patches.{AreUndo};
 ghost use Rattle.seen_board.specs.Clauses.{IsOf, HasClaim, HasPlace, word_at};
 ghost use Rattle.test_board.specs.Worker.{IsAt, IsIdle};
 
 use crate::traces::{Trace, trace_of};
 use crash_image::PatchSpace;
-use seen_board::{Board, BoardSeat, Got, Life, Place, Put};
+use seen_board::{Board, BoardSeat, Life, Place, Put};
 use state_space::Space;
 use std::alloc::Global;
 use std::process::Abort;
@@ -21,7 +23,10 @@ const START: Place = Place { shard: 0, at: 0 };
 /// Where the set of patch 0, which is the word 1, comes to stand.
 const FIRST: Place = Place { shard: 1, at: 0 };
 
-fn created(alloc: Global) -> Result<Trace, Fail> {
+fn created(alloc: Global) -> Result<Trace, Fail>
+    ensures fits { IfOk result (λ t. All (λ patch. patch.block < t.base.blocks) t.graph) }
+    ensures undo { IfOk result (λ t. AreUndo t.base t.graph) }
+{
     trace_of(
         alloc,
         CREATE.script,
@@ -66,24 +71,6 @@ fn settle_entry<S: Space, R: Abort + Wait>(
     assert!(rt; seat.has_seen(place));
     assert!(rt; board.claim(seat, place));
     assert!(rt; matches!(expand(rt, board, space, scratch, seat, place), Ok(true)));
-}
-
-#[test]
-fn a_set_is_found_once_it_is_put_in(rt: HostRuntime) -> Result<(), Fail> {
-    let script = created(rt.alloc())?;
-    let space = PatchSpace::new(&script.base, &script.graph);
-    let (board, mut seat, _) = Board::open(rt.alloc(), &space, 4)?;
-    assert!(rt; board.claim(&mut seat, START));
-    assert_eq!(rt; board.find(&mut seat, 0), Some(START));
-    assert_eq!(rt; board.find(&mut seat, 1), None);
-    assert!(rt; put_first(&rt, &board, &space, &mut seat) == Put::New(FIRST));
-    assert_eq!(rt; board.find(&mut seat, 1), Some(FIRST));
-    let mut other = board.split(&mut seat);
-    assert!(rt; board.try_write(&mut other, 1) == Got::Right);
-    assert!(rt; board.try_read(&mut seat, 1) == Got::Busy);
-    assert_eq!(rt; board.find(&mut seat, 1), Some(FIRST));
-    assert!(rt; put_first(&rt, &board, &space, &mut seat) == Put::Known(FIRST));
-    Ok(())
 }
 
 #[test]

@@ -75,6 +75,14 @@ fn the_limit_is_met_exactly_with_every_number_of_workers(rt: HostRuntime) -> Res
     Ok(())
 }
 
+/// Whether a line was found, and is this one.
+fn is_text(found: Option<&str>, wanted: &str) -> bool {
+    match found {
+        Some(line) => line == wanted,
+        None => false,
+    }
+}
+
 /// The first and the last line of a report that names a set, and its last line.
 fn first_and_last<R: Abort + AllocGlobal + Threads + Wait + Sync>(
     rt: &R,
@@ -87,21 +95,21 @@ fn first_and_last<R: Abort + AllocGlobal + Threads + Wait + Sync>(
     let script = asked.whole_script(heap)?;
     let settings = asked.settings(4096, false);
     let outcome = run(rt, heap, heap, &script, &settings, 1, &OpenGate)?;
-    let mut first_set = "";
-    let mut last_set = "";
-    let mut last_line = "";
+    let mut first_set = None;
+    let mut last_set = None;
+    let mut last_line = None;
     for line in outcome.text.as_str().lines() {
         if line.starts_with("set ") {
-            last_set = line;
-            if first_set.is_empty() {
-                first_set = line;
+            last_set = Some(line);
+            if first_set.is_none() {
+                first_set = Some(line);
             }
         }
-        last_line = line;
+        last_line = Some(line);
     }
-    assert!(rt; first_set == first);
-    assert!(rt; last_set == last);
-    assert!(rt; last_line == fault);
+    assert!(rt; is_text(first_set, first));
+    assert!(rt; is_text(last_set, last));
+    assert!(rt; is_text(last_line, fault));
     Ok(())
 }
 
