@@ -1,21 +1,32 @@
 #!/usr/bin/env bash
-# explore.sh [SCRIPT [OPTION..]]: how long a whole run takes with 1, 2 and 4 workers (the best of fifteen), how many closed sets a
-# second that is, and where the time goes. Without a script it times scripts of 4 to 7 creates without an ordering, which have
-# 256, 1,024, 4,096 and 16,384 closed sets, and one of 62 links and unlinks, which has 3,969. The limit is 32768. Not part of
-# the gate.
+# explore.sh [SCRIPT [OPTION..]]: how long a whole run takes with 1, 2 and 4 workers, how many closed sets a second that is,
+# and where the time goes. Without a script it times scripts of 4 to 7 creates without an ordering, which have 256, 1,024,
+# 4,096 and 16,384 closed sets, and one of 62 links and unlinks, which has 3,969. The limit is 32768. Not part of the gate.
 #
-# The time is split by differences. 'board' is what opening a board of that limit takes longer than one of just as many places
-# as there are sets. 'report' is what a run on the smaller board takes longer than one whose limit is a set too low, which
-# explores as much and prints nothing. 'judging' is what judging so many sets takes by itself, by the rate of the first 4,096
-# (see judge.sh), divided by the workers. 'exploring' is the rest, with the start of the program, the trace and the wait at the
-# end. Parts of a few milliseconds drown in what two runs differ by, and may come out negative.
+# What is timed takes turns in 15 rounds (or ROUNDS), and of each the shortest run counts, so that all meet the machine
+# alike. The first line tells the machine's load before and after. Where RIVAL names another program that takes the same
+# arguments, it takes its turns too, and its time is told beside.
+#
+# 'start' is a run on a script with nothing to explore at limit 1: the process, and the shortest of reports. 'open' is what
+# the same run takes longer at the limit, which is what the board of that limit costs. 'collisions' is what the run takes
+# longer than one whose limit is the largest prime below, 32749: their boards are as large, and an index of prime size has
+# next to none. Where the board is made for the number of the closed sets and not for the limit, both are next to nothing,
+# and what opening it costs is part of the rest. 'judging' is what judging so many sets takes by itself, by the rate of the
+# first 4,096 (see judge.sh), divided by the workers. 'rest' is the trace, exploring, the report and the wait at the end. A
+# part of less than a millisecond drowns in what two runs differ by, and may come out negative.
 set -eu
 top=$(cd "$(dirname "${BASH_SOURCE[0]}")/.." && pwd)
 printf 'start\n' | "$top/crashmap" >/dev/null # builds it where it is not built
 (cd "$top/crates/bench_judge" && rt run <stdin >/dev/null 2>&1)
 program=$top/crates/crashmap/out/crashmap
 judge=$top/crates/bench_judge/out/bench_judge
+rival=${RIVAL:-}
+rounds=${ROUNDS:-15}
 limit=32768
+prime=32749
+work=$(mktemp -d)
+trap 'rm -rf "$work"' EXIT
+echo start >"$work/nothing"
 
 # time_once NAME COMMAND..: keeps under that name how long the shortest run took, in microseconds
 declare -A best
@@ -28,26 +39,42 @@ time_once() {
     if [ -z "${best[$name]:-}" ] || [ "$spent" -lt "${best[$name]}" ]; then best[$name]=$spent; fi
 }
 
-# time_one NAME SCRIPT OPTION..: the runs take turns, so that all of them meet the machine alike
+# time_round SCRIPT OPTION..: a turn of each
+time_round() {
+    local script=$1 workers
+    shift
+    time_once start "$program" "$work/nothing" "$@" --limit 1 --workers 1
+    time_once open "$program" "$work/nothing" "$@" --limit "$limit" --workers 1
+    for workers in 1 2 4; do
+        time_once "$workers" "$program" "$script" "$@" --limit "$limit" --workers "$workers"
+        time_once "$workers prime" "$program" "$script" "$@" --limit "$prime" --workers "$workers"
+        if [ -n "$rival" ]; then
+            time_once "$workers rival" "$rival" "$script" "$@" --limit "$limit" --workers "$workers"
+        fi
+    done
+}
+
+# time_one NAME SCRIPT OPTION..: times a script, and prints a line for each number of workers
 time_one() {
-    local name=$1 script=$2 closed rate workers most judging
+    local name=$1 script=$2 closed rate workers load whole start open judging collisions beside
     shift 2
     best=()
     closed=$("$program" "$script" "$@" --limit "$limit" | sed -n 's/^closed //p' || true)
     rate=$("$judge" "$@" --limit 4096 <"$script" 2>&1 >/dev/null | sed -n 's/ judged a second$//p')
-    for _ in {1..15}; do
-        for workers in 1 2 4; do
-            for most in "$limit" "$closed" $((closed - 1)); do
-                time_once "$workers $most" "$program" "$script" "$@" --workers "$workers" --limit "$most"
-            done
-        done
-    done
+    load=$(cut -d' ' -f1 /proc/loadavg)
+    for _ in $(seq "$rounds"); do time_round "$script" "$@"; done
+    printf '%s: %d sets, %d rounds, load %s before and %s after\n' \
+        "$name" "$closed" "$rounds" "$load" "$(cut -d' ' -f1 /proc/loadavg)"
+    start=${best[start]} open=$((best[open] - best[start]))
     for workers in 1 2 4; do
-        local whole=${best["$workers $limit"]} fitting=${best["$workers $closed"]} unreported=${best["$workers $((closed - 1))"]}
+        whole=${best[$workers]}
         judging=$((closed * 1000000 / rate / workers))
-        printf '%-22s %6s sets, %s workers: %8d us, %8d sets a second; board %d us, exploring %d us, judging %d us, report %d us\n' \
-            "$name" "$closed" "$workers" "$whole" $((closed * 1000000 / whole)) $((whole - fitting)) \
-            $((unreported - judging)) "$judging" $((fitting - unreported))
+        collisions=$((whole - best["$workers prime"]))
+        beside=
+        if [ -n "$rival" ]; then beside="; the rival $((best["$workers rival"])) us"; fi
+        printf '  %s workers: %d us, %d sets a second%s\n' "$workers" "$whole" $((closed * 1000000 / whole)) "$beside"
+        printf '    start %d us, open %d us, collisions %d us, judging %d us, rest %d us\n' \
+            "$start" "$open" "$collisions" "$judging" $((whole - start - open - collisions - judging))
     done
 }
 
@@ -55,8 +82,6 @@ if [ $# -gt 0 ]; then
     time_one "$(basename "$1")" "$@"
     exit
 fi
-work=$(mktemp -d)
-trap 'rm -rf "$work"' EXIT
 for count in 4 5 6 7; do
     { echo start; for name in a b c d e f g; do echo "create /$name"; done | head -n "$count"; } >"$work/creates"
     time_one "$count creates" "$work/creates" --module async

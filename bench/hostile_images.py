@@ -7,10 +7,9 @@ FILE is a Python module with the functions of the definitions: formatted, plan, 
 Operation, Refused and REFUSAL_TEXTS. The images are those of crates/test_hostile, made by the same rules from the same seeds.
 """
 
-import argparse
 import hashlib
 
-from reference import load
+from reference import reference_and_count
 from seeded import Noise
 
 TELLING = [0, 0, 0, 1, 1, 2, 2, 3, 4, 5, 10, 15, 0x44, 0x46, 0xC7, 0xC8]
@@ -149,15 +148,11 @@ class Told:
 
 
 def main():
-    parser = argparse.ArgumentParser(usage=__doc__)
-    parser.add_argument("--reference", required=True)
-    parser.add_argument("--count", type=int, default=100)
-    call = parser.parse_args()
-    reference = load(call.reference)
+    reference, count = reference_and_count(__doc__, 100)
     for shape in SHAPES:
         for blocks, journal in SIZES:
             told = Told(reference)
-            for seed in range(call.count):
+            for seed in range(count):
                 told.tell(image_of(reference, shape, blocks, journal, seed))
             print("%s %d %d: clean %d faults %d planned %d replayed %d digest %s" % (
                 shape, blocks, journal, told.clean, told.faults, told.planned, told.replayed, told.digest.hexdigest()))

@@ -7,12 +7,12 @@ FILE is a Python module with `program(words, input, out, err)`, which answers a 
 exit status. The scripts are those of crates/test_hostile, made by the same rules from the same seeds.
 """
 
-import argparse
 import collections
 import hashlib
 import io
+import itertools
 
-from reference import load
+from reference import reference_and_count
 from seeded import Noise
 
 TELLING = b"start\ncreate /abd\nlinkmw \n# /A1\xff"
@@ -20,6 +20,9 @@ LINES = [b"write /b\n", b"create /a\n", b"create /b\n", b"write /a\n", b"unlink 
          b"rmdir /d\n", b"link /a /d/y\n", b"rename /a /b\n", b"group A\n", b"end\n", b"depend B A\n", b"group B\n", b"# x\n",
          b"create /c\n"]
 BASE = b"mkdir /d\ncreate /a\n"
+NAMED = b"mkdir /d\ncreate /a\ncreate /b\ncreate /d/x\ncreate /f\nstart\n"
+APART = [b"write /a\n", b"link /a /d/y\n", b"create /c\n", b"rename /b /e\n", b"mkdir /m\n", b"unlink /d/x\n",
+         b"create /d/z\n", b"write /f\n"]
 MODULES = ["async", "soft", "meta", "full"]
 
 
@@ -41,21 +44,22 @@ def known_lines(noise, seed):
     return b"".join(lines)
 
 
+def lines_apart(noise, seed):
+    first = noise.below(8)
+    return NAMED + b"".join(APART[(first + place) % 8] for place in range(8) if noise.below(8) < 3)
+
+
 def main():
-    parser = argparse.ArgumentParser(usage=__doc__)
-    parser.add_argument("--reference", required=True)
-    parser.add_argument("--count", type=int, default=300)
-    call = parser.parse_args()
-    reference = load(call.reference)
-    for kind in (any_bytes, telling_bytes, known_lines):
+    reference, count = reference_and_count(__doc__, 300)
+    for kind, form in itertools.product((any_bytes, telling_bytes, known_lines, lines_apart), ([], ["--json"])):
         digest, answers = hashlib.sha1(), collections.Counter()
-        for seed in range(call.count):
-            words = ["--module", MODULES[seed % 4], "--blocks", "24", "--journal", "12"]
+        for seed in range(count):
+            words = ["--module", MODULES[seed % 4], "--blocks", "24", "--journal", "12", *form]
             out, err = io.BytesIO(), io.BytesIO()
             status = reference.program(words, io.BytesIO(kind(Noise(seed), seed)), out, err)
             digest.update(bytes([status]) + out.getvalue() + err.getvalue())
             answers[status] += 1
-        print("%s: statuses %s digest %s" % (kind.__name__, sorted(answers.items()), digest.hexdigest()))
+        print("%s: statuses %s digest %s" % (" ".join([kind.__name__, *form]), sorted(answers.items()), digest.hexdigest()))
 
 
 if __name__ == "__main__":

@@ -1,5 +1,6 @@
 """Loads the program that a script of this folder compares with."""
 
+import argparse
 import importlib.util
 import sys
 
@@ -12,3 +13,12 @@ def load(path):
     sys.modules["compared_with"] = module
     spec.loader.exec_module(module)
     return module
+
+
+def reference_and_count(usage, count):
+    """The module that the command line names, and how many cases it asks for, `count` where it does not say."""
+    parser = argparse.ArgumentParser(usage=usage)
+    parser.add_argument("--reference", required=True)
+    parser.add_argument("--count", type=int, default=count)
+    call = parser.parse_args()
+    return load(call.reference), call.count

@@ -9,7 +9,7 @@ mod sets;
 
 use command_line::settings_of;
 use disk_image::Image;
-use order_modules::{Ordering, build_base, trace};
+use order_modules::{build_base, trace};
 use rounds::judge_rounds;
 use script_text::read_script;
 use sets::closed_sets;
@@ -33,7 +33,7 @@ fn main(rt: HostRuntime) -> Result<(), Fail> {
     let script = read_script(heap, &script)?;
     let mut base = Image::formatted(heap, settings.blocks, settings.journal)?;
     build_base(&mut base, &script.base)?;
-    let ordering = Ordering::of(settings.module);
+    let ordering = settings.ordering();
     let graph = trace(heap, &base, &script.traced, &ordering)?.into_graph();
     let sets = closed_sets(heap, &graph, settings.limit)?;
     judge_rounds(&rt, &base, &graph, &sets)

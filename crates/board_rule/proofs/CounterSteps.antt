@@ -1,5 +1,5 @@
 -- The steps on pending, the count and the stop.
-use Rattle.std.proofs.Common.{◌≡◌, ◌≢◌, ℕ, ◌+◌, ◌-◌, ◌*◌, ◌%◌, ◌^◌, ◌<◌, ◌≤◌, List, length, get_or, set, refl, ap, subst, arith, get_or-set_other, get_or-set_same}
+use Rattle.std.proofs.Common.{◌≡◌, ◌≢◌, ℕ, ◌+◌, ◌-◌, ◌*◌, ◌%◌, ◌^◌, ◌<◌, ◌≤◌, List, ◌++◌, length, get_or, set, replicate, refl, ap, ◌∙◌, subst, arith, get_or-set_other, get_or-set_same}
 use Rattle.std.specs.Prelude.{Contains}
 use mathlib.Core.Logic.{dite}
 use native.Mathlib.Decide.{ℕ_discrete, dec_le}
@@ -12,7 +12,7 @@ use Rattle.board_rule.specs.Layout.{writer, place_of}
 use Rattle.board_rule.specs.Lists.{row_of, total}
 use Rattle.board_rule.specs.Lives.{unsettled}
 use Rattle.board_rule.specs.Views.{Told, OnLives, OnPending, OnCount}
-use Rattle.board_rule.specs.Rule.{claims_on, open_lives, PendingOk, CountOk, Kept}
+use Rattle.board_rule.specs.Rule.{claims_on, open_lives, PendingOk, CountOk, IsBare, Kept}
 use Rattle.board_rule.specs.Changes.{giving_up}
 use Rattle.board_rule.specs.Plays.{announced, repaid, ended, counted, stopped, overflowed}
 use Rattle.board_rule.specs.declared.view.View.{View}
@@ -30,12 +30,12 @@ module _ (t : Told) (good : ℕ → Type 0) (S : Type 0) where
 
   -- a step on one of the words 0 to 2
   counter_turn : (s : State S View) (o : Rule s) (id i n : ℕ) (l : OnLives) (p : OnPending) (c : OnCount) (m : Me S View) → i < 3 → get_elem? s.views id ≡ some m.0
-      → ((a : ℕ) → claims_on a (record m.0 { lives = l; pending = p; count = c }) ≡ claims_on a m.0) → l.learned ≡ m.0.lives.learned
+      → ((a : ℕ) → claims_on a (record m.0 { lives = l; pending = p; count = c }) ≡ claims_on a m.0) → l.learned ≡ m.0.lives.learned → (m.0.limit ≡ 0 → IsBare m.0 → IsBare (record m.0 { lives = l; pending = p; count = c }))
       → PendingOk o.lives (set s.words i n) (set s.views id (record m.0 { lives = l; pending = p; count = c }))
       → CountOk t o.rows (set s.words i n) (set s.views id (record m.0 { lives = l; pending = p; count = c }))
       → Rule (stepped s i n id m.1 (record m.0 { lives = l; pending = p; count = c }) keeps)
-  counter_turn s o id i n l p c m low me less met pending counts = let w : View = record m.0 { lives = l; pending = p; count = c } in
-      rest_turn t good S s o id i n m l p c o.lives (λ a lo hi e. omega (arith, e, lo, low)) (λ a lo e. omega (arith, e, lo, low)) me
+  counter_turn s o id i n l p c m low me less met bare pending counts = let w : View = record m.0 { lives = l; pending = p; count = c } in
+      rest_turn t good S s o id i n m l p c o.lives (λ a lo hi e. omega (arith, e, lo, low)) (λ a lo e. omega (arith, e, lo, low)) me bare
       (lives_stay t good o.rows o.lives s.words (set s.words i n) s.views id m.0 w o.life me (λ q k h b. get_or-set_other s.words i _ n 0 (λ e. omega (arith, e, low))) (λ q h. omega (arith, o.life.even q h, o.row.short q h)) less met) pending counts
 
   lives_few : (s : State S View) (o : Rule s) → total length o.lives ≤ 13 * t.limit
@@ -54,8 +54,8 @@ module _ (t : Told) (good : ℕ → Type 0) (S : Type 0) where
         w,
         keeps,
         tt,
-        counter_turn s o id 0 y m.0.lives p m.0.count m (omega arith) me (λ a. omega arith) refl
-            (pending_turn o.lives o.lives s.words (set s.words 0 y) s.views id m.0 w o.pending me (omega (arith, now, up, none-yet)) (omega arith) (omega (arith, writes))
+        counter_turn s o id 0 y m.0.lives p m.0.count m (omega arith) me (λ a. omega arith) refl (λ _ b. absurd (omega (arith, b.claims, has)))
+            (pending_turn o.lives o.lives s.words (set s.words 0 y) s.views id m.0 w o.pending me (omega (arith, now, up, none-yet)) (omega arith) (omega arith) (omega (arith, writes))
             (λ none-open _. absurd (omega (arith, none-open, one-open))) (λ f. absurd (omega (arith, (o.pending.done id m.0 me f).0, one-open))))
             (count_turn t o.rows o.rows s.words (set s.words 0 y) s.views id m.0 w o.counts me (omega (arith, get_or-set_other s.words 0 1 y 0 (λ e. omega (arith, e)))) (o.counts.over id m.0 me)),
         refl,
@@ -70,7 +70,8 @@ module _ (t : Told) (good : ℕ → Type 0) (S : Type 0) where
         keeps,
         tt,
         counter_turn s o id 0 y m.0.lives p m.0.count m (omega arith) me (λ b. omega arith) refl
-            (pending_turn o.lives o.lives s.words (set s.words 0 y) s.views id m.0 w o.pending me (omega (arith, now, down, debt)) (omega (arith, debt)) (o.pending.by_writers id m.0 me)
+            (λ _ b. record { added = b.added; claims = b.claims; given_up = b.given_up; announced = b.announced; owed = refl; verdicts = b.verdicts; uncounted = b.uncounted })
+            (pending_turn o.lives o.lives s.words (set s.words 0 y) s.views id m.0 w o.pending me (omega (arith, now, down, debt)) (omega (arith, debt)) (omega arith) (o.pending.by_writers id m.0 me)
             (λ none-open _. (none-open, omega arith)) (λ f. let d = o.pending.done id m.0 me f in (d.0, omega (arith, a, d.1))))
             (count_turn t o.rows o.rows s.words (set s.words 0 y) s.views id m.0 w o.counts me (omega (arith, get_or-set_other s.words 0 1 y 0 (λ e. omega (arith, e)))) (o.counts.over id m.0 me)),
         refl,
@@ -86,7 +87,8 @@ module _ (t : Told) (good : ℕ → Type 0) (S : Type 0) where
         keeps,
         tt,
         counter_turn s o id 0 x m.0.lives p m.0.count m (omega arith) me (λ b. omega arith) refl
-            (pending_turn o.lives o.lives s.words (set s.words 0 x) s.views id m.0 w o.pending me (omega (arith, now)) (omega arith) (o.pending.by_writers id m.0 me)
+            (λ _ b. record { added = b.added; claims = b.claims; given_up = b.given_up; announced = b.announced; owed = b.owed; verdicts = b.verdicts; uncounted = b.uncounted })
+            (pending_turn o.lives o.lives s.words (set s.words 0 x) s.views id m.0 w o.pending me (omega (arith, now)) (omega arith) (omega arith) (o.pending.by_writers id m.0 me)
             (λ none-open _. (none-open, omega arith)) (λ _. (omega (arith, o.pending.sum, zeroed), omega (arith, a, o.pending.sum, zeroed))))
             (count_turn t o.rows o.rows s.words (set s.words 0 x) s.views id m.0 w o.counts me (omega (arith, get_or-set_other s.words 0 1 x 0 (λ e. omega (arith, e)))) (o.counts.over id m.0 me)),
         (refl, (λ _. refl), λ ne. absurd (ne zeroed)),
@@ -101,8 +103,8 @@ module _ (t : Told) (good : ℕ → Type 0) (S : Type 0) where
       let now : get_or (set s.words 1 y) 1 0 ≡ y = get_or-set_same s.words 1 y 0 (omega (arith, o.sized)) in
       let made : (c : OnCount) → c.uncounted ≡ 0 → (c.over ≡ 1 → Outnumbers (IsReached t.next t.origin) t.limit) → Rule (stepped s 1 y id m.1 (record m.0 { count = c }) keeps) = λ c none large.
       (let w : View = record m.0 { count = c } in let a = total-set (λ v. v.pending.announced) s.views id m.0 w me in
-      counter_turn s o id 1 y m.0.lives m.0.pending c m (omega arith) me (λ b. omega arith) refl
-      (pending_turn o.lives o.lives s.words (set s.words 1 y) s.views id m.0 w o.pending me (omega (arith, get_or-set_other s.words 1 0 y 0 (λ e. omega (arith, e)))) (omega arith) (o.pending.by_writers id m.0 me)
+      counter_turn s o id 1 y m.0.lives m.0.pending c m (omega arith) me (λ b. omega arith) refl (λ _ b. absurd (omega (arith, b.uncounted, mine)))
+      (pending_turn o.lives o.lives s.words (set s.words 1 y) s.views id m.0 w o.pending me (omega (arith, get_or-set_other s.words 1 0 y 0 (λ e. omega (arith, e)))) (omega arith) (omega arith) (o.pending.by_writers id m.0 me)
       (λ none-open _. (none-open, omega arith)) (λ f. let d = o.pending.done id m.0 me f in (d.0, omega (arith, a, d.1))))
       (count_turn t o.rows o.rows s.words (set s.words 1 y) s.views id m.0 w o.counts me (omega (arith, now, up, mine, none)) large)) in
       dite (dec_le t.limit x)
@@ -114,7 +116,8 @@ module _ (t : Told) (good : ℕ → Type 0) (S : Type 0) where
       → Rule (stepped s 2 1 id m.1 (record (giving_up m.0) { count = c }) keeps)
   stop_turn s o id m c me same large = let l = (giving_up m.0).lives in let w : View = record m.0 { lives = l; count = c } in let a = total-set (λ v. v.pending.announced) s.views id m.0 w me in
       counter_turn s o id 2 1 l m.0.pending c m (omega arith) me (λ p. claims_given_up m.0 p) refl
-      (pending_turn o.lives o.lives s.words (set s.words 2 1) s.views id m.0 w o.pending me (omega (arith, get_or-set_other s.words 2 0 1 0 (λ e. omega (arith, e)))) (omega arith) (o.pending.by_writers id m.0 me)
+      (λ _ b. record { added = b.added; claims = refl; given_up = ap (λ (g : List ℕ). g ++ replicate m.0.lives.claims m.0.lives.place) b.given_up ∙ ap (λ (n : ℕ). replicate n m.0.lives.place) b.claims; announced = b.announced; owed = b.owed; verdicts = b.verdicts; uncounted = same ∙ b.uncounted })
+      (pending_turn o.lives o.lives s.words (set s.words 2 1) s.views id m.0 w o.pending me (omega (arith, get_or-set_other s.words 2 0 1 0 (λ e. omega (arith, e)))) (omega arith) (omega arith) (o.pending.by_writers id m.0 me)
       (λ none-open _. (none-open, omega arith)) (λ f. let d = o.pending.done id m.0 me f in (d.0, omega (arith, a, d.1))))
       (count_turn t o.rows o.rows s.words (set s.words 2 1) s.views id m.0 w o.counts me (omega (arith, get_or-set_other s.words 2 1 1 0 (λ e. omega (arith, e)), same)) large)
 

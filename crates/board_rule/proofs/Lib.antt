@@ -14,5 +14,6 @@ pub mod Refuted
 pub mod RowSteps
 pub mod Rows
 pub mod Seats
+pub mod Shares
 pub mod Sums
 pub mod Turns

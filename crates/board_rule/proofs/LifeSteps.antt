@@ -12,7 +12,7 @@ use Rattle.board_rule.specs.Layout.{life_word, place_of}
 use Rattle.board_rule.specs.Lists.{row_of, Has}
 use Rattle.board_rule.specs.Lives.{life_of, is_claimed, unsettled, settled, verdict_of, Passes}
 use Rattle.board_rule.specs.Views.{Told, OnLives}
-use Rattle.board_rule.specs.Rule.{times_among, claims_at, claims_on, Kept}
+use Rattle.board_rule.specs.Rule.{times_among, claims_at, claims_on, IsBare, Kept}
 use Rattle.board_rule.specs.Changes.{with_learned, with_claim}
 use Rattle.board_rule.specs.Plays as Plays
 use Rattle.board_rule.specs.Plays.{claimed}
@@ -32,22 +32,23 @@ module _ (t : Told) (good : ℕ → Type 0) (S : Type 0) where
   Rule = Kept t good
 
   -- a step on the life of a published place, which may change the claim and what is owed to pending
-  life_turn : (s : State S View) (o : Rule s) (id q k n : ℕ) (new_life : Life) (l : OnLives) (owed : ℕ) (m : Me S View) → q < 13 → k < length (row_of o.rows q) → get_elem? s.views id ≡ some m.0
+  life_turn : (s : State S View) (o : Rule s) (id q k n : ℕ) (new_life : Life) (l : OnLives) (owed verdicts : ℕ) (m : Me S View) → q < 13 → k < length (row_of o.rows q) → get_elem? s.views id ≡ some m.0
       → claims_at (place_of q k) (record m.0 { lives = l }) + is_claimed (get_or (row_of o.lives q) k 0) ≡ is_claimed n + claims_at (place_of q k) m.0
       → ((p : ℕ) → p ≢ place_of q k → claims_at p (record m.0 { lives = l }) ≡ claims_at p m.0) → l.given_up ≡ m.0.lives.given_up
       → n ≤ 3 → (n ≡ 2 → good (get_or (row_of o.rows q) k 0)) → (n ≡ 3 → good (get_or (row_of o.rows q) k 0) → ⊥) → (2 ≤ n → (y : ℕ) → Contains (t.next (get_or (row_of o.rows q) k 0)) y → Has o.rows y)
       → ((life : Life) → Passes life (life_of (get_or (row_of o.lives q) k 0)) → Passes life (life_of n)) → l.learned ≡ m.0.lives.learned ++ (place_of q k, new_life) ∷ [] → Passes new_life (life_of n)
-      → owed + unsettled n ≡ m.0.pending.owed + unsettled (get_or (row_of o.lives q) k 0) → owed + settled (get_or (row_of o.lives q) k 0) ≤ m.0.pending.owed + settled n → unsettled n ≤ unsettled (get_or (row_of o.lives q) k 0)
-      → Rule (stepped s (life_word t.limit q k) n id m.1 (record m.0 { lives = l; pending = record m.0.pending { owed = owed } }) keeps)
-  life_turn s o id q k n new_life l owed m near inside me gain less kept top is-clean is-broken shut on more met sum few down =
-      let p = record m.0.pending { owed = owed } in let w : View = record m.0 { lives = l; pending = p } in let i = life_word t.limit q k in let words' = set s.words i n in
+      → owed + unsettled n ≡ m.0.pending.owed + unsettled (get_or (row_of o.lives q) k 0) → owed + settled (get_or (row_of o.lives q) k 0) ≤ m.0.pending.owed + settled n → verdicts + settled (get_or (row_of o.lives q) k 0) ≡ m.0.pending.verdicts + settled n → unsettled n ≤ unsettled (get_or (row_of o.lives q) k 0)
+      → (m.0.limit ≡ 0 → IsBare m.0 → IsBare (record m.0 { lives = l; pending = record m.0.pending { owed = owed; verdicts = verdicts } }))
+      → Rule (stepped s (life_word t.limit q k) n id m.1 (record m.0 { lives = l; pending = record m.0.pending { owed = owed; verdicts = verdicts } }) keeps)
+  life_turn s o id q k n new_life l owed verdicts m near inside me gain less kept top is-clean is-broken shut on more met sum few told down bare =
+      let p = record m.0.pending { owed = owed; verdicts = verdicts } in let w : View = record m.0 { lives = l; pending = p } in let i = life_word t.limit q k in let words' = set s.words i n in
       let gone : (p : ℕ) → times_among p l.given_up ≡ times_among p m.0.lives.given_up = λ p. ap (times_among p) kept in
       let short : k < t.limit = omega (arith, inside, o.row.short q near) in let in_lives : k < length (row_of o.lives q) = omega (arith, inside, o.life.even q near) in
       let u = lives_sum unsettled o.lives q k n (omega (arith, near, o.life.all)) in_lives in let v = lives_sum settled o.lives q k n (omega (arith, near, o.life.all)) in_lives in
       let a = total-set (λ x. x.pending.announced) s.views id m.0 w me in let zeroth : get_or words' 0 0 ≡ get_or s.words 0 0 = get_or-set_other s.words i 0 n 0 (λ e. omega (arith, e)) in
-      rest_turn t good S s o id i n m l p m.0.count (set o.lives q (set (row_of o.lives q) k n)) (λ b lo hi e. omega (arith, e, hi)) (λ b lo e. omega (arith, e, lo, short, near)) me
+      rest_turn t good S s o id i n m l p m.0.count (set o.lives q (set (row_of o.lives q) k n)) (λ b lo hi e. omega (arith, e, hi)) (λ b lo e. omega (arith, e, lo, short, near)) me bare
       (lives_turn t good o.rows o.lives s.words s.views id m.0 w q k n new_life near in_lives (omega (arith, o.sized, short, near)) o.life me (omega (arith, gain, gone (place_of q k))) (λ p ne. omega (arith, less p ne, gone p)) top is-clean is-broken shut on more met)
-      (pending_turn o.lives (set o.lives q (set (row_of o.lives q) k n)) s.words words' s.views id m.0 w o.pending me (omega (arith, zeroth, u, sum)) (omega (arith, v, few)) (o.pending.by_writers id m.0 me)
+      (pending_turn o.lives (set o.lives q (set (row_of o.lives q) k n)) s.words words' s.views id m.0 w o.pending me (omega (arith, zeroth, u, sum)) (omega (arith, v, few)) (omega (arith, v, told)) (o.pending.by_writers id m.0 me)
       (λ none-open none-announced. (omega (arith, u, down, none-open), omega arith)) (λ f. let d = o.pending.done id m.0 me f in (omega (arith, u, down, d.0), omega (arith, a, d.1))))
       (count_turn t o.rows o.rows s.words words' s.views id m.0 w o.counts me (omega (arith, get_or-set_other s.words i 1 n 0 (λ e. omega (arith, e)))) (o.counts.over id m.0 me))
 
@@ -73,20 +74,20 @@ module _ (t : Told) (good : ℕ → Type 0) (S : Type 0) where
         w,
         keeps,
         tt,
-        life_turn s o id q k 1 Claimed w.lives m.0.pending.owed m near inside me
+        life_turn s o id q k 1 Claimed w.lives m.0.pending.owed m.0.pending.verdicts m near inside me
             (rw was (let yes : claims_at place w ≡ 1 = claim_here w place refl in omega (arith, yes, claim_none m.0 place none-yet)))
             (λ p ne. let no : claims_at p w ≡ 0 = claim_else w p (λ e. ne (sym e)) in omega (arith, no, claim_none m.0 p none-yet)) refl
             (omega arith) (λ two. absurd (omega (arith, two))) (λ three. absurd (omega (arith, three))) (λ two. absurd (omega (arith, two)))
-            (λ life h. passes_claim life (subst (λ (y : ℕ). Passes life (life_of y)) was h)) refl (λ e. cc e) (rw was refl) (rw was (omega arith)) (rw was (omega arith)),
+            (λ life h. passes_claim life (subst (λ (y : ℕ). Passes life (life_of y)) was h)) refl (λ e. cc e) (rw was refl) (rw was (omega arith)) (rw was (omega arith)) (rw was (omega arith)) (λ none _. absurd (omega (arith, none, told, o.wide))),
         (refl, λ p b e h. ((λ _. (ap (λ (y : ℕ). with_claim m.0 y Claimed) (sym (here m.0 p b e h)), λ gave. absurd (never_again p b e h was gave))), λ miss. absurd (miss hit))),
       ))
       (λ miss. (
         missed,
         keeps,
         tt,
-        subst (λ (y : ℕ). Rule (stepped s j y id m.1 missed keeps)) (sym is) (life_turn s o id q k (get_or (row_of o.lives q) k 0) Claimed missed.lives m.0.pending.owed m near inside me
+        subst (λ (y : ℕ). Rule (stepped s j y id m.1 missed keeps)) (sym is) (life_turn s o id q k (get_or (row_of o.lives q) k 0) Claimed missed.lives m.0.pending.owed m.0.pending.verdicts m near inside me
             (omega arith) (λ p ne. omega arith) refl (o.life.four q k near) (o.life.clean q k near) (o.life.broken q k near) (λ two y. o.life.closed q k y near two)
-            (λ life h. h) refl (not_waiting (get_or (row_of o.lives q) k 0) (λ e. miss (is ∙ e))) refl (omega arith) (omega arith)),
+            (λ life h. h) refl (not_waiting (get_or (row_of o.lives q) k 0) (λ e. miss (is ∙ e))) refl (omega arith) (omega arith) (omega arith) (λ none _. absurd (omega (arith, none, told, o.wide)))),
         (refl, λ p b e h. ((λ hit. absurd (miss hit)), λ _. ap (λ (y : ℕ). with_learned m.0 y Claimed) (sym (here m.0 p b e h)))),
       )))
 
@@ -103,10 +104,10 @@ module _ (t : Told) (good : ℕ → Type 0) (S : Type 0) where
       let inside : k < length (row_of o.rows q) = omega (arith, seen, starts-length (row_of o.rows q) (row_of m.0.rows.seen q) (ok.saw q near)) in
       let was = claimed_life s o id q k m.0 near me has here in let same = starts-at (row_of o.rows q) (row_of m.0.rows.seen q) k (ok.saw q near) seen in
       let v = verdict_settles is_good in let mine : claims_at (place_of q k) m.0 ≡ 1 = claim_here m.0 (place_of q k) here ∙ has in (
-        record m.0 { lives = l; pending = record m.0.pending { owed = m.0.pending.owed + 1 } },
+        record m.0 { lives = l; pending = record m.0.pending { owed = m.0.pending.owed + 1; verdicts = m.0.pending.verdicts + 1 } },
         keeps,
         tt,
-        life_turn s o id q k x (life_of x) l (m.0.pending.owed + 1) m near inside me
+        life_turn s o id q k x (life_of x) l (m.0.pending.owed + 1) (m.0.pending.verdicts + 1) m near inside me
             (rw was (omega (arith, claim_none w (place_of q k) refl, mine, ap is_claimed verdict ∙ v.2))) (λ p ne. omega (arith, claim_none w p refl, claim_else m.0 p (λ e. ne (sym e ∙ here)))) refl
             (omega (arith, verdict, v.1))
             (λ two. subst good (sym same) (right.0 (verdict_clean is_good (sym verdict ∙ two))))
@@ -115,6 +116,6 @@ module _ (t : Told) (good : ℕ → Type 0) (S : Type 0) where
             (e.0, omega (arith, e.1, starts-length (row_of o.rows (y % 13)) (row_of m.0.rows.seen (y % 13)) (ok.saw (y % 13) (omega arith))), starts-at (row_of o.rows (y % 13)) (row_of m.0.rows.seen (y % 13)) e.0 (ok.saw (y % 13) (omega arith)) e.1 ∙ e.2))
             (λ life h. subst (λ (y : ℕ). Passes life (life_of y)) (sym verdict) (passes_verdict is_good life (subst (λ (y : ℕ). Passes life (life_of y)) was h)))
             (ap (λ (p : ℕ). m.0.lives.learned ++ (p, life_of x) ∷ []) here) (passes_same (life_of x))
-            (rw was (rw verdict (omega (arith, v.3)))) (rw was (rw verdict (omega (arith, v.4)))) (rw was (rw verdict (omega (arith, v.3)))),
+            (rw was (rw verdict (omega (arith, v.3)))) (rw was (rw verdict (omega (arith, v.4)))) (rw was (rw verdict (omega (arith, v.4)))) (rw was (rw verdict (omega (arith, v.3)))) (λ _ b. absurd (omega (arith, b.claims, has))),
         refl,
       ))

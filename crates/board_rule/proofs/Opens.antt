@@ -1,5 +1,5 @@
 -- A new board keeps the rule.
-use Rattle.std.proofs.Common.{◌≡◌, ◌≢◌, ℕ, zero, suc, ◌*◌, ◌/◌, ◌%◌, ◌<◌, ◌≤◌, List, [], ◌∷◌, length, get_or, set, replicate, cond, eq-eqb, ne_eqb, sym, refl, ap, ◌∙◌, subst, inl, ◌⊎◌, arith, length-set, get_or-set_other, get_or-set_same}
+use Rattle.std.proofs.Common.{◌≡◌, ◌≢◌, ℕ, zero, suc, ◌-◌, ◌*◌, ◌/◌, ◌%◌, ◌^◌, ◌<◌, ◌≤◌, List, [], ◌∷◌, length, get_or, set, replicate, cond, eq-eqb, ne_eqb, sym, refl, ap, ◌∙◌, subst, inl, ◌⊎◌, arith, length-set, get_or-set_other, get_or-set_same}
 use Rattle.std.specs.List.{All}
 use Rattle.std.proofs.lemmas.List.{length-replicate}
 use mathlib.Core.Logic.{dite}
@@ -12,9 +12,9 @@ use Rattle.state_space.specs.Counts.{Outnumbers}
 use Rattle.state_space.proofs.Runs.{reached_start}
 use Rattle.board_rule.specs.Layout.{half, writer, lock_word, length_word, low_word, high_word, life_word, index_word, size_for, place_of, slot}
 use Rattle.board_rule.specs.Lists.{row_of, total}
-use Rattle.board_rule.specs.Lives.{life_of, life_at, is_claimed, unsettled, Passes}
+use Rattle.board_rule.specs.Lives.{life_of, life_at, is_claimed, unsettled, settled, Passes}
 use Rattle.board_rule.specs.Views.{Told}
-use Rattle.board_rule.specs.Rule.{EachSeat, start_place, open_lives, SeatOk, Stands, Unfiled, Kept}
+use Rattle.board_rule.specs.Rule.{EachSeat, start_place, open_lives, SeatOk, Stands, Unfiled, IsBare, Kept}
 use Rattle.board_rule.specs.Changes.{opening_rows, opening_words, first_view}
 use Rattle.board_rule.specs.declared.view.View.{View}
 use Rattle.board_rule.proofs.Sums.{rows_cases, starts-refl, total_set_or}
@@ -112,9 +112,12 @@ opens t good S wide = let start = t.origin in let limit = t.limit in let q = sta
         reached = each (λ p k x. IsReached t.next start x) (reached_start t.next start);
       };
       seats = only (λ u. SeatOk limit rows words u.rows) (seat_free limit rows words v.rows (length-set nils q (start ∷ [])) (λ p h. starts-refl (row_of rows p)) (omega arith) refl refl refl);
-      added = λ p. dite (ℕ_discrete p (start_place start))
-          (λ e. omega (arith, ap {B = ℕ} (λ b. cond b 1 0) (eq-eqb p (start_place start) e), published_yes rows p (let here : p % 13 ≡ q = omega (arith, e) in subst (λ (y : ℕ). p / 13 < length (row_of rows y)) (sym here) (omega (arith, e, ap length row)))))
-          (λ ne. omega (arith, ap {B = ℕ} (λ b. cond b 1 0) (ne_eqb p (start_place start) ne), published_no rows p (rows_cases nils q (start ∷ []) (λ y l. p % 13 ≡ y → length l ≤ p / 13) refl near (λ e. omega (arith, e, ne)) (λ y h other _. omega (arith, empty y)) (p % 13) (omega arith) refl)));
+      added = record {
+        once = λ p. dite (ℕ_discrete p (start_place start))
+            (λ e. omega (arith, ap {B = ℕ} (λ b. cond b 1 0) (eq-eqb p (start_place start) e), published_yes rows p (let here : p % 13 ≡ q = omega (arith, e) in subst (λ (y : ℕ). p / 13 < length (row_of rows y)) (sym here) (omega (arith, e, ap length row)))))
+            (λ ne. omega (arith, ap {B = ℕ} (λ b. cond b 1 0) (ne_eqb p (start_place start) ne), published_no rows p (rows_cases nils q (start ∷ []) (λ y l. p % 13 ≡ y → length l ≤ p / 13) refl near (λ e. omega (arith, e, ne)) (λ y h other _. omega (arith, empty y)) (p % 13) (omega arith) refl)));
+        many = omega (arith, sum length refl refl (start ∷ []));
+      };
       life = record {
         all = length-set nils q (0 ∷ []);
         even = rows_cases nils q (0 ∷ []) (λ p l. length l ≡ length (row_of rows p)) refl near (sym (ap length row)) (λ p h ne. ap length (sym (get_or-set_other nils q p (start ∷ []) [] ne)));
@@ -130,6 +133,7 @@ opens t good S wide = let start = t.origin in let limit = t.limit in let q = sta
       pending = record {
         sum = omega (arith, w.pending, sum (total unsettled) refl refl (0 ∷ []));
         few = omega arith;
+        verdicts = omega (arith, sum (total settled) refl refl (0 ∷ []));
         by_writers = only (λ u. u.pending.announced * writer ≤ u.rows.right) (omega arith);
         done = only (λ u. u.pending.finished ≡ 1 → (open_lives lives ≡ 0) × (total (λ x. x.pending.announced) (v ∷ []) ≡ 0)) (λ f. absurd (omega (arith, f)));
       };
@@ -138,5 +142,12 @@ opens t good S wide = let start = t.origin in let limit = t.limit in let q = sta
         places = λ p j h b. dite (ℕ_discrete p q)
             (λ e. dite (ℕ_discrete j j0) (λ d. rw e (rw d (omega (arith, w.mark, ap length row)))) (λ nd. omega (arith, marks p j h b (λ _. nd)))) (λ ne. omega (arith, marks p j h b (λ e. absurd (ne e))));
         stands = each (λ p k x. Stands limit (λ j. get_or words (index_word limit p j) 0) x k ⊎ Unfiled (v ∷ []) p k) (inl (λ u uw z. dite (ℕ_discrete u 0) (λ e. absurd (omega (arith, w.mark, z, ap (λ (y : ℕ). get_or words (index_word limit q (slot limit start y)) 0) e))) (λ ne. (0, omega (arith, ne), w.mark))));
+      };
+      shares = record {
+        from = 0;
+        cut = only (λ u. u.share.cuts ≤ 0) (omega arith);
+        whole = λ k h. omega (arith, ap (λ (j : ℕ). 2 ^ j) (let z : k - 0 ≡ k = omega arith in z));
+        positive = only (λ u. 0 < u.limit → 0 < u.share.parts) (λ _. omega arith);
+        bare = only (λ u. u.limit ≡ 0 → IsBare u) (λ none. absurd (omega (arith, none, wide)));
       };
     }

@@ -29,13 +29,15 @@ unsettled_low n h = ap {B = ℕ} (λ b. cond b 1 0) (lt-ltb n 2 h)
 pub pending_turn : (lives lives' : List (List ℕ)) (words words' : List ℕ) (views : List View) (i : ℕ) (v w : View) → PendingOk lives words views → get_elem? views i ≡ some v
     → get_or words' 0 0 + (open_lives lives + (v.pending.announced + v.pending.owed)) ≡ get_or words 0 0 + (open_lives lives' + (w.pending.announced + w.pending.owed))
     → w.pending.owed + total (total settled) lives ≤ v.pending.owed + total (total settled) lives'
+    → w.pending.verdicts + total (total settled) lives ≡ v.pending.verdicts + total (total settled) lives'
     → w.pending.announced * writer ≤ w.rows.right
     → (open_lives lives ≡ 0 → total (λ u. u.pending.announced) views ≡ 0 → (open_lives lives' ≡ 0) × (w.pending.announced ≤ v.pending.announced))
     → (w.pending.finished ≡ 1 → (open_lives lives' ≡ 0) × (total (λ u. u.pending.announced) (set views i w) ≡ 0))
     → PendingOk lives' words' (set views i w)
-pending_turn lives lives' words words' views i v w o me sum few writers done own = let a = total-set (λ u. u.pending.announced) views i v w me in let b = total-set (λ u. u.pending.owed) views i v w me in record {
+pending_turn lives lives' words words' views i v w o me sum few verdicts writers done own = let a = total-set (λ u. u.pending.announced) views i v w me in let b = total-set (λ u. u.pending.owed) views i v w me in record {
   sum = omega (arith, o.sum, sum, a, b);
   few = omega (arith, o.few, few, b);
+  verdicts = omega (arith, o.verdicts, verdicts, total-set (λ u. u.pending.verdicts) views i v w me);
   by_writers = seats_turn (λ u. u.pending.announced * writer ≤ u.rows.right) views i w writers (λ j u ne e. o.by_writers j u e);
   done = seats_turn (λ u. u.pending.finished ≡ 1 → (open_lives lives' ≡ 0) × (total (λ u. u.pending.announced) (set views i w) ≡ 0)) views i w own
       (λ j u ne e f. let t = o.done j u e f in let d = done t.0 t.1 in (d.0, omega (arith, a, t.1, d.1)));
@@ -46,7 +48,7 @@ pub pending_stay : (lives : List (List ℕ)) (words words' : List ℕ) (views : 
     → get_or words' 0 0 ≡ get_or words 0 0 → w.pending ≡ v.pending → w.pending.announced * writer ≤ w.rows.right → PendingOk lives words' (set views i w)
 pending_stay lives words words' views i v w o me same debts writers = let a = total-set (λ u. u.pending.announced) views i v w me in
     let ann : w.pending.announced ≡ v.pending.announced = ap (λ p. p.announced) debts in let owe : w.pending.owed ≡ v.pending.owed = ap (λ p. p.owed) debts in
-    pending_turn lives lives words words' views i v w o me (omega (arith, same, ann, owe)) (omega (arith, owe)) writers (λ none-open none-on-way. (none-open, omega (arith, ann)))
+    pending_turn lives lives words words' views i v w o me (omega (arith, same, ann, owe)) (omega (arith, owe)) (omega (arith, ap (λ p. p.verdicts) debts)) writers (λ none-open none-on-way. (none-open, omega (arith, ann)))
     (λ f. let d = o.done i v me (let g : v.pending.finished ≡ 1 = omega (arith, f, ap (λ p. p.finished) debts) in g) in (d.0, omega (arith, a, d.1, ann)))
 
 pub count_turn : (t : Told) (rows rows' : List (List ℕ)) (words words' : List ℕ) (views : List View) (i : ℕ) (v w : View) → CountOk t rows words views → get_elem? views i ≡ some v

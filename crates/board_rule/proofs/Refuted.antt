@@ -45,4 +45,4 @@ module _ (t : Told) (good : ℕ → Type 0) (S : Type 0) where
 
     -- two authors of one entry
     pub clashes_added : (p : ℕ) → 1 ≤ times p v → 1 ≤ times p w → Joins Rule id v other w (impossible v w) spent
-    clashes_added p a b = clash (λ s o me at-w apart. omega (arith, terms_le (times p) s.views id other v w apart me at-w, o.added p, published_low o.rows p, a, b))
+    clashes_added p a b = clash (λ s o me at-w apart. omega (arith, terms_le (times p) s.views id other v w apart me at-w, o.added.once p, published_low o.rows p, a, b))

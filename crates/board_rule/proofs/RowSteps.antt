@@ -24,6 +24,7 @@ use Rattle.board_rule.proofs.Lives.{lives_grow}
 use Rattle.board_rule.proofs.Pending.{lives_more, pending_turn, count_turn}
 use Rattle.board_rule.proofs.Index.{index_stay, index_grow}
 use Rattle.board_rule.proofs.Added.{added_grow}
+use Rattle.board_rule.proofs.Shares.{shares_turn}
 use Rattle.board_rule.proofs.Turns.{unmoved, rows_turn}
 
 lighter : (p : ℕ) (v w : View) → w.rows.held ≡ v.rows.held → w.rows.right ≡ v.rows.right → weight p w ≤ weight p v
@@ -188,10 +189,11 @@ module _ (t : Told) (good : ℕ → Type 0) (S : Type 0) where
           life = lives_grow t good o.rows o.lives s.words words' s.views id q x m.0 w k.near o.row.all b.2 o.life me (λ p a h. far (life_word t.limit p a) (omega arith)) (λ p. omega arith) refl;
           pending = pending_turn o.lives (set o.lives q (row_of o.lives q ++ 0 ∷ [])) s.words words' s.views id m.0 w o.pending me
               (omega (arith, get_or-set_other s.words j 0 y 0 (λ e. omega (arith, e)), lives_more unsettled o.lives q 0 (omega (arith, k.near, o.life.all)), one-announced))
-              (omega (arith, lives_more settled o.lives q 0 (omega (arith, k.near, o.life.all)))) (omega arith)
+              (omega (arith, lives_more settled o.lives q 0 (omega (arith, k.near, o.life.all)))) (omega (arith, lives_more settled o.lives q 0 (omega (arith, k.near, o.life.all)))) (omega arith)
               (λ _ none-announced. absurd (omega (arith, none-announced, some-announced))) (λ f. absurd (omega (arith, (o.pending.done id m.0 me f).1, some-announced)));
           counts = count_turn t o.rows (set o.rows q r) s.words words' s.views id m.0 w o.counts me (omega (arith, get_or-set_other s.words j 1 y 0 (λ e. omega (arith, e)), more)) (o.counts.over id m.0 me);
           index = index_grow t.limit o.rows s.words words' s.views id m.0 w q x o.wide k.near o.row.all o.index me (λ p a h f. far (index_word t.limit p a) (omega arith)) none-unfiled refl b.0 (ap (λ (l : List ℕ). length l + 1) whole);
+          shares = shares_turn s.views id m.0 w o.shares me refl refl (λ _ u. absurd (omega (arith, u.announced, one-announced)));
         },
         λ x2 low2 high2. ap (λ (z : ℕ). (with_entry m.0 z, m.1)) (one_word x x2 m.0.rows.low m.0.rows.high low high low2 high2),
       )))

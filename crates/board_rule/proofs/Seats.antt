@@ -1,5 +1,5 @@
 -- Seats that are split and joined.
-use Rattle.std.proofs.Common.{◌≡◌, ℕ, zero, suc, ◌+◌, ◌*◌, ◌<◌, ◌≤◌, Bool, true, false, List, [], ◌∷◌, ◌++◌, length, get_or, set, replicate, cond, ltb, eqb, eq-eqb, ne_eqb, lt-ltb, le-ltb, sym, refl, ap, ◌∙◌, subst, inl, inr, ◌⊎◌, ⊎_elim, arith}
+use Rattle.std.proofs.Common.{◌≡◌, ℕ, zero, suc, ◌+◌, ◌*◌, ◌<◌, ◌≤◌, Bool, true, false, List, [], ◌∷◌, ◌++◌, length, get_or, set, replicate, cond, ltb, eqb, eq-eqb, ne_eqb, lt-ltb, le-ltb, sym, refl, ap, ◌∙◌, subst, inl, inr, ◌⊎◌, ⊎_elim, arith, length-append}
 use Rattle.std.specs.List.{All}
 use Rattle.std.specs.Prelude.{max}
 use Rattle.std.proofs.lemmas.List.Elements.{All-append}
@@ -8,7 +8,7 @@ use native.Mathlib.Decide.{ℕ_discrete, dec_le}
 use mathlib.Core.Option.{some, some-injective}
 use lib.ListN.{get_elem?}
 use Rattle.atomic_table.specs.Table.{State, Splits, Joins}
-use Rattle.atomic_table.proofs.Lists.{at_set, at_snoc, set_again, at_longer, set_here, set_else}
+use Rattle.atomic_table.proofs.Lists.{at_set, at_snoc, at_longer, set_here, set_else}
 use Rattle.state_space.specs.Reach.{IsReached}
 use Rattle.state_space.specs.Counts.{Outnumbers}
 use Rattle.board_rule.specs.Layout.{writer, place_of}
@@ -16,13 +16,14 @@ use Rattle.board_rule.specs.Lists.{row_of, StartsWith, total, is_start, longer, 
 use Rattle.board_rule.specs.Lives.{life_of, life_at, Passes}
 use Rattle.board_rule.specs.Views.{Told}
 use Rattle.board_rule.specs.Rule.{EachSeat, weight, times, claims_on, open_lives, SeatOk, Unfiled, Kept}
-use Rattle.board_rule.specs.Changes.{either_one, joined, fresh_seat, spent}
+use Rattle.board_rule.specs.Changes.{either_one, joined, halved, fresh_seat, spent}
 use Rattle.board_rule.specs.declared.view.View.{View}
 use Rattle.board_rule.proofs.Sums.{starts-refl, starts-length, total-set, total-append, seats_turn}
 use Rattle.board_rule.proofs.Locks.{weight_idle}
 use Rattle.board_rule.proofs.Rows.{seat_free}
 use Rattle.board_rule.proofs.Lives.{claim_none}
-use Rattle.board_rule.proofs.Index.{index_within}
+use Rattle.board_rule.proofs.Index.{index_within, index_stay}
+use Rattle.board_rule.proofs.Shares.{shares_split, shares_join}
 
 nils : (n q : ℕ) → row_of (replicate n []) q ≡ []
 nils zero q = refl
@@ -137,53 +138,55 @@ module _ (t : Told) (good : ℕ → Type 0) (S : Type 0) where
   abbrev Rule : State S View → Type 0
   Rule = Kept t good
 
-  pub splits : (id : ℕ) (v : View) → Splits Rule id v v (fresh_seat v)
-  splits id v s o me = let u = fresh_seat v in let k = o.seats id v me in let vs = s.views ++ u ∷ [] in
-      let each : (F : View → Type 0) → EachSeat F s.views → F u → EachSeat F vs = λ F old new j x e. ⊎_elim (λ h. old j x h) (λ h. subst F h new) (at_snoc s.views u x j e) in
-      let same : (g : View → ℕ) → g u ≡ 0 → total g vs ≡ total g s.views = λ g none. omega (arith, total-append g s.views (u ∷ []), none) in
-      subst (λ (l : List View). Rule record { words = s.words; homes = s.homes; views = l ++ u ∷ [] }) (sym (set_again s.views id v me)) record {
+  pub splits : (id : ℕ) (v : View) → Splits Rule id v (halved v) (fresh_seat v)
+  splits id v s o me = let w = halved v in let u = fresh_seat v in let k = o.seats id v me in let left = set s.views id w in let vs = left ++ u ∷ [] in
+      let each : (F : View → Type 0) → EachSeat F s.views → F w → F u → EachSeat F vs = λ F old one two j x e. ⊎_elim (λ h. seats_turn F s.views id w one (λ a y ne f. old a y f) j x h) (λ h. subst F h two) (at_snoc left u x j e) in
+      let same : (g : View → ℕ) → g w ≡ g v → g u ≡ 0 → total g vs ≡ total g s.views = λ g like none. omega (arith, total-append g left (u ∷ []), total-set g s.views id v w me, like, none) in
+      let stands = (index_stay t.limit o.rows s.words s.words s.views id v w o.wide o.index me (λ q j h b. refl) (λ q j h b held writes owes. inr (held, writes, owes))).stands in record {
         rows = o.rows;
         lives = o.lives;
         wide = o.wide;
         sized = o.sized;
-        told = each (λ x. 0 < x.limit → x.limit ≡ t.limit) o.told (o.told id v me);
+        told = each (λ x. 0 < x.limit → x.limit ≡ t.limit) o.told (o.told id v me) (o.told id v me);
         rooted = o.rooted;
-        locks = λ q h. (omega (arith, (o.locks q h).0, same (weight q) (weight_idle q u refl)), (o.locks q h).1);
+        locks = λ q h. (omega (arith, (o.locks q h).0, same (weight q) refl (weight_idle q u refl)), (o.locks q h).1);
         row = o.row;
-        seats = each (λ x. SeatOk t.limit o.rows s.words x.rows) o.seats (seat_free t.limit o.rows s.words u.rows k.all k.saw k.near refl refl refl);
-        added = λ p. omega (arith, o.added p, same (times p) refl);
+        seats = each (λ x. SeatOk t.limit o.rows s.words x.rows) o.seats k (seat_free t.limit o.rows s.words u.rows k.all k.saw k.near refl refl refl);
+        added = record { once = λ p. omega (arith, o.added.once p, same (times p) refl refl); many = omega (arith, o.added.many, same (λ x. length x.rows.added) refl refl) };
         life = record {
           all = o.life.all;
           even = o.life.even;
           shown = o.life.shown;
           fresh = o.life.fresh;
-          claimed = λ q j h. omega (arith, o.life.claimed q j h, same (claims_on (place_of q j)) (omega (arith, claim_none u (place_of q j) refl)));
+          claimed = λ q j h. omega (arith, o.life.claimed q j h, same (claims_on (place_of q j)) refl (omega (arith, claim_none u (place_of q j) refl)));
           four = o.life.four;
           clean = o.life.clean;
           broken = o.life.broken;
           closed = o.life.closed;
-          learned = each (λ x. All (λ m. Passes m.1 (life_of (life_at o.lives m.0))) x.lives.learned) o.life.learned (o.life.learned id v me);
+          learned = each (λ x. All (λ m. Passes m.1 (life_of (life_at o.lives m.0))) x.lives.learned) o.life.learned (o.life.learned id v me) (o.life.learned id v me);
         };
-        pending = let a = same (λ x. x.pending.announced) refl in let b = same (λ x. x.pending.owed) refl in record {
+        pending = let a = same (λ x. x.pending.announced) refl refl in let b = same (λ x. x.pending.owed) refl refl in record {
           sum = omega (arith, o.pending.sum, a, b);
           few = omega (arith, o.pending.few, b);
-          by_writers = each (λ x. x.pending.announced * writer ≤ x.rows.right) o.pending.by_writers (omega arith);
+          verdicts = omega (arith, o.pending.verdicts, same (λ x. x.pending.verdicts) refl refl);
+          by_writers = each (λ x. x.pending.announced * writer ≤ x.rows.right) o.pending.by_writers (o.pending.by_writers id v me) (omega arith);
           done = let on : (x : View) → (x.pending.finished ≡ 1 → (open_lives o.lives ≡ 0) × (total (λ y. y.pending.announced) s.views ≡ 0)) → x.pending.finished ≡ 1 → (open_lives o.lives ≡ 0) × (total (λ y. y.pending.announced) vs ≡ 0) = λ x before f. let d = before f in (d.0, omega (arith, a, d.1)) in
-              each (λ x. x.pending.finished ≡ 1 → (open_lives o.lives ≡ 0) × (total (λ y. y.pending.announced) vs ≡ 0)) (λ j x e. on x (o.pending.done j x e)) (on v (o.pending.done id v me));
+              each (λ x. x.pending.finished ≡ 1 → (open_lives o.lives ≡ 0) × (total (λ y. y.pending.announced) vs ≡ 0)) (λ j x e. on x (o.pending.done j x e)) (on v (o.pending.done id v me)) (on v (o.pending.done id v me));
         };
         counts = record {
-          count = omega (arith, o.counts.count, same (λ x. x.count.uncounted) refl);
-          over = each (λ x. x.count.over ≡ 1 → Outnumbers (IsReached t.next t.origin) t.limit) o.counts.over (o.counts.over id v me);
+          count = omega (arith, o.counts.count, same (λ x. x.count.uncounted) refl refl);
+          over = each (λ x. x.count.over ≡ 1 → Outnumbers (IsReached t.next t.origin) t.limit) o.counts.over (o.counts.over id v me) (o.counts.over id v me);
         };
         index = record {
           places = o.index.places;
-          stands = λ q j h b. ⊎_elim (λ st. inl st) (λ d. inr (d.0, d.1, at_longer s.views (u ∷ []) d.0 d.1 d.2, d.3, d.4, d.5)) (o.index.stands q j h b);
+          stands = λ q j h b. ⊎_elim (λ st. inl st) (λ d. inr (d.0, d.1, at_longer left (u ∷ []) d.0 d.1 d.2, d.3, d.4, d.5)) (stands q j h b);
         };
+        shares = shares_split s.views id v o.shares me;
       }
 
   -- what joining needs, at the shard of the seat that stays
-  joins_at : (id other : ℕ) (v w : View) → w.rows.right ≡ 0 → w.lives.claims ≡ 0 → w.pending.announced ≡ 0 → w.pending.owed ≡ 0 → w.count.uncounted ≡ 0 → Joins Rule id v other w (joined_at v w v.rows.held) spent
-  joins_at id other v w no-right no-claim none-announced none-owed none-uncounted s o me apart it = let both = joined_at v w v.rows.held in let vs = set (set s.views id both) other spent in
+  joins_at : (id other : ℕ) (v w : View) → w.rows.right ≡ 0 → w.lives.claims ≡ 0 → w.pending.announced ≡ 0 → w.pending.owed ≡ 0 → w.count.uncounted ≡ 0 → 0 < v.limit → Joins Rule id v other w (joined_at v w v.rows.held) spent
+  joins_at id other v w no-right no-claim none-announced none-owed none-uncounted wide s o me apart it = let both = joined_at v w v.rows.held in let vs = set (set s.views id both) other spent in
       let at-w : get_elem? s.views other ≡ some w = ⊎_elim (λ e. absurd (apart e.0)) (λ e. e.1) (at_set s.views id other both w it) in
       let k = o.seats id v me in let l = o.seats other w at-w in
       let sum : (g : View → ℕ) → total g vs + (g v + g w) ≡ total g s.views + (g both + g spent) = λ g. omega (arith, total-set g s.views id v both me, total-set g (set s.views id both) other w spent it) in
@@ -211,7 +214,10 @@ module _ (t : Told) (good : ℕ → Type 0) (S : Type 0) where
             }
             (seat_free t.limit o.rows s.words spent.rows refl (λ q h. subst (StartsWith (row_of o.rows q)) (sym (nils 13 q)) (row_of o.rows q, refl)) (omega arith) refl refl refl)
             o.seats;
-        added = λ p. let mine : times p both ≡ times p v + times p w = total-append (λ x. cond (eqb x p) 1 0) v.rows.added w.rows.added in omega (arith, o.added p, sum (times p), mine);
+        added = record {
+          once = λ p. let mine : times p both ≡ times p v + times p w = total-append (λ x. cond (eqb x p) 1 0) v.rows.added w.rows.added in omega (arith, o.added.once p, sum (times p), mine);
+          many = omega (arith, o.added.many, sum (λ x. length x.rows.added), length-append v.rows.added w.rows.added);
+        };
         life = record {
           all = o.life.all;
           even = o.life.even;
@@ -228,6 +234,7 @@ module _ (t : Told) (good : ℕ → Type 0) (S : Type 0) where
         pending = let announced = same (λ x. x.pending.announced) refl none-announced refl in let owed = same (λ x. x.pending.owed) refl none-owed refl in record {
           sum = omega (arith, o.pending.sum, announced, owed);
           few = omega (arith, o.pending.few, owed);
+          verdicts = omega (arith, o.pending.verdicts, sum (λ x. x.pending.verdicts));
           by_writers = each (λ x. x.pending.announced * writer ≤ x.rows.right) (o.pending.by_writers id v me) (omega arith) o.pending.by_writers;
           done = let before : EachSeat (λ x. x.pending.finished ≡ 1 → (open_lives o.lives ≡ 0) × (total (λ y. y.pending.announced) vs ≡ 0)) s.views = λ j x e f. let d = o.pending.done j x e f in (d.0, omega (arith, d.1, announced)) in
               each (λ x. x.pending.finished ≡ 1 → (open_lives o.lives ≡ 0) × (total (λ y. y.pending.announced) vs ≡ 0)) (λ f. ⊎_elim (λ h. before id v me h) (λ h. before other w at-w h) (one_of_two v.pending.finished w.pending.finished f)) (λ f. absurd (omega (arith, f))) before;
@@ -240,13 +247,14 @@ module _ (t : Told) (good : ℕ → Type 0) (S : Type 0) where
           places = o.index.places;
           stands = λ q j h b. ⊎_elim (λ st. inl st) (λ d. inr (unfiled_on s.views q j id other v w both spent me at-w apart refl refl refl no-right d)) (o.index.stands q j h b);
         };
+        shares = shares_join s.views id other v w both o.shares me at-w it refl refl wide;
       }
 
   -- the seat given up has no right, no claim and no debt
-  pub joins : (id other : ℕ) (v w : View) → w.rows.right ≡ 0 → w.lives.claims ≡ 0 → w.pending.announced ≡ 0 → w.pending.owed ≡ 0 → w.count.uncounted ≡ 0 → Joins Rule id v other w (joined v w) spent
-  joins id other v w a b c d e s o me apart it =
+  pub joins : (id other : ℕ) (v w : View) → w.rows.right ≡ 0 → w.lives.claims ≡ 0 → w.pending.announced ≡ 0 → w.pending.owed ≡ 0 → w.count.uncounted ≡ 0 → 0 < v.limit → Joins Rule id v other w (joined v w) spent
+  joins id other v w a b c d e f s o me apart it =
       let at-w : get_elem? s.views other ≡ some w = ⊎_elim (λ h. absurd (apart h.0)) (λ h. h.1) (at_set s.views id other (joined v w) w it) in let k = o.seats id v me in let l = o.seats other w at-w in
       let agreed : agree v.rows.seen w.rows.seen ≡ true = beginnings_agree o.rows v.rows.seen w.rows.seen (k.all ∙ sym o.row.all) (l.all ∙ sym o.row.all) (λ q h. k.saw q (omega (arith, h, o.row.all))) (λ q h. l.saw q (omega (arith, h, o.row.all))) in
       let same : joined_at v w v.rows.held ≡ joined v w = ap (joined_at v w) (sym (ap {B = ℕ} (λ t. cond t v.rows.held 13) agreed)) in
       subst (λ (b : View). Rule record { words = s.words; homes = s.homes; views = set (set s.views id b) other spent }) same
-      (joins_at id other v w a b c d e s o me apart (subst (λ (b : View). get_elem? (set s.views id b) other ≡ some w) (sym same) it))
+      (joins_at id other v w a b c d e f s o me apart (subst (λ (b : View). get_elem? (set s.views id b) other ≡ some w) (sym same) it))

@@ -7,7 +7,7 @@ use Rattle.atomic_table.specs.Table.{State, Me, keeps, stepped}
 use Rattle.atomic_table.proofs.Lists.{set_again}
 use Rattle.board_rule.specs.Layout.{writer, lock_word, length_word, low_word, high_word, index_word}
 use Rattle.board_rule.specs.Views.{Told, OnRows, OnLives, OnPending, OnCount}
-use Rattle.board_rule.specs.Rule.{LocksOk, RowsOk, SeatOk, LivesOk, PendingOk, CountOk, IndexOk, Kept}
+use Rattle.board_rule.specs.Rule.{LocksOk, RowsOk, SeatOk, LivesOk, PendingOk, CountOk, IndexOk, IsBare, Kept}
 use Rattle.board_rule.specs.declared.view.View.{View}
 use Rattle.board_rule.proofs.Sums.{seats_turn}
 use Rattle.board_rule.proofs.Locks.{locks_stay}
@@ -16,6 +16,7 @@ use Rattle.board_rule.proofs.Lives.{lives_stay}
 use Rattle.board_rule.proofs.Pending.{pending_stay, count_turn}
 use Rattle.board_rule.proofs.Index.{index_stay}
 use Rattle.board_rule.proofs.Added.{added_stay}
+use Rattle.board_rule.proofs.Shares.{shares_turn}
 
 module _ (t : Told) (good : ℕ → Type 0) (S : Type 0) where
   abbrev pub Rule : State S View → Type 0
@@ -48,16 +49,18 @@ module _ (t : Told) (good : ℕ → Type 0) (S : Type 0) where
     pending = pending_stay o.lives s.words words' s.views id m.0 w o.pending me (get_or-set_other s.words i 0 n 0 (λ e. omega (arith, e, high))) refl writers;
     counts = count_turn t o.rows o.rows s.words words' s.views id m.0 w o.counts me (omega (arith, get_or-set_other s.words i 1 n 0 (λ e. omega (arith, e, high)))) (o.counts.over id m.0 me);
     index = index;
+    shares = shares_turn s.views id m.0 w o.shares me refl refl (λ _ b. record { added = same ∙ b.added; claims = b.claims; given_up = b.given_up; announced = b.announced; owed = b.owed; verdicts = b.verdicts; uncounted = b.uncounted });
   }
 
   -- a step on a counter or on a life
   pub rest_turn : (s : State S View) (o : Rule s) (id i n : ℕ) (m : Me S View) (l : OnLives) (p : OnPending) (c : OnCount) (lives' : List (List ℕ))
       → ((a : ℕ) → 3 ≤ a → a < 29 + 26 * t.limit → a ≢ i) → ((a : ℕ) → 29 + 39 * t.limit ≤ a → a ≢ i) → get_elem? s.views id ≡ some m.0
+      → (m.0.limit ≡ 0 → IsBare m.0 → IsBare (record m.0 { lives = l; pending = p; count = c }))
       → LivesOk t good o.rows lives' (set s.words i n) (set s.views id (record m.0 { lives = l; pending = p; count = c }))
       → PendingOk lives' (set s.words i n) (set s.views id (record m.0 { lives = l; pending = p; count = c }))
       → CountOk t o.rows (set s.words i n) (set s.views id (record m.0 { lives = l; pending = p; count = c }))
       → Rule (stepped s i n id m.1 (record m.0 { lives = l; pending = p; count = c }) keeps)
-  rest_turn s o id i n m l p c lives' below above me life pending counts = let w : View = record m.0 { lives = l; pending = p; count = c } in let words' = set s.words i n in
+  rest_turn s o id i n m l p c lives' below above me bare life pending counts = let w : View = record m.0 { lives = l; pending = p; count = c } in let words' = set s.words i n in
       let early : (a : ℕ) → 3 ≤ a → a < 29 + 26 * t.limit → get_or words' a 0 ≡ get_or s.words a 0 = λ a x y. get_or-set_other s.words i a n 0 (below a x y) in
       let halves : (q k : ℕ) → q < 13 → k < t.limit → Halves t.limit s.words words' q k = λ q k h b. (early (low_word q k) (omega arith) (omega (arith, h, b)), early (high_word t.limit q k) (omega arith) (omega (arith, h, b))) in
       let marks : (q j : ℕ) → q < 13 → j < t.limit → get_or words' (index_word t.limit q j) 0 ≡ get_or s.words (index_word t.limit q j) 0 = λ q j h b. get_or-set_other s.words i (index_word t.limit q j) n 0 (above (index_word t.limit q j) (omega arith)) in record {
@@ -75,4 +78,5 @@ module _ (t : Told) (good : ℕ → Type 0) (S : Type 0) where
         pending = pending;
         counts = counts;
         index = index_stay t.limit o.rows s.words words' s.views id m.0 w o.wide o.index me marks (λ q k h b held writes owes. inr (held, writes, owes));
+        shares = shares_turn s.views id m.0 w o.shares me refl refl bare;
       }

@@ -1,8 +1,9 @@
 -- What steps make of a view.
-use Rattle.std.specs.Prelude.{ℕ, ◌+◌, List, [], ◌∷◌, ◌++◌, length, slice_set, replicate, cond, ◌==◌, ◌/◌, ◌%◌}
+use Rattle.std.specs.Prelude.{ℕ, ◌+◌, max, List, [], ◌∷◌, ◌++◌, length, slice_set, replicate, cond, ◌==◌, ◌/◌, ◌%◌}
 use Rattle.board_rule.specs.Layout.{half, length_word, low_word, high_word, index_word, size_for, place_of, slot}
 use Rattle.board_rule.specs.Lists.{row_of, merged, agree}
 use Rattle.board_rule.specs.declared.life.Life.{Life}
+use Rattle.board_rule.specs.Views.{Share, portion}
 use Rattle.board_rule.specs.declared.view.View.{View}
 
 abbrev pub with_seen : View → List (List ℕ) → View
@@ -58,17 +59,31 @@ first_view limit start = record {
   limit = limit;
   rows = record { seen = opening_rows start; held = 0; right = 0; low = []; high = []; marks = []; unfiled = 0; added = [] };
   lives = record { claims = 0; place = 0; given_up = []; learned = [] };
-  pending = record { announced = 0; owed = 0; finished = 0 };
+  pending = record { announced = 0; owed = 0; verdicts = 0; finished = 0 };
   count = record { uncounted = 0; over = 0 };
+  share = record { parts = 1; cuts = 0 };
 }
 
--- a new seat has seen and knows the same, and has no right, no claim and no debt
+-- half of a share
+abbrev pub half_of : Share → Share
+half_of s = record s { cuts = s.cuts + 1 }
+
+-- two shares together
+abbrev pub both_shares : Share → Share → Share
+both_shares s u = record { parts = portion s (max s.cuts u.cuts) + portion u (max s.cuts u.cuts); cuts = max s.cuts u.cuts }
+
+-- a seat that another was split off
+abbrev pub halved : View → View
+halved v = record v { share = half_of v.share }
+
+-- a new seat has seen and knows the same, and has half of the share, no right, no claim and no debt
 abbrev pub fresh_seat : View → View
 fresh_seat v = record v {
   rows = record v.rows { right = 0; low = []; high = []; unfiled = 0; added = [] };
   lives = record v.lives { claims = 0; given_up = [] };
-  pending = record v.pending { announced = 0; owed = 0 };
+  pending = record v.pending { announced = 0; owed = 0; verdicts = 0 };
   count = record v.count { uncounted = 0 };
+  share = half_of v.share;
 }
 
 -- what a seat that was given up leaves. It is one constant, so it knows no limit
@@ -77,8 +92,9 @@ spent = record {
   limit = 0;
   rows = record { seen = replicate 13 []; held = 0; right = 0; low = []; high = []; marks = []; unfiled = 0; added = [] };
   lives = record { claims = 0; place = 0; given_up = []; learned = [] };
-  pending = record { announced = 0; owed = 0; finished = 0 };
+  pending = record { announced = 0; owed = 0; verdicts = 0; finished = 0 };
   count = record { uncounted = 0; over = 0 };
+  share = record { parts = 0; cuts = 0 };
 }
 
 abbrev pub either_one : ℕ → ℕ → ℕ
@@ -89,8 +105,9 @@ abbrev pub joined : View → View → View
 joined v w = record v {
   rows = record v.rows { seen = merged v.rows.seen w.rows.seen; held = cond (agree v.rows.seen w.rows.seen) v.rows.held 13; added = v.rows.added ++ w.rows.added };
   lives = record v.lives { given_up = v.lives.given_up ++ w.lives.given_up; learned = v.lives.learned ++ w.lives.learned };
-  pending = record v.pending { finished = either_one v.pending.finished w.pending.finished };
+  pending = record v.pending { verdicts = v.pending.verdicts + w.pending.verdicts; finished = either_one v.pending.finished w.pending.finished };
   count = record v.count { over = either_one v.count.over w.count.over };
+  share = both_shares v.share w.share;
 }
 
 -- two seats that cannot be side by side

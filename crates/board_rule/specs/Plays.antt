@@ -94,7 +94,7 @@ module _ {S : Type 0} where
   claimed st m r n = (n.1 ≡ m.1) × ((q k : ℕ) → st.word ≡ life_word m.0.limit q k → q < 13 → (r ≡ 0 → (n.0 ≡ with_claim m.0 (place_of q k) Claimed) × (Contains m.0.lives.given_up (place_of q k) → ⊥)) × (r ≢ 0 → n.0 ≡ with_learned m.0 (place_of q k) Claimed))
 
   abbrev pub settled : Step S → Me S View → ℕ → Me S View → Type 0
-  settled st m r n = n ≡ (record (with_learned (without_claim m.0) m.0.lives.place (life_of r)) { pending = record m.0.pending { owed = m.0.pending.owed + 1 } }, m.1)
+  settled st m r n = n ≡ (record (with_learned (without_claim m.0) m.0.lives.place (life_of r)) { pending = record m.0.pending { owed = m.0.pending.owed + 1; verdicts = m.0.pending.verdicts + 1 } }, m.1)
 
   abbrev pub announced : Step S → Me S View → ℕ → Me S View → Type 0
   announced st m r n = n ≡ (record m.0 { pending = record m.0.pending { announced = 1 } }, m.1)

@@ -1,5 +1,5 @@
 -- The rule of a board's table: one fact a subject, side by side.
-use Rattle.std.specs.Prelude.{◌≡◌, ℕ, ◌+◌, ◌*◌, ◌/◌, ◌%◌, ◌<◌, ◌≤◌, ◌⊎◌, List, [], ◌∷◌, length, slice_index, cond, ◌==◌, nat_lt, Contains}
+use Rattle.std.specs.Prelude.{◌≡◌, ℕ, ◌+◌, ◌*◌, ◌/◌, ◌%◌, ◌^◌, ◌<◌, ◌≤◌, ◌⊎◌, List, [], ◌∷◌, length, slice_index, cond, ◌==◌, nat_lt, Contains}
 use Rattle.std.specs.List.{All}
 use mathlib.Core.Option.{some}
 use lib.ListN.{get_elem?}
@@ -9,7 +9,7 @@ use Rattle.state_space.specs.Counts.{Outnumbers}
 use Rattle.board_rule.specs.Layout.{writer, half, lock_word, length_word, low_word, high_word, life_word, index_word, size_for, place_of, slot, window}
 use Rattle.board_rule.specs.Lists.{row_of, StartsWith, Has, total}
 use Rattle.board_rule.specs.Lives.{life_of, life_at, is_claimed, unsettled, settled, Passes}
-use Rattle.board_rule.specs.Views.{Told, OnRows}
+use Rattle.board_rule.specs.Views.{Told, OnRows, Share, portion}
 use Rattle.board_rule.specs.declared.view.View.{View}
 
 -- a fact of each seat
@@ -66,9 +66,10 @@ published rows p = cond (nat_lt (p / 13) (length (row_of rows (p % 13)))) 1 0
 abbrev pub start_place : ℕ → ℕ
 start_place origin = place_of (origin % 13) 0
 
--- Authors: each place that is published but the start's was published by one seat, once, and no other place was.
-abbrev pub AddedOk : ℕ → List (List ℕ) → List View → Type 0
-AddedOk origin rows views = (p : ℕ) → total (times p) views + cond (p == start_place origin) 1 0 ≡ published rows p
+-- Authors: each place that is published but the start's was published by one seat, once, and no other place was. So there is one entry more than there are such places.
+pub record AddedOk (origin : ℕ) (rows : List (List ℕ)) (views : List View) : Type 0 where
+  pub once : (p : ℕ) → total (times p) views + cond (p == start_place origin) 1 0 ≡ published rows p
+  pub many : total length rows ≡ total (λ v. length v.rows.added) views + 1
 
 -- what a seat has of the claim on the place p
 abbrev pub claims_at : ℕ → View → ℕ
@@ -95,10 +96,11 @@ pub record LivesOk (t : Told) (good : ℕ → Type 0) (rows lives : List (List �
 abbrev pub open_lives : List (List ℕ) → ℕ
 open_lives lives = total (total unsettled) lives
 
--- Pending: the entries that are not settled, the additions for words not published yet, and the subtractions owed. Where a seat knows that it was 0, nothing is unsettled and nothing is on its way.
+-- Pending: the entries that are not settled, the additions for words not published yet, and the subtractions owed. The seats have settled the entries that are settled. Where a seat knows that it was 0, nothing is unsettled and nothing is on its way.
 pub record PendingOk (lives : List (List ℕ)) (words : List ℕ) (views : List View) : Type 0 where
   pub sum : slice_index words 0 ≡ open_lives lives + total (λ v. v.pending.announced) views + total (λ v. v.pending.owed) views
   pub few : total (λ v. v.pending.owed) views ≤ total (total settled) lives
+  pub verdicts : total (λ v. v.pending.verdicts) views ≡ total (total settled) lives
   pub by_writers : EachSeat (λ v. v.pending.announced * writer ≤ v.rows.right) views
   pub done : EachSeat (λ v. v.pending.finished ≡ 1 → (open_lives lives ≡ 0) × (total (λ u. u.pending.announced) views ≡ 0)) views
 
@@ -124,6 +126,28 @@ pub record IndexOk (limit : ℕ) (rows : List (List ℕ)) (words : List ℕ) (vi
 abbrev pub Complete : ℕ → List ℕ → List ℕ → Type 0
 Complete limit row marks = (k : ℕ) → k < length row → Stands limit (slice_index marks) (slice_index row k) k
 
+-- nothing of it counts in a sum over the seats
+pub record IsBare (v : View) : Type 0 where
+  pub added : v.rows.added ≡ []
+  pub claims : v.lives.claims ≡ 0
+  pub given_up : v.lives.given_up ≡ []
+  pub announced : v.pending.announced ≡ 0
+  pub owed : v.pending.owed ≡ 0
+  pub verdicts : v.pending.verdicts ≡ 0
+  pub uncounted : v.count.uncounted ≡ 0
+
+-- the share is all of the board
+abbrev pub IsWhole : Share → Type 0
+IsWhole s = s.parts ≡ 2 ^ s.cuts
+
+-- Shares: they are the whole board. Each seat has some of it but those that were given up, of which nothing counts.
+pub record SharesOk (views : List View) : Type 0 where
+  pub from : ℕ
+  pub cut : EachSeat (λ v. v.share.cuts ≤ from) views
+  pub whole : (k : ℕ) → from ≤ k → total (λ v. portion v.share k) views ≡ 2 ^ k
+  pub positive : EachSeat (λ v. 0 < v.limit → 0 < v.share.parts) views
+  pub bare : EachSeat (λ v. v.limit ≡ 0 → IsBare v) views
+
 pub record Kept (t : Told) (good : ℕ → Type 0) {S : Type 0} (s : State S View) : Type 0 where
   pub rows : List (List ℕ)
   pub lives : List (List ℕ)
@@ -140,3 +164,4 @@ pub record Kept (t : Told) (good : ℕ → Type 0) {S : Type 0} (s : State S Vie
   pub pending : PendingOk lives s.words s.views
   pub counts : CountOk t rows s.words s.views
   pub index : IndexOk t.limit rows s.words s.views
+  pub shares : SharesOk s.views

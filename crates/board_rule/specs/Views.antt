@@ -1,5 +1,5 @@
 -- The parts of what a seat knows.
-use Rattle.std.specs.Prelude.{ℕ, List}
+use Rattle.std.specs.Prelude.{ℕ, ◌-◌, ◌*◌, ◌^◌, List}
 use Rattle.board_rule.specs.declared.life.Life.{Life}
 
 -- what the table is told when it is made: how many entries a row may have, the successors of a word, and the initial word
@@ -41,6 +41,8 @@ pub record OnPending : Type 0 where
   pub announced : ℕ
   -- subtractions that it owes for entries that it has settled
   pub owed : ℕ
+  -- how many entries it has settled
+  pub verdicts : ℕ
   -- 1 once it has read pending as 0
   pub finished : ℕ
 
@@ -50,3 +52,12 @@ pub record OnCount : Type 0 where
   pub uncounted : ℕ
   -- 1 once it knows that more words than the limit are reached
   pub over : ℕ
+
+-- a share of the board: of 2 ^ cuts equal parts it has so many
+pub record Share : Type 0 where
+  pub parts : ℕ
+  pub cuts : ℕ
+
+-- how many of 2 ^ k equal parts of the board a share has, for k from its cuts on
+abbrev pub portion : Share → ℕ → ℕ
+portion s k = s.parts * 2 ^ (k - s.cuts)

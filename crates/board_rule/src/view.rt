@@ -1,4 +1,4 @@
-ghost use Rattle.board_rule.specs.Views.{OnRows, OnLives, OnPending, OnCount};
+ghost use Rattle.board_rule.specs.Views.{OnRows, OnLives, OnPending, OnCount, Share};
 ghost use Rattle.std.specs.Prelude.{ℕ};
 ghost use Rattle.std.specs.Borrow.{ftrue};
 
@@ -12,6 +12,7 @@ pub struct View {
     pub ghost lives: { OnLives },
     pub ghost pending: { OnPending },
     pub ghost count: { OnCount },
+    pub ghost share: { Share },
 }
 
 impl Model for View {

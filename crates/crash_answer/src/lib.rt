@@ -1,6 +1,8 @@
 //! All that the program does, over any reader and writers.
 #![tactic(auto)]
 
+mod progress;
+
 ghost use Rattle.std.specs.Prelude.{◌≡◌, ◌+◌, ◌-◌, ◌^◌, ◌<◌, ◌≤◌, ◌⊎◌, IsSome, IfOk, OnErr};
 ghost use Rattle.std.specs.Io.KnownBytes.{Keeps};
 ghost use Rattle.command_line.specs.Ranges.{IsInRanges};
@@ -14,7 +16,8 @@ use crash_text::serve::serve;
 use devices::sink::Sink;
 use devices::source::Source;
 use devices::standard::Counted;
-use explorers::OpenGate;
+use explorers::{Gate, OpenGate};
+pub use progress::Progress;
 use std::alloc::{Allocator, Global};
 use std::fs::File;
 use std::io::{self, Read, Write};
@@ -28,8 +31,8 @@ const REFUSED: u8 = 2;
 /// Answers a command line, and gives the exit status: 0 with no failing set, 1 with at least one, 2 with a refusal.
 ///
 /// `words` stand without the program's name. It reads the script that they name, else `input`, writes the report to `out`,
-/// and a refusal, as one line, or a fault of the command line to `err`. A request for help or for the version is printed on `out`, with
-/// status 0.
+/// and a refusal, as one line, or a fault of the command line to `err`. A request for help or for the version is
+/// printed on `out`, with status 0.
 /// `heap` is what the command line and JSON take memory from, whose crates take no other, and `alloc` serves the rest.
 pub fn answer<'a, R, A, I, O, E>(
     rt: &R,
@@ -48,10 +51,33 @@ where
     E: Write,
     ensures { result ≤ 2 }
 {
+    answer_watched(rt, heap, alloc, words, input, out, err, &OpenGate)
+}
+
+/// The same, and the gate is told of each claim of a worker on a board, and of how far the run is.
+pub fn answer_watched<'a, R, A, I, O, E, G>(
+    rt: &R,
+    heap: Global,
+    alloc: A,
+    words: &'a [&'a str],
+    input: &mut I,
+    out: &mut O,
+    err: &mut E,
+    gate: &G,
+) -> u8
+where
+    R: Files + Threads + Wait + Sync,
+    A: Allocator + Copy + Send + Sync,
+    I: Read,
+    O: Write,
+    E: Write,
+    G: Gate + Sync,
+    ensures { result ≤ 2 }
+{
     match settings_of(heap, words) {
         Ok(call) => {
             let (mut source, mut sink) = (Counted::new(input), Counted::new(out));
-            answer_call(rt, heap, alloc, &call, &mut source, &mut sink, err)
+            answer_call(rt, heap, alloc, &call, &mut source, &mut sink, err, gate)
         }
         Err(error) => tell(out, err, error),
     }
@@ -59,10 +85,10 @@ where
 
 /// Serves the script that the call names, else the source, prints a refusal to `err`, and gives the exit status.
 ///
-/// 0 and 1 stand for the whole report on the script in the sink: 0 where no set fails, 1 where one does. With 2 the sink
-/// took nothing, unless it failed itself. A named file's bytes are not known: the report is on the bytes that it gave, and
-/// the source is not read.
-pub fn answer_call<R, A, S, K, E>(
+/// 0 and 1 stand for the whole report on the script in the sink: 0 where no set fails, 1 where one does. With 2 the
+/// sink took nothing, unless it failed itself. A named file's bytes are not known: the report is on the bytes that it
+/// gave, and the source is not read.
+pub fn answer_call<R, A, S, K, E, G>(
     rt: &R,
     heap: Global,
     alloc: A,
@@ -70,6 +96,7 @@ pub fn answer_call<R, A, S, K, E>(
     source: &mut S,
     sink: &mut K,
     err: &mut E,
+    gate: &G,
 ) -> u8
 where
     R: Files + Threads + Wait + Sync,
@@ -77,41 +104,55 @@ where
     S: Source,
     K: Sink,
     E: Write,
+    G: Gate + Sync,
     requires call { IsInRanges call.now }
     requires source { S.failures source.old < 2 ^ 64 - 1 }
     requires sink { K.failures sink.old < 2 ^ 64 - 1 }
     ensures known { result ≤ 2 }
-    ensures clean { result ≡ 0 → IsServed (script_of call.now (S.coming source.old)) call.now.settings 0 (K.taken sink.old) (K.taken sink.new) }
-    ensures failing { result ≡ 1 → IsServedFailing (script_of call.now (S.coming source.old)) call.now.settings (K.taken sink.old) (K.taken sink.new) }
-    ensures refused { result ≡ 2 → Keeps (K.taken sink.old) (K.taken sink.new) ⊎ (K.failures sink.new ≡ K.failures sink.old + 1) }
+    ensures clean { result ≡ 0
+        → IsServed (script_of call.now (S.coming source.old)) call.now.settings 0 (K.taken sink.old)
+        (K.taken sink.new) }
+    ensures failing { result ≡ 1
+        → IsServedFailing (script_of call.now (S.coming source.old)) call.now.settings (K.taken sink.old)
+        (K.taken sink.new) }
+    ensures refused { result ≡ 2
+        → Keeps (K.taken sink.old) (K.taken sink.new) ⊎ (K.failures sink.new ≡ K.failures sink.old + 1) }
     ensures unread { IsSome call.now.script → source.new ≡ source.old }
 {
-    match serve_call(rt, heap, alloc, call, source, sink) {
+    match serve_call(rt, heap, alloc, call, source, sink, gate) {
         Ok(0) => 0,
         Ok(_) => 1,
-        Err(fault) => refuse(err, fault),
+        Err(fault) => {
+            gate.ended();
+            refuse(err, fault)
+        }
     }
 }
 
 /// Serves the script that the call names, else the source. It gives the number of failing sets.
-fn serve_call<R, A, S, K>(
+fn serve_call<R, A, S, K, G>(
     rt: &R,
     heap: Global,
     alloc: A,
     call: &Call<'_>,
     source: &mut S,
     sink: &mut K,
+    gate: &G,
 ) -> Result<usize, RunFault>
 where
     R: Files + Threads + Wait + Sync,
     A: Allocator + Copy + Send + Sync,
     S: Source,
     K: Sink,
+    G: Gate + Sync,
     requires call { IsInRanges call.now }
     requires source { S.failures source.old < 2 ^ 64 - 1 }
     requires sink { K.failures sink.old < 2 ^ 64 - 1 }
-    ensures served { IfOk result (λ failing. IsServed (script_of call.now (S.coming source.old)) call.now.settings failing (K.taken sink.old) (K.taken sink.new)) }
-    ensures refused { OnErr result (Keeps (K.taken sink.old) (K.taken sink.new) ⊎ (K.failures sink.new ≡ K.failures sink.old + 1)) }
+    ensures served { IfOk result (λ failing.
+        IsServed (script_of call.now (S.coming source.old)) call.now.settings failing (K.taken sink.old)
+        (K.taken sink.new)) }
+    ensures refused { OnErr result (Keeps (K.taken sink.old) (K.taken sink.new)
+        ⊎ (K.failures sink.new ≡ K.failures sink.old + 1)) }
     ensures unread { IsSome call.now.script → source.new ≡ source.old }
 {
     let (settings, workers) = (&call.settings, call.workers);
@@ -119,11 +160,9 @@ where
         Some(name) => {
             let file = File::open(rt, name).map_err(open_fault)?;
             let mut file = Counted::new(file);
-            serve(
-                rt, heap, alloc, &mut file, sink, settings, workers, &OpenGate,
-            )
+            serve(rt, heap, alloc, &mut file, sink, settings, workers, gate)
         }
-        None => serve(rt, heap, alloc, source, sink, settings, workers, &OpenGate),
+        None => serve(rt, heap, alloc, source, sink, settings, workers, gate),
     }
 }
 

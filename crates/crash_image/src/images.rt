@@ -27,8 +27,8 @@ pub fn build<A: Allocator + Copy>(
     Ok(image)
 }
 
-/// Makes of an image with as many blocks as the base the disk that a set of patches leaves, as [`build`] does. It takes
-/// no memory.
+/// Makes of an image with as many blocks as the base the disk that a set of patches leaves, as [`build`] does. It
+/// takes no memory.
 pub fn rebuild<A: Allocator + Copy>(
     image: &mut Image<A>,
     base: &Image<A>,

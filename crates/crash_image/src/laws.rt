@@ -1,4 +1,5 @@
-//! What holds of the space of every graph. Each function has the law as its contract, and reads the graph for its proof alone.
+//! What holds of the space of every graph. Each function has the law as its contract, and reads the graph for its
+//! proof alone.
 
 ghost use Rattle.std.specs.Prelude.{ℕ, ◌↔◌, List};
 ghost use Rattle.patch_sets.specs.Sets.{AreAllInOrder};

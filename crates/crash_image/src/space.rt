@@ -108,11 +108,11 @@ impl<'a, A: Allocator + Copy> Space for PatchSpace<'a, A> {
     }
 
     fn degree(&self, word: u128) -> u32 {
-        self.graph.ready_count(word)
+        self.graph.degree(word)
     }
 
     fn next(&self, word: u128, k: u32) -> u128 {
-        self.graph.successor(word, k)
+        self.graph.next(word, k)
     }
 
     /// Whether the image of the set is clean after replay. It takes no memory, so its answer is Ok.

@@ -1,18 +1,24 @@
 -- What a run answers, from a script's bytes and the settings. No worker and no order of discovery is in it.
 use Rattle.std.specs.Prelude.{◌≡◌, ℕ, ◌≤◌, List, length, Ok, Err, All}
-use Rattle.patch_sets.specs.Machine.{LeadTo, CanLeave}
+use Rattle.patch_sets.specs.Machine.{CanLeave}
 use Rattle.patch_sets.specs.Sets.{AreAllInOrder}
-use Rattle.patch_sets.specs.Writes.{events_of}
 use Rattle.crash_model.specs.Disk.{Disk, formatted, IsGeometry}
 use Rattle.crash_model.specs.Patches.{deps_of, homes_of}
 use Rattle.crash_model.specs.Refusals.{run_of_script, run_of_trace}
-use Rattle.crash_model.specs.Rules.{rules_of}
+use Rattle.crash_model.specs.Rules.{rules_under}
 use Rattle.crash_model.specs.Trace.{Tracing, begun, traced, based, IsGraphOf}
 use Rattle.crash_model.specs.Failing.{IsFailing, CountsClosed, ExceedsLimit}
-use Rattle.crash_model.specs.Report.{Section, AreSections, report}
+use Rattle.crash_model.specs.Lists.{when}
+use Rattle.crash_model.specs.Report.{AreSections, IsLed}
+use Rattle.crash_model.specs.Explain.{explanation}
+use Rattle.crash_model.specs.Summary.{AreToldFaults}
+use Rattle.crash_model.specs.Needs.{AreToldRules}
+use Rattle.crash_model.specs.Whole.{Body, Sets, Faults, Rules, report}
 use Rattle.crash_model.specs.Script.{IsScript, IsScriptRefusal}
 use Rattle.crash_model.specs.declared.patches.Patch.{Patch}
+use Rattle.crash_model.specs.declared.rules.Rule.{Rule}
 use Rattle.crash_model.specs.declared.settings.Settings.{Settings}
+use Rattle.crash_model.specs.declared.settings.ReportBy.TheVariants.{BySet, ByFault, ByRule}
 use Rattle.crash_model.specs.declared.steps.Step.{Step}
 use Rattle.crash_model.specs.declared.refusals.ScriptFault.{ScriptFault}
 use Rattle.crash_model.specs.declared.refusals.TraceFault.{TraceFault}
@@ -31,16 +37,29 @@ pub record HasBase (bytes : List ℕ) (settings : Settings) (base : Disk) (steps
   pub geometry : IsGeometry settings.blocks settings.journal
   pub built : based (formatted settings.blocks settings.journal) before ≡ Ok base
 
--- the graph of the patches of those steps
-pub record HasGraph (bytes : List ℕ) (settings : Settings) (base : Disk) (patches : List Patch) : Type 0 where
+-- the rules of the ordering that the settings ask for
+abbrev pub ordering_rules : Settings → List Rule
+ordering_rules settings = rules_under settings.module settings.without.items settings.with.items
+
+-- the graph of the patches of those steps, with the state that they end in
+pub record HasGraph (bytes : List ℕ) (settings : Settings) (base : Disk) (last : Tracing) (patches : List Patch) : Type 0 where
   pub steps : List Step
   pub start : HasBase bytes settings base steps
-  pub last : Tracing
   pub run : traced settings.module (begun base) steps ≡ Ok last
-  pub graph : IsGraphOf (rules_of settings.module) base last patches
+  pub graph : IsGraphOf (ordering_rules settings) base last patches
 
--- the report on a graph: all failing sets in canonical order, each of which a crash can leave by the block writes told of it
-pub record IsReport (settings : Settings) (base : Disk) (patches : List Patch) (text : List ℕ) (failing : ℕ) : Type 0 where
+-- what stands behind a report's head, as the settings ask for it, of these failing sets
+abbrev pub IsBody : Settings → Disk → Tracing → List Patch → List ℕ → Body → Type 0
+IsBody settings base last patches sets (Sets sections) =
+    (settings.by ≡ BySet) × AreSections settings.explain base patches sets sections × All (IsLed patches) sections
+IsBody settings base last patches sets (Faults told) =
+    (settings.by ≡ ByFault) × AreToldFaults settings.explain base patches told × All (λ t. IsLed patches t.first) told
+IsBody settings base last patches sets (Rules told) =
+    (settings.by ≡ ByRule)
+    × AreToldRules settings.explain settings.limit (ordering_rules settings) base last patches (ordering_rules settings) told
+
+-- the report on a graph: how many of its closed sets fail, each of which a crash can leave
+pub record IsReport (settings : Settings) (base : Disk) (last : Tracing) (patches : List Patch) (text : List ℕ) (failing : ℕ) : Type 0 where
   pub total : ℕ
   pub counted : CountsClosed patches total
   pub within : total ≤ settings.limit
@@ -48,10 +67,15 @@ pub record IsReport (settings : Settings) (base : Disk) (patches : List Patch) (
   pub exactly : AreAllInOrder (IsFailing base patches) sets
   pub left : All (CanLeave (deps_of patches) (homes_of patches)) sets
   pub number : failing ≡ length sets
-  pub sections : List Section
-  pub told : AreSections base patches sets sections
-  pub lead : All (λ s. LeadTo (deps_of patches) (homes_of patches) (events_of s.writes) s.set) sections
-  pub whole : text ≡ report settings.json settings.module (length patches) total sections
+  pub body : Body
+  pub told : IsBody settings base last patches sets body
+  pub whole : text ≡ report settings (record {
+    patches = length patches;
+    closed = total;
+    failing = failing;
+    explanation = when settings.explain (explanation (ordering_rules settings) base last patches);
+    body = body;
+  })
 
 -- the answer about a script: the first of these six that holds
 pub data IsAnswer (bytes : List ℕ) (settings : Settings) : Answer → Type 0 where
@@ -65,8 +89,9 @@ pub data IsAnswer (bytes : List ℕ) (settings : Settings) : Answer → Type 0 w
   bad_trace : (base : Disk) (steps : List Step) (fault : TraceFault) → HasBase bytes settings base steps
       → traced settings.module (begun base) steps ≡ Err fault
       → IsAnswer bytes settings (Refused (run_of_trace fault))
-  too_many : (base : Disk) (patches : List Patch) → HasGraph bytes settings base patches → ExceedsLimit patches settings.limit
+  too_many : (base : Disk) (last : Tracing) (patches : List Patch) → HasGraph bytes settings base last patches
+      → ExceedsLimit patches settings.limit
       → IsAnswer bytes settings (Refused TooMany)
-  reported : (base : Disk) (patches : List Patch) (text : List ℕ) (failing : ℕ) → HasGraph bytes settings base patches
-      → IsReport settings base patches text failing
+  reported : (base : Disk) (last : Tracing) (patches : List Patch) (text : List ℕ) (failing : ℕ)
+      → HasGraph bytes settings base last patches → IsReport settings base last patches text failing
       → IsAnswer bytes settings (Reported text failing)

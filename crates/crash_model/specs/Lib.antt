@@ -16,4 +16,8 @@ pub mod Trace
 pub mod Failing
 pub mod Report
 pub mod Script
+pub mod Explain
+pub mod Summary
+pub mod Needs
+pub mod Whole
 pub mod Answer

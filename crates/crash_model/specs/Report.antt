@@ -1,11 +1,13 @@
--- The report of a run, as text and as JSON.
-use Rattle.std.specs.Prelude.{◌≡◌, ℕ, List, [], ◌∷◌, ◌++◌, length, map, flat_map, Bool, if◌then◌else◌, codes, decimal}
+-- What reports are made of: words, and what is told of a set.
+use Rattle.std.specs.Prelude.{◌≡◌, ℕ, ◌∷◌, List, [], ◌++◌, map, flat_map, Bool, if◌then◌else◌, not, bytes_eq, Option, Some, None, codes, decimal}
+use Rattle.hex.specs.Hex.{encode_lower}
+use Rattle.patch_sets.specs.Machine.{LeadTo}
 use Rattle.patch_sets.specs.Sets.{ids_of}
-use Rattle.patch_sets.specs.Writes.{AreRuns}
+use Rattle.patch_sets.specs.Writes.{AreRuns, events_of}
 use Rattle.patch_sets.specs.declared.write.BlockWrite.{BlockWrite}
-use Rattle.crash_model.specs.Lists.{joined}
-use Rattle.crash_model.specs.Disk.{Disk}
-use Rattle.crash_model.specs.Patches.{homes_of, image_of}
+use Rattle.crash_model.specs.Lists.{joined, some_below, when}
+use Rattle.crash_model.specs.Disk.{Disk, block_of}
+use Rattle.crash_model.specs.Patches.{deps_of, homes_of, image_of}
 use Rattle.crash_model.specs.Replay.{replayed}
 use Rattle.crash_model.specs.Faults.{faults}
 use Rattle.crash_model.specs.declared.fault.Fault.{Fault}
@@ -14,20 +16,47 @@ use Rattle.crash_model.specs.declared.patches.Patch.{Patch}
 use Rattle.crash_model.specs.declared.steps.Module.{Module}
 use Rattle.crash_model.specs.declared.steps.Module.TheVariants.{Async, Soft, Meta, Full}
 
--- what is told of a set: its ids, block writes that lead to it, and the faults of its replayed image
+-- ---- what is told of a set
+
+-- a block that replay changes, with its bytes after replay
+pub record ReplayedBlock : Type 0 where
+  pub block : ℕ
+  pub bytes : List ℕ
+
+-- the blocks in which a disk differs from the one before, ascending
+abbrev pub changed_blocks : Disk → Disk → List ReplayedBlock
+changed_blocks before after =
+    some_below before.blocks (λ b. when (not (bytes_eq (block_of before b) (block_of after b))) (record { block = b; bytes = block_of after b }))
+
+-- what is told of a set: its ids, block writes that lead to it, what replay changes where that is asked for, and the faults
+-- of its replayed image
 pub record Section : Type 0 where
   pub set : ℕ
   pub writes : List BlockWrite
+  pub replay : Option (List ReplayedBlock)
   pub found : List Fault
 
--- the sections of these sets, in their order
-abbrev pub AreSections : Disk → List Patch → List ℕ → List Section → Type 0
-AreSections base patches [] sections = sections ≡ []
-AreSections base patches (set ∷ sets) sections =
-    (writes : List BlockWrite) × (rest : List Section) × AreRuns (homes_of patches) set writes × AreSections base patches sets rest
-    × (sections ≡ record { set = set; writes = writes; found = faults (replayed (image_of base patches set)) } ∷ rest)
+-- what replay changes in an image, where it is to be explained
+abbrev pub replay_of : Bool → Disk → Option (List ReplayedBlock)
+replay_of explain image = if explain then Some (changed_blocks image (replayed image)) else None
 
--- ---- words that both forms share
+-- the sections of these sets, in their order
+abbrev pub AreSections : Bool → Disk → List Patch → List ℕ → List Section → Type 0
+AreSections explain base patches [] sections = sections ≡ []
+AreSections explain base patches (set ∷ sets) sections =
+    (writes : List BlockWrite) × (rest : List Section) × AreRuns (homes_of patches) set writes × AreSections explain base patches sets rest
+    × (sections ≡ record {
+      set = set;
+      writes = writes;
+      replay = replay_of explain (image_of base patches set);
+      found = faults (replayed (image_of base patches set));
+    } ∷ rest)
+
+-- the section's block writes lead to its set
+abbrev pub IsLed : List Patch → Section → Type 0
+IsLed patches s = LeadTo (deps_of patches) (homes_of patches) (events_of s.writes) s.set
+
+-- ---- words that text and JSON share
 
 unfoldable pub fault_text : Fault → List ℕ
 fault_text (Dangling d k i) = codes "1 dangling entry: directory " ++ decimal d ++ codes " entry " ++ decimal k ++ codes " inode " ++ decimal i
@@ -56,21 +85,21 @@ numbers ns = flat_map (λ n. codes " " ++ decimal n) ns
 abbrev pub write_text : ℕ → BlockWrite → List ℕ
 write_text n w = line (codes "write block " ++ decimal w.block ++ codes ":" ++ numbers (ids_of n w.ids))
 
+abbrev pub replayed_text : ReplayedBlock → List ℕ
+replayed_text r = line (codes "replay block " ++ decimal r.block ++ codes ": " ++ encode_lower r.bytes)
+
+abbrev pub replay_text : Option (List ReplayedBlock) → List ℕ
+replay_text None = []
+replay_text (Some replay) = flat_map replayed_text replay
+
+-- a crash that leaves the set
+abbrev pub crash_text : ℕ → Section → List ℕ
+crash_text n s = line (codes "set" ++ numbers (ids_of n s.set)) ++ flat_map (write_text n) s.writes ++ replay_text s.replay
+
 abbrev pub section_text : ℕ → Section → List ℕ
-section_text n s =
-    line (codes "set" ++ numbers (ids_of n s.set))
-    ++ flat_map (write_text n) s.writes
-    ++ flat_map (λ f. line (codes "fault " ++ fault_text f)) s.found
+section_text n s = crash_text n s ++ flat_map (λ f. line (codes "fault " ++ fault_text f)) s.found
 
-unfoldable pub text_report : Module → ℕ → ℕ → List Section → List ℕ
-text_report kind patches closed sections =
-    line (codes "module " ++ module_text kind)
-    ++ line (codes "patches " ++ decimal patches)
-    ++ line (codes "closed " ++ decimal closed)
-    ++ line (codes "failing " ++ decimal (length sections))
-    ++ flat_map (section_text patches) sections
-
--- ---- JSON: one compact object, its keys in ascending order, and a line feed
+-- ---- JSON
 
 abbrev pub quoted : List ℕ → List ℕ
 quoted text = codes "\"" ++ text ++ codes "\""
@@ -85,20 +114,20 @@ ids_json n set = json_array (map decimal (ids_of n set))
 abbrev pub write_json : ℕ → BlockWrite → List ℕ
 write_json n w = codes "{\"block\":" ++ decimal w.block ++ codes ",\"patches\":" ++ ids_json n w.ids ++ codes "}"
 
+abbrev pub writes_json : ℕ → List BlockWrite → List ℕ
+writes_json n writes = json_array (map (write_json n) writes)
+
+abbrev pub replayed_json : ReplayedBlock → List ℕ
+replayed_json r = codes "{\"block\":" ++ decimal r.block ++ codes ",\"bytes\":" ++ quoted (encode_lower r.bytes) ++ codes "}"
+
+-- a key with its value and a comma, where there is one
+abbrev pub replay_json : Option (List ReplayedBlock) → List ℕ
+replay_json None = []
+replay_json (Some replay) = codes "\"replay\":" ++ json_array (map replayed_json replay) ++ codes ","
+
 abbrev pub section_json : ℕ → Section → List ℕ
 section_json n s =
-    codes "{\"faults\":" ++ json_array (map (λ f. quoted (fault_text f)) s.found)
-    ++ codes ",\"set\":" ++ ids_json n s.set
-    ++ codes ",\"writes\":" ++ json_array (map (write_json n) s.writes) ++ codes "}"
-
-unfoldable pub json_report : Module → ℕ → ℕ → List Section → List ℕ
-json_report kind patches closed sections =
-    codes "{\"closed\":" ++ decimal closed
-    ++ codes ",\"failing\":" ++ json_array (map (section_json patches) sections)
-    ++ codes ",\"module\":" ++ quoted (module_text kind)
-    ++ codes ",\"patches\":" ++ decimal patches ++ codes "}\n"
-
--- the report's bytes
-abbrev pub report : Bool → Module → ℕ → ℕ → List Section → List ℕ
-report json kind patches closed sections =
-    if json then json_report kind patches closed sections else text_report kind patches closed sections
+    codes "{\"faults\":" ++ json_array (map (λ f. quoted (fault_text f)) s.found) ++ codes ","
+    ++ replay_json s.replay
+    ++ codes "\"set\":" ++ ids_json n s.set
+    ++ codes ",\"writes\":" ++ writes_json n s.writes ++ codes "}"

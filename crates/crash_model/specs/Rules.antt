@@ -1,6 +1,6 @@
 -- Rules that order patches, and the ordering modules as lists of them.
-use Rattle.std.specs.Prelude.{ℕ, ◌+◌, List, [], ◌∷◌, Bool, true, false, ◌==◌}
-use Rattle.std.specs.List.{All, Contains}
+use Rattle.std.specs.Prelude.{◌≢◌, ℕ, ◌+◌, List, [], ◌∷◌, ◌++◌, filter, Bool, true, false, ◌==◌, ◌&&◌, not, codes}
+use Rattle.std.specs.List.{All, Contains, list_any}
 use Rattle.crash_model.specs.declared.plans.Role.{Role}
 use Rattle.crash_model.specs.declared.plans.Role.TheVariants.{InodeInit, EntrySet, EntryClear, MapSet, MapClear, InitFile, InitDir, Ptr, LinkUp, LinkDown, InodeFree}
 use Rattle.crash_model.specs.declared.rules.Part.{Part}
@@ -13,7 +13,7 @@ use Rattle.crash_model.specs.declared.rules.Rule.{Rule}
 use Rattle.crash_model.specs.declared.steps.Module.{Module}
 use Rattle.crash_model.specs.declared.steps.Module.TheVariants.{Async, Soft, Meta, Full}
 
--- ---- what a rule speaks of
+-- ---- roles
 
 -- roles by their places in their list
 abbrev pub role_number : Role → ℕ
@@ -28,6 +28,54 @@ role_number Ptr = 7
 role_number LinkUp = 8
 role_number LinkDown = 9
 role_number InodeFree = 10
+
+-- ---- words
+
+abbrev pub role_text : Role → List ℕ
+role_text InodeInit = codes "InodeInit"
+role_text EntrySet = codes "EntrySet"
+role_text EntryClear = codes "EntryClear"
+role_text MapSet = codes "MapSet"
+role_text MapClear = codes "MapClear"
+role_text InitFile = codes "InitFile"
+role_text InitDir = codes "InitDir"
+role_text Ptr = codes "Ptr"
+role_text LinkUp = codes "LinkUp"
+role_text LinkDown = codes "LinkDown"
+role_text InodeFree = codes "InodeFree"
+
+abbrev pub part_text : Part → List ℕ
+part_text (part.InPlace role) = role_text role
+part_text part.FileData = codes "FileData"
+part_text part.Copy = codes "Copy"
+part_text part.Commit = codes "Commit"
+part_text part.Done = codes "Done"
+
+abbrev pub rule_part_text : RulePart → List ℕ
+rule_part_text (Change role) = role_text role
+rule_part_text InPlace = codes "InPlace"
+rule_part_text FileData = codes "FileData"
+rule_part_text Copy = codes "Copy"
+rule_part_text Commit = codes "Commit"
+rule_part_text Done = codes "Done"
+
+-- the text is no part of a rule
+abbrev pub IsNoRulePart : List ℕ → Type 0
+IsNoRulePart text = (part : RulePart) → text ≢ rule_part_text part
+
+abbrev pub scope_text : Scope → List ℕ
+scope_text Same = []
+scope_text Previous = codes "previous-"
+
+-- as a rule is written
+abbrev pub rule_text : Rule → List ℕ
+rule_text rule = rule_part_text rule.later ++ codes ":" ++ scope_text rule.scope ++ rule_part_text rule.earlier
+
+-- the text is no rule
+abbrev pub IsNoRule : List ℕ → Type 0
+IsNoRule text = (rule : Rule) → text ≢ rule_text rule
+
+-- ---- what a rule speaks of
 
 -- a patch with this part is one that the rule speaks of
 abbrev pub has_part : RulePart → Part → Bool
@@ -86,6 +134,50 @@ rules_of Async = []
 rules_of Soft = soft_rules
 rules_of Meta = journal_rules
 rules_of Full = journal_rules
+
+-- ---- an ordering of one's own
+
+abbrev pub is_same_part : RulePart → RulePart → Bool
+is_same_part (Change role) (Change other) = role_number role == role_number other
+is_same_part InPlace InPlace = true
+is_same_part FileData FileData = true
+is_same_part Copy Copy = true
+is_same_part Commit Commit = true
+is_same_part Done Done = true
+is_same_part _ _ = false
+
+abbrev pub is_same_scope : Scope → Scope → Bool
+is_same_scope Same Same = true
+is_same_scope Previous Previous = true
+is_same_scope _ _ = false
+
+abbrev pub is_same_rule : Rule → Rule → Bool
+is_same_rule rule other = is_same_part rule.later other.later && (is_same_part rule.earlier other.earlier && is_same_scope rule.scope other.scope)
+
+abbrev pub has_rule : List Rule → Rule → Bool
+has_rule rules rule = list_any (is_same_rule rule) rules
+
+-- the rules that both lists have, and those that the second has not, in the order of the first
+abbrev pub rules_in_both : List Rule → List Rule → List Rule
+rules_in_both rules others = filter (has_rule others) rules
+
+abbrev pub rules_in_first : List Rule → List Rule → List Rule
+rules_in_first rules others = filter (λ rule. not (has_rule others rule)) rules
+
+-- the module's rules that are taken out, and those that stay
+abbrev pub taken_out : Module → List Rule → List Rule
+taken_out kind without = rules_in_both (rules_of kind) without
+
+abbrev pub kept_rules : Module → List Rule → List Rule
+kept_rules kind without = rules_in_first (rules_of kind) without
+
+-- the rules that are put in, where the module's list has not kept them
+abbrev pub put_in : Module → List Rule → List Rule → List Rule
+put_in kind without with = rules_in_first with (kept_rules kind without)
+
+-- the rules of the module with some taken out and some put in at the end
+abbrev pub rules_under : Module → List Rule → List Rule → List Rule
+rules_under kind without with = kept_rules kind without ++ put_in kind without with
 
 -- each of some rules is among all of them
 abbrev pub AreAmong : List Rule → List Rule → Type 0

@@ -1,5 +1,8 @@
 //! What a checker can find wrong with an image.
 
+ghost use Rattle.std.specs.Prelude.{◌≡◌};
+ghost use Rattle.crash_model.specs.Summary.{numbers_of};
+
 use std::fmt;
 
 /// A fault of an image. Its text is what a report shows of it.
@@ -58,4 +61,32 @@ impl fmt::Display for Fault {
             }
         }
     }
+}
+
+impl Fault {
+    /// Its number, those of its text from left to right, and zeros behind them. Faults are told in the order of these.
+    pub fn numbers(self) -> [u8; 4]
+        ensures { result ≡ numbers_of self }
+    {
+        match self {
+            Fault::Dangling { dir, entry, inode } => [1, dir, entry, inode],
+            Fault::Twice { block } => [2, block, 0, 0],
+            Fault::Unwritten { inode, slot, block } => [3, inode, slot, block],
+            Fault::LowLinks {
+                inode,
+                entries,
+                links,
+            } => [4, inode, entries, links],
+            Fault::MarkedFree { inode, slot, block } => [5, inode, slot, block],
+            Fault::Wild { inode, slot, block } => [6, inode, slot, block],
+        }
+    }
+}
+
+/// What a summary tells of a fault: how many failing sets have it, and which of them is the first in canonical order.
+#[derive(Clone, Copy, Debug, PartialEq, Eq, Drop)]
+pub struct FaultRow {
+    pub fault: Fault,
+    pub sets: u64,
+    pub first: u128,
 }

@@ -11,6 +11,7 @@ pub mod orderings;
 pub mod patches;
 pub mod plans;
 pub mod refusals;
+pub mod rule_lists;
 pub mod rules;
 pub mod settings;
 pub mod steps;

@@ -7,7 +7,7 @@ ghost use Rattle.crash_model.specs.Plan.{spelled};
 
 use arrayvec::ArrayVec;
 use std::marker::Model;
-use std::mem;
+use std::{fmt, mem, str};
 
 /// A name in a directory: 1 to 10 characters of a to z and 0 to 9.
 #[derive(Drop)]
@@ -45,6 +45,17 @@ impl Name {
         }
         let bytes = word(bytes)?;
         Some(Name { bytes })
+    }
+
+    /// Its text.
+    pub fn as_str(&self) -> &str
+        ensures text { result.now ≡ self.now }
+        ensures name { IsName self.now }
+    {
+        let Ok(text) = str::from_utf8(self.bytes.as_slice()) else {
+            unreachable!();
+        };
+        text
     }
 
     /// Bytes 1 to 11 of a directory entry of this name: its length, the name, and zeros.
@@ -89,6 +100,32 @@ impl Path {
             rest = behind;
         }
         Some(Path { through, last })
+    }
+
+    /// Its names are names. This reads them, and changes nothing.
+    pub fn has_names(&self)
+        ensures { IsPath self.now }
+    {
+        for name in self.through.as_slice() {
+            let _text = name.as_str();
+        }
+        let _text = self.last.as_str();
+    }
+}
+
+impl fmt::Display for Path {
+    ghost use Rattle.std.specs.Prelude.{Some};
+    ghost use Rattle.crash_model.specs.Script.{path_text};
+
+    ghost output = { λ path. Some (path_text path) };
+
+    fn fmt<W: fmt::Write>(&self, f: &mut fmt::Formatter<W>) -> fmt::Result {
+        for name in self.through.as_slice() {
+            let name = name.as_str();
+            write!(f, "/{name}")?;
+        }
+        let last = self.last.as_str();
+        write!(f, "/{last}")
     }
 }
 
@@ -152,6 +189,47 @@ pub enum Op {
     Rename(Path, Path),
     Mkdir(Path),
     Rmdir(Path),
+}
+
+impl Op {
+    ghost use Rattle.crash_model.specs.Script.{IsAct};
+    ghost use Rattle.crash_model.specs.declared.steps.Act.TheVariants.{Do};
+
+    /// Its paths are paths. This reads them, and changes nothing.
+    pub fn has_paths(&self)
+        ensures { IsAct (Do self.now) }
+    {
+        match self {
+            Op::Create(path)
+            | Op::Write(path)
+            | Op::Unlink(path)
+            | Op::Mkdir(path)
+            | Op::Rmdir(path) => path.has_names(),
+            Op::Link(old, new) | Op::Rename(old, new) => {
+                old.has_names();
+                new.has_names();
+            }
+        }
+    }
+}
+
+impl fmt::Display for Op {
+    ghost use Rattle.std.specs.Prelude.{Some};
+    ghost use Rattle.crash_model.specs.Explain.{op_text};
+
+    ghost output = { λ op. Some (op_text op) };
+
+    fn fmt<W: fmt::Write>(&self, f: &mut fmt::Formatter<W>) -> fmt::Result {
+        match self {
+            Op::Create(path) => write!(f, "create {path}"),
+            Op::Write(path) => write!(f, "write {path}"),
+            Op::Link(old, new) => write!(f, "link {old} {new}"),
+            Op::Unlink(path) => write!(f, "unlink {path}"),
+            Op::Rename(old, new) => write!(f, "rename {old} {new}"),
+            Op::Mkdir(path) => write!(f, "mkdir {path}"),
+            Op::Rmdir(path) => write!(f, "rmdir {path}"),
+        }
+    }
 }
 
 /// The name of a patch group: 1 to 10 letters and digits.

@@ -1,12 +1,13 @@
 //! Orderings: how operations become patches, and the rules that order these.
 
 ghost use Rattle.std.specs.Prelude.{◌≡◌, ◌≤◌, length};
-ghost use Rattle.crash_model.specs.Rules.{rules_of};
+ghost use Rattle.crash_model.specs.Rules.{rules_of, taken_out, kept_rules, put_in, rules_under};
 
 use crate::plans::Role::{
     EntryClear, EntrySet, InitDir, InitFile, InodeFree, InodeInit, LinkDown, LinkUp, MapClear,
     MapSet, Ptr,
 };
+use crate::rule_lists::{RuleList, rules_in_both, rules_in_first};
 use crate::rules::Rule;
 use crate::rules::RulePart::{Change, Commit, Copy, Done, FileData, InPlace};
 use crate::rules::Scope::{Previous, Same};
@@ -136,6 +137,31 @@ impl Module {
             Module::Meta | Module::Full => &JOURNAL,
         }
     }
+
+    /// Those of its rules that are taken out, in its order.
+    pub fn taken_out(self, without: &[Rule]) -> RuleList
+        ensures { result.items ≡ taken_out self without.now }
+    {
+        rules_in_both(self.rules(), without)
+    }
+
+    /// Those of its rules that stay, in its order.
+    pub fn kept_rules(self, without: &[Rule]) -> RuleList
+        ensures rules { result.items ≡ kept_rules self without.now }
+        ensures few { length result.items ≤ 12 }
+    {
+        rules_in_first(self.rules(), without)
+    }
+
+    /// Those of the rules `with` that it has not kept, in their order.
+    pub fn put_in(self, without: &[Rule], with: &[Rule]) -> RuleList
+        requires { length with.now ≤ 16 }
+        ensures rules { result.items ≡ put_in self without.now with.now }
+        ensures few { length result.items ≤ 16 }
+    {
+        let kept = self.kept_rules(without);
+        rules_in_first(with, kept.as_slice())
+    }
 }
 
 /// How many rules an ordering can have: those of a module, and as many as a user puts in.
@@ -156,6 +182,24 @@ impl Ordering {
     {
         let mut rules = ArrayVec::new();
         for rule in module.rules() {
+            rules.push(*rule);
+        }
+        Ordering { module, rules }
+    }
+
+    /// The ordering with the rules `without` taken out of the module's list, and the rules `with` put in at its end.
+    ///
+    /// A rule that the module's list has not is taken out of nothing, and one that it has kept is not put in again.
+    pub fn under(module: Module, without: &[Rule], with: &[Rule]) -> Ordering
+        requires { length with.now ≤ 16 }
+        ensures module { result.«module» ≡ «module» }
+        ensures rules { result.rules.items ≡ rules_under «module» without.now with.now }
+    {
+        let mut rules = ArrayVec::new();
+        for rule in module.kept_rules(without).as_slice() {
+            rules.push(*rule);
+        }
+        for rule in module.put_in(without, with).as_slice() {
             rules.push(*rule);
         }
         Ordering { module, rules }

@@ -1,5 +1,8 @@
 //! Changes that operations make.
 
+ghost use Rattle.std.specs.Prelude.{◌≡◌};
+ghost use Rattle.crash_model.specs.Rules.{role_text};
+
 use arrayvec::ArrayVec;
 
 /// What a change is for.
@@ -21,6 +24,27 @@ pub enum Role {
     LinkUp,
     LinkDown,
     InodeFree,
+}
+
+impl Role {
+    /// Its name in rules and reports.
+    pub fn name(self) -> &'static str
+        ensures { result.now ≡ role_text self }
+    {
+        match self {
+            Role::InodeInit => "InodeInit",
+            Role::EntrySet => "EntrySet",
+            Role::EntryClear => "EntryClear",
+            Role::MapSet => "MapSet",
+            Role::MapClear => "MapClear",
+            Role::InitFile => "InitFile",
+            Role::InitDir => "InitDir",
+            Role::Ptr => "Ptr",
+            Role::LinkUp => "LinkUp",
+            Role::LinkDown => "LinkDown",
+            Role::InodeFree => "InodeFree",
+        }
+    }
 }
 
 /// New bytes for a range of one block: those from byte `offset` of block `block` on.

@@ -1,9 +1,10 @@
 //! Rules that order patches.
 
-ghost use Rattle.std.specs.Prelude.{◌≡◌};
-ghost use Rattle.crash_model.specs.Rules.{has_part, are_scoped};
+ghost use Rattle.std.specs.Prelude.{◌≡◌, MatchOption};
+ghost use Rattle.crash_model.specs.Rules.{has_part, are_scoped, part_text, rule_part_text, IsNoRulePart, is_same_part, is_same_scope, is_same_rule};
 
 use crate::plans::Role;
+use std::fmt;
 
 /// The part that a patch plays in its operation.
 ///
@@ -20,6 +21,21 @@ pub enum Part {
     Done,
 }
 
+impl Part {
+    /// Its name in reports, which of a change in place is its role's.
+    pub fn name(self) -> &'static str
+        ensures { result.now ≡ part_text self }
+    {
+        match self {
+            Part::InPlace(role) => role.name(),
+            Part::FileData => "FileData",
+            Part::Copy => "Copy",
+            Part::Commit => "Commit",
+            Part::Done => "Done",
+        }
+    }
+}
+
 /// The patches that a rule speaks of: changes in place of one role, or of any, or one of a transaction's other parts.
 #[derive(Clone, Copy, Debug, PartialEq, Eq, Default)]
 pub enum RulePart {
@@ -33,6 +49,52 @@ pub enum RulePart {
 }
 
 impl RulePart {
+    /// The part of a rule that is spelt so, if there is one.
+    pub fn read(text: &str) -> Option<RulePart>
+        ensures { MatchOption result (IsNoRulePart text.now) (λ part. text.now ≡ rule_part_text part) }
+    {
+        match text {
+            "InodeInit" => Some(RulePart::Change(Role::InodeInit)),
+            "EntrySet" => Some(RulePart::Change(Role::EntrySet)),
+            "EntryClear" => Some(RulePart::Change(Role::EntryClear)),
+            "MapSet" => Some(RulePart::Change(Role::MapSet)),
+            "MapClear" => Some(RulePart::Change(Role::MapClear)),
+            "InitFile" => Some(RulePart::Change(Role::InitFile)),
+            "InitDir" => Some(RulePart::Change(Role::InitDir)),
+            "Ptr" => Some(RulePart::Change(Role::Ptr)),
+            "LinkUp" => Some(RulePart::Change(Role::LinkUp)),
+            "LinkDown" => Some(RulePart::Change(Role::LinkDown)),
+            "InodeFree" => Some(RulePart::Change(Role::InodeFree)),
+            "InPlace" => Some(RulePart::InPlace),
+            "FileData" => Some(RulePart::FileData),
+            "Copy" => Some(RulePart::Copy),
+            "Commit" => Some(RulePart::Commit),
+            "Done" => Some(RulePart::Done),
+            _ => None,
+        }
+    }
+
+    /// Its name in rules.
+    pub fn name(self) -> &'static str
+        ensures { result.now ≡ rule_part_text self }
+    {
+        match self {
+            RulePart::Change(role) => role.name(),
+            RulePart::InPlace => "InPlace",
+            RulePart::FileData => "FileData",
+            RulePart::Copy => "Copy",
+            RulePart::Commit => "Commit",
+            RulePart::Done => "Done",
+        }
+    }
+
+    /// Whether it is the same part.
+    fn same(self, other: RulePart) -> bool
+        ensures { result ≡ is_same_part self other }
+    {
+        self == other
+    }
+
     /// Whether it speaks of patches with this part.
     pub fn has(self, part: Part) -> bool
         ensures { result ≡ has_part self part }
@@ -58,6 +120,13 @@ pub enum Scope {
 }
 
 impl Scope {
+    /// Whether it is the same scope.
+    fn same(self, other: Scope) -> bool
+        ensures { result ≡ is_same_scope self other }
+    {
+        self == other
+    }
+
     /// Whether the operations with these numbers stand so.
     pub fn has(self, later: usize, earlier: usize) -> bool
         ensures { result ≡ are_scoped self later earlier }
@@ -76,4 +145,48 @@ pub struct Rule {
     pub later: RulePart,
     pub earlier: RulePart,
     pub scope: Scope,
+}
+
+impl Rule {
+    ghost use Rattle.crash_model.specs.Rules.{rule_text, IsNoRule};
+
+    /// The rule that is written so: `LATER:EARLIER`, or `LATER:previous-EARLIER`. `None` for any other text.
+    pub fn read(text: &str) -> Option<Rule>
+        ensures { MatchOption result (IsNoRule text.now) (λ rule. text.now ≡ rule_text rule) }
+    {
+        let (later, rest) = text.split_once(":")?;
+        let (scope, earlier) = match rest.strip_prefix("previous-") {
+            Some(earlier) => (Scope::Previous, earlier),
+            None => (Scope::Same, rest),
+        };
+        Some(Rule {
+            later: RulePart::read(later)?,
+            earlier: RulePart::read(earlier)?,
+            scope,
+        })
+    }
+
+    /// Whether it is the same rule.
+    pub fn same(self, other: Rule) -> bool
+        ensures { result ≡ is_same_rule self other }
+    {
+        self.later.same(other.later)
+            && self.earlier.same(other.earlier)
+            && self.scope.same(other.scope)
+    }
+}
+
+impl fmt::Display for Rule {
+    ghost use Rattle.std.specs.Prelude.{Some};
+    ghost use Rattle.crash_model.specs.Rules.{rule_text};
+
+    ghost output = { λ rule. Some (rule_text rule) };
+
+    fn fmt<W: fmt::Write>(&self, f: &mut fmt::Formatter<W>) -> fmt::Result {
+        let (later, earlier) = (self.later.name(), self.earlier.name());
+        match self.scope {
+            Scope::Same => write!(f, "{later}:{earlier}"),
+            Scope::Previous => write!(f, "{later}:previous-{earlier}"),
+        }
+    }
 }

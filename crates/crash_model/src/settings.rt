@@ -1,16 +1,73 @@
 //! What a run is asked for besides its script.
 
+ghost use Rattle.std.specs.Prelude.{◌≡◌};
+ghost use Rattle.crash_model.specs.Rules.{rules_under, taken_out, put_in};
+
+use crate::orderings::Ordering;
+use crate::rule_lists::RuleList;
 use crate::steps::Module;
+
+/// Who explores: the board that workers share, which holds up to 32,768 sets, or the sweep, which keeps no table.
+///
+/// `Auto` is the board where the limit is at most 32,768, else the sweep.
+#[derive(Clone, Copy, Debug, PartialEq, Eq)]
+pub enum Explorer {
+    Auto,
+    Board,
+    Sweep,
+}
+
+/// What a report tells behind its head: the failing sets, each fault once, or for each rule what a crash can leave
+/// without it.
+#[derive(Clone, Copy, Debug, PartialEq, Eq)]
+pub enum ReportBy {
+    BySet,
+    ByFault,
+    ByRule,
+}
 
 /// The settings of a run.
 ///
-/// The disk has `blocks` blocks of 128 bytes, of which `journal` are the journal's. A run that has more than `limit`
-/// closed sets is refused. The report is JSON where `json` is set, else text.
-#[derive(Clone, Copy, Debug, PartialEq, Eq)]
+/// The ordering is the module's with the rules `without` taken out and the rules `with` put in at its end. The disk
+/// has
+/// `blocks` blocks of 128 bytes, of which `journal` are the journal's. A run that has more than `limit` closed sets is
+/// refused. The report is JSON where `json` is set, else text; with `explain` it tells what the patches are and what
+/// replay changes.
+#[derive(Debug, PartialEq, Eq, Drop)]
 pub struct Settings {
     pub module: Module,
+    pub without: RuleList,
+    pub with: RuleList,
     pub blocks: usize,
     pub journal: usize,
     pub limit: usize,
+    pub explorer: Explorer,
     pub json: bool,
+    pub explain: bool,
+    pub by: ReportBy,
+}
+
+impl Settings {
+    /// The ordering that they ask for.
+    pub fn ordering(&self) -> Ordering
+        ensures module { result.«module» ≡ self.now.«module» }
+        ensures rules { result.rules.items ≡ rules_under self.now.«module» self.now.without.items self.now.with.items }
+    {
+        Ordering::under(self.module, self.without.as_slice(), self.with.as_slice())
+    }
+
+    /// The rules that are taken out, in the order of the module's list.
+    pub fn taken_out(&self) -> RuleList
+        ensures { result.items ≡ taken_out self.now.«module» self.now.without.items }
+    {
+        self.module.taken_out(self.without.as_slice())
+    }
+
+    /// The rules that are put in, in the order in which they were given.
+    pub fn put_in(&self) -> RuleList
+        ensures { result.items ≡ put_in self.now.«module» self.now.without.items self.now.with.items }
+    {
+        self.module
+            .put_in(self.without.as_slice(), self.with.as_slice())
+    }
 }

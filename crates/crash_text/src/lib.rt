@@ -1,6 +1,13 @@
 //! From a script's bytes to a report's bytes.
 #![tactic(auto)]
 
-mod explored;
+mod board_limit;
+mod by_sweep;
+mod dependencies;
+mod finding;
+mod needs;
+mod on_board;
 pub mod run;
 pub mod serve;
+mod telling;
+mod watching;

@@ -1,28 +1,26 @@
 //! The whole product as a function.
 
-ghost use Rattle.std.specs.Prelude.{◌≡◌, ◌≢◌, ℕ, ◌<◌, ◌≤◌, List, Ok, OnOk, IfOk, IfErr, length, string_bytes};
-ghost use Rattle.std.specs.List.{All};
-ghost use Rattle.patch_sets.specs.Sets.{Has};
+ghost use Rattle.std.specs.Prelude.{◌≡◌, ◌≢◌, ◌≤◌, [], Ok, OnOk, IfOk, IfErr, string_bytes};
 ghost use Rattle.crash_model.specs.Disk.{formatted, IsGeometry};
 ghost use Rattle.crash_model.specs.Sound.{IsSound, HasZeroJournal};
 ghost use Rattle.crash_model.specs.Trace.{based};
 ghost use Rattle.crash_model.specs.declared.steps.Module.TheVariants.{Full};
-ghost use Rattle.crash_model.specs.Report.{Section, AreSections, report};
 ghost use Rattle.crash_model.specs.Answer.{IsAnswer, Reported, Refused};
 ghost use Rattle.crash_text.specs.BaseRefusal.{IsBaseRefusal};
+ghost use Rattle.crash_text.specs.Limits.{IsExplorable};
+ghost use Rattle.crash_text.specs.Telling.{AreReported, AreRefused};
 
-use crate::explored::explored;
+use crate::finding::{Kept, find};
+use crate::needs::report_by_rule;
+use crate::telling::Findings;
 use crash_model::refusals::RunFault;
 use crash_model::settings::Settings;
 use crash_model::steps::Step;
 use disk_image::{Image, ImageFault};
-use explorers::{Explored, Gate};
-use order_modules::{build_base, trace_under};
-use patch_graph::Graph;
-use report_json::report_json;
-use report_text::report_text;
+use explorers::Gate;
+use order_modules::{build_base, trace};
 use script_text::read_script;
-use std::alloc::{AllocError, Allocator, Global};
+use std::alloc::{Allocator, Global};
 use std::sync::Wait;
 use std::thread::Threads;
 
@@ -35,9 +33,10 @@ pub struct Outcome<A: Allocator> {
 
 /// Answers a script: reads it, builds the base, traces the rest, explores what a crash can leave, and reports.
 ///
-/// For every number of workers, 1 to 16, and every schedule, an answer other than out of memory is the one defined for the
-/// script's bytes and the settings, without threads. `heap` is what JSON is made with. The gate is told of each claim of a
-/// worker. Under the full journal no set fails, whatever the script.
+/// For every number of workers, 1 to 16, and every schedule, an answer other than out of memory is the one defined for
+/// the script's bytes and the settings, without threads. `heap` is what JSON is made with. The gate is told of each
+/// claim of a worker on a board, and of how far a run is. Under the full journal with no rule taken out no set fails,
+/// whatever the script and the rules put in.
 pub fn run<R, A, G>(
     rt: &R,
     heap: Global,
@@ -51,20 +50,64 @@ where
     R: Threads + Wait + Sync,
     A: Allocator + Copy + Send + Sync,
     G: Gate + Sync,
-    requires limit { (1 ≤ settings.now.limit) × (settings.now.limit ≤ 32768) }
+    requires limit { IsExplorable settings.now }
     requires workers { (1 ≤ workers) × (workers ≤ 16) }
-    ensures reported { IfOk result (λ outcome. IsAnswer script.now settings.now (Reported (string_bytes outcome.text) outcome.failing)) }
-    ensures refused { IfErr result (λ fault. (fault ≢ RunFault.OutOfMemory) → IsAnswer script.now settings.now (Refused fault)) }
-    ensures full { settings.now.module ≡ Full → IfOk result (λ outcome. outcome.failing ≡ 0) }
+    ensures reported { IfOk result (λ outcome.
+        IsAnswer script.now settings.now (Reported (string_bytes outcome.text) outcome.failing)) }
+    ensures refused { IfErr result (λ fault. (fault ≢ RunFault.OutOfMemory)
+        → IsAnswer script.now settings.now (Refused fault)) }
+    ensures full { settings.now.module ≡ Full → settings.now.without.items ≡ []
+        → IfOk result (λ outcome. outcome.failing ≡ 0) }
 {
     let script = read_script(alloc, script)?;
     let base = base_of(alloc, &script.base, settings)?;
-    let graph = trace_under(alloc, &base, &script.traced, settings.module)?;
-    let found = explored(rt, alloc, &base, &graph, settings.limit, workers, gate)?;
-    let text = report_of(heap, alloc, &base, &graph, settings, &found)?;
+    let steps = &script.traced;
+    let outcome = answer_steps(rt, heap, alloc, &base, steps, settings, workers, gate)?;
+    Ok(outcome)
+}
+
+/// Traces the steps over the base, explores what a crash can leave, and reports.
+fn answer_steps<R, A, G>(
+    rt: &R,
+    heap: Global,
+    alloc: A,
+    base: &Image<A>,
+    steps: &[Step],
+    settings: &Settings,
+    workers: usize,
+    gate: &G,
+) -> Result<Outcome<A>, RunFault>
+where
+    R: Threads + Wait + Sync,
+    A: Allocator + Copy + Send + Sync,
+    G: Gate + Sync,
+    requires limit { IsExplorable settings.now }
+    requires workers { (1 ≤ workers) × (workers ≤ 16) }
+    requires sound { IsSound base.now × HasZeroJournal base.now }
+    ensures reported { IfOk result (λ outcome.
+        AreReported settings.now base.now steps.now (string_bytes outcome.text) outcome.failing) }
+    ensures refused { IfErr result (λ fault. (fault ≢ RunFault.OutOfMemory)
+        → AreRefused settings.now base.now steps.now fault) }
+    ensures full { settings.now.module ≡ Full → settings.now.without.items ≡ []
+        → IfOk result (λ outcome. outcome.failing ≡ 0) }
+{
+    let ordering = settings.ordering();
+    let traced = trace(alloc, base, steps, &ordering)?;
+    let found = find(rt, alloc, base, traced.graph(), settings, workers, gate)?;
+    let findings = Findings {
+        base,
+        traced,
+        settings,
+        found,
+    };
+    let text = match &findings.found.kept {
+        Kept::Sets(sets) => findings.by_set(rt, heap, alloc, sets, workers)?,
+        Kept::Faults(rows) => findings.by_fault(rt, heap, alloc, rows, workers)?,
+        Kept::Number => report_by_rule(rt, heap, alloc, &findings, workers, gate)?,
+    };
     Ok(Outcome {
         text,
-        failing: found.broken.len(),
+        failing: findings.found.failing,
     })
 }
 
@@ -75,9 +118,11 @@ fn base_of<A: Allocator + Copy>(
     settings: &Settings,
 ) -> Result<Image<A>, RunFault>
     ensures lawful { OnOk result (IsGeometry settings.now.blocks settings.now.journal) }
-    ensures built { IfOk result (λ base. based (formatted settings.now.blocks settings.now.journal) steps.now ≡ Ok base) }
+    ensures built { IfOk result (λ base.
+        based (formatted settings.now.blocks settings.now.journal) steps.now ≡ Ok base) }
     ensures sound { IfOk result (λ base. IsSound base × HasZeroJournal base) }
-    ensures refused { IfErr result (λ fault. (fault ≢ RunFault.OutOfMemory) → IsBaseRefusal settings.now steps.now fault) }
+    ensures refused { IfErr result (λ fault. (fault ≢ RunFault.OutOfMemory)
+        → IsBaseRefusal settings.now steps.now fault) }
 {
     let mut base = match Image::formatted(alloc, settings.blocks, settings.journal) {
         Ok(base) => base,
@@ -86,26 +131,4 @@ fn base_of<A: Allocator + Copy>(
     };
     build_base(&mut base, steps)?;
     Ok(base)
-}
-
-/// The report on the failing sets, in the form that the settings ask for. It fails only when out of memory.
-fn report_of<A: Allocator + Copy>(
-    heap: Global,
-    alloc: A,
-    base: &Image<A>,
-    graph: &Graph<A>,
-    settings: &Settings,
-    found: &Explored<A>,
-) -> Result<String<A>, AllocError>
-    requires fits { All (λ patch. patch.block < base.now.blocks) graph.now }
-    requires known { All (λ set. (id : ℕ) → Has set id → id < length graph.now) found.now.broken.items }
-    ensures { IfOk result (λ text. (sections : List Section) × AreSections base.now graph.now found.now.broken.items sections
-        × (string_bytes text ≡ report settings.now.json settings.now.module (length graph.now) found.now.total sections)) }
-{
-    if settings.json {
-        let text = report_json(heap, alloc, base, graph, settings.module, found)?;
-        String::from_str(alloc, text.as_str())
-    } else {
-        report_text(alloc, base, graph, settings.module, found)
-    }
 }

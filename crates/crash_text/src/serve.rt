@@ -3,6 +3,7 @@
 ghost use Rattle.std.specs.Prelude.{◌≡◌, ℕ, ◌+◌, ◌-◌, ◌^◌, ◌<◌, ◌≤◌, List, length, IfOk, IfErr, OnErr, IfSome, IsErrOf, IsErrAnd};
 ghost use Rattle.std.specs.Io.KnownBytes.{Consumes, Keeps};
 ghost use Rattle.devices.specs.Counted.{IsReadFault};
+ghost use Rattle.crash_text.specs.Limits.{IsExplorable};
 ghost use Rattle.crash_text.specs.Served.{IsServed, IsCut, IsRefusedBy};
 
 use crate::run::run;
@@ -17,10 +18,10 @@ use std::thread::Threads;
 
 /// Reads a script from a source, answers it, and writes the report to a sink. It gives the number of failing sets.
 ///
-/// The answer is that of `run` on all bytes of the source. A script that cannot be read or is too long is refused before it
-/// is run, and one that is too long in no other way but by out of memory or a failed read. Nothing is written before the
-/// report is whole. After a refusal the sink has taken nothing, unless the sink itself failed, which then has a beginning of
-/// the report.
+/// The answer is that of `run` on all bytes of the source. A script that cannot be read or is too long is refused
+/// before it is run, and one that is too long in no other way but by out of memory or a failed read. Nothing is
+/// written before the report is whole. After a refusal the sink has taken nothing, unless the sink itself failed,
+/// which then has a beginning of the report.
 pub fn serve<R, A, S, K, G>(
     rt: &R,
     heap: Global,
@@ -38,23 +39,29 @@ where
     K: Sink,
     G: Gate + Sync,
     requires workers { (1 ≤ workers) × (workers ≤ 16) }
-    requires limit { (1 ≤ settings.now.limit) × (settings.now.limit ≤ 32768) }
+    requires limit { IsExplorable settings.now }
     requires source { S.failures source.old < 2 ^ 64 - 1 }
     requires sink { K.failures sink.old < 2 ^ 64 - 1 }
-    ensures served { IfOk result (λ failing. IsServed (S.coming source.old) settings.now failing (K.taken sink.old) (K.taken sink.new)) }
-    ensures cut { IsErrOf result RunFault.CannotWrite → IsCut (S.coming source.old) settings.now (K.taken sink.old) (K.taken sink.new) }
+    ensures served { IfOk result (λ failing.
+        IsServed (S.coming source.old) settings.now failing (K.taken sink.old) (K.taken sink.new)) }
+    ensures cut { IsErrOf result RunFault.CannotWrite
+        → IsCut (S.coming source.old) settings.now (K.taken sink.old) (K.taken sink.new) }
     ensures refused { IfErr result (IsRefusedBy (S.coming source.old) settings.now) }
-    ensures bounded { IfSome (S.coming source.old) (λ bytes. MAX_SCRIPT_BYTES < length bytes → IsErrAnd result IsReadFault) }
-    ensures too_long { IsErrOf result RunFault.ScriptTooLong → IfSome (S.coming source.old) (λ bytes. MAX_SCRIPT_BYTES < length bytes) }
+    ensures bounded { IfSome (S.coming source.old) (λ bytes. MAX_SCRIPT_BYTES < length bytes
+        → IsErrAnd result IsReadFault) }
+    ensures too_long { IsErrOf result RunFault.ScriptTooLong
+        → IfSome (S.coming source.old) (λ bytes. MAX_SCRIPT_BYTES < length bytes) }
     ensures unread { IsErrOf result RunFault.CannotRead → S.failures source.new ≡ S.failures source.old + 1 }
     ensures no_failed_read { (¬ (IsErrOf result RunFault.CannotRead)) → S.failures source.new ≡ S.failures source.old }
     ensures unwritten { IsErrOf result RunFault.CannotWrite → K.failures sink.new ≡ K.failures sink.old + 1 }
     ensures no_failed_write { (¬ (IsErrOf result RunFault.CannotWrite)) → K.failures sink.new ≡ K.failures sink.old }
-    ensures untouched { OnErr result ((¬ (IsErrOf result RunFault.CannotWrite)) → Keeps (K.taken sink.old) (K.taken sink.new)) }
+    ensures untouched { OnErr result ((¬ (IsErrOf result RunFault.CannotWrite))
+        → Keeps (K.taken sink.old) (K.taken sink.new)) }
     ensures gone { (bytes : List ℕ) × Consumes (S.coming source.old) (S.coming source.new) bytes }
 {
     let script = read_to_end(alloc, source)?;
     let outcome = run(rt, heap, alloc, script.as_slice(), settings, workers, gate)?;
+    gate.ended();
     match write_all(sink, outcome.text.as_bytes()) {
         Ok(()) => Ok(outcome.failing),
         Err(_) => Err(RunFault::CannotWrite),

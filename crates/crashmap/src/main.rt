@@ -1,9 +1,10 @@
 //! The program: crash states of a small file system, from a script.
 #![tactic(auto)]
 
-use crash_answer::{answer, refuse, refuse_words};
+use crash_answer::{Progress, answer_watched, refuse, refuse_words};
 use crash_model::refusals::RunFault;
 use std::alloc::{AllocError, Global};
+use std::io::IsTerminal;
 use std::process::ExitCode;
 use std::rt::Env;
 use std::{env, io};
@@ -36,6 +37,9 @@ fn main(rt: HostRuntime) -> ExitCode {
     let Ok(texts) = texts_of(heap, &words) else {
         return ExitCode::from(refuse(&mut err, RunFault::OutOfMemory));
     };
-    let status = answer(&rt, heap, heap, &texts, &mut input, &mut out, &mut err);
+    let progress = Progress::new(&rt, err, err.is_terminal());
+    let status = answer_watched(
+        &rt, heap, heap, &texts, &mut input, &mut out, &mut err, &progress,
+    );
     ExitCode::from(status)
 }

@@ -14,8 +14,8 @@ pub trait Sink {
     /// How many calls have failed.
     ghost failures: { Self → ℕ };
 
-    /// Takes some bytes of the front of `from`, at least one, and says how many. A failed write takes none and counts as
-    /// one failure.
+    /// Takes some bytes of the front of `from`, at least one, and says how many. A failed write takes none and counts
+    /// as one failure.
     fn write(&mut self, from: &[u8]) -> Result<usize, DeviceFault>
         requires some { 0 < length from.now }
         requires room { failures self.old < 2 ^ 64 - 1 }
@@ -36,7 +36,8 @@ pub trait Sink {
 pub fn write_all<S: Sink>(sink: &mut S, text: &[u8]) -> Result<(), DeviceFault>
     requires { S.failures sink.old < 2 ^ 64 - 1 }
     ensures taken { OnOk result (Appends (S.taken sink.old) (S.taken sink.new) text.now) }
-    ensures begun { OnErr result ((front : List ℕ) × (rest : List ℕ) × (text.now ≡ front ++ rest) × Appends (S.taken sink.old) (S.taken sink.new) front) }
+    ensures begun { OnErr result ((front : List ℕ) × (rest : List ℕ) × (text.now ≡ front ++ rest)
+        × Appends (S.taken sink.old) (S.taken sink.new) front) }
     ensures counted { Counts result (S.failures sink.old) (S.failures sink.new) }
 {
     let mut rest = text;

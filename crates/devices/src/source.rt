@@ -35,20 +35,23 @@ pub trait Source {
 
 /// Reads a source to its end, or until it has given one byte more than a script may have.
 ///
-/// A script that is too long is refused as that, a failed read as unreadable; else memory was wanting. What was read is
-/// gone from the source.
+/// A script that is too long is refused as that, a failed read as unreadable; else memory was wanting. What was read
+/// is gone from the source.
 pub fn read_to_end<A: Allocator + Copy, S: Source>(
     alloc: A,
     source: &mut S,
 ) -> Result<Vec<u8, A>, RunFault>
     requires { S.failures source.old < 2 ^ 64 - 1 }
-    ensures whole { IfOk result (λ bytes. Consumes (S.coming source.old) (S.coming source.new) bytes.items × IsAtEnd (S.coming source.new)) }
+    ensures whole { IfOk result (λ bytes. Consumes (S.coming source.old) (S.coming source.new) bytes.items
+        × IsAtEnd (S.coming source.new)) }
     ensures short { IfOk result (λ bytes. length bytes.items ≤ MAX_SCRIPT_BYTES) }
-    ensures gone { (bytes : List ℕ) × Consumes (S.coming source.old) (S.coming source.new) bytes × (IsErrOf result RunFault.ScriptTooLong → MAX_SCRIPT_BYTES < length bytes) }
+    ensures gone { (bytes : List ℕ) × Consumes (S.coming source.old) (S.coming source.new) bytes
+        × (IsErrOf result RunFault.ScriptTooLong → MAX_SCRIPT_BYTES < length bytes) }
     ensures worked { OnOk result (S.failures source.new ≡ S.failures source.old) }
     ensures failed { IsErrOf result RunFault.CannotRead → S.failures source.new ≡ S.failures source.old + 1 }
     ensures kinds { IfErr result IsReadFault }
-    ensures other { OnErr result ((IsErrOf result RunFault.CannotRead → ⊥) → S.failures source.new ≡ S.failures source.old) }
+    ensures other { OnErr result ((IsErrOf result RunFault.CannotRead → ⊥)
+        → S.failures source.new ≡ S.failures source.old) }
 {
     let mut bytes = Vec::new(alloc);
     let mut chunk = [0; 4096];

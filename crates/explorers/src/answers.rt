@@ -60,8 +60,10 @@ pub(crate) fn answer<S: Space, A: Allocator + Copy>(
     requires board { (board.limit ≡ limit) × (board.space ≡ space.now) }
     requires limit { limit ≤ 32768 }
     requires left { IsLeft board left }
-    ensures found { IfOk result (IsExplored (S.successors space.now) (S.initial space.now) (S.is_good space.now) limit) }
-    ensures too_many { IsErrOf result ExploreFault.TooMany → ReachExceeds (S.successors space.now) (S.initial space.now) limit }
+    ensures found { IfOk result (IsExplored (S.successors space.now) (S.initial space.now) (S.is_good space.now)
+        limit) }
+    ensures too_many { IsErrOf result ExploreFault.TooMany
+        → ReachExceeds (S.successors space.now) (S.initial space.now) limit }
 {
     let Left { mut seat, is_over } = left;
     let is_finished = board.finished(&mut seat);

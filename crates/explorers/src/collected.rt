@@ -23,8 +23,10 @@ pub(crate) fn collect<S: Space, A: Allocator + Copy>(
     requires entries { Entries (S.successors _space.now) (S.initial _space.now) limit contents.now.rows }
     requires settled { Settled (S.successors _space.now) (S.is_good _space.now) contents.now }
     requires done { Done (S.successors _space.now) (S.initial _space.now) contents.now }
-    ensures found { IfOk result (IsExplored (S.successors _space.now) (S.initial _space.now) (S.is_good _space.now) limit) }
-    ensures too_many { IsErrOf result ExploreFault.TooMany → ReachExceeds (S.successors _space.now) (S.initial _space.now) limit }
+    ensures found { IfOk result (IsExplored (S.successors _space.now) (S.initial _space.now) (S.is_good _space.now)
+        limit) }
+    ensures too_many { IsErrOf result ExploreFault.TooMany
+        → ReachExceeds (S.successors _space.now) (S.initial _space.now) limit }
 {
     let total = count_entries(contents);
     if total > limit {

@@ -33,8 +33,8 @@ impl<S: Space, G: Gate, A: Allocator + Copy> Exploration<'_, S, G, A> {
         self.visit(rt, mine, place)
     }
 
-    /// Expands the entry at a place if the worker's seat can claim it, and tells the gate before. Where memory is refused
-    /// it tells the others to stop.
+    /// Expands the entry at a place if the worker's seat can claim it, and tells the gate before. Where memory is
+    /// refused it tells the others to stop.
     pub(crate) fn visit<R: Wait>(
         &self,
         rt: &R,

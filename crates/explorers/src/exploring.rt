@@ -22,11 +22,11 @@ use std::thread::Threads;
 /// Explores a space from its initial word, with 1 to 16 workers over one board.
 ///
 /// For every number of workers and every schedule, an answer other than out of memory is the one that is defined
-/// without threads: the number of the words that are reached and those of them that are not good, in canonical order, or
-/// that more words than the limit are reached.
+/// without threads: the number of the words that are reached and those of them that are not good, in canonical order,
+/// or that more words than the limit are reached.
 ///
-/// Worker 1 works on the caller's thread, and each of the others on a thread of its own where one can be made. The gate is
-/// told of each claim before the word is expanded.
+/// Worker 1 works on the caller's thread, and each of the others on a thread of its own where one can be made. The
+/// gate is told of each claim before the word is expanded.
 pub fn explore<R, A, S, G>(
     rt: &R,
     alloc: A,
@@ -43,8 +43,10 @@ where
     G: Gate + Sync,
     requires limit { (0 < limit) × (limit ≤ 32768) }
     requires workers { (1 ≤ workers) × (workers ≤ 16) }
-    ensures found { IfOk result (IsExplored (S.successors space.now) (S.initial space.now) (S.is_good space.now) limit) }
-    ensures too_many { IsErrOf result ExploreFault.TooMany → ReachExceeds (S.successors space.now) (S.initial space.now) limit }
+    ensures found { IfOk result (IsExplored (S.successors space.now) (S.initial space.now) (S.is_good space.now)
+        limit) }
+    ensures too_many { IsErrOf result ExploreFault.TooMany
+        → ReachExceeds (S.successors space.now) (S.initial space.now) limit }
 {
     let (board, mut seat, place) = Board::open(alloc, space, limit)?;
     let hands = first_hands(alloc, space, place, workers)?;

@@ -1,7 +1,7 @@
 //! Many workers explore a space over one board.
 //!
-//! Whatever the schedule, an answer other than out of memory is that of one worker: how many words are reached, and which
-//! of them are not good.
+//! Whatever the schedule, an answer other than out of memory is that of one worker: how many words are reached, and
+//! which of them are not good.
 #![tactic(auto)]
 
 mod answers;

@@ -64,8 +64,8 @@ impl<A: Allocator> Tasks<A> {
         self.hand.pop()
     }
 
-    /// Takes the oldest task of another worker's deque, trying each once, from the next worker's on. `None` says only that
-    /// nothing was taken.
+    /// Takes the oldest task of another worker's deque, trying each once, from the next worker's on. `None` says only
+    /// that nothing was taken.
     pub fn steal(&mut self) -> Option<Task>
         ensures { MatchOption result (self.new ≡ self.old) (λ task. HasStolen self.old task self.new) }
     {

@@ -18,8 +18,8 @@ use std::thread::yield_now;
 /// After so many rounds in a row in which all deques were found empty, a worker searches the rows.
 const EMPTY_ROUNDS: u8 = 64;
 
-/// A worker: its number, from 1, its seat at the board, what it judges in, its tasks, the words that it has met, and how
-/// many places of each shard it has tried to claim in a search of the rows. A place that was tried waits no more.
+/// A worker: its number, from 1, its seat at the board, what it judges in, its tasks, the words that it has met, and
+/// how many places of each shard it has tried to claim in a search of the rows. A place that was tried waits no more.
 #[derive(Drop)]
 pub(crate) struct Worker<C, A: Allocator> {
     pub number: usize,
@@ -73,7 +73,8 @@ impl<'a, S: Space, G: Gate, A: Allocator + Copy> Job for Exploration<'a, S, G, A
 
     ghost is_left = { λ e left. IsLeft e.board.now left };
 
-    /// Works until the board is finished, a stop was read, more words than the limit are reached or memory was refused.
+    /// Works until the board is finished, a stop was read, more words than the limit are reached or memory was
+    /// refused.
     fn work<R: Wait>(&self, rt: &R, mut worker: Worker<S::Scratch, A>) -> Left {
         let mut is_over = false;
         for _ in rt.forever() {

@@ -34,7 +34,8 @@ fn has_clean_slots<A: Allocator + Copy>(image: &Image<A>, inode: u8, named: &mut
     requires inode { inode < 16 }
     requires live { IsTrue (is_live image.now inode) }
     requires passed { HavePassed (slots_of image.now) inode 0 named.old }
-    ensures { MatchBool result (HavePassed (slots_of image.now) (inode + 1) 0 named.new) (¬ (HasCleanPointers image.now)) }
+    ensures { MatchBool result (HavePassed (slots_of image.now) (inode + 1) 0 named.new)
+        (¬ (HasCleanPointers image.now)) }
 {
     for slot in 0..4u8 {
         let block = image.pointer(inode, slot);
@@ -94,7 +95,8 @@ fn has_clean_directory<A: Allocator + Copy>(
     requires dir { dir < 16 }
     requires counts { IsTrue (counts image.now dir) }
     requires passed { HavePassed (entries_of image.now) dir 0 entries.old }
-    ensures { MatchBool result (HavePassed (entries_of image.now) (dir + 1) 0 entries.new) (¬ (HasCleanEntries image.now)) }
+    ensures { MatchBool result (HavePassed (entries_of image.now) (dir + 1) 0 entries.new)
+        (¬ (HasCleanEntries image.now)) }
 {
     for k in 0..10u8 {
         let entry = image.entry(dir, k);

@@ -150,7 +150,8 @@ fn low_links_at<A: Allocator + Copy>(
     inode: u8,
 ) -> Option<Fault>
     requires inode { inode < 16 }
-    requires entries { slice_index entries.now inode ≡ count_by (λ entry. entry.target == inode) (all_entries image.now) }
+    requires entries { slice_index entries.now inode
+        ≡ count_by (λ entry. entry.target == inode) (all_entries image.now) }
     ensures { result ≡ low_links_at image.now inode }
 {
     if !image.is_live(inode) {

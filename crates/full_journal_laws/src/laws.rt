@@ -18,8 +18,10 @@ ghost use Rattle.full_journal_laws.specs.Full.{ops_of, IsRecovered};
 /// disk, which outside the journal is the base after the first k operations, k being how many commit patches the set
 /// has. It is so with whatever rules beside those of the journal.
 pub fn replay_recovers_the_committed_operations()
-    ensures { (rules : List Rule) → (base : Disk) → (steps : List Step) → (s : Tracing) → (patches : List Patch) → (set : ℕ)
+    ensures { (rules : List Rule) → (base : Disk) → (steps : List Step) → (s : Tracing) → (patches : List Patch)
+        → (set : ℕ)
         → IsDisk base → IsSound base → HasZeroJournal base → All GivesName (ops_of steps)
-        → traced Full (begun base) steps ≡ Ok s → AreAmong (rules_of Full) rules → IsGraphOf rules base s patches → IsClosed (deps_of patches) set
+        → traced Full (begun base) steps ≡ Ok s → AreAmong (rules_of Full) rules → IsGraphOf rules base s patches
+        → IsClosed (deps_of patches) set
         → IsRecovered base steps s patches set }
 {}

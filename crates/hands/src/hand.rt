@@ -13,11 +13,11 @@ use std::marker::Model;
 /// A worker's own deque.
 pub(crate) type Deque<T, A> = Worker<T, A, Held<T>, Accounts>;
 
-/// A deque of a worker's own, which it pushes to and pops from at the back, and ways to the deques of all workers, from
-/// which it steals at the front.
+/// A deque of a worker's own, which it pushes to and pops from at the back, and ways to the deques of all workers,
+/// from which it steals at the front.
 ///
-/// Contracts see which deques they are and what each pass holds as pushed and as taken. A struct that holds a hand writes
-/// its `Drop` out, with `drop(hand)`, since a derived one gets no proof.
+/// Contracts see which deques they are and what each pass holds as pushed and as taken. A struct that holds a hand
+/// writes its `Drop` out, with `drop(hand)`, since a derived one gets no proof.
 #[derive(Drop)]
 pub struct Hand<T, A: Allocator> {
     pub(crate) deque: Deque<T, A>,
@@ -57,7 +57,8 @@ impl<T: Drop, A: Allocator> Hand<T, A> {
         self.deque.pop_as::<Taken>()
     }
 
-    /// Takes the oldest task of a worker's deque, workers being numbered from 0. None says only that nothing was taken.
+    /// Takes the oldest task of a worker's deque, workers being numbered from 0. None says only that nothing was
+    /// taken.
     pub fn steal(&mut self, from: usize) -> Option<T>
         requires { from < length self.old.ways }
         ensures same { IsSameHand self.old self.new }

@@ -13,8 +13,8 @@ use std::alloc::Allocator;
 /// How many tasks are left in a worker's deque, once all hands of one call of [`hands`](crate::hands) have come back.
 /// Workers are numbered from 0.
 ///
-/// The tasks that the hands hold as taken from the deque, and those that are left in it, are together the tasks that its
-/// owner holds as pushed, each as often.
+/// The tasks that the hands hold as taken from the deque, and those that are left in it, are together the tasks that
+/// its owner holds as pushed, each as often.
 pub fn tasks_left<T: Drop, A: Allocator>(mut hands: Vec<Hand<T, A>, A>, of: usize) -> usize
     requires together { AreTogether hands.items }
     requires of { of < length hands.items }
@@ -37,7 +37,8 @@ fn settled<T: Drop, A: Allocator>(
     requires ways { All (LeadsTo (worker_deque deque) of) others.items }
     requires part { 0 < (worker_view deque).parts }
     requires parts { (worker_view deque).parts + length others.items ≡ 17 }
-    ensures { (left : List T) × (length left ≡ result) × ((e : Way T A) (weight : T → ℕ) → weigh weight (worker_view deque).pushed
+    ensures { (left : List T) × (length left ≡ result)
+        × ((e : Way T A) (weight : T → ℕ) → weigh weight (worker_view deque).pushed
         ≡ weigh weight (worker_view deque).taken + sum_by (weigh_taken weight of e) others.items + weigh weight left) }
 {
     for hand in others {

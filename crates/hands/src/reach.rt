@@ -30,7 +30,11 @@ impl<T, A: Allocator> Model for Reach<T, A> {
 impl<T, A: Allocator> Reach<T, A> {
     /// The oldest task of the deque, where one was taken.
     pub(crate) fn steal(&mut self) -> Option<T>
-        ensures { MatchOption result (self.new ≡ self.old) (λ task. self.new ≡ record self.old { holds = held self.old.holds.pushed (self.old.holds.taken ++ task ∷ []) self.old.holds.parts }) }
+        ensures { MatchOption result (self.new ≡ self.old) (λ task.
+            self.new ≡ record self.old {
+              holds = held self.old.holds.pushed (self.old.holds.taken ++ task ∷ [])
+                  self.old.holds.parts;
+            }) }
     {
         self.stealer.steal_as::<Taken>(&mut self.pass).success()
     }

@@ -26,7 +26,9 @@ pub const DIRECTORY: u8 = 2;
 fn is_spelled<A: Allocator + Copy>(image: &Image<A>, dir: u8, k: u8, spelled: &[u8]) -> bool
     requires dir { dir < 16 }
     requires k { k < 10 }
-    ensures { result ≡ (is_entry image.now dir k && is_live image.now (target_of image.now dir k) && bytes_eq (spelling_of image.now dir k) spelled.now) }
+    ensures { result
+        ≡ (is_entry image.now dir k && is_live image.now (target_of image.now dir k) && bytes_eq
+        (spelling_of image.now dir k) spelled.now) }
 {
     if !image.counts(dir) {
         return false;

@@ -28,21 +28,25 @@ use std::alloc::Allocator;
 
 /// The changes of an operation, in the order in which they are emitted, or the first refusal, 10 to 19.
 ///
-/// It is defined on every image, also on a damaged one; it changes nothing and takes no memory. An operation is refused
-/// by the first of its tests that fails, and takes the lowest free inode, block, entry and slot. The changes lie
-/// inside the image, and none of them in the journal.
+/// It is defined on every image, also on a damaged one; it changes nothing and takes no memory. An operation is
+/// refused by the first of its tests that fails, and takes the lowest free inode, block, entry and slot. The changes
+/// lie inside the image, and none of them in the journal.
 ///
 /// On a sound image it is refused exactly as its tests tell of the names, inodes, pointers and used blocks of the
 /// image; the image after its changes is sound, and has gained and lost what the operation means.
 pub fn plan<A: Allocator + Copy>(image: &Image<A>, op: &Op) -> Result<Plan, FsFault>
-    ensures changes { MatchResult result (λ plan. plan_of image.now op.now ≡ Ok plan.items) (λ fault. plan_of image.now op.now ≡ Err fault) }
+    ensures changes { MatchResult result (λ plan. plan_of image.now op.now ≡ Ok plan.items) (λ fault.
+        plan_of image.now op.now ≡ Err fault) }
     ensures count { IfOk result (λ plan. (1 ≤ length plan.items) × (length plan.items ≤ 8)) }
     ensures inside { IfOk result (λ plan. All (LiesInside image.now.blocks) plan.items) }
     ensures journal { IfOk result (λ plan. HasSameJournal image.now (applied image.now plan.items)) }
     ensures name { IfOk result (λ _. GivesName op.now) }
-    ensures refused { IsSound image.now → (fault : FsFault) → ((result ≡ Err fault) ↔ IsRefused image.now.blocks image.now.journal (view_of image.now) op.now fault) }
+    ensures refused { IsSound image.now → (fault : FsFault)
+        → ((result ≡ Err fault) ↔ IsRefused image.now.blocks image.now.journal (view_of image.now) op.now fault) }
     ensures sound { IsSound image.now → IfOk result (λ plan. IsSound (applied image.now plan.items)) }
-    ensures means { IsSound image.now → IfOk result (λ plan. Means image.now.blocks image.now.journal (view_of image.now) (view_of (applied image.now plan.items)) op.now) }
+    ensures means { IsSound image.now
+        → IfOk result (λ plan.
+        Means image.now.blocks image.now.journal (view_of image.now) (view_of (applied image.now plan.items)) op.now) }
 {
     // Tells the proof that the image has the size of a disk.
     let _blocks = image.blocks();
@@ -51,7 +55,8 @@ pub fn plan<A: Allocator + Copy>(image: &Image<A>, op: &Op) -> Result<Plan, FsFa
 
 /// The changes of each operation.
 fn changes_of<A: Allocator + Copy>(image: &Image<A>, op: &Op) -> Result<Plan, FsFault>
-    ensures changes { MatchResult result (λ plan. plan_of image.now op.now ≡ Ok plan.items) (λ fault. plan_of image.now op.now ≡ Err fault) }
+    ensures changes { MatchResult result (λ plan. plan_of image.now op.now ≡ Ok plan.items) (λ fault.
+        plan_of image.now op.now ≡ Err fault) }
     ensures name { IfOk result (λ _. GivesName op.now) }
 {
     match op {
@@ -68,7 +73,8 @@ fn changes_of<A: Allocator + Copy>(image: &Image<A>, op: &Op) -> Result<Plan, Fs
 /// A new file.
 #[tactic(auto, unfolding(crash_model::specs::Plan::plan_of))]
 fn create<A: Allocator + Copy>(image: &Image<A>, path: &Path) -> Result<Plan, FsFault>
-    ensures changes { MatchResult result (λ plan. plan_of image.now (Create path.now) ≡ Ok plan.items) (λ fault. plan_of image.now (Create path.now) ≡ Err fault) }
+    ensures changes { MatchResult result (λ plan. plan_of image.now (Create path.now) ≡ Ok plan.items) (λ fault.
+        plan_of image.now (Create path.now) ≡ Err fault) }
     ensures name { IfOk result (λ _. IsName path.now.last) }
 {
     let dir = walk(image, path)?;
@@ -86,7 +92,8 @@ fn create<A: Allocator + Copy>(image: &Image<A>, path: &Path) -> Result<Plan, Fs
 /// One more block for a file.
 #[tactic(auto, unfolding(crash_model::specs::Plan::plan_of))]
 fn write<A: Allocator + Copy>(image: &Image<A>, path: &Path) -> Result<Plan, FsFault>
-    ensures { MatchResult result (λ plan. plan_of image.now (Write path.now) ≡ Ok plan.items) (λ fault. plan_of image.now (Write path.now) ≡ Err fault) }
+    ensures { MatchResult result (λ plan. plan_of image.now (Write path.now) ≡ Ok plan.items) (λ fault.
+        plan_of image.now (Write path.now) ≡ Err fault) }
 {
     let target = find(image, path)?.target;
     if image.kind(target) != FILE {
@@ -121,7 +128,8 @@ fn further_name<A: Allocator + Copy>(
         (λ fault. (changes : ℕ → ℕ → ℕ → ℕ → List ℕ → List Change) → relinked image.now old.now new.now changes ≡ Err fault) }
     ensures links { IfOk result (λ r. (r.links ≡ links_of image.now r.old.target) × (r.links < 8)) }
     ensures place { IfOk result (λ r. free_entry image.now r.dir ≡ Some r.place) }
-    ensures within { IfOk result (λ r. (r.old.dir < 16) × (r.old.place < 10) × (r.old.target < 16) × (r.dir < 16) × (r.place < 10)) }
+    ensures within { IfOk result (λ r. (r.old.dir < 16) × (r.old.place < 10) × (r.old.target < 16) × (r.dir < 16)
+        × (r.place < 10)) }
 {
     let old = find(image, old)?;
     let dir = walk(image, new)?;
@@ -147,7 +155,8 @@ fn further_name<A: Allocator + Copy>(
 /// One more name for a file.
 #[tactic(auto, unfolding(crash_model::specs::Plan::plan_of))]
 fn link<A: Allocator + Copy>(image: &Image<A>, old: &Path, new: &Path) -> Result<Plan, FsFault>
-    ensures changes { MatchResult result (λ plan. plan_of image.now (Link old.now new.now) ≡ Ok plan.items) (λ fault. plan_of image.now (Link old.now new.now) ≡ Err fault) }
+    ensures changes { MatchResult result (λ plan. plan_of image.now (Link old.now new.now) ≡ Ok plan.items) (λ fault.
+        plan_of image.now (Link old.now new.now) ≡ Err fault) }
     ensures name { IfOk result (λ _. IsName new.now.last) }
 {
     let name = further_name(image, old, new)?;
@@ -160,7 +169,8 @@ fn link<A: Allocator + Copy>(image: &Image<A>, old: &Path, new: &Path) -> Result
 /// A name goes, and with its last one the file and its blocks.
 #[tactic(auto, unfolding(crash_model::specs::Plan::plan_of))]
 fn unlink<A: Allocator + Copy>(image: &Image<A>, path: &Path) -> Result<Plan, FsFault>
-    ensures { MatchResult result (λ plan. plan_of image.now (Unlink path.now) ≡ Ok plan.items) (λ fault. plan_of image.now (Unlink path.now) ≡ Err fault) }
+    ensures { MatchResult result (λ plan. plan_of image.now (Unlink path.now) ≡ Ok plan.items) (λ fault.
+        plan_of image.now (Unlink path.now) ≡ Err fault) }
 {
     let Entry { dir, place, target } = find(image, path)?;
     if image.kind(target) != FILE {
@@ -181,7 +191,8 @@ fn unlink<A: Allocator + Copy>(image: &Image<A>, path: &Path) -> Result<Plan, Fs
 /// A file's name becomes another: the new entry is there before the old one goes.
 #[tactic(auto, unfolding(crash_model::specs::Plan::plan_of))]
 fn rename<A: Allocator + Copy>(image: &Image<A>, old: &Path, new: &Path) -> Result<Plan, FsFault>
-    ensures changes { MatchResult result (λ plan. plan_of image.now (Rename old.now new.now) ≡ Ok plan.items) (λ fault. plan_of image.now (Rename old.now new.now) ≡ Err fault) }
+    ensures changes { MatchResult result (λ plan. plan_of image.now (Rename old.now new.now) ≡ Ok plan.items) (λ fault.
+        plan_of image.now (Rename old.now new.now) ≡ Err fault) }
     ensures name { IfOk result (λ _. IsName new.now.last) }
 {
     let found = further_name(image, old, new)?;
@@ -196,7 +207,8 @@ fn rename<A: Allocator + Copy>(image: &Image<A>, old: &Path, new: &Path) -> Resu
 /// A new directory, empty and with a block of its own.
 #[tactic(auto, unfolding(crash_model::specs::Plan::plan_of))]
 fn mkdir<A: Allocator + Copy>(image: &Image<A>, path: &Path) -> Result<Plan, FsFault>
-    ensures changes { MatchResult result (λ plan. plan_of image.now (Mkdir path.now) ≡ Ok plan.items) (λ fault. plan_of image.now (Mkdir path.now) ≡ Err fault) }
+    ensures changes { MatchResult result (λ plan. plan_of image.now (Mkdir path.now) ≡ Ok plan.items) (λ fault.
+        plan_of image.now (Mkdir path.now) ≡ Err fault) }
     ensures name { IfOk result (λ _. IsName path.now.last) }
 {
     let dir = walk(image, path)?;
@@ -218,7 +230,8 @@ fn mkdir<A: Allocator + Copy>(image: &Image<A>, path: &Path) -> Result<Plan, FsF
 /// An empty directory goes with its block.
 #[tactic(auto, unfolding(crash_model::specs::Plan::plan_of))]
 fn rmdir<A: Allocator + Copy>(image: &Image<A>, path: &Path) -> Result<Plan, FsFault>
-    ensures { MatchResult result (λ plan. plan_of image.now (Rmdir path.now) ≡ Ok plan.items) (λ fault. plan_of image.now (Rmdir path.now) ≡ Err fault) }
+    ensures { MatchResult result (λ plan. plan_of image.now (Rmdir path.now) ≡ Ok plan.items) (λ fault.
+        plan_of image.now (Rmdir path.now) ≡ Err fault) }
 {
     let Entry { dir, place, target } = find(image, path)?;
     if image.kind(target) != DIRECTORY {

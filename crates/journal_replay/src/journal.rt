@@ -15,8 +15,8 @@ use std::alloc::Allocator;
 
 /// Replays the journal: each block becomes its last committed copy that is not known to be in place, if it has one.
 ///
-/// It is defined on every image, takes no memory, and writes no block of the journal. The result has the numbers of the
-/// blocks that it wrote, as a set of patches has ids: all others are as they were.
+/// It is defined on every image, takes no memory, and writes no block of the journal. The result has the numbers of
+/// the blocks that it wrote, as a set of patches has ids: all others are as they were.
 pub fn replay<A: Allocator + Copy>(image: &mut Image<A>) -> u128
     ensures replayed { image.new ≡ replayed image.old }
     ensures journal { (block : ℕ) → 4 ≤ block → block < 4 + image.old.journal

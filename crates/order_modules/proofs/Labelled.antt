@@ -1,5 +1,5 @@
 -- What a trace says of its patches.
-use Rattle.std.proofs.Common.{◌≡◌, ℕ, zero, suc, List, [], ◌∷◌, Bool, true, false, Some, arith, tests, refl, sym, ◌∙◌, ap, subst}
+use Rattle.std.proofs.Common.{◌≡◌, ℕ, zero, suc, List, [], ◌∷◌, Bool, true, false, Some, length, arith, tests, refl, sym, ◌∙◌, ap, subst}
 use Rattle.std.specs.Prelude.{◌↔◌, IsTrue, slice_get}
 use Rattle.crash_model.specs.Patches.{Place, place, places_of, overlap}
 use Rattle.crash_model.specs.Trace.{Emitted}
@@ -21,6 +21,22 @@ emitted_read (x ∷ patches) (l ∷ labels) zero label patch e at_label at_patch
     let is : emitted_at (place x.block x.offset x.new.items) l ≡ e = cc in
     sym is ∙ ap (λ (y : Patch). emitted_at (place y.block y.offset y.new.items) l) same_patch ∙ ap (λ (m : Label). emitted_at (place patch.block patch.offset patch.new.items) m) same_label
 emitted_read (x ∷ patches) (l ∷ labels) (suc id) label patch e at_label at_patch at = emitted_read patches labels id label patch e at_label at_patch at
+
+-- an emitted patch is that of its id
+pub emitted_there : (patches : List Patch) (labels : List Label) (id : ℕ) (label : Label) (patch : Patch) → slice_get labels id ≡ Some label → slice_get patches id ≡ Some patch
+    → slice_get (emitted_by (places_of patches) labels) id ≡ Some (emitted_at (place patch.block patch.offset patch.new.items) label)
+emitted_there [] labels id label patch at_label at_patch = absurd (cc)
+emitted_there (x ∷ patches) [] id label patch at_label at_patch = absurd (cc)
+emitted_there (x ∷ patches) (l ∷ labels) zero label patch at_label at_patch =
+    let same_label : l ≡ label = cc in
+    let same_patch : x ≡ patch = cc in
+    ap (λ (y : Patch). Some (emitted_at (place y.block y.offset y.new.items) l)) same_patch ∙ ap (λ (m : Label). Some (emitted_at (place patch.block patch.offset patch.new.items) m)) same_label
+emitted_there (x ∷ patches) (l ∷ labels) (suc id) label patch at_label at_patch = emitted_there patches labels id label patch at_label at_patch
+
+pub length-emitted : (patches : List Patch) (labels : List Label) → length labels ≡ length patches → length (emitted_by (places_of patches) labels) ≡ length patches
+length-emitted [] labels same = refl
+length-emitted (x ∷ patches) [] same = same
+length-emitted (x ∷ patches) (l ∷ labels) same = ap (λ (n : ℕ). suc n) (length-emitted patches labels (cc))
 
 -- an emitted patch has its label
 pub label_read : (ps : List Place) (labels : List Label) (id : ℕ) (label : Label) (e : Emitted) → slice_get labels id ≡ Some label → slice_get (emitted_by ps labels) id ≡ Some e → e ≡ emitted_at e.place label

@@ -1,7 +1,14 @@
 -- The steps before tracing, up to the first refused one.
-use Rattle.std.specs.Prelude.{List, [], ◌∷◌, Ok, Err}
+use Rattle.std.specs.Prelude.{◌≡◌, ◌⊎◌, List, [], ◌∷◌, Ok, Err}
 use Rattle.crash_model.specs.Disk.{Disk}
 use Rattle.crash_model.specs.Plan.{plan_of, applied}
+use Rattle.crash_model.specs.View.{view_of}
+use Rattle.crash_model.specs.Meaning.{Means, IsRefused}
+use Rattle.crash_model.specs.Refusals.{trace_fault}
+use Rattle.crash_model.specs.declared.names.Op.{Op}
+use Rattle.crash_model.specs.declared.refusals.FsFault.{FsFault}
+use Rattle.crash_model.specs.declared.refusals.TraceFault.{TraceFault}
+use Rattle.crash_model.specs.declared.refusals.TraceFault.TheVariants.{GroupFault}
 use Rattle.crash_model.specs.declared.steps.Act.TheVariants.{Do}
 use Rattle.crash_model.specs.declared.steps.Step.{Step}
 
@@ -12,3 +19,22 @@ disk_before_refusal d (x ∷ xs) = elim x.act [
   | Do op ↦ elim (plan_of d op) [ Err e ↦ d | Ok changes ↦ disk_before_refusal (applied d changes) xs ]
   | _ ↦ d
 ]
+
+-- a step's operation makes one disk of another, whose view has gained and lost what the operation means
+abbrev pub StepTurns : Disk → Step → Disk → Type 0
+StepTurns d x next = (op : Op) × (x.act ≡ Do op) × Means d.blocks d.journal (view_of d) (view_of next) op
+
+-- from disk to disk, each by the operation of a step
+abbrev pub StepsTurn : Disk → List Step → Disk → Type 0
+StepsTurn d [] end = end ≡ d
+StepsTurn d (x ∷ xs) end = (next : Disk) × StepTurns d x next × StepsTurn next xs end
+
+-- the step is refused on the disk, as what it holds tells, or is one on groups
+abbrev pub IsStopped : Disk → Step → TraceFault → Type 0
+IsStopped d x fault = ((op : Op) × (why : FsFault) × (x.act ≡ Do op) × IsRefused d.blocks d.journal (view_of d) op why × (fault ≡ trace_fault x.line why))
+    ⊎ (((op : Op) → ¬ (x.act ≡ Do op)) × (fault ≡ GroupFault x.line))
+
+-- the same up to a step that is refused, which changes nothing
+abbrev pub StepsStop : Disk → List Step → Disk → TraceFault → Type 0
+StepsStop d [] end fault = ⊥
+StepsStop d (x ∷ xs) end fault = (IsStopped d x fault × (end ≡ d)) ⊎ ((next : Disk) × StepTurns d x next × StepsStop next xs end fault)

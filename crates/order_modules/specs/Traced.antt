@@ -1,10 +1,11 @@
 -- The patches of a trace, with what each of them is.
-use Rattle.std.specs.Prelude.{◌≡◌, ℕ, List}
+use Rattle.std.specs.Prelude.{◌≡◌, ℕ, List, Option}
+use Rattle.crash_model.specs.Explain.{Dependency, ToldPatch, dependency, told_patch}
 use Rattle.crash_model.specs.Patches.{overlap}
 use Rattle.crash_model.specs.Trace.{Emitted, groups_depend, rules_between}
 use Rattle.crash_model.specs.declared.patches.Patch.{Patch}
 use Rattle.crash_model.specs.declared.rules.Rule.{Rule}
-use Rattle.order_modules.specs.declared.traced.Reasons.{Reasons}
+use Rattle.order_modules.specs.declared.reasons.Reasons.{Reasons}
 
 pub record TracedPatches : Type 0 where
   -- the patches as they stand in the graph, and as they were emitted
@@ -19,3 +20,10 @@ pub record AreReasons (t : TracedPatches) (q p : Emitted) (reasons : Reasons) : 
   pub overlap : reasons.overlap ≡ overlap q.place p.place
   pub group : reasons.group ≡ groups_depend t.links q p
   pub rules : reasons.rules.items ≡ rules_between t.rules q p
+
+-- what is told of the patch of an id, and of an earlier one that patch q depends on
+abbrev pub told_at : TracedPatches → ℕ → Option ToldPatch
+told_at t id = told_patch t.rules t.links t.emitted t.patches id
+
+abbrev pub dependency_at : TracedPatches → Emitted → ℕ → Option Dependency
+dependency_at t q earlier = dependency t.rules t.links t.emitted q earlier

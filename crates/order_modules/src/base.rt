@@ -1,10 +1,10 @@
 //! The disk that the steps before tracing lead to.
 
-ghost use Rattle.std.specs.Prelude.{◌≡◌, Ok, Err, OnOk, IfErr};
+ghost use Rattle.std.specs.Prelude.{◌≡◌, Ok, Err, OnOk, IfOk, IfErr};
 ghost use Rattle.crash_model.specs.Trace.{based};
 ghost use Rattle.crash_model.specs.Sound.{IsSound};
 ghost use Rattle.inode_fs.specs.Inside.{HasSameJournal};
-ghost use Rattle.order_modules.specs.Base.{disk_before_refusal};
+ghost use Rattle.order_modules.specs.Base.{disk_before_refusal, StepsTurn, StepsStop};
 
 use crash_model::refusals::TraceFault;
 use crash_model::steps::{Act, Step};
@@ -15,7 +15,9 @@ use std::alloc::Allocator;
 /// Applies the operations of the steps, in order, up to the first refused step.
 ///
 /// A refused operation changes nothing; a step on groups is refused, since groups order traced patches alone. The
-/// journal is not touched, and a sound image stays sound. It takes no memory, and so never fails for want of it.
+/// journal is not touched, and a sound image stays sound. On a sound image each operation makes the disk gain and lose
+/// what it means, and a step is refused as the disk before it tells. It takes no memory, and so never fails for want
+/// of it.
 pub fn build_base<A: Allocator + Copy>(
     image: &mut Image<A>,
     steps: &[Step],
@@ -25,6 +27,8 @@ pub fn build_base<A: Allocator + Copy>(
     ensures before { image.new ≡ disk_before_refusal image.old steps.now }
     ensures journal { (image.new.journal ≡ image.old.journal) × HasSameJournal image.old image.new }
     ensures sound { IsSound image.old → IsSound image.new }
+    ensures means { IsSound image.old → IfOk result (λ _. StepsTurn image.old steps.now image.new) }
+    ensures stops { IsSound image.old → IfErr result (λ fault. StepsStop image.old steps.now image.new fault) }
 {
     for step in steps {
         let Act::Do(op) = &step.act else {

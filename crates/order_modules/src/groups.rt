@@ -19,9 +19,11 @@ impl<'a, A: Allocator + Copy> Tracer<'a, A> {
     /// Takes a step of the script.
     pub fn step(&mut self, step: &'a Step) -> Result<(), TraceFault>
         requires { self.old.tracing.turn < 2 ^ 63 }
-        ensures ok { OnOk result (Moves self.old self.new (step_of self.old.log.kind self.old.tracing step.now.line step.now.act)) }
+        ensures ok { OnOk result (Moves self.old self.new
+            (step_of self.old.log.kind self.old.tracing step.now.line step.now.act)) }
         ensures names { OnOk result (All GivesName (ops_at step.now.act)) }
-        ensures refused { IfErr result (λ refusal. refusal ≢ fault.OutOfMemory → step_of self.old.log.kind self.old.tracing step.now.line step.now.act ≡ Err refusal) }
+        ensures refused { IfErr result (λ refusal. refusal ≢ fault.OutOfMemory
+            → step_of self.old.log.kind self.old.tracing step.now.line step.now.act ≡ Err refusal) }
     {
         match &step.act {
             Act::Do(op) => self.operate(step.line, op),
@@ -33,8 +35,10 @@ impl<'a, A: Allocator + Copy> Tracer<'a, A> {
 
     /// Opens a group: none may be open, and this one may not have been opened before.
     fn open(&mut self, line: usize, name: &'a GroupName) -> Result<(), TraceFault>
-        ensures ok { OnOk result (Moves self.old self.new (step_of self.old.log.kind self.old.tracing line (Group name.now))) }
-        ensures refused { IfErr result (λ refusal. refusal ≢ fault.OutOfMemory → step_of self.old.log.kind self.old.tracing line (Group name.now) ≡ Err refusal) }
+        ensures ok { OnOk result (Moves self.old self.new
+            (step_of self.old.log.kind self.old.tracing line (Group name.now))) }
+        ensures refused { IfErr result (λ refusal. refusal ≢ fault.OutOfMemory
+            → step_of self.old.log.kind self.old.tracing line (Group name.now) ≡ Err refusal) }
     {
         if self.current.is_some() || is_among(name, self.opened.as_slice()) {
             return Err(TraceFault::GroupFault { line });
@@ -47,7 +51,8 @@ impl<'a, A: Allocator + Copy> Tracer<'a, A> {
     /// Ends the open group.
     fn end(&mut self, line: usize) -> Result<(), TraceFault>
         ensures ok { OnOk result (Moves self.old self.new (step_of self.old.log.kind self.old.tracing line End)) }
-        ensures refused { IfErr result (λ refusal. refusal ≢ fault.OutOfMemory → step_of self.old.log.kind self.old.tracing line End ≡ Err refusal) }
+        ensures refused { IfErr result (λ refusal. refusal ≢ fault.OutOfMemory
+            → step_of self.old.log.kind self.old.tracing line End ≡ Err refusal) }
     {
         let Some(name) = self.current else {
             return Err(TraceFault::GroupFault { line });
@@ -64,8 +69,10 @@ impl<'a, A: Allocator + Copy> Tracer<'a, A> {
         later: &'a GroupName,
         earlier: &'a GroupName,
     ) -> Result<(), TraceFault>
-        ensures ok { OnOk result (Moves self.old self.new (step_of self.old.log.kind self.old.tracing line (Depend later.now earlier.now))) }
-        ensures refused { IfErr result (λ refusal. refusal ≢ fault.OutOfMemory → step_of self.old.log.kind self.old.tracing line (Depend later.now earlier.now) ≡ Err refusal) }
+        ensures ok { OnOk result (Moves self.old self.new
+            (step_of self.old.log.kind self.old.tracing line (Depend later.now earlier.now))) }
+        ensures refused { IfErr result (λ refusal. refusal ≢ fault.OutOfMemory
+            → step_of self.old.log.kind self.old.tracing line (Depend later.now earlier.now) ≡ Err refusal) }
     {
         if !is_among(earlier, self.ended.as_slice())
             || is_same(later, earlier)

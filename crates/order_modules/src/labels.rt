@@ -33,7 +33,9 @@ pub struct Link<'a> {
 
 /// Whether a patch waits for an earlier one, by the groups or by a rule.
 pub fn waits(rules: &[Rule], links: &[Link<'_>], later: &Label<'_>, earlier: &Label<'_>) -> bool
-    ensures { result ≡ (groups_depend (links_by links.now) (emitted_of later.now) (emitted_of earlier.now) || list_any (λ rule. applies rule (emitted_of later.now) (emitted_of earlier.now)) rules.now) }
+    ensures { result
+        ≡ (groups_depend (links_by links.now) (emitted_of later.now) (emitted_of earlier.now) || list_any (λ rule.
+        applies rule (emitted_of later.now) (emitted_of earlier.now)) rules.now) }
 {
     is_linked(links, later, earlier) || is_ordered(rules, later, earlier)
 }

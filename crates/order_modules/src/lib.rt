@@ -6,9 +6,11 @@
 #![tactic(auto)]
 
 mod base;
+mod by_rules;
 mod groups;
 mod labels;
 mod log;
+mod reasons;
 mod traced;
 mod tracer;
 mod transactions;
@@ -19,5 +21,6 @@ pub use crash_model::orderings::Ordering;
 pub use crash_model::refusals::TraceFault;
 pub use crash_model::steps::{Act, Module, Step};
 pub use labels::{Label, Origin};
-pub use traced::{Reasons, Traced};
+pub use reasons::{Reason, Reasons};
+pub use traced::Traced;
 pub use tracer::{trace, trace_under};

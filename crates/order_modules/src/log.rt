@@ -41,9 +41,27 @@ impl<'a, A: Allocator + Copy> Model for PatchLog<'a, A> {
 
     ghost Value = { Log };
 
-    ghost view = { λ l. record { base = l.base.now; kind = l.ordering.now.«module»; rules = l.ordering.now.rules.items; links = links_by l.links.items; emitted = emitted_by (places_of l.graph) l.labels.items; patches = l.graph; written = l.written } };
+    ghost view = { λ l.
+        record {
+          base = l.base.now;
+          kind = l.ordering.now.«module»;
+          rules = l.ordering.now.rules.items;
+          links = links_by l.links.items;
+          emitted = emitted_by (places_of l.graph) l.labels.items;
+          patches = l.graph;
+          written = l.written;
+        } };
 
-    ghost invariant = { λ l. IsLog (record { base = l.base.now; kind = l.ordering.now.«module»; rules = l.ordering.now.rules.items; links = links_by l.links.items; emitted = emitted_by (places_of l.graph) l.labels.items; patches = l.graph; written = l.written }) × (length l.labels.items ≡ length l.graph) };
+    ghost invariant = { λ l.
+        IsLog (record {
+          base = l.base.now;
+          kind = l.ordering.now.«module»;
+          rules = l.ordering.now.rules.items;
+          links = links_by l.links.items;
+          emitted = emitted_by (places_of l.graph) l.labels.items;
+          patches = l.graph;
+          written = l.written;
+        }) × (length l.labels.items ≡ length l.graph) };
 }
 
 impl<'a, A: Allocator + Copy> PatchLog<'a, A> {
@@ -53,7 +71,8 @@ impl<'a, A: Allocator + Copy> PatchLog<'a, A> {
         base: &'a Image<A>,
         ordering: &'a Ordering,
     ) -> Result<PatchLog<'a, A>, AllocError>
-        ensures ordering { IfOk result (λ log. (log.kind ≡ ordering.now.«module») × (log.rules ≡ ordering.now.rules.items)) }
+        ensures ordering { IfOk result (λ log. (log.kind ≡ ordering.now.«module»)
+            × (log.rules ≡ ordering.now.rules.items)) }
         ensures new { IfOk result (λ log. (log.base ≡ base.now) × (log.links ≡ []) × (log.emitted ≡ [])) }
     {
         Ok(PatchLog {
@@ -100,7 +119,8 @@ impl<'a, A: Allocator + Copy> PatchLog<'a, A> {
     /// After an error the log is as it was.
     pub fn link(&mut self, later: &'a GroupName, earlier: &'a GroupName) -> Result<(), AllocError>
         requires { list_any (λ e. is_same_group e.origin.group later.now) self.old.emitted ≡ false }
-        ensures ok { OnOk result (self.new ≡ record self.old { links = self.old.links ++ (later.now, earlier.now) ∷ [] }) }
+        ensures ok { OnOk result (self.new
+            ≡ record self.old { links = self.old.links ++ (later.now, earlier.now) ∷ [] }) }
         ensures err { OnErr result (self.new ≡ self.old) }
     {
         self.links.push(Link { later, earlier })?;
@@ -122,7 +142,8 @@ impl<'a, A: Allocator + Copy> PatchLog<'a, A> {
         requires some { 0 < length bytes.now }
         requires inside { offset + length bytes.now ≤ 128 }
         requires room { length self.old.emitted < 124 }
-        ensures ok { OnOk result (Adds self.old self.new (emitted_at (place block offset bytes.now) label.entry ∷ [])) }
+        ensures ok { OnOk result (Adds self.old self.new
+            (emitted_at (place block offset bytes.now) label.entry ∷ [])) }
         ensures err { OnErr result (self.new ≡ self.old) }
         ensures kept { Keeps self.old self.new }
     {

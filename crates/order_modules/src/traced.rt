@@ -1,12 +1,14 @@
 //! The patches of a trace, with what each of them is.
 
 ghost use Rattle.std.specs.Prelude.{◌≡◌, ℕ, ◌<◌, ◌≤◌, length, Some, slice_get};
-ghost use Rattle.crash_model.specs.Patches.{places_of};
+ghost use Rattle.crash_model.specs.Patches.{place, places_of};
+ghost use Rattle.crash_model.specs.declared.patches.Patch.{Patch};
 ghost use Rattle.crash_model.specs.Trace.{Emitted, rules_between};
 ghost use Rattle.order_modules.specs.Labels.{links_by, emitted_at, emitted_by, emitted_of};
 ghost use Rattle.order_modules.specs.Traced.{AreReasons};
 
 use crate::labels::{Label, Link, applies, is_linked};
+use crate::reasons::Reasons;
 use arrayvec::ArrayVec;
 use crash_model::orderings::{MAX_RULES, Ordering};
 use crash_model::rules::Rule;
@@ -19,10 +21,10 @@ use std::marker::Model;
 /// Contracts see the patches of the graph, the same as they were emitted, the links of groups, and the rules.
 #[derive(Drop)]
 pub struct Traced<'a, A: Allocator + Copy> {
-    graph: Graph<A>,
-    labels: Vec<Label<'a>, A>,
-    links: Vec<Link<'a>, A>,
-    ordering: &'a Ordering,
+    pub(crate) graph: Graph<A>,
+    pub(crate) labels: Vec<Label<'a>, A>,
+    pub(crate) links: Vec<Link<'a>, A>,
+    pub(crate) ordering: &'a Ordering,
 }
 
 impl<'a, A: Allocator + Copy> Model for Traced<'a, A> {
@@ -33,17 +35,15 @@ impl<'a, A: Allocator + Copy> Model for Traced<'a, A> {
 
     ghost Value = { TracedPatches };
 
-    ghost view = { λ t. record { patches = t.graph; emitted = emitted_by (places_of t.graph) t.labels.items; links = links_by t.links.items; rules = t.ordering.now.rules.items } };
+    ghost view = { λ t.
+        record {
+          patches = t.graph;
+          emitted = emitted_by (places_of t.graph) t.labels.items;
+          links = links_by t.links.items;
+          rules = t.ordering.now.rules.items;
+        } };
 
     ghost invariant = { λ t. length t.labels.items ≡ length t.graph };
-}
-
-/// Why a patch depends on an earlier one: they overlap, their groups are linked, or these rules apply to them.
-#[derive(Drop)]
-pub struct Reasons {
-    pub overlap: bool,
-    pub group: bool,
-    pub rules: ArrayVec<Rule, MAX_RULES>,
 }
 
 impl<'a, A: Allocator + Copy> Traced<'a, A> {
@@ -75,6 +75,14 @@ impl<'a, A: Allocator + Copy> Traced<'a, A> {
         &self.graph
     }
 
+    /// The number of the patches.
+    pub fn len(&self) -> usize
+        ensures patches { result ≡ length self.now.patches }
+        ensures emitted { result ≡ length self.now.emitted }
+    {
+        self.graph.len()
+    }
+
     /// The graph alone.
     pub fn into_graph(self) -> Graph<A>
         ensures { result ≡ self.entry.patches }
@@ -85,7 +93,9 @@ impl<'a, A: Allocator + Copy> Traced<'a, A> {
     /// What a patch is: the label of the patch as it was emitted.
     pub fn label(&self, id: usize) -> &Label<'a>
         requires { id < length self.now.patches }
-        ensures { (e : Emitted) → slice_get self.now.emitted id ≡ Some e → e ≡ emitted_at e.place result.now }
+        ensures emitted { (e : Emitted) → slice_get self.now.emitted id ≡ Some e → e ≡ emitted_at e.place result.now }
+        ensures patch { (p : Patch) → slice_get self.now.patches id ≡ Some p
+            → slice_get self.now.emitted id ≡ Some (emitted_at (place p.block p.offset p.new.items) result.now) }
     {
         label_of(self.labels.as_slice(), id)
     }
@@ -94,7 +104,8 @@ impl<'a, A: Allocator + Copy> Traced<'a, A> {
     pub fn reasons(&self, later: usize, earlier: usize) -> Reasons
         requires later { later < length self.now.patches }
         requires earlier { earlier < length self.now.patches }
-        ensures { (q p : Emitted) → slice_get self.now.emitted later ≡ Some q → slice_get self.now.emitted earlier ≡ Some p → AreReasons self.now q p result }
+        ensures { (q p : Emitted) → slice_get self.now.emitted later ≡ Some q
+            → slice_get self.now.emitted earlier ≡ Some p → AreReasons self.now q p result }
     {
         let labels = self.labels.as_slice();
         let last = label_of(labels, later);

@@ -45,12 +45,15 @@ pub fn trace<'a, A: Allocator + Copy>(
     steps: &'a [Step],
     ordering: &'a Ordering,
 ) -> Result<Traced<'a, A>, TraceFault>
-    ensures ok { IfOk result (λ t. (s : Tracing) × (traced ordering.now.«module» (begun image.now) steps.now ≡ Ok s) × IsGraphOf ordering.now.rules.items image.now s t.patches × (t.emitted ≡ s.emitted) × (t.links ≡ s.links)) }
+    ensures ok { IfOk result (λ t. (s : Tracing) × (traced ordering.now.«module» (begun image.now) steps.now ≡ Ok s)
+        × IsGraphOf ordering.now.rules.items image.now s t.patches × (t.emitted ≡ s.emitted) × (t.links ≡ s.links)) }
     ensures rules { IfOk result (λ t. t.rules ≡ ordering.now.rules.items) }
-    ensures refused { IfErr result (λ refusal. refusal ≢ fault.OutOfMemory → traced ordering.now.«module» (begun image.now) steps.now ≡ Err refusal) }
+    ensures refused { IfErr result (λ refusal. refusal ≢ fault.OutOfMemory
+        → traced ordering.now.«module» (begun image.now) steps.now ≡ Err refusal) }
     ensures fits { IfOk result (λ t. All (λ patch. patch.block < image.now.blocks) t.patches) }
     ensures names { IfOk result (λ _. All GivesName (ops_of steps.now)) }
-    ensures full { ordering.now.«module» ≡ Full → AreAmong (rules_of Full) ordering.now.rules.items → IsSound image.now → HasZeroJournal image.now → IfOk result (λ t. IsFullSafe image.now steps.now t.patches) }
+    ensures full { ordering.now.«module» ≡ Full → AreAmong (rules_of Full) ordering.now.rules.items → IsSound image.now
+        → HasZeroJournal image.now → IfOk result (λ t. IsFullSafe image.now steps.now t.patches) }
 {
     let mut tracer = Tracer::new(alloc, image, ordering)?;
     for step in steps {
@@ -68,11 +71,14 @@ pub fn trace_under<A: Allocator + Copy>(
     steps: &[Step],
     module: Module,
 ) -> Result<Graph<A>, TraceFault>
-    ensures ok { IfOk result (λ graph. (s : Tracing) × (traced «module» (begun image.now) steps.now ≡ Ok s) × IsGraphOf (rules_of «module») image.now s graph) }
-    ensures refused { IfErr result (λ refusal. refusal ≢ fault.OutOfMemory → traced «module» (begun image.now) steps.now ≡ Err refusal) }
+    ensures ok { IfOk result (λ graph. (s : Tracing) × (traced «module» (begun image.now) steps.now ≡ Ok s)
+        × IsGraphOf (rules_of «module») image.now s graph) }
+    ensures refused { IfErr result (λ refusal. refusal ≢ fault.OutOfMemory
+        → traced «module» (begun image.now) steps.now ≡ Err refusal) }
     ensures fits { IfOk result (λ graph. All (λ patch. patch.block < image.now.blocks) graph) }
     ensures names { IfOk result (λ _. All GivesName (ops_of steps.now)) }
-    ensures full { «module» ≡ Full → IsSound image.now → HasZeroJournal image.now → IfOk result (λ graph. IsFullSafe image.now steps.now graph) }
+    ensures full { «module» ≡ Full → IsSound image.now → HasZeroJournal image.now
+        → IfOk result (λ graph. IsFullSafe image.now steps.now graph) }
 {
     let ordering = Ordering::of(module);
     let traced = trace(alloc, image, steps, &ordering)?;
@@ -100,9 +106,12 @@ impl<'a, A: Allocator + Copy> Model for Tracer<'a, A> {
 
     ghost Value = { Trace };
 
-    ghost view = { λ t. trace_of t.log t.disk t.turn t.next (group_by t.current) (names_by t.opened.items) (names_by t.ended.items) };
+    ghost view = { λ t.
+        trace_of t.log t.disk t.turn t.next (group_by t.current) (names_by t.opened.items) (names_by t.ended.items) };
 
-    ghost invariant = { λ t. IsTrace (trace_of t.log t.disk t.turn t.next (group_by t.current) (names_by t.opened.items) (names_by t.ended.items)) };
+    ghost invariant = { λ t.
+        IsTrace (trace_of t.log t.disk t.turn t.next (group_by t.current) (names_by t.opened.items)
+        (names_by t.ended.items)) };
 }
 
 impl<'a, A: Allocator + Copy> Tracer<'a, A> {
@@ -113,7 +122,8 @@ impl<'a, A: Allocator + Copy> Tracer<'a, A> {
         ordering: &'a Ordering,
     ) -> Result<Tracer<'a, A>, AllocError>
         ensures begun { IfOk result (λ t. (t.tracing ≡ begun base.now) × (t.log.base ≡ base.now)) }
-        ensures ordering { IfOk result (λ t. (t.log.kind ≡ ordering.now.«module») × (t.log.rules ≡ ordering.now.rules.items)) }
+        ensures ordering { IfOk result (λ t. (t.log.kind ≡ ordering.now.«module»)
+            × (t.log.rules ≡ ordering.now.rules.items)) }
         ensures disk { IfOk result (λ _. IsDisk base.now) }
     {
         Ok(Tracer {
@@ -141,9 +151,12 @@ impl<'a, A: Allocator + Copy> Tracer<'a, A> {
     /// Does an operation: plans it, and adds its patches by the ordering module.
     pub fn operate(&mut self, line: usize, op: &'a Op) -> Result<(), TraceFault>
         requires { self.old.tracing.turn < 2 ^ 63 }
-        ensures ok { OnOk result (Moves self.old self.new (planned self.old.log.kind line op.now self.old.tracing (plan_of self.old.tracing.disk op.now))) }
+        ensures ok { OnOk result (Moves self.old self.new
+            (planned self.old.log.kind line op.now self.old.tracing (plan_of self.old.tracing.disk op.now))) }
         ensures name { OnOk result (GivesName op.now) }
-        ensures refused { IfErr result (λ refusal. refusal ≢ fault.OutOfMemory → planned self.old.log.kind line op.now self.old.tracing (plan_of self.old.tracing.disk op.now) ≡ Err refusal) }
+        ensures refused { IfErr result (λ refusal. refusal ≢ fault.OutOfMemory
+            → planned self.old.log.kind line op.now self.old.tracing (plan_of self.old.tracing.disk op.now)
+            ≡ Err refusal) }
     {
         let plan = match plan(&self.disk, op) {
             Ok(plan) => plan,
@@ -160,8 +173,10 @@ impl<'a, A: Allocator + Copy> Tracer<'a, A> {
         requires order { IsOrdered self.old.log.kind }
         requires few { self.old.tracing.turn < 2 ^ 63 }
         requires inside { All (LiesInside self.old.tracing.disk.blocks) plan.now.items }
-        ensures ok { OnOk result (Moves self.old self.new (planned self.old.log.kind line op.now self.old.tracing (Ok plan.now.items))) }
-        ensures refused { IfErr result (λ refusal. refusal ≢ fault.OutOfMemory → planned self.old.log.kind line op.now self.old.tracing (Ok plan.now.items) ≡ Err refusal) }
+        ensures ok { OnOk result (Moves self.old self.new
+            (planned self.old.log.kind line op.now self.old.tracing (Ok plan.now.items))) }
+        ensures refused { IfErr result (λ refusal. refusal ≢ fault.OutOfMemory
+            → planned self.old.log.kind line op.now self.old.tracing (Ok plan.now.items) ≡ Err refusal) }
     {
         if !self.log.has_room(plan.len()) {
             return Err(TraceFault::TooManyPatches { line });
@@ -179,8 +194,10 @@ impl<'a, A: Allocator + Copy> Tracer<'a, A> {
         requires order { IsJournaled self.old.log.kind }
         requires few { self.old.tracing.turn < 2 ^ 63 }
         requires inside { All (LiesInside self.old.tracing.disk.blocks) plan.now.items }
-        ensures ok { OnOk result (Moves self.old self.new (planned self.old.log.kind line op.now self.old.tracing (Ok plan.now.items))) }
-        ensures refused { IfErr result (λ refusal. refusal ≢ fault.OutOfMemory → planned self.old.log.kind line op.now self.old.tracing (Ok plan.now.items) ≡ Err refusal) }
+        ensures ok { OnOk result (Moves self.old self.new
+            (planned self.old.log.kind line op.now self.old.tracing (Ok plan.now.items))) }
+        ensures refused { IfErr result (λ refusal. refusal ≢ fault.OutOfMemory
+            → planned self.old.log.kind line op.now self.old.tracing (Ok plan.now.items) ≡ Err refusal) }
     {
         let targets = touched(self.log.module(), self.disk.blocks(), plan.as_slice());
         let next = self.next + 1 + targets.len();

@@ -76,7 +76,8 @@ impl<'a, A: Allocator + Copy> PatchLog<'a, A> {
         requires journal { header + 1 + length targets.now ≤ self.old.base.blocks }
         requires known { All (λ target. target < after.now.blocks) targets.now }
         requires room { length self.old.emitted + (length changes.now + length targets.now + 2) ≤ 124 }
-        ensures ok { OnOk result (Adds self.old self.new (transaction_of self.old.kind after.now turn header (origin_by origin.entry) targets.now changes.now)) }
+        ensures ok { OnOk result (Adds self.old self.new
+            (transaction_of self.old.kind after.now turn header (origin_by origin.entry) targets.now changes.now)) }
         ensures kept { Keeps self.old self.new }
     {
         self.emit_file_data(turn, origin, changes)?;
@@ -95,7 +96,8 @@ impl<'a, A: Allocator + Copy> PatchLog<'a, A> {
     ) -> Result<(), AllocError>
         requires inside { All (LiesInside self.old.base.blocks) changes.now }
         requires room { length self.old.emitted + length (ahead self.old.kind changes.now) ≤ 124 }
-        ensures ok { OnOk result (Adds self.old self.new (map (file_data turn (origin_by origin.entry)) (ahead self.old.kind changes.now))) }
+        ensures ok { OnOk result (Adds self.old self.new
+            (map (file_data turn (origin_by origin.entry)) (ahead self.old.kind changes.now))) }
         ensures kept { Keeps self.old self.new }
     {
         for change in changes {
@@ -124,7 +126,8 @@ impl<'a, A: Allocator + Copy> PatchLog<'a, A> {
         requires journal { first + length targets.now ≤ self.old.base.blocks }
         requires known { All (λ target. target < after.now.blocks) targets.now }
         requires room { length self.old.emitted + length targets.now ≤ 124 }
-        ensures ok { OnOk result (Adds self.old self.new (copies after.now turn first (origin_by origin.entry) targets.now)) }
+        ensures ok { OnOk result (Adds self.old self.new
+            (copies after.now turn first (origin_by origin.entry) targets.now)) }
         ensures kept { Keeps self.old self.new }
     {
         let mut block = first;
@@ -152,7 +155,9 @@ impl<'a, A: Allocator + Copy> PatchLog<'a, A> {
         requires block { header < self.old.base.blocks }
         requires fits { length targets.now ≤ 125 }
         requires room { length self.old.emitted < 124 }
-        ensures ok { OnOk result (Adds self.old self.new (part_of turn (origin_by origin.entry) part.Commit header 0 (0xC7 ∷ turn ∷ length targets.now ∷ targets.now) ∷ [])) }
+        ensures ok { OnOk result (Adds self.old self.new
+            (part_of turn (origin_by origin.entry) part.Commit header 0
+            (0xC7 ∷ turn ∷ length targets.now ∷ targets.now) ∷ [])) }
         ensures kept { Keeps self.old self.new }
     {
         let mut bytes: ArrayVec<u8, 128> = ArrayVec::new();
@@ -179,7 +184,8 @@ impl<'a, A: Allocator + Copy> PatchLog<'a, A> {
     ) -> Result<(), AllocError>
         requires inside { All (LiesInside self.old.base.blocks) changes.now }
         requires room { length self.old.emitted + length (placed self.old.kind changes.now) ≤ 124 }
-        ensures ok { OnOk result (Adds self.old self.new (map (plain turn (origin_by origin.entry)) (placed self.old.kind changes.now))) }
+        ensures ok { OnOk result (Adds self.old self.new
+            (map (plain turn (origin_by origin.entry)) (placed self.old.kind changes.now))) }
         ensures kept { Keeps self.old self.new }
     {
         for change in changes {
@@ -199,7 +205,8 @@ impl<'a, A: Allocator + Copy> PatchLog<'a, A> {
     fn emit_done(&mut self, turn: usize, origin: Origin<'a>, header: u8) -> Result<(), AllocError>
         requires block { header < self.old.base.blocks }
         requires room { length self.old.emitted < 124 }
-        ensures ok { OnOk result (Adds self.old self.new (part_of turn (origin_by origin.entry) part.Done header 0 (0xC8 ∷ []) ∷ [])) }
+        ensures ok { OnOk result (Adds self.old self.new
+            (part_of turn (origin_by origin.entry) part.Done header 0 (0xC8 ∷ []) ∷ [])) }
         ensures kept { Keeps self.old self.new }
     {
         let label = Label {

@@ -27,6 +27,15 @@ module _ (patches : List Patch) (id : ℕ) (x : Patch) (inside : id < length pat
   pub same_at : (y : Patch) → IsAt patches id y → y ≡ x
   same_at y at = sym (get_or_from_slice_get patches id y x at) ∙ sym read
 
+-- no patches are a graph
+pub graph_none : IsGraph []
+graph_none = record {
+  few = omega arith;
+  each = λ k d inside. absurd (omega (arith, inside));
+  earlier = λ q p dep. absurd (none_in_empty p dep);
+  ordered = λ p q later less at. let within : q < length {A = Patch} [] = slice_get_within [] q later at in absurd (omega (arith, within));
+}
+
 -- ---- a patch more
 
 module _ (patches : List Patch) (added : Patch) where

@@ -6,10 +6,12 @@ ghost use Rattle.patch_sets.specs.Machine.{CanLeave, LeadTo};
 ghost use Rattle.patch_sets.specs.Writes.{AreRuns, events_of};
 ghost use Rattle.crash_model.specs.declared.patches.Patch.{Patch};
 ghost use Rattle.crash_model.specs.Patches.{deps_of, homes_of};
+ghost use Rattle.patch_graph.specs.Apart.{AddsId};
 ghost use Rattle.patch_graph.specs.Graph.{IsAt, IsPatch, IsGraph, AddsOverlaps, Overlaps, OverlapsAt};
 
 use crate::fault::GraphFault;
 use crash_model::patches::Patch;
+use patch_sets::ends::{difference, lowest, without};
 use patch_sets::set::{has, is_below, is_subset, with};
 use patch_sets::write::BlockWrite;
 use std::alloc::{AllocError, Allocator};
@@ -25,6 +27,8 @@ pub const MAX_PATCHES: usize = 124;
 #[derive(Drop)]
 pub struct Graph<A: Allocator + Copy> {
     patches: Vec<Patch, A>,
+    /// For each id those that do not stand on it, so that the ready ids of a closed set come one by one.
+    apart: [u128; MAX_PATCHES],
 }
 
 impl<A: Allocator + Copy> Model for Graph<A> {
@@ -33,11 +37,13 @@ impl<A: Allocator + Copy> Model for Graph<A> {
 
     ghost Value = { List Patch };
 
+    ghost use Rattle.crash_model.specs.Patches.{deps_of};
+    ghost use Rattle.patch_graph.specs.Apart.{AreApart};
     ghost use Rattle.patch_graph.specs.Graph.{IsGraph};
 
     ghost view = { λ g. g.patches.items };
 
-    ghost invariant = { λ g. IsGraph g.patches.items };
+    ghost invariant = { λ g. IsGraph g.patches.items × AreApart (deps_of g.patches.items) g.apart };
 }
 
 impl<A: Allocator + Copy> Graph<A> {
@@ -47,6 +53,7 @@ impl<A: Allocator + Copy> Graph<A> {
     {
         Graph {
             patches: Vec::new(alloc),
+            apart: [u128::MAX; MAX_PATCHES],
         }
     }
 
@@ -57,7 +64,8 @@ impl<A: Allocator + Copy> Graph<A> {
     pub fn push(&mut self, mut patch: Patch) -> Result<(), GraphFault>
         requires whole { IsPatch patch }
         requires earlier { (id : ℕ) → Has patch.deps id → id < length self.old }
-        ensures ok { OnOk result ((added : Patch) × AddsOverlaps self.old patch added × (self.new ≡ self.old ++ added ∷ [])) }
+        ensures ok { OnOk result ((added : Patch) × AddsOverlaps self.old patch added
+            × (self.new ≡ self.old ++ added ∷ [])) }
         ensures full { IsErrOf result GraphFault.TooManyPatches ↔ (length self.old ≡ MAX_PATCHES) }
         ensures err { OnErr result (self.new ≡ self.old) }
     {
@@ -65,7 +73,10 @@ impl<A: Allocator + Copy> Graph<A> {
             return Err(GraphFault::TooManyPatches);
         }
         patch.deps |= overlapped_by(&patch, &self.patches);
+        let id = self.patches.len();
+        let deps = patch.deps;
         self.patches.push(patch)?;
+        take_out(&mut self.apart, id, deps);
         Ok(())
     }
 
@@ -124,7 +135,7 @@ impl<A: Allocator + Copy> Graph<A> {
         ready
     }
 
-    /// How many sets have one ready id more.
+    /// How many sets have one ready id more. Of a closed set `degree` tells it faster.
     pub fn ready_count(&self, set: u128) -> u32
         ensures { result ≡ length (successors_of (deps_of self.now) set) }
     {
@@ -137,7 +148,8 @@ impl<A: Allocator + Copy> Graph<A> {
         count
     }
 
-    /// The set with one ready id more, for the k-th of them, counted from 0 by ascending ids.
+    /// The set with one ready id more, for the k-th of them, counted from 0 by ascending ids. Of a closed set `next`
+    /// tells it faster.
     pub fn successor(&self, set: u128, k: u32) -> u128
         requires { k < length (successors_of (deps_of self.now) set) }
         ensures { result ≡ slice_index (successors_of (deps_of self.now) set) k }
@@ -154,29 +166,69 @@ impl<A: Allocator + Copy> Graph<A> {
         unreachable!()
     }
 
+    /// The ids of the graph.
+    fn ids(&self) -> u128
+        ensures { (id : ℕ) → Has result id ↔ (id < length self.now) }
+    {
+        (1 << self.patches.len()) - 1
+    }
+
+    /// How many sets have one ready id more than a closed set.
+    pub fn degree(&self, set: u128) -> u32
+        requires { IsClosed (deps_of self.now) set }
+        ensures { result ≡ length (successors_of (deps_of self.now) set) }
+    {
+        let mut front = difference(self.ids(), set);
+        let mut count = 0;
+        while let Some(id) = lowest(front) {
+            front &= self.apart[id];
+            count += 1;
+        }
+        count
+    }
+
+    /// The closed set with one ready id more, for the k-th of them, counted from 0 by ascending ids.
+    pub fn next(&self, set: u128, k: u32) -> u128
+        requires closed { IsClosed (deps_of self.now) set }
+        requires below { k < length (successors_of (deps_of self.now) set) }
+        ensures { result ≡ slice_index (successors_of (deps_of self.now) set) k }
+    {
+        let mut front = difference(self.ids(), set);
+        let mut count = 0;
+        while let Some(id) = lowest(front) {
+            if count == k {
+                return with(set, id);
+            }
+            front &= self.apart[id];
+            count += 1;
+        }
+        unreachable!()
+    }
+
     /// The set's ids of the graph in ascending order, cut into longest runs of one block.
     ///
     /// For a closed set the writes, one after another, are a run of the disk from nothing to that set. It fails
     /// only when out of memory.
     pub fn writes_to(&self, set: u128) -> Result<Vec<BlockWrite, A>, AllocError>
         ensures runs { IfOk result (λ writes. AreRuns (homes_of self.now) set writes.items) }
-        ensures leads { IfOk result (λ writes. IsClosed (deps_of self.now) set → LeadTo (deps_of self.now) (homes_of self.now) (events_of writes.items) set) }
+        ensures leads { IfOk result (λ writes. IsClosed (deps_of self.now) set
+            → LeadTo (deps_of self.now) (homes_of self.now) (events_of writes.items) set) }
     {
         let mut writes: Vec<BlockWrite, A> = Vec::new(*self.patches.allocator());
-        for (id, patch) in self.patches.iter().enumerate() {
-            if !has(set, id) {
-                continue;
-            }
+        let mut left = set & self.ids();
+        while let Some(id) = lowest(left) {
+            let block = self.patches[id].block;
             let len = writes.len();
-            if len > 0 && writes[len - 1].block == patch.block {
+            if len > 0 && writes[len - 1].block == block {
                 let last = &mut writes[len - 1];
                 last.ids = with(last.ids, id);
             } else {
                 writes.push(BlockWrite {
-                    block: patch.block,
+                    block,
                     ids: with(0, id),
                 })?;
             }
+            left = without(left, id);
         }
         Ok(writes)
     }
@@ -232,4 +284,17 @@ fn is_closed_in(patches: &[Patch], set: u128) -> bool
         }
     }
     true
+}
+
+/// Takes an id, of a patch that depends on `deps`, out of the masks of the ids that it stands on, itself among them.
+fn take_out(apart: &mut [u128; MAX_PATCHES], id: usize, deps: u128)
+    requires { id < MAX_PATCHES }
+    ensures { AddsId id deps apart.old apart.new }
+{
+    for p in 0..id {
+        if !is_subset(deps, apart[p]) {
+            apart[p] = without(apart[p], id);
+        }
+    }
+    apart[id] = without(apart[id], id);
 }

@@ -4,7 +4,8 @@ ghost use Rattle.patch_sets.specs.Sets.{ids_of};
 
 use crate::ends::{lowest, without};
 
-/// The ids of a set that are still to come, in ascending order. It takes a step for each id, however far apart they are.
+/// The ids of a set that are still to come, in ascending order. It takes a step for each id, however far apart they
+/// are.
 ///
 /// Contracts see the list of those ids.
 #[derive(Clone, Copy, Debug)]

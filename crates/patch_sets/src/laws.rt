@@ -13,7 +13,8 @@ ghost use Rattle.patch_sets.specs.declared.write.BlockWrite.{BlockWrite};
 /// The empty set is closed, and so is a closed set with a ready id more.
 pub fn successors_are_closed(deps: &[u128])
     ensures empty { IsClosed deps.now 0 }
-    ensures more { (set after : ℕ) → IsClosed deps.now set → Contains (successors_of deps.now set) after → IsClosed deps.now after }
+    ensures more { (set after : ℕ) → IsClosed deps.now set → Contains (successors_of deps.now set) after
+        → IsClosed deps.now after }
 {}
 
 /// One ready id after another leads from the empty set to the closed sets, and to no others.
@@ -32,12 +33,14 @@ pub fn crash_leaves_the_closed_sets(deps: &[u128], homes: &[u8])
 pub fn runs_lead_to_closed_sets(deps: &[u128], homes: &[u8])
     requires earlier { AreEarlier deps.now }
     requires homes { length homes.now ≡ length deps.now }
-    ensures { (set : ℕ) (writes : List BlockWrite) → IsClosed deps.now set → AreRuns homes.now set writes → LeadTo deps.now homes.now (events_of writes) set }
+    ensures { (set : ℕ) (writes : List BlockWrite) → IsClosed deps.now set → AreRuns homes.now set writes
+        → LeadTo deps.now homes.now (events_of writes) set }
 {}
 
 /// A set has at most one list of block writes that are its longest runs of one block.
 pub fn runs_are_one_list(homes: &[u8])
-    ensures { (set : ℕ) (writes others : List BlockWrite) → AreRuns homes.now set writes → AreRuns homes.now set others → writes ≡ others }
+    ensures { (set : ℕ) (writes others : List BlockWrite) → AreRuns homes.now set writes → AreRuns homes.now set others
+        → writes ≡ others }
 {}
 
 /// Two lists in canonical order with the same sets are equal, so that a property of sets has at most one list.

@@ -1,5 +1,5 @@
 //! The order in which sets are listed.
-ghost use Rattle.std.specs.Prelude.{◌≢◌};
+ghost use Rattle.std.specs.Prelude.{◌≢◌, ◌↔◌, IsTrue};
 ghost use Rattle.std.specs.List.{AllPairs};
 ghost use Rattle.std.specs.List.Sorted.{IsPermutation};
 ghost use Rattle.patch_sets.specs.Sets.{IsBefore};
@@ -14,4 +14,11 @@ pub fn in_order<A: Allocator>(mut sets: Vec<u128, A>) -> Vec<u128, A>
 {
     sets.sort_unstable_by_key(|set| (set.count_ones(), *set));
     sets
+}
+
+/// Whether a set stands before another in canonical order.
+pub fn is_before(set: u128, other: u128) -> bool
+    ensures { IsTrue result ↔ IsBefore set other }
+{
+    (set.count_ones(), set) < (other.count_ones(), other)
 }

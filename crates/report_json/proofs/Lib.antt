@@ -1,3 +1,10 @@
+pub mod Below
 pub mod Bytes
+pub mod RuleBytes
+pub mod Commas
 pub mod Ids
-pub mod Failing
+pub mod JoinedParts
+pub mod PatchBytes
+pub mod Replays
+pub mod Reports
+pub mod ToldFaults

@@ -1,30 +1,70 @@
 -- Reports as JSON.
-use Rattle.std.specs.Prelude.{◌≡◌, ℕ, zero, suc, List, [], ◌++◌, length, map, codes, decimal}
+use Rattle.std.specs.Prelude.{◌≡◌, ℕ, zero, suc, List, [], ◌++◌, length, map, Bool, false, codes, decimal}
 use Rattle.crash_model.specs.Lists.{joined}
 use Rattle.crash_model.specs.Disk.{Disk}
-use Rattle.crash_model.specs.Report.{Section, AreSections, module_text, section_json, json_report}
+use Rattle.serde_json.specs.Data.{Data}
+use Rattle.serde_json.specs.Written.{compact_text, has_float}
+use Rattle.crash_model.specs.Explain.{blocks_of, hex_json, told_patches, told_json}
+use Rattle.crash_model.specs.Report.{Section, AreSections, json_array, module_text, section_json}
+use Rattle.crash_model.specs.Summary.{ToldFault, told_fault_json}
+use Rattle.crash_model.specs.Needs.{told_rule_json}
+use Rattle.crash_model.specs.Whole as whole
+use Rattle.crash_model.specs.Whole.{early_json, late_json}
+use Rattle.crash_model.specs.declared.fault.FaultRow.{FaultRow}
 use Rattle.crash_model.specs.declared.patches.Patch.{Patch}
 use Rattle.crash_model.specs.declared.steps.Module.{Module}
+use Rattle.order_modules.specs.Traced.{TracedPatches}
+use Rattle.report_sections.specs.Bodies.{TellsBody}
+use Rattle.report_sections.specs.ToldRules.{told_rule}
+use Rattle.report_sections.specs.declared.report.Report.{Report}
+use Rattle.report_sections.specs.declared.rules.ToldRule.{ToldRule}
 
--- the text reports these sets, of so many closed ones
-abbrev pub IsJsonReport : Disk → List Patch → Module → ℕ → List ℕ → List ℕ → Type 0
-IsJsonReport base patches kind closed sets text =
-    (sections : List Section) × AreSections base patches sets sections × (text ≡ json_report kind (length patches) closed sections)
+-- a value that is written so
+pub record IsWritten (value : Data) (text : List ℕ) : Type 0 where
+  pub whole : compact_text value ≡ text
+  pub plain : has_float value ≡ false
 
--- what stands before the first failing set, and behind the last
-abbrev pub start_text : ℕ → List ℕ
-start_text closed = codes "{\"closed\":" ++ decimal closed ++ codes ",\"failing\":["
+-- the keys that explain: the base and the patches
+abbrev pub base_key : Disk → List ℕ
+base_key base = codes "\"base\":" ++ json_array (map hex_json (blocks_of base)) ++ codes ","
 
-abbrev pub end_text : Module → ℕ → List ℕ
-end_text kind patches = codes "],\"module\":\"" ++ module_text kind ++ codes "\",\"patches\":" ++ decimal patches ++ codes "}\n"
+abbrev pub trace_key : TracedPatches → List ℕ
+trace_key t = codes ",\"trace\":" ++ json_array (map told_json (told_patches t.rules t.links t.emitted t.patches))
+
+-- the module and the number of patches
+abbrev pub module_key : Module → ℕ → List ℕ
+module_key kind patches = codes ",\"module\":\"" ++ module_text kind ++ codes "\",\"patches\":" ++ decimal patches
 
 -- the comma before the item at a place
 abbrev pub comma_before : ℕ → List ℕ
 comma_before zero = []
 comma_before (suc n) = codes ","
 
+-- behind what stood there the text has the body's key before `module`
+abbrev pub WritesEarly : {A : Type 0} → Report A → List ℕ → List ℕ → Type 0
+WritesEarly report old new =
+    (body : whole.Body) × TellsBody report.settings.now.explain report.base.now report.traced.now.patches report.body body
+    × (new ≡ old ++ early_json (length report.traced.now.patches) report.failing body)
+
+-- and its key behind `patches`
+abbrev pub WritesLate : {A : Type 0} → Report A → List ℕ → List ℕ → Type 0
+WritesLate report old new =
+    (body : whole.Body) → TellsBody report.settings.now.explain report.base.now report.traced.now.patches report.body body
+    → new ≡ old ++ late_json (length report.traced.now.patches) report.failing body
+
 -- behind what stood there the text has the objects of these sets, with a comma between two
-pub record TellsSections (base : Disk) (patches : List Patch) (sets old new : List ℕ) : Type 0 where
+pub record WritesSections (explain : Bool) (base : Disk) (patches : List Patch) (sets old new : List ℕ) : Type 0 where
   pub sections : List Section
-  pub are : AreSections base patches sets sections
+  pub are : AreSections explain base patches sets sections
   pub whole : new ≡ old ++ joined 44 (map (section_json (length patches)) sections)
+
+-- the same of the objects of these rows
+pub record WritesFaults (explain : Bool) (base : Disk) (patches : List Patch) (rows : List FaultRow) (old new : List ℕ) : Type 0 where
+  pub told : List ToldFault
+  pub of_rows : map (λ t. t.row) told ≡ rows
+  pub firsts : AreSections explain base patches (map (λ row. row.first) rows) (map (λ t. t.first) told)
+  pub whole : new ≡ old ++ joined 44 (map (told_fault_json (length patches)) told)
+
+-- and of the objects of these rules, of n patches
+abbrev pub WritesRules : {A : Type 0} → ℕ → List (ToldRule A) → List ℕ → List ℕ → Type 0
+WritesRules n rules old new = new ≡ old ++ joined 44 (map (λ rule. told_rule_json n (told_rule rule)) rules)

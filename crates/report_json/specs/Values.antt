@@ -1,10 +1,12 @@
 -- The JSON values of the parts of a section. Keys stand in ascending order.
-use Rattle.std.specs.Prelude.{ℕ, List, map, codes}
+use Rattle.std.specs.Prelude.{ℕ, List, map, codes, Option, Some, None}
+use Rattle.std.specs.List.{All}
+use Rattle.hex.specs.Hex.{encode_lower, IsBytes}
 use Rattle.patch_sets.specs.Sets.{ids_of}
 use Rattle.patch_sets.specs.declared.write.BlockWrite.{BlockWrite}
-use Rattle.serde_json.specs.Data.{Data, number, unsigned, string, array, object, member, no_members}
+use Rattle.serde_json.specs.Data.{Data, Members, number, unsigned, string, array, object, member, no_members}
 use Rattle.serde_json.specs.View.{items_of}
-use Rattle.crash_model.specs.Report.{Section, fault_text}
+use Rattle.crash_model.specs.Report.{Section, ReplayedBlock, fault_text}
 use Rattle.crash_model.specs.declared.fault.Fault.{Fault}
 
 abbrev pub number_data : ℕ → Data
@@ -25,6 +27,30 @@ fault_data f = string (fault_text f)
 abbrev pub faults_data : List Fault → Data
 faults_data fs = array (items_of (map fault_data fs))
 
+abbrev pub hex_data : List ℕ → Data
+hex_data bytes = string (encode_lower bytes)
+
+abbrev pub replayed_data : ReplayedBlock → Data
+replayed_data r = object (member (codes "block") (number_data r.block) (member (codes "bytes") (hex_data r.bytes) no_members))
+
+abbrev pub replay_data : List ReplayedBlock → Data
+replay_data replay = array (items_of (map replayed_data replay))
+
+-- what replay changes, where that is told, before further members
+abbrev pub with_replay : Option (List ReplayedBlock) → Members → Members
+with_replay None members = members
+with_replay (Some replay) members = member (codes "replay") (replay_data replay) members
+
+-- a set, with its block writes, the faults that it leaves and what replay changes
+abbrev pub set_data : ℕ → ℕ → List BlockWrite → List Fault → Option (List ReplayedBlock) → Data
+set_data patches set writes found replay =
+    object (member (codes "faults") (faults_data found)
+    (with_replay replay (member (codes "set") (ids_data patches set) (member (codes "writes") (writes_data patches writes) no_members))))
+
 abbrev pub section_data : ℕ → Section → Data
-section_data patches s =
-    object (member (codes "faults") (faults_data s.found) (member (codes "set") (ids_data patches s.set) (member (codes "writes") (writes_data patches s.writes) no_members)))
+section_data patches s = set_data patches s.set s.writes s.found s.replay
+
+-- what is told of replay are bytes
+abbrev pub AreReplayedBytes : Option (List ReplayedBlock) → Type 0
+AreReplayedBytes None = Unit {0}
+AreReplayedBytes (Some replay) = All (λ r. IsBytes r.bytes) replay

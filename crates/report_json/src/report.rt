@@ -1,79 +1,135 @@
 //! Whole reports.
 
-ghost use Rattle.std.specs.Prelude.{◌≡◌, ℕ, ◌<◌, ◌++◌, false, length, string_bytes, IfOk, OnOk};
+ghost use Rattle.std.specs.Prelude.{◌≡◌, ◌<◌, ◌++◌, map, string_bytes, IfOk, OnOk};
 ghost use Rattle.std.specs.List.{All};
-ghost use Rattle.patch_sets.specs.Sets.{Has};
-ghost use Rattle.report_json.specs.JsonReport.{IsJsonReport, TellsSections, start_text, end_text, comma_before};
-ghost use Rattle.serde_json.specs.View.{view};
-ghost use Rattle.serde_json.specs.Written.{compact_text, has_float};
+ghost use Rattle.crash_model.specs.Whole.{Body as WholeBody, json_report};
+ghost use Rattle.report_sections.specs.Bodies.{CanTell, TellsBody, AreKnown, whole_of};
+ghost use Rattle.report_json.specs.JsonReport.{WritesEarly, WritesLate, WritesSections, WritesFaults, WritesRules};
 
+use crate::head::{write_module, write_rule_key};
+use crate::items::write_item;
+use crate::parts::write_together;
+use crate::patches::{write_base, write_trace};
+use crate::rules::told_rule_value;
+use crate::summary::told_fault_value;
 use crate::values::section_value;
-use crash_model::steps::Module;
-use disk_image::Image;
-use patch_graph::Graph;
-use patch_sets::explored::Explored;
-use report_sections::SectionMaker;
-use serde_json::Value;
+use crash_model::fault::FaultRow;
+use report_sections::{Body, Report, SectionMaker, ToldRule};
 use std::alloc::{AllocError, Allocator, Global};
+use std::thread::Threads;
 
-/// The report of an exploration as JSON: one compact object, its keys in ascending order, and a line feed.
+/// A report as JSON: one compact object, its keys in ascending order, and a line feed.
 ///
-/// `base` is the image that the traced steps began on, `graph` has their patches, which change blocks of it, and
-/// `found` the sets of its ids to report. JSON takes its memory from `heap`, and sections take theirs from `alloc`; a
-/// section's is free again before the next is made. It fails only when out of memory.
-pub fn report_json<A: Allocator + Copy>(
+/// The patches change blocks of the base, and sets have ids of patches. JSON takes its memory from `heap`, and
+/// sections take theirs from `alloc`; a section's is free again before the next is made. Up to so many workers write
+/// sections side by side. It fails only when out of memory.
+pub fn report_json<R, A>(
+    rt: &R,
     heap: Global,
     alloc: A,
-    base: &Image<A>,
-    graph: &Graph<A>,
-    module: Module,
-    found: &Explored<A>,
+    report: &Report<'_, '_, '_, '_, A>,
+    workers: usize,
 ) -> Result<String, AllocError>
-    requires fits { All (λ patch. patch.block < base.now.blocks) graph.now }
-    requires known { All (λ set. (id : ℕ) → Has set id → id < length graph.now) found.now.broken.items }
-    ensures { IfOk result (λ text. IsJsonReport base.now graph.now «module» found.now.total found.now.broken.items (string_bytes text)) }
+where
+    R: Threads + Sync,
+    A: Allocator + Copy + Send + Sync,
+    requires { CanTell report.now }
+    ensures { IfOk result (λ text. (body : WholeBody)
+        × TellsBody report.now.settings.now.explain report.now.base.now report.now.traced.now.patches report.now.body
+        body
+        × (string_bytes text ≡ json_report report.now.settings.now (whole_of report.now body))) }
 {
     let mut out = String::new(heap);
-    write_start(&mut out, found.total)?;
-    write_sections(&mut out, alloc, base, graph, &found.broken)?;
-    write_end(&mut out, module, graph.len())?;
+    let settings = report.settings;
+    out.push_str("{")?;
+    if settings.explain {
+        write_base(&mut out, report.base)?;
+    }
+    let closed = report.closed;
+    write!(out, "\"closed\":{closed}")?;
+    write_early(&mut out, rt, alloc, report, workers)?;
+    write_module(&mut out, settings.module, report.traced.graph().len())?;
+    write_late(&mut out, report)?;
+    if settings.explain {
+        write_trace(&mut out, report.traced)?;
+    }
+    write_rule_key(&mut out, "with", settings.put_in().as_slice())?;
+    write_rule_key(&mut out, "without", settings.taken_out().as_slice())?;
+    out.push_str("}\n")?;
     Ok(out)
 }
 
-/// What stands before the first failing set: the number of closed sets.
-fn write_start(out: &mut String, closed: usize) -> Result<(), AllocError>
-    ensures { OnOk result (string_bytes out.new ≡ string_bytes out.old ++ start_text closed) }
+/// The body's key before `module`.
+fn write_early<R, A>(
+    out: &mut String,
+    rt: &R,
+    alloc: A,
+    report: &Report<'_, '_, '_, '_, A>,
+    workers: usize,
+) -> Result<(), AllocError>
+where
+    R: Threads + Sync,
+    A: Allocator + Copy + Send + Sync,
+    requires { CanTell report.now }
+    ensures { OnOk result (WritesEarly report.now (string_bytes out.old) (string_bytes out.new)) }
 {
-    write!(out, "{{\"closed\":{closed},\"failing\":[")
+    match report.body {
+        Body::Sets(sets) => {
+            out.push_str(",\"failing\":[")?;
+            write_together(out, rt, alloc, report, sets, workers)?;
+            out.push_str("]")?;
+        }
+        Body::Faults(rows) => {
+            out.push_str(",\"faults\":[")?;
+            write_faults(out, alloc, report, rows)?;
+            out.push_str("]")?;
+        }
+        Body::Rules(_) => {
+            let failing = report.failing;
+            write!(out, ",\"failing\":{failing}")?;
+        }
+    }
+    Ok(())
 }
 
-/// What stands behind the last failing set: the module and the number of patches.
-fn write_end(out: &mut String, module: Module, patches: usize) -> Result<(), AllocError>
-    ensures { OnOk result (string_bytes out.new ≡ string_bytes out.old ++ end_text «module» patches) }
+/// The body's key behind `patches`.
+fn write_late<A: Allocator + Copy>(
+    out: &mut String,
+    report: &Report<'_, '_, '_, '_, A>,
+) -> Result<(), AllocError>
+    ensures { OnOk result (WritesLate report.now (string_bytes out.old) (string_bytes out.new)) }
 {
-    out.push_str("],\"module\":\"")?;
-    out.push_str(module.name())?;
-    out.push_str("\",\"patches\":")?;
-    write!(out, "{patches}")?;
-    out.push_str("}\n")?;
+    match report.body {
+        Body::Sets(_) => {}
+        Body::Faults(_) => {
+            let failing = report.failing;
+            write!(out, ",\"sets\":{failing}")?;
+        }
+        Body::Rules(rules) => {
+            out.push_str(",\"rules\":[")?;
+            write_rules(out, report.traced.graph().len(), rules)?;
+            out.push_str("]")?;
+        }
+    }
     Ok(())
 }
 
 /// The objects of the sets, with a comma between two. Each is a value of its own, which is freed once it is written.
-fn write_sections<A: Allocator + Copy>(
+pub(crate) fn write_sections<A: Allocator + Copy>(
     out: &mut String,
     alloc: A,
-    base: &Image<A>,
-    graph: &Graph<A>,
+    report: &Report<'_, '_, '_, '_, A>,
     sets: &[u128],
 ) -> Result<(), AllocError>
-    requires fits { All (λ patch. patch.block < base.now.blocks) graph.now }
-    requires known { All (λ set. (id : ℕ) → Has set id → id < length graph.now) sets.now }
-    ensures { OnOk result (TellsSections base.now graph.now sets.now (string_bytes out.old) (string_bytes out.new)) }
+    requires fits { All (λ patch. patch.block < report.now.base.now.blocks) report.now.traced.now.patches }
+    requires known { AreKnown report.now.traced.now.patches sets.now }
+    ensures { OnOk result (WritesSections report.now.settings.now.explain report.now.base.now
+        report.now.traced.now.patches sets.now (string_bytes out.old) (string_bytes out.new)) }
 {
     let heap = *out.allocator();
+    let graph = report.traced.graph();
     let patches = graph.len();
-    let mut maker = SectionMaker::new(alloc, base, graph)?;
+    let mut maker = SectionMaker::new(alloc, report.base, graph, report.settings.explain)?;
     for (at, set) in sets.iter().enumerate() {
         let section = maker.section(*set)?;
         let value = section_value(heap, patches, &section)?;
@@ -82,16 +138,42 @@ fn write_sections<A: Allocator + Copy>(
     Ok(())
 }
 
-/// A value at this place of an array, with a comma before it where it is not the first.
-fn write_item(out: &mut String, at: usize, value: &Value) -> Result<(), AllocError>
-    requires { has_float (view value.now) ≡ false }
-    ensures { OnOk result (string_bytes out.new ≡ string_bytes out.old ++ comma_before at ++ compact_text (view value.now)) }
+/// The objects of the faults, with a comma between two.
+fn write_faults<A: Allocator + Copy>(
+    out: &mut String,
+    alloc: A,
+    report: &Report<'_, '_, '_, '_, A>,
+    rows: &[FaultRow],
+) -> Result<(), AllocError>
+    requires fits { All (λ patch. patch.block < report.now.base.now.blocks) report.now.traced.now.patches }
+    requires known { AreKnown report.now.traced.now.patches (map (λ row. row.first) rows.now) }
+    ensures { OnOk result (WritesFaults report.now.settings.now.explain report.now.base.now
+        report.now.traced.now.patches rows.now (string_bytes out.old) (string_bytes out.new)) }
 {
     let heap = *out.allocator();
-    if at > 0 {
-        out.push_str(",")?;
+    let graph = report.traced.graph();
+    let patches = graph.len();
+    let mut maker = SectionMaker::new(alloc, report.base, graph, report.settings.explain)?;
+    for (at, row) in rows.iter().enumerate() {
+        let section = maker.section(row.first)?;
+        let value = told_fault_value(heap, patches, row, &section)?;
+        write_item(out, at, &value)?;
     }
-    let text = value.to_string(heap)?;
-    out.push_str(text.as_str())?;
+    Ok(())
+}
+
+/// The objects of the rules, with a comma between two. The graph has `patches` patches.
+fn write_rules<A: Allocator>(
+    out: &mut String,
+    patches: usize,
+    rules: &[ToldRule<A>],
+) -> Result<(), AllocError>
+    ensures { OnOk result (WritesRules patches rules.now (string_bytes out.old) (string_bytes out.new)) }
+{
+    let heap = *out.allocator();
+    for (at, rule) in rules.iter().enumerate() {
+        let value = told_rule_value(heap, patches, rule)?;
+        write_item(out, at, &value)?;
+    }
     Ok(())
 }

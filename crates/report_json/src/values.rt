@@ -1,14 +1,19 @@
 //! JSON values of the parts of a section.
 
-ghost use Rattle.std.specs.Prelude.{◌≡◌, IfOk};
+ghost use Rattle.std.specs.Prelude.{◌≡◌, Some, None, map, IfOk, OnOk};
+ghost use Rattle.std.specs.List.{All};
+ghost use Rattle.crash_model.specs.Report.{section_json};
+ghost use Rattle.hex.specs.Hex.{IsBytes};
 ghost use Rattle.serde_json.specs.View.{view};
+ghost use Rattle.report_sections.specs.Replay.{told_block};
 ghost use Rattle.report_sections.specs.Sections.{told};
-ghost use Rattle.report_json.specs.Values.{ids_data, write_data, writes_data, faults_data, section_data};
+ghost use Rattle.report_json.specs.JsonReport.{IsWritten};
+ghost use Rattle.report_json.specs.Values.{set_data, ids_data, write_data, writes_data, faults_data, hex_data, replayed_data, replay_data};
 
 use crash_model::fault::Fault;
 use patch_sets::iter::Ids;
 use patch_sets::write::BlockWrite;
-use report_sections::Section;
+use report_sections::{ReplayedBlock, Section};
 use serde_json::{Value, json};
 use std::alloc::{AllocError, Allocator, Global};
 
@@ -18,12 +23,75 @@ pub(crate) fn section_value<A: Allocator>(
     patches: usize,
     section: &Section<A>,
 ) -> Result<Value, AllocError>
-    ensures { IfOk result (λ value. view value ≡ section_data patches (told section.now)) }
+    ensures { IfOk result (λ value. IsWritten (view value) (section_json patches (told section.now))) }
+{
+    match &section.replay {
+        None => plain_section(heap, patches, section),
+        Some(replay) => explained_section(heap, patches, section, replay),
+    }
+}
+
+/// A failing set, without what replay changes.
+fn plain_section<A: Allocator>(
+    heap: Global,
+    patches: usize,
+    section: &Section<A>,
+) -> Result<Value, AllocError>
+    ensures { IfOk result (λ value.
+        view value ≡ set_data patches section.now.set section.now.writes.items section.now.faults.items None) }
 {
     let faults = faults_value(heap, &section.faults)?;
     let set = ids_value(heap, patches, section.set)?;
     let writes = writes_value(heap, patches, &section.writes)?;
     json!(in heap; {"faults": faults, "set": set, "writes": writes})
+}
+
+/// A failing set, with the blocks that replay changes.
+fn explained_section<A: Allocator>(
+    heap: Global,
+    patches: usize,
+    section: &Section<A>,
+    replay: &[ReplayedBlock],
+) -> Result<Value, AllocError>
+    ensures value { IfOk result (λ value.
+        view value ≡ set_data patches section.now.set section.now.writes.items section.now.faults.items
+        (Some (map told_block replay.now))) }
+    ensures bytes { OnOk result (All (λ r. IsBytes r.bytes) (map told_block replay.now)) }
+{
+    let faults = faults_value(heap, &section.faults)?;
+    let replay = replay_value(heap, replay)?;
+    let set = ids_value(heap, patches, section.set)?;
+    let writes = writes_value(heap, patches, &section.writes)?;
+    json!(in heap; {"faults": faults, "replay": replay, "set": set, "writes": writes})
+}
+
+/// The blocks that replay changes.
+pub(crate) fn replay_value(heap: Global, replay: &[ReplayedBlock]) -> Result<Value, AllocError>
+    ensures value { IfOk result (λ value. view value ≡ replay_data (map told_block replay.now)) }
+    ensures bytes { OnOk result (All (λ r. IsBytes r.bytes) (map told_block replay.now)) }
+{
+    let mut blocks = Vec::new(heap);
+    for replayed in replay {
+        blocks.push(replayed_value(heap, replayed)?)?;
+    }
+    Ok(Value::Array(blocks))
+}
+
+/// A block that replay changes, and its bytes after replay.
+fn replayed_value(heap: Global, replayed: &ReplayedBlock) -> Result<Value, AllocError>
+    ensures value { IfOk result (λ value. view value ≡ replayed_data (told_block replayed.now)) }
+    ensures bytes { IsBytes replayed.now.bytes }
+{
+    let bytes = hex_value(heap, replayed.bytes.as_slice())?;
+    json!(in heap; {"block": replayed.block, "bytes": bytes})
+}
+
+/// Bytes in hexadecimal.
+pub(crate) fn hex_value(heap: Global, bytes: &[u8]) -> Result<Value, AllocError>
+    ensures value { IfOk result (λ value. view value ≡ hex_data bytes.now) }
+    ensures bytes { IsBytes bytes.now }
+{
+    Ok(Value::String(hex::encode(heap, bytes)?))
 }
 
 /// The texts of the faults.
@@ -37,7 +105,11 @@ fn faults_value(heap: Global, faults: &[Fault]) -> Result<Value, AllocError>
     Ok(Value::Array(texts))
 }
 
-fn writes_value(heap: Global, patches: usize, writes: &[BlockWrite]) -> Result<Value, AllocError>
+pub(crate) fn writes_value(
+    heap: Global,
+    patches: usize,
+    writes: &[BlockWrite],
+) -> Result<Value, AllocError>
     ensures { IfOk result (λ value. view value ≡ writes_data patches writes.now) }
 {
     let mut values = Vec::new(heap);
@@ -56,7 +128,7 @@ fn write_value(heap: Global, patches: usize, write: BlockWrite) -> Result<Value,
 }
 
 /// The ids of the set, ascending.
-fn ids_value(heap: Global, patches: usize, set: u128) -> Result<Value, AllocError>
+pub(crate) fn ids_value(heap: Global, patches: usize, set: u128) -> Result<Value, AllocError>
     ensures { IfOk result (λ value. view value ≡ ids_data patches set) }
 {
     let mut ids = Vec::new(heap);

@@ -1,3 +1,4 @@
 pub mod Pieces
 pub mod Pushed
 pub mod Sizes
+pub mod Known

@@ -1,5 +1,5 @@
 -- One section more.
-use Rattle.std.proofs.Common.{◌≡◌, ℕ, ◌+◌, ◌<◌, List, [], ◌∷◌, ◌++◌, suc, length, get_or, take, refl, sym, ap, ◌∙◌, subst}
+use Rattle.std.proofs.Common.{◌≡◌, ℕ, ◌+◌, ◌<◌, List, [], ◌∷◌, ◌++◌, suc, length, get_or, take, Bool, refl, sym, ap, ◌∙◌, subst}
 use Rattle.std.proofs.lemmas.List.{take_more}
 use Rattle.crash_model.specs.Disk.{Disk}
 use Rattle.crash_model.specs.Report.{AreSections}
@@ -8,20 +8,25 @@ use Rattle.crash_model.specs.declared.patches.Patch.{Patch}
 use Rattle.report_sections.specs.declared.section.Section.{Section}
 use Rattle.report_sections.specs.Sections.{told, IsSection}
 
-pub sections_push : {A : Type 0} (base : Disk) (patches : List Patch) (sets : List ℕ) (set : ℕ) (sections : List report.Section) (s : Section A) → AreSections base patches sets sections → IsSection base patches set s → AreSections base patches (sets ++ set ∷ []) (sections ++ told s ∷ [])
-sections_push base patches [] set sections s are is =
+pub sections_push : {A : Type 0} (explain : Bool) (base : Disk) (patches : List Patch) (sets : List ℕ) (set : ℕ) (sections : List report.Section) (s : Section A) → AreSections explain base patches sets sections → IsSection explain base patches set s → AreSections explain base patches (sets ++ set ∷ []) (sections ++ told s ∷ [])
+sections_push explain base patches [] set sections s are is =
     let of_set = is.of_set in
+    let replay = is.replay in
     let faults = is.faults in
     (s.writes.items, [], is.runs, refl, ap (λ (ss : List report.Section). ss ++ told s ∷ []) are ∙ cc)
-sections_push base patches (x ∷ xs) set sections s (writes, rest, runs, more, whole) is =
-    (writes, rest ++ told s ∷ [], runs, sections_push base patches xs set rest s more is, ap (λ (ss : List report.Section). ss ++ told s ∷ []) whole)
+sections_push explain base patches (x ∷ xs) set sections s (writes, rest, runs, more, whole) is =
+    (writes, rest ++ told s ∷ [], runs, sections_push explain base patches xs set rest s more is, ap (λ (ss : List report.Section). ss ++ told s ∷ []) whole)
+
+-- a section is the one that is told of its set alone
+pub is_told : {A : Type 0} (explain : Bool) (base : Disk) (patches : List Patch) (set : ℕ) (s : Section A) → IsSection explain base patches set s → AreSections explain base patches (set ∷ []) (told s ∷ [])
+is_told explain base patches set s is = sections_push explain base patches [] set [] s refl is
 
 -- the sections of the first sets, with that of the next
-pub sections_more : {A : Type 0} (base : Disk) (patches : List Patch) (sets : List ℕ) (i : ℕ) (sections : List report.Section) (s : Section A) → i < length sets → AreSections base patches (take i sets) sections → IsSection base patches (get_or sets i 0) s → AreSections base patches (take (i + 1) sets) (sections ++ told s ∷ [])
-sections_more base patches sets i sections s within are is =
-    subst (λ (ss : List ℕ). AreSections base patches ss (sections ++ told s ∷ [])) (sym (take_more sets i 0 within))
-    (sections_push base patches (take i sets) (get_or sets i 0) sections s are is)
+pub sections_more : {A : Type 0} (explain : Bool) (base : Disk) (patches : List Patch) (sets : List ℕ) (i : ℕ) (sections : List report.Section) (s : Section A) → i < length sets → AreSections explain base patches (take i sets) sections → IsSection explain base patches (get_or sets i 0) s → AreSections explain base patches (take (i + 1) sets) (sections ++ told s ∷ [])
+sections_more explain base patches sets i sections s within are is =
+    subst (λ (ss : List ℕ). AreSections explain base patches ss (sections ++ told s ∷ [])) (sym (take_more sets i 0 within))
+    (sections_push explain base patches (take i sets) (get_or sets i 0) sections s are is)
 
-pub length-sections : (base : Disk) (patches : List Patch) (sets : List ℕ) (sections : List report.Section) → AreSections base patches sets sections → length sections ≡ length sets
-length-sections base patches [] sections are = ap length are
-length-sections base patches (x ∷ xs) sections (writes, rest, runs, more, whole) = ap length whole ∙ ap (λ (n : ℕ). suc n) (length-sections base patches xs rest more)
+pub length-sections : (explain : Bool) (base : Disk) (patches : List Patch) (sets : List ℕ) (sections : List report.Section) → AreSections explain base patches sets sections → length sections ≡ length sets
+length-sections explain base patches [] sections are = ap length are
+length-sections explain base patches (x ∷ xs) sections (writes, rest, runs, more, whole) = ap length whole ∙ ap (λ (n : ℕ). suc n) (length-sections explain base patches xs rest more)

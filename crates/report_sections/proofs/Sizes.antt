@@ -1,11 +1,9 @@
 -- How many blocks an image has that sections are made in.
-use Rattle.std.proofs.Common.{◌≡◌, ℕ, ◌+◌, ◌<◌, Bool, true, false, List, [], ◌∷◌, refl, ap, ◌∙◌}
+use Rattle.std.proofs.Common.{◌≡◌, ℕ, ◌+◌, Bool, true, false, List, [], ◌∷◌, refl, ap, ◌∙◌}
 use Rattle.std.specs.Prelude.{if◌then◌else◌}
-use Rattle.std.specs.List.{All}
 use Rattle.patch_sets.specs.Sets.{has}
 use Rattle.crash_model.specs.Disk.{Disk, put}
 use Rattle.crash_model.specs.Patches.{Place, places_of, image_from, image_of}
-use Rattle.crash_model.specs.Replay.{replayed}
 use Rattle.crash_model.specs.declared.patches.Patch.{Patch}
 use Rattle.report_sections.specs.Maker.{IsMaker}
 
@@ -17,8 +15,8 @@ image_size id d (p ∷ ps) set = image_size (id + 1) (if has set id then put d p
     one true = refl
     one false = refl
 
-pub still_maker : (base : Disk) (patches : List Patch) (old built after : Disk) (set : ℕ) → IsMaker base patches old → built ≡ image_of base patches set → after ≡ replayed built → IsMaker base patches after
+pub still_maker : (base : Disk) (patches : List Patch) (old built after : Disk) (set : ℕ) → IsMaker base patches old → built ≡ image_of base patches set → after.blocks ≡ built.blocks → IsMaker base patches after
 still_maker base patches old built after set was made is = record {
   fits = was.fits;
-  size = ap (λ (d : Disk). d.blocks) is ∙ (ap (λ (d : Disk). d.blocks) made ∙ image_size 0 base (places_of patches) set);
+  size = is ∙ (ap (λ (d : Disk). d.blocks) made ∙ image_size 0 base (places_of patches) set);
 }

@@ -1,6 +1,12 @@
 //! What a report tells of each failing set.
 #![tactic(auto)]
 
+pub mod replayed;
+pub mod report;
+pub mod rules;
 pub mod section;
 
+pub use replayed::ReplayedBlock;
+pub use report::{Body, Report};
+pub use rules::{RuleUsage, ToldRule};
 pub use section::{Section, SectionMaker};

@@ -4,33 +4,36 @@ ghost use Rattle.std.specs.Prelude.{◌≡◌, ℕ, ◌<◌, length, IfOk};
 ghost use Rattle.std.specs.List.{All};
 ghost use Rattle.patch_sets.specs.Sets.{Has};
 
+use crate::replayed::{ReplayedBlock, replay_and_tell};
 use crash_image::rebuild;
 use crash_model::fault::Fault;
 use disk_image::Image;
 use fs_check::faults;
-use journal_replay::replay;
 use patch_graph::Graph;
 use patch_sets::write::BlockWrite;
 use std::alloc::{AllocError, Allocator};
 use std::marker::Model;
 
-/// A failing set, block writes that lead to it, and the faults of its replayed image.
+/// A set, block writes that lead to it, what replay changes where that is explained, and the faults of its replayed
+/// image.
 #[derive(Drop)]
 pub struct Section<A: Allocator> {
     pub set: u128,
     pub writes: Vec<BlockWrite, A>,
+    pub replay: Option<Vec<ReplayedBlock, A>>,
     pub faults: Vec<Fault, A>,
 }
 
 /// What the sections of a report are made in: one image, which is made that of a set for each section.
 ///
-/// Contracts see the base and the patches.
+/// Contracts see the base and the patches, and whether sections explain what replay changes.
 #[derive(Drop)]
 pub struct SectionMaker<'a, A: Allocator + Copy> {
     alloc: A,
     base: &'a Image<A>,
     graph: &'a Graph<A>,
     image: Image<A>,
+    explain: bool,
 }
 
 impl<'a, A: Allocator + Copy> Model for SectionMaker<'a, A> {
@@ -38,7 +41,7 @@ impl<'a, A: Allocator + Copy> Model for SectionMaker<'a, A> {
 
     ghost Value = { Reported };
 
-    ghost view = { λ s. record { base = s.base.now; patches = s.graph.now } };
+    ghost view = { λ s. record { base = s.base.now; patches = s.graph.now; explain = s.explain } };
 
     ghost invariant = { λ s. IsMaker s.base.now s.graph.now s.image };
 }
@@ -46,36 +49,40 @@ impl<'a, A: Allocator + Copy> Model for SectionMaker<'a, A> {
 impl<'a, A: Allocator + Copy> SectionMaker<'a, A> {
     ghost use Rattle.report_sections.specs.Sections.{IsSection};
 
-    /// Makes sections of sets of the graph, whose patches change blocks of the base.
+    /// Makes sections of sets of the graph, whose patches change blocks of the base; where `explain` is set, each with
+    /// the blocks that replay changes.
     ///
     /// It fails only when out of memory.
     pub fn new(
         alloc: A,
         base: &'a Image<A>,
         graph: &'a Graph<A>,
+        explain: bool,
     ) -> Result<SectionMaker<'a, A>, AllocError>
         requires fits { All (λ patch. patch.block < base.now.blocks) graph.now }
-        ensures { IfOk result (λ maker. maker ≡ record { base = base.now; patches = graph.now }) }
+        ensures { IfOk result (λ maker. maker ≡ record { base = base.now; patches = graph.now; explain = explain }) }
     {
         Ok(SectionMaker {
             alloc,
             base,
             graph,
             image: base.try_copy()?,
+            explain,
         })
     }
 
     /// What is told of a set of the graph's ids. It fails only when out of memory.
     pub fn section(&mut self, set: u128) -> Result<Section<A>, AllocError>
         requires known { (id : ℕ) → Has set id → id < length self.old.patches }
-        ensures told { IfOk result (IsSection self.old.base self.old.patches set) }
+        ensures told { IfOk result (IsSection self.old.explain self.old.base self.old.patches set) }
         ensures kept { self.new ≡ self.old }
     {
         rebuild(&mut self.image, self.base, self.graph, set);
-        replay(&mut self.image);
+        let replay = replay_and_tell(self.alloc, &mut self.image, self.explain)?;
         Ok(Section {
             set,
             writes: self.graph.writes_to(set)?,
+            replay,
             faults: faults(self.alloc, &self.image)?,
         })
     }

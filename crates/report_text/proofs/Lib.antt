@@ -1,2 +1,5 @@
+pub mod PatchLines
+pub mod JoinedParts
 pub mod Told
 pub mod Reports
+pub mod RuleLines

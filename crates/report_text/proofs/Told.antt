@@ -1,7 +1,7 @@
 -- Text of lists, one item after another.
-use Rattle.std.proofs.Common.{◌≡◌, ℕ, ◌+◌, ◌<◌, List, [], ◌∷◌, ◌++◌, length, get_or, take, codes, decimal, sym, ap, ◌∙◌, append_assoc}
+use Rattle.std.proofs.Common.{◌≡◌, ℕ, ◌+◌, ◌<◌, List, [], ◌∷◌, ◌++◌, length, get_or, map, take, codes, decimal, sym, ap, ◌∙◌, append_assoc}
 use Rattle.std.specs.List.{flat_map}
-use Rattle.std.proofs.lemmas.List.{take_more, append-nil}
+use Rattle.std.proofs.lemmas.List.{take_more, append-nil, map-append}
 use Rattle.std.proofs.lemmas.List.Concat.{flat_map-append}
 use Rattle.crash_model.specs.Report.{numbers}
 
@@ -13,6 +13,12 @@ pub item_told : {X : Type 0} (f : X → List ℕ) (xs : List X) (i : ℕ) (d : X
 item_told f xs i d before all after within told more =
     more ∙ (ap (λ (t : List ℕ). t ++ f (get_or xs i d)) told ∙ (append_assoc before (flat_map f (take i xs)) (f (get_or xs i d))
     ∙ ap (λ (t : List ℕ). before ++ t) (sym (ap (flat_map f) (take_more xs i d within) ∙ flat_map-push f (take i xs) (get_or xs i d)))))
+
+-- one item more is told, as another
+pub mapped_told : {X Y : Type 0} (f : Y → List ℕ) (g : X → Y) (xs : List X) (i : ℕ) (d : X) (before all after : List ℕ) → i < length xs → all ≡ before ++ flat_map f (map g (take i xs)) → after ≡ all ++ f (g (get_or xs i d)) → after ≡ before ++ flat_map f (map g (take (i + 1) xs))
+mapped_told {X = X} f g xs i d before all after within told more =
+    more ∙ (ap (λ (t : List ℕ). t ++ f (g (get_or xs i d))) told ∙ (append_assoc before (flat_map f (map g (take i xs))) (f (g (get_or xs i d)))
+    ∙ ap (λ (t : List ℕ). before ++ t) (sym (ap (λ (ys : List X). flat_map f (map g ys)) (take_more xs i d within) ∙ (ap (flat_map f) (map-append g (take i xs) (get_or xs i d ∷ [])) ∙ flat_map-push f (map g (take i xs)) (g (get_or xs i d)))))))
 
 -- one id more is told
 pub id_told : (left rest : List ℕ) (id : ℕ) (all spaced after whole : List ℕ) → all ++ numbers left ≡ whole → left ≡ id ∷ rest → spaced ≡ all ++ codes " " → after ≡ spaced ++ decimal id → after ++ numbers rest ≡ whole

@@ -1,1 +1,3 @@
+pub mod PartTexts
+pub mod Patches
 pub mod TextReport

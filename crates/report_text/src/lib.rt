@@ -1,7 +1,12 @@
 //! Reports as text.
 #![tactic(auto)]
 
+mod head;
 mod lines;
+mod parts;
+mod patches;
 pub mod report;
+mod rules;
+mod summary;
 
 pub use report::report_text;

@@ -1,49 +1,86 @@
 //! The lines of a report.
 
-ghost use Rattle.std.specs.Prelude.{◌≡◌, ◌++◌, ℕ, codes, decimal, string_bytes, OnOk, flat_map};
+ghost use Rattle.std.specs.Prelude.{◌≡◌, ◌++◌, ℕ, codes, decimal, string_bytes, OnOk, flat_map, map};
+ghost use Rattle.hex.specs.Hex.{encode_lower};
 ghost use Rattle.patch_sets.specs.Sets.{ids_of};
-ghost use Rattle.crash_model.specs.Report.{line, numbers, write_text, section_text, fault_text};
+ghost use Rattle.crash_model.specs.Report.{line, numbers, write_text, replayed_text, crash_text, section_text, fault_text};
+ghost use Rattle.report_sections.specs.Replay.{told_block};
 ghost use Rattle.report_sections.specs.Sections.{told};
-ghost use Rattle.report_text.specs.TextReport.{head_text};
 
 use crash_model::fault::Fault;
-use crash_model::steps::Module;
 use itoa::Buffer;
 use patch_sets::iter::Ids;
 use patch_sets::write::BlockWrite;
-use report_sections::Section;
+use report_sections::{ReplayedBlock, Section};
 use std::alloc::{AllocError, Allocator};
 
-/// The first four lines.
-pub(crate) fn write_head<A: Allocator>(
-    out: &mut String<A>,
-    module: Module,
-    patches: usize,
-    closed: usize,
-    failing: usize,
-) -> Result<(), AllocError>
-    ensures { OnOk result (string_bytes out.new ≡ string_bytes out.old ++ head_text «module» patches closed failing) }
-{
-    let name = module.name();
-    write!(
-        out,
-        "module {name}\npatches {patches}\nclosed {closed}\nfailing {failing}\n"
-    )
-}
-
-/// The lines of a failing set. The graph has `patches` patches.
-pub(crate) fn write_section<A: Allocator>(
+/// The lines of a failing set: those of the crash, and one for each fault. The graph has `patches` patches.
+pub(crate) fn write_section<A: Allocator + Copy, B: Allocator>(
     out: &mut String<A>,
     patches: usize,
-    section: &Section<A>,
+    section: &Section<B>,
 ) -> Result<(), AllocError>
     ensures { OnOk result (string_bytes out.new ≡ string_bytes out.old ++ section_text patches (told section.now)) }
+{
+    write_crash(out, patches, section)?;
+    write_faults(out, &section.faults)?;
+    Ok(())
+}
+
+/// The lines of a crash: its set, a line for each block write that leads to it, and one for each block that replay
+/// changes, where that is told. The graph has `patches` patches.
+pub(crate) fn write_crash<A: Allocator + Copy, B: Allocator>(
+    out: &mut String<A>,
+    patches: usize,
+    section: &Section<B>,
+) -> Result<(), AllocError>
+    ensures { OnOk result (string_bytes out.new ≡ string_bytes out.old ++ crash_text patches (told section.now)) }
 {
     out.push_str("set")?;
     write_ids(out, patches, section.set)?;
     out.push_str("\n")?;
     write_writes(out, patches, &section.writes)?;
-    write_faults(out, &section.faults)?;
+    if let Some(replay) = &section.replay {
+        write_replay(out, replay)?;
+    }
+    Ok(())
+}
+
+/// A line for each block that replay changes.
+fn write_replay<A: Allocator + Copy>(
+    out: &mut String<A>,
+    replay: &[ReplayedBlock],
+) -> Result<(), AllocError>
+    ensures { OnOk result (string_bytes out.new
+        ≡ string_bytes out.old ++ flat_map replayed_text (map told_block replay.now)) }
+{
+    for replayed in replay {
+        write_replayed(out, replayed)?;
+    }
+    Ok(())
+}
+
+/// The line of a block that replay changes: its number, and its bytes after replay in hexadecimal.
+fn write_replayed<A: Allocator + Copy>(
+    out: &mut String<A>,
+    replayed: &ReplayedBlock,
+) -> Result<(), AllocError>
+    ensures { OnOk result (string_bytes out.new ≡ string_bytes out.old ++ replayed_text (told_block replayed.now)) }
+{
+    out.push_str("replay block ")?;
+    write_number(out, usize::from(replayed.block))?;
+    out.push_str(": ")?;
+    write_hex(out, replayed.bytes.as_slice())?;
+    out.push_str("\n")?;
+    Ok(())
+}
+
+/// Bytes in hexadecimal.
+fn write_hex<A: Allocator + Copy>(out: &mut String<A>, bytes: &[u8]) -> Result<(), AllocError>
+    ensures { OnOk result (string_bytes out.new ≡ string_bytes out.old ++ encode_lower bytes.now) }
+{
+    let text = hex::encode(*out.allocator(), bytes)?;
+    out.push_str(text.as_str())?;
     Ok(())
 }
 

@@ -1,58 +1,101 @@
 //! Whole reports.
 
-ghost use Rattle.std.specs.Prelude.{ℕ, ◌<◌, length, string_bytes, IfOk, OnOk};
+ghost use Rattle.std.specs.Prelude.{◌≡◌, ◌<◌, ◌++◌, map, string_bytes, IfOk, OnOk};
 ghost use Rattle.std.specs.List.{All};
-ghost use Rattle.patch_sets.specs.Sets.{Has};
-ghost use Rattle.report_text.specs.TextReport.{IsTextReport, TellsSections};
+ghost use Rattle.crash_model.specs.Whole.{Body as WholeBody, text_report};
+ghost use Rattle.report_sections.specs.Bodies.{CanTell, TellsBody, AreKnown, whole_of};
+ghost use Rattle.report_text.specs.TextReport.{WritesSections, WritesFaults};
 
-use crate::lines::{write_head, write_section};
-use crash_model::steps::Module;
-use disk_image::Image;
-use patch_graph::Graph;
-use patch_sets::explored::Explored;
-use report_sections::SectionMaker;
+use crate::head::write_head;
+use crate::lines::write_section;
+use crate::parts::write_together;
+use crate::patches::write_patches;
+use crate::rules::write_rules;
+use crate::summary::write_told_fault;
+use crash_model::fault::FaultRow;
+use report_sections::{Body, Report, SectionMaker};
 use std::alloc::{AllocError, Allocator};
+use std::thread::Threads;
 
-/// The report of an exploration as text: four lines of totals, and then for each failing set a line of its ids, one
-/// for each block write that leads to it and one for each fault of its replayed image.
+/// A report as text: the lines of the head, for each patch its lines where that is asked for, and the body's lines.
 ///
-/// `base` is the image that the traced steps began on, `graph` has their patches, which change blocks of it, and
-/// `found` the sets of its ids to report. It fails only when out of memory.
-pub fn report_text<A: Allocator + Copy>(
+/// The patches change blocks of the base, and sets have ids of patches. Up to so many workers write sections side by
+/// side. It fails only when out of memory.
+pub fn report_text<R, A>(
+    rt: &R,
     alloc: A,
-    base: &Image<A>,
-    graph: &Graph<A>,
-    module: Module,
-    found: &Explored<A>,
+    report: &Report<'_, '_, '_, '_, A>,
+    workers: usize,
 ) -> Result<String<A>, AllocError>
-    requires fits { All (λ patch. patch.block < base.now.blocks) graph.now }
-    requires known { All (λ set. (id : ℕ) → Has set id → id < length graph.now) found.now.broken.items }
-    ensures { IfOk result (λ text. IsTextReport base.now graph.now «module» found.now.total found.now.broken.items (string_bytes text)) }
+where
+    R: Threads + Sync,
+    A: Allocator + Copy + Send + Sync,
+    requires { CanTell report.now }
+    ensures { IfOk result (λ text. (body : WholeBody)
+        × TellsBody report.now.settings.now.explain report.now.base.now report.now.traced.now.patches report.now.body
+        body
+        × (string_bytes text ≡ text_report report.now.settings.now (whole_of report.now body))) }
 {
     let mut out = String::new(alloc);
-    let failing = found.broken.len();
-    write_head(&mut out, module, graph.len(), found.total, failing)?;
-    write_sections(&mut out, alloc, base, graph, &found.broken)?;
+    let patches = report.traced.graph().len();
+    write_head(
+        &mut out,
+        report.settings,
+        patches,
+        report.closed,
+        report.failing,
+    )?;
+    if report.settings.explain {
+        write_patches(&mut out, report.traced)?;
+    }
+    match report.body {
+        Body::Sets(sets) => write_together(&mut out, rt, report, sets, workers)?,
+        Body::Faults(rows) => write_faults(&mut out, alloc, report, rows)?,
+        Body::Rules(rules) => write_rules(&mut out, patches, rules)?,
+    }
     Ok(out)
 }
 
 /// The lines of each of the sets.
-fn write_sections<A: Allocator + Copy>(
+pub(crate) fn write_sections<A: Allocator + Copy>(
     out: &mut String<A>,
     alloc: A,
-    base: &Image<A>,
-    graph: &Graph<A>,
+    report: &Report<'_, '_, '_, '_, A>,
     sets: &[u128],
 ) -> Result<(), AllocError>
-    requires fits { All (λ patch. patch.block < base.now.blocks) graph.now }
-    requires known { All (λ set. (id : ℕ) → Has set id → id < length graph.now) sets.now }
-    ensures { OnOk result (TellsSections base.now graph.now sets.now (string_bytes out.old) (string_bytes out.new)) }
+    requires fits { All (λ patch. patch.block < report.now.base.now.blocks) report.now.traced.now.patches }
+    requires known { AreKnown report.now.traced.now.patches sets.now }
+    ensures { OnOk result (WritesSections report.now.settings.now.explain report.now.base.now
+        report.now.traced.now.patches sets.now (string_bytes out.old) (string_bytes out.new)) }
 {
+    let graph = report.traced.graph();
     let patches = graph.len();
-    let mut maker = SectionMaker::new(alloc, base, graph)?;
+    let mut maker = SectionMaker::new(alloc, report.base, graph, report.settings.explain)?;
     for set in sets {
         let section = maker.section(*set)?;
         write_section(out, patches, &section)?;
+    }
+    Ok(())
+}
+
+/// The lines of each of the faults, with the first set that has it.
+fn write_faults<A: Allocator + Copy>(
+    out: &mut String<A>,
+    alloc: A,
+    report: &Report<'_, '_, '_, '_, A>,
+    rows: &[FaultRow],
+) -> Result<(), AllocError>
+    requires fits { All (λ patch. patch.block < report.now.base.now.blocks) report.now.traced.now.patches }
+    requires known { AreKnown report.now.traced.now.patches (map (λ row. row.first) rows.now) }
+    ensures { OnOk result (WritesFaults report.now.settings.now.explain report.now.base.now
+        report.now.traced.now.patches rows.now (string_bytes out.old) (string_bytes out.new)) }
+{
+    let graph = report.traced.graph();
+    let patches = graph.len();
+    let mut maker = SectionMaker::new(alloc, report.base, graph, report.settings.explain)?;
+    for row in rows {
+        let section = maker.section(row.first)?;
+        write_told_fault(out, patches, row, &section)?;
     }
     Ok(())
 }

@@ -1,12 +1,12 @@
 //! What lists of rules order, as functions that do nothing and promise the law.
 
-ghost use Rattle.std.specs.Prelude.{◌≡◌, ℕ, List};
+ghost use Rattle.std.specs.Prelude.{◌≡◌, ℕ, List, []};
 ghost use Rattle.std.specs.List.{list_any};
 ghost use Rattle.patch_sets.specs.Closed.{IsClosed};
 ghost use Rattle.crash_model.specs.Disk.{Disk};
 ghost use Rattle.crash_model.specs.Failing.{IsFailing};
 ghost use Rattle.crash_model.specs.Patches.{deps_of};
-ghost use Rattle.crash_model.specs.Rules.{AreAmong, rules_of};
+ghost use Rattle.crash_model.specs.Rules.{AreAmong, rules_of, rules_under};
 ghost use Rattle.crash_model.specs.Trace.{Emitted, Tracing, IsGraphOf, applies};
 ghost use Rattle.crash_model.specs.declared.patches.Patch.{Patch};
 ghost use Rattle.crash_model.specs.declared.rules.Rule.{Rule};
@@ -15,14 +15,25 @@ ghost use Rattle.rule_laws.specs.Tables.{row, are_in};
 
 /// The rules of a module make a patch wait for an earlier one exactly where the module's table does.
 pub fn the_orderings_are_their_tables()
-    ensures { (kind : Module) (q p : Emitted) → list_any (λ rule. applies rule q p) (rules_of kind) ≡ are_in (row kind q.part p.part) q.turn p.turn }
+    ensures { (kind : Module) (q p : Emitted)
+        → list_any (λ rule. applies rule q p) (rules_of kind) ≡ are_in (row kind q.part p.part) q.turn p.turn }
 {}
 
 /// More rules never add a crash state: of the same patches, what is closed, or fails, under all of the rules is so
 /// under some of them.
 pub fn more_rules_never_add_a_crash_state()
-    ensures closed { (some all : List Rule) (base : Disk) (s : Tracing) (few more : List Patch) (set : ℕ) → AreAmong some all
-        → IsGraphOf some base s few → IsGraphOf all base s more → IsClosed (deps_of more) set → IsClosed (deps_of few) set }
-    ensures failing { (some all : List Rule) (base : Disk) (s : Tracing) (few more : List Patch) (set : ℕ) → AreAmong some all
+    ensures closed { (some all : List Rule) (base : Disk) (s : Tracing) (few more : List Patch) (set : ℕ)
+        → AreAmong some all
+        → IsGraphOf some base s few → IsGraphOf all base s more → IsClosed (deps_of more) set
+        → IsClosed (deps_of few) set }
+    ensures failing { (some all : List Rule) (base : Disk) (s : Tracing) (few more : List Patch) (set : ℕ)
+        → AreAmong some all
         → IsGraphOf some base s few → IsGraphOf all base s more → IsFailing base more set → IsFailing base few set }
+{}
+
+/// Where no rule is taken out, each rule of the module is in the ordering, whatever is put in; and where none is put
+/// in either, the ordering has no others.
+pub fn rules_put_in_leave_those_of_the_module()
+    ensures among { (kind : Module) (with : List Rule) → AreAmong (rules_of kind) (rules_under kind [] with) }
+    ensures own { (kind : Module) → rules_under kind [] [] ≡ rules_of kind }
 {}

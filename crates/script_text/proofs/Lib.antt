@@ -6,6 +6,3 @@ pub mod LineLists
 pub mod Steps
 pub mod Acts
 pub mod Scripts
-pub mod ActForms
-pub mod Once
-pub mod OneRefusal

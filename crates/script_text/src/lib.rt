@@ -4,7 +4,6 @@
 //! the trace; an empty line and a comment, which begins with `#`, ask for nothing.
 #![tactic(auto)]
 
-pub mod laws;
 mod line;
 mod lines;
 mod operands;

@@ -10,7 +10,8 @@ use crash_model::names::{GroupName, Path};
 
 /// No operands.
 pub(crate) fn none(operands: &[&str]) -> Result<(), LineFault>
-    ensures { MatchResult result (λ _. map (λ word. word.now) operands.now ≡ []) (IsOperandFault [] (map (λ word. word.now) operands.now)) }
+    ensures { MatchResult result (λ _.
+        map (λ word. word.now) operands.now ≡ []) (IsOperandFault [] (map (λ word. word.now) operands.now)) }
 {
     if !operands.is_empty() {
         return Err(LineFault::BadLine);
@@ -34,7 +35,8 @@ pub(crate) fn path(operands: &[&str]) -> Result<Path, LineFault>
 
 /// Two paths.
 pub(crate) fn two_paths(operands: &[&str]) -> Result<(Path, Path), LineFault>
-    ensures { MatchResult result (λ paths. IsPath paths.0 × IsPath paths.1 × (map (λ word. word.now) operands.now ≡ path_text paths.0 ∷ path_text paths.1 ∷ []))
+    ensures { MatchResult result (λ paths. IsPath paths.0 × IsPath paths.1
+        × (map (λ word. word.now) operands.now ≡ path_text paths.0 ∷ path_text paths.1 ∷ []))
         (IsOperandFault (PathOperand ∷ PathOperand ∷ []) (map (λ word. word.now) operands.now)) }
 {
     let [old, new] = operands else {
@@ -61,7 +63,8 @@ pub(crate) fn group(operands: &[&str]) -> Result<GroupName, LineFault>
 
 /// Two names of groups.
 pub(crate) fn two_groups(operands: &[&str]) -> Result<(GroupName, GroupName), LineFault>
-    ensures { MatchResult result (λ groups. IsGroupName groups.0 × IsGroupName groups.1 × (map (λ word. word.now) operands.now ≡ groups.0 ∷ groups.1 ∷ []))
+    ensures { MatchResult result (λ groups. IsGroupName groups.0 × IsGroupName groups.1
+        × (map (λ word. word.now) operands.now ≡ groups.0 ∷ groups.1 ∷ []))
         (IsOperandFault (GroupOperand ∷ GroupOperand ∷ []) (map (λ word. word.now) operands.now)) }
 {
     let [later, earlier] = operands else {

@@ -59,7 +59,8 @@ fn read_steps<A: Allocator + Copy>(
 ) -> Result<Part<'_, A>, ScriptFault>
     requires { first + length bytes.now < 2 ^ 64 }
     ensures ok { IfOk result (λ part. IsPart bytes.now first part.steps.items part.line part.behind) }
-    ensures room { IfOk result (λ part. IfSome part.behind (λ behind. part.line + length behind.now < first + length bytes.now)) }
+    ensures room { IfOk result (λ part.
+        IfSome part.behind (λ behind. part.line + length behind.now < first + length bytes.now)) }
     ensures refused { IfErr result (λ fault. fault ≢ ScriptFault.OutOfMemory → IsPartRefused bytes.now first fault) }
 {
     let mut steps = Vec::new(alloc);

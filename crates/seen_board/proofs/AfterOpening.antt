@@ -1,9 +1,16 @@
 -- What a new seat has seen.
-use Rattle.std.proofs.Common.{◌≡◌, ℕ, zero, suc, ◌/◌, ◌%◌, ◌<◌, ◌≤◌, List, [], ◌∷◌, length, get_or, set, replicate, refl, ap, ◌∙◌, sym, arith}
-use Rattle.board_rule.specs.Lists.{row_of}
-use Rattle.board_rule.specs.Layout.{half, size_for, length_word, low_word, high_word, index_word, slot}
-use Rattle.board_rule.specs.Changes.{opening_rows, opening_words}
-use Rattle.seen_board.specs.Known.{Counts}
+use Rattle.std.proofs.Common.{◌≡◌, ℕ, zero, suc, ◌/◌, ◌%◌, ◌<◌, ◌≤◌, List, [], ◌∷◌, length, get_or, set, replicate, cond, le-ltb, refl, ap, ◌∙◌, sym, arith}
+use mathlib.Core.Logic.{dite}
+use native.Mathlib.Decide.{ℕ_discrete, dec_le}
+use Rattle.atomic_table.specs.Seated.{TableId}
+use Rattle.board_rule.specs.Lists.{row_of, total}
+use Rattle.board_rule.specs.Lives.{life_of, is_claimed, settled}
+use Rattle.board_rule.specs.Layout.{half, size_for, place_of, length_word, low_word, high_word, index_word, slot}
+use Rattle.board_rule.specs.Changes.{opening_rows, opening_words, first_view}
+use Rattle.board_rule.proofs.Lives.{in_range, claim_none}
+use Rattle.board_rule.proofs.Pending.{lives_term}
+use Rattle.seen_board.specs.Known.{Counts, first_known}
+use Rattle.seen_board.specs.Ended.{Ended, Accounts, IsOpening}
 use Rattle.seen_board.proofs.AfterRights.{counts_set}
 
 nil_at : (n q : ℕ) → row_of (replicate n []) q ≡ []
@@ -23,3 +30,23 @@ opening_counts limit start wide small = counts_set limit (replicate 13 0) (repli
 pub opening_is : (limit start a b c d low high : ℕ) (w : List ℕ) → w ≡ replicate (size_for limit) 0 → a ≡ length_word (start % 13) → b ≡ low_word (start % 13) 0 → c ≡ high_word limit (start % 13) 0 → d ≡ index_word limit (start % 13) (slot limit start 0)
     → low ≡ start % half → high ≡ start / half → set (set (set (set (set (set w 0 1) 1 1) a 1) b low) c high) d 1 ≡ opening_words limit start
 opening_is limit start a b c d low high w e f g h i j k = rw (e, f, g, h, i, j, k) refl
+
+row_there : (xs : List (List ℕ)) (q : ℕ) → 0 < length (row_of xs q) → q < length xs
+row_there [] q h = absurd (omega (arith, h))
+row_there (x ∷ xs) zero h = omega arith
+row_there (x ∷ xs) (suc q) h = omega (arith, row_there xs q h)
+
+-- a life that is neither claimed nor among any settled ones is waiting
+waits : (lives : List (List ℕ)) (q : ℕ) → is_claimed (get_or (row_of lives q) 0 0) ≡ 0 → total (total settled) lives ≡ 0 → get_or (row_of lives q) 0 0 ≡ 0
+waits lives q unclaimed none = let n = get_or (row_of lives q) 0 0 in dite (dec_le 2 n)
+    (λ two. let inside = in_range (row_of lives q) 0 (omega (arith, two)) in
+    absurd (omega (arith, none, lives_term settled lives q 0 (row_there lives q inside) inside, ap {B = ℕ} (λ b. cond b 0 1) (le-ltb n 2 two))))
+    (λ low. dite (ℕ_discrete n 1) (λ e. absurd (omega (arith, unclaimed, ap is_claimed e))) (λ ne. omega (arith, low, ne)))
+
+-- what a seat was told that has made no call
+pub opening_told : (b : TableId) (limit start : ℕ) (e : Ended) → Accounts start (first_known b limit start) e → IsOpening start e
+opening_told b limit start e a = let q = start % 13 in record {
+  waiting = ap life_of (waits e.lives q (omega (arith, a.claimed q 0 (omega arith), claim_none (first_view limit start) (place_of q 0) refl)) a.settled);
+  pending = omega (arith, a.pending);
+  count = a.count;
+}

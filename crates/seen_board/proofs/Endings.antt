@@ -10,23 +10,27 @@ use Rattle.atomic_table.specs.Table.{State, Final, Seen}
 use Rattle.state_space.specs.Reach.{IsReached}
 use Rattle.state_space.specs.Counts.{Outnumbers, IsSome}
 use Rattle.state_space.proofs.Runs.{along}
-use Rattle.board_rule.specs.Layout.{half, low_word, high_word, life_word, length_word}
-use Rattle.board_rule.specs.Lists.{row_of, Has, listed}
-use Rattle.board_rule.specs.Lives.{life_of, unsettled, Passes}
+use Rattle.board_rule.specs.Layout.{half, low_word, high_word, life_word, length_word, place_of}
+use Rattle.board_rule.specs.Lists.{row_of, Has, listed, total}
+use Rattle.board_rule.specs.Lives.{life_of, unsettled, settled, Passes}
 use Rattle.board_rule.specs.Readings.{entry_of, rows_of, lives_of}
 use Rattle.board_rule.specs.Views.{Told}
-use Rattle.board_rule.specs.Rule.{times_among, Kept}
+use Rattle.board_rule.specs.Rule.{times, times_among, claims_on, IsBare, IsWhole, Kept}
+use Rattle.board_rule.specs.Plays.{IsIdle}
 use Rattle.board_rule.specs.declared.life.Life.{Life}
 use Rattle.board_rule.specs.declared.life.Life.TheVariants.{Waiting, Claimed, Clean, Broken}
 use Rattle.board_rule.specs.declared.view.View.{View}
 use Rattle.board_rule.proofs.Readings.{rows_read, lives_read}
 use Rattle.board_rule.proofs.LockSteps.{listed-length, listed_at}
-use Rattle.board_rule.proofs.Bounds.{flat_entries, flat_has}
+use Rattle.board_rule.proofs.Bounds.{all_counts as all_lives, flat_entries, flat_has}
 use Rattle.board_rule.proofs.LifeSteps.{claimed_life, given_up_life}
 use Rattle.board_rule.proofs.Pending.{lives_term, unsettled_low}
 use Rattle.board_rule.proofs.Added.{added_there}
 use Rattle.board_rule.proofs.Sums.{among_at}
-use Rattle.seen_board.specs.Ended.{Ended, ended, life_of_entry, life_in, IsReadable, IsSettled, Entries, Settled, Done}
+use Rattle.board_rule.proofs.Shares.{alone_total, bare_claims, bare_times}
+use Rattle.atomic_table.specs.Seated.{TableId}
+use Rattle.seen_board.specs.Known.{known_of}
+use Rattle.seen_board.specs.Ended.{Ended, ended, life_of_entry, life_in, IsReadable, IsSettled, Entries, Settled, Accounts, Done}
 use Rattle.seen_board.specs.Clauses.{SeesOn}
 
 pub found : (l : List ℕ) (i x : ℕ) → get_elem? l i ≡ some x → get_or l i 0 ≡ x
@@ -58,6 +62,13 @@ module _ (limit : ℕ) (words : List ℕ) where
 pub life_else : (n : ℕ) → n ≢ 0 → n ≢ 1 → n ≢ 2 → Broken ≡ life_of n
 life_else n a b c = sym (ap {B = Life} (λ x. cond x Waiting (cond (eqb n 1) Claimed (cond (eqb n 2) Clean Broken))) (ne_eqb n 0 a) ∙ ap {B = Life} (λ x. cond x Claimed (cond (eqb n 2) Clean Broken)) (ne_eqb n 1 b) ∙ ap {B = Life} (λ x. cond x Clean Broken) (ne_eqb n 2 c))
 
+-- rows of the same lengths have as many places
+same_lengths : (xs ys : List (List ℕ)) → length xs ≡ length ys → ((q : ℕ) → q < length xs → length (row_of xs q) ≡ length (row_of ys q)) → total length xs ≡ total length ys
+same_lengths [] [] l each = refl
+same_lengths [] (y ∷ ys) l each = absurd (omega (arith, l))
+same_lengths (x ∷ xs) [] l each = absurd (omega (arith, l))
+same_lengths (x ∷ xs) (y ∷ ys) l each = omega (arith, each 0 (omega arith), same_lengths xs ys (omega (arith, l)) (λ q h. each (suc q) (omega (arith, h))))
+
 life_cases : (n : ℕ) → n ≤ 3 → ((n < 2) × (life_of n ≢ Clean) × (life_of n ≢ Broken)) ⊎ (((n ≡ 2) × (life_of n ≡ Clean)) ⊎ ((n ≡ 3) × (life_of n ≡ Broken)))
 life_cases zero h = inl (omega arith, (λ e. cc e), λ e. cc e)
 life_cases (suc zero) h = inl (omega arith, (λ e. cc e), λ e. cc e)
@@ -78,10 +89,10 @@ module _ (t : Told) (good : ℕ → Type 0) (S : Type 0) (id : ℕ) (v : View) (
   lives_are = ap (lives_of t.limit) (sym e.2) ∙ lives_read t good o.rows o.lives s.words s.views o.row o.life
 
   abbrev shown : Ended
-  shown = record { rows = o.rows; lives = o.lives }
+  shown = record { rows = o.rows; lives = o.lives; pending = get_or words 0 0; count = get_or words 1 0 }
 
   ended_is : ended t.limit words ≡ shown
-  ended_is = λ i. record { rows = rows_are i; lives = lives_are i }
+  ended_is = λ i. record { rows = rows_are i; lives = lives_are i; pending = get_or words 0 0; count = get_or words 1 0 }
 
   over : (F : Ended → Type 0) → F shown → F (ended t.limit words)
   over F h = subst F (sym ended_is) h
@@ -135,6 +146,29 @@ module _ (t : Told) (good : ℕ → Type 0) (S : Type 0) (id : ℕ) (v : View) (
 
   pub end_over : v.count.over ≡ 1 → Outnumbers (IsReached t.next t.origin) t.limit
   end_over f = o.counts.over id v e.1.1 f
+
+  module _ (b : TableId) (whole : IsWhole v.share) (idle : IsIdle v) where
+    only : (g : View → ℕ) → ((u : View) → IsBare u → g u ≡ 0) → total g s.views ≡ g v
+    only = alone_total s.views id v o.shares e.1.1 whole
+
+    even : total length o.lives ≡ total length o.rows
+    even = same_lengths o.lives o.rows (o.life.all ∙ sym o.row.all) (λ q h. o.life.even q (omega (arith, h, o.life.all)))
+
+    many : total length o.rows ≡ length v.rows.added + 1
+    many = omega (arith, o.added.many, only (λ u. length u.rows.added) (λ u h. ap length h.added))
+
+    tally : total (total settled) o.lives ≡ v.pending.verdicts
+    tally = omega (arith, o.pending.verdicts, only (λ u. u.pending.verdicts) (λ u h. h.verdicts))
+
+    pub end_accounts : Accounts t.origin (known_of b v) (ended t.limit words)
+    end_accounts = over (Accounts t.origin (known_of b v)) record {
+      places = λ p. omega (arith, o.added.once p, only (times p) (bare_times p));
+      entries = many;
+      count = omega (arith, many, o.counts.count, only (λ u. u.count.uncounted) (λ u h. h.uncounted), idle.uncounted, ap (λ (w : List ℕ). get_or w 1 0) e.2);
+      claimed = λ q k h. omega (arith, o.life.claimed q k h, only (claims_on (place_of q k)) (bare_claims (place_of q k)));
+      settled = tally;
+      pending = omega (arith, many, even, tally, all_lives o.lives, o.pending.sum, only (λ u. u.pending.announced) (λ u h. h.announced), only (λ u. u.pending.owed) (λ u h. h.owed), idle.announced, idle.owed, ap (λ (w : List ℕ). get_or w 0 0) e.2);
+    }
 
   module _ (f : v.pending.finished ≡ 1) where
     all_settled : (q k : ℕ) → q < 13 → k < length (row_of o.rows q) → 2 ≤ get_or (row_of o.lives q) k 0

@@ -1,7 +1,7 @@
 -- What clauses say of seats and places.
-use Rattle.std.specs.Prelude.{◌≡◌, ◌≢◌, ◌⊎◌, ℕ, ◌<◌, ◌≤◌, Bool, cond, List, [], ◌∷◌, ◌++◌, length, slice_index, replicate, ◌%◌, Contains}
+use Rattle.std.specs.Prelude.{◌≡◌, ◌≢◌, ◌⊎◌, ℕ, ◌+◌, ◌<◌, ◌≤◌, Bool, cond, List, [], ◌∷◌, ◌++◌, length, slice_index, replicate, ◌%◌, Contains}
 use Rattle.board_rule.specs.Layout.{writer, place_of}
-use Rattle.board_rule.specs.Changes.{either_one}
+use Rattle.board_rule.specs.Changes.{either_one, both_shares}
 use Rattle.board_rule.specs.declared.life.Life.{Life}
 use Rattle.board_rule.specs.declared.life.Life.TheVariants.{Clean, Broken}
 use Rattle.board_rule.specs.Lists.{row_of, StartsWith}
@@ -69,7 +69,7 @@ settled_as good = cond good Clean Broken
 
 -- what two seats know together, with what they have seen
 abbrev pub both_known : Known → Known → List (List ℕ) → Known
-both_known s u seen = record s { seen = seen; given_up = s.given_up ++ u.given_up; learned = s.learned ++ u.learned; added = s.added ++ u.added; finished = either_one s.finished u.finished; over = either_one s.over u.over }
+both_known s u seen = record s { seen = seen; given_up = s.given_up ++ u.given_up; learned = s.learned ++ u.learned; added = s.added ++ u.added; verdicts = s.verdicts + u.verdicts; share = both_shares s.share u.share; finished = either_one s.finished u.finished; over = either_one s.over u.over }
 
 -- the rows have the place
 abbrev pub HasPlace : List (List ℕ) → Place → Type 0

@@ -1,22 +1,26 @@
 -- What a closed board holds.
-use Rattle.std.specs.Prelude.{◌≡◌, ◌⊎◌, ℕ, ◌/◌, ◌%◌, ◌<◌, ◌≤◌, List, length, slice_index, Contains}
+use Rattle.std.specs.Prelude.{◌≡◌, ◌⊎◌, ℕ, ◌+◌, ◌/◌, ◌%◌, ◌<◌, ◌≤◌, List, length, slice_index, cond, ◌==◌, Contains}
 use Rattle.std.specs.List.{concat}
 use Rattle.state_space.specs.Reach.{IsReached}
 use Rattle.state_space.specs.Counts.{IsSome, IsListOf}
-use Rattle.board_rule.specs.Layout.{size_for, length_word}
-use Rattle.board_rule.specs.Lists.{row_of, Has}
-use Rattle.board_rule.specs.Lives.{life_of}
+use Rattle.board_rule.specs.Layout.{size_for, length_word, place_of}
+use Rattle.board_rule.specs.Lists.{row_of, Has, total}
+use Rattle.board_rule.specs.Lives.{life_of, is_claimed, settled}
+use Rattle.board_rule.specs.Rule.{times_among, published, start_place}
 use Rattle.board_rule.specs.Readings.{rows_of, lives_of}
 use Rattle.board_rule.specs.declared.life.Life.{Life}
-use Rattle.board_rule.specs.declared.life.Life.TheVariants.{Clean, Broken}
+use Rattle.board_rule.specs.declared.life.Life.TheVariants.{Waiting, Clean, Broken}
+use Rattle.seen_board.specs.Known.{Known}
 
--- the rows, and beside each the lives of its entries
+-- the rows, beside each the lives of its entries, pending and the count
 pub record Ended : Type 0 where
   pub rows : List (List ℕ)
   pub lives : List (List ℕ)
+  pub pending : ℕ
+  pub count : ℕ
 
 abbrev pub ended : ℕ → List ℕ → Ended
-ended limit words = record { rows = rows_of limit words; lives = lives_of limit words }
+ended limit words = record { rows = rows_of limit words; lives = lives_of limit words; pending = slice_index words 0; count = slice_index words 1 }
 
 -- the life of the entry at place k of shard q
 abbrev pub life_of_entry : Ended → ℕ → ℕ → Life
@@ -55,3 +59,21 @@ pub record Done (next : ℕ → List ℕ) (origin : ℕ) (e : Ended) : Type 0 wh
   pub settled : (q k : ℕ) → q < 13 → k < length (row_of e.rows q) → IsSettled (life_of_entry e q k)
   pub every : (x : ℕ) → IsReached next origin x → Has e.rows x
   pub list : IsListOf (IsReached next origin) (concat e.rows)
+
+-- what one seat with the whole board was told is all that happened
+pub record Accounts (origin : ℕ) (s : Known) (e : Ended) : Type 0 where
+  -- the places that it was told New of and the start's are, each once, the places of the entries
+  pub places : (p : ℕ) → times_among p s.added + cond (p == start_place origin) 1 0 ≡ published e.rows p
+  pub entries : total length e.rows ≡ length s.added + 1
+  pub count : e.count ≡ length s.added + 1
+  -- an entry is claimed exactly where its claim is had or given up, and that by one call
+  pub claimed : (q k : ℕ) → q < 13 → cond (s.place == place_of q k) s.claims 0 + times_among (place_of q k) s.given_up ≡ is_claimed (slice_index (row_of e.lives q) k)
+  -- as many are settled as it has settled, and pending is the number of the others
+  pub settled : total (total settled) e.lives ≡ s.verdicts
+  pub pending : e.pending + s.verdicts ≡ length s.added + 1
+
+-- the start waits, and pending and the count are 1
+pub record IsOpening (start : ℕ) (e : Ended) : Type 0 where
+  pub waiting : life_of_entry e (start % 13) 0 ≡ Waiting
+  pub pending : e.pending ≡ 1
+  pub count : e.count ≡ 1

@@ -5,6 +5,7 @@ use Rattle.atomic_table.specs.Table.{Me}
 use Rattle.board_rule.specs.Lists.{row_of}
 use Rattle.board_rule.specs.Plays.{IsIdle}
 use Rattle.board_rule.specs.Changes.{first_view}
+use Rattle.board_rule.specs.Views.{Share}
 use Rattle.board_rule.specs.declared.life.Life.{Life}
 use Rattle.board_rule.specs.declared.view.View.{View}
 
@@ -32,6 +33,10 @@ pub record Known : Type 0 where
   pub learned : List (ℕ × Life)
   -- the places that it has put words in
   pub added : List ℕ
+  -- how many entries it has settled
+  pub verdicts : ℕ
+  -- its share of the board: the first seat has the whole, a split halves it, and joining adds
+  pub share : Share
   -- 1 once it knows that all entries are settled
   pub finished : ℕ
   -- 1 once it knows that more words than the limit are reached
@@ -49,6 +54,8 @@ known_of id v = record {
   given_up = v.lives.given_up;
   learned = v.lives.learned;
   added = v.rows.added;
+  verdicts = v.pending.verdicts;
+  share = v.share;
   finished = v.pending.finished;
   over = v.count.over;
 }

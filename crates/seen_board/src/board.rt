@@ -1,7 +1,9 @@
 //! A board, and how it is opened.
 ghost use Rattle.std.specs.Prelude.{◌≡◌, ◌<◌, ◌≤◌, IfOk};
 ghost use Rattle.seen_board.specs.Known.{first_known};
+ghost use Rattle.board_rule.specs.Rule.{IsWhole};
 ghost use Rattle.seen_board.specs.Clauses.{Names};
+ghost use Rattle.seen_board.specs.Ended.{Ended, Accounts, IsOpening};
 
 use crate::answers::Place;
 use crate::entries::halves_of;
@@ -29,14 +31,18 @@ impl<S: Space, A: Allocator> Model for Board<S, A> {
 
     ghost Value = { Shown S };
 
-    ghost view = { λ b. record { board = b.table.shared.table_id; limit = b.layout.limit; space = b.table.shared.key.space.value } };
+    ghost view = { λ b.
+        record { board = b.table.shared.table_id; limit = b.layout.limit; space = b.table.shared.key.space.value } };
 
-    ghost invariant = { λ b. (b.table.shared.table_id.words ≡ size_for b.layout.limit) × (b.table.shared.table_id.slots ≡ 0) × (b.table.shared.key.limit ≡ b.layout.limit) × (0 < b.layout.limit) × (b.layout.limit ≤ 32768) };
+    ghost invariant = { λ b. (b.table.shared.table_id.words ≡ size_for b.layout.limit)
+        × (b.table.shared.table_id.slots ≡ 0) × (b.table.shared.key.limit ≡ b.layout.limit) × (0 < b.layout.limit)
+        × (b.layout.limit ≤ 32768) };
 }
 
 impl<S: Space, A: Allocator + Copy> Board<S, A> {
-    /// A board with the space's initial word as its one entry, which waits, a seat that has seen it, and its place.
-    /// It is the only call that can run out of memory.
+    /// A board with the space's initial word as its one entry, a seat that has seen it and has the whole board, and
+    /// its place. The entry waits, and pending and the count are 1: so closing the board with this seat as it is would
+    /// find them. It is the only call that can run out of memory.
     pub fn open(
         alloc: A,
         space: &S,
@@ -47,6 +53,8 @@ impl<S: Space, A: Allocator + Copy> Board<S, A> {
         ensures board { IfOk result (λ t. (t.0.limit ≡ limit) × (t.0.space ≡ space.now)) }
         ensures seat { IfOk result (λ t. t.1 ≡ first_known t.0.board limit (S.initial space.now)) }
         ensures start { IfOk result (λ t. Names t.1.seen t.2 (S.initial space.now)) }
+        ensures opening { IfOk result (λ t. IsWhole t.1.share
+            × ((e : Ended) → Accounts (S.initial space.now) t.1 e → IsOpening (S.initial space.now) e)) }
     {
         let start = space.start();
         let shard = shard_of(start);

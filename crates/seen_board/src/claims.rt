@@ -1,5 +1,5 @@
 //! Claiming an entry and settling it.
-ghost use Rattle.std.specs.Prelude.{◌≡◌, ◌↔◌, ℕ, true, false, IsTrue, Contains};
+ghost use Rattle.std.specs.Prelude.{◌≡◌, ◌↔◌, ℕ, ◌+◌, true, false, IsTrue, Contains};
 ghost use Rattle.board_rule.specs.Lists.{Has};
 ghost use Rattle.seen_board.specs.Clauses.{IsOf, HasPlace, HasClaim, word_at, number, having_met, settled_as};
 ghost use Rattle.board_rule.specs.declared.life.Life.TheVariants.{Claimed};
@@ -28,7 +28,8 @@ impl<S: Space, A: Allocator> Board<S, A> {
         requires seat { IsOf self.now seat.old }
         requires none { seat.old.claims ≡ 0 }
         requires seen { HasPlace seat.old.seen place }
-        ensures yes { result ≡ true → seat.new ≡ record (having_met seat.old place Claimed) { claims = 1; place = number place } }
+        ensures yes { result ≡ true
+            → seat.new ≡ record (having_met seat.old place Claimed) { claims = 1; place = number place } }
         ensures once { result ≡ true → Contains seat.old.given_up (number place) → ⊥ }
         ensures no { result ≡ false → seat.new ≡ having_met seat.old place Claimed }
     {
@@ -40,14 +41,16 @@ impl<S: Space, A: Allocator> Board<S, A> {
     }
 
     /// Settles the entry that the seat has claimed, by the space's verdict, once all its successors are entries. The
-    /// claim ends.
+    /// claim ends, and the seat has settled one entry more.
     pub fn settle(&self, seat: &mut BoardSeat, place: Place, good: bool)
         requires seat { IsOf self.now seat.old }
         requires claim { HasClaim seat.old place }
         requires seen { HasPlace seat.old.seen place }
-        requires successors { (y : ℕ) → Contains (S.successors self.now.space (word_at seat.old.seen place)) y → Has seat.old.seen y }
+        requires successors { (y : ℕ) → Contains (S.successors self.now.space (word_at seat.old.seen place)) y
+            → Has seat.old.seen y }
         requires verdict { IsTrue good ↔ S.is_good self.now.space (word_at seat.old.seen place) }
-        ensures { seat.new ≡ record (having_met seat.old place (settled_as good)) { claims = 0 } }
+        ensures { seat.new
+            ≡ record (having_met seat.old place (settled_as good)) { claims = 0; verdicts = seat.old.verdicts + 1 } }
     {
         let life = self.layout.life(place.shard, place.at as usize);
         let verdict = if good { CLEAN } else { BROKEN };

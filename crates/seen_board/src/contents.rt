@@ -12,7 +12,7 @@ use board_rule::Life;
 use std::alloc::Allocator;
 use std::marker::Model;
 
-/// A closed board: the final rows, and the life of each entry.
+/// A closed board: the final rows, the life of each entry, pending and the count.
 pub struct Contents<A: Allocator> {
     pub(crate) closed: Closed<(), A>,
     pub(crate) layout: Layout,
@@ -27,7 +27,8 @@ impl<A: Allocator> Model for Contents<A> {
 
     ghost view = { λ c. ended c.layout.limit (slots_items c.closed.words) };
 
-    ghost invariant = { λ c. IsFull c.closed.words × (slots_len c.closed.slots ≡ 0) × IsReadable c.layout.limit (slots_items c.closed.words) };
+    ghost invariant = { λ c. IsFull c.closed.words × (slots_len c.closed.slots ≡ 0)
+        × IsReadable c.layout.limit (slots_items c.closed.words) };
 }
 
 impl<A: Allocator> Contents<A> {

@@ -20,8 +20,8 @@ impl<S: Space, A: Allocator> Board<S, A> {
         self.table.shared.load::<End>(&mut seat.seat, PENDING) == 0
     }
 
-    /// Tells the other seats to stop, which is a hint alone. The seat gives its claim up, and its entry stays claimed for
-    /// good.
+    /// Tells the other seats to stop, which is a hint alone. The seat gives its claim up, and its entry stays claimed
+    /// for good.
     pub fn stop(&self, seat: &mut BoardSeat)
         requires seat { IsOf self.now seat.old }
         ensures { seat.new ≡ giving_up seat.old }

@@ -75,9 +75,10 @@ impl<S: Space, A: Allocator> Board<S, A> {
 
     /// Tries to put a word in that is a successor of the one that the seat has claimed.
     ///
-    /// After `New` and `Known` the seat has seen the word at that place; `New` put it in, `Known` and `Busy` put nothing
-    /// in, and all three leave the claim. After `Over` the seat knows that more words than the limit are reached, the
-    /// stop is set, the claim is given up and its entry stays claimed for good; the word may have been put in.
+    /// After `New` and `Known` the seat has seen the word at that place; `New` put it in, `Known` and `Busy` put
+    /// nothing in, and all three leave the claim. After `Over` the seat knows that more words than the limit are
+    /// reached, the stop is set, the claim is given up and its entry stays claimed for good; the word may have been
+    /// put in.
     pub fn try_insert(&self, seat: &mut BoardSeat, word: u128) -> Put
         requires seat { IsAtRest self.now seat.old }
         requires successor { IsSuccessor (S.successors self.now.space) seat.old word }
@@ -86,8 +87,9 @@ impl<S: Space, A: Allocator> Board<S, A> {
         self.try_insert_from(seat, 0, word)
     }
 
-    /// Tries to put a word in, as `try_insert`, where no place below `from` of its shard has it, as far as the seat has
-    /// seen. Those places are not searched, which spares a caller that keeps the words which it has seen the longest walks.
+    /// Tries to put a word in, as `try_insert`, where no place below `from` of its shard has it, as far as the seat
+    /// has seen. Those places are not searched, which spares a caller that keeps the words which it has seen the
+    /// longest walks.
     pub fn try_insert_from(&self, seat: &mut BoardSeat, from: u16, word: u128) -> Put
         requires seat { IsAtRest self.now seat.old }
         requires successor { IsSuccessor (S.successors self.now.space) seat.old word }

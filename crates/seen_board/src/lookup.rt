@@ -60,7 +60,9 @@ impl<S: Space, A: Allocator> Board<S, A> {
         requires seat { IsOf self.now seat.old }
         requires range { (shard < 13) × (to ≤ length (row_of seat.old.seen shard)) }
         ensures same { seat.new ≡ seat.old }
-        ensures found { MatchOption result ((k : ℕ) → from ≤ k → k < to → slice_index (row_of seat.old.seen shard) k ≢ word) (λ k. (k < to) × (slice_index (row_of seat.old.seen shard) k ≡ word)) }
+        ensures found { MatchOption result ((k : ℕ) → from ≤ k → k < to
+            → slice_index (row_of seat.old.seen shard) k ≢ word) (λ k. (k < to)
+            × (slice_index (row_of seat.old.seen shard) k ≡ word)) }
     {
         for at in from..to {
             if self.at(seat, Place { shard, at }) == word {
@@ -77,7 +79,9 @@ impl<S: Space, A: Allocator> Board<S, A> {
         requires right { HasRight seat.old sought.shard }
         requires before { (k : ℕ) → k < from → slice_index (row_of seat.old.seen sought.shard) k ≢ sought.word }
         ensures same { seat.new ≡ seat.old }
-        ensures found { MatchOption result (Lacks (row_of seat.old.seen sought.shard) sought.word) (λ k. (k < length (row_of seat.old.seen sought.shard)) × (slice_index (row_of seat.old.seen sought.shard) k ≡ sought.word)) }
+        ensures found { MatchOption result (Lacks (row_of seat.old.seen sought.shard) sought.word) (λ k.
+            (k < length (row_of seat.old.seen sought.shard))
+            × (slice_index (row_of seat.old.seen sought.shard) k ≡ sought.word)) }
     {
         match self.search(&mut seat.seat, sought) {
             Found::At(at) => Some(at),
@@ -94,7 +98,8 @@ impl<S: Space, A: Allocator> Board<S, A> {
         requires seat { IsOf self.now seat.old }
         requires right { HasRight seat.old (word % 13) }
         ensures same { seat.new ≡ seat.old }
-        ensures found { MatchOption result (Lacks (row_of seat.old.seen (word % 13)) word) (λ place. Names seat.old.seen place word) }
+        ensures found { MatchOption result (Lacks (row_of seat.old.seen (word % 13)) word) (λ place.
+            Names seat.old.seen place word) }
     {
         let sought = self.sought(word);
         let shard = sought.shard;

@@ -18,8 +18,8 @@ use state_space::Space;
 use std::alloc::Allocator;
 
 impl<S: Space, A: Allocator> Board<S, A> {
-    /// Puts a word at the end of its row, under the write right: 1 more is pending, both halves are stored, and then the
-    /// length, which publishes them.
+    /// Puts a word at the end of its row, under the write right: 1 more is pending, both halves are stored, and then
+    /// the length, which publishes them.
     fn publish(&self, seat: &mut Seat<(), View>, at: usize, sought: Sought)
         requires seat { SitsAt self.now seat.old }
         requires sought { IsSought self.now.limit sought }
@@ -45,7 +45,9 @@ impl<S: Space, A: Allocator> Board<S, A> {
         requires seat { SitsAt self.now seat.old }
         requires sought { IsSought self.now.limit sought }
         requires writes { HasWriteRightOf seat.old.me.0 sought.shard }
-        requires owes { (seat.old.me.0.rows.unfiled ≡ at + 1) × (at < self.now.limit) × (at < length (row_of seat.old.me.0.rows.seen sought.shard)) × (slice_index (row_of seat.old.me.0.rows.seen sought.shard) at ≡ sought.word) }
+        requires owes { (seat.old.me.0.rows.unfiled ≡ at + 1) × (at < self.now.limit)
+            × (at < length (row_of seat.old.me.0.rows.seen sought.shard))
+            × (slice_index (row_of seat.old.me.0.rows.seen sought.shard) at ≡ sought.word) }
         ensures seat { StaysAt seat.old seat.new × (seat.new.me.1 ≡ seat.old.me.1) }
         ensures rest { Filed seat.old.me.0 seat.new.me.0 }
         ensures paid { Paid seat.new.me.0 }
@@ -62,13 +64,14 @@ impl<S: Space, A: Allocator> Board<S, A> {
         }
     }
 
-    /// Publishes a word, puts its place into the index, gives the write right up and counts the entry. Whether the count
-    /// is within the limit.
+    /// Publishes a word, puts its place into the index, gives the write right up and counts the entry. Whether the
+    /// count is within the limit.
     fn append(&self, seat: &mut Seat<(), View>, at: usize, sought: Sought) -> bool
         requires seat { SitsAt self.now seat.old }
         requires sought { IsSought self.now.limit sought }
         requires writes { HasWriteRightOf seat.old.me.0 sought.shard }
-        requires rest { (length seat.old.me.0.rows.seen ≡ 13) × (seat.old.me.0.rows.unfiled ≡ 0) × (seat.old.me.0.pending.announced ≡ 0) × (seat.old.me.0.count.uncounted ≡ 0) }
+        requires rest { (length seat.old.me.0.rows.seen ≡ 13) × (seat.old.me.0.rows.unfiled ≡ 0)
+            × (seat.old.me.0.pending.announced ≡ 0) × (seat.old.me.0.count.uncounted ≡ 0) }
         requires room { (at ≡ length (row_of seat.old.me.0.rows.seen sought.shard)) × (at < self.now.limit) }
         requires claim { IsNext (S.successors self.now.space) seat.old.me.0 sought.word }
         requires absent { Lacks (row_of seat.old.me.0.rows.seen sought.shard) sought.word }

@@ -34,7 +34,8 @@ impl<S: Space, A: Allocator> Board<S, A> {
     /// While a seat has a right of a shard no other seat has seen more of it, so it has seen the whole row.
     pub fn refute_unseen_entry(&self, holding: BoardSeat, other: BoardSeat)
         requires holding { IsOf self.now holding × (0 < holding.right) }
-        requires other { IsOf self.now other × (length (row_of holding.seen holding.held) < length (row_of other.seen holding.held)) }
+        requires other { IsOf self.now other
+            × (length (row_of holding.seen holding.held) < length (row_of other.seen holding.held)) }
         ensures { ⊥ }
     {
         let BoardSeat {

@@ -6,7 +6,9 @@ ghost use Rattle.state_space.specs.Counts.{Outnumbers};
 ghost use Rattle.board_rule.specs.Lists.{row_of};
 ghost use Rattle.board_rule.specs.Lives.{Passes};
 ghost use Rattle.board_rule.specs.declared.life.Life.TheVariants.{Claimed};
-ghost use Rattle.seen_board.specs.Ended.{Entries, Settled, Done, life_in};
+ghost use Rattle.board_rule.specs.Changes.{half_of};
+ghost use Rattle.board_rule.specs.Rule.{IsWhole};
+ghost use Rattle.seen_board.specs.Ended.{Entries, Settled, Accounts, Done, life_in};
 ghost use Rattle.seen_board.specs.Clauses.{IsOf, SeesOn, both_known};
 
 use crate::board::Board;
@@ -29,11 +31,20 @@ fn larger_counts(first: &[u16; SHARDS], second: &[u16; SHARDS]) -> [u16; SHARDS]
 }
 
 impl<S: Space, A: Allocator> Board<S, A> {
-    /// A second seat, which has seen and knows the same, and has no right and no claim.
+    /// A second seat, which has seen and knows the same, and has no right and no claim. Each of the two has half of
+    /// the share of the board that the seat had.
     pub fn split(&self, seat: &mut BoardSeat) -> BoardSeat
         requires seat { IsOf self.now seat.old }
-        ensures same { seat.new ≡ seat.old }
-        ensures new { result ≡ record seat.old { right = 0; claims = 0; given_up = []; added = [] } }
+        ensures same { seat.new ≡ record seat.old { share = half_of seat.old.share } }
+        ensures new { result
+            ≡ record seat.old {
+              right = 0;
+              claims = 0;
+              given_up = [];
+              added = [];
+              verdicts = 0;
+              share = half_of seat.old.share;
+            } }
     {
         let counts = seat.counts;
         BoardSeat {
@@ -42,7 +53,8 @@ impl<S: Space, A: Allocator> Board<S, A> {
         }
     }
 
-    /// The seat takes over what the other has seen and knows. The other has no right and no claim, and is gone.
+    /// The seat takes over what the other has seen and knows, and its share. The other has no right and no claim, and
+    /// is gone.
     pub fn join(&self, seat: &mut BoardSeat, other: BoardSeat)
         requires seat { IsOf self.now seat.old }
         requires other { IsOf self.now other }
@@ -61,7 +73,8 @@ impl<S: Space, A: Allocator> Board<S, A> {
         seat.counts = counts;
     }
 
-    /// Ends the board: the final rows and lives, as the last state of the words has them.
+    /// Ends the board: the final rows, lives and counters, as the last state of the words has them. A seat that has
+    /// the whole board, after all others were joined, was told of all that happened.
     pub fn close(self, seat: BoardSeat) -> Contents<A>
         requires { IsOf self seat }
         ensures seen { SeesOn seat.seen result.rows }
@@ -72,8 +85,10 @@ impl<S: Space, A: Allocator> Board<S, A> {
         ensures given_up { All (λ p. life_in result p ≡ Claimed) seat.given_up }
         ensures learned { All (λ met. Passes met.1 (life_in result met.0)) seat.learned }
         ensures added { All (λ p. p / 13 < length (row_of result.rows (p % 13))) seat.added }
+        ensures accounts { IsWhole seat.share → Accounts (S.initial self.space) seat result }
         ensures finished { seat.finished ≡ 1 → Done (S.successors self.space) (S.initial self.space) result }
-        ensures over { seat.over ≡ 1 → Outnumbers (IsReached (S.successors self.space) (S.initial self.space)) self.limit }
+        ensures over { seat.over ≡ 1
+            → Outnumbers (IsReached (S.successors self.space) (S.initial self.space)) self.limit }
     {
         let Board { table, layout } = self;
         let BoardSeat { seat, counts: _ } = seat;

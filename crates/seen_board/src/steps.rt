@@ -1,7 +1,7 @@
 //! The rule of a board's table, and the names of the steps on it.
 ghost use Rattle.std.specs.Prelude.{ℕ};
 ghost use Rattle.board_rule.specs.Rule.{Kept};
-ghost use Rattle.board_rule.specs.Changes.{first_view, fresh_seat, joined, impossible, spent};
+ghost use Rattle.board_rule.specs.Changes.{first_view, halved, fresh_seat, joined, impossible, spent};
 ghost use Rattle.board_rule.specs.Plays.{peeked, never, placed, entered, seized, left, measured, low_read, high_read, low_laid, high_laid, publishes, marked, scanned, filed, claimed, settled, announced, repaid, ended, counted, stopped, overflowed};
 
 use atomic_table::{Join, Play, Split, TableRule};
@@ -23,7 +23,12 @@ pub struct Order<S> {
 }
 
 impl<S: Space> TableRule<(), View, About<S>> for Order<S> {
-    ghost holds = { λ about. Kept (record { limit = about.limit; next = S.successors about.space.value; origin = S.initial about.space.value }) (S.is_good about.space.value) };
+    ghost holds = { λ about.
+        Kept (record {
+          limit = about.limit;
+          next = S.successors about.space.value;
+          origin = S.initial about.space.value;
+        }) (S.is_good about.space.value) };
 
     ghost first = { λ about. first_view about.limit (S.initial about.space.value) };
 }
@@ -181,7 +186,7 @@ impl Play<(), View> for Overflow {
 pub struct Fresh;
 
 impl Split<View> for Fresh {
-    ghost left = { λ v. v };
+    ghost left = { halved };
 
     ghost right = { fresh_seat };
 }

@@ -5,8 +5,6 @@ ghost use Rattle.patch_sets.specs.Closed.{AreEarlier, IsClosed};
 ghost use Rattle.set_sweep.specs.Sweeps.{AreClosures, IsRoot, AreCounted, part_end};
 
 use crate::closing::{closures, next_out};
-use crate::visitor::Visitor;
-use std::alloc::AllocError;
 
 /// The number of closed sets of a graph, at most the limit; `None` exactly where they outnumber it.
 ///
@@ -14,7 +12,8 @@ use std::alloc::AllocError;
 pub fn count_closed(deps: &[u128], limit: usize) -> Option<usize>
     requires few { length deps.now < 127 }
     requires earlier { AreEarlier deps.now }
-    ensures { MatchOption result (Outnumbers (IsClosed deps.now) limit) (λ count. HoldsOf (IsClosed deps.now) count × (count ≤ limit)) }
+    ensures { MatchOption result (Outnumbers (IsClosed deps.now) limit) (λ count. HoldsOf (IsClosed deps.now) count
+        × (count ≤ limit)) }
 {
     let closures = closures(deps);
     let counter = Counter {
@@ -36,7 +35,8 @@ struct Counter<'a> {
 }
 
 impl Counter<'_> {
-    /// Counts on over the closed sets that agree with a set from id `k` on, of which it is the least, in ascending number.
+    /// Counts on over the closed sets that agree with a set from id `k` on, of which it is the least, in ascending
+    /// number.
     fn count_from(&self, k: usize, set: u128, count: usize) -> Option<usize>
         requires known { k ≤ length self.now.deps.now }
         requires root { IsRoot self.now.deps.now k set }
@@ -55,35 +55,5 @@ impl Counter<'_> {
             id = next_out(set, id + 1);
         }
         Some(count)
-    }
-}
-
-/// A visitor that does nothing, for sweeps that count alone.
-#[derive(Clone, Copy)]
-pub(crate) struct CountAlone;
-
-impl Visitor for CountAlone {
-    type Scratch = ();
-
-    type Tally = ();
-
-    ghost is_lawful = { λ v set. Unit {0} };
-
-    ghost is_own = { λ v scratch. Unit {0} };
-
-    ghost tells = { λ v sets tally. Unit {0} };
-
-    fn scratch(&self) -> Result<(), AllocError> {
-        Ok(())
-    }
-
-    fn none(&self) {}
-
-    fn visit(&self, _scratch: &mut (), _tally: &mut (), _set: u128) -> Result<(), AllocError> {
-        Ok(())
-    }
-
-    fn join(&self, _tally: &mut (), _later: ()) -> Result<(), AllocError> {
-        Ok(())
     }
 }

@@ -8,6 +8,7 @@ ghost use Rattle.set_sweep.specs.Sweeps.{IsPickOf};
 use crate::ordering::in_canonical_order;
 use crate::together::sweep_with;
 use crate::visitor::Visitor;
+use crate::watching::Watch;
 use patch_sets::explored::{ExploreFault, Explored};
 use state_space::Space;
 use std::alloc::{AllocError, Allocator};
@@ -16,21 +17,23 @@ use std::thread::Threads;
 /// Counts the closed sets of a graph, and finds those of them that are not good, in canonical order, with 1 to 16
 /// workers.
 ///
-/// For every number of workers and every schedule, an answer other than out of memory is the one that is defined without
-/// threads: the number of closed sets and those of them that are not good, or that they are more than the limit. Each
-/// closed set is a lawful word of the space.
-pub fn sweep<R, A, S>(
+/// For every number of workers and every schedule, an answer other than out of memory is the one that is defined
+/// without threads: the number of closed sets and those of them that are not good, or that they are more than the
+/// limit. Each closed set is a lawful word of the space. The watch is told as it goes on.
+pub fn sweep<R, A, S, W>(
     rt: &R,
     alloc: A,
     space: &S,
     deps: &[u128],
     limit: usize,
     workers: usize,
+    watch: &W,
 ) -> Result<Explored<A>, ExploreFault>
 where
     R: Threads + Sync,
     A: Allocator + Copy + Send + Sync,
     S: Space + Sync,
+    W: Watch + Sync,
     S::Scratch: Send,
     requires few { length deps.now < 127 }
     requires earlier { AreEarlier deps.now }
@@ -39,12 +42,13 @@ where
 
     ensures total { IfOk result (λ explored. HoldsOf (IsClosed deps.now) explored.total) }
     ensures within { IfOk result (λ explored. explored.total ≤ limit) }
-    ensures broken { IfOk result (λ explored. AreAllInOrder (λ set. IsClosed deps.now set × ¬ (S.is_good space.now set)) explored.broken.items) }
+    ensures broken { IfOk result (λ explored.
+        AreAllInOrder (λ set. IsClosed deps.now set × ¬ (S.is_good space.now set)) explored.broken.items) }
 
     ensures too_many { IsErrOf result ExploreFault.TooMany → Outnumbers (IsClosed deps.now) limit }
 {
     let failing = Failing { space, alloc };
-    let swept = sweep_with(rt, alloc, &failing, deps, limit, workers)?;
+    let swept = sweep_with(rt, alloc, &failing, deps, limit, workers, watch)?;
     Ok(Explored {
         total: swept.total,
         broken: in_canonical_order(alloc, swept.tally)?,
@@ -94,5 +98,9 @@ impl<'a, S: Space, A: Allocator + Copy> Visitor for Failing<'a, S, A> {
     fn join(&self, tally: &mut Vec<u128, A>, mut later: Vec<u128, A>) -> Result<(), AllocError> {
         tally.append(&mut later)?;
         Ok(())
+    }
+
+    fn kept(&self, tally: &Vec<u128, A>) -> usize {
+        tally.len()
     }
 }

@@ -16,8 +16,10 @@ mod sharing;
 mod sweeping;
 mod together;
 mod visitor;
+mod watching;
 
 pub use counting::count_closed;
 pub use failing::sweep;
 pub use together::{Swept, sweep_with};
 pub use visitor::Visitor;
+pub use watching::{Unwatched, Watch};

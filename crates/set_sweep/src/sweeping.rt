@@ -42,8 +42,10 @@ impl<'a, V: Visitor> Sweeper<'a, V> {
 
         ensures own { OnOk result (V.is_own self.now.visitor.now scratch.new) }
         ensures within { IfOk result (λ part. part.total ≤ self.now.limit) }
-        ensures swept { IfOk result (λ part. IsPartSwept (V.tells self.now.visitor.now) self.now.deps.now low root part.total part.tally) }
-        ensures too_many { IsErrOf result ExploreFault.TooMany → Outnumbers (IsClosed self.now.deps.now) self.now.limit }
+        ensures swept { IfOk result (λ part.
+            IsPartSwept (V.tells self.now.visitor.now) self.now.deps.now low root part.total part.tally) }
+        ensures too_many { IsErrOf result ExploreFault.TooMany
+            → Outnumbers (IsClosed self.now.deps.now) self.now.limit }
     {
         let mut part = Part {
             root,
@@ -67,13 +69,16 @@ impl<'a, V: Visitor> Sweeper<'a, V> {
         requires lawful { (set : ℕ) → IsClosed self.now.deps.now set → V.is_lawful self.now.visitor.now set }
         requires own { V.is_own self.now.visitor.now scratch.old }
         requires within { part.old.total ≤ self.now.limit }
-        requires swept { AreSwept (V.tells self.now.visitor.now) self.now.deps.now part.old.root set part.old.total part.old.tally }
+        requires swept { AreSwept (V.tells self.now.visitor.now) self.now.deps.now part.old.root set part.old.total
+            part.old.tally }
 
         ensures own { OnOk result (V.is_own self.now.visitor.now scratch.new) }
         ensures within { OnOk result (part.new.total ≤ self.now.limit) }
         ensures root { part.new.root ≡ part.old.root }
-        ensures swept { OnOk result (AreSwept (V.tells self.now.visitor.now) self.now.deps.now part.new.root (part_end set k) part.new.total part.new.tally) }
-        ensures too_many { IsErrOf result ExploreFault.TooMany → Outnumbers (IsClosed self.now.deps.now) self.now.limit }
+        ensures swept { OnOk result (AreSwept (V.tells self.now.visitor.now) self.now.deps.now part.new.root
+            (part_end set k) part.new.total part.new.tally) }
+        ensures too_many { IsErrOf result ExploreFault.TooMany
+            → Outnumbers (IsClosed self.now.deps.now) self.now.limit }
     {
         self.visit(scratch, set, part)?;
         let mut id = next_out(set, 0);
@@ -95,13 +100,16 @@ impl<'a, V: Visitor> Sweeper<'a, V> {
         requires lawful { (set : ℕ) → IsClosed self.now.deps.now set → V.is_lawful self.now.visitor.now set }
         requires own { V.is_own self.now.visitor.now scratch.old }
         requires within { part.old.total ≤ self.now.limit }
-        requires swept { AreSwept (V.tells self.now.visitor.now) self.now.deps.now part.old.root set part.old.total part.old.tally }
+        requires swept { AreSwept (V.tells self.now.visitor.now) self.now.deps.now part.old.root set part.old.total
+            part.old.tally }
 
         ensures own { OnOk result (V.is_own self.now.visitor.now scratch.new) }
         ensures within { OnOk result (part.new.total ≤ self.now.limit) }
         ensures root { part.new.root ≡ part.old.root }
-        ensures swept { OnOk result (AreSwept (V.tells self.now.visitor.now) self.now.deps.now part.new.root (set + 1) part.new.total part.new.tally) }
-        ensures too_many { IsErrOf result ExploreFault.TooMany → Outnumbers (IsClosed self.now.deps.now) self.now.limit }
+        ensures swept { OnOk result (AreSwept (V.tells self.now.visitor.now) self.now.deps.now part.new.root (set + 1)
+            part.new.total part.new.tally) }
+        ensures too_many { IsErrOf result ExploreFault.TooMany
+            → Outnumbers (IsClosed self.now.deps.now) self.now.limit }
     {
         if part.total == self.limit {
             return Err(ExploreFault::TooMany);

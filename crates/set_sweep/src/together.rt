@@ -6,12 +6,12 @@ ghost use Rattle.patch_sets.specs.Closed.{AreEarlier, IsClosed};
 ghost use Rattle.set_sweep.specs.Sweeps.{AreParts, IsSweep, IsDone};
 
 use crate::closing::closures;
-use crate::counting::CountAlone;
 use crate::joining::join_parts;
 use crate::parting::{Parts, parts_of};
 use crate::sharing::{Job, share};
 use crate::sweeping::{Part, Sweeper};
 use crate::visitor::Visitor;
+use crate::watching::{Counting, Watch, Watched};
 use patch_sets::explored::ExploreFault;
 use std::alloc::{AllocError, Allocator};
 use std::sync::atomic::{AtomicUsize, Ordering};
@@ -29,16 +29,17 @@ pub struct Swept<T> {
 
 /// Visits each closed set of a graph once, with 1 to 16 workers.
 ///
-/// For every number of workers and every schedule, an answer other than out of memory is the one that is defined without
-/// threads: the tally of all closed sets in ascending number, or that they are more than the limit. They are counted
-/// before any is visited.
-pub fn sweep_with<R, A, V>(
+/// For every number of workers and every schedule, an answer other than out of memory is the one that is defined
+/// without threads: the tally of all closed sets in ascending number, or that they are more than the limit. They are
+/// counted before any is visited. The watch is told as it goes on.
+pub fn sweep_with<R, A, V, W>(
     rt: &R,
     alloc: A,
     visitor: &V,
     deps: &[u128],
     limit: usize,
     workers: usize,
+    watch: &W,
 ) -> Result<Swept<V::Tally>, ExploreFault>
 where
     R: Threads + Sync,
@@ -46,6 +47,7 @@ where
     V: Visitor + Sync,
     V::Scratch: Send,
     V::Tally: Send,
+    W: Watch + Sync,
     requires few { length deps.now < 127 }
     requires earlier { AreEarlier deps.now }
     requires lawful { (set : ℕ) → IsClosed deps.now set → V.is_lawful visitor.now set }
@@ -58,14 +60,14 @@ where
     let closures = closures(deps);
     let parts = parts_of(alloc, deps, &closures, PARTS * workers)?;
     let counter = Sweeper {
-        visitor: &CountAlone,
+        visitor: &Counting { watch },
         deps,
         closures: &closures,
         limit,
     };
     sweep_all(rt, alloc, &counter, &parts, workers)?;
     let sweeper = Sweeper {
-        visitor,
+        visitor: &Watched { visitor, watch },
         deps,
         closures: &closures,
         limit,
@@ -88,11 +90,14 @@ where
     V::Scratch: Send,
     V::Tally: Send,
     requires known { parts.now.low ≤ length sweeper.now.deps.now }
-    requires parts { AreParts sweeper.now.deps.now parts.now.low (2 ^ length sweeper.now.deps.now) parts.now.roots.items }
+    requires parts { AreParts sweeper.now.deps.now parts.now.low (2 ^ length sweeper.now.deps.now)
+        parts.now.roots.items }
     requires lawful { (set : ℕ) → IsClosed sweeper.now.deps.now set → V.is_lawful sweeper.now.visitor.now set }
-    ensures swept { IfOk result (λ swept. IsSweep (V.tells sweeper.now.visitor.now) sweeper.now.deps.now swept.total swept.tally) }
+    ensures swept { IfOk result (λ swept.
+        IsSweep (V.tells sweeper.now.visitor.now) sweeper.now.deps.now swept.total swept.tally) }
     ensures within { IfOk result (λ swept. swept.total ≤ sweeper.now.limit) }
-    ensures too_many { IsErrOf result ExploreFault.TooMany → Outnumbers (IsClosed sweeper.now.deps.now) sweeper.now.limit }
+    ensures too_many { IsErrOf result ExploreFault.TooMany
+        → Outnumbers (IsClosed sweeper.now.deps.now) sweeper.now.limit }
 {
     let scratches = new_scratches(alloc, sweeper.visitor, workers)?;
     let done = sweep_parts(rt, alloc, sweeper, parts.low, &parts.roots, scratches)?;
@@ -145,9 +150,17 @@ impl<'a, V: Visitor, A: Allocator + Copy> Job for Sweeping<'a, V, A> {
     ghost use Rattle.patch_sets.specs.declared.explored.ExploreFault.TheVariants as fault;
     ghost use Rattle.set_sweep.specs.Sweeps.{AreParts, IsDone};
 
-    ghost is_ready = { λ j scratch. (j.low ≤ length j.sweeper.now.deps.now) × AreParts j.sweeper.now.deps.now j.low (2 ^ length j.sweeper.now.deps.now) j.roots.now × ((set : ℕ) → IsClosed j.sweeper.now.deps.now set → V.is_lawful j.sweeper.now.visitor.now set) × V.is_own j.sweeper.now.visitor.now scratch };
+    ghost is_ready = { λ j scratch. (j.low ≤ length j.sweeper.now.deps.now)
+        × AreParts j.sweeper.now.deps.now j.low (2 ^ length j.sweeper.now.deps.now) j.roots.now
+        × ((set : ℕ) → IsClosed j.sweeper.now.deps.now set → V.is_lawful j.sweeper.now.visitor.now set)
+        × V.is_own j.sweeper.now.visitor.now scratch };
 
-    ghost is_left = { λ j left. IfOk left (λ all. All (λ done. IsDone (V.tells j.sweeper.now.visitor.now) j.sweeper.now.deps.now j.low j.roots.now done.at done.part.total done.part.tally) all.items) × (IsErrOf left fault.TooMany → Outnumbers (IsClosed j.sweeper.now.deps.now) j.sweeper.now.limit) };
+    ghost is_left = { λ j left.
+        IfOk left (λ all.
+        All (λ done.
+        IsDone (V.tells j.sweeper.now.visitor.now) j.sweeper.now.deps.now j.low j.roots.now done.at done.part.total
+        done.part.tally) all.items)
+        × (IsErrOf left fault.TooMany → Outnumbers (IsClosed j.sweeper.now.deps.now) j.sweeper.now.limit) };
 
     fn work(&self, scratch: V::Scratch) -> Result<Vec<Done<V::Tally>, A>, ExploreFault> {
         draw_parts(
@@ -162,7 +175,8 @@ impl<'a, V: Visitor, A: Allocator + Copy> Job for Sweeping<'a, V, A> {
     }
 }
 
-/// Draws one part after another by their places, and sweeps over it. It stops where more sets than the limit were seen.
+/// Draws one part after another by their places, and sweeps over it. It stops where more sets than the limit were
+/// seen.
 fn draw_parts<A: Allocator + Copy, V: Visitor>(
     alloc: A,
     sweeper: &Sweeper<'_, V>,
@@ -176,8 +190,12 @@ fn draw_parts<A: Allocator + Copy, V: Visitor>(
     requires parts { AreParts sweeper.now.deps.now low (2 ^ length sweeper.now.deps.now) roots.now }
     requires lawful { (set : ℕ) → IsClosed sweeper.now.deps.now set → V.is_lawful sweeper.now.visitor.now set }
     requires own { V.is_own sweeper.now.visitor.now scratch }
-    ensures done { IfOk result (λ all. All (λ done. IsDone (V.tells sweeper.now.visitor.now) sweeper.now.deps.now low roots.now done.at done.part.total done.part.tally) all.items) }
-    ensures too_many { IsErrOf result ExploreFault.TooMany → Outnumbers (IsClosed sweeper.now.deps.now) sweeper.now.limit }
+    ensures done { IfOk result (λ all.
+        All (λ done.
+        IsDone (V.tells sweeper.now.visitor.now) sweeper.now.deps.now low roots.now done.at done.part.total
+        done.part.tally) all.items) }
+    ensures too_many { IsErrOf result ExploreFault.TooMany
+        → Outnumbers (IsClosed sweeper.now.deps.now) sweeper.now.limit }
 {
     let mut all = Vec::new(alloc);
     for _ in 0..roots.len() {
@@ -214,8 +232,12 @@ where
     requires parts { AreParts sweeper.now.deps.now low (2 ^ length sweeper.now.deps.now) roots.now }
     requires lawful { (set : ℕ) → IsClosed sweeper.now.deps.now set → V.is_lawful sweeper.now.visitor.now set }
     requires own { All (V.is_own sweeper.now.visitor.now) scratches.items }
-    ensures done { IfOk result (λ all. All (λ done. IsDone (V.tells sweeper.now.visitor.now) sweeper.now.deps.now low roots.now done.at done.part.total done.part.tally) all.items) }
-    ensures too_many { IsErrOf result ExploreFault.TooMany → Outnumbers (IsClosed sweeper.now.deps.now) sweeper.now.limit }
+    ensures done { IfOk result (λ all.
+        All (λ done.
+        IsDone (V.tells sweeper.now.visitor.now) sweeper.now.deps.now low roots.now done.at done.part.total
+        done.part.tally) all.items) }
+    ensures too_many { IsErrOf result ExploreFault.TooMany
+        → Outnumbers (IsClosed sweeper.now.deps.now) sweeper.now.limit }
 {
     let next = AtomicUsize::new(0);
     let seen = AtomicUsize::new(0);

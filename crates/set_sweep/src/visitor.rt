@@ -5,8 +5,8 @@ use std::alloc::AllocError;
 
 /// Visits sets one after another and keeps a tally of them.
 ///
-/// The sets of one part of a sweep are visited one after another, and the tallies of neighbouring parts are joined. So a
-/// tally that needs no list of its sets takes no more memory where there are more of them.
+/// The sets of one part of a sweep are visited one after another, and the tallies of neighbouring parts are joined. So
+/// a tally that needs no list of its sets takes no more memory where there are more of them.
 pub trait Visitor {
     /// What sets are visited in, so that visiting many needs no new memory for each.
     type Scratch: Drop;
@@ -41,9 +41,14 @@ pub trait Visitor {
         requires lawful { is_lawful self.now set }
         requires own { is_own self.now scratch.old }
         ensures own { is_own self.now scratch.new }
-        ensures told { (sets : List ℕ) → tells self.now sets tally.old → OnOk result (tells self.now (sets ++ set ∷ []) tally.new) };
+        ensures told { (sets : List ℕ) → tells self.now sets tally.old
+            → OnOk result (tells self.now (sets ++ set ∷ []) tally.new) };
 
     /// Puts the tally of later sets to the end of a tally. It fails only when out of memory.
     fn join(&self, tally: &mut Self::Tally, later: Self::Tally) -> Result<(), AllocError>
-        ensures { (sets others : List ℕ) → tells self.now sets tally.old → tells self.now others later → OnOk result (tells self.now (sets ++ others) tally.new) };
+        ensures { (sets others : List ℕ) → tells self.now sets tally.old → tells self.now others later
+            → OnOk result (tells self.now (sets ++ others) tally.new) };
+
+    /// How many of its sets a tally keeps. It is for a watch alone, so that nothing is promised of it.
+    fn kept(&self, tally: &Self::Tally) -> usize;
 }

@@ -6,6 +6,8 @@ use crate::space::Space;
 
 /// There is one number of words that are reached, and where they outnumber a limit it is above the limit.
 pub fn reach_has_one_size<S: Space>(space: &S)
-    ensures one { (n m : ℕ) → HoldsOf (IsReached (S.successors space.now) (S.initial space.now)) n → HoldsOf (IsReached (S.successors space.now) (S.initial space.now)) m → n ≡ m }
-    ensures above { (n limit : ℕ) → HoldsOf (IsReached (S.successors space.now) (S.initial space.now)) n → Outnumbers (IsReached (S.successors space.now) (S.initial space.now)) limit → limit < n }
+    ensures one { (n m : ℕ) → HoldsOf (IsReached (S.successors space.now) (S.initial space.now)) n
+        → HoldsOf (IsReached (S.successors space.now) (S.initial space.now)) m → n ≡ m }
+    ensures above { (n limit : ℕ) → HoldsOf (IsReached (S.successors space.now) (S.initial space.now)) n
+        → Outnumbers (IsReached (S.successors space.now) (S.initial space.now)) limit → limit < n }
 {}

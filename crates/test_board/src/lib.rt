@@ -12,4 +12,4 @@ mod worker;
 
 pub use diamond::Diamond;
 pub use fan::Fan;
-pub use worker::{expand, put_each, put_successor, visit, work};
+pub use worker::{expand, put_each, put_successor, split_and_join, visit, work};

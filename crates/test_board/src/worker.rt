@@ -1,4 +1,5 @@
 ghost use Rattle.std.specs.Prelude.{◌≡◌, ◌≢◌, ◌<◌, ◌⊎◌, true, false, length, slice_index, IfOk};
+ghost use Rattle.board_rule.specs.Rule.{IsWhole};
 ghost use Rattle.seen_board.specs.Clauses.{IsOf, SeesOn, HasClaim, HasPlace, word_at};
 ghost use Rattle.seen_board.specs.Inserts.{PutOk};
 ghost use Rattle.test_board.specs.Worker.{IsIdle, IsAt, HasSettled, Tries};
@@ -26,7 +27,8 @@ pub fn expand<S: Space, A: Allocator, R: Wait>(
     ensures idle { IsIdle board.now seat.new }
     ensures sees { SeesOn seat.old.seen seat.new.seen }
     ensures own { S.is_own space.now scratch.new }
-    ensures settled { IfOk result (λ within. within ≡ true → HasSettled (S.is_good space.now (word_at seat.old.seen place)) place seat.old seat.new) }
+    ensures settled { IfOk result (λ within. within ≡ true
+        → HasSettled (S.is_good space.now (word_at seat.old.seen place)) place seat.old seat.new) }
     ensures over { IfOk result (λ within. within ≡ false → seat.new.over ≡ 1) }
 {
     let word = board.at(seat, place);
@@ -108,7 +110,8 @@ pub fn put_successor<S: Space, A: Allocator>(
     requires free { seat.old.right ≡ 0 }
     requires claim { HasClaim seat.old place × HasPlace seat.old.seen place }
     requires below { k < length (S.successors space.now (word_at seat.old.seen place)) }
-    ensures put { PutOk (slice_index (S.successors space.now (word_at seat.old.seen place)) k) seat.old seat.new result }
+    ensures put { PutOk (slice_index (S.successors space.now (word_at seat.old.seen place)) k) seat.old seat.new
+        result }
     ensures sees { SeesOn seat.old.seen seat.new.seen }
     ensures still { result ≢ Put.Over → IsAt board.now place (word_at seat.old.seen place) seat.new }
     ensures after { IsOf board.now seat.new × (seat.new.right ≡ 0) }
@@ -129,8 +132,10 @@ pub fn put_each<S: Space, A: Allocator>(
     requires free { seat.old.right ≡ 0 }
     requires claim { HasClaim seat.old place × HasPlace seat.old.seen place }
     ensures after { IsOf board.now seat.new × (seat.new.right ≡ 0) }
-    ensures each { IfOk result (λ puts. Tries (S.successors space.now (word_at seat.old.seen place)) seat.old seat.new puts.items) }
-    ensures all { IfOk result (λ puts. (length puts.items ≡ length (S.successors space.now (word_at seat.old.seen place))) ⊎ (seat.new.over ≡ 1)) }
+    ensures each { IfOk result (λ puts.
+        Tries (S.successors space.now (word_at seat.old.seen place)) seat.old seat.new puts.items) }
+    ensures all { IfOk result (λ puts.
+        (length puts.items ≡ length (S.successors space.now (word_at seat.old.seen place))) ⊎ (seat.new.over ≡ 1)) }
 {
     let mut puts = Vec::new(alloc);
     let word = board.at(seat, place);
@@ -169,4 +174,14 @@ pub fn work<S: Space, A: Allocator, R: Wait>(
         yield_now();
     }
     seat
+}
+
+/// Splits a seat off and joins it again: a seat that had the whole board has the whole board.
+pub fn split_and_join<S: Space, A: Allocator>(board: &Board<S, A>, seat: &mut BoardSeat)
+    requires seat { IsOf board.now seat.old }
+    ensures of { IsOf board.now seat.new }
+    ensures whole { IsWhole seat.old.share → IsWhole seat.new.share }
+{
+    let other = board.split(seat);
+    board.join(seat, other);
 }

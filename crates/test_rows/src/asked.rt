@@ -1,11 +1,43 @@
 //! What the tests ask of the program.
 
+use command_line::settings_of;
 use crash_answer::answer;
+use sha1::Sha1;
 use std::process::Abort;
 use std::rt::Files;
 use std::sync::Wait;
 use std::test::Fail;
 use std::thread::Threads;
+
+/// What the program gave.
+#[derive(Drop)]
+struct Answered {
+    status: u8,
+    out: Vec<u8>,
+    err: Vec<u8>,
+}
+
+/// The program's answer to these words and this script. Several words may stand in one text, apart by blanks.
+fn ask<R: Files + AllocGlobal + Threads + Wait + Sync>(
+    rt: &R,
+    texts: &[&str],
+    script: &[u8],
+) -> Result<Answered, Fail> {
+    let heap = rt.alloc();
+    let mut words = Vec::new(heap);
+    for text in texts {
+        for word in text.split(' ') {
+            if !word.is_empty() {
+                words.push(word)?;
+            }
+        }
+    }
+    let mut out = Vec::new(heap);
+    let mut err = Vec::new(heap);
+    let mut input = script;
+    let status = answer(rt, heap, heap, &words, &mut input, &mut out, &mut err);
+    Ok(Answered { status, out, err })
+}
 
 /// The program's answer to these words and this script is exactly this.
 pub fn exactly<R: Files + Abort + AllocGlobal + Threads + Wait + Sync>(
@@ -16,14 +48,28 @@ pub fn exactly<R: Files + Abort + AllocGlobal + Threads + Wait + Sync>(
     report: &str,
     refusal: &str,
 ) -> Result<(), Fail> {
-    let heap = rt.alloc();
-    let mut out = Vec::new(heap);
-    let mut err = Vec::new(heap);
-    let mut input = script;
-    let got = answer(rt, heap, heap, words, &mut input, &mut out, &mut err);
-    assert_eq!(rt; got, status);
-    assert_eq!(rt; out.as_slice(), report.as_bytes());
-    assert_eq!(rt; err.as_slice(), refusal.as_bytes());
+    let got = ask(rt, words, script)?;
+    assert_eq!(rt; got.status, status);
+    assert_eq!(rt; got.out.as_slice(), report.as_bytes());
+    assert_eq!(rt; got.err.as_slice(), refusal.as_bytes());
+    Ok(())
+}
+
+/// A module, more words, a script, and how many patches it has and how many sets a crash can leave.
+pub type CleanRow<'a> = (&'a str, &'a str, &'a str, usize, usize);
+
+/// The program reports each row's numbers, and that no set fails.
+pub fn each_clean<R: Files + Abort + AllocGlobal + Threads + Wait + Sync>(
+    rt: &R,
+    rows: &[CleanRow<'_>],
+) -> Result<(), Fail> {
+    for (module, more, script, patches, closed) in rows {
+        let report = format!(in rt.alloc();
+            "module {module}\npatches {patches}\nclosed {closed}\nfailing 0\n"
+        )?;
+        let words = ["--module", *module, *more];
+        exactly(rt, &words, script.as_bytes(), 0, report.as_str(), "")?;
+    }
     Ok(())
 }
 
@@ -35,37 +81,23 @@ pub fn begins<R: Files + Abort + AllocGlobal + Threads + Wait + Sync>(
     status: u8,
     head: &str,
 ) -> Result<(), Fail> {
-    let heap = rt.alloc();
-    let mut out = Vec::new(heap);
-    let mut err = Vec::new(heap);
-    let mut input = script;
-    let got = answer(rt, heap, heap, words, &mut input, &mut out, &mut err);
-    assert_eq!(rt; got, status);
-    assert!(rt; out.as_slice().starts_with(head.as_bytes()));
-    assert!(rt; err.is_empty());
+    let got = ask(rt, words, script)?;
+    assert_eq!(rt; got.status, status);
+    assert!(rt; got.out.starts_with(head.as_bytes()));
+    assert!(rt; got.err.is_empty());
     Ok(())
 }
 
-/// The program reports, and these lines stand in its report.
+/// The program reports failing sets, and these lines stand in its report.
 pub fn shows<R: Files + Abort + AllocGlobal + Threads + Wait + Sync>(
     rt: &R,
     words: &[&str],
     script: &[u8],
     lines: &str,
 ) -> Result<(), Fail> {
-    let heap = rt.alloc();
-    let mut out = Vec::new(heap);
-    let mut err = Vec::new(heap);
-    let mut input = script;
-    let got = answer(rt, heap, heap, words, &mut input, &mut out, &mut err);
-    assert_eq!(rt; got, 1);
-    let wanted = lines.as_bytes();
-    assert!(rt; wanted.len() <= out.len());
-    let mut found = false;
-    for window in out.as_slice().windows(wanted.len().max(1)) {
-        found = found || window == wanted;
-    }
-    assert!(rt; found);
+    let got = ask(rt, words, script)?;
+    assert_eq!(rt; got.status, 1);
+    assert!(rt; stands_in(&got.out, lines.as_bytes()));
     Ok(())
 }
 
@@ -77,4 +109,62 @@ pub fn refused<R: Files + Abort + AllocGlobal + Threads + Wait + Sync>(
     refusal: &str,
 ) -> Result<(), Fail> {
     exactly(rt, words, script, 2, "", refusal)
+}
+
+/// The program refuses each row's script so, and writes no report.
+pub fn each_refused<R: Files + Abort + AllocGlobal + Threads + Wait + Sync>(
+    rt: &R,
+    words: &[&str],
+    rows: &[(&str, &str)],
+) -> Result<(), Fail> {
+    for (script, refusal) in rows {
+        refused(rt, words, script.as_bytes(), refusal)?;
+    }
+    Ok(())
+}
+
+/// The words are those of a run.
+pub fn is_taken<R: Abort + AllocGlobal>(rt: &R, words: &[&str]) -> Result<(), Fail> {
+    let _call = settings_of(rt.alloc(), words)?;
+    Ok(())
+}
+
+/// The words are a fault of the command line, told on standard error with status 2, and `named` stands in it.
+pub fn is_a_fault<R: Abort + AllocGlobal>(rt: &R, words: &[&str], named: &str) -> Result<(), Fail> {
+    let heap = rt.alloc();
+    match settings_of(heap, words) {
+        Ok(_) => assert!(rt; false, "words with {named} are taken"),
+        Err(error) => {
+            assert!(rt; error.use_stderr() && error.exit_code() == 2);
+            let told = format!(in heap; "{error}")?;
+            assert!(rt; told.as_str().starts_with("error: ") && told.as_str().contains(named));
+        }
+    }
+    Ok(())
+}
+
+/// The program reports, and its report has this SHA-1 digest.
+pub fn has_digest<R: Files + Abort + AllocGlobal + Threads + Wait + Sync>(
+    rt: &R,
+    words: &[&str],
+    script: &[u8],
+    status: u8,
+    digest: &str,
+) -> Result<(), Fail> {
+    let got = ask(rt, words, script)?;
+    assert_eq!(rt; got.status, status);
+    assert!(rt; got.err.is_empty());
+    let told = hex::encode(rt.alloc(), Sha1::digest(&got.out))?;
+    assert_eq!(rt; told.as_str(), digest);
+    Ok(())
+}
+
+/// Do the wanted bytes stand in these, one behind the other?
+fn stands_in(bytes: &[u8], wanted: &[u8]) -> bool {
+    for window in bytes.windows(wanted.len().max(1)) {
+        if window == wanted {
+            return true;
+        }
+    }
+    wanted.is_empty()
 }

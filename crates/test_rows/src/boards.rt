@@ -1,14 +1,12 @@
-//! A lone seat on the board of a script's own space, whose limit is just enough.
+//! Seats on the board of a script's own space, whose limit is just enough.
 
-ghost use Rattle.std.specs.Prelude.{◌≡◌, ◌≢◌, ◌<◌, IfOk};
-ghost use Rattle.std.specs.List.{All};
-ghost use Rattle.crash_model.specs.Patches.{AreUndo};
+ghost use Rattle.std.specs.Prelude.{◌≡◌, ◌≢◌};
 ghost use Rattle.seen_board.specs.Clauses.{IsOf, HasClaim, HasPlace, word_at};
 ghost use Rattle.test_board.specs.Worker.{IsAt, IsIdle};
 
-use crate::traces::{Trace, trace_of};
+use crate::traces::trace_of_asked;
 use crash_image::PatchSpace;
-use seen_board::{Board, BoardSeat, Life, Place, Put};
+use seen_board::{Board, BoardSeat, Got, Life, Place, Put};
 use state_space::Space;
 use std::alloc::Global;
 use std::process::Abort;
@@ -22,19 +20,6 @@ const START: Place = Place { shard: 0, at: 0 };
 
 /// Where the set of patch 0, which is the word 1, comes to stand.
 const FIRST: Place = Place { shard: 1, at: 0 };
-
-fn created(alloc: Global) -> Result<Trace, Fail>
-    ensures fits { IfOk result (λ t. All (λ patch. patch.block < t.base.blocks) t.graph) }
-    ensures undo { IfOk result (λ t. AreUndo t.base t.graph) }
-{
-    trace_of(
-        alloc,
-        CREATE.script,
-        CREATE.blocks,
-        CREATE.journal,
-        CREATE.module,
-    )
-}
 
 /// Puts in the first successor of the empty set, which the seat has claimed.
 fn put_first<S: Space>(
@@ -51,6 +36,48 @@ fn put_first<S: Space>(
     let word = board.at(seat, START);
     assert!(rt; 0 < space.degree(word));
     put_successor(board, space, seat, START, 0)
+}
+
+/// The set of patch 0 is found once it was put in, without a right.
+fn find_first<S: Space>(rt: &impl Abort, board: &Board<S, Global>, space: &S, seat: &mut BoardSeat)
+    requires board { IsOf board.now seat.old × (board.now.space ≡ space.now) }
+    requires free { seat.old.right ≡ 0 }
+    requires claim { HasClaim seat.old START × HasPlace seat.old.seen START }
+    ensures board { IsOf board.now seat.new × (seat.new.right ≡ 0) }
+    ensures claim { HasClaim seat.new START × HasPlace seat.new.seen START }
+{
+    assert_eq!(rt; board.find(seat, 0), Some(START));
+    assert_eq!(rt; board.find(seat, 1), None);
+    assert!(rt; seat.has_seen(START));
+    assert!(rt; put_first(rt, board, space, seat) == Put::New(FIRST));
+    assert_eq!(rt; board.find(seat, 1), Some(FIRST));
+    assert!(rt; seat.has_seen(START));
+}
+
+/// While another seat writes the shard of the set of patch 0, this one gets no right there, and finds the set without
+/// one.
+fn meet_a_writer<S: Space>(
+    rt: &impl Abort,
+    board: &Board<S, Global>,
+    space: &S,
+    seat: &mut BoardSeat,
+)
+    requires board { IsOf board.now seat.old × (board.now.space ≡ space.now) }
+    requires free { seat.old.right ≡ 0 }
+    requires claim { HasClaim seat.old START × HasPlace seat.old.seen START }
+    ensures board { IsOf board.now seat.new × (seat.new.right ≡ 0) }
+    ensures claim { HasClaim seat.new START × HasPlace seat.new.seen START }
+{
+    let mut other = board.split(seat);
+    assert!(rt; board.try_write(&mut other, FIRST.shard) == Got::Right);
+    assert!(rt; board.try_read(seat, FIRST.shard) == Got::Busy);
+    assert!(rt; board.try_write(seat, FIRST.shard) == Got::Busy);
+    assert_eq!(rt; board.find(seat, 1), Some(FIRST));
+    assert!(rt; seat.has_seen(START));
+    assert!(rt; put_first(rt, board, space, seat) == Put::Known(FIRST));
+    board.give(&mut other, FIRST.shard);
+    board.join(seat, other);
+    assert!(rt; seat.has_seen(START));
 }
 
 /// Claims an entry before the end has come, expands it and settles it.
@@ -75,13 +102,14 @@ fn settle_entry<S: Space, R: Abort + Wait>(
 
 #[test]
 fn the_end_comes_with_the_last_of_four_entries(rt: HostRuntime) -> Result<(), Fail> {
-    let script = created(rt.alloc())?;
+    let script = trace_of_asked(rt.alloc(), &CREATE)?;
     let space = PatchSpace::new(&script.base, &script.graph);
     let mut scratch = space.scratch()?;
     let (board, mut seat, _) = Board::open(rt.alloc(), &space, 4)?;
     assert!(rt; board.claim(&mut seat, START));
-    assert!(rt; put_first(&rt, &board, &space, &mut seat) == Put::New(FIRST));
+    find_first(&rt, &board, &space, &mut seat);
     assert!(rt; put_first(&rt, &board, &space, &mut seat) == Put::Known(FIRST));
+    meet_a_writer(&rt, &board, &space, &mut seat);
     assert!(rt; !board.finished(&mut seat));
     let within = expand(&rt, &board, &space, &mut scratch, &mut seat, START);
     assert!(rt; matches!(within, Ok(true)));

@@ -5,7 +5,6 @@ ghost use Rattle.std.specs.Prelude.{Some, None};
 use crate::asked::{exactly, refused};
 use crash_answer::answer;
 use crash_model::refusals::RunFault;
-use crash_model::settings::Settings;
 use crash_model::steps::Module;
 use crash_text::serve::serve;
 use devices::memory::Taken;
@@ -15,19 +14,12 @@ use explorers::OpenGate;
 use std::alloc::Allocator;
 use std::test::Fail;
 use test_support::refusing::Refusing;
+use test_support::settings::plain_settings;
 
 const CREATE: &[u8] = b"start\ncreate /a\n";
 
 const REPORT: &str = "module async\npatches 2\nclosed 4\nfailing 1\nset 1\nwrite block 4: 1\n\
       fault 1 dangling entry: directory 0 entry 0 inode 1\n";
-
-const SETTINGS: Settings = Settings {
-    module: Module::Async,
-    blocks: 16,
-    journal: 0,
-    limit: 4096,
-    json: false,
-};
 
 /// A source that gives a byte a read, and fails at one read.
 #[derive(Drop)]
@@ -111,7 +103,7 @@ fn bytes_come_and_go_one_by_one(rt: HostRuntime) -> Result<(), Fail> {
             heap,
             &mut source,
             &mut sink,
-            &SETTINGS,
+            &plain_settings(Module::Async),
             1,
             &OpenGate
         ) == Ok(1)
@@ -140,7 +132,7 @@ fn a_failed_read_leaves_the_sink_empty(rt: HostRuntime) -> Result<(), Fail> {
             heap,
             &mut source,
             &mut sink,
-            &SETTINGS,
+            &plain_settings(Module::Async),
             1,
             &OpenGate,
         );
@@ -166,7 +158,7 @@ fn a_failed_write_leaves_a_beginning(rt: HostRuntime) -> Result<(), Fail> {
         heap,
         &mut source,
         &mut sink,
-        &SETTINGS,
+        &plain_settings(Module::Async),
         1,
         &OpenGate,
     );
@@ -191,7 +183,7 @@ fn a_failed_finish_leaves_the_whole_report(rt: HostRuntime) -> Result<(), Fail> 
         heap,
         &mut source,
         &mut sink,
-        &SETTINGS,
+        &plain_settings(Module::Async),
         1,
         &OpenGate,
     );
@@ -307,6 +299,9 @@ fn faults_of_the_command_line_write_no_report(rt: HostRuntime) -> Result<(), Fai
         "--journal=123",
         "--workers=17",
         "--module=none",
+        "--with=Ptr",
+        "--without=Ptr:Ptr",
+        "--explorer=tree",
     ] {
         let words = [word];
         let mut out = Vec::new(heap);

@@ -38,7 +38,12 @@ fn a_name_moves(rt: HostRuntime) -> Result<(), Fail> {
     assert!(rt; graph.fits(5) && !graph.fits(4));
     assert!(rt; graph.is_closed(0b1011) && !graph.is_closed(0b1010) && !graph.is_closed(1 << 4));
     assert_eq!(rt; graph.ready(0), 0b0111);
-    assert_eq!(rt; graph.ready_count(0b0001), 3);
+    assert!(rt; graph.is_closed(0b0001));
+    assert_eq!(rt; graph.degree(0b0001), 3);
+    assert_eq!(rt; graph.next(0b0001, 2), 0b1001);
+    assert!(rt; !graph.is_closed(0b1000));
+    assert_eq!(rt; graph.ready_count(0b1000), 3);
+    assert_eq!(rt; graph.successor(0b1000, 0), 0b1001);
     let wanted = [(2, 0b0001), (4, 0b0010), (2, 0b1000)].map(|(block, ids)| BlockWrite {
         block,
         ids,

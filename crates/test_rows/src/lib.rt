@@ -15,7 +15,11 @@ mod deques;
 #[cfg(test)]
 mod disks;
 #[cfg(test)]
+mod explained;
+#[cfg(test)]
 mod faults;
+#[cfg(test)]
+mod given_rules;
 #[cfg(test)]
 mod graphs;
 #[cfg(test)]
@@ -24,6 +28,8 @@ mod ladders;
 mod lines;
 #[cfg(test)]
 mod moves;
+#[cfg(test)]
+mod needed_rules;
 #[cfg(test)]
 mod no_patches;
 #[cfg(test)]
@@ -35,19 +41,31 @@ mod orderings;
 #[cfg(test)]
 mod patches;
 #[cfg(test)]
+mod progress;
+#[cfg(test)]
 mod refusals;
 #[cfg(test)]
 mod replays;
 #[cfg(test)]
 mod reports;
 #[cfg(test)]
+mod rule_texts;
+#[cfg(test)]
 mod script_lines;
+#[cfg(test)]
+mod scripts;
 #[cfg(test)]
 mod sets;
 #[cfg(test)]
 mod spaces;
 #[cfg(test)]
 mod standard_devices;
+#[cfg(test)]
+mod summaries;
+#[cfg(test)]
+mod sweeps;
+#[cfg(test)]
+mod taken_out_rules;
 #[cfg(test)]
 mod texts;
 #[cfg(test)]

@@ -4,13 +4,14 @@ ghost use Rattle.std.specs.Prelude.{◌≡◌, ◌<◌};
 ghost use Rattle.std.specs.List.{All};
 ghost use Rattle.crash_model.specs.Patches.{AreUndo};
 
-use crate::traces::{Trace, closed_sets, trace_of};
+use crate::traces::{Trace, closed_sets, trace_of, trace_of_asked};
 use crash_image::{Mover, build};
 use crash_model::steps::Module;
 use disk_image::Image;
 use std::alloc::Global;
 use std::process::Abort;
 use std::test::Fail;
+use test_support::asked::{JOURNAL, REUSE, WRITE};
 
 /// Whether two images have the same bytes.
 fn are_equal(one: &Image<Global>, other: &Image<Global>) -> bool {
@@ -96,36 +97,18 @@ fn undo_of_every_patch_gives_the_link_count_back(rt: HostRuntime) -> Result<(), 
 
 #[test]
 fn a_create_and_a_write_under_no_order(rt: HostRuntime) -> Result<(), Fail> {
-    let script = trace_of(
-        rt.alloc(),
-        b"start\ncreate /a\nwrite /a\n",
-        16,
-        0,
-        Module::Async,
-    )?;
+    let script = trace_of_asked(rt.alloc(), &WRITE)?;
     moves_through(&rt, rt.alloc(), &script, 24)
 }
 
 #[test]
 fn a_block_that_is_freed_and_used_again(rt: HostRuntime) -> Result<(), Fail> {
-    let script = trace_of(
-        rt.alloc(),
-        b"create /a\nwrite /a\ncreate /b\nstart\nunlink /a\nwrite /b\n",
-        16,
-        0,
-        Module::Async,
-    )?;
+    let script = trace_of_asked(rt.alloc(), &REUSE)?;
     moves_through(&rt, rt.alloc(), &script, 48)
 }
 
 #[test]
 fn a_directory_block_that_becomes_file_data_behind_a_journal(rt: HostRuntime) -> Result<(), Fail> {
-    let script = trace_of(
-        rt.alloc(),
-        b"mkdir /d\ncreate /d/x\ncreate /f\nstart\nunlink /d/x\nrmdir /d\nwrite /f\n",
-        24,
-        12,
-        Module::Meta,
-    )?;
+    let script = trace_of_asked(rt.alloc(), &JOURNAL)?;
     moves_through(&rt, rt.alloc(), &script, 629)
 }

@@ -4,13 +4,14 @@ ghost use Rattle.std.specs.Prelude.{◌≡◌, ◌<◌};
 ghost use Rattle.std.specs.List.{All};
 ghost use Rattle.crash_model.specs.Patches.{AreUndo};
 
-use crate::traces::{Trace, closed_sets, trace_of};
+use crate::traces::{Trace, closed_sets, trace_of, trace_of_asked};
 use crash_image::PatchSpace;
 use crash_model::steps::Module;
 use state_space::Space;
 use std::alloc::Global;
 use std::process::Abort;
 use std::test::Fail;
+use test_support::asked::{JOURNAL, REUSE, WRITE};
 
 /// How many of the sets that a crash can leave are not good.
 fn count_failing(rt: &impl Abort, alloc: Global, script: &Trace) -> Result<usize, Fail>
@@ -31,21 +32,9 @@ fn count_failing(rt: &impl Abort, alloc: Global, script: &Trace) -> Result<usize
 
 #[test]
 fn sets_that_fail_under_no_order(rt: HostRuntime) -> Result<(), Fail> {
-    let script = trace_of(
-        rt.alloc(),
-        b"start\ncreate /a\nwrite /a\n",
-        16,
-        0,
-        Module::Async,
-    )?;
+    let script = trace_of_asked(rt.alloc(), &WRITE)?;
     assert_eq!(rt; count_failing(&rt, rt.alloc(), &script)?, 10);
-    let script = trace_of(
-        rt.alloc(),
-        b"create /a\nwrite /a\ncreate /b\nstart\nunlink /a\nwrite /b\n",
-        16,
-        0,
-        Module::Async,
-    )?;
+    let script = trace_of_asked(rt.alloc(), &REUSE)?;
     assert_eq!(rt; count_failing(&rt, rt.alloc(), &script)?, 36);
     Ok(())
 }
@@ -65,26 +54,14 @@ fn no_set_fails_under_soft_updates(rt: HostRuntime) -> Result<(), Fail> {
 
 #[test]
 fn replay_over_a_block_that_is_used_again_fails(rt: HostRuntime) -> Result<(), Fail> {
-    let script = trace_of(
-        rt.alloc(),
-        b"mkdir /d\ncreate /d/x\ncreate /f\nstart\nunlink /d/x\nrmdir /d\nwrite /f\n",
-        24,
-        12,
-        Module::Meta,
-    )?;
+    let script = trace_of_asked(rt.alloc(), &JOURNAL)?;
     assert_eq!(rt; count_failing(&rt, rt.alloc(), &script)?, 48);
     Ok(())
 }
 
 #[test]
 fn four_patches_are_ready_at_the_start(rt: HostRuntime) -> Result<(), Fail> {
-    let script = trace_of(
-        rt.alloc(),
-        b"start\ncreate /a\nwrite /a\n",
-        16,
-        0,
-        Module::Async,
-    )?;
+    let script = trace_of_asked(rt.alloc(), &WRITE)?;
     let space = PatchSpace::new(&script.base, &script.graph);
     let start = space.start();
     assert_eq!(rt; start, 0);

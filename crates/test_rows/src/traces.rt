@@ -11,6 +11,7 @@ use patch_graph::Graph;
 use script_text::read_script;
 use std::alloc::{AllocError, Global};
 use std::test::Fail;
+use test_support::asked::Asked;
 
 /// The image before a script's start line, and the graph of the steps behind it.
 #[derive(Drop)]
@@ -35,6 +36,20 @@ pub fn trace_of(
     let ordering = Ordering::of(order);
     let graph = trace(alloc, &base, &script.traced, &ordering)?.into_graph();
     Ok(Trace { base, graph })
+}
+
+/// The same of a script with its settings.
+pub fn trace_of_asked(alloc: Global, asked: &Asked) -> Result<Trace, Fail>
+    ensures fits { IfOk result (λ t. All (λ patch. patch.block < t.base.blocks) t.graph) }
+    ensures undo { IfOk result (λ t. AreUndo t.base t.graph) }
+{
+    trace_of(
+        alloc,
+        asked.script,
+        asked.blocks,
+        asked.journal,
+        asked.module,
+    )
 }
 
 /// The sets that a crash can leave, in canonical order: fewer ids first, then the smaller number.

@@ -2,7 +2,8 @@
 
 ghost use Rattle.std.specs.Prelude.{◌≡◌};
 
-use crash_model::settings::Settings;
+use crate::settings::plain_settings;
+use crash_model::settings::{Explorer, Settings};
 use crash_model::steps::Module;
 use std::alloc::{AllocError, Global};
 
@@ -43,15 +44,15 @@ impl Asked {
 
     /// The settings, with the most closed sets that there may be.
     pub fn settings(&self, limit: usize, json: bool) -> Settings
-        ensures { result.limit ≡ limit }
+        ensures limit { result.limit ≡ limit }
+        ensures explorer { result.explorer ≡ Explorer.Auto }
     {
-        Settings {
-            module: self.module,
-            blocks: self.blocks,
-            journal: self.journal,
-            limit,
-            json,
-        }
+        let mut settings = plain_settings(self.module);
+        settings.blocks = self.blocks;
+        settings.journal = self.journal;
+        settings.limit = limit;
+        settings.json = json;
+        settings
     }
 
     /// The digest of the report.

@@ -89,8 +89,8 @@ impl Gate for UntilAnother {
     }
 }
 
-/// Holds each claimer of a set of one patch until as many such sets as are expected are claimed, for at most 10,000,000
-/// turns.
+/// Holds each claimer of a set of one patch until as many such sets as are expected are claimed, for at most
+/// 10,000,000 turns.
 #[derive(Drop)]
 pub struct Meeting {
     expected: u64,

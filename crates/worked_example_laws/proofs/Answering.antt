@@ -4,19 +4,21 @@ use Rattle.std.specs.Prelude.{◌==◌, Result, Ok, Err}
 use Rattle.std.proofs.lemmas.Bool.{and_parts, leb-true, le-leb, ltb-true}
 use Rattle.patch_sets.proofs.Ids.{eq_from_true}
 use Rattle.crash_model.specs.Answer as answers
-use Rattle.crash_model.specs.Answer.{Refused, Reported, HasBase, HasGraph, IsAnswer}
-use Rattle.crash_model.specs.Rules.{rules_of}
+use Rattle.crash_model.specs.Answer.{Refused, Reported, HasBase, HasGraph, IsAnswer, ordering_rules}
 use Rattle.crash_model.specs.Disk.{Disk, formatted, IsGeometry}
 use Rattle.crash_model.specs.Patches.{deps_of}
 use Rattle.crash_model.specs.Refusals.{run_of_trace}
-use Rattle.crash_model.specs.Report.{report}
+use Rattle.crash_model.specs.Explain.{explanation}
+use Rattle.crash_model.specs.Lists.{when}
+use Rattle.crash_model.specs.Whole.{Sets, report}
 use Rattle.crash_model.specs.Trace.{begun, traced, based}
 use Rattle.crash_model.specs.declared.refusals.TraceFault.{TraceFault}
 use Rattle.crash_model.specs.declared.refusals.RunFault.TheVariants.{BadGeometry, TooMany}
 use Rattle.crash_model.specs.declared.settings.Settings.{Settings}
+use Rattle.crash_model.specs.declared.settings.ReportBy.TheVariants.{BySet}
 use Rattle.crash_model.specs.declared.steps.Act.{Act}
 use Rattle.crash_model.proofs.Leading.{failing_closed, closed_are_left, sections_lead}
-use Rattle.worked_example_laws.specs.Computed.{closed_sets, failing_sets, are_in_order, trace_of, is_accepted, explores, section_of, have_runs}
+use Rattle.worked_example_laws.specs.Computed.{closed_sets, failing_sets, are_in_order, trace_of, is_accepted, section_of, have_runs}
 use Rattle.worked_example_laws.specs.Examples.{numbered}
 use Rattle.worked_example_laws.specs.Spelled.{are_acts, script, based_or, base_of, is_based, traced_acts, graph, is_geometry, is_told}
 use Rattle.worked_example_laws.proofs.FailingSets.{accepted_is, counts_closed, all_failing}
@@ -47,15 +49,15 @@ module _ (settings : Settings) (before behind : List Act) (read : are_acts befor
 
   pub has_graph : is_based (based (formatted settings.blocks settings.journal) (numbered 1 before)) ≡ true
       → is_accepted (traced settings.module (begun (base_of settings before)) (traced_acts before behind)) ≡ true
-      → HasGraph (script before behind) settings (base_of settings before) (graph settings before behind)
+      → HasGraph (script before behind) settings (base_of settings before)
+      (trace_of settings.module (base_of settings before) (traced_acts before behind)) (graph settings before behind)
   has_graph whole run =
       let base = base_of settings before in
       let last = trace_of settings.module base (traced_acts before behind) in record {
         steps = traced_acts before behind;
         start = start whole;
-        last = last;
         run = accepted_is base (traced settings.module (begun base) (traced_acts before behind)) run;
-        graph = graph_is (rules_of settings.module) base last;
+        graph = graph_is (ordering_rules settings) base last;
       }
 
 -- an act before the start line is refused
@@ -75,12 +77,20 @@ pub refused_trace : (settings : Settings) (before behind : List Act) (fault : Tr
 refused_trace settings before behind fault read read_too geometry whole is =
     answers.bad_trace (base_of settings before) (traced_acts before behind) fault (start settings before behind read read_too geometry whole) is
 
--- the report
+-- the report, of each failing set
 pub reported : (settings : Settings) (before behind : List Act) (closed : ℕ) (failing : List ℕ) (text : List ℕ)
     → is_told settings before behind closed failing ≡ true
-    → text ≡ report settings.json settings.module (length (graph settings before behind)) closed (map (section_of (base_of settings before) (graph settings before behind)) failing)
+    → settings.by ≡ BySet
+    → text ≡ report settings (record {
+      patches = length (graph settings before behind);
+      closed = closed;
+      failing = length failing;
+      explanation = when settings.explain (explanation (ordering_rules settings) (base_of settings before)
+          (trace_of settings.module (base_of settings before) (traced_acts before behind)) (graph settings before behind));
+      body = Sets (map (section_of settings.explain (base_of settings before) (graph settings before behind)) failing);
+    })
     → IsAnswer (script before behind) settings (Reported text (length failing))
-reported settings before behind closed failing text told is =
+reported settings before behind closed failing text told by_set is =
     let base = base_of settings before in
     let steps = traced_acts before behind in
     let last = trace_of settings.module base steps in
@@ -89,25 +99,24 @@ reported settings before behind closed failing text told is =
     let two = and_parts (are_acts behind) _ one.1 in
     let three = and_parts (is_geometry settings) _ two.1 in
     let four = and_parts (is_based (based (formatted settings.blocks settings.journal) (numbered 1 before))) _ three.1 in
-    let five = and_parts (explores settings.module base steps closed failing) (nat_le closed settings.limit && have_runs patches failing) four.1 in
-    let six = and_parts (nat_le closed settings.limit) (have_runs patches failing) five.1 in
-    let seven = and_parts (is_accepted (traced settings.module (begun base) steps)) _ five.0 in
-    let eight = and_parts (length (closed_sets (deps_of patches)) == closed) (are_in_order (length (deps_of patches)) failing (failing_sets base patches)) seven.1 in
-    let first = earlier (rules_of settings.module) base last in
-    let exactly = all_failing base patches failing first eight.1 in
+    let five = and_parts (is_accepted (traced settings.module (begun base) steps)) _ four.1 in
+    let six = and_parts (length (closed_sets (deps_of patches)) == closed) _ five.1 in
+    let seven = and_parts (are_in_order (length (deps_of patches)) failing (failing_sets base patches)) (nat_le closed settings.limit && have_runs patches failing) six.1 in
+    let eight = and_parts (nat_le closed settings.limit) (have_runs patches failing) seven.1 in
+    let first = earlier (ordering_rules settings) base last in
+    let exactly = all_failing base patches failing first seven.0 in
     let are_closed = failing_closed base patches failing exactly in
-    let sections = sections_if base patches failing six.1 in
-    answers.reported base patches text (length failing) (has_graph settings before behind one.0 two.0 three.0 four.0 seven.0) (record {
+    let sections = sections_if settings.explain base patches failing eight.1 in
+    answers.reported base last patches text (length failing) (has_graph settings before behind one.0 two.0 three.0 four.0 five.0) (record {
       total = closed;
-      counted = counts_closed patches closed first (eq_from_true _ _ eight.0);
-      within = leb-true closed settings.limit six.0;
+      counted = counts_closed patches closed first (eq_from_true _ _ six.0);
+      within = leb-true closed settings.limit eight.0;
       sets = failing;
       exactly = exactly;
       left = closed_are_left base patches first failing are_closed;
       number = refl;
-      sections = map (section_of base patches) failing;
-      told = sections;
-      lead = sections_lead base patches first failing (map (section_of base patches) failing) are_closed sections;
+      body = Sets (map (section_of settings.explain base patches) failing);
+      told = (by_set, sections, sections_lead base patches first settings.explain failing (map (section_of settings.explain base patches) failing) are_closed sections);
       whole = is;
     })
 
@@ -136,7 +145,8 @@ pub refused_limit : (settings : Settings) (before behind : List Act)
 refused_limit settings before behind read read_too geometry whole run more =
     let base = base_of settings before in
     let patches = graph settings before behind in
-    let first = earlier (rules_of settings.module) base (trace_of settings.module base (traced_acts before behind)) in
+    let last = trace_of settings.module base (traced_acts before behind) in
+    let first = earlier (ordering_rules settings) base last in
     let all = counts_closed patches (length (closed_sets (deps_of patches))) first refl in
-    answers.too_many base patches (has_graph settings before behind read read_too geometry whole run)
+    answers.too_many base last patches (has_graph settings before behind read read_too geometry whole run)
     (all.0, record { distinct = all.1.distinct; each = all.1.each }, subst (λ (n : ℕ). settings.limit < n) (sym all.2) (ltb-true settings.limit (length (closed_sets (deps_of patches))) more))

@@ -30,7 +30,7 @@ use Rattle.worked_example_laws.proofs.ClosedSets.{AreApart, closed_are_all, pair
 
 -- ---- how many
 
-list_of : (P : ℕ → Type 0) (xs : List ℕ) → AreApart xs → ((x : ℕ) → Contains xs x → P x) → ((x : ℕ) → P x → Contains xs x) → IsListOf P xs
+pub list_of : (P : ℕ → Type 0) (xs : List ℕ) → AreApart xs → ((x : ℕ) → Contains xs x → P x) → ((x : ℕ) → P x → Contains xs x) → IsListOf P xs
 list_of P xs apart each every = record {
   distinct = pairs_apart xs apart;
   each = λ k d within. each (get_or xs k d) (k, within, get_or_default xs k (get_or xs k d) d within);

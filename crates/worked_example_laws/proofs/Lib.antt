@@ -8,8 +8,13 @@ pub mod Answering
 pub mod Pieces
 pub mod Readings
 pub mod Scripts
+pub mod OneGraph
+pub mod OneBody
 pub mod OneAnswer
 pub mod Refused
 pub mod SomeReading
+pub mod Sets
+pub mod SomeSections
+pub mod SomeBody
 pub mod SomeAnswer
 pub mod Stages

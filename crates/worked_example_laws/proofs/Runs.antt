@@ -51,13 +51,13 @@ runs_if homes set writes e =
     let parts = and_parts (bytes_eq (flat_map (λ w. ids_of (length homes) w.ids) writes) (ids_of (length homes) set)) (are_cut homes writes) e in
     runs_from_cut homes set writes ((bytes_eq-Decides _ _).0 parts.0) (cut_if homes writes parts.1)
 
-pub sections_if : (base : Disk) (patches : List Patch) (some : List ℕ) → have_runs patches some ≡ true → AreSections base patches some (map (section_of base patches) some)
-sections_if base patches [] e = refl
-sections_if base patches (set ∷ some) e =
+pub sections_if : (explain : Bool) (base : Disk) (patches : List Patch) (some : List ℕ) → have_runs patches some ≡ true → AreSections explain base patches some (map (section_of explain base patches) some)
+sections_if explain base patches [] e = refl
+sections_if explain base patches (set ∷ some) e =
     let parts = and_parts (are_runs (homes_of patches) set (writes_of (homes_of patches) set)) (have_runs patches some) e in (
       writes_of (homes_of patches) set,
-      map (section_of base patches) some,
+      map (section_of explain base patches) some,
       runs_if (homes_of patches) set (writes_of (homes_of patches) set) parts.0,
-      sections_if base patches some parts.1,
+      sections_if explain base patches some parts.1,
       refl,
     )

@@ -7,7 +7,7 @@ use Rattle.patch_sets.specs.Sets.{has, with_id, ids_of, AreAllInOrder}
 use Rattle.patch_sets.specs.Closed.{IsClosed}
 use Rattle.crash_model.specs.Failing.{IsFailing, CountsClosed}
 use Rattle.patch_sets.specs.declared.write.BlockWrite.{BlockWrite}
-use Rattle.crash_model.specs.Report.{Section}
+use Rattle.crash_model.specs.Report.{replay_of, Section}
 use Rattle.crash_model.specs.Disk.{Disk, byte, put}
 use Rattle.crash_model.specs.Layout.{kind_of, links_of, pointer_of, map_of, is_live, counts, is_entry}
 use Rattle.crash_model.specs.Patches.{deps_of, homes_of, image_of}
@@ -209,8 +209,13 @@ are_cut homes (w ∷ writes) = is_own homes w && (is_other w.block writes && are
 abbrev pub are_runs : List ℕ → ℕ → List BlockWrite → Bool
 are_runs homes set writes = bytes_eq (flat_map (λ w. ids_of (length homes) w.ids) writes) (ids_of (length homes) set) && are_cut homes writes
 
-abbrev pub section_of : Disk → List Patch → ℕ → Section
-section_of base patches set = record { set = set; writes = writes_of (homes_of patches) set; found = faults (replayed (image_of base patches set)) }
+abbrev pub section_of : Bool → Disk → List Patch → ℕ → Section
+section_of explain base patches set = record {
+  set = set;
+  writes = writes_of (homes_of patches) set;
+  replay = replay_of explain (image_of base patches set);
+  found = faults (replayed (image_of base patches set));
+}
 
 abbrev pub have_runs : List Patch → List ℕ → Bool
 have_runs patches some = list_all (λ set. are_runs (homes_of patches) set (writes_of (homes_of patches) set)) some

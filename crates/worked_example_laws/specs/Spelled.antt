@@ -1,16 +1,19 @@
 -- Scripts that are written down as acts, and tests of what a script's words are.
-use Rattle.std.specs.Prelude.{ℕ, ◌+◌, List, ◌∷◌, ◌++◌, length, map, codes, Bool, true, false, not, ◌&&◌, ◌==◌, nat_lt, nat_le, Result, Ok, Err}
+use Rattle.std.specs.Prelude.{ℕ, ◌+◌, List, [], ◌∷◌, ◌++◌, length, map, codes, Bool, true, false, not, ◌&&◌, ◌==◌, nat_lt, nat_le, Result, Ok, Err}
 use Rattle.std.specs.List.{list_all, list_any}
-use Rattle.crash_model.specs.Rules.{rules_of}
+use Rattle.crash_model.specs.Answer.{ordering_rules}
 use Rattle.crash_model.specs.Disk.{Disk, formatted}
 use Rattle.crash_model.specs.Lists.{joined}
-use Rattle.crash_model.specs.Trace.{based}
+use Rattle.crash_model.specs.Patches.{deps_of}
+use Rattle.crash_model.specs.Trace.{begun, traced, based}
 use Rattle.crash_model.specs.declared.patches.Patch.{Patch}
 use Rattle.crash_model.specs.declared.refusals.TraceFault.{TraceFault}
 use Rattle.crash_model.specs.declared.settings.Settings.{Settings}
+use Rattle.crash_model.specs.declared.settings.Explorer.TheVariants.{Auto}
+use Rattle.crash_model.specs.declared.settings.ReportBy.TheVariants.{BySet}
 use Rattle.crash_model.specs.declared.steps.Module.{Module}
 use Rattle.crash_model.specs.declared.steps.Step.{Step}
-use Rattle.worked_example_laws.specs.Computed.{graph_of, trace_of, explores, have_runs}
+use Rattle.worked_example_laws.specs.Computed.{closed_sets, failing_sets, are_in_order, graph_of, trace_of, is_accepted, have_runs}
 use Rattle.worked_example_laws.specs.Examples.{numbered}
 use Rattle.crash_model.specs.Names.{is_name_byte, is_group_byte}
 use Rattle.crash_model.specs.Script.{spelt, words_of}
@@ -75,7 +78,7 @@ traced_acts before behind = numbered (length (map line_of before) + 2) behind
 
 -- the graph of the script
 abbrev pub graph : Settings → List Act → List Act → List Patch
-graph settings before behind = graph_of (rules_of settings.module) (base_of settings before) (trace_of settings.module (base_of settings before) (traced_acts before behind))
+graph settings before behind = graph_of (ordering_rules settings) (base_of settings before) (trace_of settings.module (base_of settings before) (traced_acts before behind))
 
 abbrev pub is_geometry : Settings → Bool
 is_geometry settings = nat_le 16 settings.blocks && (nat_le settings.blocks 128 && nat_le (settings.journal + 6) settings.blocks)
@@ -87,8 +90,22 @@ is_told settings before behind closed failing =
     let patches = graph settings before behind in
     are_acts before && (are_acts behind && (is_geometry settings
     && (is_based (based (formatted settings.blocks settings.journal) (numbered 1 before))
-    && (explores settings.module base (traced_acts before behind) closed failing
-    && (nat_le closed settings.limit && have_runs patches failing)))))
+    && (is_accepted (traced settings.module (begun base) (traced_acts before behind))
+    && ((length (closed_sets (deps_of patches)) == closed)
+    && (are_in_order (length (deps_of patches)) failing (failing_sets base patches)
+    && (nat_le closed settings.limit && have_runs patches failing)))))))
 
+-- the settings of a module's own ordering, whose report tells each failing set
 abbrev pub settings_of : Module → ℕ → ℕ → ℕ → Bool → Settings
-settings_of kind blocks journal limit json = record { «module» = kind; blocks = blocks; journal = journal; limit = limit; json = json }
+settings_of kind blocks journal limit json = record {
+  «module» = kind;
+  without = record { items = [] };
+  with = record { items = [] };
+  blocks = blocks;
+  journal = journal;
+  limit = limit;
+  explorer = Auto;
+  json = json;
+  explain = false;
+  by = BySet;
+}

@@ -15,12 +15,16 @@ pub fn an_entry_without_its_inode_fails()
 
 /// `create /a`, `create /b`, with no order.
 pub fn two_new_files_fail_wherever_an_entry_lacks_its_inode()
-    ensures { Explored Async fresh two_files 16 (sets ((1 ∷ []) ∷ (3 ∷ []) ∷ (1 ∷ 2 ∷ []) ∷ (0 ∷ 3 ∷ []) ∷ (1 ∷ 3 ∷ []) ∷ (0 ∷ 1 ∷ 3 ∷ []) ∷ (1 ∷ 2 ∷ 3 ∷ []) ∷ [])) }
+    ensures { Explored Async fresh two_files 16 (sets
+        ((1 ∷ []) ∷ (3 ∷ []) ∷ (1 ∷ 2 ∷ []) ∷ (0 ∷ 3 ∷ []) ∷ (1 ∷ 3 ∷ []) ∷ (0 ∷ 1 ∷ 3 ∷ []) ∷ (1 ∷ 2 ∷ 3 ∷ []) ∷
+        [])) }
 {}
 
 /// `create /a`, `write /a`: the pointer, patch 4, depends on the inode by overlap alone.
 pub fn a_pointer_to_a_block_that_is_not_written_fails()
-    ensures unordered { Explored Async fresh written_file 24 (sets ((1 ∷ []) ∷ (1 ∷ 2 ∷ []) ∷ (1 ∷ 3 ∷ []) ∷ (0 ∷ 4 ∷ []) ∷ (1 ∷ 2 ∷ 3 ∷ []) ∷ (0 ∷ 1 ∷ 4 ∷ []) ∷ (0 ∷ 2 ∷ 4 ∷ []) ∷ (0 ∷ 3 ∷ 4 ∷ []) ∷ (0 ∷ 1 ∷ 2 ∷ 4 ∷ []) ∷ (0 ∷ 1 ∷ 3 ∷ 4 ∷ []) ∷ [])) }
+    ensures unordered { Explored Async fresh written_file 24
+        (sets ((1 ∷ []) ∷ (1 ∷ 2 ∷ []) ∷ (1 ∷ 3 ∷ []) ∷ (0 ∷ 4 ∷ []) ∷ (1 ∷ 2 ∷ 3 ∷ []) ∷ (0 ∷ 1 ∷ 4 ∷ []) ∷
+        (0 ∷ 2 ∷ 4 ∷ []) ∷ (0 ∷ 3 ∷ 4 ∷ []) ∷ (0 ∷ 1 ∷ 2 ∷ 4 ∷ []) ∷ (0 ∷ 1 ∷ 3 ∷ 4 ∷ []) ∷ [])) }
     ensures soft { Explored Soft fresh written_file 11 [] }
 {}
 
@@ -39,7 +43,8 @@ pub fn a_rename_that_lacks_its_count_fails()
 pub fn a_block_that_is_used_again_too_early_fails()
     ensures counted { HasGraph Async with_files reused_block (λ patches. CountsClosed patches 48) }
     ensures number { HasGraph Async with_files reused_block (λ patches. HoldsOf (IsFailing with_files patches) 36) }
-    ensures entry { HasGraph Async with_files reused_block (λ patches. IsFailing with_files patches (set_of (1 ∷ []))) }
+    ensures entry { HasGraph Async with_files reused_block (λ patches.
+        IsFailing with_files patches (set_of (1 ∷ []))) }
     ensures soft { Explored Soft with_files reused_block 7 [] }
 {}
 

@@ -16,25 +16,34 @@ ghost use Rattle.crash_model.specs.declared.steps.Step.{Step};
 /// For every script and settings there is one answer.
 pub fn there_is_one_answer()
     ensures some { (bytes : List ℕ) (settings : Settings) → (answer : Answer) × IsAnswer bytes settings answer }
-    ensures one { (bytes : List ℕ) (settings : Settings) (answer other : Answer) → IsAnswer bytes settings answer → IsAnswer bytes settings other → answer ≡ other }
+    ensures one { (bytes : List ℕ) (settings : Settings) (answer other : Answer) → IsAnswer bytes settings answer
+        → IsAnswer bytes settings other → answer ≡ other }
 {}
 
 /// A script is read in one way, or refused in one way, and not both.
 pub fn a_script_has_one_reading_or_one_refusal()
-    ensures some { (bytes : List ℕ) → ((base : List Step) × (traced : List Step) × IsScript bytes base traced) ⊎ ((fault : ScriptFault) × IsScriptRefusal bytes fault) }
-    ensures steps { (bytes : List ℕ) (base traced others more : List Step) → IsScript bytes base traced → IsScript bytes others more → (base ≡ others) × (traced ≡ more) }
-    ensures refusal { (bytes : List ℕ) (fault other : ScriptFault) → IsScriptRefusal bytes fault → IsScriptRefusal bytes other → fault ≡ other }
-    ensures either { (bytes : List ℕ) (base traced : List Step) (fault : ScriptFault) → IsScript bytes base traced → IsScriptRefusal bytes fault → ⊥ }
+    ensures some { (bytes : List ℕ)
+        → ((base : List Step) × (traced : List Step) × IsScript bytes base traced)
+        ⊎ ((fault : ScriptFault) × IsScriptRefusal bytes fault) }
+    ensures steps { (bytes : List ℕ) (base traced others more : List Step) → IsScript bytes base traced
+        → IsScript bytes others more → (base ≡ others) × (traced ≡ more) }
+    ensures refusal { (bytes : List ℕ) (fault other : ScriptFault) → IsScriptRefusal bytes fault
+        → IsScriptRefusal bytes other → fault ≡ other }
+    ensures either { (bytes : List ℕ) (base traced : List Step) (fault : ScriptFault) → IsScript bytes base traced
+        → IsScriptRefusal bytes fault → ⊥ }
 {}
 
 /// The steps that were traced have a graph, and no other.
 pub fn a_trace_has_one_graph()
-    ensures some { (rules : List Rule) (base : Disk) (last : Tracing) → (patches : List Patch) × IsGraphOf rules base last patches }
-    ensures one { (rules : List Rule) (base : Disk) (last : Tracing) (patches others : List Patch) → IsGraphOf rules base last patches → IsGraphOf rules base last others → patches ≡ others }
+    ensures some { (rules : List Rule) (base : Disk) (last : Tracing) → (patches : List Patch)
+        × IsGraphOf rules base last patches }
+    ensures one { (rules : List Rule) (base : Disk) (last : Tracing) (patches others : List Patch)
+        → IsGraphOf rules base last patches → IsGraphOf rules base last others → patches ≡ others }
 {}
 
 /// The number of closed sets and the list of those that fail are determined.
 pub fn a_graph_has_one_list_of_failing_sets()
     ensures number { (patches : List Patch) (n m : ℕ) → CountsClosed patches n → CountsClosed patches m → n ≡ m }
-    ensures list { (base : Disk) (patches : List Patch) (sets others : List ℕ) → AreAllInOrder (IsFailing base patches) sets → AreAllInOrder (IsFailing base patches) others → sets ≡ others }
+    ensures list { (base : Disk) (patches : List Patch) (sets others : List ℕ)
+        → AreAllInOrder (IsFailing base patches) sets → AreAllInOrder (IsFailing base patches) others → sets ≡ others }
 {}

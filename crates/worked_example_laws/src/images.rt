@@ -19,12 +19,14 @@ pub fn a_new_disk_is_sound()
 
 /// Inodes of 255s: each of their 64 pointers is wild.
 pub fn every_pointer_past_the_disk_is_wild()
-    ensures { faults (with_inode_bytes 255) ≡ flat_map (λ i. map (λ s. Wild i s 255) (range_with_len 0 4)) (range_with_len 0 16) }
+    ensures { faults (with_inode_bytes 255)
+        ≡ flat_map (λ i. map (λ s. Wild i s 255) (range_with_len 0 4)) (range_with_len 0 16) }
 {}
 
 /// Inodes of 4s: their 64 pointers all name block 4, and an inode of kind 4 has no mark that is right.
 pub fn an_inode_of_another_kind_has_no_right_mark()
-    ensures { faults (with_inode_bytes 4) ≡ Twice 4 ∷ flat_map (λ i. map (λ s. Unwritten i s 4) (range_with_len 0 4)) (range_with_len 0 16) }
+    ensures { faults (with_inode_bytes 4)
+        ≡ Twice 4 ∷ flat_map (λ i. map (λ s. Unwritten i s 4) (range_with_len 0 4)) (range_with_len 0 16) }
 {}
 
 /// An entry byte of 255 names inode 254.
@@ -34,21 +36,31 @@ pub fn an_entry_can_name_an_inode_past_the_last()
 
 /// A commit record for blocks 2 and 10 is replayed, whatever its copies hold.
 pub fn a_committed_copy_goes_over_its_target()
-    ensures inodes { block_of (replayed (put fresh_with_journal 4 0 (0xC7 ∷ 1 ∷ 2 ∷ 2 ∷ 0x0A ∷ []))) 2 ≡ replicate 128 0 }
-    ensures root { block_of (replayed (put fresh_with_journal 4 0 (0xC7 ∷ 1 ∷ 2 ∷ 2 ∷ 0x0A ∷ []))) 10 ≡ replicate 128 0 }
+    ensures inodes { block_of (replayed (put fresh_with_journal 4 0 (0xC7 ∷ 1 ∷ 2 ∷ 2 ∷ 0x0A ∷ []))) 2
+        ≡ replicate 128 0 }
+    ensures root { block_of (replayed (put fresh_with_journal 4 0 (0xC7 ∷ 1 ∷ 2 ∷ 2 ∷ 0x0A ∷ []))) 10
+        ≡ replicate 128 0 }
     ensures clean { faults (replayed (put fresh_with_journal 4 0 (0xC7 ∷ 1 ∷ 2 ∷ 2 ∷ 0x0A ∷ []))) ≡ [] }
 {}
 
 /// Targets out of order, another transaction's number, a count above eight, and copies past the journal's end.
 pub fn what_is_no_header_stops_replay()
-    ensures descending { replayed (put fresh_with_journal 4 0 (0xC7 ∷ 1 ∷ 2 ∷ 0x0A ∷ 2 ∷ [])) ≡ put fresh_with_journal 4 0 (0xC7 ∷ 1 ∷ 2 ∷ 0x0A ∷ 2 ∷ []) }
-    ensures number { replayed (put fresh_with_journal 4 0 (0xC7 ∷ 2 ∷ 1 ∷ 2 ∷ [])) ≡ put fresh_with_journal 4 0 (0xC7 ∷ 2 ∷ 1 ∷ 2 ∷ []) }
-    ensures count { replayed (put fresh_with_journal 4 0 (0xC7 ∷ 1 ∷ 9 ∷ [])) ≡ put fresh_with_journal 4 0 (0xC7 ∷ 1 ∷ 9 ∷ []) }
-    ensures room { replayed (put fresh_with_journal 4 0 (0xC7 ∷ 1 ∷ 6 ∷ 1 ∷ 2 ∷ 3 ∷ 0x0A ∷ 0x0B ∷ 0x0C ∷ [])) ≡ put fresh_with_journal 4 0 (0xC7 ∷ 1 ∷ 6 ∷ 1 ∷ 2 ∷ 3 ∷ 0x0A ∷ 0x0B ∷ 0x0C ∷ []) }
+    ensures descending { replayed (put fresh_with_journal 4 0 (0xC7 ∷ 1 ∷ 2 ∷ 0x0A ∷ 2 ∷ []))
+        ≡ put fresh_with_journal 4 0 (0xC7 ∷ 1 ∷ 2 ∷ 0x0A ∷ 2 ∷ []) }
+    ensures number { replayed (put fresh_with_journal 4 0 (0xC7 ∷ 2 ∷ 1 ∷ 2 ∷ []))
+        ≡ put fresh_with_journal 4 0 (0xC7 ∷ 2 ∷ 1 ∷ 2 ∷ []) }
+    ensures count { replayed (put fresh_with_journal 4 0 (0xC7 ∷ 1 ∷ 9 ∷ []))
+        ≡ put fresh_with_journal 4 0 (0xC7 ∷ 1 ∷ 9 ∷ []) }
+    ensures room { replayed (put fresh_with_journal 4 0 (0xC7 ∷ 1 ∷ 6 ∷ 1 ∷ 2 ∷ 3 ∷ 0x0A ∷ 0x0B ∷ 0x0C ∷ []))
+        ≡ put fresh_with_journal 4 0 (0xC7 ∷ 1 ∷ 6 ∷ 1 ∷ 2 ∷ 3 ∷ 0x0A ∷ 0x0B ∷ 0x0C ∷ []) }
 {}
 
 /// A transaction that is done is passed over, and the committed one behind it is replayed.
 pub fn a_done_transaction_is_passed_over()
-    ensures bytes { replayed (put (put fresh_with_journal 4 0 (0xC8 ∷ 1 ∷ 2 ∷ 2 ∷ 0x0A ∷ [])) 7 0 (0xC7 ∷ 2 ∷ 1 ∷ 1 ∷ [])) ≡ put (put (put fresh_with_journal 4 0 (0xC8 ∷ 1 ∷ 2 ∷ 2 ∷ 0x0A ∷ [])) 7 0 (0xC7 ∷ 2 ∷ 1 ∷ 1 ∷ [])) 1 0 (replicate 128 0) }
-    ensures fault { faults (replayed (put (put fresh_with_journal 4 0 (0xC8 ∷ 1 ∷ 2 ∷ 2 ∷ 0x0A ∷ [])) 7 0 (0xC7 ∷ 2 ∷ 1 ∷ 1 ∷ []))) ≡ MarkedFree 0 0 10 ∷ [] }
+    ensures bytes { replayed (put (put fresh_with_journal 4 0 (0xC8 ∷ 1 ∷ 2 ∷ 2 ∷ 0x0A ∷ [])) 7 0
+        (0xC7 ∷ 2 ∷ 1 ∷ 1 ∷ []))
+        ≡ put (put (put fresh_with_journal 4 0 (0xC8 ∷ 1 ∷ 2 ∷ 2 ∷ 0x0A ∷ [])) 7 0 (0xC7 ∷ 2 ∷ 1 ∷ 1 ∷ [])) 1 0
+        (replicate 128 0) }
+    ensures fault { faults (replayed (put (put fresh_with_journal 4 0 (0xC8 ∷ 1 ∷ 2 ∷ 2 ∷ 0x0A ∷ [])) 7 0
+        (0xC7 ∷ 2 ∷ 1 ∷ 1 ∷ []))) ≡ MarkedFree 0 0 10 ∷ [] }
 {}

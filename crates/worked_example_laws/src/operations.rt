@@ -20,35 +20,51 @@ pub fn a_new_disk_has_these_bytes()
 
 /// `create /a` initialises the lowest free inode and sets the lowest free entry.
 pub fn create_initialises_an_inode_and_sets_an_entry()
-    ensures { plan_of fresh (Create a) ≡ Ok (change InodeInit 2 16 (1 ∷ 1 ∷ replicate 14 0) ∷ change EntrySet 4 8 (2 ∷ 1 ∷ 97 ∷ replicate 9 0) ∷ []) }
+    ensures { plan_of fresh (Create a)
+        ≡ Ok (change InodeInit 2 16 (1 ∷ 1 ∷ replicate 14 0) ∷ change EntrySet 4 8 (2 ∷ 1 ∷ 97 ∷ replicate 9 0) ∷ []) }
 {}
 
 /// `write /a` takes the lowest free block, marks it as the inode's and points to it.
 pub fn write_takes_a_block_marks_it_and_points_to_it()
-    ensures { plan_of with_file (Write a) ≡ Ok (change MapSet 1 5 (1 ∷ []) ∷ change InitFile 5 0 (0x46 ∷ 1 ∷ replicate 126 0) ∷ change Ptr 2 20 (5 ∷ []) ∷ []) }
+    ensures { plan_of with_file (Write a)
+        ≡ Ok (change MapSet 1 5 (1 ∷ []) ∷ change InitFile 5 0 (0x46 ∷ 1 ∷ replicate 126 0) ∷ change Ptr 2 20 (5 ∷ [])
+        ∷ []) }
 {}
 
 /// `mkdir /d`, and `create /d/x` in it.
 pub fn mkdir_takes_a_block_too()
-    ensures directory { plan_of fresh (Mkdir d) ≡ Ok (change InodeInit 2 16 (2 ∷ 1 ∷ replicate 14 0) ∷ change MapSet 1 5 (1 ∷ []) ∷ change InitDir 5 0 (0x44 ∷ 1 ∷ replicate 126 0) ∷ change Ptr 2 20 (5 ∷ []) ∷ change EntrySet 4 8 (2 ∷ 1 ∷ 100 ∷ replicate 9 0) ∷ []) }
-    ensures inside { plan_of (after fresh (Mkdir d ∷ [])) (Create d_x) ≡ Ok (change InodeInit 2 32 (1 ∷ 1 ∷ replicate 14 0) ∷ change EntrySet 5 8 (3 ∷ 1 ∷ 120 ∷ replicate 9 0) ∷ []) }
+    ensures directory { plan_of fresh (Mkdir d)
+        ≡ Ok (change InodeInit 2 16 (2 ∷ 1 ∷ replicate 14 0) ∷ change MapSet 1 5 (1 ∷ []) ∷ change InitDir 5 0
+        (0x44 ∷ 1 ∷ replicate 126 0) ∷ change Ptr 2 20 (5 ∷ []) ∷ change EntrySet 4 8 (2 ∷ 1 ∷ 100 ∷ replicate 9 0) ∷
+        []) }
+    ensures inside { plan_of (after fresh (Mkdir d ∷ [])) (Create d_x)
+        ≡ Ok (change InodeInit 2 32 (1 ∷ 1 ∷ replicate 14 0) ∷ change EntrySet 5 8 (3 ∷ 1 ∷ 120 ∷ replicate 9 0) ∷
+        []) }
 {}
 
 /// `rename /d/x /x` holds a second link while the names change.
 pub fn rename_holds_a_second_link()
-    ensures { plan_of (after fresh (Mkdir d ∷ Create d_x ∷ [])) (Rename d_x x) ≡ Ok (change LinkUp 2 33 (2 ∷ []) ∷ change EntrySet 4 20 (3 ∷ 1 ∷ 120 ∷ replicate 9 0) ∷ change EntryClear 5 8 (replicate 12 0) ∷ change LinkDown 2 33 (1 ∷ []) ∷ []) }
+    ensures { plan_of (after fresh (Mkdir d ∷ Create d_x ∷ [])) (Rename d_x x)
+        ≡ Ok (change LinkUp 2 33 (2 ∷ []) ∷ change EntrySet 4 20 (3 ∷ 1 ∷ 120 ∷ replicate 9 0) ∷ change EntryClear 5 8
+        (replicate 12 0) ∷ change LinkDown 2 33 (1 ∷ []) ∷ []) }
 {}
 
 /// `link /a /b`, and `unlink /a` after it and before it.
 pub fn only_the_last_unlink_frees_the_inode()
-    ensures link { plan_of with_file (Link a b) ≡ Ok (change LinkUp 2 17 (2 ∷ []) ∷ change EntrySet 4 20 (2 ∷ 1 ∷ 98 ∷ replicate 9 0) ∷ []) }
-    ensures one { plan_of (after with_file (Link a b ∷ [])) (Unlink a) ≡ Ok (change EntryClear 4 8 (replicate 12 0) ∷ change LinkDown 2 17 (1 ∷ []) ∷ []) }
-    ensures last { plan_of with_files (Unlink a) ≡ Ok (change EntryClear 4 8 (replicate 12 0) ∷ change InodeFree 2 16 (replicate 16 0) ∷ change MapClear 1 5 (0 ∷ []) ∷ []) }
+    ensures link { plan_of with_file (Link a b)
+        ≡ Ok (change LinkUp 2 17 (2 ∷ []) ∷ change EntrySet 4 20 (2 ∷ 1 ∷ 98 ∷ replicate 9 0) ∷ []) }
+    ensures one { plan_of (after with_file (Link a b ∷ [])) (Unlink a)
+        ≡ Ok (change EntryClear 4 8 (replicate 12 0) ∷ change LinkDown 2 17 (1 ∷ []) ∷ []) }
+    ensures last { plan_of with_files (Unlink a)
+        ≡ Ok (change EntryClear 4 8 (replicate 12 0) ∷ change InodeFree 2 16 (replicate 16 0) ∷ change MapClear 1 5
+        (0 ∷ []) ∷ []) }
 {}
 
 /// `rmdir /d` clears the name, the inode and the block's byte of the map.
 pub fn rmdir_gives_the_block_back()
-    ensures { plan_of (after fresh (Mkdir d ∷ [])) (Rmdir d) ≡ Ok (change EntryClear 4 8 (replicate 12 0) ∷ change InodeFree 2 16 (replicate 16 0) ∷ change MapClear 1 5 (0 ∷ []) ∷ []) }
+    ensures { plan_of (after fresh (Mkdir d ∷ [])) (Rmdir d)
+        ≡ Ok (change EntryClear 4 8 (replicate 12 0) ∷ change InodeFree 2 16 (replicate 16 0) ∷ change MapClear 1 5
+        (0 ∷ []) ∷ []) }
 {}
 
 /// Names that are not there, that are there already, and of the wrong kind.

@@ -28,9 +28,13 @@ pub fn three_full_transactions_wait_for_one_another()
 
 /// Its closed sets, by how many of the three commit records they have.
 pub fn a_crash_leaves_three_full_transactions_in_1105_ways()
-    ensures none { HasGraph Full with_directory reused_directory (λ patches. CountsWith patches (2 ∷ 9 ∷ 17 ∷ []) 0 256) }
-    ensures first { HasGraph Full with_directory reused_directory (λ patches. CountsWith patches (2 ∷ 9 ∷ 17 ∷ []) 1 320) }
-    ensures two { HasGraph Full with_directory reused_directory (λ patches. CountsWith patches (2 ∷ 9 ∷ 17 ∷ []) 2 328) }
-    ensures three { HasGraph Full with_directory reused_directory (λ patches. CountsWith patches (2 ∷ 9 ∷ 17 ∷ []) 3 201) }
+    ensures none { HasGraph Full with_directory reused_directory (λ patches.
+        CountsWith patches (2 ∷ 9 ∷ 17 ∷ []) 0 256) }
+    ensures first { HasGraph Full with_directory reused_directory (λ patches.
+        CountsWith patches (2 ∷ 9 ∷ 17 ∷ []) 1 320) }
+    ensures two { HasGraph Full with_directory reused_directory (λ patches.
+        CountsWith patches (2 ∷ 9 ∷ 17 ∷ []) 2 328) }
+    ensures three { HasGraph Full with_directory reused_directory (λ patches.
+        CountsWith patches (2 ∷ 9 ∷ 17 ∷ []) 3 201) }
     ensures all { HasGraph Full with_directory reused_directory (λ patches. CountsClosed patches 1105) }
 {}

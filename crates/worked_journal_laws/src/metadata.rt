@@ -15,7 +15,10 @@ ghost use Rattle.worked_example_laws.specs.Examples.{a, after, fresh_with_journa
 /// `create /a` with a journal of metadata: copies of the two blocks, the commit record, the changes in place, and the
 /// mark that the transaction is done.
 pub fn a_transaction_is_copies_commit_changes_and_done()
-    ensures table { HasGraph Meta fresh_with_journal one_file (λ patches. table patches ≡ (5, 0, []) ∷ (6, 0, []) ∷ (4, 0, 0 ∷ 1 ∷ []) ∷ (2, 16, 2 ∷ []) ∷ (10, 8, 2 ∷ []) ∷ (4, 0, 2 ∷ 3 ∷ 4 ∷ []) ∷ []) }
+    ensures table { HasGraph Meta fresh_with_journal one_file (λ patches.
+        table patches
+        ≡ (5, 0, []) ∷ (6, 0, []) ∷ (4, 0, 0 ∷ 1 ∷ []) ∷ (2, 16, 2 ∷ []) ∷ (10, 8, 2 ∷ []) ∷ (4, 0, 2 ∷ 3 ∷ 4 ∷ []) ∷
+        []) }
     ensures bytes { HasGraph Meta fresh_with_journal one_file (λ patches. map (λ p. p.new.items) patches ≡
         block_of (after fresh_with_journal (Create a ∷ [])) 2 ∷ block_of (after fresh_with_journal (Create a ∷ [])) 10
         ∷ (0xC7 ∷ 1 ∷ 2 ∷ 2 ∷ 0x0A ∷ []) ∷ (1 ∷ 1 ∷ replicate 14 0) ∷ (2 ∷ 1 ∷ 97 ∷ replicate 9 0) ∷ (0xC8 ∷ []) ∷ []) }
@@ -47,17 +50,26 @@ pub fn commit_records_name_their_targets()
 
 /// Its closed sets, by how many of the three commit records they have.
 pub fn a_crash_leaves_three_transactions_in_629_ways()
-    ensures none { HasGraph Meta with_directory reused_directory (λ patches. CountsWith patches (2 ∷ 9 ∷ 17 ∷ []) 0 128) }
-    ensures first { HasGraph Meta with_directory reused_directory (λ patches. CountsWith patches (2 ∷ 9 ∷ 17 ∷ []) 1 160) }
-    ensures two { HasGraph Meta with_directory reused_directory (λ patches. CountsWith patches (2 ∷ 9 ∷ 17 ∷ []) 2 264) }
-    ensures three { HasGraph Meta with_directory reused_directory (λ patches. CountsWith patches (2 ∷ 9 ∷ 17 ∷ []) 3 77) }
+    ensures none { HasGraph Meta with_directory reused_directory (λ patches.
+        CountsWith patches (2 ∷ 9 ∷ 17 ∷ []) 0 128) }
+    ensures first { HasGraph Meta with_directory reused_directory (λ patches.
+        CountsWith patches (2 ∷ 9 ∷ 17 ∷ []) 1 160) }
+    ensures two { HasGraph Meta with_directory reused_directory (λ patches.
+        CountsWith patches (2 ∷ 9 ∷ 17 ∷ []) 2 264) }
+    ensures three { HasGraph Meta with_directory reused_directory (λ patches.
+        CountsWith patches (2 ∷ 9 ∷ 17 ∷ []) 3 77) }
     ensures all { HasGraph Meta with_directory reused_directory (λ patches. CountsClosed patches 629) }
 {}
 
 /// Where the third transaction is committed and the first is not done, replay puts the old copy of the directory over
 /// the block that is now file data.
 pub fn a_journal_of_metadata_can_put_an_old_directory_over_file_data()
-    ensures failing { HasGraph Meta with_directory reused_directory (λ patches. IsFailing with_directory patches (set_of (0 ∷ 1 ∷ 2 ∷ 3 ∷ 6 ∷ 7 ∷ 8 ∷ 9 ∷ 14 ∷ 15 ∷ 16 ∷ 17 ∷ []))) }
-    ensures headers { HasGraph Meta with_directory reused_directory (λ patches. headers (image_of with_directory patches (set_of (0 ∷ 1 ∷ 2 ∷ 3 ∷ 6 ∷ 7 ∷ 8 ∷ 9 ∷ 14 ∷ 15 ∷ 16 ∷ 17 ∷ []))) ≡ 4 ∷ 7 ∷ 11 ∷ []) }
-    ensures fault { HasGraph Meta with_directory reused_directory (λ patches. faults (replayed (image_of with_directory patches (set_of (0 ∷ 1 ∷ 2 ∷ 3 ∷ 6 ∷ 7 ∷ 8 ∷ 9 ∷ 14 ∷ 15 ∷ 16 ∷ 17 ∷ [])))) ≡ Unwritten 3 0 17 ∷ []) }
+    ensures failing { HasGraph Meta with_directory reused_directory (λ patches.
+        IsFailing with_directory patches (set_of (0 ∷ 1 ∷ 2 ∷ 3 ∷ 6 ∷ 7 ∷ 8 ∷ 9 ∷ 14 ∷ 15 ∷ 16 ∷ 17 ∷ []))) }
+    ensures headers { HasGraph Meta with_directory reused_directory (λ patches.
+        headers (image_of with_directory patches (set_of (0 ∷ 1 ∷ 2 ∷ 3 ∷ 6 ∷ 7 ∷ 8 ∷ 9 ∷ 14 ∷ 15 ∷ 16 ∷ 17 ∷ [])))
+        ≡ 4 ∷ 7 ∷ 11 ∷ []) }
+    ensures fault { HasGraph Meta with_directory reused_directory (λ patches.
+        faults (replayed (image_of with_directory patches
+        (set_of (0 ∷ 1 ∷ 2 ∷ 3 ∷ 6 ∷ 7 ∷ 8 ∷ 9 ∷ 14 ∷ 15 ∷ 16 ∷ 17 ∷ [])))) ≡ Unwritten 3 0 17 ∷ []) }
 {}

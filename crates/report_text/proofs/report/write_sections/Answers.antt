@@ -1,14 +1,16 @@
-use Rattle.std.proofs.Common.{◌≡◌, get_or, subst, ◌∙◌}
+use Rattle.std.proofs.Common.{◌≡◌, length, get_or, subst, ◌∙◌}
 use Rattle.report_sections.specs.Maker.{Reported}
 use Rattle.report_sections.specs.Sections.{IsSection}
-use Rattle.report_text.proofs.Reports.{told_more}
+use Rattle.report_text.proofs.Reports.{section_more}
 use Rattle.report_text.proofs.report.write_sections.Goals as goal
 
 pub loop-set-preserved : goal.loop-set-preserved
 loop-set-preserved g c =
     let kept : c.section.new.self ≡ c.loop-set.maker = cc in
-    let is = subst (λ (m : Reported). IsSection m.base m.patches (get_or c.args.sets.now c.loop-set.set-index 0) c.in_ok-section.section) c.loop-set.invariant.of_report c.in_ok-section.ensures.told in
+    let report = c.args.report.now in
+    let is = subst (λ (m : Reported). IsSection m.explain m.base m.patches (get_or c.args.sets.now c.loop-set.set-index 0) c.in_ok-section.section) c.loop-set.invariant.of_report c.in_ok-section.ensures.told in
+    let number : c.len-patches.result ≡ length report.traced.now.patches = cc in
     record {
-      told = told_more c.args.base.now c.args.graph.now c.args.sets.now c.loop-set.set-index c.len-patches.result _ _ _ c.in_ok-section.section c.loop-set-test.true c.len-patches.ensures.number c.loop-set.invariant.told is c.in_ok-write_section.ensures;
+      told = section_more report.settings.now.explain report.base.now report.traced.now.patches c.args.sets.now c.loop-set.set-index c.len-patches.result _ _ _ c.in_ok-section.section c.loop-set-test.true number c.loop-set.invariant.told is c.in_ok-write_section.ensures;
       of_report = kept ∙ c.loop-set.invariant.of_report;
     }

@@ -6,7 +6,8 @@ use Rattle.crash_model.specs.Faults.{each_slot, each_entry, namers, entries_to, 
 use Rattle.std.proofs.Common.{[], ◌∷◌}
 use Rattle.std.specs.Prelude.{codes}
 use Rattle.std.specs.Fmt.{digits}
-use Rattle.crash_model.specs.Report.{fault_text, text_report, json_report}
+use Rattle.crash_model.specs.Report.{fault_text}
+use Rattle.crash_model.specs.Whole.{text_report, json_report}
 use Rattle.crash_model.specs.declared.names.Op.TheVariants.{Create}
 use Rattle.crash_model.specs.declared.steps.Act.TheVariants.{Do}
 use Rattle.crash_model.specs.declared.steps.Module.TheVariants.{Async}
@@ -18,4 +19,4 @@ use Rattle.worked_example_laws.proofs.answers.a_new_file_is_reported_in_json.Goa
 
 pub returns : goal.returns
 unfolding overwrite each_below some_below first_below plan_of each_slot each_entry namers entries_to faults fault_text text_report json_report digits
-returns c = reported (settings_of Async 16 0 4096 true) ([]) (Do (Create (root (codes "a"))) ∷ []) 4 (2 ∷ []) _ refl refl
+returns c = reported (settings_of Async 16 0 4096 true) ([]) (Do (Create (root (codes "a"))) ∷ []) 4 (2 ∷ []) _ refl refl refl

@@ -5,7 +5,8 @@ use Rattle.crash_model.specs.Plan.{plan_of}
 use Rattle.crash_model.specs.Faults.{each_slot, each_entry, namers, entries_to, faults}
 use Rattle.std.proofs.Common.{[]}
 use Rattle.std.specs.Fmt.{digits}
-use Rattle.crash_model.specs.Report.{fault_text, text_report, json_report}
+use Rattle.crash_model.specs.Report.{fault_text}
+use Rattle.crash_model.specs.Whole.{text_report, json_report}
 use Rattle.crash_model.specs.declared.steps.Module.TheVariants.{Async}
 use Rattle.worked_example_laws.specs.Spelled.{settings_of}
 use Rattle.std.proofs.Common.{false}
@@ -14,4 +15,4 @@ use Rattle.worked_example_laws.proofs.answers.an_empty_trace_is_reported.Goals a
 
 pub returns : goal.returns
 unfolding overwrite each_below some_below first_below plan_of each_slot each_entry namers entries_to faults fault_text text_report json_report digits
-returns c = reported (settings_of Async 16 0 1 false) ([]) ([]) 1 [] _ refl refl
+returns c = reported (settings_of Async 16 0 1 false) ([]) ([]) 1 [] _ refl refl refl

@@ -19,7 +19,7 @@ loop-id-init g c = record {
 pub overflow_add-count : goal.overflow_add-count
 overflow_add-count g c =
     let long : length c.deref-patch-items.result.now ≡ length c.self.inside.patches.items = ap length c.deref-patch-items.ensures.value in
-    omega (arith, c.loop-id.invariant.few, c.loop-id-test.true, long, c.self.invariant.few)
+    omega (arith, c.loop-id.invariant.few, c.loop-id-test.true, long, c.self.invariant.0.few)
 
 pub loop-id-preserved : goal.loop-id-preserved
 loop-id-preserved g c =

@@ -1,4 +1,4 @@
-use Rattle.seen_board.proofs.Endings.{end_seen, end_whole, end_entries, end_settled, end_claimed, end_given_up, end_learned, end_added, end_done, end_over}
+use Rattle.seen_board.proofs.Endings.{end_seen, end_whole, end_entries, end_settled, end_claimed, end_given_up, end_learned, end_added, end_accounts, end_done, end_over}
 use Rattle.seen_board.proofs.board.Board.close.Goals as goal
 
 pub returns-clause-seen : goal.returns-clause-seen
@@ -24,6 +24,9 @@ returns-clause-learned g c = rw (← c.seat.view_is) (end_learned _ _ _ _ _ _ _ 
 
 pub returns-clause-added : goal.returns-clause-added
 returns-clause-added g c = rw (← c.seat.view_is) (end_added _ _ _ _ _ _ _ (rw c.self.invariant.2 at c.close_with.ensures.values.2))
+
+pub returns-clause-accounts : goal.returns-clause-accounts
+returns-clause-accounts g c = rw (← c.self.view_is, ← c.seat.view_is) (λ whole. end_accounts _ _ _ _ _ _ _ (rw c.self.invariant.2 at c.close_with.ensures.values.2) _ whole c.seat.invariant.0.2)
 
 pub returns-clause-finished : goal.returns-clause-finished
 returns-clause-finished g c = rw (← c.self.view_is, ← c.seat.view_is) (λ f. end_done _ _ _ _ _ _ _ (rw c.self.invariant.2 at c.close_with.ensures.values.2) f)

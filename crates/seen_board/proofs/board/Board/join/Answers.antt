@@ -6,7 +6,7 @@ use Rattle.seen_board.proofs.AfterJoins.{join_knows, join_first, join_second, jo
 use Rattle.seen_board.proofs.board.Board.join.Goals as goal
 
 pub join_seat-requires : goal.join_seat-requires
-join_seat-requires g c = (search rules, search rules, search rules, search rules, joins _ _ _ _ _ _ _ (search rules) (search rules) (search rules) (search rules) (search rules))
+join_seat-requires g c = (search rules, search rules, search rules, search rules, joins _ _ _ _ _ _ _ (search rules) (search rules) (search rules) (search rules) (search rules) (search rules))
 
 pub load-requires : goal.load-requires
 load-requires g c = (search rules, search rules, places _ _ _ _ _ _ _)

@@ -1,7 +1,7 @@
 use Rattle.std.proofs.Common.{refl, arith, ap, ◌≡◌, ◌∙◌, ◌%◌, ℕ, replicate}
 use Rattle.board_rule.specs.Changes.{opening_words}
 use Rattle.board_rule.proofs.Opens.{opens}
-use Rattle.seen_board.proofs.AfterOpening.{opening_counts, opening_is}
+use Rattle.seen_board.proofs.AfterOpening.{opening_counts, opening_is, opening_told}
 use Rattle.seen_board.proofs.board.Board.open.Goals as goal
 
 pub of_words-requires : goal.of_words-requires
@@ -13,3 +13,7 @@ of_words-requires g c = let start = c.start-start.result in let limit = c.args.l
 pub invariant_of-result-2 : goal.invariant_of-result-2
 invariant_of-result-2 g c = let h = c.start-start.ensures in let is = c.in_ok-table.ensures.4 in
     rw is (rw c.of.ensures (rw (← h) ((refl, c.requires.positive, record { low = refl; high = refl; unfiled = refl; announced = refl; owed = refl; uncounted = refl }), rw c.shard_of-shard.ensures (opening_counts c.args.limit c.start-start.result c.requires.positive c.requires.small))))
+
+pub returns-clause-opening : goal.returns-clause-opening
+returns-clause-opening g c = let h = c.start-start.ensures in let is = c.in_ok-table.ensures.4 in
+    rw is (rw c.of.ensures (rw (← h) (refl, λ e a. opening_told _ _ _ e a)))

@@ -1,0 +1,105 @@
+#!/usr/bin/env bash
+# sweep.sh: how long a whole run takes by the sweep with 1 and 4 workers, how many closed sets a second that is, and how much
+# memory a run under --summary holds. It times four scripts of 27,648 to 32,209 closed sets under the orderings, and two under
+# soft updates: ten files are created, and two of them written, which has 793,881, or five, which has 39,135,393.
+# Not part of the gate.
+#
+# What is timed takes turns in ROUNDS rounds (15; of the last script, which takes long, a fifth of them), and of each the
+# shortest run counts, so that all meet the machine alike. Where RIVAL names another program that takes the same arguments but
+# --explorer and --summary, it takes its turns too, and its time is told beside; CRASHMAP_ENGINE is 'list' for it.
+set -eu
+top=$(cd "$(dirname "${BASH_SOURCE[0]}")/.." && pwd)
+printf 'start\n' | "$top/crashmap" >/dev/null # builds it where it is not built
+program=$top/crates/crashmap/out/crashmap
+rival=${RIVAL:-}
+rounds=${ROUNDS:-15}
+export CRASHMAP_ENGINE=list
+work=$(mktemp -d)
+trap 'rm -rf "$work"' EXIT
+
+# time_once NAME COMMAND..: keeps under that name how long the shortest run took, in microseconds
+declare -A best
+time_once() {
+    local name=$1 before spent
+    shift
+    before=$(date +%s%N)
+    "$@" >/dev/null 2>&1 || true
+    spent=$((($(date +%s%N) - before) / 1000))
+    if [ -z "${best[$name]:-}" ] || [ "$spent" -lt "${best[$name]}" ]; then best[$name]=$spent; fi
+}
+
+# closed_sets PROGRAM SCRIPT OPTION..: how many closed sets the program reports
+closed_sets() { "$@" | sed -n '/^closed /s///p' || true; }
+
+# times PART WHOLE: how often the whole is the part, with two digits
+times() { printf '%d.%02d' $(($2 / $1)) $(($2 * 100 / $1 % 100)); }
+
+# hold SCRIPT OPTION..: the most memory that a run holds, in KiB, looked at a hundred times a second
+hold() {
+    "$program" "$@" >/dev/null &
+    local run=$! most=0 now
+    while now=$(awk '/^VmHWM/ { print $2 }' "/proc/$run/status" 2>/dev/null) && [ -n "$now" ]; do
+        most=$now
+        sleep 0.01
+    done
+    wait "$run" || true
+    echo "$most"
+}
+
+# time_one NAME ROUNDS SCRIPT OPTION..: times a script, and prints a line for each number of workers
+time_one() {
+    local name=$1 turns=$2 script=$work/$3 closed found workers load ours theirs beside
+    shift 3
+    best=()
+    closed=$(closed_sets "$program" "$script" "$@" --explorer sweep)
+    if [ -n "$rival" ]; then
+        found=$(closed_sets "$rival" "$script" "$@")
+        [ "$closed" = "$found" ] || { echo "$name: $closed closed sets, and $found by the rival" >&2; exit 1; }
+    fi
+    load=$(cut -d' ' -f1 /proc/loadavg)
+    for _ in $(seq "$turns"); do
+        for workers in 1 4; do
+            time_once "$workers" "$program" "$script" "$@" --explorer sweep --workers "$workers"
+            if [ -n "$rival" ]; then time_once "$workers rival" "$rival" "$script" "$@" --workers "$workers"; fi
+        done
+    done
+    printf '%s: %d sets, %d rounds, load %s before and %s after\n' \
+        "$name" "$closed" "$turns" "$load" "$(cut -d' ' -f1 /proc/loadavg)"
+    for workers in 1 4; do
+        ours=${best[$workers]} beside=
+        if [ -n "$rival" ]; then
+            theirs=${best["$workers rival"]}
+            beside="; the rival $theirs us, $(times "$theirs" "$ours") times as fast"
+        fi
+        printf '  %s workers: %d us, %d sets a second%s\n' "$workers" "$ours" $((closed * 1000000 / ours)) "$beside"
+    done
+    printf '  four workers are %s times as fast as one; %d KiB held under --summary\n' \
+        "$(times "${best[4]}" "${best[1]}")" "$(hold "$script" "$@" --explorer sweep --summary --workers 4)"
+}
+
+# creates WRITES: ten files are created, and so many of them written
+creates() {
+    echo start
+    printf 'create /%s\n' a b c d e f g h i j
+    printf 'write /%s\n' a b c d e f g h i j | head -n "$1"
+}
+
+{
+    printf 'create /a\ncreate /b\nstart\n'
+    for turn in $(seq 31); do
+        if [ $((turn % 7)) = 0 ]; then echo 'link /b /x'; else echo 'link /a /x'; fi
+        echo 'unlink /x'
+    done
+} >"$work/links"
+printf 'mkdir /d\nstart\ncreate /a\ncreate /d/y\nmkdir /d/x\nlink /d/y /c\ncreate /e\nwrite /e\n' >"$work/fails"
+printf 'start\nmkdir /f\nmkdir /d\nmkdir /d/x\n' >"$work/folders"
+printf 'mkdir /c\ncreate /f\nstart\nwrite /f\nunlink /f\nrmdir /c\nmkdir /d\n' >"$work/full"
+creates 2 >"$work/two_writes"
+creates 5 >"$work/five_writes"
+
+time_one "links without an ordering" "$rounds" links --module async --limit 32768
+time_one "creates without an ordering" "$rounds" fails --module async --blocks 24 --limit 32768
+time_one "three folders with a metadata journal" "$rounds" folders --module meta --blocks 64 --journal 40 --limit 32768
+time_one "a write and removals with a full journal" "$rounds" full --module full --blocks 64 --journal 40 --limit 32768
+time_one "ten creates and two writes with soft updates" "$rounds" two_writes --module soft --limit 1000000000
+time_one "ten creates and five writes with soft updates" $((rounds / 5 + 1)) five_writes --module soft --limit 1000000000

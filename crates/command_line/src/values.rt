@@ -1,0 +1,71 @@
+//! The values of the options that take one, and what the flags ask for.
+
+ghost use Rattle.std.specs.Prelude.{◌≡◌, ◌≤◌, IfOk};
+ghost use Rattle.command_line.specs.Ranges.{IsLimitUnder};
+
+use crate::faults::WordFault;
+use clap::ArgMatches;
+use crash_model::settings::{Explorer, ReportBy};
+use crash_model::steps::Module;
+
+/// The most sets that the board holds.
+const MAX_BOARD: usize = 32_768;
+
+/// The most closed sets that a run can be asked to explore.
+const MAX_LIMIT: usize = 1_000_000_000;
+
+/// The number given, which the parser has kept in its range.
+pub(crate) fn number_of(matches: &ArgMatches<'_>, name: &str, from: usize, until: usize) -> usize
+    requires { from ≤ until }
+    ensures low { from ≤ result }
+    ensures high { result ≤ until }
+{
+    match matches.get_one::<usize>(name) {
+        Some(n) if from <= n && n <= until => n,
+        _ => from,
+    }
+}
+
+/// The most closed sets to explore, which the board can hold if it is to explore them.
+pub(crate) fn limit_under<'a>(
+    matches: &ArgMatches<'a>,
+    explorer: Explorer,
+) -> Result<usize, WordFault<'a>>
+    ensures { IfOk result (IsLimitUnder explorer) }
+{
+    let limit = number_of(matches, "limit", 1, MAX_LIMIT);
+    if explorer == Explorer::Board && limit > MAX_BOARD {
+        return Err(WordFault::PastTheBoard { limit });
+    }
+    Ok(limit)
+}
+
+/// The module given, else soft updates.
+pub(crate) fn module_of(matches: &ArgMatches<'_>) -> Module {
+    match matches.get_str("module") {
+        Some("async") => Module::Async,
+        Some("meta") => Module::Meta,
+        Some("full") => Module::Full,
+        _ => Module::Soft,
+    }
+}
+
+/// Who is to explore: the board or the sweep, else whichever the limit says.
+pub(crate) fn explorer_of(matches: &ArgMatches<'_>) -> Explorer {
+    match matches.get_str("explorer") {
+        Some("board") => Explorer::Board,
+        Some("sweep") => Explorer::Sweep,
+        _ => Explorer::Auto,
+    }
+}
+
+/// What the report is to tell: each failing set, else each fault or each rule.
+pub(crate) fn report_by(matches: &ArgMatches<'_>) -> ReportBy {
+    if matches.get_flag("needs") {
+        ReportBy::ByRule
+    } else if matches.get_flag("summary") {
+        ReportBy::ByFault
+    } else {
+        ReportBy::BySet
+    }
+}

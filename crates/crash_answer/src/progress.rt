@@ -1,0 +1,100 @@
+//! How far a run is, told on a terminal.
+
+use explorers::Gate;
+use std::io::Write;
+use std::rt::Clock;
+use std::sync::atomic::Ordering::SeqCst;
+use std::sync::atomic::{AtomicBool, AtomicU64};
+use std::time::Instant;
+
+/// How many milliseconds a run lasts before the line comes.
+const FIRST: u64 = 1000;
+
+/// How many milliseconds lie between two lines at least.
+const BETWEEN: u64 = 250;
+
+/// Takes the terminal's line away.
+const WIPED: &str = "\r\x1b[K";
+
+/// Shows how many sets were visited and how many of them fail, on one line that is rewritten.
+///
+/// The line comes on a terminal alone, once the run has lasted a second, and is gone when the answer comes. Workers
+/// are not held at their claims, and one of them at a time writes.
+#[derive(Drop)]
+pub struct Progress<'a, C: Clock, E: Write + Copy> {
+    clock: &'a C,
+    err: E,
+    /// When the run began, where lines are shown.
+    start: Option<Instant>,
+    sets: AtomicU64,
+    failing: AtomicU64,
+    /// After how many milliseconds of the run the next line is due.
+    due: AtomicU64,
+    is_taken: AtomicBool,
+    is_shown: AtomicBool,
+}
+
+impl<'a, C: Clock, E: Write + Copy> Progress<'a, C, E> {
+    /// At the beginning of a run. Nothing is ever written where `err` is no terminal.
+    pub fn new(clock: &'a C, err: E, is_terminal: bool) -> Progress<'a, C, E> {
+        let start = if is_terminal {
+            Instant::now(clock).ok()
+        } else {
+            None
+        };
+        Progress {
+            clock,
+            err,
+            start,
+            sets: AtomicU64::new(0),
+            failing: AtomicU64::new(0),
+            due: AtomicU64::new(FIRST),
+            is_taken: AtomicBool::new(false),
+            is_shown: AtomicBool::new(false),
+        }
+    }
+
+    /// How many milliseconds the run has lasted, where a line is due now.
+    fn due_at(&self) -> Option<u64> {
+        let start = self.start?;
+        let lasted = start.elapsed(self.clock).ok()?;
+        let now = u64::try_from(lasted.as_millis()).ok()?;
+        if now >= self.due.load(SeqCst) {
+            Some(now)
+        } else {
+            None
+        }
+    }
+
+    /// Writes the line anew.
+    fn show(&self, now: u64) {
+        let (sets, failing) = (self.sets.load(SeqCst), self.failing.load(SeqCst));
+        let mut err = self.err;
+        let _ = write!(err, "{WIPED}{sets} sets visited, {failing} failing");
+        self.is_shown.store(true, SeqCst);
+        self.due.store(now.saturating_add(BETWEEN), SeqCst);
+    }
+}
+
+impl<'a, C: Clock, E: Write + Copy> Gate for Progress<'a, C, E> {
+    fn claimed(&self, _worker: usize, _set: u128) {}
+
+    fn visited(&self, sets: usize, failing: usize) {
+        self.sets.fetch_add(sets as u64, SeqCst);
+        self.failing.fetch_add(failing as u64, SeqCst);
+        if self.start.is_none() || self.is_taken.swap(true, SeqCst) {
+            return;
+        }
+        if let Some(now) = self.due_at() {
+            self.show(now);
+        }
+        self.is_taken.store(false, SeqCst);
+    }
+
+    fn ended(&self) {
+        if self.is_shown.swap(false, SeqCst) {
+            let mut err = self.err;
+            let _ = err.write_all(WIPED.as_bytes());
+        }
+    }
+}

@@ -1,0 +1,106 @@
+-- Which rules of an ordering a script needs: what a crash can leave without each of them.
+use Rattle.std.specs.Prelude.{◌≡◌, ℕ, ◌+◌, ◌≤◌, List, [], ◌∷◌, ◌++◌, length, filter, Bool, Option, Some, None, codes, decimal}
+use Rattle.std.specs.List.{All}
+use Rattle.patch_sets.specs.Closed.{IsClosed}
+use Rattle.patch_sets.specs.Sets.{AreAllInOrder}
+use Rattle.crash_model.specs.Disk.{Disk}
+use Rattle.crash_model.specs.Patches.{deps_of}
+use Rattle.crash_model.specs.Rules.{rules_in_first, rule_text}
+use Rattle.crash_model.specs.Trace.{Emitted, Tracing, IsGraphOf, applies}
+use Rattle.crash_model.specs.Failing.{IsFailing, CountsClosed, ExceedsLimit}
+use Rattle.crash_model.specs.Report.{Section, AreSections, IsLed, line, section_text, quoted, section_json}
+use Rattle.crash_model.specs.declared.patches.Patch.{Patch}
+use Rattle.crash_model.specs.declared.rules.Rule.{Rule}
+
+-- how many closed and failing sets there are without a rule, and the section of the first failing set that the rule prevents
+pub record Without : Type 0 where
+  pub closed : ℕ
+  pub failing : ℕ
+  pub first : Option Section
+
+-- what is told of a rule: that it applies to no pair; or to so many, and what there is without it, or too many closed sets
+pub data RuleUsage : Type 0 where
+  Unused : RuleUsage
+  TooMany : ℕ → RuleUsage
+  Used : ℕ → Without → RuleUsage
+
+pub record ToldRule : Type 0 where
+  pub rule : Rule
+  pub usage : RuleUsage
+
+-- how many pairs of patches a rule applies to
+abbrev pub pairs_of : Rule → List Emitted → ℕ
+pairs_of rule [] = 0
+pairs_of rule (p ∷ later) = length (filter (λ q. applies rule q p) later) + pairs_of rule later
+
+-- the section of the first of these sets that is not closed under `patches`, if there is one; `changed` are the patches
+-- without the rule
+abbrev pub IsFirstNew : Bool → Disk → List Patch → List Patch → List ℕ → Option Section → Type 0
+IsFirstNew explain base patches changed sets None = All (IsClosed (deps_of patches)) sets
+IsFirstNew explain base patches changed sets (Some section) =
+    (front : List ℕ) × (set : ℕ) × (rest : List ℕ) × (sets ≡ front ++ set ∷ rest)
+    × All (IsClosed (deps_of patches)) front × (¬ (IsClosed (deps_of patches) set))
+    × AreSections explain base changed (set ∷ []) (section ∷ []) × IsLed changed section
+
+-- what there is under other dependencies, within the limit
+pub record IsWithout (explain : Bool) (limit : ℕ) (base : Disk) (patches changed : List Patch) (w : Without) : Type 0 where
+  pub counted : CountsClosed changed w.closed
+  pub within : w.closed ≤ limit
+  pub sets : List ℕ
+  pub exactly : AreAllInOrder (IsFailing base changed) sets
+  pub number : w.failing ≡ length sets
+  pub first : IsFirstNew explain base patches changed sets w.first
+
+-- the patches of the trace by other rules
+abbrev pub HasGraphBy : List Rule → Disk → Tracing → (List Patch → Type 0) → Type 0
+HasGraphBy rules base s P = (changed : List Patch) × IsGraphOf rules base s changed × P changed
+
+-- a rule's usage by a trace whose patches by all rules are `patches`
+abbrev pub IsRuleUsage : Bool → ℕ → List Rule → Disk → Tracing → List Patch → Rule → RuleUsage → Type 0
+IsRuleUsage explain limit rules base s patches rule Unused = pairs_of rule s.emitted ≡ 0
+IsRuleUsage explain limit rules base s patches rule (TooMany pairs) =
+    (pairs ≡ pairs_of rule s.emitted) × (1 ≤ pairs)
+    × HasGraphBy (rules_in_first rules (rule ∷ [])) base s (λ changed. ExceedsLimit changed limit)
+IsRuleUsage explain limit rules base s patches rule (Used pairs w) =
+    (pairs ≡ pairs_of rule s.emitted) × (1 ≤ pairs)
+    × HasGraphBy (rules_in_first rules (rule ∷ [])) base s (λ changed. IsWithout explain limit base patches changed w)
+
+-- each rule of `some` is told, in their order; `rules` are all rules
+abbrev pub AreToldRules : Bool → ℕ → List Rule → Disk → Tracing → List Patch → List Rule → List ToldRule → Type 0
+AreToldRules explain limit rules base s patches [] told = told ≡ []
+AreToldRules explain limit rules base s patches (rule ∷ some) told =
+    (usage : RuleUsage) × (rest : List ToldRule) × IsRuleUsage explain limit rules base s patches rule usage
+    × AreToldRules explain limit rules base s patches some rest × (told ≡ record { rule = rule; usage = usage } ∷ rest)
+
+-- ---- text; patches are n in all
+
+abbrev pub first_text : ℕ → Option Section → List ℕ
+first_text n None = []
+first_text n (Some section) = section_text n section
+
+abbrev pub usage_text : ℕ → List ℕ → RuleUsage → List ℕ
+usage_text n rule Unused = line (rule ++ codes " pairs 0")
+usage_text n rule (TooMany pairs) = line (rule ++ codes " pairs " ++ decimal pairs ++ codes " too many")
+usage_text n rule (Used pairs w) =
+    line (rule ++ codes " pairs " ++ decimal pairs ++ codes " closed " ++ decimal w.closed ++ codes " failing " ++ decimal w.failing)
+    ++ first_text n w.first
+
+abbrev pub told_rule_text : ℕ → ToldRule → List ℕ
+told_rule_text n t = usage_text n (codes "rule " ++ rule_text t.rule) t.usage
+
+-- ---- JSON
+
+abbrev pub first_json : ℕ → Option Section → List ℕ
+first_json n None = []
+first_json n (Some section) = codes "\"first\":" ++ section_json n section ++ codes ","
+
+-- the keys before and behind `rule`
+abbrev pub usage_json : ℕ → List ℕ → RuleUsage → List ℕ
+usage_json n rule Unused = codes "\"pairs\":0" ++ rule
+usage_json n rule (TooMany pairs) = codes "\"pairs\":" ++ decimal pairs ++ rule ++ codes ",\"too_many\":true"
+usage_json n rule (Used pairs w) =
+    codes "\"closed\":" ++ decimal w.closed ++ codes ",\"failing\":" ++ decimal w.failing ++ codes ","
+    ++ first_json n w.first ++ codes "\"pairs\":" ++ decimal pairs ++ rule
+
+abbrev pub told_rule_json : ℕ → ToldRule → List ℕ
+told_rule_json n t = codes "{" ++ usage_json n (codes ",\"rule\":" ++ quoted (rule_text t.rule)) t.usage ++ codes "}"

@@ -1,0 +1,91 @@
+-- A whole report, as text and as JSON.
+use Rattle.std.specs.Prelude.{ℕ, List, [], ◌∷◌, ◌++◌, map, flat_map, if◌then◌else◌, Option, codes, decimal}
+use Rattle.crash_model.specs.Rules.{rule_text, taken_out, put_in}
+use Rattle.crash_model.specs.Report.{Section, module_text, line, section_text, quoted, json_array, section_json}
+use Rattle.crash_model.specs.Explain.{Explanation, explanation_text, base_json, trace_json}
+use Rattle.crash_model.specs.Summary.{ToldFault, told_fault_text, told_fault_json}
+use Rattle.crash_model.specs.Needs.{ToldRule, told_rule_text, told_rule_json}
+use Rattle.crash_model.specs.declared.rules.Rule.{Rule}
+use Rattle.crash_model.specs.declared.settings.Settings.{Settings}
+
+-- what stands behind the head: the failing sets, each fault once, or the use of each rule
+pub data Body : Type 0 where
+  Sets : List Section → Body
+  Faults : List ToldFault → Body
+  Rules : List ToldRule → Body
+
+-- how many patches, closed sets and failing sets there are; what the patches are, where that is asked for; and the body
+pub record Report : Type 0 where
+  pub patches : ℕ
+  pub closed : ℕ
+  pub failing : ℕ
+  pub explanation : Option Explanation
+  pub body : Body
+
+-- the rules that a report tells as taken out and as put in
+abbrev pub told_without : Settings → List Rule
+told_without settings = taken_out settings.module settings.without.items
+
+abbrev pub told_with : Settings → List Rule
+told_with settings = put_in settings.module settings.without.items settings.with.items
+
+-- ---- text
+
+-- a line for each rule, behind the word
+abbrev pub rule_lines : List ℕ → List Rule → List ℕ
+rule_lines word rules = flat_map (λ rule. line (word ++ codes " " ++ rule_text rule)) rules
+
+-- the lines before the first patch or set
+abbrev pub head_text : Settings → ℕ → ℕ → ℕ → List ℕ
+head_text settings patches closed failing =
+    line (codes "module " ++ module_text settings.module)
+    ++ rule_lines (codes "without") (told_without settings)
+    ++ rule_lines (codes "with") (told_with settings)
+    ++ line (codes "patches " ++ decimal patches)
+    ++ line (codes "closed " ++ decimal closed)
+    ++ line (codes "failing " ++ decimal failing)
+
+abbrev pub body_text : ℕ → Body → List ℕ
+body_text n (Sets sections) = flat_map (section_text n) sections
+body_text n (Faults told) = flat_map (told_fault_text n) told
+body_text n (Rules told) = flat_map (told_rule_text n) told
+
+unfoldable pub text_report : Settings → Report → List ℕ
+text_report settings r =
+    head_text settings r.patches r.closed r.failing ++ explanation_text r.explanation ++ body_text r.patches r.body
+
+-- ---- JSON: one compact object, its keys in ascending order, and a line feed
+
+-- a key with the texts of the rules, where there are any
+abbrev pub rules_json : List ℕ → List Rule → List ℕ
+rules_json key [] = []
+rules_json key (rule ∷ rules) = codes "," ++ quoted key ++ codes ":" ++ json_array (map (λ r. quoted (rule_text r)) (rule ∷ rules))
+
+-- the body's keys before `module`
+abbrev pub early_json : ℕ → ℕ → Body → List ℕ
+early_json n failing (Sets sections) = codes ",\"failing\":" ++ json_array (map (section_json n) sections)
+early_json n failing (Faults told) = codes ",\"faults\":" ++ json_array (map (told_fault_json n) told)
+early_json n failing (Rules told) = codes ",\"failing\":" ++ decimal failing
+
+-- and those behind `patches`
+abbrev pub late_json : ℕ → ℕ → Body → List ℕ
+late_json n failing (Sets sections) = []
+late_json n failing (Faults told) = codes ",\"sets\":" ++ decimal failing
+late_json n failing (Rules told) = codes ",\"rules\":" ++ json_array (map (told_rule_json n) told)
+
+unfoldable pub json_report : Settings → Report → List ℕ
+json_report settings r =
+    codes "{" ++ base_json r.explanation
+    ++ codes "\"closed\":" ++ decimal r.closed
+    ++ early_json r.patches r.failing r.body
+    ++ codes ",\"module\":" ++ quoted (module_text settings.module)
+    ++ codes ",\"patches\":" ++ decimal r.patches
+    ++ late_json r.patches r.failing r.body
+    ++ trace_json r.explanation
+    ++ rules_json (codes "with") (told_with settings)
+    ++ rules_json (codes "without") (told_without settings)
+    ++ codes "}\n"
+
+-- the report's bytes
+abbrev pub report : Settings → Report → List ℕ
+report settings r = if settings.json then json_report settings r else text_report settings r

@@ -1,0 +1,28 @@
+use Rattle.std.proofs.Common.{ℕ, subst}
+use Rattle.std.specs.Prelude.{Option}
+use Rattle.patch_sets.specs.Closed.{IsClosed}
+use Rattle.crash_model.specs.Failing.{IsFailing}
+use Rattle.crash_model.specs.Patches.{deps_of}
+use Rattle.fault_summary.specs.Prevented.{IsFirstOut, IsFirstPrevented}
+use Rattle.report_sections.specs.Maker.{Reported}
+use Rattle.report_sections.specs.Sections.{IsSection}
+use Rattle.crash_text.proofs.Needing.{none_new, some_new}
+use Rattle.crash_text.proofs.needs.first_section.Goals as goal
+
+pub returns-in_default : goal.returns-in_default
+returns-in_default g c = λ sets all.
+    let f = c.args.findings.now in
+    let changed = c.args.changed.now in
+    let patches = f.traced.patches in
+    none_new f.base.now patches changed sets (subst (λ (o : Option ℕ). IsFirstPrevented (IsFailing f.base.now changed) (IsClosed (deps_of patches)) o) c.in_default.is c.requires.first) all
+
+pub returns : goal.returns
+returns g c = λ sets all.
+    let f = c.args.findings.now in
+    let changed = c.args.changed.now in
+    let patches = f.traced.patches in
+    let set = c.in-Some.set in
+    let section = c.in_ok-section.section in
+    let first : IsFirstOut (IsFailing f.base.now changed) (IsClosed (deps_of patches)) set = subst (λ (o : Option ℕ). IsFirstPrevented (IsFailing f.base.now changed) (IsClosed (deps_of patches)) o) c.in-Some.is c.requires.first in
+    let is : IsSection f.settings.now.explain f.base.now changed set section = subst (λ (m : Reported). IsSection m.explain m.base m.patches set section) c.in_ok-maker.ensures c.in_ok-section.ensures.told in
+    some_new f.settings.now.explain f.base.now patches changed sets set section c.requires.earlier first all is

@@ -1,0 +1,38 @@
+use Rattle.std.proofs.Common.{rules, ◌≤◌, List, refl, sym, ap, ◌∙◌, arith}
+use Rattle.crash_model.specs.Needs.{pairs_of}
+use Rattle.crash_model.specs.Trace.{Emitted, Tracing, begun}
+use Rattle.crash_text.proofs.needs.usage.Goals as goal
+
+pub count_failing-requires-clause-undo : goal.count_failing-requires-clause-undo
+count_failing-requires-clause-undo g c = λ _ _.
+    let f = c.args.findings.now in
+    let s : Tracing = record (begun f.base.now) { emitted = f.traced.emitted; links = f.traced.links } in
+    (c.in_ok-changed.ensures.graph s refl refl).undo
+
+pub returns-in-Ok : goal.returns-in-Ok
+returns-in-Ok g c = λ last emitted links.
+    let counted = c.in-Ok.ensures.counted in
+    let some : 1 ≤ c.pairs-pairs.result = omega (arith, c.if-pairs-eq0.false) in (
+      c.pairs-pairs.ensures ∙ ap (λ (es : List Emitted). pairs_of c.args.rule es) (sym emitted),
+      some,
+      (
+        c.in_ok-changed.changed,
+        c.in_ok-changed.ensures.graph last emitted links,
+        record {
+          counted = counted.totals.counted;
+          within = counted.totals.within;
+          sets = counted.sets;
+          exactly = counted.totals.exactly;
+          number = counted.totals.number;
+          first = c.in_ok-first_section-in-Ok.ensures counted.sets counted.totals.exactly;
+        },
+      ),
+    )
+
+pub returns-in-Err-TooMany : goal.returns-in-Err-TooMany
+returns-in-Err-TooMany g c = λ last emitted links.
+    let some : 1 ≤ c.pairs-pairs.result = omega (arith, c.if-pairs-eq0.false) in (
+      c.pairs-pairs.ensures ∙ ap (λ (es : List Emitted). pairs_of c.args.rule es) (sym emitted),
+      some,
+      (c.in_ok-changed.changed, c.in_ok-changed.ensures.graph last emitted links, (c.in-Err-TooMany.ensures.too_many (search rules)).1),
+    )

@@ -1,0 +1,19 @@
+use Rattle.std.proofs.Common.{string_bytes, sym, subst}
+use Rattle.report_sections.specs.Bodies.{AreKnown, sets_of}
+use Rattle.crash_text.proofs.Bodies.{can_tell, tells_of, by_fault, rows-known}
+use Rattle.crash_text.proofs.telling.Findings.by_fault.Goals as goal
+
+pub write_report-requires-clause-tell : goal.write_report-requires-clause-tell
+write_report-requires-clause-tell g c = λ _ _.
+    let f = c.args.self.now in
+    let r = c.report-report.ensures in
+    can_tell c.report-report.result f.base.now f.traced r.base r.traced c.requires.found.fits
+    (subst (λ b. AreKnown f.traced.patches (sets_of b)) (sym r.body) (rows-known f.base.now f.traced.patches c.args.rows.now c.requires.rows))
+
+pub returns : goal.returns
+returns g c = λ last is.
+    let f = c.args.self.now in
+    let r = c.report-report.ensures in
+    let found = c.requires.found.found in
+    by_fault f.settings.now f.base.now f.traced last is g.row.A.Denot f.found.closed f.found.failing found.sets (string_bytes c.in_ok-text.text) c.args.rows found.totals c.requires.by c.requires.rows
+    (tells_of c.report-report.result f.settings.now f.base.now f.traced f.found.closed f.found.failing _ _ r.settings r.base r.traced r.closed r.failing r.body c.in_ok-text.ensures)

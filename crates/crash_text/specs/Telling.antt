@@ -1,0 +1,50 @@
+-- What the report of a run tells.
+use Rattle.std.specs.Prelude.{◌≡◌, ◌⊎◌, ℕ, ◌<◌, List, Ok, Err}
+use Rattle.std.specs.List.{All}
+use Rattle.crash_model.specs.Answer.{ordering_rules, IsReport}
+use Rattle.crash_model.specs.Disk.{Disk}
+use Rattle.crash_model.specs.Failing.{ExceedsLimit}
+use Rattle.crash_model.specs.Refusals.{run_of_trace}
+use Rattle.crash_model.specs.Trace.{Tracing, begun, traced, IsGraphOf}
+use Rattle.crash_model.specs.declared.patches.Patch.{Patch}
+use Rattle.crash_model.specs.declared.refusals.RunFault.{RunFault}
+use Rattle.crash_model.specs.declared.refusals.RunFault.TheVariants.{TooMany}
+use Rattle.crash_model.specs.declared.refusals.TraceFault.{TraceFault}
+use Rattle.crash_model.specs.declared.settings.Settings.{Settings}
+use Rattle.crash_model.specs.declared.steps.Step.{Step}
+use Rattle.order_modules.specs.Traced.{TracedPatches}
+use Rattle.crash_text.specs.Kept.{AreFound}
+use Rattle.crash_text.specs.declared.telling.Findings.{Findings}
+
+-- traced patches, with the state in which tracing ended
+pub record IsTraceOf (settings : Settings) (base : Disk) (t : TracedPatches) (last : Tracing) : Type 0 where
+  pub emitted : t.emitted ≡ last.emitted
+  pub links : t.links ≡ last.links
+  pub rules : t.rules ≡ ordering_rules settings
+  pub graph : IsGraphOf (ordering_rules settings) base last t.patches
+
+-- what is found of traced patches that change blocks of the base
+pub record AreFindings {A : Type 0} (f : Findings A) : Type 0 where
+  pub fits : All (λ patch. patch.block < f.base.now.blocks) f.traced.patches
+  pub found : AreFound f.settings.now f.base.now f.traced.patches f.found
+
+-- the text is the report on what is found, whatever state traced these patches
+abbrev pub IsReportOf : {A : Type 0} → Findings A → List ℕ → Type 0
+IsReportOf f text =
+    (last : Tracing) → IsTraceOf f.settings.now f.base.now f.traced last
+    → IsReport f.settings.now f.base.now last f.traced.patches text f.found.failing
+
+-- the report on steps that are traced over the base
+pub record AreReported (settings : Settings) (base : Disk) (steps : List Step) (text : List ℕ) (failing : ℕ) : Type 0 where
+  pub last : Tracing
+  pub patches : List Patch
+  pub run : traced settings.module (begun base) steps ≡ Ok last
+  pub graph : IsGraphOf (ordering_rules settings) base last patches
+  pub report : IsReport settings base last patches text failing
+
+-- a step is refused, or there are too many closed sets
+abbrev pub AreRefused : Settings → Disk → List Step → RunFault → Type 0
+AreRefused settings base steps fault =
+    ((why : TraceFault) × (traced settings.module (begun base) steps ≡ Err why) × (fault ≡ run_of_trace why))
+    ⊎ ((last : Tracing) × (patches : List Patch) × (traced settings.module (begun base) steps ≡ Ok last)
+    × IsGraphOf (ordering_rules settings) base last patches × ExceedsLimit patches settings.limit × (fault ≡ TooMany))

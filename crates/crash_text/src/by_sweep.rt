@@ -1,0 +1,135 @@
+//! The sets that a crash can leave, swept over with no table of sets.
+//!
+//! Each function refuses where they are more than the limit. The patches change blocks of the base, and their undo
+//! data are the bytes that they replace there.
+
+ghost use Rattle.std.specs.Prelude.{◌≡◌, ◌≢◌, ℕ, List, length, ◌<◌, ◌≤◌, IfOk, IfErr};
+ghost use Rattle.std.specs.List.{All};
+ghost use Rattle.patch_sets.specs.Closed.{IsClosed};
+ghost use Rattle.patch_sets.specs.Sets.{AreAllInOrder};
+ghost use Rattle.crash_model.specs.Patches.{AreUndo, deps_of};
+ghost use Rattle.crash_model.specs.Failing.{IsFailing, CountsClosed, ExceedsLimit};
+ghost use Rattle.crash_model.specs.Summary.{HasFault, AreRows};
+ghost use Rattle.fault_summary.specs.Prevented.{IsFirstPrevented};
+
+use crate::dependencies::dependencies;
+use crate::watching::GateWatch;
+use crash_image::PatchSpace;
+use crash_model::refusals::RunFault;
+use disk_image::Image;
+use explorers::{ExploreFault, Explored, Gate};
+use fault_summary::{
+    CountVisitor, FailingCount, FaultVisitor, SweptFaults, sweep_count, sweep_faults,
+};
+use patch_graph::Graph;
+use set_sweep::sweep;
+use std::alloc::Allocator;
+use std::thread::Threads;
+
+/// How many sets there are, and which of them fail, in canonical order. The memory that it takes grows with the
+/// failing sets alone.
+pub(crate) fn swept<R, A, G>(
+    rt: &R,
+    alloc: A,
+    base: &Image<A>,
+    graph: &Graph<A>,
+    limit: usize,
+    workers: usize,
+    gate: &G,
+) -> Result<Explored<A>, RunFault>
+where
+    R: Threads + Sync,
+    A: Allocator + Copy + Send + Sync,
+    G: Gate + Sync,
+    requires workers { (1 ≤ workers) × (workers ≤ 16) }
+    requires fits { All (λ patch. patch.block < base.now.blocks) graph.now }
+    requires undo { AreUndo base.now graph.now }
+    ensures total { IfOk result (λ found. CountsClosed graph.now found.total) }
+    ensures within { IfOk result (λ found. found.total ≤ limit) }
+    ensures failing { IfOk result (λ found. AreAllInOrder (IsFailing base.now graph.now) found.broken.items) }
+    ensures too_many { IfErr result (λ fault. (fault ≢ RunFault.OutOfMemory)
+        → (fault ≡ RunFault.TooMany) × ExceedsLimit graph.now limit) }
+{
+    let space = PatchSpace::new(base, graph);
+    let deps = dependencies(graph);
+    let watch = GateWatch { gate };
+    match sweep(rt, alloc, &space, &deps, limit, workers, &watch) {
+        Ok(found) => Ok(found),
+        Err(ExploreFault::TooMany) => Err(RunFault::TooMany),
+        Err(ExploreFault::OutOfMemory) => Err(RunFault::OutOfMemory),
+    }
+}
+
+/// How many sets there are, how many of them fail, and each fault once, in the order of faults. The memory that it
+/// takes grows with no number of sets.
+pub(crate) fn swept_faults<R, A, G>(
+    rt: &R,
+    alloc: A,
+    base: &Image<A>,
+    graph: &Graph<A>,
+    limit: usize,
+    workers: usize,
+    gate: &G,
+) -> Result<SweptFaults<A>, RunFault>
+where
+    R: Threads + Sync,
+    A: Allocator + Copy + Send + Sync,
+    G: Gate + Sync,
+    requires workers { (1 ≤ workers) × (workers ≤ 16) }
+    requires fits { All (λ patch. patch.block < base.now.blocks) graph.now }
+    requires undo { AreUndo base.now graph.now }
+    ensures total { IfOk result (λ found. CountsClosed graph.now found.total) }
+    ensures within { IfOk result (λ found. found.total ≤ limit) }
+    ensures failing { IfOk result (λ found. (sets : List ℕ) × AreAllInOrder (IsFailing base.now graph.now) sets
+        × (found.failing ≡ length sets)) }
+    ensures rows { IfOk result (λ found. AreRows (HasFault base.now graph.now) found.rows.items) }
+    ensures too_many { IfErr result (λ fault. (fault ≢ RunFault.OutOfMemory)
+        → (fault ≡ RunFault.TooMany) × ExceedsLimit graph.now limit) }
+{
+    let visitor = FaultVisitor::new(alloc, base, graph);
+    let deps = dependencies(graph);
+    let watch = GateWatch { gate };
+    match sweep_faults(rt, &visitor, &deps, limit, workers, &watch) {
+        Ok(found) => Ok(found),
+        Err(ExploreFault::TooMany) => Err(RunFault::TooMany),
+        Err(ExploreFault::OutOfMemory) => Err(RunFault::OutOfMemory),
+    }
+}
+
+/// How many sets there are, how many of them fail, and the first failing one that another graph prevents. The memory
+/// that it takes grows with no number of sets.
+pub(crate) fn swept_count<R, A, G>(
+    rt: &R,
+    alloc: A,
+    base: &Image<A>,
+    graph: &Graph<A>,
+    other: &Graph<A>,
+    limit: usize,
+    workers: usize,
+    gate: &G,
+) -> Result<FailingCount, RunFault>
+where
+    R: Threads + Sync,
+    A: Allocator + Copy + Send + Sync,
+    G: Gate + Sync,
+    requires workers { (1 ≤ workers) × (workers ≤ 16) }
+    requires fits { All (λ patch. patch.block < base.now.blocks) graph.now }
+    requires undo { AreUndo base.now graph.now }
+    ensures total { IfOk result (λ found. CountsClosed graph.now found.total) }
+    ensures within { IfOk result (λ found. found.total ≤ limit) }
+    ensures failing { IfOk result (λ found. (sets : List ℕ) × AreAllInOrder (IsFailing base.now graph.now) sets
+        × (found.failing ≡ length sets)) }
+    ensures first { IfOk result (λ found.
+        IsFirstPrevented (IsFailing base.now graph.now) (IsClosed (deps_of other.now)) found.first) }
+    ensures too_many { IfErr result (λ fault. (fault ≢ RunFault.OutOfMemory)
+        → (fault ≡ RunFault.TooMany) × ExceedsLimit graph.now limit) }
+{
+    let visitor = CountVisitor::new(alloc, base, graph, other);
+    let deps = dependencies(graph);
+    let watch = GateWatch { gate };
+    match sweep_count(rt, &visitor, &deps, limit, workers, &watch) {
+        Ok(found) => Ok(found),
+        Err(ExploreFault::TooMany) => Err(RunFault::TooMany),
+        Err(ExploreFault::OutOfMemory) => Err(RunFault::OutOfMemory),
+    }
+}

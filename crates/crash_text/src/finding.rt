@@ -1,0 +1,224 @@
+//! What is found of the sets that a crash can leave, as much of it as the report asks for.
+//!
+//! The board explores them, or the sweep, as the settings ask. Each function refuses where they are more than the
+//! limit of the settings. The patches change blocks of the base, and their undo data are the bytes that they replace
+//! there.
+
+ghost use Rattle.std.specs.Prelude.{◌≡◌, ◌≢◌, ◌<◌, ◌≤◌, IfOk, IfErr, IsTrue};
+ghost use Rattle.std.specs.List.{All, AllPairs, Contains};
+ghost use Rattle.patch_sets.specs.Closed.{IsClosed};
+ghost use Rattle.patch_sets.specs.Sets.{AreAllInOrder, IsBefore};
+ghost use Rattle.crash_model.specs.Patches.{AreUndo, deps_of};
+ghost use Rattle.crash_model.specs.Failing.{IsFailing, CountsClosed, ExceedsLimit};
+ghost use Rattle.crash_model.specs.declared.settings.ReportBy.TheVariants.{ByFault};
+ghost use Rattle.fault_summary.specs.Prevented.{IsFirstPrevented};
+ghost use Rattle.crash_text.specs.Kept.{AreFound, IsCountWith};
+ghost use Rattle.crash_text.specs.Limits.{IsExplorable};
+
+use crate::by_sweep::{swept, swept_count, swept_faults};
+use crate::on_board::{MAX_BOARD, explored_on_board};
+use crash_model::fault::FaultRow;
+use crash_model::refusals::RunFault;
+use crash_model::settings::{Explorer, ReportBy, Settings};
+use disk_image::Image;
+use explorers::{Explored, Gate};
+use fault_summary::{FailingCount, fault_rows};
+use patch_graph::Graph;
+use std::alloc::Allocator;
+use std::sync::Wait;
+use std::thread::Threads;
+
+/// How many sets a crash can leave, how many of them fail, and what else is kept of them.
+#[derive(Drop)]
+pub(crate) struct Found<A: Allocator> {
+    pub closed: usize,
+    pub failing: usize,
+    pub kept: Kept<A>,
+}
+
+/// What is kept of the sets that fail: all of them in canonical order, each of their faults once, or no more than
+/// their number.
+#[derive(Drop)]
+pub(crate) enum Kept<A: Allocator> {
+    Sets(Vec<u128, A>),
+    Faults(Vec<FaultRow, A>),
+    Number,
+}
+
+/// What the report that the settings ask for needs.
+pub(crate) fn find<R, A, G>(
+    rt: &R,
+    alloc: A,
+    base: &Image<A>,
+    graph: &Graph<A>,
+    settings: &Settings,
+    workers: usize,
+    gate: &G,
+) -> Result<Found<A>, RunFault>
+where
+    R: Threads + Wait + Sync,
+    A: Allocator + Copy + Send + Sync,
+    G: Gate + Sync,
+    requires limit { IsExplorable settings.now }
+    requires workers { (1 ≤ workers) × (workers ≤ 16) }
+    requires fits { All (λ patch. patch.block < base.now.blocks) graph.now }
+    requires undo { AreUndo base.now graph.now }
+    ensures found { IfOk result (AreFound settings.now base.now graph.now) }
+    ensures too_many { IfErr result (λ fault. (fault ≢ RunFault.OutOfMemory)
+        → (fault ≡ RunFault.TooMany) × ExceedsLimit graph.now settings.now.limit) }
+{
+    match settings.by {
+        ReportBy::BySet => {
+            let found = explored(rt, alloc, base, graph, settings, workers, gate)?;
+            Ok(Found {
+                closed: found.total,
+                failing: found.broken.len(),
+                kept: Kept::Sets(found.broken),
+            })
+        }
+        ReportBy::ByFault => find_faults(rt, alloc, base, graph, settings, workers, gate),
+        ReportBy::ByRule => {
+            let count = count_failing(rt, alloc, base, graph, graph, settings, workers, gate)?;
+            Ok(Found {
+                closed: count.total,
+                failing: count.failing,
+                kept: Kept::Number,
+            })
+        }
+    }
+}
+
+/// The faults of the failing sets, for a report with each fault once.
+fn find_faults<R, A, G>(
+    rt: &R,
+    alloc: A,
+    base: &Image<A>,
+    graph: &Graph<A>,
+    settings: &Settings,
+    workers: usize,
+    gate: &G,
+) -> Result<Found<A>, RunFault>
+where
+    R: Threads + Wait + Sync,
+    A: Allocator + Copy + Send + Sync,
+    G: Gate + Sync,
+    requires limit { IsExplorable settings.now }
+    requires by { settings.now.by ≡ ByFault }
+    requires workers { (1 ≤ workers) × (workers ≤ 16) }
+    requires fits { All (λ patch. patch.block < base.now.blocks) graph.now }
+    requires undo { AreUndo base.now graph.now }
+    ensures found { IfOk result (AreFound settings.now base.now graph.now) }
+    ensures too_many { IfErr result (λ fault. (fault ≢ RunFault.OutOfMemory)
+        → (fault ≡ RunFault.TooMany) × ExceedsLimit graph.now settings.now.limit) }
+{
+    let limit = settings.limit;
+    if sweeps(settings) {
+        let swept = swept_faults(rt, alloc, base, graph, limit, workers, gate)?;
+        return Ok(Found {
+            closed: swept.total,
+            failing: swept.failing,
+            kept: Kept::Faults(swept.rows),
+        });
+    }
+    let found = explored_on_board(rt, alloc, base, graph, limit, workers, gate)?;
+    let rows = fault_rows(alloc, base, graph, &found.broken)?;
+    Ok(Found {
+        closed: found.total,
+        failing: found.broken.len(),
+        kept: Kept::Faults(rows),
+    })
+}
+
+/// How many sets a crash can leave, how many of them fail, and the first failing one that a crash cannot leave under
+/// another graph.
+pub(crate) fn count_failing<R, A, G>(
+    rt: &R,
+    alloc: A,
+    base: &Image<A>,
+    graph: &Graph<A>,
+    other: &Graph<A>,
+    settings: &Settings,
+    workers: usize,
+    gate: &G,
+) -> Result<FailingCount, RunFault>
+where
+    R: Threads + Wait + Sync,
+    A: Allocator + Copy + Send + Sync,
+    G: Gate + Sync,
+    requires limit { IsExplorable settings.now }
+    requires workers { (1 ≤ workers) × (workers ≤ 16) }
+    requires fits { All (λ patch. patch.block < base.now.blocks) graph.now }
+    requires undo { AreUndo base.now graph.now }
+    ensures counted { IfOk result (IsCountWith settings.now.limit base.now graph.now other.now) }
+    ensures too_many { IfErr result (λ fault. (fault ≢ RunFault.OutOfMemory)
+        → (fault ≡ RunFault.TooMany) × ExceedsLimit graph.now settings.now.limit) }
+{
+    let limit = settings.limit;
+    if sweeps(settings) {
+        let count = swept_count(rt, alloc, base, graph, other, limit, workers, gate)?;
+        return Ok(count);
+    }
+    let found = explored_on_board(rt, alloc, base, graph, limit, workers, gate)?;
+    Ok(FailingCount {
+        total: found.total,
+        failing: found.broken.len(),
+        first: first_prevented(other, &found.broken),
+    })
+}
+
+/// All failing sets, in canonical order.
+fn explored<R, A, G>(
+    rt: &R,
+    alloc: A,
+    base: &Image<A>,
+    graph: &Graph<A>,
+    settings: &Settings,
+    workers: usize,
+    gate: &G,
+) -> Result<Explored<A>, RunFault>
+where
+    R: Threads + Wait + Sync,
+    A: Allocator + Copy + Send + Sync,
+    G: Gate + Sync,
+    requires limit { IsExplorable settings.now }
+    requires workers { (1 ≤ workers) × (workers ≤ 16) }
+    requires fits { All (λ patch. patch.block < base.now.blocks) graph.now }
+    requires undo { AreUndo base.now graph.now }
+    ensures total { IfOk result (λ found. CountsClosed graph.now found.total) }
+    ensures within { IfOk result (λ found. found.total ≤ settings.now.limit) }
+    ensures failing { IfOk result (λ found. AreAllInOrder (IsFailing base.now graph.now) found.broken.items) }
+    ensures too_many { IfErr result (λ fault. (fault ≢ RunFault.OutOfMemory)
+        → (fault ≡ RunFault.TooMany) × ExceedsLimit graph.now settings.now.limit) }
+{
+    let limit = settings.limit;
+    if sweeps(settings) {
+        swept(rt, alloc, base, graph, limit, workers, gate)
+    } else {
+        explored_on_board(rt, alloc, base, graph, limit, workers, gate)
+    }
+}
+
+/// Whether the sweep explores. Otherwise a board can hold as many sets as the limit allows.
+fn sweeps(settings: &Settings) -> bool
+    requires { IsExplorable settings.now }
+    ensures { (¬ (IsTrue result)) → settings.now.limit ≤ 32768 }
+{
+    match settings.explorer {
+        Explorer::Auto => settings.limit > MAX_BOARD,
+        Explorer::Board => false,
+        Explorer::Sweep => true,
+    }
+}
+
+/// The first of these sets, which stand in canonical order, that a crash cannot leave under a graph, if there is one.
+fn first_prevented<A: Allocator + Copy>(other: &Graph<A>, sets: &[u128]) -> Option<u128>
+    requires { AllPairs IsBefore sets.now }
+    ensures { IsFirstPrevented (Contains sets.now) (IsClosed (deps_of other.now)) result }
+{
+    for set in sets {
+        if !other.is_closed(*set) {
+            return Some(*set);
+        }
+    }
+    None
+}

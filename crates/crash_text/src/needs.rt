@@ -1,0 +1,152 @@
+//! Which rules of the ordering a script needs: what a crash can leave without each of them.
+
+ghost use Rattle.std.specs.Prelude.{◌≡◌, ℕ, ◌<◌, ◌≤◌, List, map, option_map, string_bytes, IfOk};
+ghost use Rattle.std.specs.List.{All};
+ghost use Rattle.patch_sets.specs.Closed.{AreEarlier, IsClosed};
+ghost use Rattle.patch_sets.specs.Sets.{AreAllInOrder};
+ghost use Rattle.crash_model.specs.Answer.{ordering_rules};
+ghost use Rattle.crash_model.specs.Failing.{IsFailing};
+ghost use Rattle.crash_model.specs.Needs.{AreToldRules, IsFirstNew, IsRuleUsage};
+ghost use Rattle.crash_model.specs.Patches.{deps_of};
+ghost use Rattle.crash_model.specs.Trace.{Tracing};
+ghost use Rattle.crash_model.specs.declared.settings.ReportBy.TheVariants.{ByRule};
+ghost use Rattle.fault_summary.specs.Prevented.{IsFirstPrevented};
+ghost use Rattle.report_sections.specs.Sections.{told};
+ghost use Rattle.report_sections.specs.ToldRules.{told_rule, usage_of};
+ghost use Rattle.crash_text.specs.Limits.{IsExplorable};
+ghost use Rattle.crash_text.specs.Telling.{AreFindings, IsReportOf, IsTraceOf};
+
+use crate::finding::count_failing;
+use crate::telling::Findings;
+use crash_model::refusals::RunFault;
+use crash_model::rules::Rule;
+use explorers::Gate;
+use patch_graph::Graph;
+use report_sections::{RuleUsage, Section, SectionMaker, ToldRule};
+use std::alloc::{AllocError, Allocator, Global};
+use std::sync::Wait;
+use std::thread::Threads;
+
+/// The report on the rules of the ordering. It fails only when out of memory.
+pub(crate) fn report_by_rule<R, A, G>(
+    rt: &R,
+    heap: Global,
+    alloc: A,
+    findings: &Findings<'_, '_, A>,
+    workers: usize,
+    gate: &G,
+) -> Result<String<A>, AllocError>
+where
+    R: Threads + Wait + Sync,
+    A: Allocator + Copy + Send + Sync,
+    G: Gate + Sync,
+    requires limit { IsExplorable findings.now.settings.now }
+    requires workers { (1 ≤ workers) × (workers ≤ 16) }
+    requires found { AreFindings findings.now }
+    requires by { findings.now.settings.now.by ≡ ByRule }
+    ensures { IfOk result (λ text. IsReportOf findings.now (string_bytes text)) }
+{
+    let rules = needs(rt, alloc, findings, workers, gate)?;
+    let text = findings.by_rule(rt, heap, alloc, &rules, workers)?;
+    Ok(text)
+}
+
+/// What is told of each rule of the ordering, in its order.
+///
+/// A rule that applies to no pair of patches is told as that; for each other rule the same patches are explored under
+/// the ordering without it, within the limit of the settings. It fails only when out of memory.
+fn needs<R, A, G>(
+    rt: &R,
+    alloc: A,
+    findings: &Findings<'_, '_, A>,
+    workers: usize,
+    gate: &G,
+) -> Result<Vec<ToldRule<A>, A>, AllocError>
+where
+    R: Threads + Wait + Sync,
+    A: Allocator + Copy + Send + Sync,
+    G: Gate + Sync,
+    requires limit { IsExplorable findings.now.settings.now }
+    requires workers { (1 ≤ workers) × (workers ≤ 16) }
+    requires found { AreFindings findings.now }
+    ensures { IfOk result (λ rules. (last : Tracing)
+        → IsTraceOf findings.now.settings.now findings.now.base.now findings.now.traced last
+        → AreToldRules findings.now.settings.now.explain findings.now.settings.now.limit
+        (ordering_rules findings.now.settings.now) findings.now.base.now last findings.now.traced.patches
+        (ordering_rules findings.now.settings.now) (map told_rule rules.items)) }
+{
+    let mut rules = Vec::new(alloc);
+    for rule in findings.traced.rules() {
+        let rule = *rule;
+        let usage = usage(rt, alloc, findings, rule, workers, gate)?;
+        rules.push(ToldRule { rule, usage })?;
+    }
+    Ok(rules)
+}
+
+/// How many pairs of patches a rule applies to, and what a crash can leave without it. It fails only when out of
+/// memory.
+fn usage<R, A, G>(
+    rt: &R,
+    alloc: A,
+    findings: &Findings<'_, '_, A>,
+    rule: Rule,
+    workers: usize,
+    gate: &G,
+) -> Result<RuleUsage<A>, AllocError>
+where
+    R: Threads + Wait + Sync,
+    A: Allocator + Copy + Send + Sync,
+    G: Gate + Sync,
+    requires limit { IsExplorable findings.now.settings.now }
+    requires workers { (1 ≤ workers) × (workers ≤ 16) }
+    requires found { AreFindings findings.now }
+    ensures { IfOk result (λ usage. (last : Tracing) → last.emitted ≡ findings.now.traced.emitted
+        → last.links ≡ findings.now.traced.links
+        → IsRuleUsage findings.now.settings.now.explain findings.now.settings.now.limit findings.now.traced.rules
+        findings.now.base.now last findings.now.traced.patches rule (usage_of usage)) }
+{
+    let pairs = findings.traced.pairs(rule);
+    if pairs == 0 {
+        return Ok(RuleUsage::Unused);
+    }
+    let (base, graph, settings) = (findings.base, findings.traced.graph(), findings.settings);
+    let changed = findings.traced.graph_without(alloc, base, rule)?;
+    match count_failing(rt, alloc, base, &changed, graph, settings, workers, gate) {
+        Ok(count) => Ok(RuleUsage::Used {
+            pairs,
+            closed: count.total,
+            failing: count.failing,
+            first: first_section(alloc, findings, &changed, count.first)?,
+        }),
+        Err(RunFault::TooMany) => Ok(RuleUsage::TooMany { pairs }),
+        Err(_) => Err(AllocError),
+    }
+}
+
+/// The section of the first failing set that a crash cannot leave under the ordering, if there is one.
+///
+/// `changed` has the same patches without a rule of it, and `set` is that set. It fails only when out of memory.
+fn first_section<A: Allocator + Copy>(
+    alloc: A,
+    findings: &Findings<'_, '_, A>,
+    changed: &Graph<A>,
+    set: Option<u128>,
+) -> Result<Option<Section<A>>, AllocError>
+    requires fits { All (λ patch. patch.block < findings.now.base.now.blocks) changed.now }
+    requires earlier { AreEarlier (deps_of changed.now) }
+    requires first { IsFirstPrevented (IsFailing findings.now.base.now changed.now)
+        (IsClosed (deps_of findings.now.traced.patches)) set }
+    ensures { IfOk result (λ first. (sets : List ℕ) → AreAllInOrder (IsFailing findings.now.base.now changed.now) sets
+        → IsFirstNew findings.now.settings.now.explain findings.now.base.now findings.now.traced.patches changed.now
+        sets
+        (option_map told first)) }
+{
+    let Some(set) = set else {
+        return Ok(None);
+    };
+    let explain = findings.settings.explain;
+    let mut maker = SectionMaker::new(alloc, findings.base, changed, explain)?;
+    let section = maker.section(set)?;
+    Ok(Some(section))
+}

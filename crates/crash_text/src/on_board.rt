@@ -1,0 +1,66 @@
+//! The sets that a crash can leave, explored over a board.
+
+ghost use Rattle.std.specs.Prelude.{◌≡◌, ◌≢◌, ◌<◌, ◌≤◌, IfOk, IfErr};
+ghost use Rattle.std.specs.List.{All};
+ghost use Rattle.patch_sets.specs.Sets.{AreAllInOrder};
+ghost use Rattle.crash_model.specs.Patches.{AreUndo};
+ghost use Rattle.crash_model.specs.Failing.{IsFailing, CountsClosed, ExceedsLimit};
+
+use crate::board_limit::board_limit;
+use crate::dependencies::dependencies;
+use crash_image::{PatchSpace, exploring_finds_the_failing_sets};
+use crash_model::refusals::RunFault;
+use disk_image::Image;
+use explorers::{ExploreFault, Explored, Gate, explore};
+use patch_graph::Graph;
+use set_sweep::count_closed;
+use std::alloc::Allocator;
+use std::sync::Wait;
+use std::thread::Threads;
+
+/// How many sets a board can hold.
+pub(crate) const MAX_BOARD: usize = 32_768;
+
+/// How many sets a crash can leave, at most `limit`, and which of them fail, in canonical order.
+///
+/// The sets are counted first, so that the board is no larger than their number asks for. It refuses where they are
+/// more than the limit. The patches change blocks of the base, and their undo data are the bytes that they replace
+/// there.
+pub(crate) fn explored_on_board<R, A, G>(
+    rt: &R,
+    alloc: A,
+    base: &Image<A>,
+    graph: &Graph<A>,
+    limit: usize,
+    workers: usize,
+    gate: &G,
+) -> Result<Explored<A>, RunFault>
+where
+    R: Threads + Wait + Sync,
+    A: Allocator + Copy + Send + Sync,
+    G: Gate + Sync,
+    requires limit { (1 ≤ limit) × (limit ≤ 32768) }
+    requires workers { (1 ≤ workers) × (workers ≤ 16) }
+    requires fits { All (λ patch. patch.block < base.now.blocks) graph.now }
+    requires undo { AreUndo base.now graph.now }
+    ensures total { IfOk result (λ found. CountsClosed graph.now found.total) }
+    ensures within { IfOk result (λ found. found.total ≤ limit) }
+    ensures failing { IfOk result (λ found. AreAllInOrder (IsFailing base.now graph.now) found.broken.items) }
+    ensures too_many { IfErr result (λ fault. (fault ≢ RunFault.OutOfMemory)
+        → (fault ≡ RunFault.TooMany) × ExceedsLimit graph.now limit) }
+{
+    let space = PatchSpace::new(base, graph);
+    exploring_finds_the_failing_sets(&space);
+    let deps = dependencies(graph);
+    let Some(sets) = count_closed(&deps, limit) else {
+        return Err(RunFault::TooMany);
+    };
+    match explore(rt, alloc, &space, board_limit(sets, limit), workers, gate) {
+        Ok(found) => {
+            gate.visited(found.total, found.broken.len());
+            Ok(found)
+        }
+        Err(ExploreFault::TooMany) => Err(RunFault::TooMany),
+        Err(ExploreFault::OutOfMemory) => Err(RunFault::OutOfMemory),
+    }
+}

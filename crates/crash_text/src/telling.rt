@@ -1,0 +1,143 @@
+//! What a run tells of the sets that it found.
+
+ghost use Rattle.std.specs.Prelude.{◌≡◌, map, IfOk, string_bytes};
+ghost use Rattle.patch_sets.specs.Sets.{AreAllInOrder};
+ghost use Rattle.crash_model.specs.Answer.{ordering_rules};
+ghost use Rattle.crash_model.specs.Failing.{IsFailing};
+ghost use Rattle.crash_model.specs.Needs.{AreToldRules};
+ghost use Rattle.crash_model.specs.Summary.{HasFault, AreRows};
+ghost use Rattle.crash_model.specs.Trace.{Tracing};
+ghost use Rattle.crash_model.specs.declared.settings.ReportBy.TheVariants.{BySet, ByFault, ByRule};
+ghost use Rattle.crash_model.specs.Whole.{Body as WholeBody, report as report_bytes};
+ghost use Rattle.report_sections.specs.Bodies.{CanTell, TellsBody, whole_of};
+ghost use Rattle.report_sections.specs.ToldRules.{told_rule};
+ghost use Rattle.crash_text.specs.Telling.{AreFindings, IsReportOf, IsTraceOf};
+
+use crate::finding::Found;
+use crash_model::fault::FaultRow;
+use crash_model::settings::Settings;
+use disk_image::Image;
+use order_modules::Traced;
+use report_json::report_json;
+use report_sections::{Body, Report, ToldRule};
+use report_text::report_text;
+use std::alloc::{AllocError, Allocator, Global};
+use std::thread::Threads;
+
+/// What was found of the patches that were traced over a base.
+#[derive(Drop)]
+pub(crate) struct Findings<'steps, 'asked, A: Allocator + Copy> {
+    pub base: &'steps Image<A>,
+    pub traced: Traced<'steps, A>,
+    pub settings: &'asked Settings,
+    pub found: Found<A>,
+}
+
+impl<'steps, 'asked, A: Allocator + Copy + Send + Sync> Findings<'steps, 'asked, A> {
+    /// The report with a section for each failing set, of which these are all. It fails only when out of memory.
+    pub fn by_set<R: Threads + Sync>(
+        &self,
+        rt: &R,
+        heap: Global,
+        alloc: A,
+        sets: &[u128],
+        workers: usize,
+    ) -> Result<String<A>, AllocError>
+        requires found { AreFindings self.now }
+        requires by { self.now.settings.now.by ≡ BySet }
+        requires sets { AreAllInOrder (IsFailing self.now.base.now self.now.traced.patches) sets.now }
+        ensures { IfOk result (λ text. IsReportOf self.now (string_bytes text)) }
+    {
+        let report = self.report(Body::Sets(sets));
+        let text = write_report(rt, heap, alloc, &report, workers)?;
+        Ok(text)
+    }
+
+    /// The report with each fault once, of which these are the rows. It fails only when out of memory.
+    pub fn by_fault<R: Threads + Sync>(
+        &self,
+        rt: &R,
+        heap: Global,
+        alloc: A,
+        rows: &[FaultRow],
+        workers: usize,
+    ) -> Result<String<A>, AllocError>
+        requires found { AreFindings self.now }
+        requires by { self.now.settings.now.by ≡ ByFault }
+        requires rows { AreRows (HasFault self.now.base.now self.now.traced.patches) rows.now }
+        ensures { IfOk result (λ text. IsReportOf self.now (string_bytes text)) }
+    {
+        let report = self.report(Body::Faults(rows));
+        let text = write_report(rt, heap, alloc, &report, workers)?;
+        Ok(text)
+    }
+
+    /// The report on the rules of the ordering, of which this is told. It fails only when out of memory.
+    pub fn by_rule<R: Threads + Sync>(
+        &self,
+        rt: &R,
+        heap: Global,
+        alloc: A,
+        rules: &[ToldRule<A>],
+        workers: usize,
+    ) -> Result<String<A>, AllocError>
+        requires found { AreFindings self.now }
+        requires by { self.now.settings.now.by ≡ ByRule }
+        requires rules { (last : Tracing) → IsTraceOf self.now.settings.now self.now.base.now self.now.traced last
+            → AreToldRules self.now.settings.now.explain self.now.settings.now.limit
+            (ordering_rules self.now.settings.now) self.now.base.now last self.now.traced.patches
+            (ordering_rules self.now.settings.now) (map told_rule rules.now) }
+        ensures { IfOk result (λ text. IsReportOf self.now (string_bytes text)) }
+    {
+        let report = self.report(Body::Rules(rules));
+        let text = write_report(rt, heap, alloc, &report, workers)?;
+        Ok(text)
+    }
+
+    /// The report with this body.
+    fn report<'found, 'body>(
+        &'found self,
+        body: Body<'body, A>,
+    ) -> Report<'found, 'steps, 'asked, 'body, A>
+        ensures base { result.base.now ≡ self.now.base.now }
+        ensures traced { result.traced.now ≡ self.now.traced }
+        ensures settings { result.settings.now ≡ self.now.settings.now }
+        ensures closed { result.closed ≡ self.now.found.closed }
+        ensures failing { result.failing ≡ self.now.found.failing }
+        ensures body { result.body ≡ body.entry }
+    {
+        Report {
+            base: self.base,
+            traced: &self.traced,
+            settings: self.settings,
+            closed: self.found.closed,
+            failing: self.found.failing,
+            body,
+        }
+    }
+}
+
+/// The report, in the form that the settings ask for. It fails only when out of memory.
+fn write_report<R, A>(
+    rt: &R,
+    heap: Global,
+    alloc: A,
+    report: &Report<'_, '_, '_, '_, A>,
+    workers: usize,
+) -> Result<String<A>, AllocError>
+where
+    R: Threads + Sync,
+    A: Allocator + Copy + Send + Sync,
+    requires tell { CanTell report.now }
+    ensures { IfOk result (λ text. (body : WholeBody)
+        × TellsBody report.now.settings.now.explain report.now.base.now report.now.traced.now.patches report.now.body
+        body
+        × (string_bytes text ≡ report_bytes report.now.settings.now (whole_of report.now body))) }
+{
+    if report.settings.json {
+        let text = report_json(rt, heap, alloc, report, workers)?;
+        String::from_str(alloc, text.as_str())
+    } else {
+        report_text(rt, alloc, report, workers)
+    }
+}

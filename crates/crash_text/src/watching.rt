@@ -1,0 +1,16 @@
+//! A gate as the watch of a sweep.
+
+use explorers::Gate;
+use set_sweep::Watch;
+
+/// Tells a gate what the watch of a sweep is told.
+#[derive(Drop)]
+pub(crate) struct GateWatch<'a, G: Gate> {
+    pub gate: &'a G,
+}
+
+impl<'a, G: Gate> Watch for GateWatch<'a, G> {
+    fn visited(&self, sets: usize, kept: usize) {
+        self.gate.visited(sets, kept);
+    }
+}

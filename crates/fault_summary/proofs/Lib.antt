@@ -1,0 +1,10 @@
+pub mod Counted
+pub mod Failing
+pub mod Ordered
+pub mod Prevented
+pub mod Sets
+pub mod Sorted
+pub mod Summed
+pub mod Swept
+pub mod Tallied
+pub mod Told

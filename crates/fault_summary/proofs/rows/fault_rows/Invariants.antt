@@ -1,0 +1,9 @@
+use Rattle.std.proofs.Common.{◌≡◌, take}
+use Rattle.fault_summary.specs.Summed.{AreSummed, HasAmong, faults_after}
+use Rattle.fault_summary.proofs.rows.fault_rows.Given as goal
+
+abbrev pub invariant-loop-set : goal.invariant-loop-set
+invariant-loop-set g l = record {
+  summed : AreSummed (HasAmong (faults_after l.base l.graph) (take l.set-index l.sets)) l.summary;
+  size : l.image.blocks ≡ l.base.blocks;
+}

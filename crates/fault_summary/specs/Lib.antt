@@ -1,0 +1,3 @@
+pub mod Prevented
+pub mod Summed
+pub mod Tallied

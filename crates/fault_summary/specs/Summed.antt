@@ -1,0 +1,74 @@
+-- Rows that sum up the faults of sets.
+use Rattle.std.specs.Prelude.{◌≡◌, ◌≢◌, ℕ, ◌+◌, ◌<◌, ◌^◌, ◌⊎◌, ◌↔◌, List, [], ◌∷◌, ◌++◌, length, map, slice_index_or, slice_set}
+use Rattle.std.specs.List.{All, AllPairs, Contains}
+use Rattle.patch_sets.specs.Sets.{IsBefore}
+use Rattle.crash_model.specs.Disk.{Disk}
+use Rattle.crash_model.specs.Faults.{faults}
+use Rattle.crash_model.specs.Patches.{image_of}
+use Rattle.crash_model.specs.Replay.{replayed}
+use Rattle.crash_model.specs.Summary.{IsRow}
+use Rattle.crash_model.specs.declared.fault.Fault.{Fault}
+use Rattle.crash_model.specs.declared.fault.FaultRow.{FaultRow}
+use Rattle.crash_model.specs.declared.patches.Patch.{Patch}
+
+abbrev pub fault_of : FaultRow → Fault
+fault_of row = row.fault
+
+-- no fault is told twice
+abbrev pub TellsOnce : List FaultRow → Type 0
+TellsOnce rows = AllPairs (λ f g. f ≢ g) (map fault_of rows)
+
+-- each fault that a set has is told in one row, and no other
+pub record AreSummed (has : Fault → ℕ → Type 0) (rows : List FaultRow) : Type 0 where
+  pub once : TellsOnce rows
+  pub each : All (IsRow has) rows
+  pub every : (fault : Fault) (set : ℕ) → has fault set → Contains (map fault_of rows) fault
+
+-- the earlier of two sets in canonical order
+abbrev pub IsEarlier : ℕ → ℕ → ℕ → Type 0
+IsEarlier a b earlier = ((earlier ≡ a) × ¬ (IsBefore b a)) ⊎ ((earlier ≡ b) × IsBefore b a)
+
+-- the row of a fault that no row told
+pub record IsNewRow (old : List FaultRow) (row : FaultRow) (new : List FaultRow) : Type 0 where
+  pub absent : All (λ r. r.fault ≢ row.fault) old
+  pub more : new ≡ old ++ row ∷ []
+
+-- the row at a place tells the fault, and tells further sets with it now; numbers past 64 bits are not told rightly
+pub record IsWiderRow (at : ℕ) (old : List FaultRow) (row : FaultRow) (new : List FaultRow) : Type 0 where
+  pub was : FaultRow
+  pub both : FaultRow
+  pub within : at < length old
+  pub stood : (d : FaultRow) → slice_index_or old at d ≡ was
+  pub same : was.fault ≡ row.fault
+  pub still : both.fault ≡ row.fault
+  pub number : was.sets + row.sets < 2 ^ 64 → both.sets ≡ was.sets + row.sets
+  pub first : IsEarlier was.first row.first both.first
+  pub more : new ≡ slice_set old at both
+
+-- further sets have the row's fault
+abbrev pub AddsRow : List FaultRow → FaultRow → List FaultRow → Type 0
+AddsRow old row new = IsNewRow old row new ⊎ ((at : ℕ) × IsWiderRow at old row new)
+
+-- the same for several rows, one after another
+abbrev pub AddsRows : List FaultRow → List FaultRow → List FaultRow → Type 0
+AddsRows old [] new = new ≡ old
+AddsRows old (row ∷ rows) new = (mid : List FaultRow) × AddsRow old row mid × AddsRows mid rows new
+
+-- what one set tells of a fault
+abbrev pub row_of : ℕ → Fault → FaultRow
+row_of set fault = record { fault = fault; sets = 1; first = set }
+
+-- a set more has the faults of the list, each of which counts once
+pub record AddsFaults (old : List FaultRow) (set : ℕ) (faults : List Fault) (new : List FaultRow) : Type 0 where
+  pub told : List Fault
+  pub once : AllPairs (λ f g. f ≢ g) told
+  pub same : (fault : Fault) → Contains told fault ↔ Contains faults fault
+  pub added : AddsRows old (map (row_of set) told) new
+
+-- one of these sets has the fault, where each set has the faults of its list
+abbrev pub HasAmong : (ℕ → List Fault) → List ℕ → Fault → ℕ → Type 0
+HasAmong faults_of sets fault set = Contains sets set × Contains (faults_of set) fault
+
+-- the faults that the image of a set has after replay
+abbrev pub faults_after : Disk → List Patch → ℕ → List Fault
+faults_after base patches set = faults (replayed (image_of base patches set))

@@ -1,0 +1,167 @@
+//! The faults of the sets of a sweep.
+
+ghost use Rattle.std.specs.Prelude.{◌≡◌, ◌<◌, ◌≤◌, ℕ, List, length, IfOk, IsErrOf};
+ghost use Rattle.std.specs.List.{All};
+ghost use Rattle.patch_sets.specs.Closed.{AreEarlier};
+ghost use Rattle.patch_sets.specs.Sets.{AreAllInOrder};
+ghost use Rattle.crash_model.specs.Failing.{IsFailing, CountsClosed, ExceedsLimit};
+ghost use Rattle.crash_model.specs.Patches.{AreUndo, deps_of};
+ghost use Rattle.crash_model.specs.Summary.{HasFault, AreRows};
+
+use crate::summary::Summary;
+use crash_image::Replayer;
+use crash_model::fault::FaultRow;
+use disk_image::Image;
+use fs_check::{faults, is_clean};
+use patch_graph::Graph;
+use patch_sets::explored::ExploreFault;
+use set_sweep::{Visitor, Watch, sweep_with};
+use std::alloc::{AllocError, Allocator};
+use std::marker::Model;
+use std::thread::Threads;
+
+/// What a sweep found: how many sets a crash can leave, how many of them fail, and each fault once, in the order of
+/// faults.
+#[derive(Drop)]
+pub struct SweptFaults<A: Allocator> {
+    pub total: usize,
+    pub failing: usize,
+    pub rows: Vec<FaultRow, A>,
+}
+
+/// Sweeps over the sets of the visitor's graph that a crash can leave, with 1 to 16 workers.
+///
+/// For every number of workers and every schedule, an answer other than out of memory is the one that is defined
+/// without threads. `deps` are the graph's dependencies. The memory that it takes does not grow with the sets. The
+/// watch is told as it goes on.
+pub fn sweep_faults<R, A, W>(
+    rt: &R,
+    visitor: &FaultVisitor<'_, A>,
+    deps: &[u128],
+    limit: usize,
+    workers: usize,
+    watch: &W,
+) -> Result<SweptFaults<A>, ExploreFault>
+where
+    R: Threads + Sync,
+    A: Allocator + Copy + Send + Sync,
+    W: Watch + Sync,
+    requires deps { deps.now ≡ deps_of visitor.now.patches }
+    requires few { length deps.now < 127 }
+    requires earlier { AreEarlier deps.now }
+    requires workers { (1 ≤ workers) × (workers ≤ 16) }
+
+    ensures total { IfOk result (λ found. CountsClosed visitor.now.patches found.total) }
+    ensures within { IfOk result (λ found. found.total ≤ limit) }
+    ensures failing { IfOk result (λ found. (sets : List ℕ)
+        × AreAllInOrder (IsFailing visitor.now.base visitor.now.patches) sets × (found.failing ≡ length sets)) }
+    ensures rows { IfOk result (λ found. AreRows (HasFault visitor.now.base visitor.now.patches) found.rows.items) }
+
+    ensures too_many { IsErrOf result ExploreFault.TooMany → ExceedsLimit visitor.now.patches limit }
+{
+    let swept = sweep_with(rt, visitor.alloc, visitor, deps, limit, workers, watch)?;
+    let Tally { failing, summary } = swept.tally;
+    Ok(SweptFaults {
+        total: swept.total,
+        failing,
+        rows: summary.into_rows(),
+    })
+}
+
+/// How many of some sets fail, and their faults.
+#[derive(Drop)]
+pub struct Tally<A: Allocator> {
+    pub failing: usize,
+    pub summary: Summary<A>,
+}
+
+/// Tallies the faults of the sets of a graph that a crash can leave on a base. No list of the sets is kept.
+///
+/// Contracts see the base and the patches.
+#[derive(Drop)]
+pub struct FaultVisitor<'a, A: Allocator + Copy> {
+    alloc: A,
+    base: &'a Image<A>,
+    graph: &'a Graph<A>,
+}
+
+impl<'a, A: Allocator + Copy> Model for FaultVisitor<'a, A> {
+    ghost use Rattle.crash_image.specs.Moves.{Crashes, AreOver};
+
+    ghost Value = { Crashes };
+
+    ghost view = { λ v. record { base = v.base.now; patches = v.graph.now } };
+
+    ghost invariant = { λ v. AreOver v.base.now v.graph.now };
+}
+
+impl<'a, A: Allocator + Copy> FaultVisitor<'a, A> {
+    /// Tallies the faults of sets of a graph over a base.
+    ///
+    /// The patches change blocks of the base, and their undo data are the bytes that they replace there.
+    pub fn new(alloc: A, base: &'a Image<A>, graph: &'a Graph<A>) -> FaultVisitor<'a, A>
+        requires fits { All (λ patch. patch.block < base.now.blocks) graph.now }
+        requires undo { AreUndo base.now graph.now }
+        ensures { result ≡ record { base = base.now; patches = graph.now } }
+    {
+        // For the proof: what every image and every graph keeps.
+        let _blocks = base.blocks();
+        let _len = graph.len();
+        FaultVisitor { alloc, base, graph }
+    }
+}
+
+impl<'a, A: Allocator + Copy> Visitor for FaultVisitor<'a, A> {
+    ghost use Rattle.std.specs.Prelude.{◌≡◌};
+    ghost use Rattle.crash_model.specs.Patches.{deps_of};
+    ghost use Rattle.patch_sets.specs.Closed.{IsClosed};
+    ghost use Rattle.fault_summary.specs.Summed.{faults_after};
+    ghost use Rattle.fault_summary.specs.Tallied.{IsTally};
+
+    type Scratch = Replayer<'a, A>;
+
+    type Tally = Tally<A>;
+
+    ghost is_lawful = { λ v. IsClosed (deps_of v.patches) };
+
+    ghost is_own = { λ v scratch. (scratch.base ≡ v.base) × (scratch.patches ≡ v.patches) };
+
+    ghost tells = { λ v sets tally. IsTally (faults_after v.base v.patches) sets tally.failing tally.summary };
+
+    fn scratch(&self) -> Result<Replayer<'a, A>, AllocError> {
+        Ok(Replayer::new(self.base.try_copy()?, self.base.try_copy()?, self.graph))
+    }
+
+    fn none(&self) -> Tally<A> {
+        Tally {
+            failing: 0,
+            summary: Summary::new(self.alloc),
+        }
+    }
+
+    fn visit(
+        &self,
+        scratch: &mut Replayer<'a, A>,
+        tally: &mut Tally<A>,
+        set: u128,
+    ) -> Result<(), AllocError> {
+        scratch.move_to(set);
+        if is_clean(scratch.image()) {
+            return Ok(());
+        }
+        let found = faults(self.alloc, scratch.image())?;
+        tally.failing = tally.failing.wrapping_add(1);
+        tally.summary.add(set, &found)?;
+        Ok(())
+    }
+
+    fn join(&self, tally: &mut Tally<A>, later: Tally<A>) -> Result<(), AllocError> {
+        tally.failing = tally.failing.wrapping_add(later.failing);
+        tally.summary.join(&later.summary)?;
+        Ok(())
+    }
+
+    fn kept(&self, tally: &Tally<A>) -> usize {
+        tally.failing
+    }
+}

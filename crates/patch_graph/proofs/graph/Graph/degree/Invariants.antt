@@ -1,0 +1,9 @@
+use Rattle.crash_model.specs.Patches.{deps_of}
+use Rattle.patch_graph.proofs.Fronts.{Leaves}
+use Rattle.patch_graph.proofs.graph.Graph.degree.Given as goal
+
+abbrev pub invariant-loop-id : goal.invariant-loop-id
+invariant-loop-id g l = Leaves (deps_of l.self) l.set l.front l.count
+
+abbrev pub decreases-loop-id : goal.decreases-loop-id
+decreases-loop-id g l = l.front

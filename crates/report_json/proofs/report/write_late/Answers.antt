@@ -1,0 +1,23 @@
+use Rattle.std.proofs.Common.{◌≡◌, ◌++◌, ℕ, length, map, codes, string_bytes, sym, subst, ap, ◌∙◌}
+use Rattle.std.proofs.lemmas.Simd.{map-map}
+use Rattle.crash_model.specs.Lists.{joined}
+use Rattle.crash_model.specs.Needs.{told_rule_json}
+use Rattle.crash_model.specs.Whole as whole
+use Rattle.crash_model.specs.Whole.{late_json}
+use Rattle.report_sections.specs.Bodies.{TellsBody}
+use Rattle.report_sections.specs.ToldRules.{told_rule}
+use Rattle.report_sections.proofs.Pieces.{array_pieces}
+use Rattle.report_json.proofs.report.write_late.Goals as goal
+
+pub returns-in_ok-push_str-in-Rules-2 : goal.returns-in_ok-push_str-in-Rules-2
+returns-in_ok-push_str-in-Rules-2 g c = λ body tells.
+    let report = c.args.report.now in
+    let patches = report.traced.now.patches in
+    let rules = c.in-Rules.rules.now in
+    let number : c.len.result ≡ length patches = cc in
+    let same : body ≡ whole.Rules (map told_rule rules) = subst (λ b. TellsBody report.settings.now.explain report.base.now patches b body) c.in-Rules.is tells in
+    let items = c.in_ok-write_rules-in-Rules.ensures
+    ∙ (ap (λ (k : ℕ). string_bytes c.push_str.new.self ++ joined 44 (map (λ rule. told_rule_json k (told_rule rule)) rules)) number
+    ∙ ap (λ ts. string_bytes c.push_str.new.self ++ joined 44 ts) (sym (map-map (told_rule_json (length patches)) told_rule rules))) in
+    array_pieces _ _ _ _ (codes ",\"rules\":") _ c.in_ok-push_str-in-Rules.ensures.bytes items c.in_ok-push_str-in-Rules-2.ensures.bytes
+    ∙ ap (λ (b : whole.Body). string_bytes c.args.out.now ++ late_json (length patches) report.failing b) (sym same)

@@ -1,0 +1,54 @@
+//! The keys that every report has.
+
+ghost use Rattle.std.specs.Prelude.{◌≡◌, ◌++◌, map, string_bytes, OnOk};
+ghost use Rattle.crash_model.specs.Lists.{joined};
+ghost use Rattle.crash_model.specs.Report.{quoted};
+ghost use Rattle.crash_model.specs.Rules.{rule_text};
+ghost use Rattle.crash_model.specs.Whole.{rules_json};
+ghost use Rattle.report_json.specs.JsonReport.{module_key};
+
+use crate::items::write_comma;
+use crash_model::rules::Rule;
+use crash_model::steps::Module;
+use std::alloc::AllocError;
+
+/// The module and the number of patches.
+pub(crate) fn write_module(
+    out: &mut String,
+    module: Module,
+    patches: usize,
+) -> Result<(), AllocError>
+    ensures { OnOk result (string_bytes out.new ≡ string_bytes out.old ++ module_key «module» patches) }
+{
+    out.push_str(",\"module\":\"")?;
+    out.push_str(module.name())?;
+    out.push_str("\",\"patches\":")?;
+    write!(out, "{patches}")?;
+    Ok(())
+}
+
+/// The key with the texts of the rules, where there are any.
+pub(crate) fn write_rule_key(out: &mut String, key: &str, rules: &[Rule]) -> Result<(), AllocError>
+    ensures { OnOk result (string_bytes out.new ≡ string_bytes out.old ++ rules_json key.now rules.now) }
+{
+    if rules.is_empty() {
+        return Ok(());
+    }
+    write!(out, ",\"{key}\":[")?;
+    write_rule_texts(out, rules)?;
+    out.push_str("]")?;
+    Ok(())
+}
+
+/// The texts of the rules, with a comma between two.
+fn write_rule_texts(out: &mut String, rules: &[Rule]) -> Result<(), AllocError>
+    ensures { OnOk result (string_bytes out.new
+        ≡ string_bytes out.old ++ joined 44 (map (λ r. quoted (rule_text r)) rules.now)) }
+{
+    for (at, rule) in rules.iter().enumerate() {
+        let rule = *rule;
+        write_comma(out, at)?;
+        write!(out, "\"{rule}\"")?;
+    }
+    Ok(())
+}

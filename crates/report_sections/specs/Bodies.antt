@@ -1,0 +1,53 @@
+-- What a report's data tell.
+use Rattle.std.specs.Prelude.{◌≡◌, ℕ, ◌<◌, List, [], length, map, Bool}
+use Rattle.std.specs.List.{All}
+use Rattle.patch_sets.specs.Sets.{Has}
+use Rattle.crash_model.specs.Disk.{Disk}
+use Rattle.crash_model.specs.Lists.{when}
+use Rattle.crash_model.specs.Explain.{Explanation, blocks_of, told_patches}
+use Rattle.crash_model.specs.Report.{Section, AreSections}
+use Rattle.crash_model.specs.Summary.{ToldFault}
+use Rattle.crash_model.specs.Whole as whole
+use Rattle.crash_model.specs.declared.patches.Patch.{Patch}
+use Rattle.order_modules.specs.Traced.{TracedPatches}
+use Rattle.report_sections.specs.declared.report.Body.{Body}
+use Rattle.report_sections.specs.declared.report.Body.TheVariants.{Sets, Faults, Rules}
+use Rattle.report_sections.specs.declared.report.Report.{Report}
+use Rattle.report_sections.specs.ToldRules.{told_rule}
+
+-- each id of the sets is a patch's
+abbrev pub AreKnown : List Patch → List ℕ → Type 0
+AreKnown patches sets = All (λ set. (id : ℕ) → Has set id → id < length patches) sets
+
+-- the sets of which sections are made
+abbrev pub sets_of : {A : Type 0} → Body A → List ℕ
+sets_of (Sets sets) = sets.now
+sets_of (Faults rows) = map (λ row. row.first) rows.now
+sets_of (Rules rules) = []
+
+-- the patches change blocks of the base, and those of the sets to tell of are among them
+pub record CanTell {A : Type 0} (report : Report A) : Type 0 where
+  pub fits : All (λ patch. patch.block < report.base.now.blocks) report.traced.now.patches
+  pub known : AreKnown report.traced.now.patches (sets_of report.body)
+
+-- the body as the definition sees it
+abbrev pub TellsBody : {A : Type 0} → Bool → Disk → List Patch → Body A → whole.Body → Type 0
+TellsBody explain base patches (Sets sets) body =
+    (sections : List Section) × AreSections explain base patches sets.now sections × (body ≡ whole.Sets sections)
+TellsBody explain base patches (Faults rows) body =
+    (told : List ToldFault) × (map (λ t. t.row) told ≡ rows.now)
+    × AreSections explain base patches (map (λ row. row.first) rows.now) (map (λ t. t.first) told) × (body ≡ whole.Faults told)
+TellsBody explain base patches (Rules rules) body = body ≡ whole.Rules (map told_rule rules.now)
+
+abbrev pub explanation_by : Disk → TracedPatches → Explanation
+explanation_by base t = record { base = blocks_of base; patches = told_patches t.rules t.links t.emitted t.patches }
+
+-- the report with this body as the definition sees it
+abbrev pub whole_of : {A : Type 0} → Report A → whole.Body → whole.Report
+whole_of report body = record {
+  patches = length report.traced.now.patches;
+  closed = report.closed;
+  failing = report.failing;
+  explanation = when report.settings.now.explain (explanation_by report.base.now report.traced.now);
+  body = body;
+}

@@ -1,0 +1,68 @@
+//! What replay of a journal changes.
+
+ghost use Rattle.std.specs.Prelude.{◌≡◌, ◌<◌, IfOk, OnOk, map};
+ghost use Rattle.crash_model.specs.Disk.{block_of};
+ghost use Rattle.crash_model.specs.Replay.{replayed};
+ghost use Rattle.crash_model.specs.Report.{changed_blocks, replay_of};
+ghost use Rattle.report_sections.specs.Replay.{told_block, told_replay};
+
+use disk_image::Image;
+use journal_replay::replay;
+use std::alloc::{AllocError, Allocator};
+
+/// A block that replay changes, with its bytes after replay.
+#[derive(Clone, Copy, Drop)]
+pub struct ReplayedBlock {
+    pub block: u8,
+    pub bytes: [u8; 128],
+}
+
+/// Replays the journal of an image; where `explain` is set, tells the blocks that this changes, ascending. It fails
+/// only when out of memory, and then too the image is replayed or as it was.
+pub(crate) fn replay_and_tell<A: Allocator + Copy>(
+    alloc: A,
+    image: &mut Image<A>,
+    explain: bool,
+) -> Result<Option<Vec<ReplayedBlock, A>>, AllocError>
+    ensures size { image.new.blocks ≡ image.old.blocks }
+    ensures replayed { OnOk result (image.new ≡ replayed image.old) }
+    ensures told { IfOk result (λ replay. told_replay replay ≡ replay_of explain image.old) }
+{
+    if !explain {
+        replay(image);
+        return Ok(None);
+    }
+    let before = image.try_copy()?;
+    replay(image);
+    let changed = changed_blocks(alloc, &before, image)?;
+    Ok(Some(changed))
+}
+
+/// The blocks in which an image differs from the one before, ascending, with their bytes after it.
+#[tactic(auto, using(crash_model::specs::Lists::each_below_steps, std::proofs::lemmas::Grind::common_steps))]
+fn changed_blocks<A: Allocator + Copy>(
+    alloc: A,
+    before: &Image<A>,
+    after: &Image<A>,
+) -> Result<Vec<ReplayedBlock, A>, AllocError>
+    requires { after.now.blocks ≡ before.now.blocks }
+    ensures { IfOk result (λ changed. map told_block changed.items ≡ changed_blocks before.now after.now) }
+{
+    let mut changed = Vec::new(alloc);
+    for block in 0..before.blocks() as u8 {
+        if before.block(usize::from(block)) != after.block(usize::from(block)) {
+            changed.push(replayed_block(after, block))?;
+        }
+    }
+    Ok(changed)
+}
+
+/// A block with its bytes.
+fn replayed_block<A: Allocator + Copy>(image: &Image<A>, block: u8) -> ReplayedBlock
+    requires { block < image.now.blocks }
+    ensures { told_block result ≡ record { block = block; bytes = block_of image.now block } }
+{
+    let mut bytes = [0; 128];
+    bytes.copy_from_slice(image.block(usize::from(block)));
+    ReplayedBlock { block, bytes }
+}

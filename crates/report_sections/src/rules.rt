@@ -1,0 +1,28 @@
+//! What is told of a rule.
+
+use crate::section::Section;
+use crash_model::rules::Rule;
+use std::alloc::Allocator;
+
+/// How many pairs of patches a rule applies to, and what a crash can leave without it: too many closed sets, or so
+/// many, of which so many fail, with the first failing set that the rule prevents.
+#[derive(Drop)]
+pub enum RuleUsage<A: Allocator> {
+    Unused,
+    TooMany {
+        pairs: usize,
+    },
+    Used {
+        pairs: usize,
+        closed: usize,
+        failing: usize,
+        first: Option<Section<A>>,
+    },
+}
+
+/// A rule of the ordering, and its use.
+#[derive(Drop)]
+pub struct ToldRule<A: Allocator> {
+    pub rule: Rule,
+    pub usage: RuleUsage<A>,
+}

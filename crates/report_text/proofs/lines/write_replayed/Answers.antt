@@ -1,0 +1,8 @@
+use Rattle.std.proofs.Common.{◌∙◌, ap, string_bytes}
+use Rattle.hex.specs.Hex.{encode_lower}
+use Rattle.report_sections.proofs.Pieces.{five_pieces}
+use Rattle.report_text.proofs.lines.write_replayed.Goals as goal
+
+pub returns : goal.returns
+returns g c =
+    five_pieces _ _ _ _ _ _ _ _ _ _ _ c.in_ok-push_str.ensures.bytes (rw c.from.ensures at c.in_ok-write_number.ensures) c.in_ok-push_str-2.ensures.bytes (rw c.as_slice.ensures at c.in_ok-write_hex.ensures) c.in_ok-push_str-3.ensures.bytes

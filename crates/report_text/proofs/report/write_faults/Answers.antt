@@ -1,0 +1,27 @@
+use Rattle.std.proofs.Common.{◌≡◌, ℕ, ◌<◌, length, get_or, subst, sym, ◌∙◌}
+use Rattle.patch_sets.specs.Sets.{Has}
+use Rattle.report_sections.specs.Maker.{Reported}
+use Rattle.report_sections.specs.Sections.{IsSection}
+use Rattle.report_sections.proofs.Known.{no_row, first_known}
+use Rattle.report_text.proofs.Reports.{fault_more}
+use Rattle.report_text.proofs.report.write_faults.Goals as goal
+
+pub section-requires : goal.section-requires
+section-requires g c =
+    let rows = c.args.rows.now in
+    record {
+      known = subst (λ (m : Reported). (id : ℕ) → Has (get_or rows c.loop-row.row-index no_row).first id → id < length m.patches) (sym c.loop-row.invariant.of_report)
+          (first_known c.args.report.now.traced.now.patches rows c.loop-row.row-index c.requires.known c.loop-row-test.true);
+    }
+
+pub loop-row-preserved : goal.loop-row-preserved
+loop-row-preserved g c =
+    let kept : c.section.new.self ≡ c.loop-row.maker = cc in
+    let report = c.args.report.now in
+    let rows = c.args.rows.now in
+    let number : c.len-patches.result ≡ length report.traced.now.patches = cc in
+    let is = subst (λ (m : Reported). IsSection m.explain m.base m.patches (get_or rows c.loop-row.row-index no_row).first c.in_ok-section.section) c.loop-row.invariant.of_report c.in_ok-section.ensures.told in
+    record {
+      told = fault_more report.settings.now.explain report.base.now report.traced.now.patches rows c.loop-row.row-index c.len-patches.result no_row _ _ _ c.in_ok-section.section c.loop-row-test.true number c.loop-row.invariant.told is c.in_ok-write_told_fault.ensures;
+      of_report = kept ∙ c.loop-row.invariant.of_report;
+    }

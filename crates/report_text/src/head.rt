@@ -1,0 +1,44 @@
+//! The head of a report.
+
+ghost use Rattle.std.specs.Prelude.{◌≡◌, ◌++◌, string_bytes, OnOk};
+ghost use Rattle.crash_model.specs.Whole.{head_text, rule_lines};
+
+use crash_model::rules::Rule;
+use crash_model::settings::Settings;
+use std::alloc::{AllocError, Allocator};
+
+/// The lines before the first failing set.
+pub(crate) fn write_head<A: Allocator>(
+    out: &mut String<A>,
+    settings: &Settings,
+    patches: usize,
+    closed: usize,
+    failing: usize,
+) -> Result<(), AllocError>
+    ensures { OnOk result (string_bytes out.new
+        ≡ string_bytes out.old ++ head_text settings.now patches closed failing) }
+{
+    let name = settings.module.name();
+    write!(out, "module {name}\n")?;
+    write_rule_lines(out, "without", settings.taken_out().as_slice())?;
+    write_rule_lines(out, "with", settings.put_in().as_slice())?;
+    write!(
+        out,
+        "patches {patches}\nclosed {closed}\nfailing {failing}\n"
+    )
+}
+
+/// A line for each rule, behind the word.
+fn write_rule_lines<A: Allocator>(
+    out: &mut String<A>,
+    word: &str,
+    rules: &[Rule],
+) -> Result<(), AllocError>
+    ensures { OnOk result (string_bytes out.new ≡ string_bytes out.old ++ rule_lines word.now rules.now) }
+{
+    for rule in rules {
+        let rule = *rule;
+        write!(out, "{word} {rule}\n")?;
+    }
+    Ok(())
+}

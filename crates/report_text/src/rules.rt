@@ -1,0 +1,83 @@
+//! What is told of the rules of an ordering.
+
+ghost use Rattle.std.specs.Prelude.{◌≡◌, ◌++◌, [], flat_map, option_map, string_bytes, OnOk};
+ghost use Rattle.crash_model.specs.Needs.{first_text, usage_text, told_rule_text};
+ghost use Rattle.report_sections.specs.Sections.{told};
+ghost use Rattle.report_sections.specs.ToldRules.{usage_of, told_rule};
+
+use crate::lines::write_section;
+use report_sections::{RuleUsage, Section, ToldRule};
+use std::alloc::{AllocError, Allocator};
+
+/// What is told of each rule. The graph has `patches` patches.
+pub(crate) fn write_rules<A: Allocator + Copy>(
+    out: &mut String<A>,
+    patches: usize,
+    rules: &[ToldRule<A>],
+) -> Result<(), AllocError>
+    ensures { OnOk result (string_bytes out.new
+        ≡ string_bytes out.old ++ flat_map (λ rule. told_rule_text patches (told_rule rule)) rules.now) }
+{
+    for rule in rules {
+        write_rule(out, patches, rule)?;
+    }
+    Ok(())
+}
+
+/// The line of a rule, and the section of the first failing set that it prevents, where there is one.
+fn write_rule<A: Allocator + Copy>(
+    out: &mut String<A>,
+    patches: usize,
+    told: &ToldRule<A>,
+) -> Result<(), AllocError>
+    ensures { OnOk result (string_bytes out.new
+        ≡ string_bytes out.old ++ told_rule_text patches (told_rule told.now)) }
+{
+    let rule = told.rule;
+    write!(out, "rule {rule}")?;
+    write_usage(out, patches, &told.usage)?;
+    Ok(())
+}
+
+/// What stands behind a rule's name.
+fn write_usage<A: Allocator + Copy>(
+    out: &mut String<A>,
+    patches: usize,
+    usage: &RuleUsage<A>,
+) -> Result<(), AllocError>
+    ensures { OnOk result (string_bytes out.new ≡ string_bytes out.old ++ usage_text patches [] (usage_of usage.now)) }
+{
+    match usage {
+        RuleUsage::Unused => out.push_str(" pairs 0\n")?,
+        RuleUsage::TooMany { pairs } => {
+            let pairs = *pairs;
+            write!(out, " pairs {pairs} too many\n")?;
+        }
+        RuleUsage::Used {
+            pairs,
+            closed,
+            failing,
+            first,
+        } => {
+            let (pairs, closed, failing) = (*pairs, *closed, *failing);
+            write!(out, " pairs {pairs} closed {closed} failing {failing}\n")?;
+            write_first(out, patches, first)?;
+        }
+    }
+    Ok(())
+}
+
+/// The section, where there is one.
+fn write_first<A: Allocator + Copy>(
+    out: &mut String<A>,
+    patches: usize,
+    first: &Option<Section<A>>,
+) -> Result<(), AllocError>
+    ensures { OnOk result (string_bytes out.new
+        ≡ string_bytes out.old ++ first_text patches (option_map told first.now)) }
+{
+    if let Some(section) = first {
+        write_section(out, patches, section)?;
+    }
+    Ok(())
+}

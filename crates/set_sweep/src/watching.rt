@@ -1,0 +1,140 @@
+//! Watching how far a sweep is.
+ghost use Rattle.std.specs.Prelude.{◌≡◌};
+
+use crate::visitor::Visitor;
+use std::alloc::AllocError;
+
+/// Is told how far a sweep is. No answer rests on it.
+pub trait Watch {
+    /// A worker has visited so many sets more, of which so many are kept. Neither is any while sets are counted alone.
+    fn visited(&self, sets: usize, kept: usize);
+}
+
+/// Watches nothing.
+pub struct Unwatched;
+
+impl Watch for Unwatched {
+    fn visited(&self, _sets: usize, _kept: usize) {}
+}
+
+/// How many sets a worker visits before it tells of them.
+const TOLD_AT_ONCE: usize = 1024;
+
+/// How many sets a worker counts before it tells that it goes on, in a fraction of the time.
+const COUNTED_AT_ONCE: usize = 65_536;
+
+/// Visits as another visitor does, and tells a watch of it.
+#[derive(Drop)]
+pub(crate) struct Watched<'a, V: Visitor, W: Watch> {
+    pub visitor: &'a V,
+    pub watch: &'a W,
+}
+
+/// What a worker visits in, and the sets that it has not told of yet.
+#[derive(Drop)]
+pub(crate) struct Untold<C> {
+    scratch: C,
+    sets: usize,
+    kept: usize,
+}
+
+impl<'a, V: Visitor, W: Watch> Watched<'a, V, W> {
+    /// Tells of the sets, if there are enough of them.
+    fn tell(&self, untold: &mut Untold<V::Scratch>)
+        ensures { untold.new.scratch ≡ untold.old.scratch }
+    {
+        if untold.sets >= TOLD_AT_ONCE {
+            self.watch.visited(untold.sets, untold.kept);
+            untold.sets = 0;
+            untold.kept = 0;
+        }
+    }
+}
+
+impl<'a, V: Visitor, W: Watch> Visitor for Watched<'a, V, W> {
+    type Scratch = Untold<V::Scratch>;
+
+    type Tally = V::Tally;
+
+    ghost is_lawful = { λ w. V.is_lawful w.visitor.now };
+
+    ghost is_own = { λ w untold. V.is_own w.visitor.now untold.scratch };
+
+    ghost tells = { λ w. V.tells w.visitor.now };
+
+    fn scratch(&self) -> Result<Untold<V::Scratch>, AllocError> {
+        Ok(Untold {
+            scratch: self.visitor.scratch()?,
+            sets: 0,
+            kept: 0,
+        })
+    }
+
+    fn none(&self) -> V::Tally {
+        self.visitor.none()
+    }
+
+    fn visit(
+        &self,
+        untold: &mut Untold<V::Scratch>,
+        tally: &mut V::Tally,
+        set: u128,
+    ) -> Result<(), AllocError> {
+        let before = self.visitor.kept(tally);
+        self.visitor.visit(&mut untold.scratch, tally, set)?;
+        let kept = self.visitor.kept(tally).wrapping_sub(before);
+        untold.sets = untold.sets.wrapping_add(1);
+        untold.kept = untold.kept.wrapping_add(kept);
+        self.tell(untold);
+        Ok(())
+    }
+
+    fn join(&self, tally: &mut V::Tally, later: V::Tally) -> Result<(), AllocError> {
+        self.visitor.join(tally, later)
+    }
+
+    fn kept(&self, tally: &V::Tally) -> usize {
+        self.visitor.kept(tally)
+    }
+}
+
+/// Visits nothing, for a sweep that counts alone; a watch is told that it goes on.
+#[derive(Drop)]
+pub(crate) struct Counting<'a, W: Watch> {
+    pub watch: &'a W,
+}
+
+impl<'a, W: Watch> Visitor for Counting<'a, W> {
+    type Scratch = usize;
+
+    type Tally = ();
+
+    ghost is_lawful = { λ v set. Unit {0} };
+
+    ghost is_own = { λ v scratch. Unit {0} };
+
+    ghost tells = { λ v sets tally. Unit {0} };
+
+    fn scratch(&self) -> Result<usize, AllocError> {
+        Ok(0)
+    }
+
+    fn none(&self) {}
+
+    fn visit(&self, counted: &mut usize, _tally: &mut (), _set: u128) -> Result<(), AllocError> {
+        *counted = counted.wrapping_add(1);
+        if *counted >= COUNTED_AT_ONCE {
+            *counted = 0;
+            self.watch.visited(0, 0);
+        }
+        Ok(())
+    }
+
+    fn join(&self, _tally: &mut (), _later: ()) -> Result<(), AllocError> {
+        Ok(())
+    }
+
+    fn kept(&self, _tally: &()) -> usize {
+        0
+    }
+}

@@ -1,0 +1,366 @@
+//! What `--explain` tells of the patches and of replay.
+
+use crate::asked::{begins, exactly, has_digest, shows};
+use crate::scripts::{CREATE, DIRECTORY_REUSED, REUSE, WRITE};
+use std::test::Fail;
+
+/// The application orders a write behind the create.
+const GROUPS: &[u8] = b"start\ngroup A\ncreate /a\nend\ndepend B A\ngroup B\nwrite /a\n";
+
+/// How many hexadecimal digits the bytes of a block have.
+const DIGITS: usize = 256;
+
+/// The text, in which each `~` stands for the zeros that fill the digits before it up to those of a block.
+fn filled<R: AllocGlobal>(rt: &R, text: &str) -> Result<String, Fail> {
+    let mut out = String::new(rt.alloc());
+    let mut digits: usize = 0;
+    for letter in text.chars() {
+        if letter == '~' {
+            for _ in digits..DIGITS {
+                out.push('0')?;
+            }
+        } else {
+            out.push(letter)?;
+        }
+        digits = if letter.is_ascii_hexdigit() {
+            digits.saturating_add(1)
+        } else {
+            0
+        };
+    }
+    Ok(out)
+}
+
+#[test]
+fn the_patches_of_a_create_have_their_line_part_and_place(rt: HostRuntime) -> Result<(), Fail> {
+    exactly(
+        &rt,
+        &["--module async --explain"],
+        CREATE,
+        1,
+        "module async\n\
+         patches 2\n\
+         closed 4\n\
+         failing 1\n\
+         patch 0 line 2 create /a: InodeInit block 2 offset 16 length 16\n\
+         patch 1 line 2 create /a: EntrySet block 4 offset 8 length 12\n\
+         set 1\n\
+         write block 4: 1\n\
+         fault 1 dangling entry: directory 0 entry 0 inode 1\n",
+        "",
+    )
+}
+
+#[test]
+fn json_has_the_base_and_the_bytes_of_each_patch(rt: HostRuntime) -> Result<(), Fail> {
+    exactly(
+        &rt,
+        &["--module async --explain --json"],
+        CREATE,
+        1,
+        filled(
+            &rt,
+            "{\"base\":[\"5310~\",\"0101010101~\",\"0201000004~\",\"~\",\"44~\",\"~\",\"~\",\"~\",\"~\",\"~\",\
+         \"~\",\"~\",\"~\",\"~\",\"~\",\"~\"],\"closed\":4,\
+         \"failing\":[{\"faults\":[\"1 dangling entry: directory 0 entry 0 inode 1\"],\"replay\":[],\
+         \"set\":[1],\"writes\":[{\"block\":4,\"patches\":[1]}]}],\"module\":\"async\",\"patches\":2,\
+         \"trace\":[{\"after\":[],\"block\":2,\"line\":2,\"new\":\"01010000000000000000000000000000\",\
+         \"offset\":16,\"part\":\"InodeInit\",\"step\":\"create /a\",\
+         \"undo\":\"00000000000000000000000000000000\"},{\"after\":[],\"block\":4,\"line\":2,\
+         \"new\":\"020161000000000000000000\",\"offset\":8,\"part\":\"EntrySet\",\"step\":\"create /a\",\
+         \"undo\":\"000000000000000000000000\"}]}\n",
+        )?
+        .as_str(),
+        "",
+    )
+}
+
+#[test]
+fn a_dependency_has_all_its_reasons(rt: HostRuntime) -> Result<(), Fail> {
+    exactly(
+        &rt,
+        &["--explain"],
+        GROUPS,
+        0,
+        "module soft\n\
+         patches 5\n\
+         closed 6\n\
+         failing 0\n\
+         patch 0 line 3 create /a: InodeInit block 2 offset 16 length 16\n\
+         patch 1 line 3 create /a: EntrySet block 4 offset 8 length 12\n\
+         after 0: EntrySet:InodeInit\n\
+         patch 2 line 7 write /a: MapSet block 1 offset 5 length 1\n\
+         after 0: group\n\
+         after 1: group\n\
+         patch 3 line 7 write /a: InitFile block 5 offset 0 length 128\n\
+         after 0: group\n\
+         after 1: group\n\
+         after 2: InitFile:MapSet\n\
+         patch 4 line 7 write /a: Ptr block 2 offset 20 length 1\n\
+         after 0: overlap, group\n\
+         after 1: group\n\
+         after 2: Ptr:MapSet\n\
+         after 3: Ptr:InitFile\n",
+        "",
+    )
+}
+
+#[test]
+fn json_has_all_reasons_of_a_dependency(rt: HostRuntime) -> Result<(), Fail> {
+    exactly(
+        &rt,
+        &["--explain --json"],
+        GROUPS,
+        0,
+        filled(
+            &rt,
+            "{\"base\":[\"5310~\",\"0101010101~\",\"0201000004~\",\"~\",\"44~\",\"~\",\"~\",\"~\",\"~\",\"~\",\
+         \"~\",\"~\",\"~\",\"~\",\"~\",\"~\"],\"closed\":6,\"failing\":[],\"module\":\"soft\",\"patches\":5,\
+         \"trace\":[{\"after\":[],\"block\":2,\"line\":3,\"new\":\"01010000000000000000000000000000\",\
+         \"offset\":16,\"part\":\"InodeInit\",\"step\":\"create /a\",\
+         \"undo\":\"00000000000000000000000000000000\"},{\"after\":[{\"patch\":0,\
+         \"why\":[\"EntrySet:InodeInit\"]}],\"block\":4,\"line\":3,\"new\":\"020161000000000000000000\",\
+         \"offset\":8,\"part\":\"EntrySet\",\"step\":\"create /a\",\"undo\":\"000000000000000000000000\"},\
+         {\"after\":[{\"patch\":0,\"why\":[\"group\"]},{\"patch\":1,\"why\":[\"group\"]}],\"block\":1,\
+         \"line\":7,\"new\":\"01\",\"offset\":5,\"part\":\"MapSet\",\"step\":\"write /a\",\"undo\":\"00\"},\
+         {\"after\":[{\"patch\":0,\"why\":[\"group\"]},{\"patch\":1,\"why\":[\"group\"]},{\"patch\":2,\
+         \"why\":[\"InitFile:MapSet\"]}],\"block\":5,\"line\":7,\"new\":\"4601~\",\"offset\":0,\
+         \"part\":\"InitFile\",\"step\":\"write /a\",\"undo\":\"~\"},{\"after\":[{\"patch\":0,\
+         \"why\":[\"overlap\",\"group\"]},{\"patch\":1,\"why\":[\"group\"]},{\"patch\":2,\
+         \"why\":[\"Ptr:MapSet\"]},{\"patch\":3,\"why\":[\"Ptr:InitFile\"]}],\"block\":2,\"line\":7,\
+         \"new\":\"05\",\"offset\":20,\"part\":\"Ptr\",\"step\":\"write /a\",\"undo\":\"00\"}]}\n",
+        )?
+        .as_str(),
+        "",
+    )
+}
+
+#[test]
+fn transactions_have_copies_a_commit_changes_in_place_and_a_done_mark(
+    rt: HostRuntime,
+) -> Result<(), Fail> {
+    begins(
+        &rt,
+        &["--module meta --blocks 24 --journal 12 --explain"],
+        DIRECTORY_REUSED,
+        1,
+        "module meta\n\
+         patches 21\n\
+         closed 629\n\
+         failing 48\n\
+         patch 0 line 5 unlink /d/x: Copy block 5 offset 0 length 128\n\
+         patch 1 line 5 unlink /d/x: Copy block 6 offset 0 length 128\n\
+         patch 2 line 5 unlink /d/x: Commit block 4 offset 0 length 5\n\
+         after 0: Commit:Copy\n\
+         after 1: Commit:Copy\n\
+         patch 3 line 5 unlink /d/x: EntryClear block 17 offset 8 length 12\n\
+         after 2: InPlace:Commit\n\
+         patch 4 line 5 unlink /d/x: InodeFree block 2 offset 32 length 16\n\
+         after 2: InPlace:Commit\n",
+    )
+}
+
+#[test]
+fn a_patch_waits_for_those_of_the_operation_before(rt: HostRuntime) -> Result<(), Fail> {
+    let words = ["--module meta --blocks 24 --journal 12 --explain"];
+    shows(
+        &rt,
+        &words,
+        DIRECTORY_REUSED,
+        "patch 14 line 7 write /f: FileData block 17 offset 0 length 128\n\
+         after 3: overlap\n\
+         after 9: FileData:previous-Commit\n\
+         patch 15 ",
+    )?;
+    shows(
+        &rt,
+        &words,
+        DIRECTORY_REUSED,
+        "patch 20 line 7 write /f: Done block 11 offset 0 length 1\n\
+         after 13: Done:previous-Done\n\
+         after 17: overlap\n\
+         after 18: Done:InPlace\n\
+         after 19: Done:InPlace\n\
+         set 0 1 2 3 6 7 8 9 14 15 16 17\n",
+    )
+}
+
+#[test]
+fn replay_tells_the_blocks_that_it_changes(rt: HostRuntime) -> Result<(), Fail> {
+    shows(
+        &rt,
+        &["--module meta --blocks 24 --journal 12 --explain"],
+        DIRECTORY_REUSED,
+        filled(
+            &rt,
+            "set 0 1 2 3 6 7 8 9 14 15 16 17\n\
+             write block 5: 0\n\
+             write block 6: 1\n\
+             write block 4: 2\n\
+             write block 17: 3\n\
+             write block 8: 6\n\
+             write block 9: 7\n\
+             write block 10: 8\n\
+             write block 7: 9\n\
+             write block 17: 14\n\
+             write block 12: 15\n\
+             write block 13: 16\n\
+             write block 11: 17\n\
+             replay block 2: 020100001000000000000000000000000000000000000000000000000000000000000000000000000000\
+             0000000000000101000011~\n\
+             replay block 16: 4400000000000000000000000000000000000000040166~\n\
+             replay block 17: 4401~\n\
+             fault 3 unwritten pointer: inode 3 slot 0 block 17\n",
+        )?
+        .as_str(),
+    )
+}
+
+#[test]
+fn a_whole_report_with_patches_and_replay(rt: HostRuntime) -> Result<(), Fail> {
+    has_digest(
+        &rt,
+        &["--module meta --blocks 24 --journal 12 --explain"],
+        DIRECTORY_REUSED,
+        1,
+        "9149a1cd401415aba7e7f4018958b5d7586ae76a",
+    )?;
+    has_digest(
+        &rt,
+        &["--module meta --blocks 24 --journal 12 --explain --json"],
+        DIRECTORY_REUSED,
+        1,
+        "a837d8ddb89ebf08c8ec6db4a3548618a6aadbd9",
+    )
+}
+
+#[test]
+fn each_ordering_tells_what_its_patches_are(rt: HostRuntime) -> Result<(), Fail> {
+    for (module, status, text, json) in [
+        (
+            "async",
+            1,
+            "1e00c4c65f42fe03d88c5e2ea6c3634c307c16f6",
+            "f806cb458116aa09864133ab9ed01b1abdc2b6d1",
+        ),
+        (
+            "soft",
+            0,
+            "5624d483b748928f2b3fc69b8678b68a3f792338",
+            "a435a906c7d67796a559772140ffc8e84e887948",
+        ),
+        (
+            "meta",
+            0,
+            "14b2cf2c0c6c943715a7bbc580095f12f20ece48",
+            "8509d3cba764633724a76c10461fcde711d09b93",
+        ),
+        (
+            "full",
+            0,
+            "8a3470f95e8ce26a8565d221219e7477fa7a3847",
+            "b136745c9037043dd56911ae14eb02c7d086167d",
+        ),
+    ] {
+        let words = ["--module", module, "--blocks=24 --journal=12 --explain"];
+        has_digest(&rt, &words, WRITE, status, text)?;
+        let words = [
+            "--module",
+            module,
+            "--blocks=24 --journal=12 --explain --json",
+        ];
+        has_digest(&rt, &words, WRITE, status, json)?;
+    }
+    Ok(())
+}
+
+#[test]
+fn explained_faults_and_rules(rt: HostRuntime) -> Result<(), Fail> {
+    exactly(
+        &rt,
+        &["--module async --explain --summary"],
+        WRITE,
+        1,
+        "module async\n\
+         patches 5\n\
+         closed 24\n\
+         failing 10\n\
+         patch 0 line 2 create /a: InodeInit block 2 offset 16 length 16\n\
+         patch 1 line 2 create /a: EntrySet block 4 offset 8 length 12\n\
+         patch 2 line 3 write /a: MapSet block 1 offset 5 length 1\n\
+         patch 3 line 3 write /a: InitFile block 5 offset 0 length 128\n\
+         patch 4 line 3 write /a: Ptr block 2 offset 20 length 1\n\
+         after 0: overlap\n\
+         fault 1 dangling entry: directory 0 entry 0 inode 1\n\
+         sets 4\n\
+         set 1\n\
+         write block 4: 1\n\
+         fault 3 unwritten pointer: inode 1 slot 0 block 5\n\
+         sets 4\n\
+         set 0 4\n\
+         write block 2: 0 4\n\
+         fault 5 used block marked free: inode 1 slot 0 block 5\n\
+         sets 4\n\
+         set 0 4\n\
+         write block 2: 0 4\n",
+        "",
+    )?;
+    exactly(
+        &rt,
+        &["--explain --needs"],
+        CREATE,
+        0,
+        "module soft\n\
+         patches 2\n\
+         closed 3\n\
+         failing 0\n\
+         patch 0 line 2 create /a: InodeInit block 2 offset 16 length 16\n\
+         patch 1 line 2 create /a: EntrySet block 4 offset 8 length 12\n\
+         after 0: EntrySet:InodeInit\n\
+         rule EntrySet:InodeInit pairs 1 closed 4 failing 1\n\
+         set 1\n\
+         write block 4: 1\n\
+         fault 1 dangling entry: directory 0 entry 0 inode 1\n\
+         rule EntrySet:LinkUp pairs 0\n\
+         rule EntrySet:Ptr pairs 0\n\
+         rule InitFile:MapSet pairs 0\n\
+         rule InitDir:MapSet pairs 0\n\
+         rule Ptr:InitFile pairs 0\n\
+         rule Ptr:InitDir pairs 0\n\
+         rule Ptr:MapSet pairs 0\n\
+         rule LinkDown:EntryClear pairs 0\n\
+         rule InodeFree:EntryClear pairs 0\n\
+         rule MapClear:InodeFree pairs 0\n\
+         rule EntryClear:EntrySet pairs 0\n",
+        "",
+    )
+}
+
+#[test]
+fn explained_with_rules_taken_out_and_put_in(rt: HostRuntime) -> Result<(), Fail> {
+    exactly(
+        &rt,
+        &["--without InitFile:MapSet --with InitFile:previous-MapClear --explain"],
+        REUSE,
+        0,
+        "module soft\n\
+         without InitFile:MapSet\n\
+         with InitFile:previous-MapClear\n\
+         patches 6\n\
+         closed 8\n\
+         failing 0\n\
+         patch 0 line 5 unlink /a: EntryClear block 4 offset 8 length 12\n\
+         patch 1 line 5 unlink /a: InodeFree block 2 offset 16 length 16\n\
+         after 0: InodeFree:EntryClear\n\
+         patch 2 line 5 unlink /a: MapClear block 1 offset 5 length 1\n\
+         after 1: MapClear:InodeFree\n\
+         patch 3 line 6 write /b: MapSet block 1 offset 5 length 1\n\
+         after 2: overlap\n\
+         patch 4 line 6 write /b: InitFile block 5 offset 0 length 128\n\
+         after 2: InitFile:previous-MapClear\n\
+         patch 5 line 6 write /b: Ptr block 2 offset 36 length 1\n\
+         after 3: Ptr:MapSet\n\
+         after 4: Ptr:InitFile\n",
+        "",
+    )
+}

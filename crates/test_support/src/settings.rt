@@ -1,0 +1,26 @@
+//! Settings that tests change where they ask for something else.
+
+ghost use Rattle.std.specs.Prelude.{◌≡◌};
+
+use crash_model::rule_lists::RuleList;
+use crash_model::settings::{Explorer, ReportBy, Settings};
+use crash_model::steps::Module;
+
+/// The settings of a command line that names the module alone.
+pub fn plain_settings(module: Module) -> Settings
+    ensures limit { result.limit ≡ 4096 }
+    ensures explorer { result.explorer ≡ Explorer.Auto }
+{
+    Settings {
+        module,
+        without: RuleList::new(),
+        with: RuleList::new(),
+        blocks: 16,
+        journal: 0,
+        limit: 4096,
+        explorer: Explorer::Auto,
+        json: false,
+        explain: false,
+        by: ReportBy::BySet,
+    }
+}

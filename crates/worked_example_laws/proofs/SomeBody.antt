@@ -1,0 +1,452 @@
+-- There is what stands behind a report's head.
+use Rattle.std.proofs.Common.{◌≡◌, ◌≢◌, ℕ, zero, suc, ◌<◌, ◌≤◌, Bool, true, false, nat_lt, List, [], ◌∷◌, ◌++◌, length, map, get_or, All, arith, refl, sym, subst, ap, ◌∙◌, inl, inr}
+use Rattle.std.specs.Prelude.{◌⊎◌, Option, Some, None, filter}
+use Rattle.std.specs.List.{AllPairs, Contains}
+use Rattle.std.specs.Ordering.{nat_cmp, is_eq, ordering_reverse}
+use Rattle.std.specs.Cmp.Lexicographic.{slice_cmp, bytes_decides, texts_ties, nat_list_cmp_total}
+use Rattle.std.specs.declared.cmp.Ordering.{Ordering}
+use Rattle.std.specs.declared.cmp.Ordering.TheVariants.{Less, Equal, Greater}
+use Rattle.std.proofs.lemmas.Bool.{ltb-true}
+use Rattle.std.proofs.lemmas.Bool.Decides.{nat_tests}
+use Rattle.std.proofs.lemmas.List.{get_or_default}
+use Rattle.std.proofs.lemmas.List.Elements.{All-nil, All-cons, All-head, All-tail, Contains-append_left, Contains-append_right, Contains-append_cases}
+use Rattle.state_space.specs.Counts.{HoldsOf}
+use Rattle.patch_sets.specs.Closed.{AreEarlier, IsClosed}
+use Rattle.patch_sets.specs.Sets.{IsBefore, AreAllInOrder}
+use Rattle.patch_sets.proofs.Bits.{eq_or_not}
+use Rattle.patch_sets.proofs.Canonical.{before_trans, before_self}
+use Rattle.patch_sets.proofs.Lists.{front_or_rest, in_front, in_rest, in_none}
+use Rattle.crash_model.specs.Answer.{IsBody, ordering_rules}
+use Rattle.crash_model.specs.Disk.{Disk}
+use Rattle.crash_model.specs.Failing.{IsFailing, ExceedsLimit}
+use Rattle.crash_model.specs.Faults.{faults}
+use Rattle.crash_model.specs.Needs.{pairs_of, Without, RuleUsage, Unused, TooMany, Used, ToldRule, IsFirstNew, IsWithout, IsRuleUsage, AreToldRules}
+use Rattle.crash_model.specs.Patches.{deps_of, image_of}
+use Rattle.crash_model.specs.Replay.{replayed}
+use Rattle.crash_model.specs.Report.{Section, AreSections, IsLed, replay_of}
+use Rattle.crash_model.specs.Rules.{rules_in_first}
+use Rattle.crash_model.specs.Summary.{numbers_of, IsFaultBefore, HasFault, IsFirst, IsRow, ToldFault, AreToldFaults}
+use Rattle.crash_model.specs.Trace.{Tracing}
+use Rattle.crash_model.specs.Whole.{Body, Sets, Faults, Rules}
+use Rattle.crash_model.specs.declared.fault.Fault.{Fault}
+use Rattle.crash_model.specs.declared.fault.Fault.TheVariants.{Dangling, Twice, Unwritten, LowLinks, MarkedFree, Wild}
+use Rattle.crash_model.specs.declared.fault.FaultRow.{FaultRow}
+use Rattle.crash_model.specs.declared.patches.Patch.{Patch}
+use Rattle.crash_model.specs.declared.rules.Rule.{Rule}
+use Rattle.crash_model.specs.declared.settings.Settings.{Settings}
+use Rattle.crash_model.specs.declared.settings.ReportBy.{ReportBy}
+use Rattle.crash_model.specs.declared.settings.ReportBy.TheVariants.{BySet, ByFault, ByRule}
+use Rattle.crash_model.proofs.Leading.{failing_closed, sections_lead}
+use Rattle.worked_example_laws.specs.Computed.{closed_sets, failing_sets, fails, graph_of}
+use Rattle.worked_example_laws.proofs.ClosedSets.{closed_are_all, apart_filter, from_filter, to_filter}
+use Rattle.worked_example_laws.proofs.FailingSets.{counts_closed, failing_at, in_failing, list_of}
+use Rattle.worked_example_laws.proofs.Graphs.{graph_is, earlier}
+use Rattle.worked_example_laws.proofs.Sets.{Ascends, sorted, ascending_pairs, apart_from_ascends, ascends_filter}
+use Rattle.worked_example_laws.proofs.SomeSections.{some_sections, some_section}
+
+-- ---- the failing sets
+
+pub not_above : (limit n : ℕ) → nat_lt limit n ≡ false → n ≤ limit
+not_above limit n e = grind (arith, nat_tests)
+
+pub some_failing : (base : Disk) (patches : List Patch) → AreEarlier (deps_of patches) → (sets : List ℕ) × AreAllInOrder (IsFailing base patches) sets × Ascends sets
+some_failing base patches before =
+    let ordered = sorted (failing_sets base patches) (apart_filter (fails base patches) (closed_sets (deps_of patches)) (closed_are_all (deps_of patches) before).apart) in (
+      ordered.0,
+      record {
+        ordered = ascending_pairs ordered.0 ordered.1.ascends;
+        exactly = λ set. ((λ is. failing_at base patches before set (ordered.1.from set is)), (λ failing. ordered.1.to set (in_failing base patches before set failing)));
+      },
+      ordered.1.ascends,
+    )
+
+-- ---- faults in order
+
+fault_with : List ℕ → Fault
+fault_with (suc zero ∷ d ∷ k ∷ i ∷ []) = Dangling d k i
+fault_with (suc (suc (suc zero)) ∷ i ∷ s ∷ b ∷ []) = Unwritten i s b
+fault_with (suc (suc (suc (suc zero))) ∷ i ∷ e ∷ l ∷ []) = LowLinks i e l
+fault_with (suc (suc (suc (suc (suc zero)))) ∷ i ∷ s ∷ b ∷ []) = MarkedFree i s b
+fault_with (suc (suc (suc (suc (suc (suc zero))))) ∷ i ∷ s ∷ b ∷ []) = Wild i s b
+fault_with (n ∷ b ∷ _) = Twice b
+fault_with _ = Twice 0
+
+back : (f : Fault) → fault_with (numbers_of f) ≡ f
+unfolding fault_with
+back (Dangling d k i) = refl
+back (Twice b) = refl
+back (Unwritten i s b) = refl
+back (LowLinks i e l) = refl
+back (MarkedFree i s b) = refl
+back (Wild i s b) = refl
+
+same_fault : (f g : Fault) → numbers_of f ≡ numbers_of g → f ≡ g
+same_fault f g same = sym (back f) ∙ (ap fault_with same ∙ back g)
+
+compare : (f g : Fault) → IsFaultBefore f g ⊎ ((f ≡ g) ⊎ IsFaultBefore g f)
+compare f g = by (slice_cmp nat_cmp (numbers_of f) (numbers_of g)) refl
+  where
+    by : (r : Ordering) → slice_cmp nat_cmp (numbers_of f) (numbers_of g) ≡ r → IsFaultBefore f g ⊎ ((f ≡ g) ⊎ IsFaultBefore g f)
+    by Less e = inl e
+    by Equal e = inr (inl (same_fault f g ((bytes_decides (numbers_of f) (numbers_of g)).0 (texts_ties (numbers_of f) (numbers_of g) ∙ ap is_eq e))))
+    by Greater e = inr (inr (nat_list_cmp_total.antisymm (numbers_of g) (numbers_of f) ∙ ap ordering_reverse e))
+
+same_or_not : (f g : Fault) → (f ≡ g) ⊎ (f ≢ g)
+same_or_not f g = by (compare f g)
+  where
+    less_or_greater : Less ≡ Greater → ⊥
+    less_or_greater e = cc
+
+    alone : (h : Fault) → IsFaultBefore h h → ⊥
+    alone h before = less_or_greater (sym before ∙ (nat_list_cmp_total.antisymm (numbers_of h) (numbers_of h) ∙ ap ordering_reverse before))
+
+    by : IsFaultBefore f g ⊎ ((f ≡ g) ⊎ IsFaultBefore g f) → (f ≡ g) ⊎ (f ≢ g)
+    by (inl first) = inr (λ e. alone g (subst (λ (h : Fault). IsFaultBefore h g) e first))
+    by (inr (inl e)) = inl e
+    by (inr (inr last)) = inr (λ e. alone g (subst (λ (h : Fault). IsFaultBefore g h) e last))
+
+-- each is before all behind it
+abbrev Rise : List Fault → Type 0
+Rise [] = Unit {0}
+Rise (f ∷ fs) = ((z : Fault) → Contains fs z → IsFaultBefore f z) × Rise fs
+
+-- faults in order with one more
+record Placed (f : Fault) (fs gs : List Fault) : Type 0 where
+  rise : Rise gs
+  from : (z : Fault) → Contains gs z → (z ≡ f) ⊎ Contains fs z
+  here : Contains gs f
+  old : (z : Fault) → Contains fs z → Contains gs z
+
+place_fault : (f : Fault) (fs : List Fault) → Rise fs → (gs : List Fault) × Placed f fs gs
+place_fault f [] up = (
+  f ∷ [],
+  record {
+    rise = ((λ z is. absurd (in_none z is)), tt);
+    from = λ z is. elim (front_or_rest f [] z is) [ inl e ↦ inl (sym e) | inr more ↦ inr more ];
+    here = in_front f [];
+    old = λ z is. absurd (in_none z is);
+  },
+)
+place_fault f (g ∷ fs) up = by (compare f g) (place_fault f fs up.1)
+  where
+    by : IsFaultBefore f g ⊎ ((f ≡ g) ⊎ IsFaultBefore g f) → (gs : List Fault) × Placed f fs gs → (gs : List Fault) × Placed f (g ∷ fs) gs
+    by (inl first) rest = (
+      f ∷ g ∷ fs,
+      record {
+        rise = (
+          (λ z is. elim (front_or_rest g fs z is) [
+            | inl e ↦ subst (IsFaultBefore f) e first
+            | inr more ↦ nat_list_cmp_total.trans (numbers_of f) (numbers_of g) (numbers_of z) first (up.0 z more)
+          ]),
+          up,
+        );
+        from = λ z is. elim (front_or_rest f (g ∷ fs) z is) [ inl e ↦ inl (sym e) | inr more ↦ inr more ];
+        here = in_front f (g ∷ fs);
+        old = in_rest f (g ∷ fs);
+      },
+    )
+    by (inr (inl same)) rest = (
+      g ∷ fs,
+      record { rise = up; from = λ z is. inr is; here = subst (Contains (g ∷ fs)) (sym same) (in_front g fs); old = λ z is. is },
+    )
+    by (inr (inr last)) (zs, rest) = (
+      g ∷ zs,
+      record {
+        rise = ((λ z is. elim (rest.from z is) [ inl e ↦ subst (IsFaultBefore g) (sym e) last | inr more ↦ up.0 z more ]), rest.rise);
+        from = λ z is. elim (front_or_rest g zs z is) [
+          | inl e ↦ inr (subst (Contains (g ∷ fs)) e (in_front g fs))
+          | inr more ↦ elim (rest.from z more) [ inl e ↦ inl e | inr old ↦ inr (in_rest g fs z old) ]
+        ];
+        here = in_rest g zs f rest.here;
+        old = λ z is. elim (front_or_rest g fs z is) [ inl e ↦ subst (Contains (g ∷ zs)) e (in_front g zs) | inr more ↦ in_rest g zs z (rest.old z more) ];
+      },
+    )
+
+-- the faults of a list, each once, in order
+record Gathered (fs gs : List Fault) : Type 0 where
+  rise : Rise gs
+  from : (z : Fault) → Contains gs z → Contains fs z
+  to : (z : Fault) → Contains fs z → Contains gs z
+
+gather : (fs : List Fault) → (gs : List Fault) × Gathered fs gs
+gather [] = ([], record { rise = tt; from = λ z is. is; to = λ z is. is })
+gather (f ∷ fs) =
+    let rest = gather fs in
+    let more = place_fault f rest.0 rest.1.rise in (
+      more.0,
+      record {
+        rise = more.1.rise;
+        from = λ z is. elim (more.1.from z is) [ inl e ↦ subst (Contains (f ∷ fs)) (sym e) (in_front f fs) | inr old ↦ in_rest f fs z (rest.1.from z old) ];
+        to = λ z is. elim (front_or_rest f fs z is) [ inl e ↦ subst (Contains more.0) e more.1.here | inr old ↦ more.1.old z (rest.1.to z old) ];
+      },
+    )
+
+-- ---- rows
+
+abbrev faults_of : List FaultRow → List Fault
+faults_of rows = map (λ row. row.fault) rows
+
+in_map : (rows : List FaultRow) (row : FaultRow) → Contains rows row → Contains (faults_of rows) row.fault
+in_map [] row is = absurd (in_none row is)
+in_map (r ∷ rows) row is = elim (front_or_rest r rows row is) [
+  | inl e ↦ subst (λ (q : FaultRow). Contains (faults_of (r ∷ rows)) q.fault) e (in_front r.fault (faults_of rows))
+  | inr more ↦ in_rest r.fault (faults_of rows) row.fault (in_map rows row more)
+]
+
+rows_rise : (rows : List FaultRow) → Rise (faults_of rows) → AllPairs (λ a b. IsFaultBefore a.fault b.fault) rows
+rows_rise [] up i j d less within = absurd (omega arith)
+rows_rise (r ∷ rows) up zero zero d less within = absurd (omega arith)
+rows_rise (r ∷ rows) up zero (suc j) d less within =
+    up.0 (get_or rows j d).fault (in_map rows (get_or rows j d) (j, omega arith, get_or_default rows j (get_or rows j d) d (omega arith)))
+rows_rise (r ∷ rows) up (suc i) zero d less within = absurd (omega arith)
+rows_rise (r ∷ rows) up (suc i) (suc j) d less within = rows_rise rows up.1 i j d (omega arith) (omega arith)
+
+-- ---- which sets have a fault
+
+abbrev is_one : {f g : Fault} → (f ≡ g) ⊎ (f ≢ g) → Bool → Bool
+is_one (inl e) rest = true
+is_one (inr apart) rest = rest
+
+abbrev has_fault : Fault → List Fault → Bool
+has_fault f [] = false
+has_fault f (g ∷ fs) = is_one (same_or_not g f) (has_fault f fs)
+
+any_to : (f : Fault) (fs : List Fault) → Contains fs f → has_fault f fs ≡ true
+any_to f [] is = absurd (in_none f is)
+any_to f (g ∷ fs) is = by (same_or_not g f) (front_or_rest g fs f is) (any_to f fs)
+  where
+    by : (d : (g ≡ f) ⊎ (g ≢ f)) → (g ≡ f) ⊎ Contains fs f → (Contains fs f → has_fault f fs ≡ true) → is_one d (has_fault f fs) ≡ true
+    by (inl e) there rest = refl
+    by (inr apart) (inl e) rest = absurd (apart e)
+    by (inr apart) (inr more) rest = rest more
+
+any_from : (f : Fault) (fs : List Fault) → has_fault f fs ≡ true → Contains fs f
+any_from f [] e = cc
+any_from f (g ∷ fs) e = by (same_or_not g f) e (any_from f fs)
+  where
+    by : (d : (g ≡ f) ⊎ (g ≢ f)) → is_one d (has_fault f fs) ≡ true → (has_fault f fs ≡ true → Contains fs f) → Contains (g ∷ fs) f
+    by (inl same) is rest = subst (Contains (g ∷ fs)) same (in_front g fs)
+    by (inr apart) is rest = in_rest g fs f (rest is)
+
+-- the faults of sets, with what finds the faults of one
+abbrev all_of : (ℕ → List Fault) → List ℕ → List Fault
+all_of found [] = []
+all_of found (set ∷ sets) = found set ++ all_of found sets
+
+in_all : (found : ℕ → List Fault) (sets : List ℕ) (set : ℕ) (f : Fault) → Contains sets set → Contains (found set) f → Contains (all_of found sets) f
+in_all found [] set f is there = absurd (in_none set is)
+in_all found (s ∷ sets) set f is there = elim (front_or_rest s sets set is) [
+  | inl e ↦ Contains-append_left (found s) (all_of found sets) f (subst (λ (n : ℕ). Contains (found n) f) (sym e) there)
+  | inr more ↦ Contains-append_right (found s) (all_of found sets) f (in_all found sets set f more there)
+]
+
+from_all : (found : ℕ → List Fault) (sets : List ℕ) (f : Fault) → Contains (all_of found sets) f → (set : ℕ) × Contains sets set × Contains (found set) f
+from_all found [] f is = absurd (in_none f is)
+from_all found (s ∷ sets) f is = elim (Contains-append_cases (found s) (all_of found sets) f is) [
+  | inl there ↦ (s, in_front s sets, there)
+  | inr more ↦ let it = from_all found sets f more in (it.0, in_rest s sets it.0 it.1, it.2)
+]
+
+-- a list that has an element has a first one
+head_of : (xs : List ℕ) (w : ℕ) → Contains xs w → (x : ℕ) × (rest : List ℕ) × (xs ≡ x ∷ rest)
+head_of [] w is = absurd (in_none w is)
+head_of (x ∷ xs) w is = (x, xs, refl)
+
+-- ---- each fault once
+
+module _ (explain : Bool) (base : Disk) (patches : List Patch) (before : AreEarlier (deps_of patches)) (sets : List ℕ) (exactly : AreAllInOrder (IsFailing base patches) sets) (up : Ascends sets) where
+  abbrev found : ℕ → List Fault
+  found set = faults (replayed (image_of base patches set))
+
+  abbrev with_fault : Fault → List ℕ
+  with_fault f = filter (λ set. has_fault f (found set)) sets
+
+  has_at : (f : Fault) (set : ℕ) → Contains (with_fault f) set → HasFault base patches f set
+  has_at f set is =
+      let it = from_filter (λ s. has_fault f (found s)) sets set is in
+      record { failing = (exactly.exactly set).0 it.0; found = any_from f (found set) it.1 }
+
+  at_has : (f : Fault) (set : ℕ) → HasFault base patches f set → Contains (with_fault f) set
+  at_has f set has = to_filter (λ s. has_fault f (found s)) sets set ((exactly.exactly set).1 has.failing) (any_to f (found set) has.found)
+
+  is_first : (f : Fault) (x : ℕ) (rest : List ℕ) → with_fault f ≡ x ∷ rest → IsFirst (HasFault base patches f) x
+  is_first f x rest e = record {
+    among = has_at f x (subst (λ (some : List ℕ). Contains some x) (sym e) (in_front x rest));
+    first = λ other has behind. not_before other (front_or_rest x rest other (subst (λ (some : List ℕ). Contains some other) e (at_has f other has))) behind;
+  }
+    where
+      up_here : Ascends (x ∷ rest)
+      up_here = subst Ascends e (ascends_filter (λ s. has_fault f (found s)) sets up)
+
+      not_before : (other : ℕ) → (x ≡ other) ⊎ Contains rest other → IsBefore other x → ⊥
+      not_before other (inl same) behind = before_self x (subst (λ (n : ℕ). IsBefore n x) (sym same) behind)
+      not_before other (inr more) behind = before_self x (before_trans x other x (up_here.0 other more) behind)
+
+  -- what is told of a fault
+  record Tells (f : Fault) (t : ToldFault) : Type 0 where
+    fault : t.row.fault ≡ f
+    row : IsRow (HasFault base patches) t.row
+    closed : IsClosed (deps_of patches) t.row.first
+    first : AreSections explain base patches (t.row.first ∷ []) (t.first ∷ [])
+
+  tell : (f : Fault) → Contains (all_of found sets) f → (t : ToldFault) × Tells f t
+  tell f is =
+      let there = from_all found sets f is in
+      let head = head_of (with_fault f) there.0 (to_filter (λ s. has_fault f (found s)) sets there.0 there.1 (any_to f (found there.0) there.2)) in
+      let first = is_first f head.0 head.1 head.2 in
+      let section = some_section explain base patches head.0 in
+      let row : FaultRow = record { fault = f; sets = length (with_fault f); first = head.0 } in
+      let number : HoldsOf (HasFault base patches f) (length (with_fault f)) = (with_fault f, list_of (HasFault base patches f) (with_fault f) (apart_from_ascends (with_fault f) (ascends_filter (λ s. has_fault f (found s)) sets up)) (has_at f) (at_has f), refl) in (
+        record { row = row; first = section.0 },
+        record { fault = refl; row = record { number = number; first = first }; closed = first.among.failing.closed; first = section.1 },
+      )
+
+  -- what is told of faults, one after another
+  record TellsAll (fs : List Fault) (told : List ToldFault) : Type 0 where
+    faults : faults_of (map (λ t. t.row) told) ≡ fs
+    each : All (IsRow (HasFault base patches)) (map (λ t. t.row) told)
+    firsts : AreSections explain base patches (map (λ t. t.row.first) told) (map (λ t. t.first) told)
+    led : All (λ t. IsLed patches t.first) told
+
+  tell_all : (fs : List Fault) → ((z : Fault) → Contains fs z → Contains (all_of found sets) z) → (told : List ToldFault) × TellsAll fs told
+  tell_all [] from = ([], record { faults = refl; each = All-nil (IsRow (HasFault base patches)); firsts = refl; led = All-nil (λ t. IsLed patches t.first) })
+  tell_all (f ∷ fs) from =
+      let one = tell f (from f (in_front f fs)) in
+      let rest = tell_all fs (λ z is. from z (in_rest f fs z is)) in
+      let led = sections_lead base patches before explain (one.0.row.first ∷ []) (one.0.first ∷ []) (All-cons (IsClosed (deps_of patches)) one.0.row.first [] one.1.closed (All-nil (IsClosed (deps_of patches)))) one.1.first in (
+        one.0 ∷ rest.0,
+        record {
+          faults = front one.1.fault rest.1.faults;
+          each = All-cons (IsRow (HasFault base patches)) one.0.row (map (λ t. t.row) rest.0) one.1.row rest.1.each;
+          firsts = (one.1.first.0, map (λ t. t.first) rest.0, one.1.first.2, rest.1.firsts, head_is one.0.first (map (λ t. t.first) rest.0) one.1.first);
+          led = All-cons (λ t. IsLed patches t.first) one.0 rest.0 (All-head (IsLed patches) one.0.first [] led) rest.1.led;
+        },
+      )
+    where
+      front : {f g : Fault} {fs gs : List Fault} → f ≡ g → fs ≡ gs → f ∷ fs ≡ g ∷ gs
+      front e es = cc
+
+      heads : {a b : Section} {more others : List Section} → a ∷ more ≡ b ∷ others → a ≡ b
+      heads e = cc
+
+      -- the section of one set, before others
+      head_is : {set : ℕ} (section : Section) (others : List Section) → (one : AreSections explain base patches (set ∷ []) (section ∷ []))
+          → section ∷ others ≡ record { set = set; writes = one.0; replay = replay_of explain (image_of base patches set); found = faults (replayed (image_of base patches set)) } ∷ others
+      head_is section others one = ap (λ (s : Section). s ∷ others) (heads one.4)
+
+  told_faults : (told : List ToldFault) × AreToldFaults explain base patches told × All (λ t. IsLed patches t.first) told
+  told_faults =
+      let all = gather (all_of found sets) in
+      let it = tell_all all.0 all.1.from in (
+        it.0,
+        record {
+          rows = record {
+            ordered = rows_rise (map (λ t. t.row) it.0) (subst Rise (sym it.1.faults) all.1.rise);
+            each = it.1.each;
+            every = λ f set has. subst (λ (fs : List Fault). Contains fs f) (sym it.1.faults) (all.1.to f (in_all found sets set f ((exactly.exactly set).1 has.failing) has.found));
+          };
+          firsts = it.1.firsts;
+        },
+        it.1.led,
+      )
+
+-- ---- what there is without each rule
+
+in_or_not : (xs : List ℕ) (x : ℕ) → Contains xs x ⊎ (¬ (Contains xs x))
+in_or_not [] x = inr (in_none x)
+in_or_not (y ∷ xs) x = by (eq_or_not y x) (in_or_not xs x)
+  where
+    by : (y ≡ x) ⊎ (y ≢ x) → Contains xs x ⊎ (¬ (Contains xs x)) → Contains (y ∷ xs) x ⊎ (¬ (Contains (y ∷ xs) x))
+    by (inl e) rest = inl (subst (Contains (y ∷ xs)) e (in_front y xs))
+    by (inr apart) (inl more) = inl (in_rest y xs x more)
+    by (inr apart) (inr none) = inr (λ is. elim (front_or_rest y xs x is) [ inl e ↦ apart e | inr more ↦ none more ])
+
+closed_or_not : (patches : List Patch) → AreEarlier (deps_of patches) → (set : ℕ) → IsClosed (deps_of patches) set ⊎ (¬ (IsClosed (deps_of patches) set))
+closed_or_not patches before set = by (in_or_not (closed_sets (deps_of patches)) set)
+  where
+    by : Contains (closed_sets (deps_of patches)) set ⊎ (¬ (Contains (closed_sets (deps_of patches)) set)) → IsClosed (deps_of patches) set ⊎ (¬ (IsClosed (deps_of patches) set))
+    by (inl is) = inl ((closed_are_all (deps_of patches) before).each set is)
+    by (inr none) = inr (λ closed. none ((closed_are_all (deps_of patches) before).every set closed))
+
+module _ (explain : Bool) (base : Disk) (patches : List Patch) (before : AreEarlier (deps_of patches)) where
+  module _ (changed : List Patch) (first : AreEarlier (deps_of changed)) where
+    first_new : (sets : List ℕ) → All (IsClosed (deps_of changed)) sets → (x : Option Section) × IsFirstNew explain base patches changed sets x
+    first_new [] closed = (None, All-nil (IsClosed (deps_of patches)))
+    first_new (set ∷ sets) closed = by (closed_or_not patches before set) (first_new sets (All-tail (IsClosed (deps_of changed)) set sets closed))
+      where
+        further : IsClosed (deps_of patches) set → (x : Option Section) → IsFirstNew explain base patches changed sets x → IsFirstNew explain base patches changed (set ∷ sets) x
+        further is None all = All-cons (IsClosed (deps_of patches)) set sets is all
+        further is (Some section) (front, new, rest, split, all, none, told, led) =
+            (set ∷ front, new, rest, ap (λ (some : List ℕ). set ∷ some) split, All-cons (IsClosed (deps_of patches)) set front is all, none, told, led)
+
+        by : IsClosed (deps_of patches) set ⊎ (¬ (IsClosed (deps_of patches) set)) → (x : Option Section) × IsFirstNew explain base patches changed sets x
+            → (x : Option Section) × IsFirstNew explain base patches changed (set ∷ sets) x
+        by (inl is) rest = (rest.0, further is rest.0 rest.1)
+        by (inr none) rest =
+            let section = some_section explain base changed set in
+            let led = sections_lead base changed first explain (set ∷ []) (section.0 ∷ [])
+            (All-cons (IsClosed (deps_of changed)) set [] (All-head (IsClosed (deps_of changed)) set sets closed) (All-nil (IsClosed (deps_of changed)))) section.1 in
+            (Some section.0, ([], set, sets, refl, All-nil (IsClosed (deps_of patches)), none, section.1, All-head (IsLed changed) section.0 [] led))
+
+    some_without : (limit : ℕ) → nat_lt limit (length (closed_sets (deps_of changed))) ≡ false → (w : Without) × IsWithout explain limit base patches changed w
+    some_without limit e =
+        let failing = some_failing base changed first in
+        let new = first_new failing.0 (failing_closed base changed failing.0 failing.1) in (
+          record { closed = length (closed_sets (deps_of changed)); failing = length failing.0; first = new.0 },
+          record {
+            counted = counts_closed changed (length (closed_sets (deps_of changed))) first refl;
+            within = not_above limit (length (closed_sets (deps_of changed))) e;
+            sets = failing.0;
+            exactly = failing.1;
+            number = refl;
+            first = new.1;
+          },
+        )
+
+    exceeds : (limit : ℕ) → nat_lt limit (length (closed_sets (deps_of changed))) ≡ true → ExceedsLimit changed limit
+    exceeds limit e =
+        let all = counts_closed changed (length (closed_sets (deps_of changed))) first refl in
+        (all.0, record { distinct = all.1.distinct; each = all.1.each }, subst (λ (n : ℕ). limit < n) (sym all.2) (ltb-true limit (length (closed_sets (deps_of changed))) e))
+
+  module _ (limit : ℕ) (rules : List Rule) (s : Tracing) where
+    some_usage : (rule : Rule) → (usage : RuleUsage) × IsRuleUsage explain limit rules base s patches rule usage
+    some_usage rule = by_pairs (pairs_of rule s.emitted) refl
+      where
+        others : List Rule
+        others = rules_in_first rules (rule ∷ [])
+
+        by_limit : (b : Bool) → nat_lt limit (length (closed_sets (deps_of (graph_of others base s)))) ≡ b → 1 ≤ pairs_of rule s.emitted
+            → (usage : RuleUsage) × IsRuleUsage explain limit rules base s patches rule usage
+        by_limit true e one =
+            (TooMany (pairs_of rule s.emitted), (refl, one, (graph_of others base s, graph_is others base s, exceeds (graph_of others base s) (earlier others base s) limit e)))
+        by_limit false e one =
+            let w = some_without (graph_of others base s) (earlier others base s) limit e in
+            (Used (pairs_of rule s.emitted) w.0, (refl, one, (graph_of others base s, graph_is others base s, w.1)))
+
+        by_pairs : (n : ℕ) → pairs_of rule s.emitted ≡ n → (usage : RuleUsage) × IsRuleUsage explain limit rules base s patches rule usage
+        by_pairs zero e = (Unused, e)
+        by_pairs (suc n) e = by_limit (nat_lt limit (length (closed_sets (deps_of (graph_of others base s))))) refl (omega (arith, e))
+
+    told_rules : (some : List Rule) → (told : List ToldRule) × AreToldRules explain limit rules base s patches some told
+    told_rules [] = ([], refl)
+    told_rules (rule ∷ some) =
+        let usage = some_usage rule in
+        let rest = told_rules some in
+        (record { rule = rule; usage = usage.0 } ∷ rest.0, (usage.0, rest.0, usage.1, rest.1, refl))
+
+-- ---- the body
+
+module _ (settings : Settings) (base : Disk) (last : Tracing) (patches : List Patch) (before : AreEarlier (deps_of patches)) where
+  pub some_body : (sets : List ℕ) → AreAllInOrder (IsFailing base patches) sets → Ascends sets → (body : Body) × IsBody settings base last patches sets body
+  some_body sets exactly up = by_kind settings.by refl
+    where
+      by_kind : (kind : ReportBy) → settings.by ≡ kind → (body : Body) × IsBody settings base last patches sets body
+      by_kind BySet e =
+          let sections = some_sections settings.explain base patches sets in
+          (Sets sections.0, (e, sections.1, sections_lead base patches before settings.explain sets sections.0 (failing_closed base patches sets exactly) sections.1))
+      by_kind ByFault e =
+          let told = told_faults settings.explain base patches before sets exactly up in
+          (Faults told.0, (e, told.1, told.2))
+      by_kind ByRule e =
+          let told = told_rules settings.explain base patches before settings.limit (ordering_rules settings) last (ordering_rules settings) in
+          (Rules told.0, (e, told.1))

@@ -1,0 +1,258 @@
+// node page/test/test_page.mjs [FOLDER]: opens pages in a headless chromium and checks what they show against their
+// reports and against what is known of the scripts. With FOLDER, pictures of each page are left there to be looked at.
+import { execFileSync } from "node:child_process";
+import { mkdirSync, mkdtempSync, readFileSync, rmSync, writeFileSync } from "node:fs";
+import { tmpdir } from "node:os";
+import { join } from "node:path";
+import { fileURLToPath } from "node:url";
+import { Browser } from "./browser.mjs";
+import { cases } from "./cases.mjs";
+
+const here = fileURLToPath(new URL(".", import.meta.url));
+const folder = mkdtempSync(join(tmpdir(), "crashmap-page-"));
+const pictures = process.argv[2];
+let passed = 0, failed = 0;
+
+function check(name, got, wanted) {
+  const isSame = JSON.stringify(got) === JSON.stringify(wanted);
+  if (isSame) passed++; else failed++;
+  if (!isSame) console.log(`FAIL ${name}\n     got    ${JSON.stringify(got)}\n     wanted ${JSON.stringify(wanted)}`);
+}
+
+/** What a page shows, asked of its elements. */
+const SHOWN = `(() => {
+  const texts = what => [...document.querySelectorAll(what)].map(one => one.textContent.replace(/\\s+/g, " ").trim());
+  const nodes = [...document.querySelectorAll("#drawing .node")]
+    .map(one => ({ id: Number(one.dataset.id), state: one.dataset.state, kinds: [...one.classList] }));
+  const ids = test => nodes.filter(test).map(node => node.id);
+  const rows = [...document.querySelectorAll("#disk tbody tr[data-place]")].map(row => [row.dataset.place,
+    { named: row.classList.contains("named"), words: [...row.querySelectorAll("td")].map(one => one.textContent) }]);
+  const drawn = [...document.querySelectorAll("#drawing > .edge")];
+  const edges = drawn.map(one => one.dataset.from + " " + one.dataset.to);
+  const reasons = drawn.map(one => one.getAttribute("aria-label"));
+  return {
+    facts: texts("#head dl div"), rules: texts(".rule"), choices: texts("#choices button"),
+    verdict: texts("#choices .verdict"), columns: texts(".column .op"), faults: texts(".fault"),
+    steps: texts("#steps button b"), end: texts("#steps .end"),
+    disk: ids(node => node.state === "disk"), later: ids(node => node.state === "later"),
+    lost: ids(node => node.state === "lost"), named: ids(node => node.kinds.includes("named")),
+    ready: ids(node => node.state === "lost" && node.kinds.includes("ready")),
+    rows: Object.fromEntries(rows), edges: edges.sort(), reasons: reasons.sort(), at: texts("#bar output")[0],
+    focus: document.activeElement?.textContent.replace(/\\s+/g, " ").trim(),
+    sideways: document.documentElement.scrollWidth - document.documentElement.clientWidth,
+    page: getComputedStyle(document.body).backgroundColor,
+  };
+})()`;
+
+const browser = await Browser.start(join(folder, "profile"));
+const shown = () => browser.ask(SHOWN);
+
+/** Stitches a case's page and opens it at a choice and a step; answers its report. */
+async function open(name, address = "") {
+  const report = join(here, "reports", `${name}.json`), page = join(folder, `${name}.html`);
+  const stitched = execFileSync(join(here, "../stitch"), [report]);
+  writeFileSync(page, stitched);
+  const fetches = /(?:src|href|action)="|url\((?!#)|@import|fetch\(|import\(/;
+  check(`${name}: it fetches nothing`, fetches.test(stitched), false);
+  await browser.open(`file://${page}${address}`);
+  return JSON.parse(readFileSync(report, "utf8"));
+}
+
+async function keepPicture(name) {
+  if (!pictures) return;
+  mkdirSync(pictures, { recursive: true });
+  writeFileSync(join(pictures, `${name}.png`), await browser.picture());
+}
+
+/* --- what holds of every page, said from its report alone --- */
+
+/** The arrows that no longer way through the graph implies. */
+function reduction(trace) {
+  const after = trace.map(patch => patch.after.map(one => one.patch));
+  const all = after.map(() => new Set());
+  after.forEach((mine, q) => mine.forEach(p => [p, ...all[p]].forEach(r => all[q].add(r))));
+  return after.flatMap((mine, q) => mine.filter(p => !mine.some(r => all[r].has(p))).map(p => `${p} ${q}`)).sort();
+}
+
+/** What these arrows say, each of them `p q` where patch q waits for patch p. */
+function reasonsOf(trace, edges) {
+  const title = id => `${id} ${trace[id].part}`;
+  return edges.map(edge => edge.split(" ").map(Number)).map(([p, q]) => {
+    const { why } = trace[q].after.find(one => one.patch === p);
+    return `${title(q)} waits for ${title(p)}: ${why.join(", ")}`;
+  }).sort();
+}
+
+function checkGraph(name, page, report, set, writes) {
+  const all = report.trace.map((_, id) => id), disk = writes.flatMap(write => write.patches).sort((a, b) => a - b);
+  const isReady = id => report.trace[id].after.every(({ patch }) => disk.includes(patch));
+  check(`${name}: filled patches are those on disk`, page.disk, disk);
+  check(`${name}: hollow patches are those that are lost`, page.lost, all.filter(id => !set.includes(id)));
+  check(`${name}: patches of later writes`, page.later, set.filter(id => !disk.includes(id)));
+  check(`${name}: the frontier`, page.ready, all.filter(id => !set.includes(id) && isReady(id)));
+  check(`${name}: arrows, without the implied ones`, page.edges, reduction(report.trace));
+  check(`${name}: each arrow's reasons`, page.reasons, reasonsOf(report.trace, page.edges));
+}
+
+function checkFault(name, page, report, choice, writes) {
+  const one = report.faults[choice];
+  check(`${name}: the fault's words`, page.faults, [`Fault ${one.fault}`]);
+  check(`${name}: one step a block write, and the base`, page.steps.length, one.writes.length + 1);
+  check(`${name}: the steps' blocks`, page.steps.slice(1), one.writes.map(write => `block ${write.block}`));
+  checkGraph(name, page, report, one.set, writes ?? one.writes);
+}
+
+/* --- pages --- */
+
+async function testCreate() {
+  const report = await open("create"), page = await shown();
+  checkFault("create", page, report, 0);
+  check("create: the head", page.facts, ["moduleasync", "patches2", "closed sets4", "failing set1"]);
+  check("create: the fault", page.choices[0], "1 set1 dangling entrydirectory 0 entry 0 inode 1");
+  check("create: the operation", page.columns, ["create /a"]);
+  check("create: inode 1", page.rows["inode 1"], { named: true, words: ["free", "free", "free"] });
+  const entry = 'directory 0, entry 0 \u2192 inode 1 "a"';
+  check("create: block 4", page.rows["block 4"], { named: true, words: ["directory 0, no entries", entry, entry] });
+  check("create: both patches touch the named place", page.named, [0, 1]);
+  await keepPicture("create");
+}
+
+async function testReuse() {
+  const report = await open("reuse"), page = await shown();
+  checkFault("reuse", page, report, 0);
+  check("reuse: operations", page.columns, ["unlink /d/x", "rmdir /d", "write /f"]);
+  check("reuse: the old copy, the data, the copy with the pointer, the pointer", page.named, [1, 14, 16, 19]);
+  check("reuse: block 17", page.rows["block 17"], { named: true, words: ['directory 1, entry 0 \u2192 inode 2 "x"',
+    'file data of inode 3, entry 0 \u2192 inode 2 "x"', "directory 1, no entries"] });
+  check("reuse: inode 3", page.rows["inode 3"].words[2], "file, 1 link, slot 0 \u2192 block 17");
+  check("reuse: the journal's headers", page.rows.journal.words[1],
+    "4 commit 1 (2, 17), 7 commit 2 (1, 2, 16), 11 commit 3 (1, 2)");
+  check("reuse: what replay did", page.end, ["Crash. Replay copies blocks 5 \u2192 2, 6 \u2192 17, 8 \u2192 1, "
+    + "9 \u2192 2, 10 \u2192 16, 12 \u2192 1, 13 \u2192 2; this changes blocks 2, 16, 17."]);
+  await keepPicture("reuse");
+  await open("reuse", "#choice=0&step=8");
+  checkFault("reuse, 8 writes", await shown(), report, 0, report.faults[0].writes.slice(0, 8));
+  await keepPicture("reuse_step_8");
+}
+
+async function testPointer() {
+  const report = await open("pointer"), page = await shown();
+  checkFault("pointer", page, report, 0);
+  check("pointer: the operation", page.columns, ["write /a"]);
+  check("pointer: the map's bit and the pointer are on the disk", page.disk, [0, 2]);
+  check("pointer: the file's block is lost", page.lost, [1]);
+  check("pointer: no arrow says that the pointer waits for the block", page.edges, ["0 1", "0 2"]);
+  const words = ["file, 1 link", "file, 1 link, slot 0 \u2192 block 5", "file, 1 link, slot 0 \u2192 block 5"];
+  check("pointer: inode 1", page.rows["inode 1"], { named: true, words });
+  await keepPicture("pointer");
+}
+
+async function testTwice() {
+  const { length } = (await open("twice")).faults;
+  check("a block used twice: each fault can be chosen", (await shown()).choices.length, length + 1);
+  for (let choice = 0; choice < length; choice++) {
+    const report = await open("twice", `#choice=${choice}`);
+    checkFault(`a block used twice, fault ${choice}`, await shown(), report, choice);
+  }
+  await open("twice", "#choice=1");
+  const { rows } = await shown();
+  check("a block used twice: both inodes are named", [rows["inode 1"].named, rows["inode 2"].named], [true, true]);
+  await keepPicture("twice");
+}
+
+async function testNothingFails() {
+  const report = await open("safe"), page = await shown(), all = report.trace.map((_, id) => id);
+  check("safe: says so", page.verdict,
+    ["None: after each of the 11 crashes that are possible, replay leaves a clean disk."]);
+  check("safe: shows the run without a crash", [page.disk, page.lost, page.faults], [all, [], []]);
+  check("safe: what the script does", page.rows["inode 1"].words, ["free", "file, 1 link, slot 0 \u2192 block 5"]);
+  await keepPicture("safe");
+  await open("nothing");
+  const words = await browser.ask('document.querySelector("#work").textContent');
+  const said = ["No operation after start", "No place differs"].filter(word => words.includes(word));
+  check("no patch at all", said.length, 2);
+}
+
+async function testOrderings() {
+  const report = await open("needs"), needs = await shown(), first = report.rules.find(rule => rule.first);
+  check("rules take the place of faults", needs.choices.length, report.rules.length + 1);
+  check("with all rules nothing fails", needs.verdict,
+    ["With all of them nothing fails: after each of the 7 crashes that are possible, replay leaves a clean disk."]);
+  const faults = first.first.faults.map(text => `Fault ${text}`);
+  check("the first rule that prevents a crash is looked at", needs.faults, faults);
+  check("its crash is on the disk", needs.disk, first.first.set);
+  await keepPicture("needs");
+  await open("unruly");
+  check("an ordering with no rule says so", (await shown()).verdict, ["This ordering has no rule: "
+    + "36 of 48 crashes leave a broken disk. A report without --needs tells which."]);
+  const { trace } = await open("groups"), all = trace.map((_, id) => id);
+  checkGraph("groups", await shown(), { trace }, all, [{ patches: all }]);
+  const groups = await browser.ask('[...document.querySelectorAll("#graph .key span")].map(one => one.textContent)');
+  check("arrows of groups are told", groups.includes("group"), true);
+  await browser.ask('document.querySelector("#all-implied").click()');
+  const every = trace.flatMap((patch, q) => patch.after.map(one => `${one.patch} ${q}`));
+  const said = '[...document.querySelectorAll("#drawing .edge")].map(one => one.getAttribute("aria-label")).sort()';
+  check("implied arrows say their reasons too", await browser.ask(said), reasonsOf(trace, every));
+}
+
+async function testKeyboard() {
+  const report = await open("reuse"), last = report.faults[0].writes.length;
+  for (const [key, step] of [["ArrowLeft", last - 1], ["Home", 0], ["ArrowRight", 1], ["End", last]]) {
+    await browser.press(key);
+    check(`${key} goes to step ${step}`, (await shown()).at.startsWith(`${step} of ${last}`), true);
+  }
+  await browser.ask('document.querySelector("#choices button").focus()');
+  await browser.press("ArrowDown");
+  const page = await shown();
+  check("the next choice has the focus", page.focus, "No crashevery patch on disk");
+  check("and is looked at", page.lost, []);
+  await browser.ask('document.querySelector("#drawing .node").focus()');
+  await browser.press("ArrowDown");
+  const hint = await browser.ask('document.querySelector("#hint").textContent');
+  check("a patch with the focus is told in words", hint.startsWith("1 Copy: journal copy of block 17"), true);
+}
+
+async function testSizesAndSchemes() {
+  const seen = {};
+  for (const [width, height] of [[1280, 800], [760, 900], [390, 844], [1920, 1080]]) {
+    for (const scheme of ["light", "dark"]) {
+      await browser.size(width, height);
+      await browser.scheme(scheme);
+      await open("reuse");
+      const page = await shown();
+      check(`${width} ${scheme}: nothing hangs over the side`, page.sideways, 0);
+      check(`${width} ${scheme}: the fault stands there`, page.faults.length, 1);
+      seen[scheme] = page.page;
+      await keepPicture(`reuse_${width}_${scheme}`);
+    }
+  }
+  check("dark is dark and light is light", seen, { light: "rgb(244, 245, 247)", dark: "rgb(16, 19, 24)" });
+  await browser.size(1280, 800);
+  await browser.scheme("light");
+}
+
+async function testLong() {
+  const report = await open("long"), page = await shown();
+  checkFault("62 patches", page, report, 0);
+  check("62 patches: operations", [page.columns.length, ...page.columns.slice(0, 2)], [31, "link /a /b", "unlink /b"]);
+  check("62 patches: the whole graph in small", await browser.ask('document.querySelector("#whole") !== null'), true);
+  await keepPicture("long");
+}
+
+async function testNoReport() {
+  const page = join(folder, "empty.html");
+  writeFileSync(page, execFileSync(join(here, "../stitch")));
+  await browser.open(`file://${page}`);
+  const words = await browser.ask("document.body.textContent");
+  check("a page without a report asks for one", words.includes("Drop a report here"), true);
+  check("every case is tested", Object.keys(cases).length, 10);
+}
+
+await browser.size(1280, 800);
+const tests = [testCreate, testReuse, testPointer, testTwice, testNothingFails, testOrderings, testKeyboard,
+  testSizesAndSchemes, testLong, testNoReport];
+for (const test of tests) await test();
+await browser.stop();
+rmSync(folder, { recursive: true, force: true, maxRetries: 20, retryDelay: 200 });
+console.log(`${passed} passed, ${failed} failed`);
+process.exit(failed ? 1 : 0);
