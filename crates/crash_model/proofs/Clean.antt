@@ -20,15 +20,15 @@ pub record HasNoFault (d : Disk) : Type 0 where
 
 -- ---- empty lists
 
-nil_left : {X : Type 0} (xs ys : List X) → xs ++ ys ≡ [] → xs ≡ []
+pub nil_left : {X : Type 0} (xs ys : List X) → xs ++ ys ≡ [] → xs ≡ []
 nil_left [] ys e = refl
 nil_left (x ∷ xs) ys e = cc
 
-nil_right : {X : Type 0} (xs ys : List X) → xs ++ ys ≡ [] → ys ≡ []
+pub nil_right : {X : Type 0} (xs ys : List X) → xs ++ ys ≡ [] → ys ≡ []
 nil_right [] ys e = e
 nil_right (x ∷ xs) ys e = cc
 
-nil_both : {X : Type 0} (xs ys : List X) → xs ≡ [] → ys ≡ [] → xs ++ ys ≡ []
+pub nil_both : {X : Type 0} (xs ys : List X) → xs ≡ [] → ys ≡ [] → xs ++ ys ≡ []
 nil_both xs ys p q = rw (p, q) refl
 
 below_suc : (k n : ℕ) → k < suc n → (k < n) ⊎ (k ≡ n)
@@ -49,7 +49,7 @@ no_option false x e = refl
 -- ---- tests that find nothing
 
 module _ (test : ℕ → Bool) (make : ℕ → Fault) where
-  some_none : (n : ℕ) → some_below n (λ k. when (test k) (make k)) ≡ [] → (k : ℕ) → k < n → test k ≡ false
+  pub some_none : (n : ℕ) → some_below n (λ k. when (test k) (make k)) ≡ [] → (k : ℕ) → k < n → test k ≡ false
   unfolding some_below
   some_none zero e k below = absurd (omega arith)
   some_none (suc n) e k below = elim (below_suc k n below) [
@@ -57,7 +57,7 @@ module _ (test : ℕ → Bool) (make : ℕ → Fault) where
     | inr same ↦ subst (λ (m : ℕ). test m ≡ false) (sym same) (no_option (test n) (make n) (nil_right (some_below n (λ k. when (test k) (make k))) _ e))
   ]
 
-  none_some : (n : ℕ) → ((k : ℕ) → k < n → test k ≡ false) → some_below n (λ k. when (test k) (make k)) ≡ []
+  pub none_some : (n : ℕ) → ((k : ℕ) → k < n → test k ≡ false) → some_below n (λ k. when (test k) (make k)) ≡ []
   none_some n h = some_below-none n _ (λ k below. rw (h k below) refl)
 
 module _ (test : ℕ → ℕ → Bool) (make : ℕ → ℕ → Fault) where

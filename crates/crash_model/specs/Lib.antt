@@ -14,6 +14,7 @@ pub mod Replay
 pub mod Rules
 pub mod Trace
 pub mod Failing
+pub mod Strict
 pub mod Report
 pub mod Script
 pub mod Explain

@@ -11,7 +11,7 @@ use Rattle.crash_model.specs.Patches.{deps_of, homes_of, image_of}
 use Rattle.crash_model.specs.Replay.{replayed}
 use Rattle.crash_model.specs.Faults.{faults}
 use Rattle.crash_model.specs.declared.fault.Fault.{Fault}
-use Rattle.crash_model.specs.declared.fault.Fault.TheVariants.{Dangling, Twice, Unwritten, LowLinks, MarkedFree, Wild}
+use Rattle.crash_model.specs.declared.fault.Fault.TheVariants.{Dangling, Twice, Unwritten, LowLinks, MarkedFree, Wild, Lost, NoBlock}
 use Rattle.crash_model.specs.declared.patches.Patch.{Patch}
 use Rattle.crash_model.specs.declared.steps.Module.{Module}
 use Rattle.crash_model.specs.declared.steps.Module.TheVariants.{Async, Soft, Meta, Full}
@@ -65,6 +65,8 @@ fault_text (Unwritten i s b) = codes "3 unwritten pointer: inode " ++ decimal i 
 fault_text (LowLinks i e l) = codes "4 low link count: inode " ++ decimal i ++ codes " entries " ++ decimal e ++ codes " links " ++ decimal l
 fault_text (MarkedFree i s b) = codes "5 used block marked free: inode " ++ decimal i ++ codes " slot " ++ decimal s ++ codes " block " ++ decimal b
 fault_text (Wild i s b) = codes "6 wild pointer: inode " ++ decimal i ++ codes " slot " ++ decimal s ++ codes " block " ++ decimal b
+fault_text (Lost i) = codes "7 lost inode: inode " ++ decimal i
+fault_text (NoBlock i) = codes "8 directory without a block: inode " ++ decimal i
 
 abbrev pub module_text : Module → List ℕ
 module_text Async = codes "async"

@@ -24,6 +24,10 @@ pub enum Fault {
     MarkedFree { inode: u8, slot: u8, block: u8 },
     /// A pointer that names no block of the data area.
     Wild { inode: u8, slot: u8, block: u8 },
+    /// An inode that the script keeps and that no entries lead to from inode 0.
+    Lost { inode: u8 },
+    /// A directory that is reached and has no block.
+    NoBlock { inode: u8 },
 }
 
 impl fmt::Display for Fault {
@@ -59,6 +63,8 @@ impl fmt::Display for Fault {
             Fault::Wild { inode, slot, block } => {
                 write!(f, "6 wild pointer: inode {inode} slot {slot} block {block}")
             }
+            Fault::Lost { inode } => write!(f, "7 lost inode: inode {inode}"),
+            Fault::NoBlock { inode } => write!(f, "8 directory without a block: inode {inode}"),
         }
     }
 }
@@ -79,6 +85,8 @@ impl Fault {
             } => [4, inode, entries, links],
             Fault::MarkedFree { inode, slot, block } => [5, inode, slot, block],
             Fault::Wild { inode, slot, block } => [6, inode, slot, block],
+            Fault::Lost { inode } => [7, inode, 0, 0],
+            Fault::NoBlock { inode } => [8, inode, 0, 0],
         }
     }
 }

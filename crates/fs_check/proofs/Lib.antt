@@ -4,3 +4,4 @@ pub mod Slots
 pub mod Entries
 pub mod Halves
 pub mod Found
+pub mod Reaching

@@ -1,3 +1,4 @@
 pub mod Tally
 pub mod Passed
 pub mod References
+pub mod Strict

@@ -4,10 +4,12 @@ ghost use Rattle.std.specs.Prelude.{◌≡◌, ℕ, ◌<◌, ◌++◌, ◌==◌,
 ghost use Rattle.std.specs.List.{All, count_by, filter_map};
 ghost use Rattle.crash_model.specs.Lists.{some_below};
 ghost use Rattle.crash_model.specs.Faults.{faults};
+ghost use Rattle.crash_model.specs.Strict.{faults_under};
 ghost use Rattle.fs_check.specs.References.{all_pointers, all_entries, fault_of, twice_at, low_links_at};
 
 use crate::clean::is_marked;
 use crate::references::{self, Reference, count_targets};
+use crate::strict::push_strict;
 use crash_model::fault::Fault;
 use disk_image::Image;
 use std::alloc::{AllocError, Allocator};
@@ -28,6 +30,22 @@ pub fn faults<A: Allocator + Copy>(alloc: A, image: &Image<A>) -> Result<Vec<Fau
     push_low_links(&mut found, image, entries.as_slice())?;
     push_found(&mut found, image, Test::IsMarkedFree, pointers.as_slice())?;
     push_found(&mut found, image, Test::IsWild, pointers.as_slice())?;
+    Ok(found)
+}
+
+/// The faults of an image where a script keeps a set of inodes, or where nothing is asked of that: those of [`faults`],
+/// then the two of what is kept, by inode. It fails only when out of memory.
+pub fn faults_under<A: Allocator + Copy>(
+    alloc: A,
+    image: &Image<A>,
+    kept: Option<u16>,
+) -> Result<Vec<Fault, A>, AllocError>
+    ensures { IfOk result (λ found. found.items ≡ faults_under kept image.now) }
+{
+    let mut found = faults(alloc, image)?;
+    if let Some(kept) = kept {
+        push_strict(&mut found, image, kept)?;
+    }
     Ok(found)
 }
 
@@ -89,7 +107,7 @@ fn fault_of<A: Allocator + Copy>(
 }
 
 /// Adds the fault, if there is one.
-fn push_some<A: Allocator + Copy>(
+pub(crate) fn push_some<A: Allocator + Copy>(
     found: &mut Vec<Fault, A>,
     fault: Option<Fault>,
 ) -> Result<(), AllocError>

@@ -10,3 +10,4 @@ pub mod Traces
 pub mod Outside
 pub mod Final
 pub mod Failing
+pub mod Kept

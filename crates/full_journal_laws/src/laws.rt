@@ -1,10 +1,12 @@
 //! What a script under the full journal is sure of, as functions that do nothing and promise the law.
 
-ghost use Rattle.std.specs.Prelude.{◌≡◌, ℕ, List, All, Ok};
+ghost use Rattle.std.specs.Prelude.{◌≡◌, ℕ, List, All, Ok, Some};
 ghost use Rattle.patch_sets.specs.Closed.{IsClosed};
 ghost use Rattle.crash_model.specs.Disk.{Disk, IsDisk};
 ghost use Rattle.crash_model.specs.Sound.{IsSound, HasZeroJournal};
-ghost use Rattle.crash_model.specs.Patches.{deps_of};
+ghost use Rattle.crash_model.specs.Patches.{deps_of, image_of};
+ghost use Rattle.crash_model.specs.Replay.{replayed};
+ghost use Rattle.crash_model.specs.Strict.{IsKept, IsCleanUnder};
 ghost use Rattle.crash_model.specs.Trace.{Tracing, begun, traced, IsGraphOf};
 ghost use Rattle.crash_model.specs.Rules.{AreAmong, rules_of};
 ghost use Rattle.crash_model.specs.declared.patches.Patch.{Patch};
@@ -24,4 +26,13 @@ pub fn replay_recovers_the_committed_operations()
         → traced Full (begun base) steps ≡ Ok s → AreAmong (rules_of Full) rules → IsGraphOf rules base s patches
         → IsClosed (deps_of patches) set
         → IsRecovered base steps s patches set }
+{}
+
+/// So nothing fails where a checker is told which inodes the script keeps, either: the image after replay has none of the
+/// eight faults, for every script and every set of patches that a crash can leave.
+pub fn nothing_that_the_script_keeps_is_lost()
+    ensures { (rules : List Rule) → (base : Disk) → (steps : List Step) → (s : Tracing) → (patches : List Patch) → (set kept : ℕ)
+        → IsDisk base → IsSound base → HasZeroJournal base → All GivesName (ops_of steps)
+        → traced Full (begun base) steps ≡ Ok s → AreAmong (rules_of Full) rules → IsGraphOf rules base s patches → IsClosed (deps_of patches) set
+        → IsKept base steps kept → IsCleanUnder (Some kept) (replayed (image_of base patches set)) }
 {}

@@ -8,3 +8,4 @@ pub mod Sounds
 pub mod Means
 pub mod ViewTests
 pub mod Refused
+pub mod StayLive

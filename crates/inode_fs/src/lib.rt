@@ -7,6 +7,7 @@
 
 mod applying;
 mod changes;
+mod keeping;
 mod look;
 mod plans;
 
@@ -14,4 +15,5 @@ pub use applying::apply;
 pub use crash_model::names::{Name, Op, Path};
 pub use crash_model::plans::{Change, Plan, Role};
 pub use crash_model::refusals::FsFault;
+pub use keeping::kept;
 pub use plans::plan;

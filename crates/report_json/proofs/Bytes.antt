@@ -18,7 +18,7 @@ use Rattle.serde_json.specs.Written.{compact_text, items_text, has_float, items_
 use Rattle.crash_model.specs.Lists.{joined}
 use Rattle.crash_model.specs.Report.{Section, ReplayedBlock, fault_text, quoted, json_array, ids_json, write_json, replayed_json, section_json}
 use Rattle.crash_model.specs.declared.fault.Fault.{Fault}
-use Rattle.crash_model.specs.declared.fault.Fault.TheVariants.{Dangling, Twice, Unwritten, LowLinks, MarkedFree, Wild}
+use Rattle.crash_model.specs.declared.fault.Fault.TheVariants.{Dangling, Twice, Unwritten, LowLinks, MarkedFree, Wild, Lost, NoBlock}
 use Rattle.report_json.specs.JsonReport.{IsWritten}
 use Rattle.report_json.specs.Values.{number_data, ids_data, write_data, writes_data, fault_data, faults_data, hex_data, replayed_data, replay_data, section_data, AreReplayedBytes}
 
@@ -68,6 +68,8 @@ fault_plain (MarkedFree i s b) =
     plain-append _ (decimal b) (plain-append _ (codes " block ") (plain-append _ (decimal s) (plain-append _ (codes " slot ") (plain-append (codes "5 used block marked free: inode ") (decimal i) refl (decimal_plain i)) refl) (decimal_plain s)) refl) (decimal_plain b)
 fault_plain (Wild i s b) =
     plain-append _ (decimal b) (plain-append _ (codes " block ") (plain-append _ (decimal s) (plain-append _ (codes " slot ") (plain-append (codes "6 wild pointer: inode ") (decimal i) refl (decimal_plain i)) refl) (decimal_plain s)) refl) (decimal_plain b)
+fault_plain (Lost i) = plain-append (codes "7 lost inode: inode ") (decimal i) refl (decimal_plain i)
+fault_plain (NoBlock i) = plain-append (codes "8 directory without a block: inode ") (decimal i) refl (decimal_plain i)
 
 -- ---- hexadecimal
 

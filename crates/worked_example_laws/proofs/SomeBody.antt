@@ -29,7 +29,7 @@ use Rattle.crash_model.specs.Summary.{numbers_of, IsFaultBefore, HasFault, IsFir
 use Rattle.crash_model.specs.Trace.{Tracing}
 use Rattle.crash_model.specs.Whole.{Body, Sets, Faults, Rules}
 use Rattle.crash_model.specs.declared.fault.Fault.{Fault}
-use Rattle.crash_model.specs.declared.fault.Fault.TheVariants.{Dangling, Twice, Unwritten, LowLinks, MarkedFree, Wild}
+use Rattle.crash_model.specs.declared.fault.Fault.TheVariants.{Dangling, Twice, Unwritten, LowLinks, MarkedFree, Wild, Lost, NoBlock}
 use Rattle.crash_model.specs.declared.fault.FaultRow.{FaultRow}
 use Rattle.crash_model.specs.declared.patches.Patch.{Patch}
 use Rattle.crash_model.specs.declared.rules.Rule.{Rule}
@@ -68,6 +68,8 @@ fault_with (suc (suc (suc zero)) ∷ i ∷ s ∷ b ∷ []) = Unwritten i s b
 fault_with (suc (suc (suc (suc zero))) ∷ i ∷ e ∷ l ∷ []) = LowLinks i e l
 fault_with (suc (suc (suc (suc (suc zero)))) ∷ i ∷ s ∷ b ∷ []) = MarkedFree i s b
 fault_with (suc (suc (suc (suc (suc (suc zero))))) ∷ i ∷ s ∷ b ∷ []) = Wild i s b
+fault_with (suc (suc (suc (suc (suc (suc (suc zero)))))) ∷ i ∷ _) = Lost i
+fault_with (suc (suc (suc (suc (suc (suc (suc (suc zero))))))) ∷ i ∷ _) = NoBlock i
 fault_with (n ∷ b ∷ _) = Twice b
 fault_with _ = Twice 0
 
@@ -79,6 +81,8 @@ back (Unwritten i s b) = refl
 back (LowLinks i e l) = refl
 back (MarkedFree i s b) = refl
 back (Wild i s b) = refl
+back (Lost i) = refl
+back (NoBlock i) = refl
 
 same_fault : (f g : Fault) → numbers_of f ≡ numbers_of g → f ≡ g
 same_fault f g same = sym (back f) ∙ (ap fault_with same ∙ back g)

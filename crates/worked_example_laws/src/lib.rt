@@ -9,3 +9,4 @@ pub mod determined;
 pub mod images;
 pub mod operations;
 pub mod refused_scripts;
+pub mod strict;

@@ -1,0 +1,89 @@
+-- What a checker finds beside the six faults where it is told which inodes the script keeps.
+use Rattle.std.specs.Prelude.{◌≡◌, ℕ, zero, suc, ◌<◌, List, [], ◌∷◌, ◌++◌, Bool, false, ◌&&◌, ◌||◌, ◌==◌, not, Option, Some, None}
+use Rattle.std.specs.List.{range_with_len, list_any}
+use Rattle.patch_sets.specs.Sets.{has, ids_below}
+use Rattle.patch_sets.specs.Closed.{IsClosed}
+use Rattle.crash_model.specs.Disk.{Disk}
+use Rattle.crash_model.specs.Layout.{kind_of, pointer_of, is_live}
+use Rattle.crash_model.specs.Lists.{some_below, when}
+use Rattle.crash_model.specs.Faults.{leads_to, faults}
+use Rattle.crash_model.specs.Plan.{plan_of, result_applied}
+use Rattle.crash_model.specs.Patches.{deps_of, image_of}
+use Rattle.crash_model.specs.Replay.{replayed}
+use Rattle.crash_model.specs.declared.fault.Fault.{Fault}
+use Rattle.crash_model.specs.declared.fault.Fault.TheVariants.{Lost, NoBlock}
+use Rattle.crash_model.specs.declared.patches.Patch.{Patch}
+use Rattle.crash_model.specs.declared.steps.Act.{Act}
+use Rattle.crash_model.specs.declared.steps.Act.TheVariants.{Do}
+use Rattle.crash_model.specs.declared.steps.Step.{Step}
+
+-- ---- the inodes that a script keeps
+
+-- the disk after a step; a group changes nothing, nor does what is refused
+abbrev pub disk_after : Disk → Act → Disk
+disk_after d (Do op) = result_applied d (plan_of d op)
+disk_after d _ = d
+
+-- an inode is live in a disk and in the disk after each of the steps
+abbrev pub stays_live : Disk → List Step → ℕ → Bool
+stays_live d [] inode = is_live d inode
+stays_live d (x ∷ xs) inode = is_live d inode && stays_live (disk_after d x.act) xs inode
+
+-- the set has the inodes that stay live from the base on, and no other
+abbrev pub IsKept : Disk → List Step → ℕ → Type 0
+IsKept base steps kept = (inode : ℕ) → has kept inode ≡ stays_live base steps inode
+
+-- ---- the inodes that are reached
+
+abbrev pub is_in : List ℕ → ℕ → Bool
+is_in inodes inode = list_any (λ i. inode == i) inodes
+
+-- an entry of a directory leads to an inode
+abbrev pub is_named : Disk → ℕ → ℕ → Bool
+is_named d dir inode = list_any (λ k. leads_to d dir k inode) (range_with_len 0 10)
+
+-- the inodes to which entries lead from inode 0, a directory, in at most so many steps, each to a live inode
+unfoldable pub reached_in : Disk → ℕ → List ℕ
+reached_in d zero = ids_below 16 (λ inode. inode == 0 && kind_of d 0 == 2)
+reached_in d (suc n) =
+    let before = reached_in d n in
+    ids_below 16 (λ inode. is_in before inode || (is_live d inode && list_any (λ dir. is_named d dir inode) before))
+
+-- of 16 inodes each that is reached at all is reached in 16 steps
+unfoldable pub is_reached : Disk → ℕ → Bool
+is_reached d inode = is_in (reached_in d 16) inode
+
+-- ---- the faults
+
+-- 7: an inode that the script keeps is not reached
+abbrev pub is_lost : Disk → ℕ → ℕ → Bool
+is_lost d kept inode = has kept inode && not (is_reached d inode)
+
+-- 8: a directory is reached and has no block
+abbrev pub lacks_block : Disk → ℕ → Bool
+lacks_block d inode = is_reached d inode && kind_of d inode == 2 && pointer_of d inode 0 == 0
+
+-- the two by inode
+unfoldable pub strict_faults : ℕ → Disk → List Fault
+strict_faults kept d =
+    some_below 16 (λ inode. when (is_lost d kept inode) (Lost inode))
+    ++ some_below 16 (λ inode. when (lacks_block d inode) (NoBlock inode))
+
+-- neither holds of any inode
+pub record LosesNothing (kept : ℕ) (d : Disk) : Type 0 where
+  pub no_lost : (inode : ℕ) → inode < 16 → is_lost d kept inode ≡ false
+  pub no_bare : (inode : ℕ) → inode < 16 → lacks_block d inode ≡ false
+
+-- all faults of an image, in order, where the script keeps a set of inodes or nothing is asked of that
+abbrev pub faults_under : Option ℕ → Disk → List Fault
+faults_under None d = faults d
+faults_under (Some kept) d = faults d ++ strict_faults kept d
+
+-- no fault holds
+pub record IsCleanUnder (kept : Option ℕ) (d : Disk) : Type 0 where
+  pub faultless : faults_under kept d ≡ []
+
+-- a closed set whose image is not clean after replay
+pub record IsFailingUnder (kept : Option ℕ) (base : Disk) (patches : List Patch) (set : ℕ) : Type 0 where
+  pub closed : IsClosed (deps_of patches) set
+  pub unclean : ¬ (IsCleanUnder kept (replayed (image_of base patches set)))

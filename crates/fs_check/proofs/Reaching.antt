@@ -1,0 +1,273 @@
+-- The inodes that the checker finds reached.
+use Rattle.std.proofs.Common.{◌≡◌, ◌≢◌, ℕ, ◌+◌, ◌-◌, ◌<◌, inl, inr, ◌⊎◌, List, [], ◌∷◌, ◌++◌, Bool, true, false, ◌&&◌, ◌||◌, ◌==◌, not, map, arith, refl, sym, subst, ap, ◌∙◌, append_assoc, Option, Some, None}
+use Rattle.std.specs.Prelude.{◌^◌, bit_and, bit_or}
+use Rattle.std.specs.List.{list_any, range_with_len}
+use Rattle.std.proofs.lemmas.Bool.{false≢true, cases_eq, cases_Bool, eq-eqb, ne_eqb, and_parts, and_right}
+use Rattle.std.proofs.lemmas.List.Folds.{list_any-append}
+use Rattle.std.proofs.lemmas.List.FromFn.{map-range_with_len_more}
+use Rattle.std.proofs.lemmas.Nat.Bits.{bit_at_and, bit_at_ones, bit_at-lt}
+use Rattle.patch_sets.specs.Sets.{Has, has, with_id, IsSubset}
+use Rattle.patch_sets.specs.Ends.{IsWithout}
+use Rattle.patch_sets.proofs.Bits.{none_in_empty, in_with_same, in_with_cases, in_with_old, in_or_cases, in_or_left, in_or_right, below_from_small}
+use Rattle.patch_sets.proofs.Ids.{has_true, has_false, from_has}
+use Rattle.crash_model.specs.Disk.{Disk}
+use Rattle.crash_model.specs.Layout.{kind_of, pointer_of, is_live, counts, entry_of, is_entry, target_of}
+use Rattle.crash_model.specs.Lists.{some_below}
+use Rattle.crash_model.specs.Faults.{IsClean, leads_to}
+use Rattle.crash_model.specs.declared.fault.Fault.{Fault}
+use Rattle.crash_model.proofs.Losing.{clean_from_under}
+use Rattle.crash_model.specs.Strict.{is_named, is_reached, is_lost, lacks_block, LosesNothing, IsCleanUnder, strict_faults}
+use Rattle.crash_model.proofs.Reached.{reached-root, reached-step, reached-least}
+use Rattle.fs_check.specs.Strict.{is_bare, HaveBlocks, lost_at, bare_at}
+use Rattle.fs_check.proofs.Entries.{live-below}
+
+-- ---- tests
+
+pub same_test : (a b : Bool) → (a ≡ true → b ≡ true) → (b ≡ true → a ≡ true) → a ≡ b
+same_test true b to from = sym (to refl)
+same_test false true to from = from refl
+same_test false false to from = refl
+
+or_true : (a b : Bool) → b ≡ true → (a || b) ≡ true
+or_true true b e = refl
+or_true false b e = e
+
+or_false : (a b : Bool) → b ≡ false → (a || b) ≡ a
+or_false true b e = refl
+or_false false b e = e
+
+pub both_true : (a b : Bool) → a ≡ true → b ≡ true → (a && b) ≡ true
+both_true a b e f = rw (e, f) refl
+
+both_parts : (a b c : Bool) → ((a && b) || (a && c)) ≡ (a && (b || c))
+both_parts true b c = refl
+both_parts false b c = refl
+
+not_true : (b : Bool) → (b ≡ true → ⊥) → b ≡ false
+not_true true never = absurd (never refl)
+not_true false never = refl
+
+-- ---- sets
+
+has-with_same : (set id : ℕ) → has (with_id set id) id ≡ true
+has-with_same set id = has_true (with_id set id) id (in_with_same set id)
+
+has-with_other : (set id other : ℕ) → other ≢ id → has (with_id set id) other ≡ has set other
+has-with_other set id other differ = same_test (has (with_id set id) other) (has set other)
+    (λ t. elim (in_with_cases set id other (from_has (with_id set id) other t)) [ | inl e ↦ absurd (differ e) | inr old ↦ has_true set other old ])
+    (λ t. has_true (with_id set id) other (in_with_old set id other (from_has set other t)))
+
+in_and : (a b id : ℕ) → Has a id → Has b id → Has (bit_and a b) id
+in_and a b id here there = omega (arith, bit_at_and a b id, here, there)
+
+pub and_in : (a b id : ℕ) → Has (bit_and a b) id → Has a id × Has b id
+and_in a b id is = (
+  omega (arith, bit_at_and a b id, is, bit_at-lt a id, bit_at-lt b id),
+  omega (arith, bit_at_and a b id, is, bit_at-lt a id, bit_at-lt b id),
+)
+
+-- ---- the inodes that the first entries of a directory name
+
+map_same : (xs : List ℕ) → map (λ k. k) xs ≡ xs
+map_same [] = refl
+map_same (x ∷ xs) = ap (λ ys. x ∷ ys) (map_same xs)
+
+range-more : (n : ℕ) → range_with_len 0 (n + 1) ≡ range_with_len 0 n ++ n ∷ []
+range-more n = sym (map_same (range_with_len 0 (n + 1))) ∙ (map-range_with_len_more (λ (k : ℕ). k) 0 n n (omega arith) ∙ ap (λ xs. xs ++ n ∷ []) (map_same (range_with_len 0 n)))
+
+any-more : (p : ℕ → Bool) (n : ℕ) → list_any p (range_with_len 0 (n + 1)) ≡ (list_any p (range_with_len 0 n) || p n)
+any-more p n = ap (list_any p) (range-more n) ∙ (list_any-append p (range_with_len 0 n) (n ∷ [])
+    ∙ ap (λ (b : Bool). list_any p (range_with_len 0 n) || b) (or_false (p n) false refl))
+
+module _ (d : Disk) (dir : ℕ) where
+  abbrev pub AreNamed : ℕ → ℕ → Type 0
+  AreNamed n named = (inode : ℕ) → has named inode ≡ (is_live d inode && list_any (λ k. leads_to d dir k inode) (range_with_len 0 n))
+
+  pub named-start : AreNamed 0 0
+  named-start inode = has_false 0 inode (none_in_empty inode) ∙ sym (and_right (is_live d inode) false refl)
+
+  -- an entry adds the live inode to which it leads
+  abbrev pub Adds : ℕ → ℕ → ℕ → Type 0
+  Adds k named more = (inode : ℕ) → has more inode ≡ (has named inode || (is_live d inode && leads_to d dir k inode))
+
+  pub named-step : (k named more : ℕ) → Adds k named more → AreNamed k named → AreNamed (k + 1) more
+  named-step k named more adds old inode =
+      adds inode
+      ∙ (ap (λ (b : Bool). b || (is_live d inode && leads_to d dir k inode)) (old inode)
+      ∙ (both_parts (is_live d inode) (list_any (λ j. leads_to d dir j inode) (range_with_len 0 k)) (leads_to d dir k inode)
+      ∙ ap (λ (b : Bool). is_live d inode && b) (sym (any-more (λ j. leads_to d dir j inode) k))))
+
+  leads-here : (k entry : ℕ) → counts d dir ≡ true → entry_of d dir k ≡ entry → entry ≢ 0 → leads_to d dir k (entry - 1) ≡ true
+  leads-here k entry counted is some = rw (counted, is, ne_eqb entry 0 some) (eq-eqb (entry - 1) (entry - 1) refl)
+
+  leads-other : (k entry inode : ℕ) → entry_of d dir k ≡ entry → inode ≢ entry - 1 → leads_to d dir k inode ≡ false
+  leads-other k entry inode is differ = rw (is, ne_eqb (entry - 1) inode (λ e. differ (sym e))) (and_right (counts d dir && not (entry == 0)) false refl)
+
+  leads-none : (k inode : ℕ) → entry_of d dir k ≡ 0 → leads_to d dir k inode ≡ false
+  leads-none k inode is = rw (eq-eqb (entry_of d dir k) 0 is, and_right (counts d dir) false refl) refl
+
+  pub adds-live : (k entry named : ℕ) → counts d dir ≡ true → entry_of d dir k ≡ entry → entry ≢ 0 → is_live d (entry - 1) ≡ true
+      → Adds k named (with_id named (entry - 1))
+  adds-live k entry named counted is some live inode = elim (cases_eq inode (entry - 1)) [
+    | inl same ↦ subst (λ (i : ℕ). has (with_id named (entry - 1)) i ≡ (has named i || (is_live d i && leads_to d dir k i))) (sym same)
+        (has-with_same named (entry - 1)
+        ∙ sym (or_true (has named (entry - 1)) _ (both_true (is_live d (entry - 1)) _ live (leads-here k entry counted is some))))
+    | inr other ↦ has-with_other named (entry - 1) inode other
+        ∙ sym (or_false (has named inode) _ (and_right (is_live d inode) _ (leads-other k entry inode is other)))
+  ]
+
+  pub adds-free : (k named : ℕ) → entry_of d dir k ≡ 0 → Adds k named named
+  adds-free k named is inode = sym (or_false (has named inode) _ (and_right (is_live d inode) _ (leads-none k inode is)))
+
+  pub adds-dead : (k entry named : ℕ) → entry_of d dir k ≡ entry → is_live d (entry - 1) ≡ false → Adds k named named
+  adds-dead k entry named is dead inode = sym (or_false (has named inode) _ (elim (cases_eq inode (entry - 1)) [
+    | inl same ↦ subst (λ (i : ℕ). (is_live d i && leads_to d dir k i) ≡ false) (sym same) (rw dead refl)
+    | inr other ↦ and_right (is_live d inode) _ (leads-other k entry inode is other)
+  ]))
+
+  -- an inode that does not count names none
+  uncounted : counts d dir ≡ false → (ks : List ℕ) (inode : ℕ) → list_any (λ k. leads_to d dir k inode) ks ≡ false
+  uncounted not_so [] inode = refl
+  uncounted not_so (k ∷ ks) inode = rw (not_so, uncounted not_so ks inode) refl
+
+  pub named-uncounted : counts d dir ≡ false → (inode : ℕ) → has 0 inode ≡ (is_live d inode && is_named d dir inode)
+  named-uncounted not_so inode = has_false 0 inode (none_in_empty inode) ∙ sym (and_right (is_live d inode) _ (uncounted not_so (range_with_len 0 10) inode))
+
+-- ---- what is reached so far, and which inodes' entries have not been read
+
+pub record Reaching (d : Disk) (reached unread : ℕ) : Type 0 where
+  pub sound : (i : ℕ) → has reached i ≡ true → is_reached d i ≡ true
+  pub root : kind_of d 0 ≡ 2 → has reached 0 ≡ true
+  pub read : (e i : ℕ) → e < 16 → has unread e ≡ false → is_named d e i ≡ true → is_live d i ≡ true → has reached i ≡ true
+  pub few : (i : ℕ) → has unread i ≡ true → i < 16
+
+all_unread : (i : ℕ) → i < 16 → has 0xFFFF i ≡ true
+all_unread i below = has_true 0xFFFF i (bit_at_ones 16 i below)
+
+few_unread : (i : ℕ) → has 0xFFFF i ≡ true → i < 16
+few_unread i is = below_from_small 0xFFFF 16 i (omega arith) (from_has 0xFFFF i is)
+
+module _ (d : Disk) where
+  pub reaching-root : kind_of d 0 ≡ 2 → Reaching d 1 0xFFFF
+  reaching-root is = record {
+    sound = λ i there.
+        let below : i < 1 = below_from_small 1 1 i (omega arith) (from_has 1 i there) in
+        let same : 0 ≡ i = omega arith in
+        subst (λ (j : ℕ). is_reached d j ≡ true) same (reached-root d is);
+    root = λ e. has_true 1 0 refl;
+    read = λ e i below gone names live. absurd (false≢true (sym gone ∙ all_unread e below));
+    few = few_unread;
+  }
+
+  pub reaching-none : kind_of d 0 ≢ 2 → Reaching d 0 0xFFFF
+  reaching-none is_not = record {
+    sound = λ i there. absurd (none_in_empty i (from_has 0 i there));
+    root = λ e. absurd (is_not e);
+    read = λ e i below gone names live. absurd (false≢true (sym gone ∙ all_unread e below));
+    few = few_unread;
+  }
+
+  -- the entries of one inode more
+  pub reaching-step : (reached unread dir rest named : ℕ) → has reached dir ≡ true → IsWithout unread dir rest
+      → ((i : ℕ) → has named i ≡ (is_live d i && is_named d dir i)) → Reaching d reached unread → Reaching d (bit_or reached named) rest
+  reaching-step reached unread dir rest named there without by old = record {
+    sound = λ i t. elim (in_or_cases reached named i (from_has (bit_or reached named) i t)) [
+      | inl before ↦ old.sound i (has_true reached i before)
+      | inr more ↦
+          let parts = and_parts (is_live d i) (is_named d dir i) (sym (by i) ∙ has_true named i more) in
+          reached-step d dir i (old.sound dir there) parts.1 parts.0
+    ];
+    root = λ e. has_true (bit_or reached named) 0 (in_or_left reached named 0 (from_has reached 0 (old.root e)));
+    read = λ e i below gone names live. elim (cases_eq e dir) [
+      | inl same ↦ has_true (bit_or reached named) i (in_or_right reached named i (from_has named i
+          (by i ∙ both_true (is_live d i) (is_named d dir i) live (subst (λ (x : ℕ). is_named d x i ≡ true) same names))))
+      | inr other ↦
+          let before : has unread e ≡ false = has_false unread e (λ is. false≢true (sym gone ∙ has_true rest e ((without.others e other).1 is))) in
+          has_true (bit_or reached named) i (in_or_left reached named i (from_has reached i (old.read e i below before names live)))
+    ];
+    few = λ i t. elim (cases_eq i dir) [
+      | inl same ↦ absurd (without.gone (subst (Has rest) same (from_has rest i t)))
+      | inr other ↦ old.few i (has_true unread i ((without.others i other).0 (from_has rest i t)))
+    ];
+  }
+
+  pub reached-below : (i : ℕ) → is_reached d i ≡ true → i < 16
+  reached-below i is = reached-least d (λ (j : ℕ). j < 16) (λ e. omega arith) (λ dir j below names live. live-below d j live) i is
+
+  -- nothing that is reached is unread
+  pub reached-all : (reached unread : ℕ) → bit_and reached unread ≡ 0 → Reaching d reached unread → (i : ℕ) → has reached i ≡ is_reached d i
+  reached-all reached unread none all i = same_test (has reached i) (is_reached d i) (all.sound i)
+      (reached-least d (λ (j : ℕ). has reached j ≡ true) all.root (λ e j is names live. all.read e j (reached-below e (all.sound e is)) (gone e is) names live) i)
+    where
+      gone : (e : ℕ) → has reached e ≡ true → has unread e ≡ false
+      gone e is = has_false unread e (λ there. none_in_empty e (subst (λ (s : ℕ). Has s e) none (in_and reached unread e (from_has reached e is) there)))
+
+-- ---- the directories of a set that have been passed
+
+pub record Passing (d : Disk) (inodes left : ℕ) : Type 0 where
+  pub within : (i : ℕ) → has left i ≡ true → has inodes i ≡ true
+  pub passed : (i : ℕ) → has inodes i ≡ true → has left i ≡ false → is_bare d i ≡ false
+
+module _ (d : Disk) (inodes : ℕ) where
+  pub passing-start : Passing d inodes inodes
+  passing-start = record { within = λ i is. is; passed = λ i is gone. absurd (false≢true (sym gone ∙ is)) }
+
+  pub passing-step : (left inode rest : ℕ) → IsWithout left inode rest → is_bare d inode ≡ false → Passing d inodes left → Passing d inodes rest
+  passing-step left inode rest without well old = record {
+    within = λ i is. elim (cases_eq i inode) [
+      | inl same ↦ absurd (without.gone (subst (Has rest) same (from_has rest i is)))
+      | inr other ↦ old.within i (has_true left i ((without.others i other).0 (from_has rest i is)))
+    ];
+    passed = λ i is gone. elim (cases_eq i inode) [
+      | inl same ↦ subst (λ (j : ℕ). is_bare d j ≡ false) (sym same) well
+      | inr other ↦ old.passed i is (has_false left i (λ there. false≢true (sym gone ∙ has_true rest i ((without.others i other).1 there))))
+    ];
+  }
+
+  pub passing-all : (left : ℕ) → left ≡ 0 → Passing d inodes left → HaveBlocks d inodes
+  passing-all left none all i is = all.passed i is (subst (λ (s : ℕ). has s i ≡ false) (sym none) (has_false 0 i (none_in_empty i)))
+
+-- ---- nothing is lost
+
+module _ (d : Disk) (kept reached : ℕ) (few : kept < 2 ^ 16) (by : (i : ℕ) → has reached i ≡ is_reached d i) where
+  not_lost : (i : ℕ) → IsSubset kept reached → is_lost d kept i ≡ false
+  not_lost i within = elim (cases_Bool (has kept i)) [
+    | inl is ↦ rw (is, sym (by i) ∙ has_true reached i (within i (from_has kept i is))) refl
+    | inr is_not ↦ rw is_not refl
+  ]
+
+  three : (a b c : Bool) → (a ≡ true → (b && c) ≡ false) → ((a && b) && c) ≡ false
+  three true b c e = e refl
+  three false b c e = refl
+
+  pub loses_nothing_from : IsSubset kept reached → HaveBlocks d reached → LosesNothing kept d
+  loses_nothing_from within blocks = record {
+    no_lost = λ i below. not_lost i within;
+    no_bare = λ i below. three (is_reached d i) (kind_of d i == 2) (pointer_of d i 0 == 0) (λ is. blocks i (by i ∙ is));
+  }
+
+  pub subset_from : LosesNothing kept d → IsSubset kept reached
+  subset_from loses i is = from_has reached i (by i ∙ elim (cases_Bool (is_reached d i)) [
+    | inl there ↦ there
+    | inr gone ↦ absurd (false≢true (sym (loses.no_lost i (below_from_small kept 16 i few is)) ∙ rw (has_true kept i is, gone) refl))
+  ])
+
+  pub blocks_from : LosesNothing kept d → HaveBlocks d reached
+  blocks_from loses i is = not_true (is_bare d i) (λ bare. false≢true
+      (sym (loses.no_bare i (reached-below d i (sym (by i) ∙ is)))
+      ∙ and_left_assoc (is_reached d i) (kind_of d i == 2) (pointer_of d i 0 == 0) (sym (by i) ∙ is) bare))
+    where
+      and_left_assoc : (a b c : Bool) → a ≡ true → (b && c) ≡ true → ((a && b) && c) ≡ true
+      and_left_assoc true b c e f = f
+      and_left_assoc false b c e f = absurd (false≢true e)
+
+-- ---- with the six faults
+
+pub clean_of_under : (kept : Option ℕ) (d : Disk) → IsCleanUnder kept d → IsClean d
+clean_of_under None d under = record { faultless = under.faultless }
+clean_of_under (Some kept) d under = clean_from_under kept d under
+
+pub strict_two : (d : Disk) (kept : ℕ) (old lost now : List Fault) → lost ≡ old ++ some_below 16 (lost_at kept d) → now ≡ lost ++ some_below 16 (bare_at d) → now ≡ old ++ strict_faults kept d
+unfolding strict_faults
+strict_two d kept old lost now first second =
+    second ∙ (ap (λ (xs : List Fault). xs ++ some_below 16 (bare_at d)) first ∙ append_assoc old (some_below 16 (lost_at kept d)) (some_below 16 (bare_at d)))

@@ -1,0 +1,156 @@
+//! Whether an image has lost what a script keeps.
+
+ghost use Rattle.std.specs.Prelude.{◌≡◌, ℕ, ◌<◌, ◌↔◌, ◌&&◌, ◌++◌, IsTrue, OnOk};
+ghost use Rattle.patch_sets.specs.Sets.{has};
+ghost use Rattle.crash_model.specs.Layout.{is_live, counts};
+ghost use Rattle.crash_model.specs.Lists.{some_below};
+ghost use Rattle.crash_model.specs.Strict.{is_named, is_reached, LosesNothing, IsCleanUnder, strict_faults};
+ghost use Rattle.fs_check.specs.Strict.{lost_at, bare_at, HaveBlocks};
+
+use crate::clean::is_clean;
+use crate::list::push_some;
+use crash_model::fault::Fault;
+use disk_image::Image;
+use patch_sets::ends::{lowest, without};
+use patch_sets::set::{has, is_subset, with};
+use std::alloc::{AllocError, Allocator};
+
+/// Whether an image has no fault, where a script keeps a set of inodes or where nothing is asked of that.
+///
+/// It takes no memory, and ends at the first fault that it meets.
+pub fn is_clean_under<A: Allocator + Copy>(image: &Image<A>, kept: Option<u16>) -> bool
+    ensures { IsTrue result ↔ IsCleanUnder kept image.now }
+{
+    if !is_clean(image) {
+        return false;
+    }
+    match kept {
+        Some(kept) => loses_nothing(image, kept),
+        None => true,
+    }
+}
+
+/// Whether each inode of a set is reached, and each directory that is reached has a block.
+pub fn loses_nothing<A: Allocator + Copy>(image: &Image<A>, kept: u16) -> bool
+    ensures { IsTrue result ↔ LosesNothing kept image.now }
+{
+    let reached = reached(image);
+    is_subset(u128::from(kept), reached) && have_blocks(image, reached)
+}
+
+/// Whether each directory of a set of inodes has a block.
+fn have_blocks<A: Allocator + Copy>(image: &Image<A>, inodes: u128) -> bool
+    requires { (inode : ℕ) → IsTrue (has inodes inode) → inode < 16 }
+    ensures { IsTrue result ↔ HaveBlocks image.now inodes }
+{
+    let mut left = inodes;
+    while let Some(inode) = lowest(left) {
+        if image.kind(inode as u8) == 2 && image.pointer(inode as u8, 0) == 0 {
+            return false;
+        }
+        left = without(left, inode);
+    }
+    true
+}
+
+/// The inodes that are reached, as a set.
+pub(crate) fn reached<A: Allocator + Copy>(image: &Image<A>) -> u128
+    ensures value { (inode : ℕ) → has result inode ≡ is_reached image.now inode }
+    ensures few { (inode : ℕ) → IsTrue (has result inode) → inode < 16 }
+{
+    let mut reached = if image.kind(0) == 2 { 1 } else { 0 };
+    let mut unread = 0xFFFF;
+    while let Some(dir) = lowest(reached & unread) {
+        unread = without(unread, dir);
+        reached |= named_by(image, dir as u8);
+    }
+    reached
+}
+
+/// The live inodes to which an inode's entries lead, as a set.
+fn named_by<A: Allocator + Copy>(image: &Image<A>, dir: u8) -> u128
+    requires { dir < 16 }
+    ensures { (inode : ℕ) → has result inode ≡ (is_live image.now inode && is_named image.now dir inode) }
+{
+    if !image.counts(dir) {
+        return 0;
+    }
+    let mut named = 0;
+    for k in 0..10u8 {
+        let entry = image.entry(dir, k);
+        if entry != 0 && image.is_live(entry - 1) {
+            named = with(named, usize::from(entry - 1));
+        }
+    }
+    named
+}
+
+/// Adds the faults of what a script keeps and an image has lost, and of directories without a block.
+pub(crate) fn push_strict<A: Allocator + Copy>(
+    found: &mut Vec<Fault, A>,
+    image: &Image<A>,
+    kept: u16,
+) -> Result<(), AllocError>
+    ensures { OnOk result (found.new.items ≡ found.old.items ++ strict_faults kept image.now) }
+{
+    let reached = reached(image);
+    push_lost(found, image, kept, reached)?;
+    push_bare(found, image, reached)?;
+    Ok(())
+}
+
+/// An inode as a fault, if it is to be kept and is not reached.
+fn lost_at<A: Allocator + Copy>(image: &Image<A>, kept: u16, reached: u128, inode: u8) -> Option<Fault>
+    requires inode { inode < 16 }
+    requires reached { (i : ℕ) → has reached i ≡ is_reached image.now i }
+    ensures { result ≡ lost_at kept image.now inode }
+{
+    let at = usize::from(inode);
+    let is_lost = has(u128::from(kept), at) && !has(reached, at);
+    is_lost.then_some(Fault::Lost { inode })
+}
+
+/// Adds the inodes that are lost, by number.
+#[tactic(auto, using(crash_model::specs::Lists::each_below_steps, std::proofs::lemmas::Grind::common_steps))]
+fn push_lost<A: Allocator + Copy>(
+    found: &mut Vec<Fault, A>,
+    image: &Image<A>,
+    kept: u16,
+    reached: u128,
+) -> Result<(), AllocError>
+    requires { (i : ℕ) → has reached i ≡ is_reached image.now i }
+    ensures { OnOk result (found.new.items ≡ found.old.items ++ some_below 16 (lost_at kept image.now)) }
+{
+    for inode in 0..16u8 {
+        push_some(found, lost_at(image, kept, reached, inode))?;
+    }
+    Ok(())
+}
+
+/// An inode as a fault, if it is a directory that is reached and has no block.
+fn bare_at<A: Allocator + Copy>(image: &Image<A>, reached: u128, inode: u8) -> Option<Fault>
+    requires inode { inode < 16 }
+    requires reached { (i : ℕ) → has reached i ≡ is_reached image.now i }
+    ensures { result ≡ bare_at image.now inode }
+{
+    let is_bare = has(reached, usize::from(inode))
+        && image.kind(inode) == 2
+        && image.pointer(inode, 0) == 0;
+    is_bare.then_some(Fault::NoBlock { inode })
+}
+
+/// Adds the directories without a block, by number.
+#[tactic(auto, using(crash_model::specs::Lists::each_below_steps, std::proofs::lemmas::Grind::common_steps))]
+fn push_bare<A: Allocator + Copy>(
+    found: &mut Vec<Fault, A>,
+    image: &Image<A>,
+    reached: u128,
+) -> Result<(), AllocError>
+    requires { (i : ℕ) → has reached i ≡ is_reached image.now i }
+    ensures { OnOk result (found.new.items ≡ found.old.items ++ some_below 16 (bare_at image.now)) }
+{
+    for inode in 0..16u8 {
+        push_some(found, bare_at(image, reached, inode))?;
+    }
+    Ok(())
+}
