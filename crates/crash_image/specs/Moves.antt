@@ -1,5 +1,5 @@
 -- Patches put on a disk and taken back.
-use Rattle.std.specs.Prelude.{◌≡◌, ℕ, ◌+◌, ◌<◌, List, [], ◌∷◌, if◌then◌else◌}
+use Rattle.std.specs.Prelude.{◌≡◌, ℕ, ◌+◌, ◌<◌, List, [], ◌∷◌, Option, if◌then◌else◌}
 use Rattle.std.specs.List.{All}
 use Rattle.patch_sets.specs.Sets.{Has, has}
 use Rattle.patch_sets.specs.Closed.{IsClosed}
@@ -8,7 +8,7 @@ use Rattle.journal_replay.specs.Changed.{DifferAtMost}
 use Rattle.crash_model.specs.Disk.{Disk, IsDisk, put}
 use Rattle.crash_model.specs.Patches.{deps_of, image_of, AreUndo}
 use Rattle.crash_model.specs.Replay.{replayed}
-use Rattle.crash_model.specs.Faults.{IsClean}
+use Rattle.crash_model.specs.Strict.{IsCleanUnder}
 use Rattle.crash_model.specs.declared.patches.Patch.{Patch}
 
 -- the disk with the new bytes of a patch, and with the bytes that they replaced
@@ -50,14 +50,16 @@ pub record IsApplied (a : Applied) (image : Disk) : Type 0 where
   pub closed : IsClosed (deps_of a.patches) a.set
   pub holds : image ≡ image_of a.base a.patches a.set
 
--- a base and patches over it, of which a crash can leave some
+-- a base and patches over it, of which a crash can leave some, and the inodes that the script keeps, where a checker is
+-- told of them
 pub record Crashes : Type 0 where
   pub base : Disk
   pub patches : List Patch
+  pub kept : Option ℕ
 
 -- the image that a set leaves is clean after replay
 abbrev pub IsGood : Crashes → ℕ → Type 0
-IsGood crashes set = IsClean (replayed (image_of crashes.base crashes.patches set))
+IsGood crashes set = IsCleanUnder crashes.kept (replayed (image_of crashes.base crashes.patches set))
 
 -- a set of blocks has that of each patch of a set
 pub record HasBlocks (patches : List Patch) (set blocks : ℕ) : Type 0 where

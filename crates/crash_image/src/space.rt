@@ -8,20 +8,21 @@ ghost use Rattle.crash_image.specs.Moves.{IsGood};
 
 use crate::replayer::Replayer;
 use disk_image::Image;
-use fs_check::is_clean;
+use fs_check::is_clean_under;
 use patch_graph::Graph;
 use state_space::Space;
 use std::alloc::{AllocError, Allocator};
 use std::marker::Model;
 
 /// The sets of a graph that a crash can leave on a base. Each leads to the sets with one ready patch more, and it is
-/// good where its image is clean after replay.
+/// good where its image is clean after replay, by the checker that is told of these kept inodes or of none.
 ///
-/// Contracts see the base and the patches.
+/// Contracts see the base, the patches and the kept inodes.
 #[derive(Drop)]
 pub struct PatchSpace<'a, A: Allocator + Copy> {
     base: &'a Image<A>,
     pub(crate) graph: &'a Graph<A>,
+    kept: Option<u16>,
 }
 
 impl<'a, A: Allocator + Copy> Model for PatchSpace<'a, A> {
@@ -29,17 +30,18 @@ impl<'a, A: Allocator + Copy> Model for PatchSpace<'a, A> {
 
     ghost Value = { Crashes };
 
-    ghost view = { λ s. record { base = s.base.now; patches = s.graph.now } };
+    ghost view = { λ s. record { base = s.base.now; patches = s.graph.now; kept = s.kept } };
 
     ghost invariant = { λ s. AreOver s.base.now s.graph.now };
 }
 
 /// What sets are judged in: the image after replay of the set that was judged last.
 ///
-/// Contracts see its base and patches.
+/// Contracts see its base, patches and kept inodes.
 #[derive(Drop)]
 pub struct Scratch<'a, A: Allocator + Copy> {
     replayer: Replayer<'a, A>,
+    kept: Option<u16>,
 }
 
 impl<'a, A: Allocator + Copy> Model for Scratch<'a, A> {
@@ -47,7 +49,7 @@ impl<'a, A: Allocator + Copy> Model for Scratch<'a, A> {
 
     ghost Value = { Crashes };
 
-    ghost view = { λ s. record { base = s.replayer.base; patches = s.replayer.patches } };
+    ghost view = { λ s. record { base = s.replayer.base; patches = s.replayer.patches; kept = s.kept } };
 }
 
 impl<A: Allocator + Copy> Scratch<'_, A> {
@@ -58,23 +60,27 @@ impl<A: Allocator + Copy> Scratch<'_, A> {
         ensures kept { self.new ≡ self.old }
     {
         self.replayer.move_to(set);
-        is_clean(self.replayer.image())
+        is_clean_under(self.replayer.image(), self.kept)
     }
 }
 
 impl<'a, A: Allocator + Copy> PatchSpace<'a, A> {
-    /// The space of a graph over a base.
+    /// The space of a graph over a base, where the checker is told which inodes the script keeps, or is told nothing.
     ///
     /// The patches change blocks of the base, and their undo data are the bytes that they replace there.
-    pub fn new(base: &'a Image<A>, graph: &'a Graph<A>) -> PatchSpace<'a, A>
+    pub fn new(
+        base: &'a Image<A>,
+        graph: &'a Graph<A>,
+        kept: Option<u16>,
+    ) -> PatchSpace<'a, A>
         requires fits { All (λ patch. patch.block < base.now.blocks) graph.now }
         requires undo { AreUndo base.now graph.now }
-        ensures { result ≡ record { base = base.now; patches = graph.now } }
+        ensures { result ≡ record { base = base.now; patches = graph.now; kept = kept } }
     {
         // For the proof: what every image and every graph keeps.
         let _blocks = base.blocks();
         let _len = graph.len();
-        PatchSpace { base, graph }
+        PatchSpace { base, graph, kept }
     }
 }
 
@@ -104,6 +110,7 @@ impl<'a, A: Allocator + Copy> Space for PatchSpace<'a, A> {
     fn scratch(&self) -> Result<Scratch<'a, A>, AllocError> {
         Ok(Scratch {
             replayer: Replayer::new(self.base.try_copy()?, self.base.try_copy()?, self.graph),
+            kept: self.kept,
         })
     }
 

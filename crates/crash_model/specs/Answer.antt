@@ -1,5 +1,5 @@
 -- What a run answers, from a script's bytes and the settings. No worker and no order of discovery is in it.
-use Rattle.std.specs.Prelude.{◌≡◌, ℕ, ◌≤◌, List, length, Ok, Err, All}
+use Rattle.std.specs.Prelude.{◌≡◌, ℕ, ◌≤◌, List, length, Option, Ok, Err, All}
 use Rattle.patch_sets.specs.Machine.{CanLeave}
 use Rattle.patch_sets.specs.Sets.{AreAllInOrder}
 use Rattle.crash_model.specs.Disk.{Disk, formatted, IsGeometry}
@@ -7,7 +7,8 @@ use Rattle.crash_model.specs.Patches.{deps_of, homes_of}
 use Rattle.crash_model.specs.Refusals.{run_of_script, run_of_trace}
 use Rattle.crash_model.specs.Rules.{rules_under}
 use Rattle.crash_model.specs.Trace.{Tracing, begun, traced, based, IsGraphOf}
-use Rattle.crash_model.specs.Failing.{IsFailing, CountsClosed, ExceedsLimit}
+use Rattle.crash_model.specs.Failing.{CountsClosed, ExceedsLimit}
+use Rattle.crash_model.specs.Strict.{IsToldKept, IsFailingUnder}
 use Rattle.crash_model.specs.Lists.{when}
 use Rattle.crash_model.specs.Report.{AreSections, IsLed}
 use Rattle.crash_model.specs.Explain.{explanation}
@@ -17,6 +18,7 @@ use Rattle.crash_model.specs.Whole.{Body, Sets, Faults, Rules, report}
 use Rattle.crash_model.specs.Script.{IsScript, IsScriptRefusal}
 use Rattle.crash_model.specs.declared.patches.Patch.{Patch}
 use Rattle.crash_model.specs.declared.rules.Rule.{Rule}
+use Rattle.crash_model.specs.declared.settings.Detail.{Detail}
 use Rattle.crash_model.specs.declared.settings.Settings.{Settings}
 use Rattle.crash_model.specs.declared.settings.ReportBy.TheVariants.{BySet, ByFault, ByRule}
 use Rattle.crash_model.specs.declared.steps.Step.{Step}
@@ -48,27 +50,32 @@ pub record HasGraph (bytes : List ℕ) (settings : Settings) (base : Disk) (last
   pub run : traced settings.module (begun base) steps ≡ Ok last
   pub graph : IsGraphOf (ordering_rules settings) base last patches
 
+-- how much is told of a set, where the checker is told of these kept inodes or of none
+abbrev pub detail_of : Settings → Option ℕ → Detail
+detail_of settings kept = record { explain = settings.explain; kept = kept }
+
 -- what stands behind a report's head, as the settings ask for it, of these failing sets
-abbrev pub IsBody : Settings → Disk → Tracing → List Patch → List ℕ → Body → Type 0
-IsBody settings base last patches sets (Sets sections) =
-    (settings.by ≡ BySet) × AreSections settings.explain base patches sets sections × All (IsLed patches) sections
-IsBody settings base last patches sets (Faults told) =
-    (settings.by ≡ ByFault) × AreToldFaults settings.explain base patches told × All (λ t. IsLed patches t.first) told
-IsBody settings base last patches sets (Rules told) =
+abbrev pub IsBody : Settings → Option ℕ → Disk → Tracing → List Patch → List ℕ → Body → Type 0
+IsBody settings kept base last patches sets (Sets sections) =
+    (settings.by ≡ BySet) × AreSections (detail_of settings kept) base patches sets sections × All (IsLed patches) sections
+IsBody settings kept base last patches sets (Faults told) =
+    (settings.by ≡ ByFault) × AreToldFaults (detail_of settings kept) base patches told × All (λ t. IsLed patches t.first) told
+IsBody settings kept base last patches sets (Rules told) =
     (settings.by ≡ ByRule)
-    × AreToldRules settings.explain settings.limit (ordering_rules settings) base last patches (ordering_rules settings) told
+    × AreToldRules (detail_of settings kept) settings.limit (ordering_rules settings) base last patches (ordering_rules settings) told
 
 -- the report on a graph: how many of its closed sets fail, each of which a crash can leave
-pub record IsReport (settings : Settings) (base : Disk) (last : Tracing) (patches : List Patch) (text : List ℕ) (failing : ℕ) : Type 0 where
+pub record IsReport (settings : Settings) (kept : Option ℕ) (base : Disk) (last : Tracing) (patches : List Patch) (text : List ℕ)
+    (failing : ℕ) : Type 0 where
   pub total : ℕ
   pub counted : CountsClosed patches total
   pub within : total ≤ settings.limit
   pub sets : List ℕ
-  pub exactly : AreAllInOrder (IsFailing base patches) sets
+  pub exactly : AreAllInOrder (IsFailingUnder kept base patches) sets
   pub left : All (CanLeave (deps_of patches) (homes_of patches)) sets
   pub number : failing ≡ length sets
   pub body : Body
-  pub told : IsBody settings base last patches sets body
+  pub told : IsBody settings kept base last patches sets body
   pub whole : text ≡ report settings (record {
     patches = length patches;
     closed = total;
@@ -92,6 +99,7 @@ pub data IsAnswer (bytes : List ℕ) (settings : Settings) : Answer → Type 0 w
   too_many : (base : Disk) (last : Tracing) (patches : List Patch) → HasGraph bytes settings base last patches
       → ExceedsLimit patches settings.limit
       → IsAnswer bytes settings (Refused TooMany)
-  reported : (base : Disk) (last : Tracing) (patches : List Patch) (text : List ℕ) (failing : ℕ)
-      → HasGraph bytes settings base last patches → IsReport settings base last patches text failing
+  reported : (kept : Option ℕ) (base : Disk) (last : Tracing) (patches : List Patch) (text : List ℕ) (failing : ℕ)
+      → (graph : HasGraph bytes settings base last patches) → IsToldKept settings.strict base graph.steps kept
+      → IsReport settings kept base last patches text failing
       → IsAnswer bytes settings (Reported text failing)

@@ -1,5 +1,5 @@
 -- Which rules of an ordering a script needs: what a crash can leave without each of them.
-use Rattle.std.specs.Prelude.{◌≡◌, ℕ, ◌+◌, ◌≤◌, List, [], ◌∷◌, ◌++◌, length, filter, Bool, Option, Some, None, codes, decimal}
+use Rattle.std.specs.Prelude.{◌≡◌, ℕ, ◌+◌, ◌≤◌, List, [], ◌∷◌, ◌++◌, length, filter, Option, Some, None, codes, decimal}
 use Rattle.std.specs.List.{All}
 use Rattle.patch_sets.specs.Closed.{IsClosed}
 use Rattle.patch_sets.specs.Sets.{AreAllInOrder}
@@ -7,10 +7,12 @@ use Rattle.crash_model.specs.Disk.{Disk}
 use Rattle.crash_model.specs.Patches.{deps_of}
 use Rattle.crash_model.specs.Rules.{rules_in_first, rule_text}
 use Rattle.crash_model.specs.Trace.{Emitted, Tracing, IsGraphOf, applies}
-use Rattle.crash_model.specs.Failing.{IsFailing, CountsClosed, ExceedsLimit}
+use Rattle.crash_model.specs.Failing.{CountsClosed, ExceedsLimit}
+use Rattle.crash_model.specs.Strict.{IsFailingUnder}
 use Rattle.crash_model.specs.Report.{Section, AreSections, IsLed, line, section_text, quoted, section_json}
 use Rattle.crash_model.specs.declared.patches.Patch.{Patch}
 use Rattle.crash_model.specs.declared.rules.Rule.{Rule}
+use Rattle.crash_model.specs.declared.settings.Detail.{Detail}
 
 -- how many closed and failing sets there are without a rule, and the section of the first failing set that the rule prevents
 pub record Without : Type 0 where
@@ -35,42 +37,42 @@ pairs_of rule (p ∷ later) = length (filter (λ q. applies rule q p) later) + p
 
 -- the section of the first of these sets that is not closed under `patches`, if there is one; `changed` are the patches
 -- without the rule
-abbrev pub IsFirstNew : Bool → Disk → List Patch → List Patch → List ℕ → Option Section → Type 0
-IsFirstNew explain base patches changed sets None = All (IsClosed (deps_of patches)) sets
-IsFirstNew explain base patches changed sets (Some section) =
+abbrev pub IsFirstNew : Detail → Disk → List Patch → List Patch → List ℕ → Option Section → Type 0
+IsFirstNew detail base patches changed sets None = All (IsClosed (deps_of patches)) sets
+IsFirstNew detail base patches changed sets (Some section) =
     (front : List ℕ) × (set : ℕ) × (rest : List ℕ) × (sets ≡ front ++ set ∷ rest)
     × All (IsClosed (deps_of patches)) front × (¬ (IsClosed (deps_of patches) set))
-    × AreSections explain base changed (set ∷ []) (section ∷ []) × IsLed changed section
+    × AreSections detail base changed (set ∷ []) (section ∷ []) × IsLed changed section
 
 -- what there is under other dependencies, within the limit
-pub record IsWithout (explain : Bool) (limit : ℕ) (base : Disk) (patches changed : List Patch) (w : Without) : Type 0 where
+pub record IsWithout (detail : Detail) (limit : ℕ) (base : Disk) (patches changed : List Patch) (w : Without) : Type 0 where
   pub counted : CountsClosed changed w.closed
   pub within : w.closed ≤ limit
   pub sets : List ℕ
-  pub exactly : AreAllInOrder (IsFailing base changed) sets
+  pub exactly : AreAllInOrder (IsFailingUnder detail.kept base changed) sets
   pub number : w.failing ≡ length sets
-  pub first : IsFirstNew explain base patches changed sets w.first
+  pub first : IsFirstNew detail base patches changed sets w.first
 
 -- the patches of the trace by other rules
 abbrev pub HasGraphBy : List Rule → Disk → Tracing → (List Patch → Type 0) → Type 0
 HasGraphBy rules base s P = (changed : List Patch) × IsGraphOf rules base s changed × P changed
 
 -- a rule's usage by a trace whose patches by all rules are `patches`
-abbrev pub IsRuleUsage : Bool → ℕ → List Rule → Disk → Tracing → List Patch → Rule → RuleUsage → Type 0
-IsRuleUsage explain limit rules base s patches rule Unused = pairs_of rule s.emitted ≡ 0
-IsRuleUsage explain limit rules base s patches rule (TooMany pairs) =
+abbrev pub IsRuleUsage : Detail → ℕ → List Rule → Disk → Tracing → List Patch → Rule → RuleUsage → Type 0
+IsRuleUsage detail limit rules base s patches rule Unused = pairs_of rule s.emitted ≡ 0
+IsRuleUsage detail limit rules base s patches rule (TooMany pairs) =
     (pairs ≡ pairs_of rule s.emitted) × (1 ≤ pairs)
     × HasGraphBy (rules_in_first rules (rule ∷ [])) base s (λ changed. ExceedsLimit changed limit)
-IsRuleUsage explain limit rules base s patches rule (Used pairs w) =
+IsRuleUsage detail limit rules base s patches rule (Used pairs w) =
     (pairs ≡ pairs_of rule s.emitted) × (1 ≤ pairs)
-    × HasGraphBy (rules_in_first rules (rule ∷ [])) base s (λ changed. IsWithout explain limit base patches changed w)
+    × HasGraphBy (rules_in_first rules (rule ∷ [])) base s (λ changed. IsWithout detail limit base patches changed w)
 
 -- each rule of `some` is told, in their order; `rules` are all rules
-abbrev pub AreToldRules : Bool → ℕ → List Rule → Disk → Tracing → List Patch → List Rule → List ToldRule → Type 0
-AreToldRules explain limit rules base s patches [] told = told ≡ []
-AreToldRules explain limit rules base s patches (rule ∷ some) told =
-    (usage : RuleUsage) × (rest : List ToldRule) × IsRuleUsage explain limit rules base s patches rule usage
-    × AreToldRules explain limit rules base s patches some rest × (told ≡ record { rule = rule; usage = usage } ∷ rest)
+abbrev pub AreToldRules : Detail → ℕ → List Rule → Disk → Tracing → List Patch → List Rule → List ToldRule → Type 0
+AreToldRules detail limit rules base s patches [] told = told ≡ []
+AreToldRules detail limit rules base s patches (rule ∷ some) told =
+    (usage : RuleUsage) × (rest : List ToldRule) × IsRuleUsage detail limit rules base s patches rule usage
+    × AreToldRules detail limit rules base s patches some rest × (told ≡ record { rule = rule; usage = usage } ∷ rest)
 
 -- ---- text; patches are n in all
 

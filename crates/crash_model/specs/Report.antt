@@ -9,10 +9,11 @@ use Rattle.crash_model.specs.Lists.{joined, some_below, when}
 use Rattle.crash_model.specs.Disk.{Disk, block_of}
 use Rattle.crash_model.specs.Patches.{deps_of, homes_of, image_of}
 use Rattle.crash_model.specs.Replay.{replayed}
-use Rattle.crash_model.specs.Faults.{faults}
+use Rattle.crash_model.specs.Strict.{faults_under}
 use Rattle.crash_model.specs.declared.fault.Fault.{Fault}
 use Rattle.crash_model.specs.declared.fault.Fault.TheVariants.{Dangling, Twice, Unwritten, LowLinks, MarkedFree, Wild, Lost, NoBlock}
 use Rattle.crash_model.specs.declared.patches.Patch.{Patch}
+use Rattle.crash_model.specs.declared.settings.Detail.{Detail}
 use Rattle.crash_model.specs.declared.steps.Module.{Module}
 use Rattle.crash_model.specs.declared.steps.Module.TheVariants.{Async, Soft, Meta, Full}
 
@@ -29,7 +30,7 @@ changed_blocks before after =
     some_below before.blocks (λ b. when (not (bytes_eq (block_of before b) (block_of after b))) (record { block = b; bytes = block_of after b }))
 
 -- what is told of a set: its ids, block writes that lead to it, what replay changes where that is asked for, and the faults
--- of its replayed image
+-- of its replayed image, by the checker that is asked for
 pub record Section : Type 0 where
   pub set : ℕ
   pub writes : List BlockWrite
@@ -41,15 +42,15 @@ abbrev pub replay_of : Bool → Disk → Option (List ReplayedBlock)
 replay_of explain image = if explain then Some (changed_blocks image (replayed image)) else None
 
 -- the sections of these sets, in their order
-abbrev pub AreSections : Bool → Disk → List Patch → List ℕ → List Section → Type 0
-AreSections explain base patches [] sections = sections ≡ []
-AreSections explain base patches (set ∷ sets) sections =
-    (writes : List BlockWrite) × (rest : List Section) × AreRuns (homes_of patches) set writes × AreSections explain base patches sets rest
+abbrev pub AreSections : Detail → Disk → List Patch → List ℕ → List Section → Type 0
+AreSections detail base patches [] sections = sections ≡ []
+AreSections detail base patches (set ∷ sets) sections =
+    (writes : List BlockWrite) × (rest : List Section) × AreRuns (homes_of patches) set writes × AreSections detail base patches sets rest
     × (sections ≡ record {
       set = set;
       writes = writes;
-      replay = replay_of explain (image_of base patches set);
-      found = faults (replayed (image_of base patches set));
+      replay = replay_of detail.explain (image_of base patches set);
+      found = faults_under detail.kept (replayed (image_of base patches set));
     } ∷ rest)
 
 -- the section's block writes lead to its set

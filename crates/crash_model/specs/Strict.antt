@@ -1,5 +1,5 @@
 -- What a checker finds beside the six faults where it is told which inodes the script keeps.
-use Rattle.std.specs.Prelude.{◌≡◌, ℕ, zero, suc, ◌<◌, List, [], ◌∷◌, ◌++◌, Bool, false, ◌&&◌, ◌||◌, ◌==◌, not, Option, Some, None}
+use Rattle.std.specs.Prelude.{◌≡◌, ℕ, zero, suc, ◌<◌, List, [], ◌∷◌, ◌++◌, Bool, true, false, ◌&&◌, ◌||◌, ◌==◌, not, Option, Some, None}
 use Rattle.std.specs.List.{range_with_len, list_any}
 use Rattle.patch_sets.specs.Sets.{has, ids_below}
 use Rattle.patch_sets.specs.Closed.{IsClosed}
@@ -32,6 +32,11 @@ stays_live d (x ∷ xs) inode = is_live d inode && stays_live (disk_after d x.ac
 -- the set has the inodes that stay live from the base on, and no other
 abbrev pub IsKept : Disk → List Step → ℕ → Type 0
 IsKept base steps kept = (inode : ℕ) → has kept inode ≡ stays_live base steps inode
+
+-- what a checker is told of them: nothing, or where it is strict the inodes that the script keeps
+abbrev pub IsToldKept : Bool → Disk → List Step → Option ℕ → Type 0
+IsToldKept strict base steps None = strict ≡ false
+IsToldKept strict base steps (Some kept) = (strict ≡ true) × IsKept base steps kept
 
 -- ---- the inodes that are reached
 

@@ -41,6 +41,7 @@ head_text settings patches closed failing =
     line (codes "module " ++ module_text settings.module)
     ++ rule_lines (codes "without") (told_without settings)
     ++ rule_lines (codes "with") (told_with settings)
+    ++ (if settings.strict then line (codes "strict") else [])
     ++ line (codes "patches " ++ decimal patches)
     ++ line (codes "closed " ++ decimal closed)
     ++ line (codes "failing " ++ decimal failing)
@@ -81,6 +82,7 @@ json_report settings r =
     ++ codes ",\"module\":" ++ quoted (module_text settings.module)
     ++ codes ",\"patches\":" ++ decimal r.patches
     ++ late_json r.patches r.failing r.body
+    ++ (if settings.strict then codes ",\"strict\":true" else [])
     ++ trace_json r.explanation
     ++ rules_json (codes "with") (told_with settings)
     ++ rules_json (codes "without") (told_without settings)

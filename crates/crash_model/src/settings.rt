@@ -26,13 +26,20 @@ pub enum ReportBy {
     ByRule,
 }
 
+/// How much is told of a set: with `explain` what replay changes; with a set of inodes that the script keeps, the two
+/// faults on what is lost of them beside the other six.
+#[derive(Clone, Copy, Debug, PartialEq, Eq)]
+pub struct Detail {
+    pub explain: bool,
+    pub kept: Option<u16>,
+}
+
 /// The settings of a run.
 ///
 /// The ordering is the module's with the rules `without` taken out and the rules `with` put in at its end. The disk
-/// has
-/// `blocks` blocks of 128 bytes, of which `journal` are the journal's. A run that has more than `limit` closed sets is
+/// has `blocks` blocks of 128 bytes, of which `journal` are the journal's. A run that has more than `limit` closed sets is
 /// refused. The report is JSON where `json` is set, else text; with `explain` it tells what the patches are and what
-/// replay changes.
+/// replay changes. With `strict` the checker asks of each image, too, that nothing which the script keeps is lost.
 #[derive(Debug, PartialEq, Eq, Drop)]
 pub struct Settings {
     pub module: Module,
@@ -44,6 +51,7 @@ pub struct Settings {
     pub explorer: Explorer,
     pub json: bool,
     pub explain: bool,
+    pub strict: bool,
     pub by: ReportBy,
 }
 

@@ -1,5 +1,5 @@
 -- What a report's data tell.
-use Rattle.std.specs.Prelude.{◌≡◌, ℕ, ◌<◌, List, [], length, map, Bool}
+use Rattle.std.specs.Prelude.{◌≡◌, ℕ, ◌<◌, List, [], length, map}
 use Rattle.std.specs.List.{All}
 use Rattle.patch_sets.specs.Sets.{Has}
 use Rattle.crash_model.specs.Disk.{Disk}
@@ -9,6 +9,7 @@ use Rattle.crash_model.specs.Report.{Section, AreSections}
 use Rattle.crash_model.specs.Summary.{ToldFault}
 use Rattle.crash_model.specs.Whole as whole
 use Rattle.crash_model.specs.declared.patches.Patch.{Patch}
+use Rattle.crash_model.specs.declared.settings.Detail.{Detail}
 use Rattle.order_modules.specs.Traced.{TracedPatches}
 use Rattle.report_sections.specs.declared.report.Body.{Body}
 use Rattle.report_sections.specs.declared.report.Body.TheVariants.{Sets, Faults, Rules}
@@ -31,13 +32,13 @@ pub record CanTell {A : Type 0} (report : Report A) : Type 0 where
   pub known : AreKnown report.traced.now.patches (sets_of report.body)
 
 -- the body as the definition sees it
-abbrev pub TellsBody : {A : Type 0} → Bool → Disk → List Patch → Body A → whole.Body → Type 0
-TellsBody explain base patches (Sets sets) body =
-    (sections : List Section) × AreSections explain base patches sets.now sections × (body ≡ whole.Sets sections)
-TellsBody explain base patches (Faults rows) body =
+abbrev pub TellsBody : {A : Type 0} → Detail → Disk → List Patch → Body A → whole.Body → Type 0
+TellsBody detail base patches (Sets sets) body =
+    (sections : List Section) × AreSections detail base patches sets.now sections × (body ≡ whole.Sets sections)
+TellsBody detail base patches (Faults rows) body =
     (told : List ToldFault) × (map (λ t. t.row) told ≡ rows.now)
-    × AreSections explain base patches (map (λ row. row.first) rows.now) (map (λ t. t.first) told) × (body ≡ whole.Faults told)
-TellsBody explain base patches (Rules rules) body = body ≡ whole.Rules (map told_rule rules.now)
+    × AreSections detail base patches (map (λ row. row.first) rows.now) (map (λ t. t.first) told) × (body ≡ whole.Faults told)
+TellsBody detail base patches (Rules rules) body = body ≡ whole.Rules (map told_rule rules.now)
 
 abbrev pub explanation_by : Disk → TracedPatches → Explanation
 explanation_by base t = record { base = blocks_of base; patches = told_patches t.rules t.links t.emitted t.patches }

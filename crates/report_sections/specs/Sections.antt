@@ -1,13 +1,14 @@
 -- What a section tells.
-use Rattle.std.specs.Prelude.{◌≡◌, ℕ, List, Bool}
+use Rattle.std.specs.Prelude.{◌≡◌, ℕ, List}
 use Rattle.patch_sets.specs.Writes.{AreRuns}
 use Rattle.crash_model.specs.Disk.{Disk}
 use Rattle.crash_model.specs.Patches.{homes_of, image_of}
 use Rattle.crash_model.specs.Replay.{replayed}
-use Rattle.crash_model.specs.Faults.{faults}
 use Rattle.crash_model.specs.Report as report
 use Rattle.crash_model.specs.Report.{replay_of}
+use Rattle.crash_model.specs.Strict.{faults_under}
 use Rattle.crash_model.specs.declared.patches.Patch.{Patch}
+use Rattle.crash_model.specs.declared.settings.Detail.{Detail}
 use Rattle.report_sections.specs.Replay.{told_replay}
 use Rattle.report_sections.specs.declared.section.Section.{Section}
 
@@ -15,8 +16,8 @@ use Rattle.report_sections.specs.declared.section.Section.{Section}
 abbrev pub told : {A : Type 0} → Section A → report.Section
 told s = record { set = s.set; writes = s.writes.items; replay = told_replay s.replay; found = s.faults.items }
 
-pub record IsSection {A : Type 0} (explain : Bool) (base : Disk) (patches : List Patch) (set : ℕ) (s : Section A) : Type 0 where
+pub record IsSection {A : Type 0} (detail : Detail) (base : Disk) (patches : List Patch) (set : ℕ) (s : Section A) : Type 0 where
   pub of_set : s.set ≡ set
   pub runs : AreRuns (homes_of patches) set s.writes.items
-  pub replay : told_replay s.replay ≡ replay_of explain (image_of base patches set)
-  pub faults : s.faults.items ≡ faults (replayed (image_of base patches set))
+  pub replay : told_replay s.replay ≡ replay_of detail.explain (image_of base patches set)
+  pub faults : s.faults.items ≡ faults_under detail.kept (replayed (image_of base patches set))

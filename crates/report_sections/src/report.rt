@@ -2,7 +2,7 @@
 
 use crate::rules::ToldRule;
 use crash_model::fault::FaultRow;
-use crash_model::settings::Settings;
+use crash_model::settings::{Detail, Settings};
 use disk_image::Image;
 use order_modules::Traced;
 use std::alloc::Allocator;
@@ -17,12 +17,13 @@ pub enum Body<'a, A: Allocator> {
 
 /// A report before it is written: the image that the traced steps began on, their patches, and what was found of them.
 ///
-/// `closed` and `failing` are the numbers of closed and of failing sets.
+/// `detail` is how much it tells of a set; `closed` and `failing` are the numbers of closed and of failing sets.
 #[derive(Clone, Copy)]
 pub struct Report<'found, 'steps, 'asked, 'body, A: Allocator + Copy> {
     pub base: &'steps Image<A>,
     pub traced: &'found Traced<'steps, A>,
     pub settings: &'asked Settings,
+    pub detail: Detail,
     pub closed: usize,
     pub failing: usize,
     pub body: Body<'body, A>,

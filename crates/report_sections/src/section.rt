@@ -7,8 +7,9 @@ ghost use Rattle.patch_sets.specs.Sets.{Has};
 use crate::replayed::{ReplayedBlock, replay_and_tell};
 use crash_image::rebuild;
 use crash_model::fault::Fault;
+use crash_model::settings::Detail;
 use disk_image::Image;
-use fs_check::faults;
+use fs_check::faults_under;
 use patch_graph::Graph;
 use patch_sets::write::BlockWrite;
 use std::alloc::{AllocError, Allocator};
@@ -26,14 +27,14 @@ pub struct Section<A: Allocator> {
 
 /// What the sections of a report are made in: one image, which is made that of a set for each section.
 ///
-/// Contracts see the base and the patches, and whether sections explain what replay changes.
+/// Contracts see the base and the patches, and how much is told of a set.
 #[derive(Drop)]
 pub struct SectionMaker<'a, A: Allocator + Copy> {
     alloc: A,
     base: &'a Image<A>,
     graph: &'a Graph<A>,
     image: Image<A>,
-    explain: bool,
+    detail: Detail,
 }
 
 impl<'a, A: Allocator + Copy> Model for SectionMaker<'a, A> {
@@ -41,7 +42,7 @@ impl<'a, A: Allocator + Copy> Model for SectionMaker<'a, A> {
 
     ghost Value = { Reported };
 
-    ghost view = { λ s. record { base = s.base.now; patches = s.graph.now; explain = s.explain } };
+    ghost view = { λ s. record { base = s.base.now; patches = s.graph.now; detail = s.detail } };
 
     ghost invariant = { λ s. IsMaker s.base.now s.graph.now s.image };
 }
@@ -49,41 +50,40 @@ impl<'a, A: Allocator + Copy> Model for SectionMaker<'a, A> {
 impl<'a, A: Allocator + Copy> SectionMaker<'a, A> {
     ghost use Rattle.report_sections.specs.Sections.{IsSection};
 
-    /// Makes sections of sets of the graph, whose patches change blocks of the base; where `explain` is set, each with
-    /// the blocks that replay changes.
+    /// Makes sections of sets of the graph, whose patches change blocks of the base, each as `detail` asks.
     ///
     /// It fails only when out of memory.
     pub fn new(
         alloc: A,
         base: &'a Image<A>,
         graph: &'a Graph<A>,
-        explain: bool,
+        detail: Detail,
     ) -> Result<SectionMaker<'a, A>, AllocError>
         requires fits { All (λ patch. patch.block < base.now.blocks) graph.now }
-        ensures { IfOk result (λ maker. maker ≡ record { base = base.now; patches = graph.now; explain = explain }) }
+        ensures { IfOk result (λ maker. maker ≡ record { base = base.now; patches = graph.now; detail = detail }) }
     {
         Ok(SectionMaker {
             alloc,
             base,
             graph,
             image: base.try_copy()?,
-            explain,
+            detail,
         })
     }
 
     /// What is told of a set of the graph's ids. It fails only when out of memory.
     pub fn section(&mut self, set: u128) -> Result<Section<A>, AllocError>
         requires known { (id : ℕ) → Has set id → id < length self.old.patches }
-        ensures told { IfOk result (IsSection self.old.explain self.old.base self.old.patches set) }
+        ensures told { IfOk result (IsSection self.old.detail self.old.base self.old.patches set) }
         ensures kept { self.new ≡ self.old }
     {
         rebuild(&mut self.image, self.base, self.graph, set);
-        let replay = replay_and_tell(self.alloc, &mut self.image, self.explain)?;
+        let replay = replay_and_tell(self.alloc, &mut self.image, self.detail.explain)?;
         Ok(Section {
             set,
             writes: self.graph.writes_to(set)?,
             replay,
-            faults: faults(self.alloc, &self.image)?,
+            faults: faults_under(self.alloc, &self.image, self.detail.kept)?,
         })
     }
 }
