@@ -1,11 +1,11 @@
 -- Rows that sum up the faults of sets.
-use Rattle.std.specs.Prelude.{◌≡◌, ◌≢◌, ℕ, ◌+◌, ◌<◌, ◌^◌, ◌⊎◌, ◌↔◌, List, [], ◌∷◌, ◌++◌, length, map, slice_index_or, slice_set}
+use Rattle.std.specs.Prelude.{◌≡◌, ◌≢◌, ℕ, ◌+◌, ◌<◌, ◌^◌, ◌⊎◌, ◌↔◌, List, [], ◌∷◌, ◌++◌, length, map, Option, slice_index_or, slice_set}
 use Rattle.std.specs.List.{All, AllPairs, Contains}
 use Rattle.patch_sets.specs.Sets.{IsBefore}
 use Rattle.crash_model.specs.Disk.{Disk}
-use Rattle.crash_model.specs.Faults.{faults}
 use Rattle.crash_model.specs.Patches.{image_of}
 use Rattle.crash_model.specs.Replay.{replayed}
+use Rattle.crash_model.specs.Strict.{faults_under}
 use Rattle.crash_model.specs.Summary.{IsRow}
 use Rattle.crash_model.specs.declared.fault.Fault.{Fault}
 use Rattle.crash_model.specs.declared.fault.FaultRow.{FaultRow}
@@ -69,6 +69,6 @@ pub record AddsFaults (old : List FaultRow) (set : ℕ) (faults : List Fault) (n
 abbrev pub HasAmong : (ℕ → List Fault) → List ℕ → Fault → ℕ → Type 0
 HasAmong faults_of sets fault set = Contains sets set × Contains (faults_of set) fault
 
--- the faults that the image of a set has after replay
-abbrev pub faults_after : Disk → List Patch → ℕ → List Fault
-faults_after base patches set = faults (replayed (image_of base patches set))
+-- the faults that the image of a set has after replay, where a checker is told of kept inodes or of none
+abbrev pub faults_after : Option ℕ → Disk → List Patch → ℕ → List Fault
+faults_after kept base patches set = faults_under kept (replayed (image_of base patches set))

@@ -1,16 +1,15 @@
 //! The number of the sets of a sweep that fail, and the first of them that another graph prevents.
 
 ghost use Rattle.std.specs.Prelude.{◌≡◌, ◌<◌, ◌≤◌, ℕ, List, [], ◌∷◌, length, IfOk, IsErrOf};
-ghost use Rattle.std.specs.List.{All};
 ghost use Rattle.patch_sets.specs.Closed.{AreEarlier, IsClosed};
 ghost use Rattle.patch_sets.specs.Sets.{AreAllInOrder};
-ghost use Rattle.crash_model.specs.Failing.{IsFailing, CountsClosed, ExceedsLimit};
-ghost use Rattle.crash_model.specs.Patches.{AreUndo, deps_of};
+ghost use Rattle.crash_model.specs.Failing.{CountsClosed, ExceedsLimit};
+ghost use Rattle.crash_model.specs.Patches.{deps_of};
+ghost use Rattle.crash_model.specs.Strict.{IsFailingUnder};
 ghost use Rattle.fault_summary.specs.Prevented.{AreCounted, IsAllowed, IsBad, IsEarlierOf};
 ghost use Rattle.fault_summary.specs.Prevented.{IsFirstPrevented, JoinsCounts};
 
 use crash_image::{PatchSpace, Scratch};
-use disk_image::Image;
 use patch_graph::Graph;
 use patch_sets::explored::ExploreFault;
 use patch_sets::order::is_before;
@@ -54,8 +53,10 @@ where
     ensures total { IfOk result (λ found. CountsClosed visitor.now.patches found.total) }
     ensures within { IfOk result (λ found. found.total ≤ limit) }
     ensures failing { IfOk result (λ found. (sets : List ℕ)
-        × AreAllInOrder (IsFailing visitor.now.base visitor.now.patches) sets × (found.failing ≡ length sets)) }
-    ensures first { IfOk result (λ found. IsFirstPrevented (IsFailing visitor.now.base visitor.now.patches)
+        × AreAllInOrder (IsFailingUnder visitor.now.kept visitor.now.base visitor.now.patches) sets
+        × (found.failing ≡ length sets)) }
+    ensures first { IfOk result (λ found.
+        IsFirstPrevented (IsFailingUnder visitor.now.kept visitor.now.base visitor.now.patches)
         (IsClosed (deps_of visitor.now.others)) found.first) }
 
     ensures too_many { IsErrOf result ExploreFault.TooMany → ExceedsLimit visitor.now.patches limit }
@@ -102,7 +103,7 @@ fn earlier_of(set: Option<u128>, other: Option<u128>) -> Option<u128>
 /// Counts the sets that fail of those of a graph that a crash can leave on a base, and finds the first of them that
 /// another graph of the same patches prevents. No list of the sets is kept.
 ///
-/// Contracts see the base, the patches and those of the other graph.
+/// Contracts see the base, the patches, the kept inodes, and the patches of the other graph.
 #[derive(Drop)]
 pub struct CountVisitor<'a, A: Allocator + Copy> {
     alloc: A,
@@ -115,34 +116,26 @@ impl<'a, A: Allocator + Copy> Model for CountVisitor<'a, A> {
 
     ghost Value = { Compared };
 
-    ghost view = { λ v. record { base = v.space.base; patches = v.space.patches; others = v.other.now } };
+    ghost view = { λ v. record { base = v.space.base; patches = v.space.patches; kept = v.space.kept; others = v.other.now } };
 }
 
 impl<'a, A: Allocator + Copy> CountVisitor<'a, A> {
-    /// Counts sets of a graph over a base.
-    ///
-    /// The patches change blocks of the base, and their undo data are the bytes that they replace there.
+    /// Counts sets of a space, each of which fails where the space does not call it good.
     pub fn new(
         alloc: A,
-        base: &'a Image<A>,
-        graph: &'a Graph<A>,
+        space: PatchSpace<'a, A>,
         other: &'a Graph<A>,
     ) -> CountVisitor<'a, A>
-        requires fits { All (λ patch. patch.block < base.now.blocks) graph.now }
-        requires undo { AreUndo base.now graph.now }
-        ensures { result ≡ record { base = base.now; patches = graph.now; others = other.now } }
+        ensures { result
+            ≡ record { base = space.base; patches = space.patches; kept = space.kept; others = other.now } }
     {
-        CountVisitor {
-            alloc,
-            space: PatchSpace::new(base, graph),
-            other,
-        }
+        CountVisitor { alloc, space, other }
     }
 
     /// The count of one set that a crash can leave.
     fn count_of(&self, scratch: &mut Scratch<'a, A>, set: u128) -> Result<Count, AllocError>
         requires closed { IsClosed (deps_of self.now.patches) set }
-        requires own { scratch.old ≡ record { base = self.now.base; patches = self.now.patches } }
+        requires own { scratch.old ≡ record { base = self.now.base; patches = self.now.patches; kept = self.now.kept } }
         ensures own { scratch.new ≡ scratch.old }
         ensures counted { IfOk result (λ count.
             AreCounted (IsBad self.now) (IsAllowed self.now) (set ∷ []) count.failing count.first) }
@@ -174,7 +167,7 @@ impl<'a, A: Allocator + Copy> Visitor for CountVisitor<'a, A> {
 
     ghost is_lawful = { λ v. IsClosed (deps_of v.patches) };
 
-    ghost is_own = { λ v scratch. scratch ≡ record { base = v.base; patches = v.patches } };
+    ghost is_own = { λ v scratch. scratch ≡ record { base = v.base; patches = v.patches; kept = v.kept } };
 
     ghost tells = { λ v sets tally. IsCount (IsBad v) (IsAllowed v) sets tally.failing tally.first };
 

@@ -3,14 +3,14 @@
 ghost use Rattle.std.specs.Prelude.{◌<◌, IfOk};
 ghost use Rattle.std.specs.List.{All};
 ghost use Rattle.patch_sets.specs.Sets.{AreAllInOrder};
-ghost use Rattle.crash_model.specs.Failing.{IsFailing};
+ghost use Rattle.crash_model.specs.Strict.{IsFailingUnder};
 ghost use Rattle.crash_model.specs.Summary.{HasFault, AreRows};
 
 use crate::summary::Summary;
 use crash_image::rebuild;
 use crash_model::fault::FaultRow;
 use disk_image::Image;
-use fs_check::faults;
+use fs_check::faults_under;
 use journal_replay::replay;
 use patch_graph::Graph;
 use std::alloc::{AllocError, Allocator};
@@ -18,24 +18,26 @@ use std::alloc::{AllocError, Allocator};
 /// Each fault that a failing set of the graph has, in the order of faults: how many failing sets have it, and which of
 /// them is the first in canonical order.
 ///
-/// `sets` are the failing sets, and the patches change blocks of the base. Beside the rows it takes memory for one image
-/// and for the faults of one set. It fails only when out of memory.
+/// `sets` are the failing sets by the checker that is told of these kept inodes or of none, and the patches change
+/// blocks of the base. Beside the rows it takes memory for one image and for the faults of one set. It fails only when
+/// out of memory.
 pub fn fault_rows<A: Allocator + Copy>(
     alloc: A,
     base: &Image<A>,
     graph: &Graph<A>,
+    kept: Option<u16>,
     sets: &[u128],
 ) -> Result<Vec<FaultRow, A>, AllocError>
     requires fits { All (λ patch. patch.block < base.now.blocks) graph.now }
-    requires exactly { AreAllInOrder (IsFailing base.now graph.now) sets.now }
-    ensures { IfOk result (λ rows. AreRows (HasFault base.now graph.now) rows.items) }
+    requires exactly { AreAllInOrder (IsFailingUnder kept base.now graph.now) sets.now }
+    ensures { IfOk result (λ rows. AreRows (HasFault kept base.now graph.now) rows.items) }
 {
     let mut image = base.try_copy()?;
     let mut summary = Summary::new(alloc);
     for set in sets {
         rebuild(&mut image, base, graph, *set);
         replay(&mut image);
-        let found = faults(alloc, &image)?;
+        let found = faults_under(alloc, &image, kept)?;
         summary.add(*set, &found)?;
     }
     Ok(summary.into_rows())

@@ -4,15 +4,16 @@ ghost use Rattle.std.specs.Prelude.{◌≡◌, ◌<◌, ◌≤◌, ℕ, List, le
 ghost use Rattle.std.specs.List.{All};
 ghost use Rattle.patch_sets.specs.Closed.{AreEarlier};
 ghost use Rattle.patch_sets.specs.Sets.{AreAllInOrder};
-ghost use Rattle.crash_model.specs.Failing.{IsFailing, CountsClosed, ExceedsLimit};
+ghost use Rattle.crash_model.specs.Failing.{CountsClosed, ExceedsLimit};
 ghost use Rattle.crash_model.specs.Patches.{AreUndo, deps_of};
+ghost use Rattle.crash_model.specs.Strict.{IsFailingUnder};
 ghost use Rattle.crash_model.specs.Summary.{HasFault, AreRows};
 
 use crate::summary::Summary;
 use crash_image::Replayer;
 use crash_model::fault::FaultRow;
 use disk_image::Image;
-use fs_check::{faults, is_clean};
+use fs_check::{faults_under, is_clean_under};
 use patch_graph::Graph;
 use patch_sets::explored::ExploreFault;
 use set_sweep::{Visitor, Watch, sweep_with};
@@ -54,8 +55,10 @@ where
     ensures total { IfOk result (λ found. CountsClosed visitor.now.patches found.total) }
     ensures within { IfOk result (λ found. found.total ≤ limit) }
     ensures failing { IfOk result (λ found. (sets : List ℕ)
-        × AreAllInOrder (IsFailing visitor.now.base visitor.now.patches) sets × (found.failing ≡ length sets)) }
-    ensures rows { IfOk result (λ found. AreRows (HasFault visitor.now.base visitor.now.patches) found.rows.items) }
+        × AreAllInOrder (IsFailingUnder visitor.now.kept visitor.now.base visitor.now.patches) sets
+        × (found.failing ≡ length sets)) }
+    ensures rows { IfOk result (λ found.
+        AreRows (HasFault visitor.now.kept visitor.now.base visitor.now.patches) found.rows.items) }
 
     ensures too_many { IsErrOf result ExploreFault.TooMany → ExceedsLimit visitor.now.patches limit }
 {
@@ -75,14 +78,16 @@ pub struct Tally<A: Allocator> {
     pub summary: Summary<A>,
 }
 
-/// Tallies the faults of the sets of a graph that a crash can leave on a base. No list of the sets is kept.
+/// Tallies the faults of the sets of a graph that a crash can leave on a base, by the checker that is told of these
+/// kept inodes or of none. No list of the sets is kept.
 ///
-/// Contracts see the base and the patches.
+/// Contracts see the base, the patches and the kept inodes.
 #[derive(Drop)]
 pub struct FaultVisitor<'a, A: Allocator + Copy> {
     alloc: A,
     base: &'a Image<A>,
     graph: &'a Graph<A>,
+    kept: Option<u16>,
 }
 
 impl<'a, A: Allocator + Copy> Model for FaultVisitor<'a, A> {
@@ -90,24 +95,35 @@ impl<'a, A: Allocator + Copy> Model for FaultVisitor<'a, A> {
 
     ghost Value = { Crashes };
 
-    ghost view = { λ v. record { base = v.base.now; patches = v.graph.now } };
+    ghost view = { λ v. record { base = v.base.now; patches = v.graph.now; kept = v.kept } };
 
     ghost invariant = { λ v. AreOver v.base.now v.graph.now };
 }
 
 impl<'a, A: Allocator + Copy> FaultVisitor<'a, A> {
-    /// Tallies the faults of sets of a graph over a base.
+    /// Tallies the faults of sets of a graph over a base, where the checker is told which inodes the script keeps, or is
+    /// told nothing.
     ///
     /// The patches change blocks of the base, and their undo data are the bytes that they replace there.
-    pub fn new(alloc: A, base: &'a Image<A>, graph: &'a Graph<A>) -> FaultVisitor<'a, A>
+    pub fn new(
+        alloc: A,
+        base: &'a Image<A>,
+        graph: &'a Graph<A>,
+        kept: Option<u16>,
+    ) -> FaultVisitor<'a, A>
         requires fits { All (λ patch. patch.block < base.now.blocks) graph.now }
         requires undo { AreUndo base.now graph.now }
-        ensures { result ≡ record { base = base.now; patches = graph.now } }
+        ensures { result ≡ record { base = base.now; patches = graph.now; kept = kept } }
     {
         // For the proof: what every image and every graph keeps.
         let _blocks = base.blocks();
         let _len = graph.len();
-        FaultVisitor { alloc, base, graph }
+        FaultVisitor {
+            alloc,
+            base,
+            graph,
+            kept,
+        }
     }
 }
 
@@ -126,7 +142,7 @@ impl<'a, A: Allocator + Copy> Visitor for FaultVisitor<'a, A> {
 
     ghost is_own = { λ v scratch. (scratch.base ≡ v.base) × (scratch.patches ≡ v.patches) };
 
-    ghost tells = { λ v sets tally. IsTally (faults_after v.base v.patches) sets tally.failing tally.summary };
+    ghost tells = { λ v sets tally. IsTally (faults_after v.kept v.base v.patches) sets tally.failing tally.summary };
 
     fn scratch(&self) -> Result<Replayer<'a, A>, AllocError> {
         Ok(Replayer::new(self.base.try_copy()?, self.base.try_copy()?, self.graph))
@@ -146,10 +162,10 @@ impl<'a, A: Allocator + Copy> Visitor for FaultVisitor<'a, A> {
         set: u128,
     ) -> Result<(), AllocError> {
         scratch.move_to(set);
-        if is_clean(scratch.image()) {
+        if is_clean_under(scratch.image(), self.kept) {
             return Ok(());
         }
-        let found = faults(self.alloc, scratch.image())?;
+        let found = faults_under(self.alloc, scratch.image(), self.kept)?;
         tally.failing = tally.failing.wrapping_add(1);
         tally.summary.add(set, &found)?;
         Ok(())
