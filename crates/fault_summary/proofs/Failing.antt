@@ -1,14 +1,13 @@
 -- The faults of the failing sets of a graph.
 use Rattle.std.proofs.Common.{◌≡◌, ◌≢◌, ℕ, ◌+◌, Bool, true, false, List, [], ◌∷◌, get_or, refl, subst, ap, ◌∙◌, IsPermutation}
-use Rattle.std.specs.Prelude.{if◌then◌else◌}
+use Rattle.std.specs.Prelude.{Option, if◌then◌else◌}
 use Rattle.std.specs.List.{AllPairs}
 use Rattle.patch_sets.specs.Sets.{has, IsBefore, AreAllInOrder}
 use Rattle.patch_sets.proofs.Canonical.{before_self}
 use Rattle.crash_model.specs.Disk.{Disk, put}
-use Rattle.crash_model.specs.Failing.{IsFailing}
-use Rattle.crash_model.specs.Faults.{faults}
 use Rattle.crash_model.specs.Patches.{Place, places_of, image_from, image_of}
 use Rattle.crash_model.specs.Replay.{replayed}
+use Rattle.crash_model.specs.Strict.{faults_under, IsFailingUnder}
 use Rattle.crash_model.specs.Summary.{IsFaultBefore, HasFault, AreRows}
 use Rattle.crash_model.specs.declared.fault.Fault.{Fault}
 use Rattle.crash_model.specs.declared.fault.FaultRow.{FaultRow}
@@ -30,13 +29,13 @@ image_size id d (p ∷ ps) set = image_size (id + 1) (if has set id then put d p
 pub still_sized : (base : Disk) (patches : List Patch) (set : ℕ) (built after : Disk) → built ≡ image_of base patches set → after ≡ replayed built → after.blocks ≡ base.blocks
 still_sized base patches set built after made is = ap (λ (d : Disk). d.blocks) is ∙ (ap (λ (d : Disk). d.blocks) made ∙ image_size 0 base (places_of patches) set)
 
-pub found_faults : (base : Disk) (patches : List Patch) (set : ℕ) (built after : Disk) (found : List Fault) → built ≡ image_of base patches set → after ≡ replayed built → found ≡ faults after → found ≡ faults_after base patches set
-found_faults base patches set built after found made is listed = listed ∙ ap faults (is ∙ ap replayed made)
+pub found_faults : (kept : Option ℕ) (base : Disk) (patches : List Patch) (set : ℕ) (built after : Disk) (found : List Fault) → built ≡ image_of base patches set → after ≡ replayed built → found ≡ faults_under kept after → found ≡ faults_after kept base patches set
+found_faults kept base patches set built after found made is listed = listed ∙ ap (faults_under kept) (is ∙ ap replayed made)
 
 -- the same of an image that was moved to the set
-pub moved_faults : (base : Disk) (patches : List Patch) (before after : Applied) (set : ℕ) (image : Disk) → (before.base ≡ base) × (before.patches ≡ patches) → after ≡ record before { set = set } → image ≡ replayed (image_of after.base after.patches after.set) → faults image ≡ faults_after base patches set
-moved_faults base patches before after set image own moved is =
-    ap faults (is ∙ (ap (λ (a : Applied). replayed (image_of a.base a.patches a.set)) moved
+pub moved_faults : (kept : Option ℕ) (base : Disk) (patches : List Patch) (before after : Applied) (set : ℕ) (image : Disk) → (before.base ≡ base) × (before.patches ≡ patches) → after ≡ record before { set = set } → image ≡ replayed (image_of after.base after.patches after.set) → faults_under kept image ≡ faults_after kept base patches set
+moved_faults kept base patches before after set image own moved is =
+    ap (faults_under kept) (is ∙ (ap (λ (a : Applied). replayed (image_of a.base a.patches a.set)) moved
     ∙ (ap (λ (d : Disk). replayed (image_of d before.patches set)) own.0 ∙ ap (λ (ps : List Patch). replayed (image_of base ps set)) own.1)))
 
 -- no set stands twice in canonical order
@@ -44,14 +43,14 @@ pub each_once : (sets : List ℕ) → AllPairs IsBefore sets → AllPairs (λ a 
 each_once sets ordered i j d lt within same = before_self (get_or sets j d) (subst (λ (s : ℕ). IsBefore s (get_or sets j d)) same (ordered i j d lt within))
 
 -- the rows of all failing sets
-pub failing_rows : (base : Disk) (patches : List Patch) (sets : List ℕ) (old rows : List FaultRow) → AreAllInOrder (IsFailing base patches) sets
-    → AreSummed (HasAmong (faults_after base patches) sets) old → IsPermutation old rows → (TellsOnce old → AllPairs (λ a b. IsFaultBefore a.fault b.fault) rows)
-    → AreRows (HasFault base patches) rows
-failing_rows base patches sets old rows all sums moved up =
-    are_rows (HasFault base patches) old rows (same_sums (HasAmong (faults_after base patches) sets) (HasFault base patches) (λ f s. (to f s, from f s)) old sums) moved up
+pub failing_rows : (kept : Option ℕ) (base : Disk) (patches : List Patch) (sets : List ℕ) (old rows : List FaultRow) → AreAllInOrder (IsFailingUnder kept base patches) sets
+    → AreSummed (HasAmong (faults_after kept base patches) sets) old → IsPermutation old rows → (TellsOnce old → AllPairs (λ a b. IsFaultBefore a.fault b.fault) rows)
+    → AreRows (HasFault kept base patches) rows
+failing_rows kept base patches sets old rows all sums moved up =
+    are_rows (HasFault kept base patches) old rows (same_sums (HasAmong (faults_after kept base patches) sets) (HasFault kept base patches) (λ f s. (to f s, from f s)) old sums) moved up
   where
-    to : (f : Fault) (s : ℕ) → HasAmong (faults_after base patches) sets f s → HasFault base patches f s
+    to : (f : Fault) (s : ℕ) → HasAmong (faults_after kept base patches) sets f s → HasFault kept base patches f s
     to f s is = record { failing = (all.exactly s).0 is.0; found = is.1 }
 
-    from : (f : Fault) (s : ℕ) → HasFault base patches f s → HasAmong (faults_after base patches) sets f s
+    from : (f : Fault) (s : ℕ) → HasFault kept base patches f s → HasAmong (faults_after kept base patches) sets f s
     from f s is = ((all.exactly s).1 is.failing, is.found)

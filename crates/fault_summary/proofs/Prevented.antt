@@ -6,8 +6,8 @@ use Rattle.std.proofs.lemmas.List.Elements.{All-contains}
 use Rattle.patch_sets.specs.Closed.{IsClosed}
 use Rattle.patch_sets.specs.Sets.{AreAllInOrder}
 use Rattle.set_sweep.specs.Sweeps.{IsAscendingListOf}
-use Rattle.crash_model.specs.Failing.{IsFailing}
 use Rattle.crash_model.specs.Patches.{deps_of}
+use Rattle.crash_model.specs.Strict.{IsFailingUnder}
 use Rattle.fault_summary.specs.Prevented.{Compared, IsBad, IsAllowed, IsFirstPrevented, FailsAmong, AreCounted, IsCount}
 use Rattle.fault_summary.proofs.Ordered.{all_in_order}
 use Rattle.fault_summary.proofs.Summed.{same_numbers}
@@ -28,15 +28,15 @@ module _ (v : Compared) (sets : List ℕ) (closed : IsAscendingListOf (IsClosed 
   counted : AreCounted (IsBad v) (IsAllowed v) sets failing first
   counted = told once short
 
-  same_sets : (s : ℕ) → FailsAmong (IsBad v) sets s ↔ IsFailing v.base v.patches s
+  same_sets : (s : ℕ) → FailsAmong (IsBad v) sets s ↔ IsFailingUnder v.kept v.base v.patches s
   same_sets s = (
     λ is. record { closed = All-contains (IsClosed (deps_of v.patches)) sets s closed.each is.0; unclean = is.1 },
     λ is. (closed.every s is.closed, is.unclean),
   )
 
-  pub failing_count : (all : List ℕ) × AreAllInOrder (IsFailing v.base v.patches) all × (failing ≡ length all)
+  pub failing_count : (all : List ℕ) × AreAllInOrder (IsFailingUnder v.kept v.base v.patches) all × (failing ≡ length all)
   failing_count =
-      all_in_order (IsFailing v.base v.patches) failing (same_numbers (FailsAmong (IsBad v) sets) (IsFailing v.base v.patches) same_sets failing counted.number)
+      all_in_order (IsFailingUnder v.kept v.base v.patches) failing (same_numbers (FailsAmong (IsBad v) sets) (IsFailingUnder v.kept v.base v.patches) same_sets failing counted.number)
 
-  pub first_prevented : IsFirstPrevented (IsFailing v.base v.patches) (IsAllowed v) first
-  first_prevented = first_like (FailsAmong (IsBad v) sets) (IsFailing v.base v.patches) (IsAllowed v) same_sets first counted.first
+  pub first_prevented : IsFirstPrevented (IsFailingUnder v.kept v.base v.patches) (IsAllowed v) first
+  first_prevented = first_like (FailsAmong (IsBad v) sets) (IsFailingUnder v.kept v.base v.patches) (IsAllowed v) same_sets first counted.first

@@ -116,7 +116,8 @@ impl<'a, A: Allocator + Copy> Model for CountVisitor<'a, A> {
 
     ghost Value = { Compared };
 
-    ghost view = { λ v. record { base = v.space.base; patches = v.space.patches; kept = v.space.kept; others = v.other.now } };
+    ghost view = { λ v. record
+        { base = v.space.base; patches = v.space.patches; kept = v.space.kept; others = v.other.now } };
 }
 
 impl<'a, A: Allocator + Copy> CountVisitor<'a, A> {

@@ -101,8 +101,8 @@ impl<'a, A: Allocator + Copy> Model for FaultVisitor<'a, A> {
 }
 
 impl<'a, A: Allocator + Copy> FaultVisitor<'a, A> {
-    /// Tallies the faults of sets of a graph over a base, where the checker is told which inodes the script keeps, or is
-    /// told nothing.
+    /// Tallies the faults of sets of a graph over a base, where the checker is told which inodes the script keeps, or
+    /// is told nothing.
     ///
     /// The patches change blocks of the base, and their undo data are the bytes that they replace there.
     pub fn new(

@@ -9,11 +9,11 @@ returns-clause-failing g c =
     let all = c.in_ok-swept.ensures.swept in
     let short : length all.sets < 2 ^ 64 = omega (arith, all.counted, c.in_ok-swept.ensures.within, c.ranges.limit.fits) in
     failing_sets c.args.visitor.now.base c.args.visitor.now.patches all.sets (subst (λ (ds : List ℕ). IsAscendingListOf (IsClosed ds) all.sets) c.requires.deps all.closed)
-    c.in_ok-swept.swept.tally.failing c.in_ok-swept.swept.tally.summary short all.told
+    c.args.visitor.now.kept c.in_ok-swept.swept.tally.failing c.in_ok-swept.swept.tally.summary short all.told
 
 pub returns-clause-rows : goal.returns-clause-rows
 returns-clause-rows g c =
     let all = c.in_ok-swept.ensures.swept in
     let short : length all.sets < 2 ^ 64 = omega (arith, all.counted, c.in_ok-swept.ensures.within, c.ranges.limit.fits) in
     swept_rows c.args.visitor.now.base c.args.visitor.now.patches all.sets (subst (λ (ds : List ℕ). IsAscendingListOf (IsClosed ds) all.sets) c.requires.deps all.closed)
-    c.in_ok-swept.swept.tally.failing c.in_ok-swept.swept.tally.summary short all.told c.into_rows.result.items c.into_rows.ensures.same c.into_rows.ensures.ordered
+    c.args.visitor.now.kept c.in_ok-swept.swept.tally.failing c.in_ok-swept.swept.tally.summary short all.told c.into_rows.result.items c.into_rows.ensures.same c.into_rows.ensures.ordered
