@@ -116,21 +116,29 @@ impl<'a, A: Allocator + Copy> Model for CountVisitor<'a, A> {
 
     ghost Value = { Compared };
 
-    ghost view = { λ v. record
-        { base = v.space.base; patches = v.space.patches; kept = v.space.kept; others = v.other.now } };
+    ghost view = { λ v. record {
+      base = v.space.base;
+      patches = v.space.patches;
+      kept = v.space.kept;
+      others = v.other.now;
+    } };
 }
 
 impl<'a, A: Allocator + Copy> CountVisitor<'a, A> {
     /// Counts sets of a space, each of which fails where the space does not call it good.
-    pub fn new(
-        alloc: A,
-        space: PatchSpace<'a, A>,
-        other: &'a Graph<A>,
-    ) -> CountVisitor<'a, A>
-        ensures { result
-            ≡ record { base = space.base; patches = space.patches; kept = space.kept; others = other.now } }
+    pub fn new(alloc: A, space: PatchSpace<'a, A>, other: &'a Graph<A>) -> CountVisitor<'a, A>
+        ensures { result ≡ record {
+          base = space.base;
+          patches = space.patches;
+          kept = space.kept;
+          others = other.now;
+        } }
     {
-        CountVisitor { alloc, space, other }
+        CountVisitor {
+            alloc,
+            space,
+            other,
+        }
     }
 
     /// The count of one set that a crash can leave.
