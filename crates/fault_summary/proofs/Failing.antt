@@ -32,10 +32,10 @@ still_sized base patches set built after made is = ap (λ (d : Disk). d.blocks) 
 pub found_faults : (kept : Option ℕ) (base : Disk) (patches : List Patch) (set : ℕ) (built after : Disk) (found : List Fault) → built ≡ image_of base patches set → after ≡ replayed built → found ≡ faults_under kept after → found ≡ faults_after kept base patches set
 found_faults kept base patches set built after found made is listed = listed ∙ ap (faults_under kept) (is ∙ ap replayed made)
 
--- the same of an image that was moved to the set
-pub moved_faults : (kept : Option ℕ) (base : Disk) (patches : List Patch) (before after : Applied) (set : ℕ) (image : Disk) → (before.base ≡ base) × (before.patches ≡ patches) → after ≡ record before { set = set } → image ≡ replayed (image_of after.base after.patches after.set) → faults_under kept image ≡ faults_after kept base patches set
-moved_faults kept base patches before after set image own moved is =
-    ap (faults_under kept) (is ∙ (ap (λ (a : Applied). replayed (image_of a.base a.patches a.set)) moved
+-- the same of an image that was moved to the set, where the checker is told of the kept inodes
+pub moved_faults : (told kept : Option ℕ) (base : Disk) (patches : List Patch) (before after : Applied) (set : ℕ) (image : Disk) → told ≡ kept → (before.base ≡ base) × (before.patches ≡ patches) → after ≡ record before { set = set } → image ≡ replayed (image_of after.base after.patches after.set) → faults_under told image ≡ faults_after kept base patches set
+moved_faults told kept base patches before after set image same own moved is =
+    ap (λ (k : Option ℕ). faults_under k image) same ∙ ap (faults_under kept) (is ∙ (ap (λ (a : Applied). replayed (image_of a.base a.patches a.set)) moved
     ∙ (ap (λ (d : Disk). replayed (image_of d before.patches set)) own.0 ∙ ap (λ (ps : List Patch). replayed (image_of base ps set)) own.1)))
 
 -- no set stands twice in canonical order

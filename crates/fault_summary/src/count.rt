@@ -128,9 +128,9 @@ impl<'a, A: Allocator + Copy> CountVisitor<'a, A> {
     /// Counts sets of a space, each of which fails where the space does not call it good.
     pub fn new(alloc: A, space: PatchSpace<'a, A>, other: &'a Graph<A>) -> CountVisitor<'a, A>
         ensures { result ≡ record {
-          base = space.base;
-          patches = space.patches;
-          kept = space.kept;
+          base = space.entry.base;
+          patches = space.entry.patches;
+          kept = space.entry.kept;
           others = other.now;
         } }
     {
