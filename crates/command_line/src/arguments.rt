@@ -27,17 +27,16 @@ end, depend B A), comments (#) and one line `start`: the lines before it build t
 
 Exit status: 0 no failing set, 1 at least one, 2 a refusal (one line on standard error).";
 
-/// The program's options, in help under four heads.
+/// The program's options, in help under five heads.
 pub(crate) fn command<'a>(heap: Global) -> Result<Command<'a>, AllocError> {
     let command = Command::new(heap, "crashmap")
         .no_binary_name(true)
         .version(VERSION)
         .about(ABOUT)
         .after_help(AFTER);
-    how_to_read_it(
-        heap,
-        how_far(heap, the_ordering(heap, what_to_run(heap, command)?)?)?,
-    )
+    let command = the_ordering(heap, what_to_run(heap, command)?)?;
+    let command = how_far(heap, what_fails(heap, command)?)?;
+    how_to_read_it(heap, command)
 }
 
 /// Adds the script and the size of its disk.
@@ -80,6 +79,14 @@ fn the_ordering<'a>(heap: Global, command: Command<'a>) -> Result<Command<'a>, A
         .arg(module)?
         .arg(without)?
         .arg(with)
+}
+
+/// Adds what the checker asks for.
+fn what_fails<'a>(heap: Global, command: Command<'a>) -> Result<Command<'a>, AllocError> {
+    let strict = flag(heap, "strict").help(
+        "A set fails, too, where an inode that the script keeps is lost or a directory has no block",
+    );
+    command.next_help_heading("What fails").arg(strict)
 }
 
 /// Adds how many sets are explored, and by whom.

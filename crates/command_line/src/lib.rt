@@ -75,6 +75,7 @@ fn call_of<'a>(matches: &ArgMatches<'a>, words: &[&str]) -> Result<Call<'a>, Wor
             explorer,
             json: matches.get_flag("json"),
             explain: matches.get_flag("explain"),
+            strict: matches.get_flag("strict"),
             by: report_by(matches),
         },
         workers: number_of(matches, "workers", 1, 16),
