@@ -17,6 +17,8 @@ pub struct Asked {
     pub module: Module,
     pub blocks: usize,
     pub journal: usize,
+    /// Whether the checker asks, too, that nothing which the script keeps is lost.
+    pub strict: bool,
     /// The sets that a crash can leave.
     pub closed: usize,
     /// Those of them that fail.
@@ -50,6 +52,7 @@ impl Asked {
         let mut settings = plain_settings(self.module);
         settings.blocks = self.blocks;
         settings.journal = self.journal;
+        settings.strict = self.strict;
         settings.limit = limit;
         settings.json = json;
         settings
@@ -68,6 +71,7 @@ pub const CREATE: Asked = Asked {
     module: Module::Async,
     blocks: 16,
     journal: 0,
+    strict: false,
     closed: 4,
     failing: 1,
     text: "c3e120edb736ec33363d91e6e542c8085cf3dda7",
@@ -81,6 +85,7 @@ pub const SOFT_CREATE: Asked = Asked {
     module: Module::Soft,
     blocks: 16,
     journal: 0,
+    strict: false,
     closed: 3,
     failing: 0,
     text: "54fcad06874021f712760abf9caf713192c39d3a",
@@ -94,6 +99,7 @@ pub const WRITE: Asked = Asked {
     module: Module::Async,
     blocks: 16,
     journal: 0,
+    strict: false,
     closed: 24,
     failing: 10,
     text: "df39b692bafd725c735bdbff707445b9596b70b1",
@@ -107,6 +113,7 @@ pub const REUSE: Asked = Asked {
     module: Module::Async,
     blocks: 16,
     journal: 0,
+    strict: false,
     closed: 48,
     failing: 36,
     text: "2fa1c2d42390c744f1805eff355652c184ec3e5c",
@@ -120,6 +127,7 @@ pub const JOURNAL: Asked = Asked {
     module: Module::Meta,
     blocks: 24,
     journal: 12,
+    strict: false,
     closed: 629,
     failing: 48,
     text: "a45b6949974fd07d7ff1e2bc65510ddb92fa229f",
@@ -133,6 +141,7 @@ pub const SOFT_LINKS: Asked = Asked {
     module: Module::Soft,
     blocks: 16,
     journal: 0,
+    strict: false,
     closed: 125,
     failing: 0,
     text: "77e71fb1cf96dc0793ad79b9a18d43dcbdcfeb3f",
@@ -146,6 +155,7 @@ pub const HALF_LINKS: Asked = Asked {
     module: Module::Async,
     blocks: 16,
     journal: 0,
+    strict: false,
     closed: 1024,
     failing: 256,
     text: "6f5f623fdd5d8726dbed1acae62988b735213503",
@@ -159,8 +169,23 @@ pub const LINKS: Asked = Asked {
     module: Module::Async,
     blocks: 16,
     journal: 0,
+    strict: false,
     closed: 3969,
     failing: 992,
     text: "0fe72f0d1382fd0ecc1b5b194955253489e1a6d0",
     json: "b4511a8ea5463f9943d189bbeb184f1be3705da4",
+};
+
+/// A file moves into a new directory without an order, and the checker is strict.
+pub const MOVED_IN: Asked = Asked {
+    script: b"create /a\nstart\nmkdir /d\nrename /a /d/a\n",
+    toggles: 0,
+    module: Module::Async,
+    blocks: 16,
+    journal: 0,
+    strict: true,
+    closed: 216,
+    failing: 169,
+    text: "cddb8914ad0db271979fb04492d7ce0602a12fed",
+    json: "3c2cc8fd6962786a4af7a78ed2f3be0f9cc49609",
 };
