@@ -21,6 +21,8 @@ const FAULT_PLACES = {
   5: (report, image, inode, slot, block) =>
     [slotPlace(inode, slot), { row: "map", phrase: `map ${block}`, block: 1, offset: block, length: 1 }],
   6: (report, image, inode, slot) => [slotPlace(inode, slot)],
+  7: (report, image, inode) => [inodeByte(inode, "kind", 0), ...entriesTo(report, image, inode)],
+  8: (report, image, inode) => [slotPlace(inode, 0), ...entriesTo(report, image, inode)],
 };
 
 function inodeByte(inode, phrase, k) {
@@ -38,7 +40,7 @@ function entriesTo(report, image, inode) {
     entries.filter(({ target }) => target === inode).map(({ k }) => entryPlace(block, k)));
 }
 
-/** Patches that wrote a named place last, or would write it next. */
+/** Patches that wrote a named place last, or would write it next; of a lost inode also those of its names. */
 function patchesNamed(report, choice, places) {
   const inSet = new Set(choice.set), named = new Set();
   const copies = replayCopies(report, imageOf(report, choice.set));
@@ -50,5 +52,14 @@ function patchesNamed(report, choice, places) {
       copy && report.trace.find(patch => patch.block === copy.from)];
     for (const patch of picks) if (patch) named.add(patch.id);
   }
+  for (const id of patchesOfNames(report, choice.faults)) named.add(id);
   return named;
+}
+
+/** Patches that set or clear a name of an inode that the faults tell as lost. */
+function patchesOfNames(report, faults) {
+  const lost = faults.map(text => /^7 .* inode (\d+)$/.exec(text)?.[1]).filter(Boolean).map(Number);
+  const isOfName = ({ part, bytes, undo }) => (part === "EntrySet" && lost.includes(bytes[0] - 1))
+    || (part === "EntryClear" && lost.includes(undo[0] - 1));
+  return report.trace.filter(isOfName).map(patch => patch.id);
 }

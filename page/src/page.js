@@ -59,10 +59,11 @@ function drawShare({ failing, closed }) {
     element("i", { style: `width:${100 * failing / closed}%` }));
 }
 
-/** What differs from the module's own ordering. */
+/** What differs from the module's own ordering and checker. */
 function drawOrdering(report) {
   const rules = (list, kind, word) => list.map(rule => element("span", { class: `rule ${kind}` }, `${word} ${rule}`));
-  return element("div", { class: "rules" }, rules(report.without, "out", "without"), rules(report.with, "in", "with"));
+  return element("div", { class: "rules" }, rules(report.without, "out", "without"), rules(report.with, "in", "with"),
+    report.strict && element("span", { class: "rule in" }, "strict"));
 }
 
 /* --- choices --- */

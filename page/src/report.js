@@ -16,7 +16,7 @@ function readReport(text) {
     ({ ...patch, id, bytes: bytesOf(patch.new), undo: bytesOf(patch.undo) }));
   const report = {
     module: json.module, closed: json.closed, failing: json.sets ?? json.failing.length ?? json.failing,
-    without: json.without ?? [], with: json.with ?? [],
+    without: json.without ?? [], with: json.with ?? [], strict: json.strict ?? false,
     base, journal, root: JOURNAL_START + journal, trace,
   };
   Object.assign(report, operationsOf(trace));

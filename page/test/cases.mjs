@@ -18,6 +18,7 @@ export const cases = {
   twice: { script: blockReuse, words: ["--module", "async", "--summary"] },
   safe: { script: ["start", "create /a", "write /a"], words: ["--module", "soft", "--summary"] },
   nothing: { script: ["start"], words: ["--module", "async", "--summary"] },
+  lost: { script: ["create /a", "start", "rename /a /b"], words: ["--module", "async", "--strict", "--summary"] },
   needs: { script: blockReuse, words: ["--module", "soft", "--needs"] },
   unruly: { script: blockReuse, words: ["--module", "async", "--needs"] },
   groups: {

@@ -174,6 +174,11 @@ async function testNothingFails() {
 }
 
 async function testOrderings() {
+  await open("lost", "#choice=1");
+  const lost = await shown();
+  check("a lost inode: the checker is strict", lost.rules, ["strict"]);
+  check("a lost inode: its words", lost.faults, ["Fault 7 lost inode: inode 1"]);
+  check("a lost inode: the patches of its names", lost.named, [1, 2]);
   const report = await open("needs"), needs = await shown(), first = report.rules.find(rule => rule.first);
   check("rules take the place of faults", needs.choices.length, report.rules.length + 1);
   check("with all rules nothing fails", needs.verdict,
@@ -245,7 +250,7 @@ async function testNoReport() {
   await browser.open(`file://${page}`);
   const words = await browser.ask("document.body.textContent");
   check("a page without a report asks for one", words.includes("Drop a report here"), true);
-  check("every case is tested", Object.keys(cases).length, 10);
+  check("every case is tested", Object.keys(cases).length, 11);
 }
 
 await browser.size(1280, 800);
