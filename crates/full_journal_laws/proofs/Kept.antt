@@ -1,21 +1,20 @@
 -- What is kept stays reached under the full journal.
-use Rattle.std.proofs.Common.{◌≡◌, ◌≢◌, ℕ, zero, suc, ◌+◌, ◌*◌, ◌-◌, ◌<◌, ◌≤◌, inl, inr, List, [], ◌∷◌, ◌++◌, take, get_or, Bool, true, false, ◌&&◌, ◌==◌, not, nat_lt, arith, refl, sym, ◌∙◌, ap, subst}
-use Rattle.std.specs.Prelude.{Ok, Some, IsTrue}
-use Rattle.std.specs.List.{list_any, range_with_len}
+use Rattle.std.proofs.Common.{◌≡◌, ℕ, zero, suc, ◌+◌, ◌*◌, ◌-◌, ◌<◌, ◌≤◌, inl, inr, List, [], ◌∷◌, ◌++◌, take, get_or, Bool, true, false, ◌&&◌, ◌==◌, not, nat_lt, arith, refl, sym, ◌∙◌, ap, subst}
+use Rattle.std.specs.Prelude.{Some}
+use Rattle.std.specs.List.{range_with_len}
 use Rattle.std.proofs.lemmas.Bool.{false≢true, cases_Bool, cases_lt, and_parts, and_right, eq-eqb, eqb-true, ltb-true, leb-true}
 use Rattle.std.proofs.lemmas.List.Folds.{list_any_at}
 use Rattle.std.proofs.lemmas.List.FromFn.{length-range_with_len, get_or-range_with_len}
 use Rattle.patch_sets.specs.Sets.{has}
-use Rattle.crash_model.specs.Disk.{Disk, IsDisk, byte, block_of}
+use Rattle.crash_model.specs.Disk.{Disk, IsDisk, block_of}
 use Rattle.crash_model.specs.Layout.{kind_of, pointer_of, is_live, is_data, is_entry, target_of, counts}
 use Rattle.crash_model.specs.Faults.{leads_to}
 use Rattle.crash_model.specs.Sound.{IsSound, ReachedIn}
 use Rattle.crash_model.specs.Patches.{image_of}
 use Rattle.crash_model.specs.Plan.{plan_of, result_applied}
 use Rattle.crash_model.specs.Replay.{replayed}
-use Rattle.crash_model.specs.Strict.{disk_after, stays_live, IsKept, is_named, is_reached, is_lost, lacks_block, LosesNothing, IsCleanUnder}
+use Rattle.crash_model.specs.Strict.{disk_after, stays_live, IsKept, is_named, is_reached, LosesNothing, IsCleanUnder}
 use Rattle.crash_model.specs.Trace.{Tracing}
-use Rattle.crash_model.specs.declared.names.Op.{Op}
 use Rattle.crash_model.specs.declared.patches.Patch.{Patch}
 use Rattle.crash_model.specs.declared.steps.Act.{Act}
 use Rattle.crash_model.specs.declared.steps.Act.TheVariants.{Do, Group, End, Depend}

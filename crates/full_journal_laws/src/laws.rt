@@ -28,11 +28,13 @@ pub fn replay_recovers_the_committed_operations()
         → IsRecovered base steps s patches set }
 {}
 
-/// So nothing fails where a checker is told which inodes the script keeps, either: the image after replay has none of the
-/// eight faults, for every script and every set of patches that a crash can leave.
+/// So nothing fails where a checker is told which inodes the script keeps, either: the image after replay has none of
+/// the eight faults, for every script and every set of patches that a crash can leave.
 pub fn nothing_that_the_script_keeps_is_lost()
-    ensures { (rules : List Rule) → (base : Disk) → (steps : List Step) → (s : Tracing) → (patches : List Patch) → (set kept : ℕ)
+    ensures { (rules : List Rule) → (base : Disk) → (steps : List Step) → (s : Tracing) → (patches : List Patch)
+        → (set kept : ℕ)
         → IsDisk base → IsSound base → HasZeroJournal base → All GivesName (ops_of steps)
-        → traced Full (begun base) steps ≡ Ok s → AreAmong (rules_of Full) rules → IsGraphOf rules base s patches → IsClosed (deps_of patches) set
-        → IsKept base steps kept → IsCleanUnder (Some kept) (replayed (image_of base patches set)) }
+        → traced Full (begun base) steps ≡ Ok s → AreAmong (rules_of Full) rules → IsGraphOf rules base s patches
+        → IsClosed (deps_of patches) set → IsKept base steps kept
+        → IsCleanUnder (Some kept) (replayed (image_of base patches set)) }
 {}
