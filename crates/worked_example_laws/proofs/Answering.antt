@@ -4,7 +4,7 @@ use Rattle.std.specs.Prelude.{◌==◌, Result, Ok, Err}
 use Rattle.std.proofs.lemmas.Bool.{and_parts, leb-true, le-leb, ltb-true}
 use Rattle.patch_sets.proofs.Ids.{eq_from_true}
 use Rattle.crash_model.specs.Answer as answers
-use Rattle.crash_model.specs.Answer.{Refused, Reported, HasBase, HasGraph, IsAnswer, ordering_rules}
+use Rattle.crash_model.specs.Answer.{Refused, Reported, HasBase, HasGraph, IsAnswer, detail_of, ordering_rules}
 use Rattle.crash_model.specs.Disk.{Disk, formatted, IsGeometry}
 use Rattle.crash_model.specs.Patches.{deps_of}
 use Rattle.crash_model.specs.Refusals.{run_of_trace}
@@ -14,15 +14,17 @@ use Rattle.crash_model.specs.Whole.{Sets, report}
 use Rattle.crash_model.specs.Trace.{begun, traced, based}
 use Rattle.crash_model.specs.declared.refusals.TraceFault.{TraceFault}
 use Rattle.crash_model.specs.declared.refusals.RunFault.TheVariants.{BadGeometry, TooMany}
+use Rattle.crash_model.specs.declared.settings.Detail.{Detail}
 use Rattle.crash_model.specs.declared.settings.Settings.{Settings}
 use Rattle.crash_model.specs.declared.settings.ReportBy.TheVariants.{BySet}
 use Rattle.crash_model.specs.declared.steps.Act.{Act}
 use Rattle.crash_model.proofs.Leading.{failing_closed, closed_are_left, sections_lead}
-use Rattle.worked_example_laws.specs.Computed.{closed_sets, failing_sets, are_in_order, trace_of, is_accepted, section_of, have_runs}
+use Rattle.worked_example_laws.specs.Computed.{closed_sets, failing_under, kept_of, are_in_order, trace_of, is_accepted, section_of, have_runs}
 use Rattle.worked_example_laws.specs.Examples.{numbered}
 use Rattle.worked_example_laws.specs.Spelled.{are_acts, script, based_or, base_of, is_based, traced_acts, graph, is_geometry, is_told}
-use Rattle.worked_example_laws.proofs.FailingSets.{accepted_is, counts_closed, all_failing}
+use Rattle.worked_example_laws.proofs.FailingSets.{accepted_is, counts_closed, all_under}
 use Rattle.worked_example_laws.proofs.Graphs.{earlier, graph_is}
+use Rattle.worked_example_laws.proofs.Keeping.{is_told_kept}
 use Rattle.worked_example_laws.proofs.Runs.{sections_if}
 use Rattle.worked_example_laws.proofs.Spelling.{script_is}
 
@@ -77,6 +79,10 @@ pub refused_trace : (settings : Settings) (before behind : List Act) (fault : Tr
 refused_trace settings before behind fault read read_too geometry whole is =
     answers.bad_trace (base_of settings before) (traced_acts before behind) fault (start settings before behind read read_too geometry whole) is
 
+-- how much is told of a set
+abbrev pub told_detail : Settings → List Act → List Act → Detail
+told_detail settings before behind = detail_of settings (kept_of settings.strict (base_of settings before) (traced_acts before behind))
+
 -- the report, of each failing set
 pub reported : (settings : Settings) (before behind : List Act) (closed : ℕ) (failing : List ℕ) (text : List ℕ)
     → is_told settings before behind closed failing ≡ true
@@ -87,13 +93,16 @@ pub reported : (settings : Settings) (before behind : List Act) (closed : ℕ) (
       failing = length failing;
       explanation = when settings.explain (explanation (ordering_rules settings) (base_of settings before)
           (trace_of settings.module (base_of settings before) (traced_acts before behind)) (graph settings before behind));
-      body = Sets (map (section_of settings.explain (base_of settings before) (graph settings before behind)) failing);
+      body = Sets (map (section_of (told_detail settings before behind) (base_of settings before) (graph settings before behind)) failing);
     })
     → IsAnswer (script before behind) settings (Reported text (length failing))
+unfolding has_graph
 reported settings before behind closed failing text told by_set is =
     let base = base_of settings before in
     let steps = traced_acts before behind in
     let last = trace_of settings.module base steps in
+    let kept = kept_of settings.strict base steps in
+    let detail = detail_of settings kept in
     let patches = graph settings before behind in
     let one = and_parts (are_acts before) _ told in
     let two = and_parts (are_acts behind) _ one.1 in
@@ -101,13 +110,14 @@ reported settings before behind closed failing text told by_set is =
     let four = and_parts (is_based (based (formatted settings.blocks settings.journal) (numbered 1 before))) _ three.1 in
     let five = and_parts (is_accepted (traced settings.module (begun base) steps)) _ four.1 in
     let six = and_parts (length (closed_sets (deps_of patches)) == closed) _ five.1 in
-    let seven = and_parts (are_in_order (length (deps_of patches)) failing (failing_sets base patches)) (nat_le closed settings.limit && have_runs patches failing) six.1 in
+    let seven = and_parts (are_in_order (length (deps_of patches)) failing (failing_under kept base patches)) (nat_le closed settings.limit && have_runs patches failing) six.1 in
     let eight = and_parts (nat_le closed settings.limit) (have_runs patches failing) seven.1 in
     let first = earlier (ordering_rules settings) base last in
-    let exactly = all_failing base patches failing first seven.0 in
-    let are_closed = failing_closed base patches failing exactly in
-    let sections = sections_if settings.explain base patches failing eight.1 in
-    answers.reported base last patches text (length failing) (has_graph settings before behind one.0 two.0 three.0 four.0 five.0) (record {
+    let exactly = all_under kept base patches failing first seven.0 in
+    let are_closed = failing_closed kept base patches failing exactly in
+    let sections = sections_if detail base patches failing eight.1 in
+    answers.reported kept base last patches text (length failing) (has_graph settings before behind one.0 two.0 three.0 four.0 five.0)
+    (is_told_kept settings.strict base steps) (record {
       total = closed;
       counted = counts_closed patches closed first (eq_from_true _ _ six.0);
       within = leb-true closed settings.limit eight.0;
@@ -115,8 +125,8 @@ reported settings before behind closed failing text told by_set is =
       exactly = exactly;
       left = closed_are_left base patches first failing are_closed;
       number = refl;
-      body = Sets (map (section_of settings.explain base patches) failing);
-      told = (by_set, sections, sections_lead base patches first settings.explain failing (map (section_of settings.explain base patches) failing) are_closed sections);
+      body = Sets (map (section_of detail base patches) failing);
+      told = (by_set, sections, sections_lead base patches first detail failing (map (section_of detail base patches) failing) are_closed sections);
       whole = is;
     })
 

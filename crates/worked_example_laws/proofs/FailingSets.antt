@@ -1,6 +1,6 @@
 -- The computed failing sets are all sets that a crash can leave and that fail.
 use Rattle.std.proofs.Common.{◌≡◌, ℕ, zero, suc, ◌+◌, ◌*◌, ◌/◌, ◌%◌, ◌^◌, ◌<◌, List, [], ◌∷◌, length, take, drop, Bool, true, false, not, ◌&&◌, ◌||◌, nat_lt, arith, refl, sym, subst, ap, ◌∙◌, pow-suc, inl, inr, get_or, add-one}
-use Rattle.std.specs.Prelude.{◌⊎◌, ◌==◌, count_ones, Ok, Err, Result}
+use Rattle.std.specs.Prelude.{◌⊎◌, Option, None, ◌==◌, count_ones, Ok, Err, Result}
 use Rattle.std.specs.List.{Contains, filter, list_any, list_all}
 use Rattle.std.proofs.lemmas.List.{get_or_default}
 use Rattle.std.proofs.lemmas.Bool.{and_parts, ltb-true}
@@ -18,6 +18,7 @@ use Rattle.crash_model.specs.Patches.{deps_of, image_of}
 use Rattle.crash_model.specs.Faults.{faults}
 use Rattle.crash_model.specs.Replay.{replayed}
 use Rattle.crash_model.specs.Failing.{IsFailing, CountsClosed}
+use Rattle.crash_model.specs.Strict.{faults_under, IsFailingUnder}
 use Rattle.crash_model.specs.declared.fault.Fault.{Fault}
 use Rattle.crash_model.specs.Trace.{Tracing, begun, traced}
 use Rattle.crash_model.specs.declared.patches.Patch.{Patch}
@@ -25,7 +26,7 @@ use Rattle.crash_model.specs.declared.refusals.TraceFault.{TraceFault}
 use Rattle.crash_model.specs.declared.steps.Module.{Module}
 use Rattle.crash_model.specs.declared.steps.Step.{Step}
 use Rattle.worked_example_laws.proofs.Graphs.{earlier, has_graph}
-use Rattle.worked_example_laws.specs.Computed.{closed_sets, is_none_found, fails, failing_sets, ones_below, is_before, is_ordered, is_in, are_in_order, graph_of, trace_of, HasGraph, Explored, is_accepted, accepted, explores, CountsWith, none_fails}
+use Rattle.worked_example_laws.specs.Computed.{closed_sets, is_none_found, fails, failing_sets, fails_under, failing_under, ones_below, is_before, is_ordered, is_in, are_in_order, graph_of, trace_of, HasGraph, Explored, is_accepted, accepted, explores, CountsWith, none_fails}
 use Rattle.worked_example_laws.proofs.ClosedSets.{AreApart, closed_are_all, pairs_apart, apart_filter, from_filter, to_filter}
 
 -- ---- how many
@@ -70,19 +71,34 @@ by_fault : (found : List Fault) → (found ≡ [] → ⊥) → not (is_none_foun
 by_fault [] some = absurd (some refl)
 by_fault (f ∷ found) some = refl
 
-module _ (base : Disk) (patches : List Patch) (before : AreEarlier (deps_of patches)) where
-  pub failing_at : (set : ℕ) → Contains (failing_sets base patches) set → IsFailing base patches set
-  failing_at set is =
-      let it = from_filter (fails base patches) (closed_sets (deps_of patches)) set is in
+module _ (kept : Option ℕ) (base : Disk) (patches : List Patch) (before : AreEarlier (deps_of patches)) where
+  pub under_at : (set : ℕ) → Contains (failing_under kept base patches) set → IsFailingUnder kept base patches set
+  under_at set is =
+      let it = from_filter (fails_under kept base patches) (closed_sets (deps_of patches)) set is in
       record {
         closed = (closed_are_all (deps_of patches) before).each set it.0;
-        unclean = λ clean. none_at_true (faults (replayed (image_of base patches set))) it.1 clean.faultless;
+        unclean = λ clean. none_at_true (faults_under kept (replayed (image_of base patches set))) it.1 clean.faultless;
       }
 
-  pub in_failing : (set : ℕ) → IsFailing base patches set → Contains (failing_sets base patches) set
-  in_failing set failing = to_filter (fails base patches) (closed_sets (deps_of patches)) set
+  pub in_under : (set : ℕ) → IsFailingUnder kept base patches set → Contains (failing_under kept base patches) set
+  in_under set failing = to_filter (fails_under kept base patches) (closed_sets (deps_of patches)) set
       ((closed_are_all (deps_of patches) before).every set failing.closed)
-      (by_fault (faults (replayed (image_of base patches set))) (λ none. failing.unclean record { faultless = none }))
+      (by_fault (faults_under kept (replayed (image_of base patches set))) (λ none. failing.unclean record { faultless = none }))
+
+-- the same where nothing is asked of what is kept
+module _ (base : Disk) (patches : List Patch) where
+  failing_from_under : (set : ℕ) → IsFailingUnder None base patches set → IsFailing base patches set
+  failing_from_under set is = record { closed = is.closed; unclean = λ clean. is.unclean record { faultless = clean.faultless } }
+
+  under_from_failing : (set : ℕ) → IsFailing base patches set → IsFailingUnder None base patches set
+  under_from_failing set is = record { closed = is.closed; unclean = λ clean. is.unclean record { faultless = clean.faultless } }
+
+module _ (base : Disk) (patches : List Patch) (before : AreEarlier (deps_of patches)) where
+  failing_at : (set : ℕ) → Contains (failing_sets base patches) set → IsFailing base patches set
+  failing_at set is = failing_from_under base patches set (under_at None base patches before set is)
+
+  in_failing : (set : ℕ) → IsFailing base patches set → Contains (failing_sets base patches) set
+  in_failing set failing = in_under None base patches before set (under_from_failing base patches set failing)
 
   pub counts_failing : (n : ℕ) → length (failing_sets base patches) ≡ n → HoldsOf (IsFailing base patches) n
   counts_failing n many = (
@@ -136,16 +152,26 @@ all_if test (s ∷ sets) e set (zero, within, is) = ap test (sym is) ∙ (and_pa
 all_if test (s ∷ sets) e set (suc k, within, is) = all_if test sets (and_parts (test s) (list_all test sets) e).1 set (k, omega arith, is)
 
 -- these sets are all that fail, in canonical order
-pub all_failing : (base : Disk) (patches : List Patch) (sets : List ℕ) → AreEarlier (deps_of patches)
-    → are_in_order (length (deps_of patches)) sets (failing_sets base patches) ≡ true → AreAllInOrder (IsFailing base patches) sets
-all_failing base patches sets before e =
+pub all_under : (kept : Option ℕ) (base : Disk) (patches : List Patch) (sets : List ℕ) → AreEarlier (deps_of patches)
+    → are_in_order (length (deps_of patches)) sets (failing_under kept base patches) ≡ true → AreAllInOrder (IsFailingUnder kept base patches) sets
+all_under kept base patches sets before e =
+    let found = failing_under kept base patches in
     let ordered = and_parts (is_ordered (length (deps_of patches)) sets) _ e in
-    let same = and_parts (list_all (is_in (failing_sets base patches)) sets) (list_all (is_in sets) (failing_sets base patches)) ordered.1 in
+    let same = and_parts (list_all (is_in found) sets) (list_all (is_in sets) found) ordered.1 in
     let fails_at = λ (set : ℕ) (is : Contains sets set).
-    failing_at base patches before set (in_if (failing_sets base patches) set (all_if (is_in (failing_sets base patches)) sets same.0 set is)) in
+    under_at kept base patches before set (in_if found set (all_if (is_in found) sets same.0 set is)) in
     record {
       ordered = ordered_from_next sets (next_if (length (deps_of patches)) sets (λ set is. small_from_below set (length (deps_of patches)) (fails_at set is).closed.known) ordered.0);
-      exactly = λ set. (fails_at set, λ failing. in_if sets set (all_if (is_in sets) (failing_sets base patches) same.1 set (in_failing base patches before set failing)));
+      exactly = λ set. (fails_at set, λ failing. in_if sets set (all_if (is_in sets) found same.1 set (in_under kept base patches before set failing)));
+    }
+
+all_failing : (base : Disk) (patches : List Patch) (sets : List ℕ) → AreEarlier (deps_of patches)
+    → are_in_order (length (deps_of patches)) sets (failing_sets base patches) ≡ true → AreAllInOrder (IsFailing base patches) sets
+all_failing base patches sets before e =
+    let all = all_under None base patches sets before e in
+    record {
+      ordered = all.ordered;
+      exactly = λ set. ((λ is. failing_from_under base patches set ((all.exactly set).0 is)), (λ failing. (all.exactly set).1 (under_from_failing base patches set failing)));
     }
 
 pub accepted_is : (base : Disk) (r : Result Tracing TraceFault) → is_accepted r ≡ true → r ≡ Ok (accepted base r)

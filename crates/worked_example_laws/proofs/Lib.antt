@@ -4,6 +4,7 @@ pub mod FailingSets
 pub mod Sound
 pub mod Runs
 pub mod Spelling
+pub mod Keeping
 pub mod Answering
 pub mod Pieces
 pub mod Readings

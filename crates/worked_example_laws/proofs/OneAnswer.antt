@@ -1,35 +1,36 @@
 -- There is at most one answer.
 use Rattle.std.proofs.Common.{◌≡◌, ℕ, List, length, sym, subst, ap, ◌∙◌, inl, inr}
-use Rattle.std.specs.Prelude.{Result, Ok, Err}
+use Rattle.std.specs.Prelude.{Option, Result, Ok, Err}
 use Rattle.state_space.proofs.Counting.{one_number, not_more}
 use Rattle.patch_sets.specs.Closed.{IsClosed}
 use Rattle.patch_sets.proofs.Canonical.{one_list}
 use Rattle.crash_model.specs.Answer.{Answer, Refused, Reported, IsReport, IsBody, IsAnswer, ordering_rules}
 use Rattle.crash_model.specs.Disk.{Disk, formatted}
 use Rattle.crash_model.specs.Explain.{explanation}
-use Rattle.crash_model.specs.Failing.{IsFailing}
 use Rattle.crash_model.specs.Lists.{when}
 use Rattle.crash_model.specs.Patches.{deps_of}
 use Rattle.crash_model.specs.Refusals.{run_of_script}
+use Rattle.crash_model.specs.Strict.{IsFailingUnder}
 use Rattle.crash_model.specs.Trace.{Tracing, begun, traced, based}
 use Rattle.crash_model.specs.Whole.{report}
 use Rattle.crash_model.specs.declared.patches.Patch.{Patch}
 use Rattle.crash_model.specs.declared.refusals.TraceFault.{TraceFault}
 use Rattle.crash_model.specs.declared.settings.Settings.{Settings}
 use Rattle.crash_model.specs.declared.steps.Step.{Step}
+use Rattle.worked_example_laws.proofs.Keeping.{one_kept}
 use Rattle.worked_example_laws.proofs.OneBody.{body_one}
 use Rattle.worked_example_laws.proofs.OneGraph.{graph_one}
 use Rattle.worked_example_laws.proofs.Stages.{ComesOfGraph, ComesOfTrace, ComesOfBase, ComesOfSteps, ComesOfScript, stages}
 use Rattle.worked_example_laws.proofs.Scripts.{script_one, refusal_one, read_or_refused}
 
 module _ (settings : Settings) (base : Disk) (last : Tracing) where
-  report_one : (patches : List Patch) (text other : List ℕ) (failing more : ℕ) → IsReport settings base last patches text failing → IsReport settings base last patches other more
-      → Reported text failing ≡ Reported other more
-  report_one patches text other failing more is also =
+  report_one : (kept : Option ℕ) (patches : List Patch) (text other : List ℕ) (failing more : ℕ) → IsReport settings kept base last patches text failing
+      → IsReport settings kept base last patches other more → Reported text failing ≡ Reported other more
+  report_one kept patches text other failing more is also =
       let total : is.total ≡ also.total = one_number (IsClosed (deps_of patches)) is.total also.total is.counted also.counted in
-      let same : is.sets ≡ also.sets = one_list (IsFailing base patches) is.sets also.sets is.exactly also.exactly in
+      let same : is.sets ≡ also.sets = one_list (IsFailingUnder kept base patches) is.sets also.sets is.exactly also.exactly in
       let numbers : failing ≡ more = is.number ∙ (ap (λ (some : List ℕ). length some) same ∙ sym also.number) in
-      let bodies : is.body ≡ also.body = body_one settings base last patches also.sets is.body also.body (subst (λ some. IsBody settings base last patches some is.body) same is.told) also.told in
+      let bodies : is.body ≡ also.body = body_one settings kept base last patches also.sets is.body also.body (subst (λ some. IsBody settings kept base last patches some is.body) same is.told) also.told in
       let texts : text ≡ other = is.whole ∙ ((λ i. report settings (record {
         patches = length patches;
         closed = total i;
@@ -39,23 +40,26 @@ module _ (settings : Settings) (base : Disk) (last : Tracing) where
       })) ∙ sym also.whole) in
       cc (texts, numbers)
 
-  graph_answer_one : (patches : List Patch) (answer other : Answer) → ComesOfGraph settings base last patches answer → ComesOfGraph settings base last patches other → answer ≡ other
-  graph_answer_one patches (Refused fault) (Refused more) is also = ap Refused (is.1 ∙ sym also.1)
-  graph_answer_one patches (Refused fault) (Reported text failing) is also = absurd (not_more (IsClosed (deps_of patches)) also.total settings.limit also.counted also.within is.0)
-  graph_answer_one patches (Reported text failing) (Refused fault) is also = absurd (not_more (IsClosed (deps_of patches)) is.total settings.limit is.counted is.within also.0)
-  graph_answer_one patches (Reported text failing) (Reported other more) is also = report_one patches text other failing more is also
+  graph_answer_one : (steps : List Step) (patches : List Patch) (answer other : Answer) → ComesOfGraph settings base steps last patches answer
+      → ComesOfGraph settings base steps last patches other → answer ≡ other
+  graph_answer_one steps patches (Refused fault) (Refused more) is also = ap Refused (is.1 ∙ sym also.1)
+  graph_answer_one steps patches (Refused fault) (Reported text failing) is also = absurd (not_more (IsClosed (deps_of patches)) also.2.total settings.limit also.2.counted also.2.within is.0)
+  graph_answer_one steps patches (Reported text failing) (Refused fault) is also = absurd (not_more (IsClosed (deps_of patches)) is.2.total settings.limit is.2.counted is.2.within also.0)
+  graph_answer_one steps patches (Reported text failing) (Reported other more) is also =
+      let same : is.0 ≡ also.0 = one_kept settings.strict base steps is.0 also.0 is.1 also.1 in
+      report_one also.0 patches text other failing more (subst (λ kept. IsReport settings kept base last patches text failing) same is.2) also.2
 
-module _ (settings : Settings) (base : Disk) where
-  traced_one : (r : Result Tracing TraceFault) (answer other : Answer) → ComesOfTrace settings base r answer → ComesOfTrace settings base r other → answer ≡ other
+module _ (settings : Settings) (base : Disk) (steps : List Step) where
+  traced_one : (r : Result Tracing TraceFault) (answer other : Answer) → ComesOfTrace settings base steps r answer → ComesOfTrace settings base steps r other → answer ≡ other
   traced_one (Err fault) answer other is also = is ∙ sym also
   traced_one (Ok s) answer other is also =
       let same : is.0 ≡ also.0 = graph_one (ordering_rules settings) base s is.0 also.0 is.1 also.1 in
-      graph_answer_one settings base s also.0 answer other (subst (λ ps. ComesOfGraph settings base s ps answer) same is.2) also.2
+      graph_answer_one settings base s steps also.0 answer other (subst (λ ps. ComesOfGraph settings base steps s ps answer) same is.2) also.2
 
 module _ (settings : Settings) where
   based_one : (r : Result Disk TraceFault) (steps : List Step) (answer other : Answer) → ComesOfBase settings r steps answer → ComesOfBase settings r steps other → answer ≡ other
   based_one (Err fault) steps answer other is also = is ∙ sym also
-  based_one (Ok base) steps answer other is also = traced_one settings base (traced settings.module (begun base) steps) answer other is also
+  based_one (Ok base) steps answer other is also = traced_one settings base steps (traced settings.module (begun base) steps) answer other is also
 
   steps_answer_one : (base steps : List Step) (answer other : Answer) → ComesOfSteps settings base steps answer → ComesOfSteps settings base steps other → answer ≡ other
   steps_answer_one base steps answer other (inl is) (inl also) = is.1 ∙ sym also.1

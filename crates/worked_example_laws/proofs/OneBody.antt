@@ -13,10 +13,10 @@ use Rattle.patch_sets.proofs.Bits.{eq_or_not}
 use Rattle.patch_sets.proofs.Canonical.{one_list}
 use Rattle.patch_sets.proofs.Lists.{front_or_rest, in_front, in_rest, in_none}
 use Rattle.patch_sets.proofs.Writes.{one_runs}
-use Rattle.crash_model.specs.Answer.{IsBody, ordering_rules}
+use Rattle.crash_model.specs.Answer.{IsBody, detail_of, ordering_rules}
 use Rattle.crash_model.specs.Disk.{Disk}
-use Rattle.crash_model.specs.Failing.{IsFailing, ExceedsLimit}
-use Rattle.crash_model.specs.Faults.{faults}
+use Rattle.crash_model.specs.Failing.{ExceedsLimit}
+use Rattle.crash_model.specs.Strict.{faults_under, IsFailingUnder}
 use Rattle.crash_model.specs.Needs.{Without, RuleUsage, Unused, TooMany, Used, ToldRule, IsFirstNew, IsWithout, IsRuleUsage, AreToldRules}
 use Rattle.crash_model.specs.Patches.{deps_of, homes_of, image_of}
 use Rattle.crash_model.specs.Replay.{replayed}
@@ -29,6 +29,7 @@ use Rattle.crash_model.specs.declared.fault.Fault.{Fault}
 use Rattle.crash_model.specs.declared.fault.FaultRow.{FaultRow}
 use Rattle.crash_model.specs.declared.patches.Patch.{Patch}
 use Rattle.crash_model.specs.declared.rules.Rule.{Rule}
+use Rattle.crash_model.specs.declared.settings.Detail.{Detail}
 use Rattle.crash_model.specs.declared.settings.Settings.{Settings}
 use Rattle.crash_model.specs.declared.settings.ReportBy.{ReportBy}
 use Rattle.crash_model.specs.declared.settings.ReportBy.TheVariants.{BySet, ByFault, ByRule}
@@ -37,17 +38,17 @@ use Rattle.worked_example_laws.proofs.Sets.{order}
 
 -- ---- sections
 
-pub sections_one : (explain : Bool) (base : Disk) (patches : List Patch) (some : List ℕ) (sections others : List Section)
-    → AreSections explain base patches some sections → AreSections explain base patches some others → sections ≡ others
-sections_one explain base patches [] sections others are are_too = are ∙ sym are_too
-sections_one explain base patches (set ∷ some) sections others are are_too =
+pub sections_one : (detail : Detail) (base : Disk) (patches : List Patch) (some : List ℕ) (sections others : List Section)
+    → AreSections detail base patches some sections → AreSections detail base patches some others → sections ≡ others
+sections_one detail base patches [] sections others are are_too = are ∙ sym are_too
+sections_one detail base patches (set ∷ some) sections others are are_too =
     let writes : are.0 ≡ are_too.0 = one_runs (homes_of patches) set are.0 are_too.0 are.2 are_too.2 in
-    let rest : are.1 ≡ are_too.1 = sections_one explain base patches some are.1 are_too.1 are.3 are_too.3 in
+    let rest : are.1 ≡ are_too.1 = sections_one detail base patches some are.1 are_too.1 are.3 are_too.3 in
     are.4 ∙ ((λ i. record {
       set = set;
       writes = writes i;
-      replay = replay_of explain (image_of base patches set);
-      found = faults (replayed (image_of base patches set));
+      replay = replay_of detail.explain (image_of base patches set);
+      found = faults_under detail.kept (replayed (image_of base patches set));
     } ∷ rest i) ∙ sym are_too.4)
 
 -- ---- each fault once
@@ -153,12 +154,12 @@ same_told (t ∷ told) (o ∷ others) rows firsts =
     let rest : told ≡ others = same_told told others (tails rows) (tails firsts) in
     cc (front, rest)
 
-told_faults_one : (explain : Bool) (base : Disk) (patches : List Patch) (told others : List ToldFault)
-    → AreToldFaults explain base patches told → AreToldFaults explain base patches others → told ≡ others
-told_faults_one explain base patches told others is also =
-    let rows = rows_one (HasFault base patches) (map (λ t. t.row) told) (map (λ t. t.row) others) is.rows also.rows in
-    let firsts = subst (λ some. AreSections explain base patches some (map (λ t. t.first) told)) (same_firsts told others rows) is.firsts in
-    same_told told others rows (sections_one explain base patches (map (λ t. t.row.first) others) (map (λ t. t.first) told) (map (λ t. t.first) others) firsts also.firsts)
+told_faults_one : (detail : Detail) (base : Disk) (patches : List Patch) (told others : List ToldFault)
+    → AreToldFaults detail base patches told → AreToldFaults detail base patches others → told ≡ others
+told_faults_one detail base patches told others is also =
+    let rows = rows_one (HasFault detail.kept base patches) (map (λ t. t.row) told) (map (λ t. t.row) others) is.rows also.rows in
+    let firsts = subst (λ some. AreSections detail base patches some (map (λ t. t.first) told)) (same_firsts told others rows) is.firsts in
+    same_told told others rows (sections_one detail base patches (map (λ t. t.row.first) others) (map (λ t. t.first) told) (map (λ t. t.first) others) firsts also.firsts)
 
 -- ---- what there is without each rule
 
@@ -170,32 +171,32 @@ same_split C (f ∷ front) [] set more rest last e fronts none others un = absur
 same_split C (f ∷ front) (o ∷ other) set more rest last e fronts none others un =
     same_split C front other set more rest last (tails e) (All-tail C f front fronts) none (All-tail C o other others) un
 
-module _ (explain : Bool) (base : Disk) (patches changed : List Patch) where
+module _ (detail : Detail) (base : Disk) (patches changed : List Patch) where
   not_all : (sets front rest : List ℕ) (set : ℕ) → sets ≡ front ++ set ∷ rest → ¬ (IsClosed (deps_of patches) set) → All (IsClosed (deps_of patches)) sets → ⊥
   not_all sets front rest set e none all =
       none (All-contains (IsClosed (deps_of patches)) sets set all (subst (λ (some : List ℕ). Contains some set) (sym e) (Contains-append_right front (set ∷ rest) set (in_front set rest))))
 
-  first_new_one : (sets : List ℕ) (x y : Option Section) → IsFirstNew explain base patches changed sets x → IsFirstNew explain base patches changed sets y → x ≡ y
+  first_new_one : (sets : List ℕ) (x y : Option Section) → IsFirstNew detail base patches changed sets x → IsFirstNew detail base patches changed sets y → x ≡ y
   first_new_one sets None None is also = refl
   first_new_one sets None (Some b) is also = absurd (not_all sets also.0 also.2 also.1 also.3 also.5 is)
   first_new_one sets (Some a) None is also = absurd (not_all sets is.0 is.2 is.1 is.3 is.5 also)
   first_new_one sets (Some a) (Some b) is also =
       let same : is.1 ≡ also.1 = same_split (IsClosed (deps_of patches)) is.0 also.0 is.1 also.1 is.2 also.2 (sym is.3 ∙ also.3) is.4 is.5 also.4 also.5 in
-      ap Some (heads (sections_one explain base changed (also.1 ∷ []) (a ∷ []) (b ∷ []) (subst (λ (set : ℕ). AreSections explain base changed (set ∷ []) (a ∷ [])) same is.6) also.6))
+      ap Some (heads (sections_one detail base changed (also.1 ∷ []) (a ∷ []) (b ∷ []) (subst (λ (set : ℕ). AreSections detail base changed (set ∷ []) (a ∷ [])) same is.6) also.6))
 
-  without_one : (limit : ℕ) (w v : Without) → IsWithout explain limit base patches changed w → IsWithout explain limit base patches changed v → w ≡ v
+  without_one : (limit : ℕ) (w v : Without) → IsWithout detail limit base patches changed w → IsWithout detail limit base patches changed v → w ≡ v
   without_one limit w v is also =
       let closed : w.closed ≡ v.closed = one_number (IsClosed (deps_of changed)) w.closed v.closed is.counted also.counted in
-      let same : is.sets ≡ also.sets = one_list (IsFailing base changed) is.sets also.sets is.exactly also.exactly in
+      let same : is.sets ≡ also.sets = one_list (IsFailingUnder detail.kept base changed) is.sets also.sets is.exactly also.exactly in
       let failing : w.failing ≡ v.failing = is.number ∙ (ap (λ (some : List ℕ). length some) same ∙ sym also.number) in
-      let first : w.first ≡ v.first = first_new_one also.sets w.first v.first (subst (λ some. IsFirstNew explain base patches changed some w.first) same is.first) also.first in
+      let first : w.first ≡ v.first = first_new_one also.sets w.first v.first (subst (λ some. IsFirstNew detail base patches changed some w.first) same is.first) also.first in
       λ i. record { closed = closed i; failing = failing i; first = first i }
 
-module _ (explain : Bool) (limit : ℕ) (rules : List Rule) (base : Disk) (s : Tracing) (patches : List Patch) where
+module _ (detail : Detail) (limit : ℕ) (rules : List Rule) (base : Disk) (s : Tracing) (patches : List Patch) where
   none_or_one : (n m : ℕ) → n ≡ 0 → m ≡ n → 1 ≤ m → ⊥
   none_or_one n m none same one = omega arith
 
-  usage_one : (rule : Rule) (x y : RuleUsage) → IsRuleUsage explain limit rules base s patches rule x → IsRuleUsage explain limit rules base s patches rule y → x ≡ y
+  usage_one : (rule : Rule) (x y : RuleUsage) → IsRuleUsage detail limit rules base s patches rule x → IsRuleUsage detail limit rules base s patches rule y → x ≡ y
   usage_one rule Unused Unused is also = refl
   usage_one rule Unused (TooMany pairs) is also = absurd (none_or_one _ pairs is also.0 also.1)
   usage_one rule Unused (Used pairs w) is also = absurd (none_or_one _ pairs is also.0 also.1)
@@ -211,10 +212,10 @@ module _ (explain : Bool) (limit : ℕ) (rules : List Rule) (base : Disk) (s : T
   usage_one rule (Used pairs w) (Used more v) is also =
       let same : is.2.0 ≡ also.2.0 = graph_one (rules_in_first rules (rule ∷ [])) base s is.2.0 also.2.0 is.2.1 also.2.1 in
       let number : pairs ≡ more = is.0 ∙ sym also.0 in
-      let there : w ≡ v = without_one explain base patches also.2.0 limit w v (subst (λ ps. IsWithout explain limit base patches ps w) same is.2.2) also.2.2 in
+      let there : w ≡ v = without_one detail base patches also.2.0 limit w v (subst (λ ps. IsWithout detail limit base patches ps w) same is.2.2) also.2.2 in
       cc (number, there)
 
-  told_rules_one : (some : List Rule) (told others : List ToldRule) → AreToldRules explain limit rules base s patches some told → AreToldRules explain limit rules base s patches some others → told ≡ others
+  told_rules_one : (some : List Rule) (told others : List ToldRule) → AreToldRules detail limit rules base s patches some told → AreToldRules detail limit rules base s patches some others → told ≡ others
   told_rules_one [] told others is also = is ∙ sym also
   told_rules_one (rule ∷ some) told others is also =
       let usage : is.0 ≡ also.0 = usage_one rule is.0 also.0 is.2 also.2 in
@@ -232,15 +233,15 @@ set_or_rule by p q = cc
 fault_or_rule : (by : ReportBy) → by ≡ ByFault → by ≡ ByRule → ⊥
 fault_or_rule by p q = cc
 
-module _ (settings : Settings) (base : Disk) (last : Tracing) (patches : List Patch) (sets : List ℕ) where
-  pub body_one : (x y : Body) → IsBody settings base last patches sets x → IsBody settings base last patches sets y → x ≡ y
-  body_one (Sets xs) (Sets ys) is also = ap Sets (sections_one settings.explain base patches sets xs ys is.1 also.1)
+module _ (settings : Settings) (kept : Option ℕ) (base : Disk) (last : Tracing) (patches : List Patch) (sets : List ℕ) where
+  pub body_one : (x y : Body) → IsBody settings kept base last patches sets x → IsBody settings kept base last patches sets y → x ≡ y
+  body_one (Sets xs) (Sets ys) is also = ap Sets (sections_one (detail_of settings kept) base patches sets xs ys is.1 also.1)
   body_one (Sets xs) (Faults ys) is also = absurd (set_or_fault settings.by is.0 also.0)
   body_one (Sets xs) (Rules ys) is also = absurd (set_or_rule settings.by is.0 also.0)
   body_one (Faults xs) (Sets ys) is also = absurd (set_or_fault settings.by also.0 is.0)
-  body_one (Faults xs) (Faults ys) is also = ap Faults (told_faults_one settings.explain base patches xs ys is.1 also.1)
+  body_one (Faults xs) (Faults ys) is also = ap Faults (told_faults_one (detail_of settings kept) base patches xs ys is.1 also.1)
   body_one (Faults xs) (Rules ys) is also = absurd (fault_or_rule settings.by is.0 also.0)
   body_one (Rules xs) (Sets ys) is also = absurd (set_or_rule settings.by also.0 is.0)
   body_one (Rules xs) (Faults ys) is also = absurd (fault_or_rule settings.by also.0 is.0)
   body_one (Rules xs) (Rules ys) is also =
-      ap Rules (told_rules_one settings.explain settings.limit (ordering_rules settings) base last patches (ordering_rules settings) xs ys is.1 also.1)
+      ap Rules (told_rules_one (detail_of settings kept) settings.limit (ordering_rules settings) base last patches (ordering_rules settings) xs ys is.1 also.1)

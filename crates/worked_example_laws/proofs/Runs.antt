@@ -14,6 +14,7 @@ use Rattle.crash_model.specs.Disk.{Disk}
 use Rattle.crash_model.specs.Patches.{homes_of}
 use Rattle.crash_model.specs.Report.{AreSections}
 use Rattle.crash_model.specs.declared.patches.Patch.{Patch}
+use Rattle.crash_model.specs.declared.settings.Detail.{Detail}
 use Rattle.worked_example_laws.specs.Computed.{is_own, is_other, are_cut, are_runs, writes_of, section_of, have_runs}
 use Rattle.worked_example_laws.proofs.FailingSets.{all_if}
 
@@ -51,13 +52,13 @@ runs_if homes set writes e =
     let parts = and_parts (bytes_eq (flat_map (λ w. ids_of (length homes) w.ids) writes) (ids_of (length homes) set)) (are_cut homes writes) e in
     runs_from_cut homes set writes ((bytes_eq-Decides _ _).0 parts.0) (cut_if homes writes parts.1)
 
-pub sections_if : (explain : Bool) (base : Disk) (patches : List Patch) (some : List ℕ) → have_runs patches some ≡ true → AreSections explain base patches some (map (section_of explain base patches) some)
-sections_if explain base patches [] e = refl
-sections_if explain base patches (set ∷ some) e =
+pub sections_if : (detail : Detail) (base : Disk) (patches : List Patch) (some : List ℕ) → have_runs patches some ≡ true → AreSections detail base patches some (map (section_of detail base patches) some)
+sections_if detail base patches [] e = refl
+sections_if detail base patches (set ∷ some) e =
     let parts = and_parts (are_runs (homes_of patches) set (writes_of (homes_of patches) set)) (have_runs patches some) e in (
       writes_of (homes_of patches) set,
-      map (section_of explain base patches) some,
+      map (section_of detail base patches) some,
       runs_if (homes_of patches) set (writes_of (homes_of patches) set) parts.0,
-      sections_if explain base patches some parts.1,
+      sections_if detail base patches some parts.1,
       refl,
     )

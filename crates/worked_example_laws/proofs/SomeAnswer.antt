@@ -19,11 +19,12 @@ use Rattle.crash_model.specs.Script.{IsScript, IsScriptRefusal}
 use Rattle.crash_model.specs.declared.refusals.ScriptFault.{ScriptFault}
 use Rattle.crash_model.specs.declared.steps.Step.{Step}
 use Rattle.crash_model.proofs.Leading.{failing_closed, closed_are_left}
-use Rattle.worked_example_laws.specs.Computed.{closed_sets, graph_of}
+use Rattle.worked_example_laws.specs.Computed.{closed_sets, graph_of, kept_of}
 use Rattle.worked_example_laws.specs.Spelled.{is_geometry}
 use Rattle.worked_example_laws.proofs.Answering.{geometry_if, no_geometry}
 use Rattle.worked_example_laws.proofs.FailingSets.{counts_closed}
 use Rattle.worked_example_laws.proofs.Graphs.{graph_is}
+use Rattle.worked_example_laws.proofs.Keeping.{is_told_kept}
 use Rattle.worked_example_laws.proofs.SomeBody.{some_body, some_failing, not_above}
 use Rattle.worked_example_laws.proofs.SomeReading.{some_reading}
 
@@ -44,9 +45,10 @@ module _ (settings : Settings) (bytes : List ℕ) where
                 (all.0, record { distinct = all.1.distinct; each = all.1.each }, subst (λ (n : ℕ). settings.limit < n) (sym all.2) (ltb-true settings.limit (length (closed_sets (deps_of patches))) e)),
           )
       by_limit false e =
-          let failing = some_failing base patches before in
-          let closed = failing_closed base patches failing.0 failing.1 in
-          let body = some_body settings base last patches before failing.0 failing.1 failing.2 in
+          let kept = kept_of settings.strict base has.steps in
+          let failing = some_failing kept base patches before in
+          let closed = failing_closed kept base patches failing.0 failing.1 in
+          let body = some_body settings kept base last patches before failing.0 failing.1 failing.2 in
           let told : Report = record {
             patches = length patches;
             closed = length (closed_sets (deps_of patches));
@@ -55,7 +57,7 @@ module _ (settings : Settings) (bytes : List ℕ) where
             body = body.0;
           } in (
             Reported (report settings told) (length failing.0),
-            reported base last patches (report settings told) (length failing.0) has (record {
+            reported kept base last patches (report settings told) (length failing.0) has (is_told_kept settings.strict base has.steps) (record {
               total = length (closed_sets (deps_of patches));
               counted = counts_closed patches (length (closed_sets (deps_of patches))) before refl;
               within = not_above settings.limit (length (closed_sets (deps_of patches))) e;

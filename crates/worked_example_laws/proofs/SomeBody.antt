@@ -16,10 +16,10 @@ use Rattle.patch_sets.specs.Sets.{IsBefore, AreAllInOrder}
 use Rattle.patch_sets.proofs.Bits.{eq_or_not}
 use Rattle.patch_sets.proofs.Canonical.{before_trans, before_self}
 use Rattle.patch_sets.proofs.Lists.{front_or_rest, in_front, in_rest, in_none}
-use Rattle.crash_model.specs.Answer.{IsBody, ordering_rules}
+use Rattle.crash_model.specs.Answer.{IsBody, detail_of, ordering_rules}
 use Rattle.crash_model.specs.Disk.{Disk}
-use Rattle.crash_model.specs.Failing.{IsFailing, ExceedsLimit}
-use Rattle.crash_model.specs.Faults.{faults}
+use Rattle.crash_model.specs.Failing.{ExceedsLimit}
+use Rattle.crash_model.specs.Strict.{faults_under, IsFailingUnder}
 use Rattle.crash_model.specs.Needs.{pairs_of, Without, RuleUsage, Unused, TooMany, Used, ToldRule, IsFirstNew, IsWithout, IsRuleUsage, AreToldRules}
 use Rattle.crash_model.specs.Patches.{deps_of, image_of}
 use Rattle.crash_model.specs.Replay.{replayed}
@@ -33,13 +33,14 @@ use Rattle.crash_model.specs.declared.fault.Fault.TheVariants.{Dangling, Twice, 
 use Rattle.crash_model.specs.declared.fault.FaultRow.{FaultRow}
 use Rattle.crash_model.specs.declared.patches.Patch.{Patch}
 use Rattle.crash_model.specs.declared.rules.Rule.{Rule}
+use Rattle.crash_model.specs.declared.settings.Detail.{Detail}
 use Rattle.crash_model.specs.declared.settings.Settings.{Settings}
 use Rattle.crash_model.specs.declared.settings.ReportBy.{ReportBy}
 use Rattle.crash_model.specs.declared.settings.ReportBy.TheVariants.{BySet, ByFault, ByRule}
 use Rattle.crash_model.proofs.Leading.{failing_closed, sections_lead}
-use Rattle.worked_example_laws.specs.Computed.{closed_sets, failing_sets, fails, graph_of}
+use Rattle.worked_example_laws.specs.Computed.{closed_sets, failing_under, fails_under, graph_of}
 use Rattle.worked_example_laws.proofs.ClosedSets.{closed_are_all, apart_filter, from_filter, to_filter}
-use Rattle.worked_example_laws.proofs.FailingSets.{counts_closed, failing_at, in_failing, list_of}
+use Rattle.worked_example_laws.proofs.FailingSets.{counts_closed, under_at, in_under, list_of}
 use Rattle.worked_example_laws.proofs.Graphs.{graph_is, earlier}
 use Rattle.worked_example_laws.proofs.Sets.{Ascends, sorted, ascending_pairs, apart_from_ascends, ascends_filter}
 use Rattle.worked_example_laws.proofs.SomeSections.{some_sections, some_section}
@@ -49,13 +50,14 @@ use Rattle.worked_example_laws.proofs.SomeSections.{some_sections, some_section}
 pub not_above : (limit n : ℕ) → nat_lt limit n ≡ false → n ≤ limit
 not_above limit n e = grind (arith, nat_tests)
 
-pub some_failing : (base : Disk) (patches : List Patch) → AreEarlier (deps_of patches) → (sets : List ℕ) × AreAllInOrder (IsFailing base patches) sets × Ascends sets
-some_failing base patches before =
-    let ordered = sorted (failing_sets base patches) (apart_filter (fails base patches) (closed_sets (deps_of patches)) (closed_are_all (deps_of patches) before).apart) in (
+pub some_failing : (kept : Option ℕ) (base : Disk) (patches : List Patch) → AreEarlier (deps_of patches)
+    → (sets : List ℕ) × AreAllInOrder (IsFailingUnder kept base patches) sets × Ascends sets
+some_failing kept base patches before =
+    let ordered = sorted (failing_under kept base patches) (apart_filter (fails_under kept base patches) (closed_sets (deps_of patches)) (closed_are_all (deps_of patches) before).apart) in (
       ordered.0,
       record {
         ordered = ascending_pairs ordered.0 ordered.1.ascends;
-        exactly = λ set. ((λ is. failing_at base patches before set (ordered.1.from set is)), (λ failing. ordered.1.to set (in_failing base patches before set failing)));
+        exactly = λ set. ((λ is. under_at kept base patches before set (ordered.1.from set is)), (λ failing. ordered.1.to set (in_under kept base patches before set failing)));
       },
       ordered.1.ascends,
     )
@@ -258,22 +260,22 @@ head_of (x ∷ xs) w is = (x, xs, refl)
 
 -- ---- each fault once
 
-module _ (explain : Bool) (base : Disk) (patches : List Patch) (before : AreEarlier (deps_of patches)) (sets : List ℕ) (exactly : AreAllInOrder (IsFailing base patches) sets) (up : Ascends sets) where
+module _ (detail : Detail) (base : Disk) (patches : List Patch) (before : AreEarlier (deps_of patches)) (sets : List ℕ) (exactly : AreAllInOrder (IsFailingUnder detail.kept base patches) sets) (up : Ascends sets) where
   abbrev found : ℕ → List Fault
-  found set = faults (replayed (image_of base patches set))
+  found set = faults_under detail.kept (replayed (image_of base patches set))
 
   abbrev with_fault : Fault → List ℕ
   with_fault f = filter (λ set. has_fault f (found set)) sets
 
-  has_at : (f : Fault) (set : ℕ) → Contains (with_fault f) set → HasFault base patches f set
+  has_at : (f : Fault) (set : ℕ) → Contains (with_fault f) set → HasFault detail.kept base patches f set
   has_at f set is =
       let it = from_filter (λ s. has_fault f (found s)) sets set is in
       record { failing = (exactly.exactly set).0 it.0; found = any_from f (found set) it.1 }
 
-  at_has : (f : Fault) (set : ℕ) → HasFault base patches f set → Contains (with_fault f) set
+  at_has : (f : Fault) (set : ℕ) → HasFault detail.kept base patches f set → Contains (with_fault f) set
   at_has f set has = to_filter (λ s. has_fault f (found s)) sets set ((exactly.exactly set).1 has.failing) (any_to f (found set) has.found)
 
-  is_first : (f : Fault) (x : ℕ) (rest : List ℕ) → with_fault f ≡ x ∷ rest → IsFirst (HasFault base patches f) x
+  is_first : (f : Fault) (x : ℕ) (rest : List ℕ) → with_fault f ≡ x ∷ rest → IsFirst (HasFault detail.kept base patches f) x
   is_first f x rest e = record {
     among = has_at f x (subst (λ (some : List ℕ). Contains some x) (sym e) (in_front x rest));
     first = λ other has behind. not_before other (front_or_rest x rest other (subst (λ (some : List ℕ). Contains some other) e (at_has f other has))) behind;
@@ -289,18 +291,18 @@ module _ (explain : Bool) (base : Disk) (patches : List Patch) (before : AreEarl
   -- what is told of a fault
   record Tells (f : Fault) (t : ToldFault) : Type 0 where
     fault : t.row.fault ≡ f
-    row : IsRow (HasFault base patches) t.row
+    row : IsRow (HasFault detail.kept base patches) t.row
     closed : IsClosed (deps_of patches) t.row.first
-    first : AreSections explain base patches (t.row.first ∷ []) (t.first ∷ [])
+    first : AreSections detail base patches (t.row.first ∷ []) (t.first ∷ [])
 
   tell : (f : Fault) → Contains (all_of found sets) f → (t : ToldFault) × Tells f t
   tell f is =
       let there = from_all found sets f is in
       let head = head_of (with_fault f) there.0 (to_filter (λ s. has_fault f (found s)) sets there.0 there.1 (any_to f (found there.0) there.2)) in
       let first = is_first f head.0 head.1 head.2 in
-      let section = some_section explain base patches head.0 in
+      let section = some_section detail base patches head.0 in
       let row : FaultRow = record { fault = f; sets = length (with_fault f); first = head.0 } in
-      let number : HoldsOf (HasFault base patches f) (length (with_fault f)) = (with_fault f, list_of (HasFault base patches f) (with_fault f) (apart_from_ascends (with_fault f) (ascends_filter (λ s. has_fault f (found s)) sets up)) (has_at f) (at_has f), refl) in (
+      let number : HoldsOf (HasFault detail.kept base patches f) (length (with_fault f)) = (with_fault f, list_of (HasFault detail.kept base patches f) (with_fault f) (apart_from_ascends (with_fault f) (ascends_filter (λ s. has_fault f (found s)) sets up)) (has_at f) (at_has f), refl) in (
         record { row = row; first = section.0 },
         record { fault = refl; row = record { number = number; first = first }; closed = first.among.failing.closed; first = section.1 },
       )
@@ -308,20 +310,20 @@ module _ (explain : Bool) (base : Disk) (patches : List Patch) (before : AreEarl
   -- what is told of faults, one after another
   record TellsAll (fs : List Fault) (told : List ToldFault) : Type 0 where
     faults : faults_of (map (λ t. t.row) told) ≡ fs
-    each : All (IsRow (HasFault base patches)) (map (λ t. t.row) told)
-    firsts : AreSections explain base patches (map (λ t. t.row.first) told) (map (λ t. t.first) told)
+    each : All (IsRow (HasFault detail.kept base patches)) (map (λ t. t.row) told)
+    firsts : AreSections detail base patches (map (λ t. t.row.first) told) (map (λ t. t.first) told)
     led : All (λ t. IsLed patches t.first) told
 
   tell_all : (fs : List Fault) → ((z : Fault) → Contains fs z → Contains (all_of found sets) z) → (told : List ToldFault) × TellsAll fs told
-  tell_all [] from = ([], record { faults = refl; each = All-nil (IsRow (HasFault base patches)); firsts = refl; led = All-nil (λ t. IsLed patches t.first) })
+  tell_all [] from = ([], record { faults = refl; each = All-nil (IsRow (HasFault detail.kept base patches)); firsts = refl; led = All-nil (λ t. IsLed patches t.first) })
   tell_all (f ∷ fs) from =
       let one = tell f (from f (in_front f fs)) in
       let rest = tell_all fs (λ z is. from z (in_rest f fs z is)) in
-      let led = sections_lead base patches before explain (one.0.row.first ∷ []) (one.0.first ∷ []) (All-cons (IsClosed (deps_of patches)) one.0.row.first [] one.1.closed (All-nil (IsClosed (deps_of patches)))) one.1.first in (
+      let led = sections_lead base patches before detail (one.0.row.first ∷ []) (one.0.first ∷ []) (All-cons (IsClosed (deps_of patches)) one.0.row.first [] one.1.closed (All-nil (IsClosed (deps_of patches)))) one.1.first in (
         one.0 ∷ rest.0,
         record {
           faults = front one.1.fault rest.1.faults;
-          each = All-cons (IsRow (HasFault base patches)) one.0.row (map (λ t. t.row) rest.0) one.1.row rest.1.each;
+          each = All-cons (IsRow (HasFault detail.kept base patches)) one.0.row (map (λ t. t.row) rest.0) one.1.row rest.1.each;
           firsts = (one.1.first.0, map (λ t. t.first) rest.0, one.1.first.2, rest.1.firsts, head_is one.0.first (map (λ t. t.first) rest.0) one.1.first);
           led = All-cons (λ t. IsLed patches t.first) one.0 rest.0 (All-head (IsLed patches) one.0.first [] led) rest.1.led;
         },
@@ -334,11 +336,11 @@ module _ (explain : Bool) (base : Disk) (patches : List Patch) (before : AreEarl
       heads e = cc
 
       -- the section of one set, before others
-      head_is : {set : ℕ} (section : Section) (others : List Section) → (one : AreSections explain base patches (set ∷ []) (section ∷ []))
-          → section ∷ others ≡ record { set = set; writes = one.0; replay = replay_of explain (image_of base patches set); found = faults (replayed (image_of base patches set)) } ∷ others
+      head_is : {set : ℕ} (section : Section) (others : List Section) → (one : AreSections detail base patches (set ∷ []) (section ∷ []))
+          → section ∷ others ≡ record { set = set; writes = one.0; replay = replay_of detail.explain (image_of base patches set); found = faults_under detail.kept (replayed (image_of base patches set)) } ∷ others
       head_is section others one = ap (λ (s : Section). s ∷ others) (heads one.4)
 
-  told_faults : (told : List ToldFault) × AreToldFaults explain base patches told × All (λ t. IsLed patches t.first) told
+  told_faults : (told : List ToldFault) × AreToldFaults detail base patches told × All (λ t. IsLed patches t.first) told
   told_faults =
       let all = gather (all_of found sets) in
       let it = tell_all all.0 all.1.from in (
@@ -372,30 +374,30 @@ closed_or_not patches before set = by (in_or_not (closed_sets (deps_of patches))
     by (inl is) = inl ((closed_are_all (deps_of patches) before).each set is)
     by (inr none) = inr (λ closed. none ((closed_are_all (deps_of patches) before).every set closed))
 
-module _ (explain : Bool) (base : Disk) (patches : List Patch) (before : AreEarlier (deps_of patches)) where
+module _ (detail : Detail) (base : Disk) (patches : List Patch) (before : AreEarlier (deps_of patches)) where
   module _ (changed : List Patch) (first : AreEarlier (deps_of changed)) where
-    first_new : (sets : List ℕ) → All (IsClosed (deps_of changed)) sets → (x : Option Section) × IsFirstNew explain base patches changed sets x
+    first_new : (sets : List ℕ) → All (IsClosed (deps_of changed)) sets → (x : Option Section) × IsFirstNew detail base patches changed sets x
     first_new [] closed = (None, All-nil (IsClosed (deps_of patches)))
     first_new (set ∷ sets) closed = by (closed_or_not patches before set) (first_new sets (All-tail (IsClosed (deps_of changed)) set sets closed))
       where
-        further : IsClosed (deps_of patches) set → (x : Option Section) → IsFirstNew explain base patches changed sets x → IsFirstNew explain base patches changed (set ∷ sets) x
+        further : IsClosed (deps_of patches) set → (x : Option Section) → IsFirstNew detail base patches changed sets x → IsFirstNew detail base patches changed (set ∷ sets) x
         further is None all = All-cons (IsClosed (deps_of patches)) set sets is all
         further is (Some section) (front, new, rest, split, all, none, told, led) =
             (set ∷ front, new, rest, ap (λ (some : List ℕ). set ∷ some) split, All-cons (IsClosed (deps_of patches)) set front is all, none, told, led)
 
-        by : IsClosed (deps_of patches) set ⊎ (¬ (IsClosed (deps_of patches) set)) → (x : Option Section) × IsFirstNew explain base patches changed sets x
-            → (x : Option Section) × IsFirstNew explain base patches changed (set ∷ sets) x
+        by : IsClosed (deps_of patches) set ⊎ (¬ (IsClosed (deps_of patches) set)) → (x : Option Section) × IsFirstNew detail base patches changed sets x
+            → (x : Option Section) × IsFirstNew detail base patches changed (set ∷ sets) x
         by (inl is) rest = (rest.0, further is rest.0 rest.1)
         by (inr none) rest =
-            let section = some_section explain base changed set in
-            let led = sections_lead base changed first explain (set ∷ []) (section.0 ∷ [])
+            let section = some_section detail base changed set in
+            let led = sections_lead base changed first detail (set ∷ []) (section.0 ∷ [])
             (All-cons (IsClosed (deps_of changed)) set [] (All-head (IsClosed (deps_of changed)) set sets closed) (All-nil (IsClosed (deps_of changed)))) section.1 in
             (Some section.0, ([], set, sets, refl, All-nil (IsClosed (deps_of patches)), none, section.1, All-head (IsLed changed) section.0 [] led))
 
-    some_without : (limit : ℕ) → nat_lt limit (length (closed_sets (deps_of changed))) ≡ false → (w : Without) × IsWithout explain limit base patches changed w
+    some_without : (limit : ℕ) → nat_lt limit (length (closed_sets (deps_of changed))) ≡ false → (w : Without) × IsWithout detail limit base patches changed w
     some_without limit e =
-        let failing = some_failing base changed first in
-        let new = first_new failing.0 (failing_closed base changed failing.0 failing.1) in (
+        let failing = some_failing detail.kept base changed first in
+        let new = first_new failing.0 (failing_closed detail.kept base changed failing.0 failing.1) in (
           record { closed = length (closed_sets (deps_of changed)); failing = length failing.0; first = new.0 },
           record {
             counted = counts_closed changed (length (closed_sets (deps_of changed))) first refl;
@@ -413,25 +415,25 @@ module _ (explain : Bool) (base : Disk) (patches : List Patch) (before : AreEarl
         (all.0, record { distinct = all.1.distinct; each = all.1.each }, subst (λ (n : ℕ). limit < n) (sym all.2) (ltb-true limit (length (closed_sets (deps_of changed))) e))
 
   module _ (limit : ℕ) (rules : List Rule) (s : Tracing) where
-    some_usage : (rule : Rule) → (usage : RuleUsage) × IsRuleUsage explain limit rules base s patches rule usage
+    some_usage : (rule : Rule) → (usage : RuleUsage) × IsRuleUsage detail limit rules base s patches rule usage
     some_usage rule = by_pairs (pairs_of rule s.emitted) refl
       where
         others : List Rule
         others = rules_in_first rules (rule ∷ [])
 
         by_limit : (b : Bool) → nat_lt limit (length (closed_sets (deps_of (graph_of others base s)))) ≡ b → 1 ≤ pairs_of rule s.emitted
-            → (usage : RuleUsage) × IsRuleUsage explain limit rules base s patches rule usage
+            → (usage : RuleUsage) × IsRuleUsage detail limit rules base s patches rule usage
         by_limit true e one =
             (TooMany (pairs_of rule s.emitted), (refl, one, (graph_of others base s, graph_is others base s, exceeds (graph_of others base s) (earlier others base s) limit e)))
         by_limit false e one =
             let w = some_without (graph_of others base s) (earlier others base s) limit e in
             (Used (pairs_of rule s.emitted) w.0, (refl, one, (graph_of others base s, graph_is others base s, w.1)))
 
-        by_pairs : (n : ℕ) → pairs_of rule s.emitted ≡ n → (usage : RuleUsage) × IsRuleUsage explain limit rules base s patches rule usage
+        by_pairs : (n : ℕ) → pairs_of rule s.emitted ≡ n → (usage : RuleUsage) × IsRuleUsage detail limit rules base s patches rule usage
         by_pairs zero e = (Unused, e)
         by_pairs (suc n) e = by_limit (nat_lt limit (length (closed_sets (deps_of (graph_of others base s))))) refl (omega (arith, e))
 
-    told_rules : (some : List Rule) → (told : List ToldRule) × AreToldRules explain limit rules base s patches some told
+    told_rules : (some : List Rule) → (told : List ToldRule) × AreToldRules detail limit rules base s patches some told
     told_rules [] = ([], refl)
     told_rules (rule ∷ some) =
         let usage = some_usage rule in
@@ -440,17 +442,17 @@ module _ (explain : Bool) (base : Disk) (patches : List Patch) (before : AreEarl
 
 -- ---- the body
 
-module _ (settings : Settings) (base : Disk) (last : Tracing) (patches : List Patch) (before : AreEarlier (deps_of patches)) where
-  pub some_body : (sets : List ℕ) → AreAllInOrder (IsFailing base patches) sets → Ascends sets → (body : Body) × IsBody settings base last patches sets body
+module _ (settings : Settings) (kept : Option ℕ) (base : Disk) (last : Tracing) (patches : List Patch) (before : AreEarlier (deps_of patches)) where
+  pub some_body : (sets : List ℕ) → AreAllInOrder (IsFailingUnder kept base patches) sets → Ascends sets → (body : Body) × IsBody settings kept base last patches sets body
   some_body sets exactly up = by_kind settings.by refl
     where
-      by_kind : (kind : ReportBy) → settings.by ≡ kind → (body : Body) × IsBody settings base last patches sets body
+      by_kind : (kind : ReportBy) → settings.by ≡ kind → (body : Body) × IsBody settings kept base last patches sets body
       by_kind BySet e =
-          let sections = some_sections settings.explain base patches sets in
-          (Sets sections.0, (e, sections.1, sections_lead base patches before settings.explain sets sections.0 (failing_closed base patches sets exactly) sections.1))
+          let sections = some_sections (detail_of settings kept) base patches sets in
+          (Sets sections.0, (e, sections.1, sections_lead base patches before (detail_of settings kept) sets sections.0 (failing_closed kept base patches sets exactly) sections.1))
       by_kind ByFault e =
-          let told = told_faults settings.explain base patches before sets exactly up in
+          let told = told_faults (detail_of settings kept) base patches before sets exactly up in
           (Faults told.0, (e, told.1, told.2))
       by_kind ByRule e =
-          let told = told_rules settings.explain base patches before settings.limit (ordering_rules settings) last (ordering_rules settings) in
+          let told = told_rules (detail_of settings kept) base patches before settings.limit (ordering_rules settings) last (ordering_rules settings) in
           (Rules told.0, (e, told.1))

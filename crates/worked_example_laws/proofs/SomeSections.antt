@@ -8,11 +8,12 @@ use Rattle.patch_sets.specs.declared.write.BlockWrite.{BlockWrite}
 use Rattle.patch_sets.proofs.Bits.{eq_or_not}
 use Rattle.patch_sets.proofs.Writes.{AreCutTo, cut_none, cut_skip, cut_alone, cut_joined, runs_from_cut}
 use Rattle.crash_model.specs.Disk.{Disk}
-use Rattle.crash_model.specs.Faults.{faults}
+use Rattle.crash_model.specs.Strict.{faults_under}
 use Rattle.crash_model.specs.Patches.{homes_of, image_of}
 use Rattle.crash_model.specs.Replay.{replayed}
 use Rattle.crash_model.specs.Report.{Section, AreSections, replay_of}
 use Rattle.crash_model.specs.declared.patches.Patch.{Patch}
+use Rattle.crash_model.specs.declared.settings.Detail.{Detail}
 
 last_of : (ws : List BlockWrite) → (ws ≡ []) ⊎ ((front : List BlockWrite) × (last : BlockWrite) × (ws ≡ front ++ last ∷ []))
 last_of [] = inl refl
@@ -76,26 +77,26 @@ module _ (homes : List ℕ) (set : ℕ) where
   some_writes : (writes : List BlockWrite) × AreRuns homes set writes
   some_writes = let it = cut_to (length homes) (omega arith) in (it.0, runs_from_cut homes set it.0 it.1.in_order it.1.cut)
 
-pub some_sections : (explain : Bool) (base : Disk) (patches : List Patch) (some : List ℕ) → (sections : List Section) × AreSections explain base patches some sections
-some_sections explain base patches [] = ([], refl)
-some_sections explain base patches (set ∷ some) =
+pub some_sections : (detail : Detail) (base : Disk) (patches : List Patch) (some : List ℕ) → (sections : List Section) × AreSections detail base patches some sections
+some_sections detail base patches [] = ([], refl)
+some_sections detail base patches (set ∷ some) =
     let writes = some_writes (homes_of patches) set in
-    let rest = some_sections explain base patches some in
+    let rest = some_sections detail base patches some in
     let section : Section = record {
       set = set;
       writes = writes.0;
-      replay = replay_of explain (image_of base patches set);
-      found = faults (replayed (image_of base patches set));
+      replay = replay_of detail.explain (image_of base patches set);
+      found = faults_under detail.kept (replayed (image_of base patches set));
     } in
     (section ∷ rest.0, (writes.0, rest.0, writes.1, rest.1, refl))
 
-pub some_section : (explain : Bool) (base : Disk) (patches : List Patch) (set : ℕ) → (section : Section) × AreSections explain base patches (set ∷ []) (section ∷ [])
-some_section explain base patches set =
+pub some_section : (detail : Detail) (base : Disk) (patches : List Patch) (set : ℕ) → (section : Section) × AreSections detail base patches (set ∷ []) (section ∷ [])
+some_section detail base patches set =
     let writes = some_writes (homes_of patches) set in
     let section : Section = record {
       set = set;
       writes = writes.0;
-      replay = replay_of explain (image_of base patches set);
-      found = faults (replayed (image_of base patches set));
+      replay = replay_of detail.explain (image_of base patches set);
+      found = faults_under detail.kept (replayed (image_of base patches set));
     } in
     (section, (writes.0, [], writes.1, refl, refl))

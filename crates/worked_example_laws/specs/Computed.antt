@@ -8,6 +8,7 @@ use Rattle.patch_sets.specs.Closed.{IsClosed}
 use Rattle.crash_model.specs.Failing.{IsFailing, CountsClosed}
 use Rattle.patch_sets.specs.declared.write.BlockWrite.{BlockWrite}
 use Rattle.crash_model.specs.Report.{replay_of, Section}
+use Rattle.crash_model.specs.Strict.{faults_under, stays_live}
 use Rattle.crash_model.specs.Disk.{Disk, byte, put}
 use Rattle.crash_model.specs.Layout.{kind_of, links_of, pointer_of, map_of, is_live, counts, is_entry}
 use Rattle.crash_model.specs.Patches.{deps_of, homes_of, image_of}
@@ -17,6 +18,7 @@ use Rattle.crash_model.specs.Rules.{rules_of}
 use Rattle.crash_model.specs.Trace.{Emitted, Tracing, begun, traced, depends, IsGraphOf}
 use Rattle.crash_model.specs.declared.fault.Fault.{Fault}
 use Rattle.crash_model.specs.declared.patches.Patch.{Patch}
+use Rattle.crash_model.specs.declared.settings.Detail.{Detail}
 use Rattle.crash_model.specs.declared.refusals.TraceFault.{TraceFault}
 use Rattle.crash_model.specs.declared.rules.Rule.{Rule}
 use Rattle.crash_model.specs.declared.steps.Module.{Module}
@@ -69,6 +71,18 @@ fails base patches set = not (is_none_found (faults (replayed (image_of base pat
 
 abbrev pub failing_sets : Disk → List Patch → List ℕ
 failing_sets base patches = filter (fails base patches) (closed_sets (deps_of patches))
+
+-- the same where the script keeps a set of inodes or nothing is asked of that
+abbrev pub fails_under : Option ℕ → Disk → List Patch → ℕ → Bool
+fails_under kept base patches set = not (is_none_found (faults_under kept (replayed (image_of base patches set))))
+
+abbrev pub failing_under : Option ℕ → Disk → List Patch → List ℕ
+failing_under kept base patches = filter (fails_under kept base patches) (closed_sets (deps_of patches))
+
+-- what a checker is told of the inodes that a script keeps
+abbrev pub kept_of : Bool → Disk → List Step → Option ℕ
+kept_of false base steps = None
+kept_of true base steps = Some (set_below 16 (stays_live base steps))
 
 -- the ids of a set below 2 ^ n are so many
 abbrev pub ones_below : ℕ → ℕ → ℕ
@@ -209,12 +223,12 @@ are_cut homes (w ∷ writes) = is_own homes w && (is_other w.block writes && are
 abbrev pub are_runs : List ℕ → ℕ → List BlockWrite → Bool
 are_runs homes set writes = bytes_eq (flat_map (λ w. ids_of (length homes) w.ids) writes) (ids_of (length homes) set) && are_cut homes writes
 
-abbrev pub section_of : Bool → Disk → List Patch → ℕ → Section
-section_of explain base patches set = record {
+abbrev pub section_of : Detail → Disk → List Patch → ℕ → Section
+section_of detail base patches set = record {
   set = set;
   writes = writes_of (homes_of patches) set;
-  replay = replay_of explain (image_of base patches set);
-  found = faults (replayed (image_of base patches set));
+  replay = replay_of detail.explain (image_of base patches set);
+  found = faults_under detail.kept (replayed (image_of base patches set));
 }
 
 abbrev pub have_runs : List Patch → List ℕ → Bool

@@ -13,7 +13,7 @@ use Rattle.crash_model.specs.declared.settings.Explorer.TheVariants.{Auto}
 use Rattle.crash_model.specs.declared.settings.ReportBy.TheVariants.{BySet}
 use Rattle.crash_model.specs.declared.steps.Module.{Module}
 use Rattle.crash_model.specs.declared.steps.Step.{Step}
-use Rattle.worked_example_laws.specs.Computed.{closed_sets, failing_sets, are_in_order, graph_of, trace_of, is_accepted, have_runs}
+use Rattle.worked_example_laws.specs.Computed.{closed_sets, failing_under, kept_of, are_in_order, graph_of, trace_of, is_accepted, have_runs}
 use Rattle.worked_example_laws.specs.Examples.{numbered}
 use Rattle.crash_model.specs.Names.{is_name_byte, is_group_byte}
 use Rattle.crash_model.specs.Script.{spelt, words_of}
@@ -92,7 +92,7 @@ is_told settings before behind closed failing =
     && (is_based (based (formatted settings.blocks settings.journal) (numbered 1 before))
     && (is_accepted (traced settings.module (begun base) (traced_acts before behind))
     && ((length (closed_sets (deps_of patches)) == closed)
-    && (are_in_order (length (deps_of patches)) failing (failing_sets base patches)
+    && (are_in_order (length (deps_of patches)) failing (failing_under (kept_of settings.strict base (traced_acts before behind)) base patches)
     && (nat_le closed settings.limit && have_runs patches failing)))))))
 
 -- the settings of a module's own ordering, whose report tells each failing set
@@ -107,5 +107,6 @@ settings_of kind blocks journal limit json = record {
   explorer = Auto;
   json = json;
   explain = false;
+  strict = false;
   by = BySet;
 }

@@ -1,11 +1,12 @@
 //! What the definitions determine: there is an answer for every script and settings, and only one.
 
-ghost use Rattle.std.specs.Prelude.{◌≡◌, ◌⊎◌, ℕ, List};
+ghost use Rattle.std.specs.Prelude.{◌≡◌, ◌⊎◌, ℕ, List, Option, Bool};
 ghost use Rattle.patch_sets.specs.Sets.{AreAllInOrder};
 ghost use Rattle.crash_model.specs.Answer.{Answer, IsAnswer};
 ghost use Rattle.crash_model.specs.Disk.{Disk};
 ghost use Rattle.crash_model.specs.Failing.{CountsClosed, IsFailing};
 ghost use Rattle.crash_model.specs.Script.{IsScript, IsScriptRefusal};
+ghost use Rattle.crash_model.specs.Strict.{IsToldKept, IsFailingUnder};
 ghost use Rattle.crash_model.specs.Trace.{Tracing, IsGraphOf};
 ghost use Rattle.crash_model.specs.declared.patches.Patch.{Patch};
 ghost use Rattle.crash_model.specs.declared.refusals.ScriptFault.{ScriptFault};
@@ -41,9 +42,20 @@ pub fn a_trace_has_one_graph()
         → IsGraphOf rules base last patches → IsGraphOf rules base last others → patches ≡ others }
 {}
 
+/// What a checker is told of the inodes that a script keeps is determined.
+pub fn what_is_kept_is_determined()
+    ensures some { (strict : Bool) (base : Disk) (steps : List Step) → (kept : Option ℕ)
+        × IsToldKept strict base steps kept }
+    ensures one { (strict : Bool) (base : Disk) (steps : List Step) (kept other : Option ℕ)
+        → IsToldKept strict base steps kept → IsToldKept strict base steps other → kept ≡ other }
+{}
+
 /// The number of closed sets and the list of those that fail are determined.
 pub fn a_graph_has_one_list_of_failing_sets()
     ensures number { (patches : List Patch) (n m : ℕ) → CountsClosed patches n → CountsClosed patches m → n ≡ m }
     ensures list { (base : Disk) (patches : List Patch) (sets others : List ℕ)
         → AreAllInOrder (IsFailing base patches) sets → AreAllInOrder (IsFailing base patches) others → sets ≡ others }
+    ensures under { (kept : Option ℕ) (base : Disk) (patches : List Patch) (sets others : List ℕ)
+        → AreAllInOrder (IsFailingUnder kept base patches) sets
+        → AreAllInOrder (IsFailingUnder kept base patches) others → sets ≡ others }
 {}
