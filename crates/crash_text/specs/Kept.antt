@@ -1,10 +1,11 @@
 -- What is found of the sets that a crash can leave.
-use Rattle.std.specs.Prelude.{◌≡◌, ℕ, ◌≤◌, List, length}
+use Rattle.std.specs.Prelude.{◌≡◌, ℕ, ◌≤◌, List, length, Option}
 use Rattle.patch_sets.specs.Closed.{IsClosed}
 use Rattle.patch_sets.specs.Sets.{AreAllInOrder}
 use Rattle.crash_model.specs.Disk.{Disk}
-use Rattle.crash_model.specs.Failing.{IsFailing, CountsClosed}
+use Rattle.crash_model.specs.Failing.{CountsClosed}
 use Rattle.crash_model.specs.Patches.{deps_of}
+use Rattle.crash_model.specs.Strict.{IsFailingUnder}
 use Rattle.crash_model.specs.Summary.{HasFault, AreRows}
 use Rattle.crash_model.specs.declared.patches.Patch.{Patch}
 use Rattle.crash_model.specs.declared.settings.Settings.{Settings}
@@ -16,28 +17,28 @@ use Rattle.crash_text.specs.declared.finding.Kept.{Kept}
 use Rattle.crash_text.specs.declared.finding.Kept.TheVariants.{Sets, Faults, Number}
 
 -- so many sets can a crash leave, at most the limit, and so many of them fail, which are these
-pub record AreTotals (limit : ℕ) (base : Disk) (patches : List Patch) (closed failing : ℕ) (sets : List ℕ)
+pub record AreTotals (limit : ℕ) (kept : Option ℕ) (base : Disk) (patches : List Patch) (closed failing : ℕ) (sets : List ℕ)
     : Type 0 where
   pub counted : CountsClosed patches closed
   pub within : closed ≤ limit
-  pub exactly : AreAllInOrder (IsFailing base patches) sets
+  pub exactly : AreAllInOrder (IsFailingUnder kept base patches) sets
   pub number : failing ≡ length sets
 
 -- as much of the failing sets as the report asks for
-abbrev pub IsKept : {A : Type 0} → Settings → Disk → List Patch → List ℕ → Kept A → Type 0
-IsKept settings base patches sets (Sets all) = (settings.by ≡ BySet) × (all.items ≡ sets)
-IsKept settings base patches sets (Faults rows) = (settings.by ≡ ByFault) × AreRows (HasFault base patches) rows.items
-IsKept settings base patches sets Number = settings.by ≡ ByRule
+abbrev pub IsKept : {A : Type 0} → Settings → Option ℕ → Disk → List Patch → List ℕ → Kept A → Type 0
+IsKept settings kept base patches sets (Sets all) = (settings.by ≡ BySet) × (all.items ≡ sets)
+IsKept settings kept base patches sets (Faults rows) = (settings.by ≡ ByFault) × AreRows (HasFault kept base patches) rows.items
+IsKept settings kept base patches sets Number = settings.by ≡ ByRule
 
 -- what is found of the sets that a crash can leave
-pub record AreFound {A : Type 0} (settings : Settings) (base : Disk) (patches : List Patch) (found : Found A)
+pub record AreFound {A : Type 0} (settings : Settings) (kept : Option ℕ) (base : Disk) (patches : List Patch) (found : Found A)
     : Type 0 where
   pub sets : List ℕ
-  pub totals : AreTotals settings.limit base patches found.closed found.failing sets
-  pub kept : IsKept settings base patches sets found.kept
+  pub totals : AreTotals settings.limit kept base patches found.closed found.failing sets
+  pub kept : IsKept settings kept base patches sets found.kept
 
 -- the numbers alone, with the first failing set that the other patches prevent
-pub record IsCountWith (limit : ℕ) (base : Disk) (patches others : List Patch) (count : FailingCount) : Type 0 where
+pub record IsCountWith (limit : ℕ) (kept : Option ℕ) (base : Disk) (patches others : List Patch) (count : FailingCount) : Type 0 where
   pub sets : List ℕ
-  pub totals : AreTotals limit base patches count.total count.failing sets
-  pub first : IsFirstPrevented (IsFailing base patches) (IsClosed (deps_of others)) count.first
+  pub totals : AreTotals limit kept base patches count.total count.failing sets
+  pub first : IsFirstPrevented (IsFailingUnder kept base patches) (IsClosed (deps_of others)) count.first

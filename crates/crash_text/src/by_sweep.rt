@@ -8,10 +8,12 @@ ghost use Rattle.std.specs.List.{All};
 ghost use Rattle.patch_sets.specs.Closed.{IsClosed};
 ghost use Rattle.patch_sets.specs.Sets.{AreAllInOrder};
 ghost use Rattle.crash_model.specs.Patches.{AreUndo, deps_of};
-ghost use Rattle.crash_model.specs.Failing.{IsFailing, CountsClosed, ExceedsLimit};
+ghost use Rattle.crash_model.specs.Failing.{CountsClosed, ExceedsLimit};
+ghost use Rattle.crash_model.specs.Strict.{IsFailingUnder};
 ghost use Rattle.crash_model.specs.Summary.{HasFault, AreRows};
 ghost use Rattle.fault_summary.specs.Prevented.{IsFirstPrevented};
 
+use crate::crashes::Crashes;
 use crate::dependencies::dependencies;
 use crate::watching::GateWatch;
 use crash_image::PatchSpace;
@@ -31,8 +33,7 @@ use std::thread::Threads;
 pub(crate) fn swept<R, A, G>(
     rt: &R,
     alloc: A,
-    base: &Image<A>,
-    graph: &Graph<A>,
+    crashes: Crashes<'_, A>,
     limit: usize,
     workers: usize,
     gate: &G,
@@ -42,16 +43,16 @@ where
     A: Allocator + Copy + Send + Sync,
     G: Gate + Sync,
     requires workers { (1 ≤ workers) × (workers ≤ 16) }
-    requires fits { All (λ patch. patch.block < base.now.blocks) graph.now }
-    requires undo { AreUndo base.now graph.now }
-    ensures total { IfOk result (λ found. CountsClosed graph.now found.total) }
+    requires fits { All (λ patch. patch.block < crashes.base.now.blocks) crashes.graph.now }
+    requires undo { AreUndo crashes.base.now crashes.graph.now }
+    ensures total { IfOk result (λ found. CountsClosed crashes.graph.now found.total) }
     ensures within { IfOk result (λ found. found.total ≤ limit) }
-    ensures failing { IfOk result (λ found. AreAllInOrder (IsFailing base.now graph.now) found.broken.items) }
+    ensures failing { IfOk result (λ found. AreAllInOrder (IsFailingUnder crashes.kept crashes.base.now crashes.graph.now) found.broken.items) }
     ensures too_many { IfErr result (λ fault. (fault ≢ RunFault.OutOfMemory)
-        → (fault ≡ RunFault.TooMany) × ExceedsLimit graph.now limit) }
+        → (fault ≡ RunFault.TooMany) × ExceedsLimit crashes.graph.now limit) }
 {
-    let space = PatchSpace::new(base, graph);
-    let deps = dependencies(graph);
+    let space = PatchSpace::new(crashes.base, crashes.graph, crashes.kept);
+    let deps = dependencies(crashes.graph);
     let watch = GateWatch { gate };
     match sweep(rt, alloc, &space, &deps, limit, workers, &watch) {
         Ok(found) => Ok(found),
@@ -65,8 +66,7 @@ where
 pub(crate) fn swept_faults<R, A, G>(
     rt: &R,
     alloc: A,
-    base: &Image<A>,
-    graph: &Graph<A>,
+    crashes: Crashes<'_, A>,
     limit: usize,
     workers: usize,
     gate: &G,
@@ -76,18 +76,18 @@ where
     A: Allocator + Copy + Send + Sync,
     G: Gate + Sync,
     requires workers { (1 ≤ workers) × (workers ≤ 16) }
-    requires fits { All (λ patch. patch.block < base.now.blocks) graph.now }
-    requires undo { AreUndo base.now graph.now }
-    ensures total { IfOk result (λ found. CountsClosed graph.now found.total) }
+    requires fits { All (λ patch. patch.block < crashes.base.now.blocks) crashes.graph.now }
+    requires undo { AreUndo crashes.base.now crashes.graph.now }
+    ensures total { IfOk result (λ found. CountsClosed crashes.graph.now found.total) }
     ensures within { IfOk result (λ found. found.total ≤ limit) }
-    ensures failing { IfOk result (λ found. (sets : List ℕ) × AreAllInOrder (IsFailing base.now graph.now) sets
+    ensures failing { IfOk result (λ found. (sets : List ℕ) × AreAllInOrder (IsFailingUnder crashes.kept crashes.base.now crashes.graph.now) sets
         × (found.failing ≡ length sets)) }
-    ensures rows { IfOk result (λ found. AreRows (HasFault base.now graph.now) found.rows.items) }
+    ensures rows { IfOk result (λ found. AreRows (HasFault crashes.kept crashes.base.now crashes.graph.now) found.rows.items) }
     ensures too_many { IfErr result (λ fault. (fault ≢ RunFault.OutOfMemory)
-        → (fault ≡ RunFault.TooMany) × ExceedsLimit graph.now limit) }
+        → (fault ≡ RunFault.TooMany) × ExceedsLimit crashes.graph.now limit) }
 {
     let visitor = FaultVisitor::new(alloc, base, graph);
-    let deps = dependencies(graph);
+    let deps = dependencies(crashes.graph);
     let watch = GateWatch { gate };
     match sweep_faults(rt, &visitor, &deps, limit, workers, &watch) {
         Ok(found) => Ok(found),
@@ -101,8 +101,7 @@ where
 pub(crate) fn swept_count<R, A, G>(
     rt: &R,
     alloc: A,
-    base: &Image<A>,
-    graph: &Graph<A>,
+    crashes: Crashes<'_, A>,
     other: &Graph<A>,
     limit: usize,
     workers: usize,
@@ -113,19 +112,19 @@ where
     A: Allocator + Copy + Send + Sync,
     G: Gate + Sync,
     requires workers { (1 ≤ workers) × (workers ≤ 16) }
-    requires fits { All (λ patch. patch.block < base.now.blocks) graph.now }
-    requires undo { AreUndo base.now graph.now }
-    ensures total { IfOk result (λ found. CountsClosed graph.now found.total) }
+    requires fits { All (λ patch. patch.block < crashes.base.now.blocks) crashes.graph.now }
+    requires undo { AreUndo crashes.base.now crashes.graph.now }
+    ensures total { IfOk result (λ found. CountsClosed crashes.graph.now found.total) }
     ensures within { IfOk result (λ found. found.total ≤ limit) }
-    ensures failing { IfOk result (λ found. (sets : List ℕ) × AreAllInOrder (IsFailing base.now graph.now) sets
+    ensures failing { IfOk result (λ found. (sets : List ℕ) × AreAllInOrder (IsFailingUnder crashes.kept crashes.base.now crashes.graph.now) sets
         × (found.failing ≡ length sets)) }
     ensures first { IfOk result (λ found.
-        IsFirstPrevented (IsFailing base.now graph.now) (IsClosed (deps_of other.now)) found.first) }
+        IsFirstPrevented (IsFailingUnder crashes.kept crashes.base.now crashes.graph.now) (IsClosed (deps_of other.now)) found.first) }
     ensures too_many { IfErr result (λ fault. (fault ≢ RunFault.OutOfMemory)
-        → (fault ≡ RunFault.TooMany) × ExceedsLimit graph.now limit) }
+        → (fault ≡ RunFault.TooMany) × ExceedsLimit crashes.graph.now limit) }
 {
     let visitor = CountVisitor::new(alloc, base, graph, other);
-    let deps = dependencies(graph);
+    let deps = dependencies(crashes.graph);
     let watch = GateWatch { gate };
     match sweep_count(rt, &visitor, &deps, limit, workers, &watch) {
         Ok(found) => Ok(found),

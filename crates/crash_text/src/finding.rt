@@ -9,18 +9,19 @@ ghost use Rattle.std.specs.List.{All, AllPairs, Contains};
 ghost use Rattle.patch_sets.specs.Closed.{IsClosed};
 ghost use Rattle.patch_sets.specs.Sets.{AreAllInOrder, IsBefore};
 ghost use Rattle.crash_model.specs.Patches.{AreUndo, deps_of};
-ghost use Rattle.crash_model.specs.Failing.{IsFailing, CountsClosed, ExceedsLimit};
+ghost use Rattle.crash_model.specs.Failing.{CountsClosed, ExceedsLimit};
+ghost use Rattle.crash_model.specs.Strict.{IsFailingUnder};
 ghost use Rattle.crash_model.specs.declared.settings.ReportBy.TheVariants.{ByFault};
 ghost use Rattle.fault_summary.specs.Prevented.{IsFirstPrevented};
 ghost use Rattle.crash_text.specs.Kept.{AreFound, IsCountWith};
 ghost use Rattle.crash_text.specs.Limits.{IsExplorable};
 
 use crate::by_sweep::{swept, swept_count, swept_faults};
+use crate::crashes::Crashes;
 use crate::on_board::{MAX_BOARD, explored_on_board};
 use crash_model::fault::FaultRow;
 use crash_model::refusals::RunFault;
 use crash_model::settings::{Explorer, ReportBy, Settings};
-use disk_image::Image;
 use explorers::{Explored, Gate};
 use fault_summary::{FailingCount, fault_rows};
 use patch_graph::Graph;
@@ -49,8 +50,7 @@ pub(crate) enum Kept<A: Allocator> {
 pub(crate) fn find<R, A, G>(
     rt: &R,
     alloc: A,
-    base: &Image<A>,
-    graph: &Graph<A>,
+    crashes: Crashes<'_, A>,
     settings: &Settings,
     workers: usize,
     gate: &G,
@@ -61,24 +61,24 @@ where
     G: Gate + Sync,
     requires limit { IsExplorable settings.now }
     requires workers { (1 ≤ workers) × (workers ≤ 16) }
-    requires fits { All (λ patch. patch.block < base.now.blocks) graph.now }
-    requires undo { AreUndo base.now graph.now }
-    ensures found { IfOk result (AreFound settings.now base.now graph.now) }
+    requires fits { All (λ patch. patch.block < crashes.base.now.blocks) crashes.graph.now }
+    requires undo { AreUndo crashes.base.now crashes.graph.now }
+    ensures found { IfOk result (AreFound settings.now crashes.kept crashes.base.now crashes.graph.now) }
     ensures too_many { IfErr result (λ fault. (fault ≢ RunFault.OutOfMemory)
-        → (fault ≡ RunFault.TooMany) × ExceedsLimit graph.now settings.now.limit) }
+        → (fault ≡ RunFault.TooMany) × ExceedsLimit crashes.graph.now settings.now.limit) }
 {
     match settings.by {
         ReportBy::BySet => {
-            let found = explored(rt, alloc, base, graph, settings, workers, gate)?;
+            let found = explored(rt, alloc, crashes, settings, workers, gate)?;
             Ok(Found {
                 closed: found.total,
                 failing: found.broken.len(),
                 kept: Kept::Sets(found.broken),
             })
         }
-        ReportBy::ByFault => find_faults(rt, alloc, base, graph, settings, workers, gate),
+        ReportBy::ByFault => find_faults(rt, alloc, crashes, settings, workers, gate),
         ReportBy::ByRule => {
-            let count = count_failing(rt, alloc, base, graph, graph, settings, workers, gate)?;
+            let count = count_failing(rt, alloc, crashes, crashes.graph, settings, workers, gate)?;
             Ok(Found {
                 closed: count.total,
                 failing: count.failing,
@@ -92,8 +92,7 @@ where
 fn find_faults<R, A, G>(
     rt: &R,
     alloc: A,
-    base: &Image<A>,
-    graph: &Graph<A>,
+    crashes: Crashes<'_, A>,
     settings: &Settings,
     workers: usize,
     gate: &G,
@@ -105,23 +104,23 @@ where
     requires limit { IsExplorable settings.now }
     requires by { settings.now.by ≡ ByFault }
     requires workers { (1 ≤ workers) × (workers ≤ 16) }
-    requires fits { All (λ patch. patch.block < base.now.blocks) graph.now }
-    requires undo { AreUndo base.now graph.now }
-    ensures found { IfOk result (AreFound settings.now base.now graph.now) }
+    requires fits { All (λ patch. patch.block < crashes.base.now.blocks) crashes.graph.now }
+    requires undo { AreUndo crashes.base.now crashes.graph.now }
+    ensures found { IfOk result (AreFound settings.now crashes.kept crashes.base.now crashes.graph.now) }
     ensures too_many { IfErr result (λ fault. (fault ≢ RunFault.OutOfMemory)
-        → (fault ≡ RunFault.TooMany) × ExceedsLimit graph.now settings.now.limit) }
+        → (fault ≡ RunFault.TooMany) × ExceedsLimit crashes.graph.now settings.now.limit) }
 {
     let limit = settings.limit;
     if sweeps(settings) {
-        let swept = swept_faults(rt, alloc, base, graph, limit, workers, gate)?;
+        let swept = swept_faults(rt, alloc, crashes, limit, workers, gate)?;
         return Ok(Found {
             closed: swept.total,
             failing: swept.failing,
             kept: Kept::Faults(swept.rows),
         });
     }
-    let found = explored_on_board(rt, alloc, base, graph, limit, workers, gate)?;
-    let rows = fault_rows(alloc, base, graph, &found.broken)?;
+    let found = explored_on_board(rt, alloc, crashes, limit, workers, gate)?;
+    let rows = fault_rows(alloc, crashes.base, crashes.graph, crashes.kept, &found.broken)?;
     Ok(Found {
         closed: found.total,
         failing: found.broken.len(),
@@ -134,8 +133,7 @@ where
 pub(crate) fn count_failing<R, A, G>(
     rt: &R,
     alloc: A,
-    base: &Image<A>,
-    graph: &Graph<A>,
+    crashes: Crashes<'_, A>,
     other: &Graph<A>,
     settings: &Settings,
     workers: usize,
@@ -147,18 +145,18 @@ where
     G: Gate + Sync,
     requires limit { IsExplorable settings.now }
     requires workers { (1 ≤ workers) × (workers ≤ 16) }
-    requires fits { All (λ patch. patch.block < base.now.blocks) graph.now }
-    requires undo { AreUndo base.now graph.now }
-    ensures counted { IfOk result (IsCountWith settings.now.limit base.now graph.now other.now) }
+    requires fits { All (λ patch. patch.block < crashes.base.now.blocks) crashes.graph.now }
+    requires undo { AreUndo crashes.base.now crashes.graph.now }
+    ensures counted { IfOk result (IsCountWith settings.now.limit crashes.kept crashes.base.now crashes.graph.now other.now) }
     ensures too_many { IfErr result (λ fault. (fault ≢ RunFault.OutOfMemory)
-        → (fault ≡ RunFault.TooMany) × ExceedsLimit graph.now settings.now.limit) }
+        → (fault ≡ RunFault.TooMany) × ExceedsLimit crashes.graph.now settings.now.limit) }
 {
     let limit = settings.limit;
     if sweeps(settings) {
-        let count = swept_count(rt, alloc, base, graph, other, limit, workers, gate)?;
+        let count = swept_count(rt, alloc, crashes, other, limit, workers, gate)?;
         return Ok(count);
     }
-    let found = explored_on_board(rt, alloc, base, graph, limit, workers, gate)?;
+    let found = explored_on_board(rt, alloc, crashes, limit, workers, gate)?;
     Ok(FailingCount {
         total: found.total,
         failing: found.broken.len(),
@@ -170,8 +168,7 @@ where
 fn explored<R, A, G>(
     rt: &R,
     alloc: A,
-    base: &Image<A>,
-    graph: &Graph<A>,
+    crashes: Crashes<'_, A>,
     settings: &Settings,
     workers: usize,
     gate: &G,
@@ -182,19 +179,19 @@ where
     G: Gate + Sync,
     requires limit { IsExplorable settings.now }
     requires workers { (1 ≤ workers) × (workers ≤ 16) }
-    requires fits { All (λ patch. patch.block < base.now.blocks) graph.now }
-    requires undo { AreUndo base.now graph.now }
-    ensures total { IfOk result (λ found. CountsClosed graph.now found.total) }
+    requires fits { All (λ patch. patch.block < crashes.base.now.blocks) crashes.graph.now }
+    requires undo { AreUndo crashes.base.now crashes.graph.now }
+    ensures total { IfOk result (λ found. CountsClosed crashes.graph.now found.total) }
     ensures within { IfOk result (λ found. found.total ≤ settings.now.limit) }
-    ensures failing { IfOk result (λ found. AreAllInOrder (IsFailing base.now graph.now) found.broken.items) }
+    ensures failing { IfOk result (λ found. AreAllInOrder (IsFailingUnder crashes.kept crashes.base.now crashes.graph.now) found.broken.items) }
     ensures too_many { IfErr result (λ fault. (fault ≢ RunFault.OutOfMemory)
-        → (fault ≡ RunFault.TooMany) × ExceedsLimit graph.now settings.now.limit) }
+        → (fault ≡ RunFault.TooMany) × ExceedsLimit crashes.graph.now settings.now.limit) }
 {
     let limit = settings.limit;
     if sweeps(settings) {
-        swept(rt, alloc, base, graph, limit, workers, gate)
+        swept(rt, alloc, crashes, limit, workers, gate)
     } else {
-        explored_on_board(rt, alloc, base, graph, limit, workers, gate)
+        explored_on_board(rt, alloc, crashes, limit, workers, gate)
     }
 }
 

@@ -4,9 +4,11 @@ ghost use Rattle.std.specs.Prelude.{◌≡◌, ◌≢◌, ◌<◌, ◌≤◌, If
 ghost use Rattle.std.specs.List.{All};
 ghost use Rattle.patch_sets.specs.Sets.{AreAllInOrder};
 ghost use Rattle.crash_model.specs.Patches.{AreUndo};
-ghost use Rattle.crash_model.specs.Failing.{IsFailing, CountsClosed, ExceedsLimit};
+ghost use Rattle.crash_model.specs.Failing.{CountsClosed, ExceedsLimit};
+ghost use Rattle.crash_model.specs.Strict.{IsFailingUnder};
 
 use crate::board_limit::board_limit;
+use crate::crashes::Crashes;
 use crate::dependencies::dependencies;
 use crash_image::{PatchSpace, exploring_finds_the_failing_sets};
 use crash_model::refusals::RunFault;
@@ -29,8 +31,7 @@ pub(crate) const MAX_BOARD: usize = 32_768;
 pub(crate) fn explored_on_board<R, A, G>(
     rt: &R,
     alloc: A,
-    base: &Image<A>,
-    graph: &Graph<A>,
+    crashes: Crashes<'_, A>,
     limit: usize,
     workers: usize,
     gate: &G,
@@ -41,17 +42,17 @@ where
     G: Gate + Sync,
     requires limit { (1 ≤ limit) × (limit ≤ 32768) }
     requires workers { (1 ≤ workers) × (workers ≤ 16) }
-    requires fits { All (λ patch. patch.block < base.now.blocks) graph.now }
-    requires undo { AreUndo base.now graph.now }
-    ensures total { IfOk result (λ found. CountsClosed graph.now found.total) }
+    requires fits { All (λ patch. patch.block < crashes.base.now.blocks) crashes.graph.now }
+    requires undo { AreUndo crashes.base.now crashes.graph.now }
+    ensures total { IfOk result (λ found. CountsClosed crashes.graph.now found.total) }
     ensures within { IfOk result (λ found. found.total ≤ limit) }
-    ensures failing { IfOk result (λ found. AreAllInOrder (IsFailing base.now graph.now) found.broken.items) }
+    ensures failing { IfOk result (λ found. AreAllInOrder (IsFailingUnder crashes.kept crashes.base.now crashes.graph.now) found.broken.items) }
     ensures too_many { IfErr result (λ fault. (fault ≢ RunFault.OutOfMemory)
-        → (fault ≡ RunFault.TooMany) × ExceedsLimit graph.now limit) }
+        → (fault ≡ RunFault.TooMany) × ExceedsLimit crashes.graph.now limit) }
 {
-    let space = PatchSpace::new(base, graph);
+    let space = PatchSpace::new(crashes.base, crashes.graph, crashes.kept);
     exploring_finds_the_failing_sets(&space);
-    let deps = dependencies(graph);
+    let deps = dependencies(crashes.graph);
     let Some(sets) = count_closed(&deps, limit) else {
         return Err(RunFault::TooMany);
     };
