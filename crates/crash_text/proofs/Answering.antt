@@ -22,4 +22,4 @@ module _ (bytes : List ℕ) (settings : Settings) where
 
   pub reported_steps : (base : Disk) (steps : List Step) (text : List ℕ) (failing : ℕ) → HasBase bytes settings base steps → AreReported settings base steps text failing → IsAnswer bytes settings (Reported text failing)
   reported_steps base steps text failing start are =
-      reported base are.last are.patches text failing (record { steps = steps; start = start; run = are.run; graph = are.graph }) are.report
+      reported are.kept base are.last are.patches text failing (record { steps = steps; start = start; run = are.run; graph = are.graph }) are.told are.report

@@ -1,5 +1,5 @@
 -- What the body of a run's report tells.
-use Rattle.std.proofs.Common.{◌≡◌, ℕ, ◌<◌, Bor, List, ◌++◌, length, get_or, map, All, refl, sym, subst, ap, ◌∙◌, arith}
+use Rattle.std.proofs.Common.{◌≡◌, ℕ, ◌<◌, Bor, List, Option, ◌++◌, length, get_or, map, All, refl, sym, subst, ap, ◌∙◌, arith}
 use Rattle.std.proofs.Math.ListN.{get_or-map}
 use Rattle.std.proofs.lemmas.List.{length-map}
 use Rattle.std.proofs.lemmas.Simd.{map-map}
@@ -7,10 +7,10 @@ use Rattle.std.proofs.lemmas.List.Elements.{All-map}
 use Rattle.patch_sets.specs.Closed.{IsClosed}
 use Rattle.patch_sets.specs.Sets.{Has, AreAllInOrder}
 use Rattle.patch_sets.proofs.Canonical.{one_list}
-use Rattle.crash_model.specs.Answer.{ordering_rules, IsBody, IsReport}
+use Rattle.crash_model.specs.Answer.{detail_of, ordering_rules, IsBody, IsReport}
 use Rattle.crash_model.specs.Disk.{Disk}
 use Rattle.crash_model.specs.Explain.{Explanation, explanation}
-use Rattle.crash_model.specs.Failing.{IsFailing}
+use Rattle.crash_model.specs.Strict.{IsFailingUnder}
 use Rattle.crash_model.specs.Lists.{when}
 use Rattle.crash_model.specs.Needs.{ToldRule, AreToldRules}
 use Rattle.crash_model.specs.Patches.{deps_of}
@@ -20,6 +20,7 @@ use Rattle.crash_model.specs.Trace.{Tracing}
 use Rattle.crash_model.specs.Whole.{Body, Sets, Faults, Rules, Report, report}
 use Rattle.crash_model.specs.declared.fault.FaultRow.{FaultRow}
 use Rattle.crash_model.specs.declared.patches.Patch.{Patch}
+use Rattle.crash_model.specs.declared.settings.Detail.{Detail}
 use Rattle.crash_model.specs.declared.settings.Settings.{Settings}
 use Rattle.crash_model.specs.declared.settings.ReportBy.TheVariants.{BySet, ByFault, ByRule}
 use Rattle.crash_model.proofs.Leading.{failing_closed, closed_are_left, sections_lead}
@@ -47,9 +48,9 @@ whole settings told patches total failing body = record {
 }
 
 -- the text of the report on these failing sets, of so many closed ones
-abbrev IsTextOn : Settings → Disk → Tracing → List Patch → ℕ → List ℕ → List ℕ → Type 0
-IsTextOn settings base last patches total sets text =
-    (body : Body) × IsBody settings base last patches sets body
+abbrev IsTextOn : Settings → Option ℕ → Disk → Tracing → List Patch → ℕ → List ℕ → List ℕ → Type 0
+IsTextOn settings kept base last patches total sets text =
+    (body : Body) × IsBody settings kept base last patches sets body
     × (text ≡ report settings (whole settings (explanation (ordering_rules settings) base last patches) patches total (length sets) body))
 
 -- ---- a report's data, which are those of the findings
@@ -61,41 +62,42 @@ can_tell r base t same_base same_trace fits known = record {
 }
 
 -- the text of a report with these data
-abbrev pub Tells : {A : Type 0} → Settings → Disk → TracedPatches → ℕ → ℕ → code.Body A → List ℕ → Type 0
-Tells settings base t closed failing chosen text =
-    (body : Body) × TellsBody settings.explain base t.patches chosen body × (text ≡ report settings (whole settings (explanation_by base t) t.patches closed failing body))
+abbrev pub Tells : {A : Type 0} → Settings → Detail → Disk → TracedPatches → ℕ → ℕ → code.Body A → List ℕ → Type 0
+Tells settings detail base t closed failing chosen text =
+    (body : Body) × TellsBody detail base t.patches chosen body × (text ≡ report settings (whole settings (explanation_by base t) t.patches closed failing body))
 
-pub tells_of : {A : Type 0} (r : code_report.Report A) (settings : Settings) (base : Disk) (t : TracedPatches) (closed failing : ℕ) (chosen : code.Body A) (text : List ℕ) → r.settings.now ≡ settings → r.base.now ≡ base → r.traced.now ≡ t → r.closed ≡ closed → r.failing ≡ failing → r.body ≡ chosen
-    → Tells r.settings.now r.base.now r.traced.now r.closed r.failing r.body text → Tells settings base t closed failing chosen text
-tells_of r settings base t closed failing chosen text same_settings same_base same_trace same_closed same_failing same_data told =
-    subst (λ (s : Settings). Tells s base t closed failing chosen text) same_settings
-    (subst (λ (d : Disk). Tells r.settings.now d t closed failing chosen text) same_base
-    (subst (λ (u : TracedPatches). Tells r.settings.now r.base.now u closed failing chosen text) same_trace
-    (subst (λ (n : ℕ). Tells r.settings.now r.base.now r.traced.now n failing chosen text) same_closed
-    (subst (λ (n : ℕ). Tells r.settings.now r.base.now r.traced.now r.closed n chosen text) same_failing
-    (subst (λ b. Tells r.settings.now r.base.now r.traced.now r.closed r.failing b text) same_data told)))))
+pub tells_of : {A : Type 0} (r : code_report.Report A) (settings : Settings) (detail : Detail) (base : Disk) (t : TracedPatches) (closed failing : ℕ) (chosen : code.Body A) (text : List ℕ) → r.settings.now ≡ settings → r.detail ≡ detail → r.base.now ≡ base → r.traced.now ≡ t → r.closed ≡ closed → r.failing ≡ failing → r.body ≡ chosen
+    → Tells r.settings.now r.detail r.base.now r.traced.now r.closed r.failing r.body text → Tells settings detail base t closed failing chosen text
+tells_of r settings detail base t closed failing chosen text same_settings same_detail same_base same_trace same_closed same_failing same_data told =
+    subst (λ (s : Settings). Tells s detail base t closed failing chosen text) same_settings
+    (subst (λ (k : Detail). Tells r.settings.now k base t closed failing chosen text) same_detail
+    (subst (λ (d : Disk). Tells r.settings.now r.detail d t closed failing chosen text) same_base
+    (subst (λ (u : TracedPatches). Tells r.settings.now r.detail r.base.now u closed failing chosen text) same_trace
+    (subst (λ (n : ℕ). Tells r.settings.now r.detail r.base.now r.traced.now n failing chosen text) same_closed
+    (subst (λ (n : ℕ). Tells r.settings.now r.detail r.base.now r.traced.now r.closed n chosen text) same_failing
+    (subst (λ b. Tells r.settings.now r.detail r.base.now r.traced.now r.closed r.failing b text) same_data told))))))
 
 -- the first sets of faults have ids of patches
-pub rows-known : (base : Disk) (patches : List Patch) (rows : List FaultRow) → AreRows (HasFault base patches) rows → AreKnown patches (map (λ row. row.first) rows)
-rows-known base patches rows are = All-map (λ (set : ℕ). (id : ℕ) → Has set id → id < length patches) (λ (row : FaultRow). row.first) rows
+pub rows-known : (kept : Option ℕ) (base : Disk) (patches : List Patch) (rows : List FaultRow) → AreRows (HasFault kept base patches) rows → AreKnown patches (map (λ row. row.first) rows)
+rows-known kept base patches rows are = All-map (λ (set : ℕ). (id : ℕ) → Has set id → id < length patches) (λ (row : FaultRow). row.first) rows
     (λ k d within id has. let known = (are.each k d within).first.among.failing.closed.known id has in omega (arith, known, length-map patches (λ (p : Patch). p.deps)))
 
 -- ---- what it tells
 
-module _ (settings : Settings) (base : Disk) (t : TracedPatches) (last : Tracing) (is : IsTraceOf settings base t last) where
+module _ (settings : Settings) (kept : Option ℕ) (base : Disk) (t : TracedPatches) (last : Tracing) (is : IsTraceOf settings base t last) where
   same_explanation : explanation_by base t ≡ explanation (ordering_rules settings) base last t.patches
   same_explanation = rw (is.rules, is.links, is.emitted) refl
 
   -- the text makes it the report on the failing sets
-  is_report : (total failing : ℕ) (sets text : List ℕ) → AreTotals settings.limit base t.patches total failing sets
-      → IsTextOn settings base last t.patches total sets text → IsReport settings base last t.patches text failing
-  is_report total failing sets text totals told = subst (IsReport settings base last t.patches text) (sym totals.number) (record {
+  is_report : (total failing : ℕ) (sets text : List ℕ) → AreTotals settings.limit kept base t.patches total failing sets
+      → IsTextOn settings kept base last t.patches total sets text → IsReport settings kept base last t.patches text failing
+  is_report total failing sets text totals told = subst (IsReport settings kept base last t.patches text) (sym totals.number) (record {
     total = total;
     counted = totals.counted;
     within = totals.within;
     sets = sets;
     exactly = totals.exactly;
-    left = closed_are_left base t.patches is.graph.earlier sets (failing_closed base t.patches sets totals.exactly);
+    left = closed_are_left base t.patches is.graph.earlier sets (failing_closed kept base t.patches sets totals.exactly);
     number = refl;
     body = told.0;
     told = told.1;
@@ -103,86 +105,86 @@ module _ (settings : Settings) (base : Disk) (t : TracedPatches) (last : Tracing
   })
 
   -- a text with a body of this kind
-  text_on : (total : ℕ) (sets text : List ℕ) (body : Body) → IsBody settings base last t.patches sets body
+  text_on : (total : ℕ) (sets text : List ℕ) (body : Body) → IsBody settings kept base last t.patches sets body
       → text ≡ report settings (whole settings (explanation_by base t) t.patches total (length sets) body)
-      → IsTextOn settings base last t.patches total sets text
+      → IsTextOn settings kept base last t.patches total sets text
   text_on total sets text body told whole_text =
       (body, told, whole_text ∙ ap (λ (e : Explanation). report settings (whole settings e t.patches total (length sets) body)) same_explanation)
 
   told_sets : (total : ℕ) (sets text : List ℕ) (body : Body) (sections : List Section) → settings.by ≡ BySet
-      → AreAllInOrder (IsFailing base t.patches) sets → AreSections settings.explain base t.patches sets sections → body ≡ Sets sections
+      → AreAllInOrder (IsFailingUnder kept base t.patches) sets → AreSections (detail_of settings kept) base t.patches sets sections → body ≡ Sets sections
       → text ≡ report settings (whole settings (explanation_by base t) t.patches total (length sets) body)
-      → IsTextOn settings base last t.patches total sets text
+      → IsTextOn settings kept base last t.patches total sets text
   told_sets total sets text body sections by exactly are same whole_text =
-      let closed = failing_closed base t.patches sets exactly in
-      let lead = sections_lead base t.patches is.graph.earlier settings.explain sets sections closed are in
-      text_on total sets text body (subst (IsBody settings base last t.patches sets) (sym same) (by, are, lead)) whole_text
+      let closed = failing_closed kept base t.patches sets exactly in
+      let lead = sections_lead base t.patches is.graph.earlier (detail_of settings kept) sets sections closed are in
+      text_on total sets text body (subst (IsBody settings kept base last t.patches sets) (sym same) (by, are, lead)) whole_text
 
   told_faults : (total : ℕ) (sets text : List ℕ) (body : Body) (rows : List FaultRow) (told : List ToldFault) → settings.by ≡ ByFault
-      → AreRows (HasFault base t.patches) rows → map (λ f. f.row) told ≡ rows
-      → AreSections settings.explain base t.patches (map (λ row. row.first) rows) (map (λ f. f.first) told) → body ≡ Faults told
+      → AreRows (HasFault kept base t.patches) rows → map (λ f. f.row) told ≡ rows
+      → AreSections (detail_of settings kept) base t.patches (map (λ row. row.first) rows) (map (λ f. f.first) told) → body ≡ Faults told
       → text ≡ report settings (whole settings (explanation_by base t) t.patches total (length sets) body)
-      → IsTextOn settings base last t.patches total sets text
+      → IsTextOn settings kept base last t.patches total sets text
   told_faults total sets text body rows told by are_rows of_rows are same whole_text =
-      text_on total sets text body (subst (IsBody settings base last t.patches sets) (sym same) (by, are_told, lead)) whole_text
+      text_on total sets text body (subst (IsBody settings kept base last t.patches sets) (sym same) (by, are_told, lead)) whole_text
     where
-      closed_row : (row : FaultRow) → IsRow (HasFault base t.patches) row → IsClosed (deps_of t.patches) row.first
+      closed_row : (row : FaultRow) → IsRow (HasFault kept base t.patches) row → IsClosed (deps_of t.patches) row.first
       closed_row row is_row = is_row.first.among.failing.closed
 
       firsts_closed : All (IsClosed (deps_of t.patches)) (map (λ row. row.first) rows)
       firsts_closed = All-map (IsClosed (deps_of t.patches)) (λ row. row.first) rows (λ k d within. closed_row (get_or rows k d) (are_rows.each k d within))
 
       leads : All (IsLed t.patches) (map (λ f. f.first) told)
-      leads = sections_lead base t.patches is.graph.earlier settings.explain (map (λ row. row.first) rows) (map (λ f. f.first) told) firsts_closed are
+      leads = sections_lead base t.patches is.graph.earlier (detail_of settings kept) (map (λ row. row.first) rows) (map (λ f. f.first) told) firsts_closed are
 
       same_firsts : map (λ row. row.first) rows ≡ map (λ f. f.row.first) told
       same_firsts = ap (map (λ (row : FaultRow). row.first)) (sym of_rows) ∙ map-map (λ (row : FaultRow). row.first) (λ (f : ToldFault). f.row) told
 
-      are_told : AreToldFaults settings.explain base t.patches told
+      are_told : AreToldFaults (detail_of settings kept) base t.patches told
       are_told = record {
-        rows = subst (AreRows (HasFault base t.patches)) (sym of_rows) are_rows;
-        firsts = subst (λ (firsts : List ℕ). AreSections settings.explain base t.patches firsts (map (λ f. f.first) told)) same_firsts are;
+        rows = subst (AreRows (HasFault kept base t.patches)) (sym of_rows) are_rows;
+        firsts = subst (λ (firsts : List ℕ). AreSections (detail_of settings kept) base t.patches firsts (map (λ f. f.first) told)) same_firsts are;
       }
 
       lead : All (λ f. IsLed t.patches f.first) told
       lead = all_of (IsLed t.patches) (λ f. f.first) told leads
 
   told_rules : (total : ℕ) (sets text : List ℕ) (body : Body) (told : List ToldRule) → settings.by ≡ ByRule
-      → AreToldRules settings.explain settings.limit (ordering_rules settings) base last t.patches (ordering_rules settings) told → body ≡ Rules told
+      → AreToldRules (detail_of settings kept) settings.limit (ordering_rules settings) base last t.patches (ordering_rules settings) told → body ≡ Rules told
       → text ≡ report settings (whole settings (explanation_by base t) t.patches total (length sets) body)
-      → IsTextOn settings base last t.patches total sets text
+      → IsTextOn settings kept base last t.patches total sets text
   told_rules total sets text body told by are same whole_text =
-      text_on total sets text body (subst (IsBody settings base last t.patches sets) (sym same) (by, are)) whole_text
+      text_on total sets text body (subst (IsBody settings kept base last t.patches sets) (sym same) (by, are)) whole_text
 
   -- the same from the data of a report, whose number of failing sets is that of the list
   with_number : {A : Type 0} (closed failing : ℕ) (sets text : List ℕ) (chosen : code.Body A) → failing ≡ length sets
-      → Tells settings base t closed failing chosen text → Tells settings base t closed (length sets) chosen text
-  with_number closed failing sets text chosen number told = subst (λ (n : ℕ). Tells settings base t closed n chosen text) number told
+      → Tells settings (detail_of settings kept) base t closed failing chosen text → Tells settings (detail_of settings kept) base t closed (length sets) chosen text
+  with_number closed failing sets text chosen number told = subst (λ (n : ℕ). Tells settings (detail_of settings kept) base t closed n chosen text) number told
 
-  pub by_set : (A : Type 0) (total failing : ℕ) (sets text : List ℕ) (given : Bor (List ℕ)) → AreTotals settings.limit base t.patches total failing sets
-      → settings.by ≡ BySet → AreAllInOrder (IsFailing base t.patches) given.now
-      → Tells {A = A} settings base t total failing (code_body.Sets given) text → IsReport settings base last t.patches text failing
+  pub by_set : (A : Type 0) (total failing : ℕ) (sets text : List ℕ) (given : Bor (List ℕ)) → AreTotals settings.limit kept base t.patches total failing sets
+      → settings.by ≡ BySet → AreAllInOrder (IsFailingUnder kept base t.patches) given.now
+      → Tells {A = A} settings (detail_of settings kept) base t total failing (code_body.Sets given) text → IsReport settings kept base last t.patches text failing
   by_set A total failing sets text given totals by all told = is_report total failing sets text totals (on (with_number {A = A} total failing sets text (code_body.Sets given) totals.number told))
     where
       same : given.now ≡ sets
-      same = one_list (IsFailing base t.patches) given.now sets all totals.exactly
+      same = one_list (IsFailingUnder kept base t.patches) given.now sets all totals.exactly
 
-      on : Tells {A = A} settings base t total (length sets) (code_body.Sets given) text → IsTextOn settings base last t.patches total sets text
+      on : Tells {A = A} settings (detail_of settings kept) base t total (length sets) (code_body.Sets given) text → IsTextOn settings kept base last t.patches total sets text
       on (body, (sections, are, is_body), written) =
-          told_sets total sets text body sections by totals.exactly (subst (λ (ss : List ℕ). AreSections settings.explain base t.patches ss sections) same are) is_body written
+          told_sets total sets text body sections by totals.exactly (subst (λ (ss : List ℕ). AreSections (detail_of settings kept) base t.patches ss sections) same are) is_body written
 
-  pub by_fault : (A : Type 0) (total failing : ℕ) (sets text : List ℕ) (given : Bor (List FaultRow)) → AreTotals settings.limit base t.patches total failing sets
-      → settings.by ≡ ByFault → AreRows (HasFault base t.patches) given.now
-      → Tells {A = A} settings base t total failing (code_body.Faults given) text → IsReport settings base last t.patches text failing
+  pub by_fault : (A : Type 0) (total failing : ℕ) (sets text : List ℕ) (given : Bor (List FaultRow)) → AreTotals settings.limit kept base t.patches total failing sets
+      → settings.by ≡ ByFault → AreRows (HasFault kept base t.patches) given.now
+      → Tells {A = A} settings (detail_of settings kept) base t total failing (code_body.Faults given) text → IsReport settings kept base last t.patches text failing
   by_fault A total failing sets text given totals by rows told = is_report total failing sets text totals (on (with_number {A = A} total failing sets text (code_body.Faults given) totals.number told))
     where
-      on : Tells {A = A} settings base t total (length sets) (code_body.Faults given) text → IsTextOn settings base last t.patches total sets text
+      on : Tells {A = A} settings (detail_of settings kept) base t total (length sets) (code_body.Faults given) text → IsTextOn settings kept base last t.patches total sets text
       on (body, (rest, of_rows, firsts, is_body), written) = told_faults total sets text body given.now rest by rows of_rows firsts is_body written
 
-  pub by_rule : (A : Type 0) (total failing : ℕ) (sets text : List ℕ) (given : Bor (List (code_rule.ToldRule A))) → AreTotals settings.limit base t.patches total failing sets
-      → settings.by ≡ ByRule → AreToldRules settings.explain settings.limit (ordering_rules settings) base last t.patches (ordering_rules settings) (map told_rule given.now)
-      → Tells {A = A} settings base t total failing (code_body.Rules given) text → IsReport settings base last t.patches text failing
+  pub by_rule : (A : Type 0) (total failing : ℕ) (sets text : List ℕ) (given : Bor (List (code_rule.ToldRule A))) → AreTotals settings.limit kept base t.patches total failing sets
+      → settings.by ≡ ByRule → AreToldRules (detail_of settings kept) settings.limit (ordering_rules settings) base last t.patches (ordering_rules settings) (map told_rule given.now)
+      → Tells {A = A} settings (detail_of settings kept) base t total failing (code_body.Rules given) text → IsReport settings kept base last t.patches text failing
   by_rule A total failing sets text given totals by are told = is_report total failing sets text totals (on (with_number {A = A} total failing sets text (code_body.Rules given) totals.number told))
     where
-      on : Tells {A = A} settings base t total (length sets) (code_body.Rules given) text → IsTextOn settings base last t.patches total sets text
+      on : Tells {A = A} settings (detail_of settings kept) base t total (length sets) (code_body.Rules given) text → IsTextOn settings kept base last t.patches total sets text
       on (body, is_body, written) = told_rules total sets text body (map told_rule given.now) by are is_body written

@@ -1,5 +1,5 @@
 -- What is told of the rules of an ordering.
-use Rattle.std.proofs.Common.{◌≡◌, ℕ, ◌+◌, ◌<◌, ◌≤◌, suc, List, [], ◌∷◌, ◌++◌, length, get_or, map, take, drop, Bool, All, refl, sym, ap, subst, ◌∙◌, arith, length-take}
+use Rattle.std.proofs.Common.{◌≡◌, ℕ, ◌+◌, ◌<◌, ◌≤◌, suc, List, [], ◌∷◌, ◌++◌, length, get_or, map, take, drop, Option, All, refl, sym, ap, subst, ◌∙◌, arith, length-take}
 use Rattle.std.specs.Prelude.{Some, None}
 use Rattle.std.specs.List.{Contains}
 use Rattle.std.proofs.Math.Seq.{drop-cons}
@@ -8,13 +8,14 @@ use Rattle.std.proofs.lemmas.List.Elements.{All-nil, All-cons, All-head, Contain
 use Rattle.patch_sets.specs.Closed.{AreEarlier, IsClosed}
 use Rattle.patch_sets.specs.Sets.{Has, IsBefore, AreAllInOrder}
 use Rattle.crash_model.specs.Disk.{Disk}
-use Rattle.crash_model.specs.Failing.{IsFailing}
+use Rattle.crash_model.specs.Strict.{IsFailingUnder}
 use Rattle.crash_model.specs.Needs.{AreToldRules, IsFirstNew, IsRuleUsage, RuleUsage, ToldRule}
 use Rattle.crash_model.specs.Patches.{deps_of}
 use Rattle.crash_model.specs.Report.{AreSections, IsLed}
 use Rattle.crash_model.specs.Trace.{Tracing}
 use Rattle.crash_model.specs.declared.patches.Patch.{Patch}
 use Rattle.crash_model.specs.declared.rules.Rule.{Rule}
+use Rattle.crash_model.specs.declared.settings.Detail.{Detail}
 use Rattle.crash_model.proofs.Leading.{failing_closed, sections_lead}
 use Rattle.fault_summary.specs.Prevented.{IsFirstOut, IsFirstPrevented}
 use Rattle.report_sections.specs.Sections.{told, IsSection}
@@ -25,29 +26,29 @@ use Rattle.report_sections.specs.declared.section.Section.{Section}
 use Rattle.report_sections.proofs.Pushed.{is_told}
 
 -- the section of the first set that is not closed under the patches
-first_found : {A : Type 0} (explain : Bool) (base : Disk) (patches changed : List Patch) (sets : List ℕ) (i set : ℕ) (s : Section A) → AreEarlier (deps_of changed) → All (IsClosed (deps_of changed)) sets
-    → i < length sets → set ≡ get_or sets i 0 → All (IsClosed (deps_of patches)) (take i sets) → ¬ (IsClosed (deps_of patches) set) → IsSection explain base changed set s
-    → IsFirstNew explain base patches changed sets (Some (told s))
-first_found explain base patches changed sets i set s earlier closed within read before new is =
+first_found : {A : Type 0} (detail : Detail) (base : Disk) (patches changed : List Patch) (sets : List ℕ) (i set : ℕ) (s : Section A) → AreEarlier (deps_of changed) → All (IsClosed (deps_of changed)) sets
+    → i < length sets → set ≡ get_or sets i 0 → All (IsClosed (deps_of patches)) (take i sets) → ¬ (IsClosed (deps_of patches) set) → IsSection detail base changed set s
+    → IsFirstNew detail base patches changed sets (Some (told s))
+first_found detail base patches changed sets i set s earlier closed within read before new is =
     let split : sets ≡ take i sets ++ set ∷ drop (suc i) sets =
     sym (take-append-drop i sets) ∙ ap (λ (ss : List ℕ). take i sets ++ ss) (drop-cons sets i 0 within ∙ ap (λ (x : ℕ). x ∷ drop (suc i) sets) (sym read)) in
     let here : IsClosed (deps_of changed) set = subst (IsClosed (deps_of changed)) (sym read) (closed i 0 within) in
     let alone : All (IsClosed (deps_of changed)) (set ∷ []) = All-cons (IsClosed (deps_of changed)) set [] here (All-nil (IsClosed (deps_of changed))) in
-    let are : AreSections explain base changed (set ∷ []) (told s ∷ []) = is_told explain base changed set s is in
-    let led : All (IsLed changed) (told s ∷ []) = sections_lead base changed earlier explain (set ∷ []) (told s ∷ []) alone are in
+    let are : AreSections detail base changed (set ∷ []) (told s ∷ []) = is_told detail base changed set s is in
+    let led : All (IsLed changed) (told s ∷ []) = sections_lead base changed earlier detail (set ∷ []) (told s ∷ []) alone are in
     (take i sets, set, drop (suc i) sets, split, before, new, are, All-head (IsLed changed) (told s) [] led)
 
 -- no failing set is prevented
-pub none_new : (base : Disk) (patches changed : List Patch) (sets : List ℕ) → IsFirstPrevented (IsFailing base changed) (IsClosed (deps_of patches)) None
-    → AreAllInOrder (IsFailing base changed) sets → All (IsClosed (deps_of patches)) sets
-none_new base patches changed sets none all k d within = none (get_or sets k d) ((all.exactly (get_or sets k d)).0 (Contains-get_or sets k d within))
+pub none_new : (kept : Option ℕ) (base : Disk) (patches changed : List Patch) (sets : List ℕ) → IsFirstPrevented (IsFailingUnder kept base changed) (IsClosed (deps_of patches)) None
+    → AreAllInOrder (IsFailingUnder kept base changed) sets → All (IsClosed (deps_of patches)) sets
+none_new kept base patches changed sets none all k d within = none (get_or sets k d) ((all.exactly (get_or sets k d)).0 (Contains-get_or sets k d within))
 
 -- the section of the first failing set that the patches prevent
-pub some_new : {A : Type 0} (explain : Bool) (base : Disk) (patches changed : List Patch) (sets : List ℕ) (set : ℕ) (s : Section A) → AreEarlier (deps_of changed)
-    → IsFirstOut (IsFailing base changed) (IsClosed (deps_of patches)) set → AreAllInOrder (IsFailing base changed) sets → IsSection explain base changed set s
-    → IsFirstNew explain base patches changed sets (Some (told s))
-some_new explain base patches changed sets set s earlier first all is =
-    first_found explain base patches changed sets at set s earlier (failing_closed base changed sets all) within read front first.out is
+pub some_new : {A : Type 0} (detail : Detail) (base : Disk) (patches changed : List Patch) (sets : List ℕ) (set : ℕ) (s : Section A) → AreEarlier (deps_of changed)
+    → IsFirstOut (IsFailingUnder detail.kept base changed) (IsClosed (deps_of patches)) set → AreAllInOrder (IsFailingUnder detail.kept base changed) sets → IsSection detail base changed set s
+    → IsFirstNew detail base patches changed sets (Some (told s))
+some_new detail base patches changed sets set s earlier first all is =
+    first_found detail base patches changed sets at set s earlier (failing_closed detail.kept base changed sets all) within read front first.out is
   where
     there : Contains sets set
     there = (all.exactly set).1 first.among
@@ -76,20 +77,20 @@ closed_known patches set closed id has =
     let known = closed.known id has in
     omega (arith, known, length-map patches (λ (p : Patch). p.deps))
 
-module _ (explain : Bool) (limit : ℕ) (rules : List Rule) (base : Disk) (last : Tracing) (patches : List Patch) where
+module _ (detail : Detail) (limit : ℕ) (rules : List Rule) (base : Disk) (last : Tracing) (patches : List Patch) where
   -- one rule more is told
-  pub rule_pushed : (some : List Rule) (rule : Rule) (told : List ToldRule) (usage : RuleUsage) → AreToldRules explain limit rules base last patches some told → IsRuleUsage explain limit rules base last patches rule usage
-      → AreToldRules explain limit rules base last patches (some ++ rule ∷ []) (told ++ record { rule = rule; usage = usage } ∷ [])
+  pub rule_pushed : (some : List Rule) (rule : Rule) (told : List ToldRule) (usage : RuleUsage) → AreToldRules detail limit rules base last patches some told → IsRuleUsage detail limit rules base last patches rule usage
+      → AreToldRules detail limit rules base last patches (some ++ rule ∷ []) (told ++ record { rule = rule; usage = usage } ∷ [])
   rule_pushed [] rule told usage are is = (usage, [], is, refl, ap (λ (ts : List ToldRule). ts ++ record { rule = rule; usage = usage } ∷ []) are)
   rule_pushed (r ∷ some) rule told usage (first, rest, of_first, more, whole) is =
       (first, rest ++ record { rule = rule; usage = usage } ∷ [], of_first, rule_pushed some rule rest usage more is, ap (λ (ts : List ToldRule). ts ++ record { rule = rule; usage = usage } ∷ []) whole)
 
   -- the rules told so far, with the next one
   pub rule_more : {A : Type 0} (items : List Rule) (i : ℕ) (d : Rule) (told after : List (code_rule.ToldRule A)) (usage : code_usage.RuleUsage A) → i < length items
-      → AreToldRules explain limit rules base last patches (take i items) (map told_rule told) → IsRuleUsage explain limit rules base last patches (get_or items i d) (usage_of usage)
-      → after ≡ told ++ record { rule = get_or items i d; usage = usage } ∷ [] → AreToldRules explain limit rules base last patches (take (i + 1) items) (map told_rule after)
+      → AreToldRules detail limit rules base last patches (take i items) (map told_rule told) → IsRuleUsage detail limit rules base last patches (get_or items i d) (usage_of usage)
+      → after ≡ told ++ record { rule = get_or items i d; usage = usage } ∷ [] → AreToldRules detail limit rules base last patches (take (i + 1) items) (map told_rule after)
   rule_more {A} items i d told after usage within are is more =
-      subst (λ (some : List Rule). AreToldRules explain limit rules base last patches some (map told_rule after)) (sym (take_more items i d within))
-      (subst (λ (ts : List ToldRule). AreToldRules explain limit rules base last patches (take i items ++ get_or items i d ∷ []) ts)
+      subst (λ (some : List Rule). AreToldRules detail limit rules base last patches some (map told_rule after)) (sym (take_more items i d within))
+      (subst (λ (ts : List ToldRule). AreToldRules detail limit rules base last patches (take i items ++ get_or items i d ∷ []) ts)
       (sym (ap (λ (ts : List (code_rule.ToldRule A)). map told_rule ts) more ∙ map_push told_rule told (record { rule = get_or items i d; usage = usage })))
       (rule_pushed (take i items) (get_or items i d) (map told_rule told) (usage_of usage) are is))

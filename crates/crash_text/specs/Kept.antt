@@ -12,9 +12,14 @@ use Rattle.crash_model.specs.declared.settings.Settings.{Settings}
 use Rattle.crash_model.specs.declared.settings.ReportBy.TheVariants.{BySet, ByFault, ByRule}
 use Rattle.fault_summary.specs.Prevented.{IsFirstPrevented}
 use Rattle.fault_summary.specs.declared.count.FailingCount.{FailingCount}
+use Rattle.crash_text.specs.declared.crashes.Crashes.{Crashes}
 use Rattle.crash_text.specs.declared.finding.Found.{Found}
 use Rattle.crash_text.specs.declared.finding.Kept.{Kept}
 use Rattle.crash_text.specs.declared.finding.Kept.TheVariants.{Sets, Faults, Number}
+
+-- a crash can leave the set, and it fails
+abbrev pub Fails : {A : Type 0} → Crashes A → ℕ → Type 0
+Fails c = IsFailingUnder c.kept c.base.now c.graph.now
 
 -- so many sets can a crash leave, at most the limit, and so many of them fail, which are these
 pub record AreTotals (limit : ℕ) (kept : Option ℕ) (base : Disk) (patches : List Patch) (closed failing : ℕ) (sets : List ℕ)

@@ -1,10 +1,11 @@
 -- What the report of a run tells.
-use Rattle.std.specs.Prelude.{◌≡◌, ◌⊎◌, ℕ, ◌<◌, List, Ok, Err}
+use Rattle.std.specs.Prelude.{◌≡◌, ◌⊎◌, ℕ, ◌<◌, List, Option, Ok, Err}
 use Rattle.std.specs.List.{All}
 use Rattle.crash_model.specs.Answer.{ordering_rules, IsReport}
 use Rattle.crash_model.specs.Disk.{Disk}
 use Rattle.crash_model.specs.Failing.{ExceedsLimit}
 use Rattle.crash_model.specs.Refusals.{run_of_trace}
+use Rattle.crash_model.specs.Strict.{IsToldKept}
 use Rattle.crash_model.specs.Trace.{Tracing, begun, traced, IsGraphOf}
 use Rattle.crash_model.specs.declared.patches.Patch.{Patch}
 use Rattle.crash_model.specs.declared.refusals.RunFault.{RunFault}
@@ -26,13 +27,13 @@ pub record IsTraceOf (settings : Settings) (base : Disk) (t : TracedPatches) (la
 -- what is found of traced patches that change blocks of the base
 pub record AreFindings {A : Type 0} (f : Findings A) : Type 0 where
   pub fits : All (λ patch. patch.block < f.base.now.blocks) f.traced.patches
-  pub found : AreFound f.settings.now f.base.now f.traced.patches f.found
+  pub found : AreFound f.settings.now f.kept f.base.now f.traced.patches f.found
 
 -- the text is the report on what is found, whatever state traced these patches
 abbrev pub IsReportOf : {A : Type 0} → Findings A → List ℕ → Type 0
 IsReportOf f text =
     (last : Tracing) → IsTraceOf f.settings.now f.base.now f.traced last
-    → IsReport f.settings.now f.base.now last f.traced.patches text f.found.failing
+    → IsReport f.settings.now f.kept f.base.now last f.traced.patches text f.found.failing
 
 -- the report on steps that are traced over the base
 pub record AreReported (settings : Settings) (base : Disk) (steps : List Step) (text : List ℕ) (failing : ℕ) : Type 0 where
@@ -40,7 +41,9 @@ pub record AreReported (settings : Settings) (base : Disk) (steps : List Step) (
   pub patches : List Patch
   pub run : traced settings.module (begun base) steps ≡ Ok last
   pub graph : IsGraphOf (ordering_rules settings) base last patches
-  pub report : IsReport settings base last patches text failing
+  pub kept : Option ℕ
+  pub told : IsToldKept settings.strict base steps kept
+  pub report : IsReport settings kept base last patches text failing
 
 -- a step is refused, or there are too many closed sets
 abbrev pub AreRefused : Settings → Disk → List Step → RunFault → Type 0

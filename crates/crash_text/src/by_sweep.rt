@@ -9,16 +9,15 @@ ghost use Rattle.patch_sets.specs.Closed.{IsClosed};
 ghost use Rattle.patch_sets.specs.Sets.{AreAllInOrder};
 ghost use Rattle.crash_model.specs.Patches.{AreUndo, deps_of};
 ghost use Rattle.crash_model.specs.Failing.{CountsClosed, ExceedsLimit};
-ghost use Rattle.crash_model.specs.Strict.{IsFailingUnder};
 ghost use Rattle.crash_model.specs.Summary.{HasFault, AreRows};
 ghost use Rattle.fault_summary.specs.Prevented.{IsFirstPrevented};
+ghost use Rattle.crash_text.specs.Kept.{Fails};
 
 use crate::crashes::Crashes;
 use crate::dependencies::dependencies;
 use crate::watching::GateWatch;
 use crash_image::PatchSpace;
 use crash_model::refusals::RunFault;
-use disk_image::Image;
 use explorers::{ExploreFault, Explored, Gate};
 use fault_summary::{
     CountVisitor, FailingCount, FaultVisitor, SweptFaults, sweep_count, sweep_faults,
@@ -47,7 +46,7 @@ where
     requires undo { AreUndo crashes.base.now crashes.graph.now }
     ensures total { IfOk result (λ found. CountsClosed crashes.graph.now found.total) }
     ensures within { IfOk result (λ found. found.total ≤ limit) }
-    ensures failing { IfOk result (λ found. AreAllInOrder (IsFailingUnder crashes.kept crashes.base.now crashes.graph.now) found.broken.items) }
+    ensures failing { IfOk result (λ found. AreAllInOrder (Fails crashes) found.broken.items) }
     ensures too_many { IfErr result (λ fault. (fault ≢ RunFault.OutOfMemory)
         → (fault ≡ RunFault.TooMany) × ExceedsLimit crashes.graph.now limit) }
 {
@@ -80,13 +79,14 @@ where
     requires undo { AreUndo crashes.base.now crashes.graph.now }
     ensures total { IfOk result (λ found. CountsClosed crashes.graph.now found.total) }
     ensures within { IfOk result (λ found. found.total ≤ limit) }
-    ensures failing { IfOk result (λ found. (sets : List ℕ) × AreAllInOrder (IsFailingUnder crashes.kept crashes.base.now crashes.graph.now) sets
+    ensures failing { IfOk result (λ found. (sets : List ℕ) × AreAllInOrder (Fails crashes) sets
         × (found.failing ≡ length sets)) }
-    ensures rows { IfOk result (λ found. AreRows (HasFault crashes.kept crashes.base.now crashes.graph.now) found.rows.items) }
+    ensures rows { IfOk result (λ found.
+        AreRows (HasFault crashes.kept crashes.base.now crashes.graph.now) found.rows.items) }
     ensures too_many { IfErr result (λ fault. (fault ≢ RunFault.OutOfMemory)
         → (fault ≡ RunFault.TooMany) × ExceedsLimit crashes.graph.now limit) }
 {
-    let visitor = FaultVisitor::new(alloc, base, graph);
+    let visitor = FaultVisitor::new(alloc, crashes.base, crashes.graph, crashes.kept);
     let deps = dependencies(crashes.graph);
     let watch = GateWatch { gate };
     match sweep_faults(rt, &visitor, &deps, limit, workers, &watch) {
@@ -116,14 +116,15 @@ where
     requires undo { AreUndo crashes.base.now crashes.graph.now }
     ensures total { IfOk result (λ found. CountsClosed crashes.graph.now found.total) }
     ensures within { IfOk result (λ found. found.total ≤ limit) }
-    ensures failing { IfOk result (λ found. (sets : List ℕ) × AreAllInOrder (IsFailingUnder crashes.kept crashes.base.now crashes.graph.now) sets
+    ensures failing { IfOk result (λ found. (sets : List ℕ) × AreAllInOrder (Fails crashes) sets
         × (found.failing ≡ length sets)) }
     ensures first { IfOk result (λ found.
-        IsFirstPrevented (IsFailingUnder crashes.kept crashes.base.now crashes.graph.now) (IsClosed (deps_of other.now)) found.first) }
+        IsFirstPrevented (Fails crashes) (IsClosed (deps_of other.now)) found.first) }
     ensures too_many { IfErr result (λ fault. (fault ≢ RunFault.OutOfMemory)
         → (fault ≡ RunFault.TooMany) × ExceedsLimit crashes.graph.now limit) }
 {
-    let visitor = CountVisitor::new(alloc, base, graph, other);
+    let space = PatchSpace::new(crashes.base, crashes.graph, crashes.kept);
+    let visitor = CountVisitor::new(alloc, space, other);
     let deps = dependencies(crashes.graph);
     let watch = GateWatch { gate };
     match sweep_count(rt, &visitor, &deps, limit, workers, &watch) {

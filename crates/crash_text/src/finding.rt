@@ -10,10 +10,9 @@ ghost use Rattle.patch_sets.specs.Closed.{IsClosed};
 ghost use Rattle.patch_sets.specs.Sets.{AreAllInOrder, IsBefore};
 ghost use Rattle.crash_model.specs.Patches.{AreUndo, deps_of};
 ghost use Rattle.crash_model.specs.Failing.{CountsClosed, ExceedsLimit};
-ghost use Rattle.crash_model.specs.Strict.{IsFailingUnder};
 ghost use Rattle.crash_model.specs.declared.settings.ReportBy.TheVariants.{ByFault};
 ghost use Rattle.fault_summary.specs.Prevented.{IsFirstPrevented};
-ghost use Rattle.crash_text.specs.Kept.{AreFound, IsCountWith};
+ghost use Rattle.crash_text.specs.Kept.{AreFound, Fails, IsCountWith};
 ghost use Rattle.crash_text.specs.Limits.{IsExplorable};
 
 use crate::by_sweep::{swept, swept_count, swept_faults};
@@ -147,7 +146,8 @@ where
     requires workers { (1 ≤ workers) × (workers ≤ 16) }
     requires fits { All (λ patch. patch.block < crashes.base.now.blocks) crashes.graph.now }
     requires undo { AreUndo crashes.base.now crashes.graph.now }
-    ensures counted { IfOk result (IsCountWith settings.now.limit crashes.kept crashes.base.now crashes.graph.now other.now) }
+    ensures counted { IfOk result
+        (IsCountWith settings.now.limit crashes.kept crashes.base.now crashes.graph.now other.now) }
     ensures too_many { IfErr result (λ fault. (fault ≢ RunFault.OutOfMemory)
         → (fault ≡ RunFault.TooMany) × ExceedsLimit crashes.graph.now settings.now.limit) }
 {
@@ -183,7 +183,7 @@ where
     requires undo { AreUndo crashes.base.now crashes.graph.now }
     ensures total { IfOk result (λ found. CountsClosed crashes.graph.now found.total) }
     ensures within { IfOk result (λ found. found.total ≤ settings.now.limit) }
-    ensures failing { IfOk result (λ found. AreAllInOrder (IsFailingUnder crashes.kept crashes.base.now crashes.graph.now) found.broken.items) }
+    ensures failing { IfOk result (λ found. AreAllInOrder (Fails crashes) found.broken.items) }
     ensures too_many { IfErr result (λ fault. (fault ≢ RunFault.OutOfMemory)
         → (fault ≡ RunFault.TooMany) × ExceedsLimit crashes.graph.now settings.now.limit) }
 {

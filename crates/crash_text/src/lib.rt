@@ -3,8 +3,10 @@
 
 mod board_limit;
 mod by_sweep;
+mod crashes;
 mod dependencies;
 mod finding;
+mod keeping;
 mod needs;
 mod on_board;
 pub mod run;

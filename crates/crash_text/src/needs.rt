@@ -4,8 +4,8 @@ ghost use Rattle.std.specs.Prelude.{◌≡◌, ℕ, ◌<◌, ◌≤◌, List, ma
 ghost use Rattle.std.specs.List.{All};
 ghost use Rattle.patch_sets.specs.Closed.{AreEarlier, IsClosed};
 ghost use Rattle.patch_sets.specs.Sets.{AreAllInOrder};
-ghost use Rattle.crash_model.specs.Answer.{ordering_rules};
-ghost use Rattle.crash_model.specs.Failing.{IsFailing};
+ghost use Rattle.crash_model.specs.Answer.{detail_of, ordering_rules};
+ghost use Rattle.crash_model.specs.Strict.{IsFailingUnder};
 ghost use Rattle.crash_model.specs.Needs.{AreToldRules, IsFirstNew, IsRuleUsage};
 ghost use Rattle.crash_model.specs.Patches.{deps_of};
 ghost use Rattle.crash_model.specs.Trace.{Tracing};
@@ -16,6 +16,7 @@ ghost use Rattle.report_sections.specs.ToldRules.{told_rule, usage_of};
 ghost use Rattle.crash_text.specs.Limits.{IsExplorable};
 ghost use Rattle.crash_text.specs.Telling.{AreFindings, IsReportOf, IsTraceOf};
 
+use crate::crashes::Crashes;
 use crate::finding::count_failing;
 use crate::telling::Findings;
 use crash_model::refusals::RunFault;
@@ -71,7 +72,7 @@ where
     requires found { AreFindings findings.now }
     ensures { IfOk result (λ rules. (last : Tracing)
         → IsTraceOf findings.now.settings.now findings.now.base.now findings.now.traced last
-        → AreToldRules findings.now.settings.now.explain findings.now.settings.now.limit
+        → AreToldRules (detail_of findings.now.settings.now findings.now.kept) findings.now.settings.now.limit
         (ordering_rules findings.now.settings.now) findings.now.base.now last findings.now.traced.patches
         (ordering_rules findings.now.settings.now) (map told_rule rules.items)) }
 {
@@ -103,16 +104,23 @@ where
     requires found { AreFindings findings.now }
     ensures { IfOk result (λ usage. (last : Tracing) → last.emitted ≡ findings.now.traced.emitted
         → last.links ≡ findings.now.traced.links
-        → IsRuleUsage findings.now.settings.now.explain findings.now.settings.now.limit findings.now.traced.rules
-        findings.now.base.now last findings.now.traced.patches rule (usage_of usage)) }
+        → IsRuleUsage (detail_of findings.now.settings.now findings.now.kept) findings.now.settings.now.limit
+        findings.now.traced.rules findings.now.base.now last findings.now.traced.patches rule (usage_of usage)) }
 {
     let pairs = findings.traced.pairs(rule);
     if pairs == 0 {
         return Ok(RuleUsage::Unused);
     }
-    let (base, graph, settings) = (findings.base, findings.traced.graph(), findings.settings);
-    let changed = findings.traced.graph_without(alloc, base, rule)?;
-    match count_failing(rt, alloc, base, &changed, graph, settings, workers, gate) {
+    let (graph, settings) = (findings.traced.graph(), findings.settings);
+    let changed = findings
+        .traced
+        .graph_without(alloc, findings.base, rule)?;
+    let crashes = Crashes {
+        base: findings.base,
+        graph: &changed,
+        kept: findings.kept,
+    };
+    match count_failing(rt, alloc, crashes, graph, settings, workers, gate) {
         Ok(count) => Ok(RuleUsage::Used {
             pairs,
             closed: count.total,
@@ -135,18 +143,17 @@ fn first_section<A: Allocator + Copy>(
 ) -> Result<Option<Section<A>>, AllocError>
     requires fits { All (λ patch. patch.block < findings.now.base.now.blocks) changed.now }
     requires earlier { AreEarlier (deps_of changed.now) }
-    requires first { IsFirstPrevented (IsFailing findings.now.base.now changed.now)
+    requires first { IsFirstPrevented (IsFailingUnder findings.now.kept findings.now.base.now changed.now)
         (IsClosed (deps_of findings.now.traced.patches)) set }
-    ensures { IfOk result (λ first. (sets : List ℕ) → AreAllInOrder (IsFailing findings.now.base.now changed.now) sets
-        → IsFirstNew findings.now.settings.now.explain findings.now.base.now findings.now.traced.patches changed.now
-        sets
-        (option_map told first)) }
+    ensures { IfOk result (λ first. (sets : List ℕ)
+        → AreAllInOrder (IsFailingUnder findings.now.kept findings.now.base.now changed.now) sets
+        → IsFirstNew (detail_of findings.now.settings.now findings.now.kept) findings.now.base.now
+        findings.now.traced.patches changed.now sets (option_map told first)) }
 {
     let Some(set) = set else {
         return Ok(None);
     };
-    let explain = findings.settings.explain;
-    let mut maker = SectionMaker::new(alloc, findings.base, changed, explain)?;
+    let mut maker = SectionMaker::new(alloc, findings.base, changed, findings.detail())?;
     let section = maker.section(set)?;
     Ok(Some(section))
 }

@@ -5,16 +5,14 @@ ghost use Rattle.std.specs.List.{All};
 ghost use Rattle.patch_sets.specs.Sets.{AreAllInOrder};
 ghost use Rattle.crash_model.specs.Patches.{AreUndo};
 ghost use Rattle.crash_model.specs.Failing.{CountsClosed, ExceedsLimit};
-ghost use Rattle.crash_model.specs.Strict.{IsFailingUnder};
+ghost use Rattle.crash_text.specs.Kept.{Fails};
 
 use crate::board_limit::board_limit;
 use crate::crashes::Crashes;
 use crate::dependencies::dependencies;
 use crash_image::{PatchSpace, exploring_finds_the_failing_sets};
 use crash_model::refusals::RunFault;
-use disk_image::Image;
 use explorers::{ExploreFault, Explored, Gate, explore};
-use patch_graph::Graph;
 use set_sweep::count_closed;
 use std::alloc::Allocator;
 use std::sync::Wait;
@@ -46,7 +44,7 @@ where
     requires undo { AreUndo crashes.base.now crashes.graph.now }
     ensures total { IfOk result (λ found. CountsClosed crashes.graph.now found.total) }
     ensures within { IfOk result (λ found. found.total ≤ limit) }
-    ensures failing { IfOk result (λ found. AreAllInOrder (IsFailingUnder crashes.kept crashes.base.now crashes.graph.now) found.broken.items) }
+    ensures failing { IfOk result (λ found. AreAllInOrder (Fails crashes) found.broken.items) }
     ensures too_many { IfErr result (λ fault. (fault ≢ RunFault.OutOfMemory)
         → (fault ≡ RunFault.TooMany) × ExceedsLimit crashes.graph.now limit) }
 {

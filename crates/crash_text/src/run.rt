@@ -10,7 +10,9 @@ ghost use Rattle.crash_text.specs.BaseRefusal.{IsBaseRefusal};
 ghost use Rattle.crash_text.specs.Limits.{IsExplorable};
 ghost use Rattle.crash_text.specs.Telling.{AreReported, AreRefused};
 
+use crate::crashes::Crashes;
 use crate::finding::{Kept, find};
+use crate::keeping::told_kept;
 use crate::needs::report_by_rule;
 use crate::telling::Findings;
 use crash_model::refusals::RunFault;
@@ -36,7 +38,7 @@ pub struct Outcome<A: Allocator> {
 /// For every number of workers, 1 to 16, and every schedule, an answer other than out of memory is the one defined for
 /// the script's bytes and the settings, without threads. `heap` is what JSON is made with. The gate is told of each
 /// claim of a worker on a board, and of how far a run is. Under the full journal with no rule taken out no set fails,
-/// whatever the script and the rules put in.
+/// whatever the script and the rules put in, by a strict checker either.
 pub fn run<R, A, G>(
     rt: &R,
     heap: Global,
@@ -92,12 +94,21 @@ where
         → IfOk result (λ outcome. outcome.failing ≡ 0) }
 {
     let ordering = settings.ordering();
+    // For the proof: what every image keeps.
+    let _blocks = base.blocks();
     let traced = trace(alloc, base, steps, &ordering)?;
-    let found = find(rt, alloc, base, traced.graph(), settings, workers, gate)?;
+    let kept = told_kept(base, steps, settings)?;
+    let crashes = Crashes {
+        base,
+        graph: traced.graph(),
+        kept,
+    };
+    let found = find(rt, alloc, crashes, settings, workers, gate)?;
     let findings = Findings {
         base,
         traced,
         settings,
+        kept,
         found,
     };
     let text = match &findings.found.kept {

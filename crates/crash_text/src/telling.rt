@@ -2,8 +2,8 @@
 
 ghost use Rattle.std.specs.Prelude.{◌≡◌, map, IfOk, string_bytes};
 ghost use Rattle.patch_sets.specs.Sets.{AreAllInOrder};
-ghost use Rattle.crash_model.specs.Answer.{ordering_rules};
-ghost use Rattle.crash_model.specs.Failing.{IsFailing};
+ghost use Rattle.crash_model.specs.Answer.{detail_of, ordering_rules};
+ghost use Rattle.crash_model.specs.Strict.{IsFailingUnder};
 ghost use Rattle.crash_model.specs.Needs.{AreToldRules};
 ghost use Rattle.crash_model.specs.Summary.{HasFault, AreRows};
 ghost use Rattle.crash_model.specs.Trace.{Tracing};
@@ -15,7 +15,7 @@ ghost use Rattle.crash_text.specs.Telling.{AreFindings, IsReportOf, IsTraceOf};
 
 use crate::finding::Found;
 use crash_model::fault::FaultRow;
-use crash_model::settings::Settings;
+use crash_model::settings::{Detail, Settings};
 use disk_image::Image;
 use order_modules::Traced;
 use report_json::report_json;
@@ -24,12 +24,14 @@ use report_text::report_text;
 use std::alloc::{AllocError, Allocator, Global};
 use std::thread::Threads;
 
-/// What was found of the patches that were traced over a base.
+/// What was found of the patches that were traced over a base, by the checker that is told of these kept inodes or of
+/// none.
 #[derive(Drop)]
 pub(crate) struct Findings<'steps, 'asked, A: Allocator + Copy> {
     pub base: &'steps Image<A>,
     pub traced: Traced<'steps, A>,
     pub settings: &'asked Settings,
+    pub kept: Option<u16>,
     pub found: Found<A>,
 }
 
@@ -45,7 +47,8 @@ impl<'steps, 'asked, A: Allocator + Copy + Send + Sync> Findings<'steps, 'asked,
     ) -> Result<String<A>, AllocError>
         requires found { AreFindings self.now }
         requires by { self.now.settings.now.by ≡ BySet }
-        requires sets { AreAllInOrder (IsFailing self.now.base.now self.now.traced.patches) sets.now }
+        requires sets { AreAllInOrder (IsFailingUnder self.now.kept self.now.base.now self.now.traced.patches)
+            sets.now }
         ensures { IfOk result (λ text. IsReportOf self.now (string_bytes text)) }
     {
         let report = self.report(Body::Sets(sets));
@@ -64,7 +67,7 @@ impl<'steps, 'asked, A: Allocator + Copy + Send + Sync> Findings<'steps, 'asked,
     ) -> Result<String<A>, AllocError>
         requires found { AreFindings self.now }
         requires by { self.now.settings.now.by ≡ ByFault }
-        requires rows { AreRows (HasFault self.now.base.now self.now.traced.patches) rows.now }
+        requires rows { AreRows (HasFault self.now.kept self.now.base.now self.now.traced.patches) rows.now }
         ensures { IfOk result (λ text. IsReportOf self.now (string_bytes text)) }
     {
         let report = self.report(Body::Faults(rows));
@@ -84,7 +87,7 @@ impl<'steps, 'asked, A: Allocator + Copy + Send + Sync> Findings<'steps, 'asked,
         requires found { AreFindings self.now }
         requires by { self.now.settings.now.by ≡ ByRule }
         requires rules { (last : Tracing) → IsTraceOf self.now.settings.now self.now.base.now self.now.traced last
-            → AreToldRules self.now.settings.now.explain self.now.settings.now.limit
+            → AreToldRules (detail_of self.now.settings.now self.now.kept) self.now.settings.now.limit
             (ordering_rules self.now.settings.now) self.now.base.now last self.now.traced.patches
             (ordering_rules self.now.settings.now) (map told_rule rules.now) }
         ensures { IfOk result (λ text. IsReportOf self.now (string_bytes text)) }
@@ -92,6 +95,16 @@ impl<'steps, 'asked, A: Allocator + Copy + Send + Sync> Findings<'steps, 'asked,
         let report = self.report(Body::Rules(rules));
         let text = write_report(rt, heap, alloc, &report, workers)?;
         Ok(text)
+    }
+
+    /// How much is told of a set.
+    pub fn detail(&self) -> Detail
+        ensures { result ≡ detail_of self.now.settings.now self.now.kept }
+    {
+        Detail {
+            explain: self.settings.explain,
+            kept: self.kept,
+        }
     }
 
     /// The report with this body.
@@ -102,6 +115,7 @@ impl<'steps, 'asked, A: Allocator + Copy + Send + Sync> Findings<'steps, 'asked,
         ensures base { result.base.now ≡ self.now.base.now }
         ensures traced { result.traced.now ≡ self.now.traced }
         ensures settings { result.settings.now ≡ self.now.settings.now }
+        ensures detail { result.detail ≡ detail_of self.now.settings.now self.now.kept }
         ensures closed { result.closed ≡ self.now.found.closed }
         ensures failing { result.failing ≡ self.now.found.failing }
         ensures body { result.body ≡ body.entry }
@@ -110,6 +124,7 @@ impl<'steps, 'asked, A: Allocator + Copy + Send + Sync> Findings<'steps, 'asked,
             base: self.base,
             traced: &self.traced,
             settings: self.settings,
+            detail: self.detail(),
             closed: self.found.closed,
             failing: self.found.failing,
             body,
@@ -130,7 +145,7 @@ where
     A: Allocator + Copy + Send + Sync,
     requires tell { CanTell report.now }
     ensures { IfOk result (λ text. (body : WholeBody)
-        × TellsBody report.now.settings.now.explain report.now.base.now report.now.traced.now.patches report.now.body
+        × TellsBody report.now.detail report.now.base.now report.now.traced.now.patches report.now.body
         body
         × (string_bytes text ≡ report_bytes report.now.settings.now (whole_of report.now body))) }
 {

@@ -2,7 +2,7 @@ use Rattle.std.proofs.Common.{rules, ◌≡◌, ℕ, List, length, sym, subst}
 use Rattle.std.specs.List.{AllPairs, Contains}
 use Rattle.patch_sets.specs.Closed.{IsClosed}
 use Rattle.patch_sets.specs.Sets.{IsBefore}
-use Rattle.crash_model.specs.Failing.{IsFailing}
+use Rattle.crash_model.specs.Strict.{IsFailingUnder}
 use Rattle.crash_model.specs.Patches.{deps_of}
 use Rattle.fault_summary.specs.Prevented.{IsFirstPrevented}
 use Rattle.fault_summary.proofs.Prevented.{first_like}
@@ -25,6 +25,6 @@ returns-clause-counted g c =
         exactly = c.in_ok-found.ensures.failing;
         number = number;
       };
-      first = first_like (Contains sets) (IsFailing c.args.base.now c.args.graph.now) allowed c.in_ok-found.ensures.failing.exactly c.first_prevented.result
+      first = first_like (Contains sets) (IsFailingUnder c.args.crashes.kept c.args.crashes.base.now c.args.crashes.graph.now) allowed c.in_ok-found.ensures.failing.exactly c.first_prevented.result
           (subst (λ (ss : List ℕ). IsFirstPrevented (Contains ss) allowed c.first_prevented.result) c.deref.ensures.value c.first_prevented.ensures);
     }

@@ -1,7 +1,8 @@
 use Rattle.std.proofs.Common.{ℕ, subst}
 use Rattle.std.specs.Prelude.{Option}
 use Rattle.patch_sets.specs.Closed.{IsClosed}
-use Rattle.crash_model.specs.Failing.{IsFailing}
+use Rattle.crash_model.specs.Answer.{detail_of}
+use Rattle.crash_model.specs.Strict.{IsFailingUnder}
 use Rattle.crash_model.specs.Patches.{deps_of}
 use Rattle.fault_summary.specs.Prevented.{IsFirstOut, IsFirstPrevented}
 use Rattle.report_sections.specs.Maker.{Reported}
@@ -14,7 +15,7 @@ returns-in_default g c = λ sets all.
     let f = c.args.findings.now in
     let changed = c.args.changed.now in
     let patches = f.traced.patches in
-    none_new f.base.now patches changed sets (subst (λ (o : Option ℕ). IsFirstPrevented (IsFailing f.base.now changed) (IsClosed (deps_of patches)) o) c.in_default.is c.requires.first) all
+    none_new f.kept f.base.now patches changed sets (subst (λ (o : Option ℕ). IsFirstPrevented (IsFailingUnder f.kept f.base.now changed) (IsClosed (deps_of patches)) o) c.in_default.is c.requires.first) all
 
 pub returns : goal.returns
 returns g c = λ sets all.
@@ -23,6 +24,6 @@ returns g c = λ sets all.
     let patches = f.traced.patches in
     let set = c.in-Some.set in
     let section = c.in_ok-section.section in
-    let first : IsFirstOut (IsFailing f.base.now changed) (IsClosed (deps_of patches)) set = subst (λ (o : Option ℕ). IsFirstPrevented (IsFailing f.base.now changed) (IsClosed (deps_of patches)) o) c.in-Some.is c.requires.first in
-    let is : IsSection f.settings.now.explain f.base.now changed set section = subst (λ (m : Reported). IsSection m.explain m.base m.patches set section) c.in_ok-maker.ensures c.in_ok-section.ensures.told in
-    some_new f.settings.now.explain f.base.now patches changed sets set section c.requires.earlier first all is
+    let first : IsFirstOut (IsFailingUnder f.kept f.base.now changed) (IsClosed (deps_of patches)) set = subst (λ (o : Option ℕ). IsFirstPrevented (IsFailingUnder f.kept f.base.now changed) (IsClosed (deps_of patches)) o) c.in-Some.is c.requires.first in
+    let is : IsSection (detail_of f.settings.now f.kept) f.base.now changed set section = subst (λ (m : Reported). IsSection m.detail m.base m.patches set section) c.in_ok-maker.ensures c.in_ok-section.ensures.told in
+    some_new (detail_of f.settings.now f.kept) f.base.now patches changed sets set section c.requires.earlier first all is

@@ -4,7 +4,8 @@ use Rattle.state_space.proofs.Counting.{not_more}
 use Rattle.patch_sets.specs.Sets.{AreAllInOrder}
 use Rattle.patch_sets.specs.Closed.{IsClosed}
 use Rattle.crash_model.specs.Patches.{deps_of}
-use Rattle.crash_model.specs.Failing.{IsFailing, CountsClosed, ExceedsLimit}
+use Rattle.crash_model.specs.Failing.{CountsClosed, ExceedsLimit}
+use Rattle.crash_model.specs.Strict.{IsFailingUnder}
 use Rattle.crash_text.proofs.on_board.explored_on_board.Goals as goal
 
 pub returns-in-Ok-clause-total : goal.returns-in-Ok-clause-total
@@ -14,13 +15,13 @@ returns-in-Ok-clause-total g c =
 
 pub returns-in-Ok-clause-failing : goal.returns-in-Ok-clause-failing
 returns-in-Ok-clause-failing g c =
-    subst (λ s. AreAllInOrder (IsFailing s.base s.patches) c.in-Ok.found.broken.items) c.new-space.ensures
+    subst (λ s. AreAllInOrder (IsFailingUnder s.kept s.base s.patches) c.in-Ok.found.broken.items) c.new-space.ensures
     (c.exploring_finds_the_failing_sets.ensures.failing c.in-Ok.found.broken.items c.in-Ok.ensures.found.broken)
 
 -- the board is as large as the sets are many, so it is never too small for them
 pub returns-in-Err-TooMany-clause-too_many : goal.returns-in-Err-TooMany-clause-too_many
 returns-in-Err-TooMany-clause-too_many g c =
-    let patches = c.args.graph.now in
+    let patches = c.args.crashes.graph.now in
     let sets = c.in-Some.sets in
     let counted : CountsClosed patches sets =
     subst (λ deps. HoldsOf (IsClosed deps) sets) (c.deref.ensures.0 ∙ c.dependencies-deps.ensures.exact) c.in-Some.ensures.0 in

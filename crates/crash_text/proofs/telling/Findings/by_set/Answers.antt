@@ -9,12 +9,12 @@ write_report-requires-clause-tell g c = λ _ _.
     let f = c.args.self.now in
     let r = c.report-report.ensures in
     can_tell c.report-report.result f.base.now f.traced r.base r.traced c.requires.found.fits
-    (subst (λ b. AreKnown f.traced.patches (sets_of b)) (sym r.body) (failing-known _ _ _ c.requires.sets))
+    (subst (λ b. AreKnown f.traced.patches (sets_of b)) (sym r.body) (failing-known _ _ _ _ c.requires.sets))
 
 pub returns : goal.returns
 returns g c = λ last is.
     let f = c.args.self.now in
     let r = c.report-report.ensures in
     let found = c.requires.found.found in
-    by_set f.settings.now f.base.now f.traced last is g.row.A.Denot f.found.closed f.found.failing found.sets (string_bytes c.in_ok-text.text) c.args.sets found.totals c.requires.by c.requires.sets
-    (tells_of c.report-report.result f.settings.now f.base.now f.traced f.found.closed f.found.failing _ _ r.settings r.base r.traced r.closed r.failing r.body c.in_ok-text.ensures)
+    by_set f.settings.now f.kept f.base.now f.traced last is g.row.A.Denot f.found.closed f.found.failing found.sets (string_bytes c.in_ok-text.text) c.args.sets found.totals c.requires.by c.requires.sets
+    (tells_of c.report-report.result f.settings.now _ f.base.now f.traced f.found.closed f.found.failing _ _ r.settings r.detail r.base r.traced r.closed r.failing r.body c.in_ok-text.ensures)
