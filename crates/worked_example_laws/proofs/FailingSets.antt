@@ -15,7 +15,6 @@ use Rattle.patch_sets.proofs.Ids.{eq_from_true, true_from_eq}
 use Rattle.crash_model.specs.Rules.{rules_of}
 use Rattle.crash_model.specs.Disk.{Disk}
 use Rattle.crash_model.specs.Patches.{deps_of, image_of}
-use Rattle.crash_model.specs.Faults.{faults}
 use Rattle.crash_model.specs.Replay.{replayed}
 use Rattle.crash_model.specs.Failing.{IsFailing, CountsClosed}
 use Rattle.crash_model.specs.Strict.{faults_under, IsFailingUnder}

@@ -110,3 +110,19 @@ settings_of kind blocks journal limit json = record {
   strict = false;
   by = BySet;
 }
+
+-- the same where the checker asks of what the script keeps
+abbrev pub strict_settings_of : Module → ℕ → ℕ → ℕ → Bool → Settings
+strict_settings_of kind blocks journal limit json = record {
+  «module» = kind;
+  without = record { items = [] };
+  with = record { items = [] };
+  blocks = blocks;
+  journal = journal;
+  limit = limit;
+  explorer = Auto;
+  json = json;
+  explain = false;
+  strict = true;
+  by = BySet;
+}

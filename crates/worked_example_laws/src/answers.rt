@@ -6,7 +6,7 @@ ghost use Rattle.crash_model.specs.Answer.{Refused, Reported, IsAnswer};
 ghost use Rattle.crash_model.specs.declared.refusals.RunFault.TheVariants as run;
 ghost use Rattle.crash_model.specs.declared.steps.Module.TheVariants.{Async, Soft, Meta, Full};
 ghost use Rattle.worked_example_laws.specs.Computed.{set_of};
-ghost use Rattle.worked_example_laws.specs.Spelled.{settings_of};
+ghost use Rattle.worked_example_laws.specs.Spelled.{settings_of, strict_settings_of};
 
 /// Nothing is traced: the empty set is the one closed set, and it does not fail.
 pub fn an_empty_trace_is_reported()
@@ -40,6 +40,21 @@ pub fn a_second_link_is_reported()
 pub fn a_rename_is_reported()
     ensures { IsAnswer (codes "create /a\nstart\nrename /a /b\n") (settings_of Async 16 0 4096 false)
         (Reported (codes "module async\npatches 4\nclosed 12\nfailing 2\nset 1\nwrite block 4: 1\nfault 4 low link count: inode 1 entries 2 links 1\nset 0 1 3\nwrite block 2: 0\nwrite block 4: 1\nwrite block 2: 3\nfault 4 low link count: inode 1 entries 2 links 1\n") 2) }
+{}
+
+/// A link and an unlink are two operations, and soft updates do not order the new name before the old one's removal: the
+/// file is kept, and three sets lose it. Nothing else fails.
+pub fn a_file_that_loses_its_names_is_reported()
+    ensures strict { IsAnswer (codes "create /a\nstart\nlink /a /b\nunlink /a\n") (strict_settings_of Soft 16 0 4096 true)
+        (Reported (codes "{\"closed\":8,\"failing\":[{\"faults\":[\"7 lost inode: inode 1\"],\"set\":[2],\"writes\":[{\"block\":4,\"patches\":[2]}]},{\"faults\":[\"7 lost inode: inode 1\"],\"set\":[0,2],\"writes\":[{\"block\":2,\"patches\":[0]},{\"block\":4,\"patches\":[2]}]},{\"faults\":[\"7 lost inode: inode 1\"],\"set\":[0,2,3],\"writes\":[{\"block\":2,\"patches\":[0]},{\"block\":4,\"patches\":[2]},{\"block\":2,\"patches\":[3]}]}],\"module\":\"soft\",\"patches\":4,\"strict\":true}\n") 3) }
+    ensures unasked { IsAnswer (codes "create /a\nstart\nlink /a /b\nunlink /a\n") (settings_of Soft 16 0 4096 true)
+        (Reported (codes "{\"closed\":8,\"failing\":[],\"module\":\"soft\",\"patches\":4}\n") 0) }
+{}
+
+/// An inode that is freed and made anew is not kept.
+pub fn an_inode_that_is_freed_is_not_kept()
+    ensures { IsAnswer (codes "create /a\nstart\nunlink /a\ncreate /b\n") (strict_settings_of Soft 16 0 4096 false)
+        (Reported (codes "module soft\nstrict\npatches 4\nclosed 5\nfailing 0\n") 0) }
 {}
 
 /// A set is cut where the block changes, and not put together by block.

@@ -14,20 +14,24 @@ pub fn a_file_without_a_name_is_lost()
     ensures lost { faults_under (Some 3) (put (after fresh (Create a ∷ [])) 4 8 (replicate 12 0)) ≡ Lost 1 ∷ [] }
     ensures unasked { faults_under None (put (after fresh (Create a ∷ [])) 4 8 (replicate 12 0)) ≡ [] }
     ensures not_kept { faults_under (Some 1) (put (after fresh (Create a ∷ [])) 4 8 (replicate 12 0)) ≡ [] }
-    ensures two_names { faults_under (Some 3) (put (after fresh (Create a ∷ [])) 4 20 (2 ∷ 1 ∷ 98 ∷ replicate 9 0)) ≡ LowLinks 1 2 1 ∷ [] }
+    ensures two_names { faults_under (Some 3) (put (after fresh (Create a ∷ [])) 4 20 (2 ∷ 1 ∷ 98 ∷ replicate 9 0))
+        ≡ LowLinks 1 2 1 ∷ [] }
 {}
 
 /// `mkdir /d` with the name and without the block, and beside it a file without a name: by number, then by inode.
 pub fn a_directory_that_is_named_has_a_block()
     ensures alone { faults_under (Some 1) (put (put fresh 2 16 (2 ∷ 1 ∷ [])) 4 8 (2 ∷ 1 ∷ 100 ∷ [])) ≡ NoBlock 1 ∷ [] }
-    ensures beside { faults_under (Some 3) (put (put fresh 2 16 (1 ∷ 1 ∷ replicate 14 0 ++ 2 ∷ 1 ∷ [])) 4 20 (3 ∷ 1 ∷ 100 ∷ [])) ≡ Lost 1 ∷ NoBlock 2 ∷ [] }
+    ensures beside { faults_under (Some 3)
+        (put (put fresh 2 16 (1 ∷ 1 ∷ replicate 14 0 ++ 2 ∷ 1 ∷ [])) 4 20 (3 ∷ 1 ∷ 100 ∷ []))
+        ≡ Lost 1 ∷ NoBlock 2 ∷ [] }
     ensures nameless { faults_under (Some 1) (put fresh 2 16 (2 ∷ 1 ∷ [])) ≡ [] }
 {}
 
 /// Without the root's inode, and without its block, nothing is reached from it.
 pub fn nothing_is_reached_without_the_root()
     ensures inode { faults_under (Some 1) (put fresh 2 0 (replicate 16 0)) ≡ Lost 0 ∷ [] }
-    ensures file { faults_under (Some 3) (put (after fresh (Create a ∷ [])) 2 0 (1 ∷ [])) ≡ Unwritten 0 0 4 ∷ Lost 0 ∷ Lost 1 ∷ [] }
+    ensures file { faults_under (Some 3) (put (after fresh (Create a ∷ [])) 2 0 (1 ∷ []))
+        ≡ Unwritten 0 0 4 ∷ Lost 0 ∷ Lost 1 ∷ [] }
 {}
 
 /// A script keeps what no operation frees and none has made; an inode that is freed and made anew is not kept.
