@@ -29,7 +29,7 @@ pub fn judge_rounds(
     requires undo { AreUndo base.now graph.now }
     requires closed { All (IsClosed (deps_of graph.now)) sets.now }
 {
-    let space = PatchSpace::new(base, graph);
+    let space = PatchSpace::new(base, graph, None);
     let mut scratch = space.scratch()?;
     let mut failing = 0;
     let start = Instant::now(rt)?;

@@ -52,7 +52,7 @@ fn trace_of<'m>(memory: Memory<'m>) -> Result<Trace<'m>, Fail>
 fn judging_takes_none(rt: HostRuntime) -> Result<(), Fail> {
     let memory = Refusing::new(rt.alloc());
     let script = trace_of(&memory)?;
-    let space = PatchSpace::new(&script.base, &script.graph);
+    let space = PatchSpace::new(&script.base, &script.graph, None);
     let mut scratch = space.scratch()?;
     memory.gauge().refuse(1, u64::MAX);
     let mut closed = 0u32;
@@ -76,7 +76,7 @@ fn walking_a_graph_takes_none(rt: HostRuntime) -> Result<(), Fail> {
     let memory = Refusing::new(rt.alloc());
     let script = trace_of(&memory)?;
     memory.gauge().refuse(1, u64::MAX);
-    let space = PatchSpace::new(&script.base, &script.graph);
+    let space = PatchSpace::new(&script.base, &script.graph, None);
     let start = space.start();
     assert_eq!(rt; (start, space.degree(start)), (0, 4));
     assert_eq!(rt; space.next(start, 3), 8);

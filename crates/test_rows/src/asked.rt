@@ -88,6 +88,46 @@ pub fn begins<R: Files + Abort + AllocGlobal + Threads + Wait + Sync>(
     Ok(())
 }
 
+/// Who explores, with how many workers.
+pub const EXPLORED: [&str; 8] = [
+    "--explorer board --workers 1",
+    "--explorer board --workers 2",
+    "--explorer board --workers 8",
+    "--explorer board --workers 16",
+    "--explorer sweep --workers 1",
+    "--explorer sweep --workers 2",
+    "--explorer sweep --workers 8",
+    "--explorer sweep --workers 16",
+];
+
+/// Each explorer with every number of workers reports exactly this.
+pub fn all_report<R: Files + Abort + AllocGlobal + Threads + Wait + Sync>(
+    rt: &R,
+    words: &str,
+    script: &[u8],
+    status: u8,
+    report: &str,
+) -> Result<(), Fail> {
+    for explored in EXPLORED {
+        exactly(rt, &[words, explored], script, status, report, "")?;
+    }
+    Ok(())
+}
+
+/// Each explorer with every number of workers begins its report so.
+pub fn all_begin<R: Files + Abort + AllocGlobal + Threads + Wait + Sync>(
+    rt: &R,
+    words: &str,
+    script: &[u8],
+    status: u8,
+    head: &str,
+) -> Result<(), Fail> {
+    for explored in EXPLORED {
+        begins(rt, &[words, explored], script, status, head)?;
+    }
+    Ok(())
+}
+
 /// The program reports failing sets, and these lines stand in its report.
 pub fn shows<R: Files + Abort + AllocGlobal + Threads + Wait + Sync>(
     rt: &R,

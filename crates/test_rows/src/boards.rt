@@ -103,7 +103,7 @@ fn settle_entry<S: Space, R: Abort + Wait>(
 #[test]
 fn the_end_comes_with_the_last_of_four_entries(rt: HostRuntime) -> Result<(), Fail> {
     let script = trace_of_asked(rt.alloc(), &CREATE)?;
-    let space = PatchSpace::new(&script.base, &script.graph);
+    let space = PatchSpace::new(&script.base, &script.graph, None);
     let mut scratch = space.scratch()?;
     let (board, mut seat, _) = Board::open(rt.alloc(), &space, 4)?;
     assert!(rt; board.claim(&mut seat, START));

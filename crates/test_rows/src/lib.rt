@@ -23,9 +23,13 @@ mod given_rules;
 #[cfg(test)]
 mod graphs;
 #[cfg(test)]
+mod kept_inodes;
+#[cfg(test)]
 mod ladders;
 #[cfg(test)]
 mod lines;
+#[cfg(test)]
+mod lost_files;
 #[cfg(test)]
 mod moves;
 #[cfg(test)]
@@ -60,6 +64,10 @@ mod sets;
 mod spaces;
 #[cfg(test)]
 mod standard_devices;
+#[cfg(test)]
+mod strict;
+#[cfg(test)]
+mod strict_forms;
 #[cfg(test)]
 mod summaries;
 #[cfg(test)]

@@ -26,7 +26,7 @@ fn a_graph_with_no_patch_leaves_the_base(rt: HostRuntime) -> Result<(), Fail> {
 fn the_space_of_no_patch_is_the_empty_set(rt: HostRuntime) -> Result<(), Fail> {
     let base = Image::formatted(rt.alloc(), 16, 2)?;
     let graph = Graph::new(rt.alloc());
-    let space = PatchSpace::new(&base, &graph);
+    let space = PatchSpace::new(&base, &graph, None);
     let mut scratch = space.scratch()?;
     assert_eq!(rt; space.start(), 0);
     assert_eq!(rt; space.degree(0), 0);

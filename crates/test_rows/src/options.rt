@@ -31,6 +31,7 @@ fn each_option_is_read(rt: HostRuntime) -> Result<(), Fail> {
         "16",
         "--json",
         "--explain",
+        "--strict",
         "--summary",
     ];
     let call = settings_of(rt.alloc(), &words)?;
@@ -42,6 +43,7 @@ fn each_option_is_read(rt: HostRuntime) -> Result<(), Fail> {
     settings.explorer = Explorer::Board;
     settings.json = true;
     settings.explain = true;
+    settings.strict = true;
     settings.by = ReportBy::ByFault;
     assert!(rt; call.settings == settings);
     Ok(())
@@ -97,6 +99,7 @@ fn values_past_a_range_are_faults(rt: HostRuntime) -> Result<(), Fail> {
         "--module=x",
         "--explorer=tree",
         "--explain=1",
+        "--strict=1",
         "--nope",
     ] {
         is_a_fault(&rt, &[word], "")?;
@@ -128,6 +131,13 @@ fn an_option_with_a_value_is_given_once(rt: HostRuntime) -> Result<(), Fail> {
     is_a_fault(&rt, &["--explorer=auto", "--explorer=auto"], "--explorer")?;
     is_a_fault(&rt, &["--module=meta", "--module=meta"], "--module")?;
     is_a_fault(&rt, &["--workers=2", "--workers=2"], "--workers")
+}
+
+#[test]
+fn an_option_without_a_value_is_given_once(rt: HostRuntime) -> Result<(), Fail> {
+    is_a_fault(&rt, &["--strict", "--strict"], "--strict")?;
+    is_a_fault(&rt, &["--explain", "--explain"], "--explain")?;
+    is_a_fault(&rt, &["--json", "--json"], "--json")
 }
 
 #[test]
@@ -166,6 +176,8 @@ fn help_has_each_option_under_its_head(rt: HostRuntime) -> Result<(), Fail> {
         "--module <M>",
         "--without <RULE>",
         "--with <RULE>",
+        "\nWhat fails:\n",
+        "--strict",
         "\nHow far:\n",
         "--limit <L>",
         "--explorer <E>",

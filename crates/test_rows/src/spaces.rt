@@ -18,7 +18,7 @@ fn count_failing(rt: &impl Abort, alloc: Global, script: &Trace) -> Result<usize
     requires fits { All (λ patch. patch.block < script.now.base.blocks) script.now.graph }
     requires undo { AreUndo script.now.base script.now.graph }
 {
-    let space = PatchSpace::new(&script.base, &script.graph);
+    let space = PatchSpace::new(&script.base, &script.graph, None);
     let mut scratch = space.scratch()?;
     let mut failing = 0;
     for set in &closed_sets(alloc, &script.graph)? {
@@ -62,7 +62,7 @@ fn replay_over_a_block_that_is_used_again_fails(rt: HostRuntime) -> Result<(), F
 #[test]
 fn four_patches_are_ready_at_the_start(rt: HostRuntime) -> Result<(), Fail> {
     let script = trace_of_asked(rt.alloc(), &WRITE)?;
-    let space = PatchSpace::new(&script.base, &script.graph);
+    let space = PatchSpace::new(&script.base, &script.graph, None);
     let start = space.start();
     assert_eq!(rt; start, 0);
     assert_eq!(rt; space.degree(start), 4);

@@ -10,14 +10,14 @@ use std::thread::Threads;
 
 /// A script with its words, and the digests of its reports: plain, and with `--summary`, `--explain` and `--needs`.
 #[derive(Drop)]
-struct Row {
-    words: &'static str,
-    script: &'static [u8],
+pub struct Row {
+    pub words: &'static str,
+    pub script: &'static [u8],
     /// How many lines follow the script, in turn `link /a /b` and `unlink /b`.
-    toggles: usize,
-    status: u8,
-    texts: [&'static str; 4],
-    jsons: [&'static str; 4],
+    pub toggles: usize,
+    pub status: u8,
+    pub texts: [&'static str; 4],
+    pub jsons: [&'static str; 4],
 }
 
 /// What is added to a row's words for each of its digests.
@@ -29,7 +29,7 @@ const MANY: &[u8] =
     create /h\ncreate /i\ncreate /j\nwrite /a\nwrite /b\n";
 
 /// Each explorer gives the row's reports, in text and in JSON.
-fn reports<R: Files + Abort + AllocGlobal + Threads + Wait + Sync>(
+pub fn reports<R: Files + Abort + AllocGlobal + Threads + Wait + Sync>(
     rt: &R,
     row: &Row,
 ) -> Result<(), Fail> {
