@@ -7,7 +7,7 @@ use std::process::Abort;
 use std::sync::Wait;
 use std::test::Fail;
 use std::thread::Threads;
-use test_support::asked::{Asked, JOURNAL, REUSE, SOFT_CREATE, WRITE};
+use test_support::asked::{Asked, JOURNAL, RENAMED, REUSE, SOFT_CREATE, WRITE};
 use test_support::gates::{HeldAt, Shuffled, UntilAnother};
 
 /// How many schedules are tried of each script and number of workers.
@@ -70,6 +70,21 @@ fn four_workers_behind_a_journal(rt: HostRuntime) -> Result<(), Fail> {
 #[test]
 fn eight_workers_behind_a_journal(rt: HostRuntime) -> Result<(), Fail> {
     reports_under(&rt, &JOURNAL, 8)
+}
+
+#[test]
+fn two_workers_before_a_strict_checker(rt: HostRuntime) -> Result<(), Fail> {
+    reports_under(&rt, &RENAMED, 2)
+}
+
+#[test]
+fn four_workers_before_a_strict_checker(rt: HostRuntime) -> Result<(), Fail> {
+    reports_under(&rt, &RENAMED, 4)
+}
+
+#[test]
+fn eight_workers_before_a_strict_checker(rt: HostRuntime) -> Result<(), Fail> {
+    reports_under(&rt, &RENAMED, 8)
 }
 
 #[test]

@@ -8,7 +8,7 @@ use std::process::Abort;
 use std::sync::Wait;
 use std::test::Fail;
 use std::thread::Threads;
-use test_support::asked::{Asked, CREATE, JOURNAL, REUSE, SOFT_LINKS};
+use test_support::asked::{Asked, CREATE, JOURNAL, RENAMED, REUSE, SOFT_LINKS};
 use test_support::refusing::Refusing;
 
 /// More requests than any run here makes.
@@ -96,6 +96,11 @@ fn one_worker_behind_a_journal_in_json(rt: HostRuntime) -> Result<(), Fail> {
 }
 
 #[test]
+fn one_worker_before_a_strict_checker(rt: HostRuntime) -> Result<(), Fail> {
+    refuse_in_both_forms(&rt, &RENAMED, 1)
+}
+
+#[test]
 fn one_worker_loses_memory_for_good(rt: HostRuntime) -> Result<(), Fail> {
     refuse_each(&rt, &CREATE, false, 1, true)?;
     refuse_each(&rt, &REUSE, false, 1, true)
@@ -127,6 +132,11 @@ fn two_workers_behind_a_journal_in_json(rt: HostRuntime) -> Result<(), Fail> {
 }
 
 #[test]
+fn two_workers_before_a_strict_checker(rt: HostRuntime) -> Result<(), Fail> {
+    refuse_in_both_forms(&rt, &RENAMED, 2)
+}
+
+#[test]
 fn two_workers_lose_memory_for_good(rt: HostRuntime) -> Result<(), Fail> {
     refuse_each(&rt, &CREATE, false, 2, true)?;
     refuse_each(&rt, &REUSE, false, 2, true)
@@ -155,6 +165,11 @@ fn four_workers_behind_a_journal_in_text(rt: HostRuntime) -> Result<(), Fail> {
 #[test]
 fn four_workers_behind_a_journal_in_json(rt: HostRuntime) -> Result<(), Fail> {
     refuse_each(&rt, &JOURNAL, true, 4, false)
+}
+
+#[test]
+fn four_workers_before_a_strict_checker(rt: HostRuntime) -> Result<(), Fail> {
+    refuse_in_both_forms(&rt, &RENAMED, 4)
 }
 
 #[test]

@@ -36,29 +36,42 @@ struct Trace<'m> {
     graph: Graph<Memory<'m>>,
 }
 
-/// A file that is created and written, without an order: 24 closed sets, of which 10 fail.
-fn trace_of<'m>(memory: Memory<'m>) -> Result<Trace<'m>, Fail>
+/// A file is created and written: 24 closed sets, of which 10 fail.
+const WRITE: &[u8] = b"start\ncreate /a\nwrite /a\n";
+
+/// A file gets another name: 12 closed sets, of which 5 fail where the script keeps inodes 0 and 1.
+const RENAME: &[u8] = b"create /a\nstart\nrename /a /b\n";
+
+/// A script without an order.
+fn trace_of<'m>(memory: Memory<'m>, script: &[u8]) -> Result<Trace<'m>, Fail>
     ensures fits { IfOk result (λ t. All (λ patch. patch.block < t.base.blocks) t.graph) }
     ensures undo { IfOk result (λ t. AreUndo t.base t.graph) }
 {
-    let script = read_script(memory, b"start\ncreate /a\nwrite /a\n")?;
-    let base = Image::formatted(memory, 16, 0)?;
+    let script = read_script(memory, script)?;
+    let mut base = Image::formatted(memory, 16, 0)?;
+    build_base(&mut base, &script.base)?;
     let ordering = Ordering::of(Module::Async);
     let graph = trace(memory, &base, &script.traced, &ordering)?.into_graph();
     Ok(Trace { base, graph })
 }
 
-#[test]
-fn judging_takes_none(rt: HostRuntime) -> Result<(), Fail> {
-    let memory = Refusing::new(rt.alloc());
-    let script = trace_of(&memory)?;
-    let space = PatchSpace::new(&script.base, &script.graph, None);
+/// How many sets a crash can leave, and how many of them fail by a checker that is told of these kept inodes or of
+/// none. Judging them makes no request.
+fn count_judged(
+    rt: &impl Abort,
+    memory: Memory<'_>,
+    script: &Trace<'_>,
+    kept: Option<u16>,
+) -> Result<(u32, u32), Fail>
+    requires fits { All (λ patch. patch.block < script.now.base.blocks) script.now.graph }
+    requires undo { AreUndo script.now.base script.now.graph }
+{
+    let space = PatchSpace::new(&script.base, &script.graph, kept);
     let mut scratch = space.scratch()?;
     memory.gauge().refuse(1, u64::MAX);
     let mut closed = 0u32;
     let mut failing = 0u32;
-    for number in 0..32u8 {
-        let set = u128::from(number);
+    for set in 0..1u128 << script.graph.len() {
         if script.graph.is_closed(set) {
             closed = closed.saturating_add(1);
             if !space.judge(&mut scratch, set)? {
@@ -66,15 +79,30 @@ fn judging_takes_none(rt: HostRuntime) -> Result<(), Fail> {
             }
         }
     }
-    assert_eq!(rt; (closed, failing), (24, 10));
     assert_eq!(rt; memory.gauge().asked(), 0);
+    Ok((closed, failing))
+}
+
+#[test]
+fn judging_takes_none(rt: HostRuntime) -> Result<(), Fail> {
+    let memory = Refusing::new(rt.alloc());
+    let script = trace_of(&memory, WRITE)?;
+    assert_eq!(rt; count_judged(&rt, &memory, &script, None)?, (24, 10));
+    Ok(())
+}
+
+#[test]
+fn judging_strictly_takes_none(rt: HostRuntime) -> Result<(), Fail> {
+    let memory = Refusing::new(rt.alloc());
+    let script = trace_of(&memory, RENAME)?;
+    assert_eq!(rt; count_judged(&rt, &memory, &script, Some(3))?, (12, 5));
     Ok(())
 }
 
 #[test]
 fn walking_a_graph_takes_none(rt: HostRuntime) -> Result<(), Fail> {
     let memory = Refusing::new(rt.alloc());
-    let script = trace_of(&memory)?;
+    let script = trace_of(&memory, WRITE)?;
     memory.gauge().refuse(1, u64::MAX);
     let space = PatchSpace::new(&script.base, &script.graph, None);
     let start = space.start();
@@ -92,7 +120,7 @@ fn walking_a_graph_takes_none(rt: HostRuntime) -> Result<(), Fail> {
 #[test]
 fn moving_takes_none(rt: HostRuntime) -> Result<(), Fail> {
     let memory = Refusing::new(rt.alloc());
-    let script = trace_of(&memory)?;
+    let script = trace_of(&memory, WRITE)?;
     let base = script.base.try_copy()?;
     let mut into = script.base.try_copy()?;
     memory.gauge().refuse(1, u64::MAX);

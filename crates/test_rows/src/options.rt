@@ -122,7 +122,8 @@ fn a_board_holds_no_more_than_32768_sets(rt: HostRuntime) -> Result<(), Fail> {
 fn a_report_tells_faults_or_rules(rt: HostRuntime) -> Result<(), Fail> {
     is_a_fault(&rt, &["--needs", "--summary"], "--summary")?;
     is_a_fault(&rt, &["--summary", "--needs"], "--needs")?;
-    is_taken(&rt, &["--needs", "--explain", "--json"])
+    is_a_fault(&rt, &["--strict", "--needs", "--summary"], "--summary")?;
+    is_taken(&rt, &["--needs", "--explain", "--strict", "--json"])
 }
 
 #[test]

@@ -1,6 +1,6 @@
 //! What a strict checker finds of each operation, where soft updates have all their rules and where one is taken out.
 
-use crate::asked::{EXPLORED, all_begin, all_report, is_a_fault, refused};
+use crate::asked::{EXPLORED, all_report, refused};
 use crate::scripts::CREATE;
 use std::test::Fail;
 
@@ -287,11 +287,4 @@ fn a_strict_checker_explores_no_more_sets(rt: HostRuntime) -> Result<(), Fail> {
         refused(&rt, &words, CREATE, "crashmap: 30 too many closed sets\n")?;
     }
     Ok(())
-}
-
-#[test]
-fn strict_takes_no_value_and_is_given_once(rt: HostRuntime) -> Result<(), Fail> {
-    is_a_fault(&rt, &["--strict=1"], "--strict")?;
-    is_a_fault(&rt, &["--strict", "--strict"], "--strict")?;
-    is_a_fault(&rt, &["--strict", "--needs", "--summary"], "--summary")
 }

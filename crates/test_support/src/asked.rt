@@ -176,16 +176,16 @@ pub const LINKS: Asked = Asked {
     json: "b4511a8ea5463f9943d189bbeb184f1be3705da4",
 };
 
-/// A file moves into a new directory without an order, and the checker is strict.
-pub const MOVED_IN: Asked = Asked {
-    script: b"create /a\nstart\nmkdir /d\nrename /a /d/a\n",
+/// A file gets another name without an order, and the checker is strict.
+pub const RENAMED: Asked = Asked {
+    script: b"create /a\nstart\nrename /a /b\n",
     toggles: 0,
     module: Module::Async,
     blocks: 16,
     journal: 0,
     strict: true,
-    closed: 216,
-    failing: 169,
-    text: "cddb8914ad0db271979fb04492d7ce0602a12fed",
-    json: "3c2cc8fd6962786a4af7a78ed2f3be0f9cc49609",
+    closed: 12,
+    failing: 5,
+    text: "e5fce6690d4d7e3b17b79b7fea4c1c19e7ab48c2",
+    json: "3c02f863be38668eb46a5a0618ba397370b758fa",
 };
