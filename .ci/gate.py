@@ -36,12 +36,20 @@ def crate_of(process):
     return None
 
 
+def is_edit(process):
+    """Returns whether a process checks a crate with a must-fail edit, in a copy that rt made for it."""
+    try:
+        return "/rt-edit-" in os.readlink(f"/proc/{process}/cwd") + "/"
+    except OSError:
+        return False
+
+
 class Clock(threading.Thread):
     """Looks twice a second at what runs below a process, and keeps what each of these processes took so far."""
 
     def __init__(self, top):
         super().__init__(daemon=True)
-        self.top, self.took, self.crates, self.spans = top, {}, {}, {}
+        self.top, self.took, self.crates, self.edits, self.spans = top, {}, {}, set(), {}
 
     def run(self):
         last = time.time()
@@ -65,6 +73,8 @@ class Clock(threading.Thread):
                 crate = self.crates.get(key) or crate_of(process) or self.crates.get(here.get(parents[process], (None,))[0])
                 self.crates[key], self.took[key] = crate, seconds
                 busy.add(crate)
+                if is_edit(process):
+                    self.edits.add(key)
         return busy
 
     def is_below(self, process, parents):
@@ -73,12 +83,15 @@ class Clock(threading.Thread):
         return process == self.top
 
     def table(self):
-        """Returns for each crate the minutes of processor time, and those by the clock at which it was worked on, longest first."""
-        sums = {}
+        """Returns for each crate the minutes of processor time, how many of them its edits took, and those by the clock
+        at which it was worked on, longest first."""
+        sums, edits = {}, {}
         for key, seconds in self.took.items():
-            sums[self.crates[key]] = sums.get(self.crates[key], 0) + seconds
+            crate = self.crates[key]
+            sums[crate] = sums.get(crate, 0) + seconds
+            edits[crate] = edits.get(crate, 0) + seconds * (key in self.edits)
         for crate, seconds in sorted(sums.items(), key=lambda it: -it[1]):
-            yield crate or "rt itself", seconds / 60, self.spans.get(crate, 0) / 60
+            yield crate or "rt itself", seconds / 60, edits[crate] / 60, self.spans.get(crate, 0) / 60
 
 
 def follow(words, clock):
@@ -103,8 +116,8 @@ def follow(words, clock):
 def main():
     began = time.time()
     passed, failed, watch = follow(["rt", "ci"], True)
-    for crate, minutes, span in watch.table():
-        print(f"time: {crate}: {minutes:.1f} minutes of processor time, {span:.1f} by the clock")
+    for crate, minutes, edits, span in watch.table():
+        print(f"time: {crate}: {minutes:.1f} minutes of processor time, {edits:.1f} of them on edits, {span:.1f} by the clock")
     used = resource.getrusage(resource.RUSAGE_CHILDREN)
     whole, clock = (used.ru_utime + used.ru_stime) / 60, (time.time() - began) / 60
     print(f"time: rt ci in all: {whole:.0f} minutes of processor time, {clock:.0f} by the clock", flush=True)

@@ -119,7 +119,13 @@ where
         });
     }
     let found = explored_on_board(rt, alloc, crashes, limit, workers, gate)?;
-    let rows = fault_rows(alloc, crashes.base, crashes.graph, crashes.kept, &found.broken)?;
+    let rows = fault_rows(
+        alloc,
+        crashes.base,
+        crashes.graph,
+        crashes.kept,
+        &found.broken,
+    )?;
     Ok(Found {
         closed: found.total,
         failing: found.broken.len(),

@@ -112,9 +112,7 @@ where
         return Ok(RuleUsage::Unused);
     }
     let (graph, settings) = (findings.traced.graph(), findings.settings);
-    let changed = findings
-        .traced
-        .graph_without(alloc, findings.base, rule)?;
+    let changed = findings.traced.graph_without(alloc, findings.base, rule)?;
     let crashes = Crashes {
         base: findings.base,
         graph: &changed,
