@@ -35,6 +35,18 @@ pub(crate) struct Findings<'steps, 'asked, A: Allocator + Copy> {
     pub found: Found<A>,
 }
 
+impl<'steps, 'asked, A: Allocator + Copy> Findings<'steps, 'asked, A> {
+    /// How much is told of a set.
+    pub fn detail(&self) -> Detail
+        ensures { result ≡ detail_of self.now.settings.now self.now.kept }
+    {
+        Detail {
+            explain: self.settings.explain,
+            kept: self.kept,
+        }
+    }
+}
+
 impl<'steps, 'asked, A: Allocator + Copy + Send + Sync> Findings<'steps, 'asked, A> {
     /// The report with a section for each failing set, of which these are all. It fails only when out of memory.
     pub fn by_set<R: Threads + Sync>(
@@ -95,16 +107,6 @@ impl<'steps, 'asked, A: Allocator + Copy + Send + Sync> Findings<'steps, 'asked,
         let report = self.report(Body::Rules(rules));
         let text = write_report(rt, heap, alloc, &report, workers)?;
         Ok(text)
-    }
-
-    /// How much is told of a set.
-    pub fn detail(&self) -> Detail
-        ensures { result ≡ detail_of self.now.settings.now self.now.kept }
-    {
-        Detail {
-            explain: self.settings.explain,
-            kept: self.kept,
-        }
     }
 
     /// The report with this body.
