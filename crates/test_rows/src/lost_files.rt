@@ -1,6 +1,6 @@
 //! Files that a strict checker finds lost where two operations follow each other.
 
-use crate::asked::{all_begin, all_report};
+use crate::asked::{all_begin, all_report, shows};
 use std::test::Fail;
 
 /// A file gets another name by hand.
