@@ -110,6 +110,7 @@ else
     try "text" /dev/null "$work/create" --module async
     try "JSON" /dev/null "$work/create" --module async --json
     try "standard input" "$work/create" --module async --limit 4
+    try "a strict checker" /dev/null "$work/create" --module async --strict
     try "two workers" /dev/null "$work/create" --module async --workers 2
     try "a refused script" "$work/create" --limit 1
     try "a limit of 0" "$work/create" --limit 0
