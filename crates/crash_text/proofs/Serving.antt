@@ -63,7 +63,7 @@ of_run (bad_geometry before steps read none) = refl
 of_run (bad_base before steps fault read geometry is) = trace_is_of_run fault
 of_run (bad_trace base steps fault start is) = trace_is_of_run fault
 of_run (too_many base last patches has more) = refl
-of_run (reported base last patches text failing has report) = refl
+of_run (reported kept base last patches text failing has told report) = refl
 
 -- a run's refusal is no device's
 pub not_of_device : (bytes : List ℕ) (settings : Settings) (fault device : RunFault) → (fault ≢ OutOfMemory → IsAnswer bytes settings (Refused fault))

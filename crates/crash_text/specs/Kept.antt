@@ -35,12 +35,12 @@ IsKept settings kept base patches sets (Sets all) = (settings.by ≡ BySet) × (
 IsKept settings kept base patches sets (Faults rows) = (settings.by ≡ ByFault) × AreRows (HasFault kept base patches) rows.items
 IsKept settings kept base patches sets Number = settings.by ≡ ByRule
 
--- what is found of the sets that a crash can leave
-pub record AreFound {A : Type 0} (settings : Settings) (kept : Option ℕ) (base : Disk) (patches : List Patch) (found : Found A)
+-- what is found of the sets that a crash can leave, where the checker is told of these kept inodes or of none
+pub record AreFound {A : Type 0} (settings : Settings) (inodes : Option ℕ) (base : Disk) (patches : List Patch) (found : Found A)
     : Type 0 where
   pub sets : List ℕ
-  pub totals : AreTotals settings.limit kept base patches found.closed found.failing sets
-  pub kept : IsKept settings kept base patches sets found.kept
+  pub totals : AreTotals settings.limit inodes base patches found.closed found.failing sets
+  pub kept : IsKept settings inodes base patches sets found.kept
 
 -- the numbers alone, with the first failing set that the other patches prevent
 pub record IsCountWith (limit : ℕ) (kept : Option ℕ) (base : Disk) (patches others : List Patch) (count : FailingCount) : Type 0 where

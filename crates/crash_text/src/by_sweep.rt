@@ -32,7 +32,7 @@ use std::thread::Threads;
 pub(crate) fn swept<R, A, G>(
     rt: &R,
     alloc: A,
-    crashes: Crashes<'_, A>,
+    crashes: &Crashes<'_, A>,
     limit: usize,
     workers: usize,
     gate: &G,
@@ -42,13 +42,13 @@ where
     A: Allocator + Copy + Send + Sync,
     G: Gate + Sync,
     requires workers { (1 ≤ workers) × (workers ≤ 16) }
-    requires fits { All (λ patch. patch.block < crashes.base.now.blocks) crashes.graph.now }
-    requires undo { AreUndo crashes.base.now crashes.graph.now }
-    ensures total { IfOk result (λ found. CountsClosed crashes.graph.now found.total) }
+    requires fits { All (λ patch. patch.block < crashes.now.base.now.blocks) crashes.now.graph.now }
+    requires undo { AreUndo crashes.now.base.now crashes.now.graph.now }
+    ensures total { IfOk result (λ found. CountsClosed crashes.now.graph.now found.total) }
     ensures within { IfOk result (λ found. found.total ≤ limit) }
-    ensures failing { IfOk result (λ found. AreAllInOrder (Fails crashes) found.broken.items) }
+    ensures failing { IfOk result (λ found. AreAllInOrder (Fails crashes.now) found.broken.items) }
     ensures too_many { IfErr result (λ fault. (fault ≢ RunFault.OutOfMemory)
-        → (fault ≡ RunFault.TooMany) × ExceedsLimit crashes.graph.now limit) }
+        → (fault ≡ RunFault.TooMany) × ExceedsLimit crashes.now.graph.now limit) }
 {
     let space = PatchSpace::new(crashes.base, crashes.graph, crashes.kept);
     let deps = dependencies(crashes.graph);
@@ -65,7 +65,7 @@ where
 pub(crate) fn swept_faults<R, A, G>(
     rt: &R,
     alloc: A,
-    crashes: Crashes<'_, A>,
+    crashes: &Crashes<'_, A>,
     limit: usize,
     workers: usize,
     gate: &G,
@@ -75,16 +75,16 @@ where
     A: Allocator + Copy + Send + Sync,
     G: Gate + Sync,
     requires workers { (1 ≤ workers) × (workers ≤ 16) }
-    requires fits { All (λ patch. patch.block < crashes.base.now.blocks) crashes.graph.now }
-    requires undo { AreUndo crashes.base.now crashes.graph.now }
-    ensures total { IfOk result (λ found. CountsClosed crashes.graph.now found.total) }
+    requires fits { All (λ patch. patch.block < crashes.now.base.now.blocks) crashes.now.graph.now }
+    requires undo { AreUndo crashes.now.base.now crashes.now.graph.now }
+    ensures total { IfOk result (λ found. CountsClosed crashes.now.graph.now found.total) }
     ensures within { IfOk result (λ found. found.total ≤ limit) }
-    ensures failing { IfOk result (λ found. (sets : List ℕ) × AreAllInOrder (Fails crashes) sets
+    ensures failing { IfOk result (λ found. (sets : List ℕ) × AreAllInOrder (Fails crashes.now) sets
         × (found.failing ≡ length sets)) }
     ensures rows { IfOk result (λ found.
-        AreRows (HasFault crashes.kept crashes.base.now crashes.graph.now) found.rows.items) }
+        AreRows (HasFault crashes.now.kept crashes.now.base.now crashes.now.graph.now) found.rows.items) }
     ensures too_many { IfErr result (λ fault. (fault ≢ RunFault.OutOfMemory)
-        → (fault ≡ RunFault.TooMany) × ExceedsLimit crashes.graph.now limit) }
+        → (fault ≡ RunFault.TooMany) × ExceedsLimit crashes.now.graph.now limit) }
 {
     let visitor = FaultVisitor::new(alloc, crashes.base, crashes.graph, crashes.kept);
     let deps = dependencies(crashes.graph);
@@ -101,7 +101,7 @@ where
 pub(crate) fn swept_count<R, A, G>(
     rt: &R,
     alloc: A,
-    crashes: Crashes<'_, A>,
+    crashes: &Crashes<'_, A>,
     other: &Graph<A>,
     limit: usize,
     workers: usize,
@@ -112,16 +112,16 @@ where
     A: Allocator + Copy + Send + Sync,
     G: Gate + Sync,
     requires workers { (1 ≤ workers) × (workers ≤ 16) }
-    requires fits { All (λ patch. patch.block < crashes.base.now.blocks) crashes.graph.now }
-    requires undo { AreUndo crashes.base.now crashes.graph.now }
-    ensures total { IfOk result (λ found. CountsClosed crashes.graph.now found.total) }
+    requires fits { All (λ patch. patch.block < crashes.now.base.now.blocks) crashes.now.graph.now }
+    requires undo { AreUndo crashes.now.base.now crashes.now.graph.now }
+    ensures total { IfOk result (λ found. CountsClosed crashes.now.graph.now found.total) }
     ensures within { IfOk result (λ found. found.total ≤ limit) }
-    ensures failing { IfOk result (λ found. (sets : List ℕ) × AreAllInOrder (Fails crashes) sets
+    ensures failing { IfOk result (λ found. (sets : List ℕ) × AreAllInOrder (Fails crashes.now) sets
         × (found.failing ≡ length sets)) }
     ensures first { IfOk result (λ found.
-        IsFirstPrevented (Fails crashes) (IsClosed (deps_of other.now)) found.first) }
+        IsFirstPrevented (Fails crashes.now) (IsClosed (deps_of other.now)) found.first) }
     ensures too_many { IfErr result (λ fault. (fault ≢ RunFault.OutOfMemory)
-        → (fault ≡ RunFault.TooMany) × ExceedsLimit crashes.graph.now limit) }
+        → (fault ≡ RunFault.TooMany) × ExceedsLimit crashes.now.graph.now limit) }
 {
     let space = PatchSpace::new(crashes.base, crashes.graph, crashes.kept);
     let visitor = CountVisitor::new(alloc, space, other);

@@ -49,7 +49,7 @@ pub(crate) enum Kept<A: Allocator> {
 pub(crate) fn find<R, A, G>(
     rt: &R,
     alloc: A,
-    crashes: Crashes<'_, A>,
+    crashes: &Crashes<'_, A>,
     settings: &Settings,
     workers: usize,
     gate: &G,
@@ -60,11 +60,11 @@ where
     G: Gate + Sync,
     requires limit { IsExplorable settings.now }
     requires workers { (1 ≤ workers) × (workers ≤ 16) }
-    requires fits { All (λ patch. patch.block < crashes.base.now.blocks) crashes.graph.now }
-    requires undo { AreUndo crashes.base.now crashes.graph.now }
-    ensures found { IfOk result (AreFound settings.now crashes.kept crashes.base.now crashes.graph.now) }
+    requires fits { All (λ patch. patch.block < crashes.now.base.now.blocks) crashes.now.graph.now }
+    requires undo { AreUndo crashes.now.base.now crashes.now.graph.now }
+    ensures found { IfOk result (AreFound settings.now crashes.now.kept crashes.now.base.now crashes.now.graph.now) }
     ensures too_many { IfErr result (λ fault. (fault ≢ RunFault.OutOfMemory)
-        → (fault ≡ RunFault.TooMany) × ExceedsLimit crashes.graph.now settings.now.limit) }
+        → (fault ≡ RunFault.TooMany) × ExceedsLimit crashes.now.graph.now settings.now.limit) }
 {
     match settings.by {
         ReportBy::BySet => {
@@ -91,7 +91,7 @@ where
 fn find_faults<R, A, G>(
     rt: &R,
     alloc: A,
-    crashes: Crashes<'_, A>,
+    crashes: &Crashes<'_, A>,
     settings: &Settings,
     workers: usize,
     gate: &G,
@@ -103,11 +103,11 @@ where
     requires limit { IsExplorable settings.now }
     requires by { settings.now.by ≡ ByFault }
     requires workers { (1 ≤ workers) × (workers ≤ 16) }
-    requires fits { All (λ patch. patch.block < crashes.base.now.blocks) crashes.graph.now }
-    requires undo { AreUndo crashes.base.now crashes.graph.now }
-    ensures found { IfOk result (AreFound settings.now crashes.kept crashes.base.now crashes.graph.now) }
+    requires fits { All (λ patch. patch.block < crashes.now.base.now.blocks) crashes.now.graph.now }
+    requires undo { AreUndo crashes.now.base.now crashes.now.graph.now }
+    ensures found { IfOk result (AreFound settings.now crashes.now.kept crashes.now.base.now crashes.now.graph.now) }
     ensures too_many { IfErr result (λ fault. (fault ≢ RunFault.OutOfMemory)
-        → (fault ≡ RunFault.TooMany) × ExceedsLimit crashes.graph.now settings.now.limit) }
+        → (fault ≡ RunFault.TooMany) × ExceedsLimit crashes.now.graph.now settings.now.limit) }
 {
     let limit = settings.limit;
     if sweeps(settings) {
@@ -138,7 +138,7 @@ where
 pub(crate) fn count_failing<R, A, G>(
     rt: &R,
     alloc: A,
-    crashes: Crashes<'_, A>,
+    crashes: &Crashes<'_, A>,
     other: &Graph<A>,
     settings: &Settings,
     workers: usize,
@@ -150,12 +150,12 @@ where
     G: Gate + Sync,
     requires limit { IsExplorable settings.now }
     requires workers { (1 ≤ workers) × (workers ≤ 16) }
-    requires fits { All (λ patch. patch.block < crashes.base.now.blocks) crashes.graph.now }
-    requires undo { AreUndo crashes.base.now crashes.graph.now }
+    requires fits { All (λ patch. patch.block < crashes.now.base.now.blocks) crashes.now.graph.now }
+    requires undo { AreUndo crashes.now.base.now crashes.now.graph.now }
     ensures counted { IfOk result
-        (IsCountWith settings.now.limit crashes.kept crashes.base.now crashes.graph.now other.now) }
+        (IsCountWith settings.now.limit crashes.now.kept crashes.now.base.now crashes.now.graph.now other.now) }
     ensures too_many { IfErr result (λ fault. (fault ≢ RunFault.OutOfMemory)
-        → (fault ≡ RunFault.TooMany) × ExceedsLimit crashes.graph.now settings.now.limit) }
+        → (fault ≡ RunFault.TooMany) × ExceedsLimit crashes.now.graph.now settings.now.limit) }
 {
     let limit = settings.limit;
     if sweeps(settings) {
@@ -174,7 +174,7 @@ where
 fn explored<R, A, G>(
     rt: &R,
     alloc: A,
-    crashes: Crashes<'_, A>,
+    crashes: &Crashes<'_, A>,
     settings: &Settings,
     workers: usize,
     gate: &G,
@@ -185,13 +185,13 @@ where
     G: Gate + Sync,
     requires limit { IsExplorable settings.now }
     requires workers { (1 ≤ workers) × (workers ≤ 16) }
-    requires fits { All (λ patch. patch.block < crashes.base.now.blocks) crashes.graph.now }
-    requires undo { AreUndo crashes.base.now crashes.graph.now }
-    ensures total { IfOk result (λ found. CountsClosed crashes.graph.now found.total) }
+    requires fits { All (λ patch. patch.block < crashes.now.base.now.blocks) crashes.now.graph.now }
+    requires undo { AreUndo crashes.now.base.now crashes.now.graph.now }
+    ensures total { IfOk result (λ found. CountsClosed crashes.now.graph.now found.total) }
     ensures within { IfOk result (λ found. found.total ≤ settings.now.limit) }
-    ensures failing { IfOk result (λ found. AreAllInOrder (Fails crashes) found.broken.items) }
+    ensures failing { IfOk result (λ found. AreAllInOrder (Fails crashes.now) found.broken.items) }
     ensures too_many { IfErr result (λ fault. (fault ≢ RunFault.OutOfMemory)
-        → (fault ≡ RunFault.TooMany) × ExceedsLimit crashes.graph.now settings.now.limit) }
+        → (fault ≡ RunFault.TooMany) × ExceedsLimit crashes.now.graph.now settings.now.limit) }
 {
     let limit = settings.limit;
     if sweeps(settings) {

@@ -118,7 +118,7 @@ where
         graph: &changed,
         kept: findings.kept,
     };
-    match count_failing(rt, alloc, crashes, graph, settings, workers, gate) {
+    match count_failing(rt, alloc, &crashes, graph, settings, workers, gate) {
         Ok(count) => Ok(RuleUsage::Used {
             pairs,
             closed: count.total,

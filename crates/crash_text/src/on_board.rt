@@ -29,7 +29,7 @@ pub(crate) const MAX_BOARD: usize = 32_768;
 pub(crate) fn explored_on_board<R, A, G>(
     rt: &R,
     alloc: A,
-    crashes: Crashes<'_, A>,
+    crashes: &Crashes<'_, A>,
     limit: usize,
     workers: usize,
     gate: &G,
@@ -40,13 +40,13 @@ where
     G: Gate + Sync,
     requires limit { (1 ≤ limit) × (limit ≤ 32768) }
     requires workers { (1 ≤ workers) × (workers ≤ 16) }
-    requires fits { All (λ patch. patch.block < crashes.base.now.blocks) crashes.graph.now }
-    requires undo { AreUndo crashes.base.now crashes.graph.now }
-    ensures total { IfOk result (λ found. CountsClosed crashes.graph.now found.total) }
+    requires fits { All (λ patch. patch.block < crashes.now.base.now.blocks) crashes.now.graph.now }
+    requires undo { AreUndo crashes.now.base.now crashes.now.graph.now }
+    ensures total { IfOk result (λ found. CountsClosed crashes.now.graph.now found.total) }
     ensures within { IfOk result (λ found. found.total ≤ limit) }
-    ensures failing { IfOk result (λ found. AreAllInOrder (Fails crashes) found.broken.items) }
+    ensures failing { IfOk result (λ found. AreAllInOrder (Fails crashes.now) found.broken.items) }
     ensures too_many { IfErr result (λ fault. (fault ≢ RunFault.OutOfMemory)
-        → (fault ≡ RunFault.TooMany) × ExceedsLimit crashes.graph.now limit) }
+        → (fault ≡ RunFault.TooMany) × ExceedsLimit crashes.now.graph.now limit) }
 {
     let space = PatchSpace::new(crashes.base, crashes.graph, crashes.kept);
     exploring_finds_the_failing_sets(&space);

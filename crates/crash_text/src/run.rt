@@ -103,7 +103,7 @@ where
         graph: traced.graph(),
         kept,
     };
-    let found = find(rt, alloc, crashes, settings, workers, gate)?;
+    let found = find(rt, alloc, &crashes, settings, workers, gate)?;
     let findings = Findings {
         base,
         traced,

@@ -25,6 +25,6 @@ returns-clause-counted g c =
         exactly = c.in_ok-found.ensures.failing;
         number = number;
       };
-      first = first_like (Contains sets) (IsFailingUnder c.args.crashes.kept c.args.crashes.base.now c.args.crashes.graph.now) allowed c.in_ok-found.ensures.failing.exactly c.first_prevented.result
+      first = first_like (Contains sets) (IsFailingUnder c.args.crashes.now.kept c.args.crashes.now.base.now c.args.crashes.now.graph.now) allowed c.in_ok-found.ensures.failing.exactly c.first_prevented.result
           (subst (λ (ss : List ℕ). IsFirstPrevented (Contains ss) allowed c.first_prevented.result) c.deref.ensures.value c.first_prevented.ensures);
     }

@@ -4,6 +4,7 @@ use Rattle.patch_sets.specs.Closed.{IsClosed}
 use Rattle.crash_model.specs.Answer.{detail_of}
 use Rattle.crash_model.specs.Strict.{IsFailingUnder}
 use Rattle.crash_model.specs.Patches.{deps_of}
+use Rattle.crash_model.specs.declared.settings.Detail.{Detail}
 use Rattle.fault_summary.specs.Prevented.{IsFirstOut, IsFirstPrevented}
 use Rattle.report_sections.specs.Maker.{Reported}
 use Rattle.report_sections.specs.Sections.{IsSection}
@@ -25,5 +26,7 @@ returns g c = λ sets all.
     let set = c.in-Some.set in
     let section = c.in_ok-section.section in
     let first : IsFirstOut (IsFailingUnder f.kept f.base.now changed) (IsClosed (deps_of patches)) set = subst (λ (o : Option ℕ). IsFirstPrevented (IsFailingUnder f.kept f.base.now changed) (IsClosed (deps_of patches)) o) c.in-Some.is c.requires.first in
-    let is : IsSection (detail_of f.settings.now f.kept) f.base.now changed set section = subst (λ (m : Reported). IsSection m.detail m.base m.patches set section) c.in_ok-maker.ensures c.in_ok-section.ensures.told in
+    let is : IsSection (detail_of f.settings.now f.kept) f.base.now changed set section =
+    subst (λ (k : Detail). IsSection k f.base.now changed set section) c.detail.ensures
+    (subst (λ (m : Reported). IsSection m.detail m.base m.patches set section) c.in_ok-maker.ensures c.in_ok-section.ensures.told) in
     some_new (detail_of f.settings.now f.kept) f.base.now patches changed sets set section c.requires.earlier first all is

@@ -21,7 +21,7 @@ returns-in-Ok-clause-failing g c =
 -- the board is as large as the sets are many, so it is never too small for them
 pub returns-in-Err-TooMany-clause-too_many : goal.returns-in-Err-TooMany-clause-too_many
 returns-in-Err-TooMany-clause-too_many g c =
-    let patches = c.args.crashes.graph.now in
+    let patches = c.args.crashes.now.graph.now in
     let sets = c.in-Some.sets in
     let counted : CountsClosed patches sets =
     subst (λ deps. HoldsOf (IsClosed deps) sets) (c.deref.ensures.0 ∙ c.dependencies-deps.ensures.exact) c.in-Some.ensures.0 in
