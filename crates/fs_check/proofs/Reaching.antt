@@ -54,7 +54,7 @@ has-with_same set id = has_true (with_id set id) id (in_with_same set id)
 
 has-with_other : (set id other : ℕ) → other ≢ id → has (with_id set id) other ≡ has set other
 has-with_other set id other differ = same_test (has (with_id set id) other) (has set other)
-    (λ t. elim (in_with_cases set id other (from_has (with_id set id) other t)) [ | inl e ↦ absurd (differ e) | inr old ↦ has_true set other old ])
+    (λ t. elim (in_with_cases set id other (from_has (with_id set id) other t)) [ inl e ↦ absurd (differ e) | inr old ↦ has_true set other old ])
     (λ t. has_true (with_id set id) other (in_with_old set id other (from_has set other t)))
 
 in_and : (a b id : ℕ) → Has a id → Has b id → Has (bit_and a b) id

@@ -100,7 +100,12 @@ pub(crate) fn push_strict<A: Allocator + Copy>(
 }
 
 /// An inode as a fault, if it is to be kept and is not reached.
-fn lost_at<A: Allocator + Copy>(image: &Image<A>, kept: u16, reached: u128, inode: u8) -> Option<Fault>
+fn lost_at<A: Allocator + Copy>(
+    image: &Image<A>,
+    kept: u16,
+    reached: u128,
+    inode: u8,
+) -> Option<Fault>
     requires inode { inode < 16 }
     requires reached { (i : ℕ) → has reached i ≡ is_reached image.now i }
     ensures { result ≡ lost_at kept image.now inode }

@@ -24,11 +24,11 @@ both_true a b e f = rw (e, f) refl
 has-and : (a b i : ℕ) → has (bit_and a b) i ≡ (has a i && has b i)
 has-and a b i = same_test (has (bit_and a b) i) (has a i && has b i)
     (λ t. let is : Has (bit_and a b) i = from_has (bit_and a b) i t in both_true (has a i) (has b i)
-      (has_true a i (omega (arith, bit_at_and a b i, is, bit_at-lt a i, bit_at-lt b i)))
-      (has_true b i (omega (arith, bit_at_and a b i, is, bit_at-lt a i, bit_at-lt b i))))
+    (has_true a i (omega (arith, bit_at_and a b i, is, bit_at-lt a i, bit_at-lt b i)))
+    (has_true b i (omega (arith, bit_at_and a b i, is, bit_at-lt a i, bit_at-lt b i))))
     (λ t.
-        let parts = and_parts (has a i) (has b i) t in
-        has_true (bit_and a b) i (omega (arith, bit_at_and a b i, from_has a i parts.0, from_has b i parts.1)))
+    let parts = and_parts (has a i) (has b i) t in
+    has_true (bit_and a b) i (omega (arith, bit_at_and a b i, from_has a i parts.0, from_has b i parts.1)))
 
 -- ---- the live inodes below a number
 
@@ -45,7 +45,7 @@ module _ (d : Disk) where
       (λ t. lt-ltb i n (below i n apart (ltb-true i (n + 1) t)))
     where
       below : (i n : ℕ) → (i ≡ n → ⊥) → i < n + 1 → i < n
-      below i n apart less = elim (cases_eq i n) [ | inl same ↦ absurd (apart same) | inr other ↦ grind (arith, less, other) ]
+      below i n apart less = elim (cases_eq i n) [ inl same ↦ absurd (apart same) | inr other ↦ grind (arith, less, other) ]
 
   pub live-more : (n live : ℕ) → is_live d n ≡ true → AreLive d n live → AreLive d (n + 1) (with_id live n)
   live-more n live is old i = elim (cases_eq i n) [
@@ -53,7 +53,7 @@ module _ (d : Disk) where
         (has_true (with_id live n) n (in_with_same live n) ∙ sym (both_true (is_live d n) (nat_lt n (n + 1)) is (lt-ltb n (n + 1) (omega arith))))
     | inr other ↦
         same_test (has (with_id live n) i) (has live i)
-        (λ t. elim (in_with_cases live n i (from_has (with_id live n) i t)) [ | inl e ↦ absurd (other e) | inr there ↦ has_true live i there ])
+        (λ t. elim (in_with_cases live n i (from_has (with_id live n) i t)) [ inl e ↦ absurd (other e) | inr there ↦ has_true live i there ])
         (λ t. has_true (with_id live n) i (in_with_old live n i (from_has live i t)))
         ∙ (old i ∙ ap (λ (b : Bool). is_live d i && b) (lt_more i n other))
   ]
@@ -97,14 +97,14 @@ keeping-step start d next steps rest x kept live after by old = record {
       let there : stays_live (disk_after d x.act) rest i ≡ stays_live next rest i = ap (λ (e : Disk). stays_live e rest i) (sym after) in
       same_test (has (bit_and kept live) i && stays_live next rest i) (stays_live start steps i)
       (λ t.
-          let parts = and_parts (has (bit_and kept live) i) (stays_live next rest i) t in
-          let both = and_parts (has kept i) (has live i) (sym (has-and kept live i) ∙ parts.0) in
-          sym (old.so_far i) ∙ both_true (has kept i) _ both.0 (both_true (is_live d i) _ (old.live i both.0) (there ∙ parts.1)))
+      let parts = and_parts (has (bit_and kept live) i) (stays_live next rest i) t in
+      let both = and_parts (has kept i) (has live i) (sym (has-and kept live i) ∙ parts.0) in
+      sym (old.so_far i) ∙ both_true (has kept i) _ both.0 (both_true (is_live d i) _ (old.live i both.0) (there ∙ parts.1)))
       (λ t.
-          let parts = and_parts (has kept i) _ (old.so_far i ∙ t) in
-          let on : stays_live next rest i ≡ true = sym there ∙ (and_parts (is_live d i) _ parts.1).1 in
-          both_true (has (bit_and kept live) i) (stays_live next rest i)
-          (has-and kept live i ∙ both_true (has kept i) (has live i) parts.0 (by i ∙ stays_now next rest i on)) on);
+      let parts = and_parts (has kept i) _ (old.so_far i ∙ t) in
+      let on : stays_live next rest i ≡ true = sym there ∙ (and_parts (is_live d i) _ parts.1).1 in
+      both_true (has (bit_and kept live) i) (stays_live next rest i)
+      (has-and kept live i ∙ both_true (has kept i) (has live i) parts.0 (by i ∙ stays_now next rest i on)) on);
   live = λ i is. sym (by i) ∙ (and_parts (has kept i) (has live i) (sym (has-and kept live i) ∙ is)).1;
 }
 

@@ -1,6 +1,6 @@
 -- The closed and the failing sets under more rules.
 use Rattle.std.proofs.Common.{◌≡◌, ℕ, zero, suc, ◌<◌, List, [], ◌∷◌, length, map, Some, arith, refl, sym, ◌∙◌, ap, subst}
-use Rattle.std.specs.Prelude.{slice_get}
+use Rattle.std.specs.Prelude.{Option, slice_get}
 use Rattle.std.proofs.lemmas.List.{length-map}
 use Rattle.patch_sets.specs.Closed.{IsClosed}
 use Rattle.crash_model.specs.Disk.{Disk}
@@ -9,6 +9,7 @@ use Rattle.crash_model.specs.Faults.{IsClean}
 use Rattle.crash_model.specs.Patches.{Place, place, places_of, deps_of, image_from}
 use Rattle.crash_model.specs.Replay.{replayed}
 use Rattle.crash_model.specs.Rules.{AreAmong}
+use Rattle.crash_model.specs.Strict.{IsCleanUnder, IsFailingUnder}
 use Rattle.crash_model.specs.Trace.{Emitted, Tracing, IsGraphOf}
 use Rattle.crash_model.specs.declared.patches.Patch.{Patch}
 use Rattle.crash_model.specs.declared.rules.Rule.{Rule}
@@ -49,4 +50,12 @@ module _ (some all : List Rule) (base : Disk) (s : Tracing) (few more : List Pat
       record {
         closed = closed_more failing.closed;
         unclean = λ clean. failing.unclean (subst (λ (ps : List Place). IsClean (replayed (image_from 0 base ps set))) same clean);
+      }
+
+  pub failing_under_more : (kept : Option ℕ) → IsFailingUnder kept base more set → IsFailingUnder kept base few set
+  failing_under_more kept failing =
+      let same : places_of few ≡ places_of more = graph.places ∙ sym wider.places in
+      record {
+        closed = closed_more failing.closed;
+        unclean = λ clean. failing.unclean (subst (λ (ps : List Place). IsCleanUnder kept (replayed (image_from 0 base ps set))) same clean);
       }

@@ -1,12 +1,13 @@
 //! What lists of rules order, as functions that do nothing and promise the law.
 
-ghost use Rattle.std.specs.Prelude.{◌≡◌, ℕ, List, []};
+ghost use Rattle.std.specs.Prelude.{◌≡◌, ℕ, List, [], Option};
 ghost use Rattle.std.specs.List.{list_any};
 ghost use Rattle.patch_sets.specs.Closed.{IsClosed};
 ghost use Rattle.crash_model.specs.Disk.{Disk};
 ghost use Rattle.crash_model.specs.Failing.{IsFailing};
 ghost use Rattle.crash_model.specs.Patches.{deps_of};
 ghost use Rattle.crash_model.specs.Rules.{AreAmong, rules_of, rules_under};
+ghost use Rattle.crash_model.specs.Strict.{IsFailingUnder};
 ghost use Rattle.crash_model.specs.Trace.{Emitted, Tracing, IsGraphOf, applies};
 ghost use Rattle.crash_model.specs.declared.patches.Patch.{Patch};
 ghost use Rattle.crash_model.specs.declared.rules.Rule.{Rule};
@@ -20,7 +21,7 @@ pub fn the_orderings_are_their_tables()
 {}
 
 /// More rules never add a crash state: of the same patches, what is closed, or fails, under all of the rules is so
-/// under some of them.
+/// under some of them, whatever a checker is told of the inodes that the script keeps.
 pub fn more_rules_never_add_a_crash_state()
     ensures closed { (some all : List Rule) (base : Disk) (s : Tracing) (few more : List Patch) (set : ℕ)
         → AreAmong some all
@@ -29,6 +30,10 @@ pub fn more_rules_never_add_a_crash_state()
     ensures failing { (some all : List Rule) (base : Disk) (s : Tracing) (few more : List Patch) (set : ℕ)
         → AreAmong some all
         → IsGraphOf some base s few → IsGraphOf all base s more → IsFailing base more set → IsFailing base few set }
+    ensures strict { (kept : Option ℕ) (some all : List Rule) (base : Disk) (s : Tracing) (few more : List Patch)
+        → (set : ℕ) → AreAmong some all
+        → IsGraphOf some base s few → IsGraphOf all base s more → IsFailingUnder kept base more set
+        → IsFailingUnder kept base few set }
 {}
 
 /// Where no rule is taken out, each rule of the module is in the ordering, whatever is put in; and where none is put
