@@ -1,0 +1,86 @@
+-- Parts of sections, joined in order, and the first sections of faults, one row after another.
+use Rattle.std.proofs.Common.{◌≡◌, ℕ, zero, suc, ◌+◌, ◌*◌, ◌/◌, ◌%◌, ◌<◌, ◌≤◌, min, List, [], ◌∷◌, ◌++◌, length, get_or, map, take, refl, sym, ap, subst, arith, ◌∙◌}
+use Rattle.std.specs.Fork.{slice_chunk}
+use Rattle.std.proofs.Math.Nat.{suc-mul, zero-mul, mod-lt}
+use Rattle.std.proofs.Math.Seq.{take-add}
+use Rattle.std.proofs.lemmas.List.{map-append, take_all, take_more}
+use Rattle.std.proofs.lemmas.Nat.{div-add-mod'}
+use Rattle.crash_model.specs.Disk.{Disk}
+use Rattle.crash_model.specs.Report.{AreSections}
+use Rattle.crash_model.specs.Report as report
+use Rattle.crash_model.specs.Summary.{ToldFault}
+use Rattle.crash_model.specs.declared.fault.FaultRow.{FaultRow}
+use Rattle.crash_model.specs.declared.patches.Patch.{Patch}
+use Rattle.crash_model.specs.declared.settings.Detail.{Detail}
+use Rattle.report_sections.specs.declared.section.Section.{Section}
+use Rattle.report_sections.specs.Sections.{told, IsSection}
+use Rattle.report_sections.proofs.Pushed.{sections_push}
+
+-- the sections of some sets and then of others are those of them all
+pub sections_join : (detail : Detail) (base : Disk) (patches : List Patch) (xs ys : List ℕ) (first second : List report.Section) → AreSections detail base patches xs first → AreSections detail base patches ys second → AreSections detail base patches (xs ++ ys) (first ++ second)
+sections_join detail base patches [] ys first second are more = subst (λ (ss : List report.Section). AreSections detail base patches ys (ss ++ second)) (sym are) more
+sections_join detail base patches (x ∷ xs) ys first second (writes, rest, runs, others, whole) more =
+    (writes, rest ++ second, runs, sections_join detail base patches xs ys rest second others more, ap (λ (ss : List report.Section). ss ++ second) whole)
+
+-- ---- parts of so many sets
+
+module _ (sets : List ℕ) (size : ℕ) where
+  one_more : (n m : ℕ) → m ≡ n + 1 → m * size ≡ n * size + size
+  one_more n m e = let next : m ≡ suc n = omega (arith, e) in ap (λ (k : ℕ). k * size) next ∙ suc-mul n size
+
+  -- the parts reach over all sets
+  cover : (count : ℕ) → 0 < size → count ≡ length sets / size + min 1 (length sets % size) → length sets ≤ count * size
+  cover count some number = by_rest (length sets % size) refl
+    where
+      by_rest : (r : ℕ) → length sets % size ≡ r → length sets ≤ count * size
+      by_rest zero e =
+          let number_is : count ≡ length sets / size = omega (arith, number, e) in
+          omega (arith, div-add-mod' (length sets) size, e, ap (λ (k : ℕ). k * size) number_is)
+      by_rest (suc r) e =
+          let number_is : count ≡ length sets / size + 1 = omega (arith, number, e) in
+          omega (arith, div-add-mod' (length sets) size, mod-lt (length sets) some, one_more (length sets / size) count number_is)
+
+  -- what holds of no sets holds before the first part
+  pub before_parts : (P : List ℕ → Type 0) → P [] → P (take (0 * size) sets)
+  before_parts P none = subst (λ (k : ℕ). P (take k sets)) (sym (zero-mul size)) none
+
+  -- what holds of the first parts and of the next holds of one part more
+  pub part_more : (P : List ℕ → Type 0) (n : ℕ) → P (take (n * size) sets ++ slice_chunk sets size n) → P (take ((n + 1) * size) sets)
+  part_more P n holds = subst (λ (k : ℕ). P (take k sets)) (sym (one_more n (n + 1) refl)) (subst P (sym (take-add (n * size) size sets)) holds)
+
+  -- what holds of all parts holds of all sets
+  pub all_parts : (P : List ℕ → Type 0) (count n : ℕ) → 0 < size → count ≡ length sets / size + min 1 (length sets % size) → count ≤ n → n ≤ count → P (take (n * size) sets) → P sets
+  all_parts P count n some number low high holds =
+      let e : n ≡ count = omega (arith, low, high) in
+      subst P (take_all (count * size) sets (cover count some number)) (subst (λ (k : ℕ). P (take (k * size) sets)) e holds)
+
+-- ---- rows of faults
+
+module _ {A : Type 0} (rows : List FaultRow) (i : ℕ) (d : FaultRow) (so_far : List ToldFault) (s : Section A) (within : i < length rows) where
+  abbrev row : FaultRow
+  row = get_or rows i d
+
+  -- the next row with its section
+  abbrev one : ToldFault
+  one = record { row = row; first = told s }
+
+  abbrev row_of : ToldFault → FaultRow
+  row_of t = t.row
+
+  abbrev first_of : FaultRow → ℕ
+  first_of r = r.first
+
+  abbrev told_of : ToldFault → report.Section
+  told_of t = t.first
+
+  -- behind the first rows it is told
+  pub rows_more : map row_of so_far ≡ take i rows → map row_of (so_far ++ one ∷ []) ≡ take (i + 1) rows
+  rows_more of_rows = map-append row_of so_far (one ∷ []) ∙ (ap (λ (rs : List FaultRow). rs ++ row ∷ []) of_rows ∙ sym (take_more rows i d within))
+
+  -- and so is the section of its first set
+  pub firsts_more : (detail : Detail) (base : Disk) (patches : List Patch) → AreSections detail base patches (map first_of (take i rows)) (map told_of so_far) → IsSection detail base patches row.first s
+      → AreSections detail base patches (map first_of (take (i + 1) rows)) (map told_of (so_far ++ one ∷ []))
+  firsts_more detail base patches firsts is =
+      subst (λ (ss : List report.Section). AreSections detail base patches (map first_of (take (i + 1) rows)) ss) (sym (map-append told_of so_far (one ∷ [])))
+      (subst (λ (sets : List ℕ). AreSections detail base patches sets (map told_of so_far ++ told s ∷ [])) (sym (ap (map first_of) (take_more rows i d within) ∙ map-append first_of (take i rows) (row ∷ [])))
+      (sections_push detail base patches (map first_of (take i rows)) row.first (map told_of so_far) s firsts is))
