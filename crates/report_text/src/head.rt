@@ -1,6 +1,7 @@
 //! The head of a report.
 
-ghost use Rattle.std.specs.Prelude.{◌≡◌, ◌++◌, string_bytes, OnOk};
+ghost use Rattle.std.specs.Prelude.{◌≡◌, ◌++◌, [], if◌then◌else◌, codes, string_bytes, OnOk};
+ghost use Rattle.crash_model.specs.Report.{line};
 ghost use Rattle.crash_model.specs.Whole.{head_text, rule_lines};
 
 use crash_model::rules::Rule;
@@ -22,10 +23,22 @@ pub(crate) fn write_head<A: Allocator>(
     write!(out, "module {name}\n")?;
     write_rule_lines(out, "without", settings.taken_out().as_slice())?;
     write_rule_lines(out, "with", settings.put_in().as_slice())?;
+    write_strict_line(out, settings.strict)?;
     write!(
         out,
         "patches {patches}\nclosed {closed}\nfailing {failing}\n"
     )
+}
+
+/// The line of a strict run.
+fn write_strict_line<A: Allocator>(out: &mut String<A>, strict: bool) -> Result<(), AllocError>
+    ensures { OnOk result (string_bytes out.new
+        ≡ string_bytes out.old ++ (if strict then line (codes "strict") else [])) }
+{
+    if strict {
+        out.push_str("strict\n")?;
+    }
+    Ok(())
 }
 
 /// A line for each rule, behind the word.

@@ -32,7 +32,7 @@ where
     A: Allocator + Copy + Send + Sync,
     requires { CanTell report.now }
     ensures { IfOk result (λ text. (body : WholeBody)
-        × TellsBody report.now.settings.now.explain report.now.base.now report.now.traced.now.patches report.now.body
+        × TellsBody report.now.detail report.now.base.now report.now.traced.now.patches report.now.body
         body
         × (string_bytes text ≡ text_report report.now.settings.now (whole_of report.now body))) }
 {
@@ -65,12 +65,12 @@ pub(crate) fn write_sections<A: Allocator + Copy>(
 ) -> Result<(), AllocError>
     requires fits { All (λ patch. patch.block < report.now.base.now.blocks) report.now.traced.now.patches }
     requires known { AreKnown report.now.traced.now.patches sets.now }
-    ensures { OnOk result (WritesSections report.now.settings.now.explain report.now.base.now
+    ensures { OnOk result (WritesSections report.now.detail report.now.base.now
         report.now.traced.now.patches sets.now (string_bytes out.old) (string_bytes out.new)) }
 {
     let graph = report.traced.graph();
     let patches = graph.len();
-    let mut maker = SectionMaker::new(alloc, report.base, graph, report.settings.explain)?;
+    let mut maker = SectionMaker::new(alloc, report.base, graph, report.detail)?;
     for set in sets {
         let section = maker.section(*set)?;
         write_section(out, patches, &section)?;
@@ -87,12 +87,12 @@ fn write_faults<A: Allocator + Copy>(
 ) -> Result<(), AllocError>
     requires fits { All (λ patch. patch.block < report.now.base.now.blocks) report.now.traced.now.patches }
     requires known { AreKnown report.now.traced.now.patches (map (λ row. row.first) rows.now) }
-    ensures { OnOk result (WritesFaults report.now.settings.now.explain report.now.base.now
+    ensures { OnOk result (WritesFaults report.now.detail report.now.base.now
         report.now.traced.now.patches rows.now (string_bytes out.old) (string_bytes out.new)) }
 {
     let graph = report.traced.graph();
     let patches = graph.len();
-    let mut maker = SectionMaker::new(alloc, report.base, graph, report.settings.explain)?;
+    let mut maker = SectionMaker::new(alloc, report.base, graph, report.detail)?;
     for row in rows {
         let section = maker.section(row.first)?;
         write_told_fault(out, patches, row, &section)?;

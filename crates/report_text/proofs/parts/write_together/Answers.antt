@@ -8,7 +8,7 @@ pub loop-text-init : goal.loop-text-init
 loop-text-init g c =
     let report = c.args.report.now in
     let sets = c.args.sets.now in
-    parts_none report.settings.now.explain report.base.now report.traced.now.patches sets (length sets / c.args.workers + 1) (string_bytes c.args.out.now)
+    parts_none report.detail report.base.now report.traced.now.patches sets (length sets / c.args.workers + 1) (string_bytes c.args.out.now)
 
 pub loop-text-preserved : goal.loop-text-preserved
 loop-text-preserved g c =
@@ -21,8 +21,8 @@ loop-text-preserved g c =
     let inside : n < length texts = omega (arith, c.loop-text-test.true, ap (λ ts. length ts) c.deref-text-items.ensures.value) in
     let each = c.in_ok-texts.ensures.each n item inside in
     let read : item ≡ slice_index_or texts n item = c.text-item.is ∙ ap (λ ts. slice_index_or ts n item) c.deref-text-items.ensures.value in
-    let told = subst (λ r. IfOk r (λ text. WritesSections report.settings.now.explain report.base.now report.traced.now.patches (slice_chunk sets size n) [] (string_bytes text))) (sym read ∙ c.in-Ok.is) each in
-    parts_more report.settings.now.explain report.base.now report.traced.now.patches sets size n (string_bytes c.args.out.now) (string_bytes c.loop-text.out) (string_bytes c.in-Ok.text) (string_bytes c.push_str.new.self)
+    let told = subst (λ r. IfOk r (λ text. WritesSections report.detail report.base.now report.traced.now.patches (slice_chunk sets size n) [] (string_bytes text))) (sym read ∙ c.in-Ok.is) each in
+    parts_more report.detail report.base.now report.traced.now.patches sets size n (string_bytes c.args.out.now) (string_bytes c.loop-text.out) (string_bytes c.in-Ok.text) (string_bytes c.push_str.new.self)
     c.loop-text.invariant told (c.in_ok-push_str.ensures.bytes ∙ ap (λ (t : List ℕ). string_bytes c.loop-text.out ++ t) c.as_str.ensures.value)
 
 pub returns : goal.returns
@@ -31,5 +31,5 @@ returns g c =
     let sets = c.args.sets.now in
     let size = length sets / c.args.workers + 1 in
     let same = c.deref-text-items.ensures.len in
-    parts_all report.settings.now.explain report.base.now report.traced.now.patches sets size (vec_len c.in_ok-texts.texts) c.loop-text.text-index (string_bytes c.args.out.now) (string_bytes c.loop-text.out)
+    parts_all report.detail report.base.now report.traced.now.patches sets size (vec_len c.in_ok-texts.texts) c.loop-text.text-index (string_bytes c.args.out.now) (string_bytes c.loop-text.out)
     (omega arith) c.in_ok-texts.ensures.len (omega (arith, c.loop-text-test.false, same)) (omega (arith, c.loop-text.auto.text-index-end, same)) c.loop-text.invariant

@@ -24,13 +24,13 @@ returns g c =
       | in-Sets+in_ok-write_together-in-Sets w ↦
           let wrote = w.in_ok-write_together-in-Sets.ensures in (
             whole.Sets wrote.sections,
-            subst (λ b. TellsBody report.settings.now.explain report.base.now patches b (whole.Sets wrote.sections)) (sym w.in-Sets.is) (wrote.sections, wrote.are, refl),
+            subst (λ b. TellsBody report.detail report.base.now patches b (whole.Sets wrote.sections)) (sym w.in-Sets.is) (wrote.sections, wrote.are, refl),
             whole_text report c.len-patches.result (whole.Sets wrote.sections) _ _ _ _ c.new-out.ensures.bytes number c.in_ok-write_head.ensures second (ap (λ o. string_bytes o) w.out-is ∙ wrote.whole),
           )
       | in-Faults+in_ok-write_faults-in-Faults w ↦
           let wrote = w.in_ok-write_faults-in-Faults.ensures in (
             whole.Faults wrote.told,
-            subst (λ b. TellsBody report.settings.now.explain report.base.now patches b (whole.Faults wrote.told)) (sym w.in-Faults.is) (wrote.told, wrote.of_rows, wrote.firsts, refl),
+            subst (λ b. TellsBody report.detail report.base.now patches b (whole.Faults wrote.told)) (sym w.in-Faults.is) (wrote.told, wrote.of_rows, wrote.firsts, refl),
             whole_text report c.len-patches.result (whole.Faults wrote.told) _ _ _ _ c.new-out.ensures.bytes number c.in_ok-write_head.ensures second (ap (λ o. string_bytes o) w.out-is ∙ wrote.whole),
           )
       | in-Rules+in_ok-write_rules-in-Rules w ↦
@@ -38,7 +38,7 @@ returns g c =
           let told = map told_rule rules in
           let wrote = w.in_ok-write_rules-in-Rules.ensures in (
             whole.Rules told,
-            subst (λ b. TellsBody report.settings.now.explain report.base.now patches b (whole.Rules told)) (sym w.in-Rules.is) refl,
+            subst (λ b. TellsBody report.detail report.base.now patches b (whole.Rules told)) (sym w.in-Rules.is) refl,
             whole_text report c.len-patches.result (whole.Rules told) _ _ _ _ c.new-out.ensures.bytes number c.in_ok-write_head.ensures second
                 (ap (λ o. string_bytes o) w.out-is ∙ (wrote ∙ (ap (λ (k : ℕ). string_bytes c.if-report.out ++ flat_map (λ rule. told_rule_text k (told_rule rule)) rules) number
                 ∙ ap (λ (t : List ℕ). string_bytes c.if-report.out ++ t) (sym (flat_map-map (told_rule_text (length patches)) told_rule rules))))),
