@@ -9,12 +9,14 @@ use Rattle.crash_model.specs.Summary.{ToldFault, told_fault_json}
 use Rattle.crash_model.specs.Whole.{Body, told_with, told_without, rules_json, early_json, late_json, json_report}
 use Rattle.crash_model.specs.declared.fault.FaultRow.{FaultRow}
 use Rattle.crash_model.specs.declared.patches.Patch.{Patch}
+use Rattle.crash_model.specs.declared.settings.Detail.{Detail}
 use Rattle.report_sections.specs.Bodies.{explanation_by, whole_of}
 use Rattle.report_sections.specs.declared.report.Report.{Report}
 use Rattle.report_sections.specs.declared.section.Section as code
 use Rattle.report_sections.specs.Sections.{told, IsSection}
-use Rattle.report_sections.proofs.Pushed.{sections_push, sections_more, length-sections}
-use Rattle.report_json.specs.JsonReport.{WritesSections, WritesFaults, base_key, trace_key, module_key, comma_before}
+use Rattle.report_sections.proofs.Joined.{rows_more, firsts_more}
+use Rattle.report_sections.proofs.Pushed.{sections_more, length-sections}
+use Rattle.report_json.specs.JsonReport.{WritesSections, WritesFaults, base_key, trace_key, module_key, strict_key, comma_before}
 use Rattle.report_json.proofs.Commas.{item_more}
 
 -- the items of the first things, with that of the next
@@ -32,35 +34,26 @@ taken_more form xs at d old so_far after text within tells written more =
     place : at ≡ length (take at xs)
     place = omega (arith, within, length-take at xs)
 
-pub section_more : {A : Type 0} (explain : Bool) (base : Disk) (patches : List Patch) (sets : List ℕ) (i n : ℕ) (old so_far after text : List ℕ) (s : code.Section A) → i < length sets → n ≡ length patches → WritesSections explain base patches (take i sets) old so_far → IsSection explain base patches (get_or sets i 0) s → text ≡ section_json n (told s) → after ≡ so_far ++ comma_before i ++ text → WritesSections explain base patches (take (i + 1) sets) old after
-section_more explain base patches sets i n old so_far after text s within number tells is written more = record {
+pub section_more : {A : Type 0} (detail : Detail) (base : Disk) (patches : List Patch) (sets : List ℕ) (i n : ℕ) (old so_far after text : List ℕ) (s : code.Section A) → i < length sets → n ≡ length patches → WritesSections detail base patches (take i sets) old so_far → IsSection detail base patches (get_or sets i 0) s → text ≡ section_json n (told s) → after ≡ so_far ++ comma_before i ++ text → WritesSections detail base patches (take (i + 1) sets) old after
+section_more detail base patches sets i n old so_far after text s within number tells is written more = record {
   sections = tells.sections ++ told s ∷ [];
-  are = sections_more explain base patches sets i tells.sections s within tells.are is;
+  are = sections_more detail base patches sets i tells.sections s within tells.are is;
   whole = mapped_more (section_json (length patches)) tells.sections (told s) i old so_far after text place tells.whole (written ∙ ap (λ (k : ℕ). section_json k (told s)) number) more;
 }
   where
     place : i ≡ length tells.sections
-    place = omega (arith, within, length-sections explain base patches (take i sets) tells.sections tells.are, length-take i sets)
+    place = omega (arith, within, length-sections detail base patches (take i sets) tells.sections tells.are, length-take i sets)
 
-pub fault_more : {A : Type 0} (explain : Bool) (base : Disk) (patches : List Patch) (rows : List FaultRow) (i n : ℕ) (d : FaultRow) (old so_far after text : List ℕ) (s : code.Section A) → i < length rows → n ≡ length patches → WritesFaults explain base patches (take i rows) old so_far → IsSection explain base patches (get_or rows i d).first s → text ≡ told_fault_json n (record { row = get_or rows i d; first = told s }) → after ≡ so_far ++ comma_before i ++ text → WritesFaults explain base patches (take (i + 1) rows) old after
-fault_more explain base patches rows i n d old so_far after text s within number tells is written more = record {
+pub fault_more : {A : Type 0} (detail : Detail) (base : Disk) (patches : List Patch) (rows : List FaultRow) (i n : ℕ) (d : FaultRow) (old so_far after text : List ℕ) (s : code.Section A) → i < length rows → n ≡ length patches → WritesFaults detail base patches (take i rows) old so_far → IsSection detail base patches (get_or rows i d).first s → text ≡ told_fault_json n (record { row = get_or rows i d; first = told s }) → after ≡ so_far ++ comma_before i ++ text → WritesFaults detail base patches (take (i + 1) rows) old after
+fault_more detail base patches rows i n d old so_far after text s within number tells is written more = record {
   told = tells.told ++ one ∷ [];
-  of_rows = map-append (λ (t : ToldFault). t.row) tells.told (one ∷ []) ∙ (ap (λ (rs : List FaultRow). rs ++ row ∷ []) tells.of_rows ∙ sym (take_more rows i d within));
-  firsts =
-      subst (λ (ss : List Section). AreSections explain base patches (map first_of (take (i + 1) rows)) ss) (sym (map-append (λ (t : ToldFault). t.first) tells.told (one ∷ [])))
-      (subst (λ (sets : List ℕ). AreSections explain base patches sets (map (λ (t : ToldFault). t.first) tells.told ++ told s ∷ [])) (sym (ap (map first_of) (take_more rows i d within) ∙ map-append first_of (take i rows) (row ∷ [])))
-      (sections_push explain base patches (map first_of (take i rows)) row.first (map (λ (t : ToldFault). t.first) tells.told) s tells.firsts is));
+  of_rows = rows_more rows i d tells.told s within tells.of_rows;
+  firsts = firsts_more rows i d tells.told s within detail base patches tells.firsts is;
   whole = mapped_more (told_fault_json (length patches)) tells.told one i old so_far after text place tells.whole (written ∙ ap (λ (k : ℕ). told_fault_json k one) number) more;
 }
   where
-    row : FaultRow
-    row = get_or rows i d
-
     one : ToldFault
-    one = record { row = row; first = told s }
-
-    first_of : FaultRow → ℕ
-    first_of r = r.first
+    one = record { row = get_or rows i d; first = told s }
 
     place : i ≡ length tells.told
     place = omega (arith, within, sym (length-map tells.told (λ (t : ToldFault). t.row)), ap length tells.of_rows, length-take i rows)
@@ -81,26 +74,28 @@ pub trace_unexplained : {A : Type 0} (report : Report A) (explain : Bool) (first
 trace_unexplained report explain first second is same = same ∙ (sym (append-nil first) ∙ ap (λ (e : Bool). first ++ trace_json (when e (explanation_by report.base.now report.traced.now))) (sym is))
 
 -- the pieces of the whole, one behind another
-pub whole_text : {A : Type 0} (report : Report A) (n : ℕ) (body : Body) (empty one two three four five six seven eight nine last : List ℕ) → empty ≡ [] → n ≡ length report.traced.now.patches
+pub whole_text : {A : Type 0} (report : Report A) (n : ℕ) (body : Body) (empty one two three four five six seven eight nine ten last : List ℕ) → empty ≡ [] → n ≡ length report.traced.now.patches
     → one ≡ empty ++ codes "{"
     → two ≡ one ++ base_json (when report.settings.now.explain (explanation_by report.base.now report.traced.now))
     → three ≡ two ++ (codes "\"closed\":" ++ decimal report.closed)
     → four ≡ three ++ early_json (length report.traced.now.patches) report.failing body
     → five ≡ four ++ module_key report.settings.now.module n
     → six ≡ five ++ late_json (length report.traced.now.patches) report.failing body
-    → seven ≡ six ++ trace_json (when report.settings.now.explain (explanation_by report.base.now report.traced.now))
-    → eight ≡ seven ++ rules_json (codes "with") (told_with report.settings.now)
-    → nine ≡ eight ++ rules_json (codes "without") (told_without report.settings.now)
-    → last ≡ nine ++ codes "}\n"
+    → seven ≡ six ++ strict_key report.settings.now.strict
+    → eight ≡ seven ++ trace_json (when report.settings.now.explain (explanation_by report.base.now report.traced.now))
+    → nine ≡ eight ++ rules_json (codes "with") (told_with report.settings.now)
+    → ten ≡ nine ++ rules_json (codes "without") (told_without report.settings.now)
+    → last ≡ ten ++ codes "}\n"
     → last ≡ json_report report.settings.now (whole_of report body)
 unfolding json_report
-whole_text report n body empty one two three four five six seven eight nine last none number first second third fourth fifth sixth seventh eighth ninth tenth =
+whole_text report n body empty one two three four five six seven eight nine ten last none number first second third fourth fifth sixth seventh eighth ninth tenth eleventh =
     let explain = report.settings.now.explain in
     let told = when explain (explanation_by report.base.now report.traced.now) in
     let patches = length report.traced.now.patches in
     let base = base_json told in
     let early = early_json patches report.failing body in
     let late = late_json patches report.failing body in
+    let strict = strict_key report.settings.now.strict in
     let trace = trace_json told in
     let with = rules_json (codes "with") (told_with report.settings.now) in
     let without = rules_json (codes "without") (told_without report.settings.now) in
@@ -109,12 +104,12 @@ whole_text report n body empty one two three four five six seven eight nine last
     third ∙ ap (λ (t : List ℕ). t ++ (codes "\"closed\":" ++ decimal report.closed)) (second ∙ ap (λ (t : List ℕ). t ++ base) (first ∙ ap (λ (t : List ℕ). t ++ codes "{") none)) in
     let middle : six ≡ three ++ early ++ module_key report.settings.now.module patches ++ late =
     sixth ∙ ap (λ (t : List ℕ). t ++ late) (fifth ∙ (ap (λ (k : ℕ). four ++ module_key report.settings.now.module k) number ∙ ap (λ (t : List ℕ). t ++ module_key report.settings.now.module patches) fourth)) in
-    let end : last ≡ six ++ trace ++ with ++ without ++ codes "}\n" =
-    tenth ∙ ap (λ (t : List ℕ). t ++ codes "}\n") (ninth ∙ ap (λ (t : List ℕ). t ++ without) (eighth ∙ ap (λ (t : List ℕ). t ++ with) seventh)) in
-    end ∙ (ap (λ (t : List ℕ). t ++ trace ++ with ++ without ++ codes "}\n") (middle ∙ ap (λ (t : List ℕ). t ++ early ++ module_key report.settings.now.module patches ++ late) start)
-    ∙ regroup (codes "{") base (codes "\"closed\":") (decimal report.closed) early (codes ",\"module\":") (codes "\"") name (codes "\"") (codes ",\"patches\":") (decimal patches) late trace with without (codes "}\n"))
+    let end : last ≡ six ++ strict ++ trace ++ with ++ without ++ codes "}\n" =
+    eleventh ∙ ap (λ (t : List ℕ). t ++ codes "}\n") (tenth ∙ ap (λ (t : List ℕ). t ++ without) (ninth ∙ ap (λ (t : List ℕ). t ++ with) (eighth ∙ ap (λ (t : List ℕ). t ++ trace) seventh))) in
+    end ∙ (ap (λ (t : List ℕ). t ++ strict ++ trace ++ with ++ without ++ codes "}\n") (middle ∙ ap (λ (t : List ℕ). t ++ early ++ module_key report.settings.now.module patches ++ late) start)
+    ∙ regroup (codes "{") base (codes "\"closed\":") (decimal report.closed) early (codes ",\"module\":") (codes "\"") name (codes "\"") (codes ",\"patches\":") (decimal patches) late strict trace with without (codes "}\n"))
   where
-    regroup : (a b c d e f g h i j k l m n o p : List ℕ)
-        → a ++ b ++ (c ++ d) ++ e ++ ((f ++ g) ++ h ++ (i ++ j) ++ k) ++ l ++ m ++ n ++ o ++ p
-        ≡ a ++ b ++ c ++ d ++ e ++ f ++ (g ++ h ++ i) ++ j ++ k ++ l ++ m ++ n ++ o ++ p
-    regroup a b c d e f g h i j k l m n o p = simp append_assoc
+    regroup : (a b c d e f g h i j k l m n o p q : List ℕ)
+        → a ++ b ++ (c ++ d) ++ e ++ ((f ++ g) ++ h ++ (i ++ j) ++ k) ++ l ++ m ++ n ++ o ++ p ++ q
+        ≡ a ++ b ++ c ++ d ++ e ++ f ++ (g ++ h ++ i) ++ j ++ k ++ l ++ m ++ n ++ o ++ p ++ q
+    regroup a b c d e f g h i j k l m n o p q = simp append_assoc

@@ -1,5 +1,5 @@
 -- Reports as JSON.
-use Rattle.std.specs.Prelude.{◌≡◌, ℕ, zero, suc, List, [], ◌++◌, length, map, Bool, false, codes, decimal}
+use Rattle.std.specs.Prelude.{◌≡◌, ℕ, zero, suc, List, [], ◌++◌, length, map, if◌then◌else◌, Bool, false, codes, decimal}
 use Rattle.crash_model.specs.Lists.{joined}
 use Rattle.crash_model.specs.Disk.{Disk}
 use Rattle.serde_json.specs.Data.{Data}
@@ -12,6 +12,7 @@ use Rattle.crash_model.specs.Whole as whole
 use Rattle.crash_model.specs.Whole.{early_json, late_json}
 use Rattle.crash_model.specs.declared.fault.FaultRow.{FaultRow}
 use Rattle.crash_model.specs.declared.patches.Patch.{Patch}
+use Rattle.crash_model.specs.declared.settings.Detail.{Detail}
 use Rattle.crash_model.specs.declared.steps.Module.{Module}
 use Rattle.order_modules.specs.Traced.{TracedPatches}
 use Rattle.report_sections.specs.Bodies.{TellsBody}
@@ -35,6 +36,10 @@ trace_key t = codes ",\"trace\":" ++ json_array (map told_json (told_patches t.r
 abbrev pub module_key : Module → ℕ → List ℕ
 module_key kind patches = codes ",\"module\":\"" ++ module_text kind ++ codes "\",\"patches\":" ++ decimal patches
 
+-- that the run is strict, told where it is
+abbrev pub strict_key : Bool → List ℕ
+strict_key strict = if strict then codes ",\"strict\":true" else []
+
 -- the comma before the item at a place
 abbrev pub comma_before : ℕ → List ℕ
 comma_before zero = []
@@ -43,26 +48,26 @@ comma_before (suc n) = codes ","
 -- behind what stood there the text has the body's key before `module`
 abbrev pub WritesEarly : {A : Type 0} → Report A → List ℕ → List ℕ → Type 0
 WritesEarly report old new =
-    (body : whole.Body) × TellsBody report.settings.now.explain report.base.now report.traced.now.patches report.body body
+    (body : whole.Body) × TellsBody report.detail report.base.now report.traced.now.patches report.body body
     × (new ≡ old ++ early_json (length report.traced.now.patches) report.failing body)
 
 -- and its key behind `patches`
 abbrev pub WritesLate : {A : Type 0} → Report A → List ℕ → List ℕ → Type 0
 WritesLate report old new =
-    (body : whole.Body) → TellsBody report.settings.now.explain report.base.now report.traced.now.patches report.body body
+    (body : whole.Body) → TellsBody report.detail report.base.now report.traced.now.patches report.body body
     → new ≡ old ++ late_json (length report.traced.now.patches) report.failing body
 
 -- behind what stood there the text has the objects of these sets, with a comma between two
-pub record WritesSections (explain : Bool) (base : Disk) (patches : List Patch) (sets old new : List ℕ) : Type 0 where
+pub record WritesSections (detail : Detail) (base : Disk) (patches : List Patch) (sets old new : List ℕ) : Type 0 where
   pub sections : List Section
-  pub are : AreSections explain base patches sets sections
+  pub are : AreSections detail base patches sets sections
   pub whole : new ≡ old ++ joined 44 (map (section_json (length patches)) sections)
 
 -- the same of the objects of these rows
-pub record WritesFaults (explain : Bool) (base : Disk) (patches : List Patch) (rows : List FaultRow) (old new : List ℕ) : Type 0 where
+pub record WritesFaults (detail : Detail) (base : Disk) (patches : List Patch) (rows : List FaultRow) (old new : List ℕ) : Type 0 where
   pub told : List ToldFault
   pub of_rows : map (λ t. t.row) told ≡ rows
-  pub firsts : AreSections explain base patches (map (λ row. row.first) rows) (map (λ t. t.first) told)
+  pub firsts : AreSections detail base patches (map (λ row. row.first) rows) (map (λ t. t.first) told)
   pub whole : new ≡ old ++ joined 44 (map (told_fault_json (length patches)) told)
 
 -- and of the objects of these rules, of n patches

@@ -5,7 +5,7 @@ ghost use Rattle.crash_model.specs.Lists.{joined};
 ghost use Rattle.crash_model.specs.Report.{quoted};
 ghost use Rattle.crash_model.specs.Rules.{rule_text};
 ghost use Rattle.crash_model.specs.Whole.{rules_json};
-ghost use Rattle.report_json.specs.JsonReport.{module_key};
+ghost use Rattle.report_json.specs.JsonReport.{module_key, strict_key};
 
 use crate::items::write_comma;
 use crash_model::rules::Rule;
@@ -24,6 +24,16 @@ pub(crate) fn write_module(
     out.push_str(module.name())?;
     out.push_str("\",\"patches\":")?;
     write!(out, "{patches}")?;
+    Ok(())
+}
+
+/// The key of a strict run.
+pub(crate) fn write_strict_key(out: &mut String, strict: bool) -> Result<(), AllocError>
+    ensures { OnOk result (string_bytes out.new ≡ string_bytes out.old ++ strict_key strict) }
+{
+    if strict {
+        out.push_str(",\"strict\":true")?;
+    }
     Ok(())
 }
 

@@ -31,7 +31,7 @@ where
     A: Allocator + Copy + Send + Sync,
     requires fits { All (λ patch. patch.block < report.now.base.now.blocks) report.now.traced.now.patches }
     requires known { AreKnown report.now.traced.now.patches sets.now }
-    ensures { OnOk result (WritesSections report.now.settings.now.explain report.now.base.now
+    ensures { OnOk result (WritesSections report.now.detail report.now.base.now
         report.now.traced.now.patches sets.now (string_bytes out.old) (string_bytes out.new)) }
 {
     if workers < 2 || sets.len() < SHARED {
@@ -67,7 +67,7 @@ where
     requires known { AreKnown report.now.traced.now.patches sets.now }
     ensures len { IfOk result (λ texts. vec_len texts ≡ length sets.now / size + min 1 (length sets.now % size)) }
     ensures each { IfOk result (λ texts.
-        ArePartTexts report.now.settings.now.explain report.now.base.now report.now.traced.now.patches sets.now size
+        ArePartTexts report.now.detail report.now.base.now report.now.traced.now.patches sets.now size
         texts.items) }
     ensures full { IfOk result (λ texts. AreFullParts sets.now size texts.items) }
 {
@@ -94,7 +94,7 @@ fn part_text<A: Allocator + Copy>(
     requires fits { All (λ patch. patch.block < report.now.base.now.blocks) report.now.traced.now.patches }
     requires known { AreKnown report.now.traced.now.patches sets.now }
     ensures { IfOk result (λ text.
-        WritesSections report.now.settings.now.explain report.now.base.now report.now.traced.now.patches sets.now []
+        WritesSections report.now.detail report.now.base.now report.now.traced.now.patches sets.now []
         (string_bytes text)) }
 {
     let mut text = String::new(heap);

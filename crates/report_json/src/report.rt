@@ -6,7 +6,7 @@ ghost use Rattle.crash_model.specs.Whole.{Body as WholeBody, json_report};
 ghost use Rattle.report_sections.specs.Bodies.{CanTell, TellsBody, AreKnown, whole_of};
 ghost use Rattle.report_json.specs.JsonReport.{WritesEarly, WritesLate, WritesSections, WritesFaults, WritesRules};
 
-use crate::head::{write_module, write_rule_key};
+use crate::head::{write_module, write_rule_key, write_strict_key};
 use crate::items::write_item;
 use crate::parts::write_together;
 use crate::patches::{write_base, write_trace};
@@ -35,7 +35,7 @@ where
     A: Allocator + Copy + Send + Sync,
     requires { CanTell report.now }
     ensures { IfOk result (λ text. (body : WholeBody)
-        × TellsBody report.now.settings.now.explain report.now.base.now report.now.traced.now.patches report.now.body
+        × TellsBody report.now.detail report.now.base.now report.now.traced.now.patches report.now.body
         body
         × (string_bytes text ≡ json_report report.now.settings.now (whole_of report.now body))) }
 {
@@ -50,6 +50,7 @@ where
     write_early(&mut out, rt, alloc, report, workers)?;
     write_module(&mut out, settings.module, report.traced.graph().len())?;
     write_late(&mut out, report)?;
+    write_strict_key(&mut out, settings.strict)?;
     if settings.explain {
         write_trace(&mut out, report.traced)?;
     }
@@ -123,13 +124,13 @@ pub(crate) fn write_sections<A: Allocator + Copy>(
 ) -> Result<(), AllocError>
     requires fits { All (λ patch. patch.block < report.now.base.now.blocks) report.now.traced.now.patches }
     requires known { AreKnown report.now.traced.now.patches sets.now }
-    ensures { OnOk result (WritesSections report.now.settings.now.explain report.now.base.now
+    ensures { OnOk result (WritesSections report.now.detail report.now.base.now
         report.now.traced.now.patches sets.now (string_bytes out.old) (string_bytes out.new)) }
 {
     let heap = *out.allocator();
     let graph = report.traced.graph();
     let patches = graph.len();
-    let mut maker = SectionMaker::new(alloc, report.base, graph, report.settings.explain)?;
+    let mut maker = SectionMaker::new(alloc, report.base, graph, report.detail)?;
     for (at, set) in sets.iter().enumerate() {
         let section = maker.section(*set)?;
         let value = section_value(heap, patches, &section)?;
@@ -147,13 +148,13 @@ fn write_faults<A: Allocator + Copy>(
 ) -> Result<(), AllocError>
     requires fits { All (λ patch. patch.block < report.now.base.now.blocks) report.now.traced.now.patches }
     requires known { AreKnown report.now.traced.now.patches (map (λ row. row.first) rows.now) }
-    ensures { OnOk result (WritesFaults report.now.settings.now.explain report.now.base.now
+    ensures { OnOk result (WritesFaults report.now.detail report.now.base.now
         report.now.traced.now.patches rows.now (string_bytes out.old) (string_bytes out.new)) }
 {
     let heap = *out.allocator();
     let graph = report.traced.graph();
     let patches = graph.len();
-    let mut maker = SectionMaker::new(alloc, report.base, graph, report.settings.explain)?;
+    let mut maker = SectionMaker::new(alloc, report.base, graph, report.detail)?;
     for (at, row) in rows.iter().enumerate() {
         let section = maker.section(row.first)?;
         let value = told_fault_value(heap, patches, row, &section)?;

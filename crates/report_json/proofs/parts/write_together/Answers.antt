@@ -8,7 +8,7 @@ pub loop-at-init : goal.loop-at-init
 loop-at-init g c =
     let report = c.args.report.now in
     let sets = c.args.sets.now in
-    parts_none report.settings.now.explain report.base.now report.traced.now.patches sets (length sets / c.args.workers + 1) (string_bytes c.args.out.now)
+    parts_none report.detail report.base.now report.traced.now.patches sets (length sets / c.args.workers + 1) (string_bytes c.args.out.now)
 
 pub loop-at-preserved : goal.loop-at-preserved
 loop-at-preserved g c =
@@ -21,8 +21,8 @@ loop-at-preserved g c =
     let inside : n < length texts = omega (arith, c.loop-at-test.true, ap (λ ts. length ts) c.deref-text-items.ensures.value) in
     let each = c.in_ok-texts.ensures.each n item inside in
     let read : item ≡ slice_index_or texts n item = c.text-item.is ∙ ap (λ ts. slice_index_or ts n item) c.deref-text-items.ensures.value in
-    let told = subst (λ r. IfOk r (λ text. WritesSections report.settings.now.explain report.base.now report.traced.now.patches (slice_chunk sets size n) [] (string_bytes text))) (sym read ∙ c.in-Ok.is) each in
-    parts_more report.settings.now.explain report.base.now report.traced.now.patches sets size n (string_bytes c.args.out.now) (string_bytes c.loop-at.out) (string_bytes c.in-Ok.text) (string_bytes c.push_str.new.self)
+    let told = subst (λ r. IfOk r (λ text. WritesSections report.detail report.base.now report.traced.now.patches (slice_chunk sets size n) [] (string_bytes text))) (sym read ∙ c.in-Ok.is) each in
+    parts_more report.detail report.base.now report.traced.now.patches sets size n (string_bytes c.args.out.now) (string_bytes c.loop-at.out) (string_bytes c.in-Ok.text) (string_bytes c.push_str.new.self)
     (omega arith) (c.in_ok-texts.ensures.full n item inside) c.loop-at.invariant told
     (c.in_ok-push_str.ensures.bytes ∙ (ap (λ (t : List ℕ). string_bytes c.write_comma.new.out ++ t) c.as_str.ensures.value
     ∙ ap (λ (t : List ℕ). t ++ string_bytes c.in-Ok.text) c.in_ok-write_comma.ensures))
@@ -33,5 +33,5 @@ returns g c =
     let sets = c.args.sets.now in
     let size = length sets / c.args.workers + 1 in
     let same = c.deref-text-items.ensures.len in
-    parts_all report.settings.now.explain report.base.now report.traced.now.patches sets size (vec_len c.in_ok-texts.texts) c.loop-at.at (string_bytes c.args.out.now) (string_bytes c.loop-at.out)
+    parts_all report.detail report.base.now report.traced.now.patches sets size (vec_len c.in_ok-texts.texts) c.loop-at.at (string_bytes c.args.out.now) (string_bytes c.loop-at.out)
     (omega arith) c.in_ok-texts.ensures.len (omega (arith, c.loop-at-test.false, same)) (omega (arith, c.loop-at.auto.at-end, same)) c.loop-at.invariant

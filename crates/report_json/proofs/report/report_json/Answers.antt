@@ -17,7 +17,7 @@ returns g c =
       | then-settings+in_ok-write_base w ↦ base_explained report explain _ _ w.if-settings.true (subst (λ o. string_bytes o ≡ _) (sym w.out-is) w.in_ok-write_base.ensures)
       | else-settings w ↦ base_unexplained report explain _ _ w.if-settings.false (ap (λ o. string_bytes o) w.out-is)
     ] in
-    let trace : string_bytes c.if-settings-2.out ≡ string_bytes c.write_late.new.out ++ trace_json told = elim c.if-settings-2.branch [
+    let trace : string_bytes c.if-settings-2.out ≡ string_bytes c.write_strict_key.new.out ++ trace_json told = elim c.if-settings-2.branch [
       | then-settings-2+in_ok-write_trace w ↦ trace_explained report explain _ _ w.if-settings-2.true (subst (λ o. string_bytes o ≡ _) (sym w.out-is) w.in_ok-write_trace.ensures)
       | else-settings-2 w ↦ trace_unexplained report explain _ _ w.if-settings-2.false (ap (λ o. string_bytes o) w.out-is)
     ] in
@@ -28,6 +28,6 @@ returns g c =
     c.in_ok-write_rule_key-2.ensures ∙ ap (λ rs. string_bytes c.write_rule_key.new.out ++ rules_json (codes "without") rs) (c.as_slice-2.ensures.value ∙ c.taken_out.ensures) in (
       early.0,
       early.1,
-      whole_text report c.len.result early.0 _ _ _ _ _ _ _ _ _ _ _ c.new-out.ensures.bytes number c.in_ok-push_str.ensures.bytes base c.in_ok-write.ensures.bytes early.2
-          c.in_ok-write_module.ensures (c.in_ok-write_late.ensures early.0 early.1) trace with without c.in_ok-push_str-2.ensures.bytes,
+      whole_text report c.len.result early.0 _ _ _ _ _ _ _ _ _ _ _ _ c.new-out.ensures.bytes number c.in_ok-push_str.ensures.bytes base c.in_ok-write.ensures.bytes early.2
+          c.in_ok-write_module.ensures (c.in_ok-write_late.ensures early.0 early.1) c.in_ok-write_strict_key.ensures trace with without c.in_ok-push_str-2.ensures.bytes,
     )

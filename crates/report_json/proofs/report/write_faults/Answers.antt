@@ -23,8 +23,8 @@ loop-at-preserved g c =
     let report = c.args.report.now in
     let rows = c.args.rows.now in
     let number : c.len-patches.result ≡ length report.traced.now.patches = cc in
-    let is = subst (λ (m : Reported). IsSection m.explain m.base m.patches (get_or rows c.loop-at.at no_row).first c.in_ok-section.section) c.loop-at.invariant.of_report c.in_ok-section.ensures.told in
+    let is = subst (λ (m : Reported). IsSection m.detail m.base m.patches (get_or rows c.loop-at.at no_row).first c.in_ok-section.section) c.loop-at.invariant.of_report c.in_ok-section.ensures.told in
     record {
-      told = fault_more report.settings.now.explain report.base.now report.traced.now.patches rows c.loop-at.at c.len-patches.result no_row _ _ _ _ c.in_ok-section.section c.loop-at-test.true number c.loop-at.invariant.told is c.in_ok-value.ensures.whole c.in_ok-write_item.ensures;
+      told = fault_more report.detail report.base.now report.traced.now.patches rows c.loop-at.at c.len-patches.result no_row _ _ _ _ c.in_ok-section.section c.loop-at-test.true number c.loop-at.invariant.told is c.in_ok-value.ensures.whole c.in_ok-write_item.ensures;
       of_report = kept ∙ c.loop-at.invariant.of_report;
     }

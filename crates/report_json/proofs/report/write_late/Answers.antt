@@ -15,7 +15,7 @@ returns-in_ok-push_str-in-Rules-2 g c = λ body tells.
     let patches = report.traced.now.patches in
     let rules = c.in-Rules.rules.now in
     let number : c.len.result ≡ length patches = cc in
-    let same : body ≡ whole.Rules (map told_rule rules) = subst (λ b. TellsBody report.settings.now.explain report.base.now patches b body) c.in-Rules.is tells in
+    let same : body ≡ whole.Rules (map told_rule rules) = subst (λ b. TellsBody report.detail report.base.now patches b body) c.in-Rules.is tells in
     let items = c.in_ok-write_rules-in-Rules.ensures
     ∙ (ap (λ (k : ℕ). string_bytes c.push_str.new.self ++ joined 44 (map (λ rule. told_rule_json k (told_rule rule)) rules)) number
     ∙ ap (λ ts. string_bytes c.push_str.new.self ++ joined 44 ts) (sym (map-map (told_rule_json (length patches)) told_rule rules))) in

@@ -12,8 +12,8 @@ loop-at-preserved g c =
     let kept : c.section.new.self ≡ c.loop-at.maker = cc in
     let report = c.args.report.now in
     let number : c.len-patches.result ≡ length report.traced.now.patches = cc in
-    let is = subst (λ (m : Reported). IsSection m.explain m.base m.patches (get_or c.args.sets.now c.loop-at.at 0) c.in_ok-section.section) c.loop-at.invariant.of_report c.in_ok-section.ensures.told in
+    let is = subst (λ (m : Reported). IsSection m.detail m.base m.patches (get_or c.args.sets.now c.loop-at.at 0) c.in_ok-section.section) c.loop-at.invariant.of_report c.in_ok-section.ensures.told in
     record {
-      told = section_more report.settings.now.explain report.base.now report.traced.now.patches c.args.sets.now c.loop-at.at c.len-patches.result _ _ _ _ c.in_ok-section.section c.loop-at-test.true number c.loop-at.invariant.told is c.in_ok-value.ensures.whole c.in_ok-write_item.ensures;
+      told = section_more report.detail report.base.now report.traced.now.patches c.args.sets.now c.loop-at.at c.len-patches.result _ _ _ _ c.in_ok-section.section c.loop-at-test.true number c.loop-at.invariant.told is c.in_ok-value.ensures.whole c.in_ok-write_item.ensures;
       of_report = kept ∙ c.loop-at.invariant.of_report;
     }

@@ -4,6 +4,6 @@ use Rattle.report_json.proofs.report.write_sections.Given as goal
 
 abbrev pub invariant-loop-at : goal.invariant-loop-at
 invariant-loop-at g l = record {
-  told : WritesSections l.report.settings.now.explain l.report.base.now l.report.traced.now.patches (take l.at l.sets) (string_bytes l.initial.out) (string_bytes l.out);
-  of_report : l.maker ≡ record { base = l.report.base.now; patches = l.report.traced.now.patches; explain = l.report.settings.now.explain };
+  told : WritesSections l.report.detail l.report.base.now l.report.traced.now.patches (take l.at l.sets) (string_bytes l.initial.out) (string_bytes l.out);
+  of_report : l.maker ≡ record { base = l.report.base.now; patches = l.report.traced.now.patches; detail = l.report.detail };
 }
