@@ -1,6 +1,6 @@
 //! Whole reports.
 
-ghost use Rattle.std.specs.Prelude.{◌≡◌, ◌<◌, ◌++◌, map, string_bytes, IfOk, OnOk};
+ghost use Rattle.std.specs.Prelude.{◌≡◌, ◌<◌, map, string_bytes, IfOk, OnOk};
 ghost use Rattle.std.specs.List.{All};
 ghost use Rattle.crash_model.specs.Whole.{Body as WholeBody, json_report};
 ghost use Rattle.report_sections.specs.Bodies.{CanTell, TellsBody, AreKnown, whole_of};
