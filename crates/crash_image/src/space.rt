@@ -68,11 +68,7 @@ impl<'a, A: Allocator + Copy> PatchSpace<'a, A> {
     /// The space of a graph over a base, where the checker is told which inodes the script keeps, or is told nothing.
     ///
     /// The patches change blocks of the base, and their undo data are the bytes that they replace there.
-    pub fn new(
-        base: &'a Image<A>,
-        graph: &'a Graph<A>,
-        kept: Option<u16>,
-    ) -> PatchSpace<'a, A>
+    pub fn new(base: &'a Image<A>, graph: &'a Graph<A>, kept: Option<u16>) -> PatchSpace<'a, A>
         requires fits { All (λ patch. patch.block < base.now.blocks) graph.now }
         requires undo { AreUndo base.now graph.now }
         ensures { result ≡ record { base = base.now; patches = graph.now; kept = kept } }

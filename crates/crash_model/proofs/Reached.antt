@@ -59,12 +59,12 @@ one_more false c n more = omega arith
 ids_grow : (p q : ℕ → Bool) (m : ℕ) → ((i : ℕ) → i < m → p i ≡ true → q i ≡ true) → length (ids_below m p) ≤ length (ids_below m q)
 ids_grow p q zero more = omega arith
 ids_grow p q (suc m) more = rw (ids_suc m p, ids_suc m q) (omega (
-    arith,
-    length-append (ids_below m p) (cond (p m) (m ∷ []) []),
-    length-append (ids_below m q) (cond (q m) (m ∷ []) []),
-    ids_grow p q m (holds_still p q m more),
-    one_more (p m) (q m) m (more m (omega arith)),
-  ))
+  arith,
+  length-append (ids_below m p) (cond (p m) (m ∷ []) []),
+  length-append (ids_below m q) (cond (q m) (m ∷ []) []),
+  ids_grow p q m (holds_still p q m more),
+  one_more (p m) (q m) m (more m (omega arith)),
+))
 
 -- it holds nowhere else where as many numbers pass
 same_here : (b c : Bool) (m : ℕ) → length (cond c (m ∷ []) []) ≤ length (cond b (m ∷ []) []) → c ≡ true → b ≡ true
