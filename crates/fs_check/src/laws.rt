@@ -12,12 +12,14 @@ pub fn clean_is_faultless()
     ensures { (d : Disk) → (IsClean d ↔ (HasCleanPointers d × HasCleanEntries d)) }
 {}
 
-/// The inodes that are reached are the least set with inode 0, where it is a directory, and with each live inode that an
-/// entry of one of its directories names.
+/// The inodes that are reached are the least set with inode 0, where it is a directory, and with each live inode that
+/// an entry of one of its directories names.
 pub fn reached_inodes_are_the_least_set()
     ensures root { (d : Disk) → kind_of d 0 ≡ 2 → IsTrue (is_reached d 0) }
-    ensures step { (d : Disk) → (dir inode : ℕ) → IsTrue (is_reached d dir) → IsTrue (is_named d dir inode) → IsTrue (is_live d inode) → IsTrue (is_reached d inode) }
+    ensures step { (d : Disk) → (dir inode : ℕ) → IsTrue (is_reached d dir) → IsTrue (is_named d dir inode)
+        → IsTrue (is_live d inode) → IsTrue (is_reached d inode) }
     ensures least { (d : Disk) → (set : ℕ → Bool) → (kind_of d 0 ≡ 2 → IsTrue (set 0))
-        → ((dir inode : ℕ) → IsTrue (set dir) → IsTrue (is_named d dir inode) → IsTrue (is_live d inode) → IsTrue (set inode))
+        → ((dir inode : ℕ) → IsTrue (set dir) → IsTrue (is_named d dir inode) → IsTrue (is_live d inode)
+        → IsTrue (set inode))
         → (inode : ℕ) → IsTrue (is_reached d inode) → IsTrue (set inode) }
 {}
