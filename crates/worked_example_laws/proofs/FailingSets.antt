@@ -86,10 +86,10 @@ module _ (kept : Option ℕ) (base : Disk) (patches : List Patch) (before : AreE
 
 -- the same where nothing is asked of what is kept
 module _ (base : Disk) (patches : List Patch) where
-  failing_from_under : (set : ℕ) → IsFailingUnder None base patches set → IsFailing base patches set
+  pub failing_from_under : (set : ℕ) → IsFailingUnder None base patches set → IsFailing base patches set
   failing_from_under set is = record { closed = is.closed; unclean = λ clean. is.unclean record { faultless = clean.faultless } }
 
-  under_from_failing : (set : ℕ) → IsFailing base patches set → IsFailingUnder None base patches set
+  pub under_from_failing : (set : ℕ) → IsFailing base patches set → IsFailingUnder None base patches set
   under_from_failing set is = record { closed = is.closed; unclean = λ clean. is.unclean record { faultless = clean.faultless } }
 
 module _ (base : Disk) (patches : List Patch) (before : AreEarlier (deps_of patches)) where

@@ -1,12 +1,22 @@
 //! What is reached, what a script keeps, and what a strict checker finds, on small disks.
 #![tactic(auto, unfolding(crash_model::specs::Disk::overwrite, crash_model::specs::Lists::each_below, crash_model::specs::Lists::some_below, crash_model::specs::Lists::first_below, crash_model::specs::Plan::plan_of, crash_model::specs::Faults::each_slot, crash_model::specs::Faults::each_entry, crash_model::specs::Faults::namers, crash_model::specs::Faults::entries_to, crash_model::specs::Faults::faults, crash_model::specs::Strict::reached_in, crash_model::specs::Strict::is_reached, crash_model::specs::Strict::strict_faults))]
 
-ghost use Rattle.std.specs.Prelude.{◌≡◌, [], ◌∷◌, ◌++◌, Some, None, true, false, replicate};
-ghost use Rattle.crash_model.specs.Disk.{put};
-ghost use Rattle.crash_model.specs.Strict.{stays_live, faults_under};
+ghost use Rattle.std.specs.Prelude.{◌≡◌, ◌↔◌, ℕ, List, [], ◌∷◌, ◌++◌, Some, None, true, false, replicate};
+ghost use Rattle.crash_model.specs.Disk.{Disk, put};
+ghost use Rattle.crash_model.specs.Failing.{IsFailing};
+ghost use Rattle.crash_model.specs.Faults.{IsClean};
+ghost use Rattle.crash_model.specs.Strict.{stays_live, faults_under, IsCleanUnder, IsFailingUnder};
 ghost use Rattle.crash_model.specs.declared.fault.Fault.TheVariants.{Unwritten, LowLinks, Lost, NoBlock};
+ghost use Rattle.crash_model.specs.declared.patches.Patch.{Patch};
 ghost use Rattle.crash_model.specs.declared.names.Op.TheVariants.{Create, Unlink, Rename};
 ghost use Rattle.worked_example_laws.specs.Examples.{a, b, after, steps_from, fresh};
+
+/// Where a checker is told of no kept inodes, nothing but the six faults is asked of an image.
+pub fn a_checker_that_is_told_of_nothing_is_not_strict()
+    ensures clean { (d : Disk) → IsCleanUnder None d ↔ IsClean d }
+    ensures failing { (base : Disk) (patches : List Patch) (set : ℕ)
+        → IsFailingUnder None base patches set ↔ IsFailing base patches set }
+{}
 
 /// `rename /a /b` with the old name cleared and the new one not set: the file is kept and lost. It is no fault where
 /// nothing is asked, or where the file is not kept.
