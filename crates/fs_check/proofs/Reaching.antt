@@ -312,8 +312,11 @@ pub record Walking (d : Disk) (reached unread : ℕ) : Type 0 where
   pub well : (i : ℕ) → i < 16 → has unread i ≡ false → is_bare d i ≡ false
 
 module _ (d : Disk) where
+  pub counts-directory : (e : ℕ) → kind_of d e ≢ 2 → counts d e ≡ false
+  counts-directory e is_not = rw (ne_eqb (kind_of d e) 2 is_not) refl
+
   names_none : (e i : ℕ) → kind_of d e ≢ 2 → is_named d e i ≡ false
-  names_none e i is_not = uncounted d e (rw (ne_eqb (kind_of d e) 2 is_not) refl) (range_with_len 0 10) i
+  names_none e i is_not = uncounted d e (counts-directory e is_not) (range_with_len 0 10) i
 
   -- what is no directory has no entries to be read
   pub walking-start : (reached inodes : ℕ) → AreDirectoriesBelow d 16 inodes → Reaching d reached 0xFFFF → Walking d reached inodes

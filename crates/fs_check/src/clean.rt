@@ -102,9 +102,9 @@ pub(crate) fn clean_directories<A: Allocator + Copy>(image: &Image<A>) -> Option
     for dir in 0..16u8 {
         if image.kind(dir) == 2 {
             inodes = with_inode(inodes, dir);
-        }
-        if image.counts(dir) {
-            named[dir as usize] = clean_directory(image, dir, &mut entries)?;
+            if image.counts(dir) {
+                named[dir as usize] = clean_directory(image, dir, &mut entries)?;
+            }
         }
     }
     Some(Directories { named, inodes })
