@@ -1,8 +1,9 @@
 -- The inodes that the checker finds reached.
-use Rattle.std.proofs.Common.{◌≡◌, ◌≢◌, ℕ, ◌+◌, ◌-◌, ◌<◌, inl, inr, ◌⊎◌, List, [], ◌∷◌, ◌++◌, Bool, true, false, ◌&&◌, ◌||◌, ◌==◌, not, map, arith, refl, sym, subst, ap, ◌∙◌, append_assoc, Option, Some, None}
-use Rattle.std.specs.Prelude.{◌^◌, bit_and, bit_or}
+use Rattle.std.proofs.Common.{◌≡◌, ◌≢◌, ℕ, ◌+◌, ◌-◌, ◌<◌, ◌≤◌, inl, inr, List, [], ◌∷◌, ◌++◌, length, get_or, set, replicate, Bool, true, false, ◌&&◌, ◌||◌, ◌==◌, not, map, arith, refl, sym, subst, ap, ◌∙◌, append_assoc}
+use Rattle.std.specs.Prelude.{◌^◌, ◌↔◌, bit_and, bit_or}
 use Rattle.std.specs.List.{list_any, range_with_len}
-use Rattle.std.proofs.lemmas.Bool.{false≢true, cases_eq, cases_Bool, eq-eqb, ne_eqb, and_parts, and_right}
+use Rattle.std.proofs.lemmas.Bool.{false≢true, cases_eq, cases_lt, cases_Bool, eq-eqb, ne_eqb, and_parts, and_right}
+use Rattle.std.proofs.lemmas.List.{get_or-set_same, get_or-set_other, length-set, get_or-replicate, length-replicate, get_or_past}
 use Rattle.std.proofs.lemmas.List.Folds.{list_any-append}
 use Rattle.std.proofs.lemmas.List.FromFn.{map-range_with_len_more}
 use Rattle.std.proofs.lemmas.Nat.Bits.{bit_at_and, bit_at_ones, bit_at-lt}
@@ -11,14 +12,13 @@ use Rattle.patch_sets.specs.Ends.{IsWithout}
 use Rattle.patch_sets.proofs.Bits.{none_in_empty, in_with_same, in_with_cases, in_with_old, in_or_cases, in_or_left, in_or_right, below_from_small}
 use Rattle.patch_sets.proofs.Ids.{has_true, has_false, from_has}
 use Rattle.crash_model.specs.Disk.{Disk}
-use Rattle.crash_model.specs.Layout.{kind_of, pointer_of, is_live, counts, entry_of, is_entry, target_of}
+use Rattle.crash_model.specs.Layout.{kind_of, pointer_of, is_live, counts, entry_of}
 use Rattle.crash_model.specs.Lists.{some_below}
-use Rattle.crash_model.specs.Faults.{IsClean, leads_to}
+use Rattle.crash_model.specs.Faults.{leads_to}
 use Rattle.crash_model.specs.declared.fault.Fault.{Fault}
-use Rattle.crash_model.proofs.Losing.{clean_from_under}
-use Rattle.crash_model.specs.Strict.{is_named, is_reached, is_lost, lacks_block, LosesNothing, IsCleanUnder, strict_faults}
+use Rattle.crash_model.specs.Strict.{is_named, is_reached, is_lost, LosesNothing, strict_faults}
 use Rattle.crash_model.proofs.Reached.{reached-root, reached-step, reached-least}
-use Rattle.fs_check.specs.Strict.{is_bare, HaveBlocks, lost_at, bare_at}
+use Rattle.fs_check.specs.Strict.{lost_at, bare_at, IsNamedBy}
 use Rattle.fs_check.proofs.Entries.{live-below}
 
 -- ---- tests
@@ -147,6 +147,9 @@ all_unread i below = has_true 0xFFFF i (bit_at_ones 16 i below)
 few_unread : (i : ℕ) → has 0xFFFF i ≡ true → i < 16
 few_unread i is = below_from_small 0xFFFF 16 i (omega arith) (from_has 0xFFFF i is)
 
+all_read : (reached unread : ℕ) → bit_and reached unread ≡ 0 → (e : ℕ) → has reached e ≡ true → has unread e ≡ false
+all_read reached unread none e is = has_false unread e (λ there. none_in_empty e (subst (λ (s : ℕ). Has s e) none (in_and reached unread e (from_has reached e is) there)))
+
 module _ (d : Disk) where
   pub reaching-root : kind_of d 0 ≡ 2 → Reaching d 1 0xFFFF
   reaching-root is = record {
@@ -169,7 +172,7 @@ module _ (d : Disk) where
 
   -- the entries of one inode more
   pub reaching-step : (reached unread dir rest named : ℕ) → has reached dir ≡ true → IsWithout unread dir rest
-      → ((i : ℕ) → has named i ≡ (is_live d i && is_named d dir i)) → Reaching d reached unread → Reaching d (bit_or reached named) rest
+      → IsNamedBy d dir named → Reaching d reached unread → Reaching d (bit_or reached named) rest
   reaching-step reached unread dir rest named there without by old = record {
     sound = λ i t. elim (in_or_cases reached named i (from_has (bit_or reached named) i t)) [
       | inl before ↦ old.sound i (has_true reached i before)
@@ -197,35 +200,84 @@ module _ (d : Disk) where
   -- nothing that is reached is unread
   pub reached-all : (reached unread : ℕ) → bit_and reached unread ≡ 0 → Reaching d reached unread → (i : ℕ) → has reached i ≡ is_reached d i
   reached-all reached unread none all i = same_test (has reached i) (is_reached d i) (all.sound i)
-      (reached-least d (λ (j : ℕ). has reached j ≡ true) all.root (λ e j is names live. all.read e j (reached-below e (all.sound e is)) (gone e is) names live) i)
+      (reached-least d (λ (j : ℕ). has reached j ≡ true) all.root
+      (λ e j is names live. all.read e j (reached-below e (all.sound e is)) (all_read reached unread none e is) names live) i)
+
+-- ---- the directories that have been passed
+
+-- a directory without a block
+abbrev pub is_bare : Disk → ℕ → Bool
+is_bare d inode = kind_of d inode == 2 && pointer_of d inode 0 == 0
+
+module _ (d : Disk) where
+  -- the directories below a number
+  abbrev pub AreDirectoriesBelow : ℕ → ℕ → Type 0
+  AreDirectoriesBelow n inodes = (i : ℕ) → (Has inodes i ↔ ((i < n) × (kind_of d i ≡ 2)))
+
+  pub directories-start : AreDirectoriesBelow 0 0
+  directories-start i = (λ is. absurd (none_in_empty i is), λ both. absurd (omega (arith, both.0)))
+
+  pub directories-one : (n inodes : ℕ) → kind_of d n ≡ 2 → AreDirectoriesBelow n inodes → AreDirectoriesBelow (n + 1) (with_id inodes n)
+  directories-one n inodes is old i = (
+    λ there. elim (in_with_cases inodes n i there) [
+      | inl same ↦ (omega (arith, same), subst (λ (j : ℕ). kind_of d j ≡ 2) (sym same) is)
+      | inr before ↦ let both = (old i).0 before in (omega (arith, both.0), both.1)
+    ],
+    λ both. elim (cases_eq i n) [
+      | inl same ↦ subst (λ (j : ℕ). Has (with_id inodes n) j) (sym same) (in_with_same inodes n)
+      | inr other ↦ in_with_old inodes n i ((old i).1 (omega (arith, both.0), both.1))
+    ],
+  )
+
+  pub directories-none : (n inodes : ℕ) → kind_of d n ≢ 2 → AreDirectoriesBelow n inodes → AreDirectoriesBelow (n + 1) inodes
+  directories-none n inodes is_not old i = (
+    λ there. let both = (old i).0 there in (omega (arith, both.0), both.1),
+    λ both. elim (cases_eq i n) [
+      | inl same ↦ absurd (is_not (subst (λ (j : ℕ). kind_of d j ≡ 2) same both.1))
+      | inr other ↦ (old i).1 (omega (arith, both.0), both.1)
+    ],
+  )
+
+  -- the sets that the inodes below a number name, and zeros behind them
+  pub record AreNamedBelow (n : ℕ) (named : List ℕ) : Type 0 where
+    pub size : length named ≡ 16
+    pub before : (e : ℕ) → e < n → IsNamedBy d e (get_or named e 0)
+    pub behind : (e : ℕ) → n ≤ e → get_or named e 0 ≡ 0
+
+  pub sets-start : AreNamedBelow 0 (replicate 16 0)
+  sets-start = record {
+    size = length-replicate {A = ℕ} 16 0;
+    before = λ e below. absurd (omega arith);
+    behind = λ e above. zeros e;
+  }
     where
-      gone : (e : ℕ) → has reached e ≡ true → has unread e ≡ false
-      gone e is = has_false unread e (λ there. none_in_empty e (subst (λ (s : ℕ). Has s e) none (in_and reached unread e (from_has reached e is) there)))
+      zeros : (e : ℕ) → get_or {A = ℕ} (replicate {A = ℕ} 16 0) e 0 ≡ 0
+      zeros e = elim (cases_lt e 16) [
+        | inl below ↦ get_or-replicate {A = ℕ} 16 e 0 0 below
+        | inr above ↦ get_or_past (replicate 16 0) e 0 (omega (arith, length-replicate {A = ℕ} 16 0))
+      ]
 
--- ---- the directories of a set that have been passed
-
-pub record Passing (d : Disk) (inodes left : ℕ) : Type 0 where
-  pub within : (i : ℕ) → has left i ≡ true → has inodes i ≡ true
-  pub passed : (i : ℕ) → has inodes i ≡ true → has left i ≡ false → is_bare d i ≡ false
-
-module _ (d : Disk) (inodes : ℕ) where
-  pub passing-start : Passing d inodes inodes
-  passing-start = record { within = λ i is. is; passed = λ i is gone. absurd (false≢true (sym gone ∙ is)) }
-
-  pub passing-step : (left inode rest : ℕ) → IsWithout left inode rest → is_bare d inode ≡ false → Passing d inodes left → Passing d inodes rest
-  passing-step left inode rest without well old = record {
-    within = λ i is. elim (cases_eq i inode) [
-      | inl same ↦ absurd (without.gone (subst (Has rest) same (from_has rest i is)))
-      | inr other ↦ old.within i (has_true left i ((without.others i other).0 (from_has rest i is)))
+  pub sets-one : (n set_of : ℕ) (named : List ℕ) → n < 16 → IsNamedBy d n set_of → AreNamedBelow n named → AreNamedBelow (n + 1) (set named n set_of)
+  sets-one n set_of named below is old = record {
+    size = length-set named n set_of ∙ old.size;
+    before = λ e less. elim (cases_eq e n) [
+      | inl same ↦ subst (λ (j : ℕ). IsNamedBy d j (get_or (set named n set_of) j 0)) (sym same)
+          (subst (λ (s : ℕ). IsNamedBy d n s) (sym (get_or-set_same named n set_of 0 (omega (arith, old.size)))) is)
+      | inr other ↦ subst (λ (s : ℕ). IsNamedBy d e s) (sym (get_or-set_other named n e set_of 0 other)) (old.before e (omega arith))
     ];
-    passed = λ i is gone. elim (cases_eq i inode) [
-      | inl same ↦ subst (λ (j : ℕ). is_bare d j ≡ false) (sym same) well
-      | inr other ↦ old.passed i is (has_false left i (λ there. false≢true (sym gone ∙ has_true rest i ((without.others i other).1 there))))
-    ];
+    behind = λ e above. get_or-set_other named n e set_of 0 (λ same. omega (arith, same)) ∙ old.behind e (omega arith);
   }
 
-  pub passing-all : (left : ℕ) → left ≡ 0 → Passing d inodes left → HaveBlocks d inodes
-  passing-all left none all i is = all.passed i is (subst (λ (s : ℕ). has s i ≡ false) (sym none) (has_false 0 i (none_in_empty i)))
+  pub sets-none : (n : ℕ) (named : List ℕ) → counts d n ≡ false → AreNamedBelow n named → AreNamedBelow (n + 1) named
+  sets-none n named not_so old = record {
+    size = old.size;
+    before = λ e less. elim (cases_eq e n) [
+      | inl same ↦ subst (λ (j : ℕ). IsNamedBy d j (get_or named j 0)) (sym same)
+          (subst (λ (s : ℕ). IsNamedBy d n s) (sym (old.behind n (omega arith))) (named-uncounted d n not_so))
+      | inr other ↦ old.before e (omega arith)
+    ];
+    behind = λ e above. old.behind e (omega arith);
+  }
 
 -- ---- nothing is lost
 
@@ -240,32 +292,85 @@ module _ (d : Disk) (kept reached : ℕ) (few : kept < 2 ^ 16) (by : (i : ℕ) �
   three true b c e = e refl
   three false b c e = refl
 
-  pub loses_nothing_from : IsSubset kept reached → HaveBlocks d reached → LosesNothing kept d
+  loses_nothing_from : IsSubset kept reached → ((i : ℕ) → has reached i ≡ true → is_bare d i ≡ false) → LosesNothing kept d
   loses_nothing_from within blocks = record {
     no_lost = λ i below. not_lost i within;
     no_bare = λ i below. three (is_reached d i) (kind_of d i == 2) (pointer_of d i 0 == 0) (λ is. blocks i (by i ∙ is));
   }
 
-  pub subset_from : LosesNothing kept d → IsSubset kept reached
+  subset_from : LosesNothing kept d → IsSubset kept reached
   subset_from loses i is = from_has reached i (by i ∙ elim (cases_Bool (is_reached d i)) [
     | inl there ↦ there
     | inr gone ↦ absurd (false≢true (sym (loses.no_lost i (below_from_small kept 16 i few is)) ∙ rw (has_true kept i is, gone) refl))
   ])
 
-  pub blocks_from : LosesNothing kept d → HaveBlocks d reached
-  blocks_from loses i is = not_true (is_bare d i) (λ bare. false≢true
-      (sym (loses.no_bare i (reached-below d i (sym (by i) ∙ is)))
-      ∙ and_left_assoc (is_reached d i) (kind_of d i == 2) (pointer_of d i 0 == 0) (sym (by i) ∙ is) bare))
+-- ---- the directories that are reached and have a block
+
+pub record Walking (d : Disk) (reached unread : ℕ) : Type 0 where
+  pub reaching : Reaching d reached unread
+  pub directories : (i : ℕ) → has unread i ≡ true → kind_of d i ≡ 2
+  pub well : (i : ℕ) → i < 16 → has unread i ≡ false → is_bare d i ≡ false
+
+module _ (d : Disk) where
+  pub counts-directory : (e : ℕ) → kind_of d e ≢ 2 → counts d e ≡ false
+  counts-directory e is_not = rw (ne_eqb (kind_of d e) 2 is_not) refl
+
+  names_none : (e i : ℕ) → kind_of d e ≢ 2 → is_named d e i ≡ false
+  names_none e i is_not = uncounted d e (counts-directory e is_not) (range_with_len 0 10) i
+
+  -- what is no directory has no entries to be read
+  pub walking-start : (reached inodes : ℕ) → AreDirectoriesBelow d 16 inodes → Reaching d reached 0xFFFF → Walking d reached inodes
+  walking-start reached inodes are old = record {
+    reaching = record {
+      sound = old.sound;
+      root = old.root;
+      read = λ e i below gone names live. absurd (false≢true (sym (names_none e i (no_directory e below gone)) ∙ names));
+      few = λ i is. ((are i).0 (from_has inodes i is)).0;
+    };
+    directories = λ i is. ((are i).0 (from_has inodes i is)).1;
+    well = λ i below gone. rw (ne_eqb (kind_of d i) 2 (no_directory i below gone)) refl;
+  }
     where
-      and_left_assoc : (a b c : Bool) → a ≡ true → (b && c) ≡ true → ((a && b) && c) ≡ true
-      and_left_assoc true b c e f = f
-      and_left_assoc false b c e f = absurd (false≢true e)
+      no_directory : (e : ℕ) → e < 16 → has inodes e ≡ false → kind_of d e ≢ 2
+      no_directory e below gone is = false≢true (sym gone ∙ has_true inodes e ((are e).1 (below, is)))
+
+  pub walking-below : (reached unread dir : ℕ) → Has (bit_and reached unread) dir → Walking d reached unread → dir < 16
+  walking-below reached unread dir there all = all.reaching.few dir (has_true unread dir (and_in reached unread dir there).1)
+
+  -- a directory more
+  pub walking-step : (reached unread dir rest named : ℕ) → Has (bit_and reached unread) dir → IsWithout unread dir rest → pointer_of d dir 0 ≢ 0
+      → IsNamedBy d dir named → Walking d reached unread → Walking d (bit_or reached named) rest
+  walking-step reached unread dir rest named there without some by old = record {
+    reaching = reaching-step d reached unread dir rest named (has_true reached dir (and_in reached unread dir there).0) without by old.reaching;
+    directories = λ i is. elim (cases_eq i dir) [
+      | inl same ↦ absurd (without.gone (subst (Has rest) same (from_has rest i is)))
+      | inr other ↦ old.directories i (has_true unread i ((without.others i other).0 (from_has rest i is)))
+    ];
+    well = λ i below gone. elim (cases_eq i dir) [
+      | inl same ↦ subst (λ (j : ℕ). is_bare d j ≡ false) (sym same)
+          (rw (ne_eqb (pointer_of d dir 0) 0 some) (and_right (kind_of d dir == 2) false refl))
+      | inr other ↦ old.well i below (has_false unread i (λ is. false≢true (sym gone ∙ has_true rest i ((without.others i other).1 is))))
+    ];
+  }
+
+  pub walked : (kept reached unread : ℕ) → kept < 2 ^ 16 → bit_and reached unread ≡ 0 → Walking d reached unread → (IsSubset kept reached ↔ LosesNothing kept d)
+  walked kept reached unread few none all = (
+    λ within. loses_nothing_from d kept reached few by within (λ i is. all.well i (reached-below d i (all.reaching.sound i is)) (all_read reached unread none i is)),
+    subset_from d kept reached few by,
+  )
+    where
+      by : (i : ℕ) → has reached i ≡ is_reached d i
+      by = reached-all d reached unread none all.reaching
+
+  -- a directory without one
+  pub bare_found : (kept reached unread dir : ℕ) → Has (bit_and reached unread) dir → pointer_of d dir 0 ≡ 0 → Walking d reached unread → LosesNothing kept d → ⊥
+  bare_found kept reached unread dir there none all loses =
+      let both = and_in reached unread dir there in
+      let is = all.reaching.sound dir (has_true reached dir both.0) in
+      let kind = all.directories dir (has_true unread dir both.1) in
+      false≢true (sym (loses.no_bare dir (reached-below d dir is)) ∙ rw (is, eq-eqb (kind_of d dir) 2 kind, eq-eqb (pointer_of d dir 0) 0 none) refl)
 
 -- ---- with the six faults
-
-pub clean_of_under : (kept : Option ℕ) (d : Disk) → IsCleanUnder kept d → IsClean d
-clean_of_under None d under = record { faultless = under.faultless }
-clean_of_under (Some kept) d under = clean_from_under kept d under
 
 pub strict_two : (d : Disk) (kept : ℕ) (old lost now : List Fault) → lost ≡ old ++ some_below 16 (lost_at kept d) → now ≡ lost ++ some_below 16 (bare_at d) → now ≡ old ++ strict_faults kept d
 unfolding strict_faults

@@ -1,12 +1,13 @@
--- What an image has lost, inode by inode.
-use Rattle.std.specs.Prelude.{◌≡◌, ℕ, Bool, false, ◌&&◌, ◌==◌, IsTrue, Option}
-use Rattle.patch_sets.specs.Sets.{has}
+-- What an image has lost, inode by inode, and what is read of its directories.
+use Rattle.std.specs.Prelude.{◌≡◌, ℕ, ◌<◌, ◌↔◌, ◌&&◌, slice_index, Option}
+use Rattle.patch_sets.specs.Sets.{Has, has}
 use Rattle.crash_model.specs.Disk.{Disk}
-use Rattle.crash_model.specs.Layout.{kind_of, pointer_of}
+use Rattle.crash_model.specs.Layout.{kind_of, is_live}
 use Rattle.crash_model.specs.Lists.{when}
-use Rattle.crash_model.specs.Strict.{is_lost, lacks_block}
+use Rattle.crash_model.specs.Strict.{is_named, is_lost, lacks_block}
 use Rattle.crash_model.specs.declared.fault.Fault.{Fault}
 use Rattle.crash_model.specs.declared.fault.Fault.TheVariants.{Lost, NoBlock}
+use Rattle.fs_check.specs.declared.clean.Directories.{Directories}
 
 -- an inode as a fault
 abbrev pub lost_at : ℕ → Disk → ℕ → Option Fault
@@ -15,10 +16,11 @@ lost_at kept d inode = when (is_lost d kept inode) (Lost inode)
 abbrev pub bare_at : Disk → ℕ → Option Fault
 bare_at d inode = when (lacks_block d inode) (NoBlock inode)
 
--- a directory without a block
-abbrev pub is_bare : Disk → ℕ → Bool
-is_bare d inode = kind_of d inode == 2 && pointer_of d inode 0 == 0
+-- the set of the live inodes to which an inode's entries lead
+abbrev pub IsNamedBy : Disk → ℕ → ℕ → Type 0
+IsNamedBy d dir named = (inode : ℕ) → has named inode ≡ (is_live d inode && is_named d dir inode)
 
--- none of a set of inodes is one
-abbrev pub HaveBlocks : Disk → ℕ → Type 0
-HaveBlocks d inodes = (inode : ℕ) → IsTrue (has inodes inode) → is_bare d inode ≡ false
+-- that set of each inode, and the set of the directories
+pub record AreDirectories (d : Disk) (found : Directories) : Type 0 where
+  pub named : (dir : ℕ) → dir < 16 → IsNamedBy d dir (slice_index found.named dir)
+  pub inodes : (inode : ℕ) → (Has found.inodes inode ↔ ((inode < 16) × (kind_of d inode ≡ 2)))

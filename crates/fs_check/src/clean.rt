@@ -1,9 +1,11 @@
 //! Whether an image has no fault.
 
-ghost use Rattle.std.specs.Prelude.{◌≡◌, ◌+◌, ◌<◌, ◌↔◌, IsTrue, MatchBool};
+ghost use Rattle.std.specs.Prelude.{◌≡◌, ◌+◌, ◌<◌, ◌↔◌, IsTrue, MatchBool, MatchOption};
+ghost use Rattle.patch_sets.specs.Sets.{with_id};
 ghost use Rattle.crash_model.specs.Layout.{is_live, counts};
 ghost use Rattle.crash_model.specs.Faults.{IsClean};
 ghost use Rattle.fs_check.specs.Passed.{HasCleanPointers, HasCleanEntries, HavePassed, slots_of, entries_of, is_marked, is_right_block};
+ghost use Rattle.fs_check.specs.Strict.{IsNamedBy, AreDirectories};
 
 use disk_image::Image;
 use std::alloc::Allocator;
@@ -16,7 +18,7 @@ pub fn is_clean<A: Allocator + Copy>(image: &Image<A>) -> bool
 }
 
 /// Whether each pointer names a data block that is in use, marked as its inode's, and named by no other pointer.
-fn has_clean_pointers<A: Allocator + Copy>(image: &Image<A>) -> bool
+pub(crate) fn has_clean_pointers<A: Allocator + Copy>(image: &Image<A>) -> bool
     ensures { IsTrue result ↔ HasCleanPointers image.now }
 {
     let _at_most_128 = image.blocks();
@@ -77,36 +79,69 @@ pub(crate) fn is_marked<A: Allocator + Copy>(image: &Image<A>, inode: u8, block:
 fn has_clean_entries<A: Allocator + Copy>(image: &Image<A>) -> bool
     ensures { IsTrue result ↔ HasCleanEntries image.now }
 {
-    let mut entries = [0; 16];
-    for dir in 0..16u8 {
-        if image.counts(dir) && !has_clean_directory(image, dir, &mut entries) {
-            return false;
-        }
-    }
-    true
+    clean_directories(image).is_some()
 }
 
-/// The same of one directory's entries. `entries` counts the entries passed that lead to each inode.
-fn has_clean_directory<A: Allocator + Copy>(
+/// What the directories of an image hold.
+#[derive(Clone, Copy, Drop)]
+pub(crate) struct Directories {
+    /// By inode: the live inodes to which its entries lead, as a set.
+    pub named: [u16; 16],
+    /// The inodes that are directories, as a set.
+    pub inodes: u16,
+}
+
+/// What the directories hold, if each entry leads to a live inode, and to none more entries than it has links.
+pub(crate) fn clean_directories<A: Allocator + Copy>(image: &Image<A>) -> Option<Directories>
+    ensures { MatchOption result (¬ (HasCleanEntries image.now))
+        (λ found. HasCleanEntries image.now × AreDirectories image.now found) }
+{
+    let mut entries = [0; 16];
+    let mut named = [0; 16];
+    let mut inodes = 0;
+    for dir in 0..16u8 {
+        if image.kind(dir) == 2 {
+            inodes = with_inode(inodes, dir);
+            if image.counts(dir) {
+                named[dir as usize] = clean_directory(image, dir, &mut entries)?;
+            }
+        }
+    }
+    Some(Directories { named, inodes })
+}
+
+/// The same of one directory's entries: the inodes to which they lead, as a set. `entries` counts the entries passed
+/// that lead to each inode.
+fn clean_directory<A: Allocator + Copy>(
     image: &Image<A>,
     dir: u8,
     entries: &mut [u8; 16],
-) -> bool
+) -> Option<u16>
     requires dir { dir < 16 }
     requires counts { IsTrue (counts image.now dir) }
     requires passed { HavePassed (entries_of image.now) dir 0 entries.old }
-    ensures { MatchBool result (HavePassed (entries_of image.now) (dir + 1) 0 entries.new)
-        (¬ (HasCleanEntries image.now)) }
+    ensures { MatchOption result (¬ (HasCleanEntries image.now)) (λ named. IsNamedBy image.now dir named
+        × HavePassed (entries_of image.now) (dir + 1) 0 entries.new) }
 {
+    let mut named = 0;
     for k in 0..10u8 {
         let entry = image.entry(dir, k);
         if entry != 0 {
             let inode = entry - 1;
             if !image.is_live(inode) || entries[inode as usize] == image.links(inode) {
-                return false;
+                return None;
             }
             entries[inode as usize] += 1;
+            named = with_inode(named, inode);
         }
     }
-    true
+    Some(named)
+}
+
+/// The set with one more inode.
+fn with_inode(set: u16, inode: u8) -> u16
+    requires { inode < 16 }
+    ensures { result ≡ with_id set inode }
+{
+    set | 1 << inode
 }

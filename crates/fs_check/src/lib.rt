@@ -15,4 +15,4 @@ pub use clean::is_clean;
 pub use crash_model::fault::Fault;
 pub use laws::{clean_is_faultless, reached_inodes_are_the_least_set};
 pub use list::{faults, faults_under};
-pub use strict::{is_clean_under, loses_nothing};
+pub use strict::is_clean_under;

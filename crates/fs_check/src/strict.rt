@@ -1,13 +1,13 @@
 //! Whether an image has lost what a script keeps.
 
-ghost use Rattle.std.specs.Prelude.{◌≡◌, ℕ, ◌<◌, ◌↔◌, ◌&&◌, ◌++◌, IsTrue, OnOk};
+ghost use Rattle.std.specs.Prelude.{◌≡◌, ℕ, ◌<◌, ◌↔◌, ◌++◌, IsTrue, OnOk};
 ghost use Rattle.patch_sets.specs.Sets.{has};
-ghost use Rattle.crash_model.specs.Layout.{is_live, counts};
 ghost use Rattle.crash_model.specs.Lists.{some_below};
-ghost use Rattle.crash_model.specs.Strict.{is_named, is_reached, LosesNothing, IsCleanUnder, strict_faults};
-ghost use Rattle.fs_check.specs.Strict.{lost_at, bare_at, HaveBlocks};
+ghost use Rattle.crash_model.specs.Strict.{is_reached, LosesNothing, IsCleanUnder, strict_faults};
+ghost use Rattle.fs_check.specs.Passed.{HasCleanEntries};
+ghost use Rattle.fs_check.specs.Strict.{lost_at, bare_at, IsNamedBy, AreDirectories};
 
-use crate::clean::is_clean;
+use crate::clean::{Directories, clean_directories, has_clean_pointers, is_clean};
 use crate::list::push_some;
 use crash_model::fault::Fault;
 use disk_image::Image;
@@ -21,42 +21,44 @@ use std::alloc::{AllocError, Allocator};
 pub fn is_clean_under<A: Allocator + Copy>(image: &Image<A>, kept: Option<u16>) -> bool
     ensures { IsTrue result ↔ IsCleanUnder kept image.now }
 {
-    if !is_clean(image) {
-        return false;
-    }
     match kept {
-        Some(kept) => loses_nothing(image, kept),
-        None => true,
+        Some(kept) => has_clean_pointers(image) && has_clean_tree(image, kept),
+        None => is_clean(image),
+    }
+}
+
+/// Whether the entries have no fault, each inode of a set is reached, and each directory that is reached has a block.
+///
+/// One pass over the entries serves both: what they lead to is kept from it.
+fn has_clean_tree<A: Allocator + Copy>(image: &Image<A>, kept: u16) -> bool
+    ensures { IsTrue result ↔ (HasCleanEntries image.now × LosesNothing kept image.now) }
+{
+    match clean_directories(image) {
+        Some(found) => loses_nothing(image, &found, kept),
+        None => false,
     }
 }
 
 /// Whether each inode of a set is reached, and each directory that is reached has a block.
-pub fn loses_nothing<A: Allocator + Copy>(image: &Image<A>, kept: u16) -> bool
+fn loses_nothing<A: Allocator + Copy>(image: &Image<A>, found: &Directories, kept: u16) -> bool
+    requires { AreDirectories image.now found.now }
     ensures { IsTrue result ↔ LosesNothing kept image.now }
 {
-    let reached = reached(image);
-    is_subset(u128::from(kept), reached) && have_blocks(image, reached)
-}
-
-/// Whether each directory of a set of inodes has a block.
-fn have_blocks<A: Allocator + Copy>(image: &Image<A>, inodes: u128) -> bool
-    requires { (inode : ℕ) → IsTrue (has inodes inode) → inode < 16 }
-    ensures { IsTrue result ↔ HaveBlocks image.now inodes }
-{
-    let mut left = inodes;
-    while let Some(inode) = lowest(left) {
-        if image.kind(inode as u8) == 2 && image.pointer(inode as u8, 0) == 0 {
+    let mut reached = if image.kind(0) == 2 { 1 } else { 0 };
+    let mut unread = u128::from(found.inodes);
+    while let Some(next) = lowest(reached & unread) {
+        if image.pointer(next as u8, 0) == 0 {
             return false;
         }
-        left = without(left, inode);
+        unread = without(unread, next);
+        reached |= u128::from(found.named[next]);
     }
-    true
+    is_subset(u128::from(kept), reached)
 }
 
 /// The inodes that are reached, as a set.
 pub(crate) fn reached<A: Allocator + Copy>(image: &Image<A>) -> u128
-    ensures value { (inode : ℕ) → has result inode ≡ is_reached image.now inode }
-    ensures few { (inode : ℕ) → IsTrue (has result inode) → inode < 16 }
+    ensures { (inode : ℕ) → has result inode ≡ is_reached image.now inode }
 {
     let mut reached = if image.kind(0) == 2 { 1 } else { 0 };
     let mut unread = 0xFFFF;
@@ -70,7 +72,7 @@ pub(crate) fn reached<A: Allocator + Copy>(image: &Image<A>) -> u128
 /// The live inodes to which an inode's entries lead, as a set.
 fn named_by<A: Allocator + Copy>(image: &Image<A>, dir: u8) -> u128
     requires { dir < 16 }
-    ensures { (inode : ℕ) → has result inode ≡ (is_live image.now inode && is_named image.now dir inode) }
+    ensures { IsNamedBy image.now dir result }
 {
     if !image.counts(dir) {
         return 0;

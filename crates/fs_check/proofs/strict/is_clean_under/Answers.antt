@@ -1,17 +1,22 @@
 use Rattle.std.proofs.Common.{sym, ◌∙◌}
 use Rattle.std.proofs.lemmas.Bool.{false≢true}
-use Rattle.crash_model.proofs.Losing.{clean_under, loses_from_under}
-use Rattle.fs_check.proofs.Reaching.{clean_of_under}
+use Rattle.crash_model.proofs.Losing.{clean_under, clean_from_under, loses_from_under}
+use Rattle.fs_check.proofs.Halves.{halves_clean, clean_halves}
 use Rattle.fs_check.proofs.strict.is_clean_under.Goals as goal
 
-pub returns-then-not-is_clean : goal.returns-then-not-is_clean
-returns-then-not-is_clean g c = (
-  λ is. absurd (false≢true is),
-  λ under. absurd (false≢true (sym c.if-not-is_clean.true ∙ c.is_clean.ensures.1 (clean_of_under c.args.kept c.args.image.now under))),
-)
+pub returns-then-has_clean_pointers : goal.returns-then-has_clean_pointers
+returns-then-has_clean_pointers g c =
+    let d = c.args.image.now in
+    let kept = c.in-Some.kept in
+    rw c.in-Some.is (
+      λ is.
+          let both = c.has_clean_tree.ensures.0 is in
+          clean_under kept d (halves_clean d (c.has_clean_pointers.ensures.0 c.if-has_clean_pointers.true, both.0)) both.1,
+      λ under. c.has_clean_tree.ensures.1 ((clean_halves d (clean_from_under kept d under)).1, loses_from_under kept d under),
+    )
 
-pub returns-in-Some : goal.returns-in-Some
-returns-in-Some g c = rw c.in-Some.is (
-  λ is. clean_under c.in-Some.kept c.args.image.now (c.is_clean.ensures.0 c.if-not-is_clean.false) (c.loses_nothing.ensures.0 is),
-  λ under. c.loses_nothing.ensures.1 (loses_from_under c.in-Some.kept c.args.image.now under),
+pub returns-else-has_clean_pointers : goal.returns-else-has_clean_pointers
+returns-else-has_clean_pointers g c = rw c.in-Some.is (
+  λ is. absurd (false≢true (sym c.if-has_clean_pointers.false ∙ is)),
+  λ under. c.has_clean_pointers.ensures.1 (clean_halves c.args.image.now (clean_from_under c.in-Some.kept c.args.image.now under)).0,
 )

@@ -1,6 +1,6 @@
-use Rattle.std.proofs.Common.{◌≡◌, ℕ, sym, ◌∙◌}
+use Rattle.std.proofs.Common.{sym, ◌∙◌}
 use Rattle.patch_sets.proofs.Ids.{has_true}
-use Rattle.fs_check.proofs.Reaching.{and_in, reaching-root, reaching-none, reaching-step, reached-all, reached-below}
+use Rattle.fs_check.proofs.Reaching.{and_in, reaching-root, reaching-none, reaching-step, reached-all}
 use Rattle.fs_check.proofs.strict.reached.Goals as goal
 use Rattle.fs_check.proofs.strict.reached.Goals.{then-kind-eq2, else-kind-eq2}
 
@@ -25,8 +25,5 @@ loop-dir-preserved g c =
     reaching-step c.args.image.now c.loop-dir.reached c.loop-dir.unread c.in-Some.dir c.without-unread.result c.named_by-reached.result
     (has_true c.loop-dir.reached c.in-Some.dir both.0) c.without-unread.ensures.others c.named_by-reached.ensures c.loop-dir.invariant
 
-pub returns-clause-value : goal.returns-clause-value
-returns-clause-value g c = reached-all c.args.image.now c.loop-dir.reached c.loop-dir.unread c.in_default.ensures.found c.loop-dir.invariant
-
-pub returns-clause-few : goal.returns-clause-few
-returns-clause-few g c = λ inode is. reached-below c.args.image.now inode (c.loop-dir.invariant.sound inode is)
+pub returns : goal.returns
+returns g c = reached-all c.args.image.now c.loop-dir.reached c.loop-dir.unread c.in_default.ensures.found c.loop-dir.invariant

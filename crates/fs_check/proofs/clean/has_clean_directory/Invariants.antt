@@ -1,5 +1,0 @@
-use Rattle.fs_check.specs.Passed.{HavePassed, entries_of}
-use Rattle.fs_check.proofs.clean.has_clean_directory.Given as goal
-
-abbrev pub invariant-loop-k : goal.invariant-loop-k
-invariant-loop-k g l = HavePassed (entries_of l.image) l.dir l.k l.entries
