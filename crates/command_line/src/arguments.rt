@@ -41,95 +41,94 @@ pub(crate) fn command<'a>(heap: Global) -> Result<Command<'a>, AllocError> {
 
 /// Adds the script and the size of its disk.
 fn what_to_run<'a>(heap: Global, command: Command<'a>) -> Result<Command<'a>, AllocError> {
-    let script = Arg::new(heap, "SCRIPT")
-        .action(ArgAction::Set)
-        .display_order(0)
-        .help("The script to read; standard input where it is left out");
-    let blocks = option(heap, "blocks", "N")
-        .value_parser(value_parser!(usize).range(16..=128))
-        .default_value("16")
-        .display_order(1)
-        .help("Blocks of the disk, 16 to 128");
-    let journal = option(heap, "journal", "JL")
-        .value_parser(value_parser!(usize).range(0..=122))
-        .default_value("0")
-        .display_order(2)
-        .help("Blocks of the journal, 0 to N - 6");
-    command
-        .next_help_heading("What to run")
-        .arg(script)?
-        .arg(blocks)?
-        .arg(journal)
+    let command = command.next_help_heading("What to run").arg(
+        Arg::new(heap, "SCRIPT")
+            .action(ArgAction::Set)
+            .display_order(0)
+            .help("The script to read; standard input where it is left out"),
+    )?;
+    let command = command.arg(
+        option(heap, "blocks", "N")
+            .value_parser(value_parser!(usize).range(16..=128))
+            .default_value("16")
+            .display_order(1)
+            .help("Blocks of the disk, 16 to 128"),
+    )?;
+    command.arg(
+        option(heap, "journal", "JL")
+            .value_parser(value_parser!(usize).range(0..=122))
+            .default_value("0")
+            .display_order(2)
+            .help("Blocks of the journal, 0 to N - 6"),
+    )
 }
 
 /// Adds the module, and the rules to take out of it and to put in.
 fn the_ordering<'a>(heap: Global, command: Command<'a>) -> Result<Command<'a>, AllocError> {
-    let module = option(heap, "module", "M")
-        .value_parser(MODULES.as_slice())
-        .default_value("soft")
-        .help("What orders the writes: nothing, soft updates, a metadata journal, a full journal");
-    let without = option(heap, "without", "RULE")
-        .action(ArgAction::Append)
-        .help("A rule to take out of the module's, up to 16 times");
-    let with = option(heap, "with", "RULE")
-        .action(ArgAction::Append)
-        .help("A rule to put in, up to 16 times");
-    command
-        .next_help_heading("The ordering")
-        .arg(module)?
-        .arg(without)?
-        .arg(with)
+    let command = command.next_help_heading("The ordering").arg(
+        option(heap, "module", "M")
+            .value_parser(MODULES.as_slice())
+            .default_value("soft")
+            .help(
+                "What orders the writes: nothing, soft updates, a metadata journal, a full journal",
+            ),
+    )?;
+    let command = command.arg(
+        option(heap, "without", "RULE")
+            .action(ArgAction::Append)
+            .help("A rule to take out of the module's, up to 16 times"),
+    )?;
+    command.arg(
+        option(heap, "with", "RULE")
+            .action(ArgAction::Append)
+            .help("A rule to put in, up to 16 times"),
+    )
 }
 
 /// Adds what the checker asks for.
 fn what_fails<'a>(heap: Global, command: Command<'a>) -> Result<Command<'a>, AllocError> {
-    let strict = flag(heap, "strict").help(
+    command.next_help_heading("What fails").arg(flag(heap, "strict").help(
         "A set fails, too, where an inode that the script keeps is lost or a directory has no block",
-    );
-    command.next_help_heading("What fails").arg(strict)
+    ))
 }
 
 /// Adds how many sets are explored, and by whom.
 fn how_far<'a>(heap: Global, command: Command<'a>) -> Result<Command<'a>, AllocError> {
-    let limit = option(heap, "limit", "L")
-        .value_parser(value_parser!(usize).range(1..=1_000_000_000))
-        .default_value("4096")
-        .help("Most closed sets to explore, 1 to 1000000000");
-    let explorer = option(heap, "explorer", "E")
-        .value_parser(EXPLORERS.as_slice())
-        .default_value("auto")
-        .help(
-            "Who explores: a board that workers share, up to a limit of 32768, or a sweep that keeps no table",
-        );
-    let workers = option(heap, "workers", "W")
-        .value_parser(value_parser!(usize).range(1..=16))
-        .default_value("1")
-        .help("Threads that explore, 1 to 16");
-    command
-        .next_help_heading("How far")
-        .arg(limit)?
-        .arg(explorer)?
-        .arg(workers)
+    let command = command.next_help_heading("How far").arg(
+        option(heap, "limit", "L")
+            .value_parser(value_parser!(usize).range(1..=1_000_000_000))
+            .default_value("4096")
+            .help("Most closed sets to explore, 1 to 1000000000"),
+    )?;
+    let command = command.arg(
+        option(heap, "explorer", "E")
+            .value_parser(EXPLORERS.as_slice())
+            .default_value("auto")
+            .help(
+                "Who explores: a board that workers share, up to a limit of 32768, or a sweep that keeps no table",
+            ),
+    )?;
+    command.arg(
+        option(heap, "workers", "W")
+            .value_parser(value_parser!(usize).range(1..=16))
+            .default_value("1")
+            .help("Threads that explore, 1 to 16"),
+    )
 }
 
 /// Adds what the report tells, and in which form.
 fn how_to_read_it<'a>(heap: Global, command: Command<'a>) -> Result<Command<'a>, AllocError> {
-    let explain = flag(heap, "explain").help(
+    let command = command.next_help_heading("How to read it").arg(flag(heap, "explain").help(
         "Tell what each patch is, why it waits for others, and what replay changes",
-    );
-    let summary = flag(heap, "summary").help(
+    ))?;
+    let command = command.arg(flag(heap, "summary").help(
         "Tell each fault once, with the first set that has it, in place of the failing sets",
-    );
+    ))?;
     let needs = flag(heap, "needs").conflicts_with("summary")?.help(
         "Tell what goes wrong without each rule of the ordering, in place of the failing sets",
     );
-    let json = flag(heap, "json").help("Report as JSON in place of text");
-    command
-        .next_help_heading("How to read it")
-        .arg(explain)?
-        .arg(summary)?
-        .arg(needs)?
-        .arg(json)
+    let command = command.arg(needs)?;
+    command.arg(flag(heap, "json").help("Report as JSON in place of text"))
 }
 
 /// An option that takes a value, which help calls by the symbol.

@@ -112,14 +112,15 @@ fn patch_object(
     ensures act { OnOk result (IsAct (Do (emitted_at (place patch.now.block patch.now.offset patch.now.new.items)
         label.now).origin.op)) }
 {
-    let step = step_value(heap, label.origin.op)?;
-    let new = hex_value(heap, patch.new.as_slice())?;
-    let undo = hex_value(heap, patch.undo.as_slice())?;
-    let (block, line, offset) = (patch.block, label.origin.line, patch.offset);
-    let part = label.part.name();
     json!(in heap; {
-        "after": after, "block": block, "line": line, "new": new,
-        "offset": offset, "part": part, "step": step, "undo": undo
+        "after": after,
+        "block": patch.block,
+        "line": label.origin.line,
+        "new": hex_value(heap, patch.new.as_slice())?,
+        "offset": patch.offset,
+        "part": label.part.name(),
+        "step": step_value(heap, label.origin.op)?,
+        "undo": hex_value(heap, patch.undo.as_slice())?
     })
 }
 

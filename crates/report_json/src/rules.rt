@@ -53,11 +53,10 @@ fn rule_value<A: Allocator>(
 ) -> Result<Value, AllocError>
     ensures { IfOk result (λ value. view value ≡ told_rule_data (told_rule rule.now) (option_map view first)) }
 {
-    let text = Value::String(rule.rule.to_string(heap)?);
     match &rule.usage {
-        RuleUsage::Unused => json!(in heap; {"pairs": 0, "rule": text}),
+        RuleUsage::Unused => json!(in heap; {"pairs": 0, "rule": rule.rule.to_string(heap)?}),
         RuleUsage::TooMany { pairs } => {
-            json!(in heap; {"pairs": *pairs, "rule": text, "too_many": true})
+            json!(in heap; {"pairs": *pairs, "rule": rule.rule.to_string(heap)?, "too_many": true})
         }
         RuleUsage::Used {
             pairs,
@@ -66,10 +65,10 @@ fn rule_value<A: Allocator>(
             ..
         } => match first {
             None => {
-                json!(in heap; {"closed": *closed, "failing": *failing, "pairs": *pairs, "rule": text})
+                json!(in heap; {"closed": *closed, "failing": *failing, "pairs": *pairs, "rule": rule.rule.to_string(heap)?})
             }
             Some(first) => {
-                json!(in heap; {"closed": *closed, "failing": *failing, "first": first, "pairs": *pairs, "rule": text})
+                json!(in heap; {"closed": *closed, "failing": *failing, "first": first, "pairs": *pairs, "rule": rule.rule.to_string(heap)?})
             }
         },
     }

@@ -43,11 +43,12 @@ fn plain_value<A: Allocator>(
     ensures { IfOk result (λ value.
         view value ≡ told_fault_data patches row.now.fault row.now.sets first.now.set first.now.writes.items None) }
 {
-    let fault = row.fault.to_string(heap)?;
-    let set = ids_value(heap, patches, first.set)?;
-    let sets = row.sets;
-    let writes = writes_value(heap, patches, &first.writes)?;
-    json!(in heap; {"fault": fault, "set": set, "sets": sets, "writes": writes})
+    json!(in heap; {
+        "fault": row.fault.to_string(heap)?,
+        "set": ids_value(heap, patches, first.set)?,
+        "sets": row.sets,
+        "writes": writes_value(heap, patches, &first.writes)?
+    })
 }
 
 /// What is told of a fault, with the blocks that replay changes.
@@ -63,10 +64,11 @@ fn explained_value<A: Allocator>(
         (Some (map told_block replay.now))) }
     ensures bytes { OnOk result (All (λ r. IsBytes r.bytes) (map told_block replay.now)) }
 {
-    let fault = row.fault.to_string(heap)?;
-    let replay = replay_value(heap, replay)?;
-    let set = ids_value(heap, patches, first.set)?;
-    let sets = row.sets;
-    let writes = writes_value(heap, patches, &first.writes)?;
-    json!(in heap; {"fault": fault, "replay": replay, "set": set, "sets": sets, "writes": writes})
+    json!(in heap; {
+        "fault": row.fault.to_string(heap)?,
+        "replay": replay_value(heap, replay)?,
+        "set": ids_value(heap, patches, first.set)?,
+        "sets": row.sets,
+        "writes": writes_value(heap, patches, &first.writes)?
+    })
 }
