@@ -3,7 +3,7 @@
 ghost use Rattle.std.specs.Prelude.{◌≡◌, ℕ, ◌-◌, ◌≤◌, ◌<◌, ◌++◌, ◌↔◌, replicate, length, IsTrue, MatchOption, slice_index, ◌≢◌};
 ghost use Rattle.std.specs.List.{list_all};
 ghost use Rattle.crash_model.specs.Names.{IsName, IsGroupName, IsShort, is_name_byte, is_group_byte, BeginsWith, HasFirstName};
-ghost use Rattle.crash_model.specs.Plan.{spelled};
+ghost use Rattle.crash_model.specs.Plan.{name_spelling};
 
 use arrayvec::ArrayVec;
 use std::marker::Model;
@@ -60,7 +60,7 @@ impl Name {
 
     /// Bytes 1 to 11 of a directory entry of this name: its length, the name, and zeros.
     pub fn spelled(&self) -> ArrayVec<u8, 11>
-        ensures bytes { result.items ≡ spelled self.now }
+        ensures bytes { result.items ≡ name_spelling self.now }
         ensures name { IsName self.now }
     {
         let mut out = ArrayVec::new();
