@@ -4,7 +4,7 @@ use Rattle.std.proofs.lemmas.List.{append-nil}
 use Rattle.std.proofs.lemmas.List.Elements.{Contains-append_left, All-contains_itself}
 use Rattle.crash_model.specs.Rules.{AreAmong, rules_of, rules_in_first, kept_rules, rules_put_in, rules_under}
 use Rattle.crash_model.specs.declared.rules.Rule.{Rule}
-use Rattle.crash_model.specs.declared.steps.Module.{Module}
+use Rattle.crash_model.specs.declared.modules.Module.{Module}
 
 all_stay : (rules : List Rule) → rules_in_first rules [] ≡ rules
 all_stay [] = refl

@@ -9,7 +9,7 @@ use Rattle.crash_model.specs.Rules.{part_text, rule_text}
 use Rattle.crash_model.specs.Script.{words_of}
 use Rattle.crash_model.specs.Trace.{Emitted, Tracing, groups_depend, rules_between, depends}
 use Rattle.crash_model.specs.Report.{line, json_string, json_array}
-use Rattle.crash_model.specs.declared.names.Op.{Op}
+use Rattle.crash_model.specs.declared.operations.Op.{Op}
 use Rattle.crash_model.specs.declared.patches.Patch.{Patch}
 use Rattle.crash_model.specs.declared.rules.Rule.{Rule}
 use Rattle.crash_model.specs.declared.steps.Act.TheVariants.{Do}

@@ -3,6 +3,7 @@
 ghost use Rattle.std.specs.Prelude.{◌≡◌, ◌≤◌, length};
 ghost use Rattle.crash_model.specs.Rules.{rules_of, rules_taken_out, kept_rules, rules_put_in, rules_under};
 
+use crate::modules::Module;
 use crate::plans::Role::{
     EntryClear, EntrySet, InitDir, InitFile, InodeFree, InodeInit, LinkDown, LinkUp, MapClear,
     MapSet, Ptr,
@@ -11,7 +12,6 @@ use crate::rule_lists::{RuleList, rules_in_both, rules_in_first};
 use crate::rules::Rule;
 use crate::rules::RulePart::{Change, Commit, Copy, Done, FileData, InPlace};
 use crate::rules::Scope::{Previous, Same};
-use crate::steps::Module;
 use arrayvec::ArrayVec;
 
 /// The rules of soft updates (Ganger and Patt, 1994).

@@ -3,9 +3,9 @@
 ghost use Rattle.std.specs.Prelude.{◌≡◌};
 ghost use Rattle.crash_model.specs.Rules.{rules_under, rules_taken_out, rules_put_in};
 
+use crate::modules::Module;
 use crate::orderings::Ordering;
 use crate::rule_lists::RuleList;
-use crate::steps::Module;
 
 /// Who explores: the board that workers share, which holds up to 32,768 sets, or the sweep, which keeps no table.
 ///

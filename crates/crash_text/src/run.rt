@@ -4,7 +4,7 @@ ghost use Rattle.std.specs.Prelude.{◌≡◌, ◌≢◌, ◌≤◌, [], Ok, OnO
 ghost use Rattle.crash_model.specs.Disk.{empty_disk, IsGeometry};
 ghost use Rattle.crash_model.specs.Sound.{IsSound, HasZeroJournal};
 ghost use Rattle.crash_model.specs.Trace.{base_from};
-ghost use Rattle.crash_model.specs.declared.steps.Module.TheVariants.{Full};
+ghost use Rattle.crash_model.specs.declared.modules.Module.TheVariants.{Full};
 ghost use Rattle.crash_model.specs.Answer.{IsAnswer, Reported, Refused};
 ghost use Rattle.crash_text.specs.BaseRefusal.{IsBaseRefusal};
 ghost use Rattle.crash_text.specs.Limits.{IsExplorable};

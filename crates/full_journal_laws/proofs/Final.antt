@@ -11,7 +11,7 @@ use Rattle.patch_sets.specs.Sets.{Has, has}
 use Rattle.patch_sets.specs.Closed.{IsClosed}
 use Rattle.crash_model.specs.Patches.{Place, place, image_from, image_of, deps_of}
 use Rattle.crash_model.specs.Plan.{with_changes, with_plan}
-use Rattle.crash_model.specs.declared.names.Op.{Op}
+use Rattle.crash_model.specs.declared.operations.Op.{Op}
 use Rattle.crash_model.specs.declared.refusals.FsFault.{FsFault}
 use Rattle.inode_fs.specs.Inside.{GivesName}
 use Rattle.crash_model.specs.Replay.{is_header, headers_from, headers, copy_in, copy_after, count_of, targets_of, image_after_replay}
@@ -22,7 +22,7 @@ use Rattle.crash_model.specs.declared.rules.Rule.{Rule}
 use Rattle.crash_model.proofs.Dependence.{depends-among}
 use Rattle.crash_model.specs.declared.plans.Change.{Change}
 use Rattle.crash_model.specs.declared.patches.Patch.{Patch}
-use Rattle.crash_model.specs.declared.steps.Module.TheVariants.{Full}
+use Rattle.crash_model.specs.declared.modules.Module.TheVariants.{Full}
 use Rattle.crash_model.specs.declared.steps.Step.{Step}
 use Rattle.full_journal_laws.proofs.Transactions.{IsLogClosed, copy_places, change_places, turn_places, log_places, committed_disk, replayed_block}
 use Rattle.full_journal_laws.specs.Full.{IsOutside}

@@ -6,7 +6,7 @@ use Rattle.crash_model.specs.Sound.{IsSound}
 use Rattle.crash_model.specs.Plan.{plan_of, with_changes}
 use Rattle.crash_model.specs.Rules.{journal_rules}
 use Rattle.crash_model.specs.Trace.{Emitted, Origin, journal_patches, touched_blocks, depends}
-use Rattle.crash_model.specs.declared.names.Op.{Op}
+use Rattle.crash_model.specs.declared.operations.Op.{Op}
 use Rattle.crash_model.specs.declared.plans.Change.{Change}
 
 -- the emitted patches of operations, each with its origin

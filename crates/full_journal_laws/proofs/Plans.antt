@@ -6,7 +6,7 @@ use Rattle.crash_model.specs.Disk.{Disk}
 use Rattle.crash_model.specs.Plan.{plan_of, with_changes}
 use Rattle.crash_model.specs.Replay.{is_target}
 use Rattle.crash_model.specs.Trace.{touched_blocks}
-use Rattle.crash_model.specs.declared.names.Op.{Op}
+use Rattle.crash_model.specs.declared.operations.Op.{Op}
 use Rattle.crash_model.specs.declared.plans.Change.{Change}
 use Rattle.inode_fs.specs.Inside.{GivesName}
 use Rattle.inode_fs.proofs.Lands.{Lands, AllLand, plan-lands, with_changes-disk, with_changes-size}

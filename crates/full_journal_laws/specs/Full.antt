@@ -10,11 +10,11 @@ use Rattle.crash_model.specs.Replay.{image_after_replay}
 use Rattle.crash_model.specs.Trace.{Emitted, Tracing, trace_start, trace_from}
 use Rattle.crash_model.specs.declared.rules.Part.{Part}
 use Rattle.crash_model.specs.declared.rules.Part.TheVariants.{Commit}
-use Rattle.crash_model.specs.declared.names.Op.{Op}
+use Rattle.crash_model.specs.declared.operations.Op.{Op}
 use Rattle.crash_model.specs.declared.patches.Patch.{Patch}
 use Rattle.crash_model.specs.declared.steps.Act.{Act}
 use Rattle.crash_model.specs.declared.steps.Act.TheVariants.{Do}
-use Rattle.crash_model.specs.declared.steps.Module.TheVariants.{Full}
+use Rattle.crash_model.specs.declared.modules.Module.TheVariants.{Full}
 use Rattle.crash_model.specs.declared.steps.Step.{Step}
 
 -- the operations of steps, in order

@@ -11,7 +11,7 @@ ghost use Rattle.crash_model.specs.Trace.{Tracing, trace_start, trace_from, IsGr
 ghost use Rattle.crash_model.specs.Rules.{AreAmong, rules_of};
 ghost use Rattle.crash_model.specs.declared.patches.Patch.{Patch};
 ghost use Rattle.crash_model.specs.declared.rules.Rule.{Rule};
-ghost use Rattle.crash_model.specs.declared.steps.Module.TheVariants.{Full};
+ghost use Rattle.crash_model.specs.declared.modules.Module.TheVariants.{Full};
 ghost use Rattle.crash_model.specs.declared.steps.Step.{Step};
 ghost use Rattle.inode_fs.specs.Inside.{GivesName};
 ghost use Rattle.full_journal_laws.specs.Full.{ops_of, IsRecovered};

@@ -7,7 +7,7 @@ use Rattle.crash_model.specs.Disk.{Disk}
 use Rattle.crash_model.specs.Layout.{kind_of, links_of, target_of}
 use Rattle.crash_model.specs.Plan.{entry_named, walk_end, free_inode, free_block, free_entry, free_slot, has_entries, relink_plan, inode_init, inode_free, link_count, pointer_set, entry_set, entry_clear, map_set, map_clear_at, map_clears, init_block, plan_of}
 use Rattle.crash_model.specs.declared.names.Path.{Path}
-use Rattle.crash_model.specs.declared.names.Op.TheVariants.{Create, Write, Link, Unlink, Rename, Mkdir, Rmdir}
+use Rattle.crash_model.specs.declared.operations.Op.TheVariants.{Create, Write, Link, Unlink, Rename, Mkdir, Rmdir}
 use Rattle.crash_model.specs.declared.plans.Change.{Change}
 use Rattle.crash_model.specs.declared.plans.Role.TheVariants.{InitFile, InitDir, LinkUp, LinkDown}
 

@@ -10,8 +10,8 @@ use Rattle.crash_model.specs.Lists.{some_below, when}
 use Rattle.crash_model.specs.Layout.{links_of, pointer_of, counts, is_data, target_of, entry_offset}
 use Rattle.crash_model.specs.Plan.{name_spelling, is_named, is_free_entry, is_free_block, is_free_slot, has_no_kind, change, at_inode, inode_free, link_count, entry_set, map_clear, init_block, map_clear_at, map_clears, plan_of, with_changes}
 use Rattle.crash_model.specs.declared.names.Path.{Path}
-use Rattle.crash_model.specs.declared.names.Op.{Op}
-use Rattle.crash_model.specs.declared.names.Op.TheVariants.{Create, Write, Link, Unlink, Rename, Mkdir, Rmdir}
+use Rattle.crash_model.specs.declared.operations.Op.{Op}
+use Rattle.crash_model.specs.declared.operations.Op.TheVariants.{Create, Write, Link, Unlink, Rename, Mkdir, Rmdir}
 use Rattle.crash_model.specs.declared.plans.Change.{Change}
 use Rattle.crash_model.specs.declared.plans.Role.{Role}
 use Rattle.crash_model.specs.declared.plans.Role.TheVariants.{InodeInit, InodeFree, InitFile, InitDir, LinkUp, LinkDown, EntrySet, EntryClear, Ptr, MapSet, MapClear}

@@ -10,9 +10,9 @@ use Rattle.crash_model.specs.View.{View, view_of}
 use Rattle.crash_model.specs.Meaning.{Becomes, nothing, with_name, IsLowest, IsFreeInode, IsFreeBlock, IsFreeSlot, IsKind, Walks, IsParent, IsTarget, Means, MeansUnlinkOne, MeansUnlinkLast}
 use Rattle.crash_model.specs.declared.refusals.FsFault.{FsFault}
 use Rattle.crash_model.specs.declared.refusals.FsFault.TheVariants.{NotADirectory}
-use Rattle.crash_model.specs.declared.names.Op.{Op}
+use Rattle.crash_model.specs.declared.operations.Op.{Op}
 use Rattle.crash_model.specs.declared.names.Path.{Path}
-use Rattle.crash_model.specs.declared.names.Op.TheVariants.{Create, Write, Link, Unlink, Rename, Mkdir, Rmdir}
+use Rattle.crash_model.specs.declared.operations.Op.TheVariants.{Create, Write, Link, Unlink, Rename, Mkdir, Rmdir}
 use Rattle.crash_model.specs.declared.plans.Change.{Change}
 use Rattle.soundness_laws.specs.Tables.{Tables, tables_of, view, SameView, Sound}
 use Rattle.soundness_laws.specs.Tables.Place.{Leads}

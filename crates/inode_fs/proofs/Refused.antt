@@ -10,9 +10,9 @@ use Rattle.crash_model.specs.View.{view_of}
 use Rattle.crash_model.specs.Meaning.{LeadsTo, IsKind, Walks, WalkFails, AtPath, AtName, Relinks, IsRefused}
 use Rattle.crash_model.specs.declared.refusals.FsFault.{FsFault}
 use Rattle.crash_model.specs.declared.refusals.FsFault.TheVariants.{NotFound, NotADirectory}
-use Rattle.crash_model.specs.declared.names.Op.{Op}
+use Rattle.crash_model.specs.declared.operations.Op.{Op}
 use Rattle.crash_model.specs.declared.names.Path.{Path}
-use Rattle.crash_model.specs.declared.names.Op.TheVariants.{Create, Write, Link, Unlink, Rename, Mkdir, Rmdir}
+use Rattle.crash_model.specs.declared.operations.Op.TheVariants.{Create, Write, Link, Unlink, Rename, Mkdir, Rmdir}
 use Rattle.crash_model.specs.declared.plans.Change.{Change}
 use Rattle.soundness_laws.specs.Tables.{tables_of, Sound}
 use Rattle.soundness_laws.proofs.ByTables.{kind-at}

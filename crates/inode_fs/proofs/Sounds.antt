@@ -4,9 +4,9 @@ use Rattle.crash_model.specs.Disk.{Disk, IsDisk}
 use Rattle.crash_model.specs.Layout.{target_of}
 use Rattle.crash_model.specs.Plan.{plan_of, name_spelling, with_changes}
 use Rattle.crash_model.specs.Sound.{IsSound}
-use Rattle.crash_model.specs.declared.names.Op.{Op}
+use Rattle.crash_model.specs.declared.operations.Op.{Op}
 use Rattle.crash_model.specs.declared.names.Path.{Path}
-use Rattle.crash_model.specs.declared.names.Op.TheVariants.{Create, Write, Link, Unlink, Rename, Mkdir, Rmdir}
+use Rattle.crash_model.specs.declared.operations.Op.TheVariants.{Create, Write, Link, Unlink, Rename, Mkdir, Rmdir}
 use Rattle.crash_model.specs.declared.plans.Change.{Change}
 use Rattle.soundness_laws.specs.Tables.{Tables, tables_of, tables_after_link, Sound}
 use Rattle.soundness_laws.specs.Tables.Place.{Leads}

@@ -6,7 +6,7 @@ use Rattle.crash_model.specs.Disk.{Disk, block_of}
 use Rattle.crash_model.specs.declared.rules.Part.TheVariants.{Copy, Commit, Done}
 use Rattle.crash_model.specs.Trace.{Emitted, Origin, part_of, copies, in_place_patch}
 use Rattle.crash_model.specs.declared.plans.Change.{Change}
-use Rattle.crash_model.specs.declared.steps.Module.{Module}
+use Rattle.crash_model.specs.declared.modules.Module.{Module}
 use Rattle.order_modules.specs.Log.{Log, Adds}
 use Rattle.order_modules.specs.Transactions.{is_ahead, changes_ahead, changes_in_place, file_data, transaction_of}
 

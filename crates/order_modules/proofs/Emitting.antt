@@ -15,7 +15,7 @@ use Rattle.crash_model.specs.Patches.{Place, place, places_of, deps_of, overlap,
 use Rattle.crash_model.specs.Trace.{Emitted, is_same_group, groups_depend, applies, depends}
 use Rattle.crash_model.specs.declared.patches.Patch.{Patch}
 use Rattle.crash_model.specs.declared.rules.Rule.{Rule}
-use Rattle.crash_model.specs.declared.steps.Module.{Module}
+use Rattle.crash_model.specs.declared.modules.Module.{Module}
 use Rattle.patch_graph.specs.Graph.{Overlaps, OverlapsAt, AddsOverlaps}
 use Rattle.order_modules.specs.Labels.{emitted_at, emitted_of, emitted_by, group_by, links_by}
 use Rattle.order_modules.specs.Log.{Log, IsLog, WaitsAt, with_places}

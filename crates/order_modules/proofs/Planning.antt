@@ -9,13 +9,13 @@ use Rattle.crash_model.specs.Disk.{Disk, IsDisk, with_bytes}
 use Rattle.crash_model.proofs.Bytes.{length-overwrite}
 use Rattle.inode_fs.specs.Inside.{LiesInside}
 use Rattle.crash_model.specs.Plan.{with_changes}
-use Rattle.crash_model.specs.declared.names.Op.{Op}
+use Rattle.crash_model.specs.declared.operations.Op.{Op}
 use Rattle.crash_model.specs.declared.rules.Part.TheVariants.{Commit, Done}
 use Rattle.crash_model.specs.Trace.{Emitted, Origin, origin_at, Tracing, trace_of_plan, patches_by, journal_blocks, in_place_patch, part_of, copies, touched_blocks}
 use Rattle.crash_model.specs.declared.plans.Change.{Change}
 use Rattle.crash_model.specs.declared.refusals.TraceFault.TheVariants as fault
-use Rattle.crash_model.specs.declared.steps.Module.{Module}
-use Rattle.crash_model.specs.declared.steps.Module.TheVariants.{Async, Soft, Meta, Full}
+use Rattle.crash_model.specs.declared.modules.Module.{Module}
+use Rattle.crash_model.specs.declared.modules.Module.TheVariants.{Async, Soft, Meta, Full}
 use Rattle.order_modules.specs.Log.{Log, Adds, Keeps}
 use Rattle.order_modules.specs.Tracer.{Trace, IsTrace, Moves, IsOrdered, IsJournaled}
 use Rattle.order_modules.specs.Transactions.{is_ahead, is_placed, changes_ahead, changes_in_place, file_data, targets_of, transaction_of}

@@ -8,9 +8,9 @@ use Rattle.crash_model.specs.Disk.{Disk}
 use Rattle.crash_model.specs.Trace.{Tracing, trace_start, step, trace_from, then_trace}
 use Rattle.crash_model.specs.declared.refusals.TraceFault.{TraceFault}
 use Rattle.crash_model.specs.declared.rules.Rule.{Rule}
-use Rattle.crash_model.specs.declared.steps.Module.{Module}
+use Rattle.crash_model.specs.declared.modules.Module.{Module}
 use Rattle.crash_model.specs.declared.steps.Step.{Step}
-use Rattle.crash_model.specs.declared.names.Op.{Op}
+use Rattle.crash_model.specs.declared.operations.Op.{Op}
 use Rattle.inode_fs.specs.Inside.{GivesName}
 use Rattle.full_journal_laws.specs.Full.{ops_at, ops_of}
 use Rattle.order_modules.specs.Tracer.{Trace, Moves}

@@ -6,7 +6,7 @@ use Rattle.crash_model.specs.Patches.{Place, places_of}
 use Rattle.crash_model.specs.Trace.{Emitted, trace_start, IsGraphOf, groups_depend, applies}
 use Rattle.crash_model.specs.declared.patches.Patch.{Patch}
 use Rattle.crash_model.specs.declared.rules.Rule.{Rule}
-use Rattle.crash_model.specs.declared.steps.Module.{Module}
+use Rattle.crash_model.specs.declared.modules.Module.{Module}
 use Rattle.order_modules.specs.Labels.{emitted_of}
 use Rattle.order_modules.specs.declared.labels.Label.{Label}
 

@@ -5,8 +5,8 @@ use Rattle.crash_model.specs.Disk.{Disk}
 use Rattle.crash_model.specs.Trace.{Emitted, Origin, is_file_data, in_place_patch, part_of, copies}
 use Rattle.crash_model.specs.declared.rules.Part.TheVariants.{FileData, Commit, Done}
 use Rattle.crash_model.specs.declared.plans.Change.{Change}
-use Rattle.crash_model.specs.declared.steps.Module.{Module}
-use Rattle.crash_model.specs.declared.steps.Module.TheVariants.{Async, Soft, Meta, Full}
+use Rattle.crash_model.specs.declared.modules.Module.{Module}
+use Rattle.crash_model.specs.declared.modules.Module.TheVariants.{Async, Soft, Meta, Full}
 
 -- file data, which the metadata journal writes ahead of the transaction
 abbrev pub is_ahead : Module → Change → Bool

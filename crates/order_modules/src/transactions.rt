@@ -13,9 +13,9 @@ ghost use Rattle.order_modules.specs.Transactions.{targets_of, transaction_of};
 use crate::labels::{Label, Origin};
 use crate::log::PatchLog;
 use arrayvec::ArrayVec;
+use crash_model::modules::Module;
 use crash_model::plans::{Change, Role};
 use crash_model::rules::Part;
-use crash_model::steps::Module;
 use disk_image::Image;
 use std::alloc::{AllocError, Allocator};
 

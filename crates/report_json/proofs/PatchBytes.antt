@@ -18,8 +18,8 @@ use Rattle.crash_model.specs.Report.{json_string, json_array}
 use Rattle.crash_model.specs.Rules.{role_text, part_text, rule_part_text, scope_text, rule_text}
 use Rattle.crash_model.specs.Script.{IsPath, IsAct, path_text}
 use Rattle.crash_model.specs.Trace.{Emitted, depends}
-use Rattle.crash_model.specs.declared.names.Op.{Op}
-use Rattle.crash_model.specs.declared.names.Op.TheVariants.{Create, Write, Link, Unlink, Rename, Mkdir, Rmdir}
+use Rattle.crash_model.specs.declared.operations.Op.{Op}
+use Rattle.crash_model.specs.declared.operations.Op.TheVariants.{Create, Write, Link, Unlink, Rename, Mkdir, Rmdir}
 use Rattle.crash_model.specs.declared.names.Path.{Path}
 use Rattle.crash_model.specs.declared.plans.Role.{Role}
 use Rattle.crash_model.specs.declared.plans.Role.TheVariants as role

@@ -18,7 +18,7 @@ ghost use Rattle.serde_json.specs.View.{view};
 
 use crate::items::write_item;
 use crate::values::hex_value;
-use crash_model::names::Op;
+use crash_model::operations::Op;
 use crash_model::patches::Patch;
 use disk_image::Image;
 use order_modules::{Label, Reason, Traced};

@@ -8,7 +8,7 @@ use Rattle.crash_model.specs.Names.{IsName, IsGroupName, is_name_byte, is_group_
 use Rattle.crash_model.specs.Script.{AreWords, IsPath, path_text, IsAct, words_of, Line, Reads}
 use Rattle.crash_model.specs.Script as script
 use Rattle.crash_model.specs.declared.names.Path.{Path}
-use Rattle.crash_model.specs.declared.names.Op.TheVariants as op
+use Rattle.crash_model.specs.declared.operations.Op.TheVariants as op
 use Rattle.crash_model.specs.declared.steps.Act.{Act}
 use Rattle.crash_model.specs.declared.steps.Act.TheVariants as act
 use Rattle.crash_model.proofs.Cuts.{Lacks}

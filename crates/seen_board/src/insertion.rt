@@ -7,7 +7,7 @@ ghost use Rattle.seen_board.specs.Seats.{IsProbe};
 
 use crate::answers::{Got, Looked, Place, Put};
 use crate::board::Board;
-use crate::layout::{STOP, Probe};
+use crate::layout::{Probe, STOP};
 use crate::seat::BoardSeat;
 use crate::steps::Overflow;
 use state_space::Space;

@@ -103,8 +103,7 @@ impl<S: Space, A: Allocator> Board<S, A> {
     {
         let probe = self.probe(word);
         let shard = probe.shard;
-        self.look_from(seat, 0, probe)
-            .map(|at| Place { shard, at })
+        self.look_from(seat, 0, probe).map(|at| Place { shard, at })
     }
 
     /// Loads an index word. The places up to the one that it names are published, so the seat has seen them.

@@ -10,7 +10,7 @@ use Rattle.crash_model.specs.Rules.{rules_of}
 use Rattle.crash_model.specs.Trace.{Emitted, Tracing, trace_start, trace_from, depends, IsGraphOf}
 use Rattle.crash_model.specs.declared.patches.Patch.{Patch}
 use Rattle.crash_model.specs.declared.rules.Rule.{Rule}
-use Rattle.crash_model.specs.declared.steps.Module.{Module}
+use Rattle.crash_model.specs.declared.modules.Module.{Module}
 use Rattle.crash_model.specs.declared.steps.Step.{Step}
 use Rattle.worked_example_laws.specs.Computed.{set_below, depends_if, needs, patches_from, graph_of, trace_of, HasGraph}
 

@@ -11,7 +11,7 @@ use Rattle.crash_model.proofs.Cuts.{Lacks}
 use Rattle.crash_model.specs.Lists.{join_of}
 use Rattle.crash_model.specs.Names.{IsWord, IsName, IsGroupName, is_name_byte, is_group_byte}
 use Rattle.crash_model.specs.Script.{IsPath, IsPathWord, path_text, Operand, PathOperand, GroupOperand, forms, Fits, HasPaths, HasForm, Line, Skipped, Start, Says, words_of, IsAct, IsSkipped, Reads}
-use Rattle.crash_model.specs.declared.names.Op.TheVariants.{Create, Write, Link, Unlink, Rename, Mkdir, Rmdir}
+use Rattle.crash_model.specs.declared.operations.Op.TheVariants.{Create, Write, Link, Unlink, Rename, Mkdir, Rmdir}
 use Rattle.crash_model.specs.declared.names.Path.{Path}
 use Rattle.crash_model.specs.declared.steps.Act.{Act}
 use Rattle.crash_model.specs.declared.steps.Act.TheVariants.{Do, Group, End, Depend}

@@ -4,7 +4,7 @@
 ghost use Rattle.std.specs.Prelude.{◌≡◌, [], ◌∷◌, ◌++◌, replicate, codes, Ok, Err, take};
 ghost use Rattle.crash_model.specs.Disk.{Disk, block_of, with_bytes, empty_disk};
 ghost use Rattle.crash_model.specs.Plan.{plan_of, change};
-ghost use Rattle.crash_model.specs.declared.names.Op.TheVariants.{Create, Write, Link, Unlink, Rename, Mkdir, Rmdir};
+ghost use Rattle.crash_model.specs.declared.operations.Op.TheVariants.{Create, Write, Link, Unlink, Rename, Mkdir, Rmdir};
 ghost use Rattle.crash_model.specs.declared.plans.Role.TheVariants.{InodeInit, EntrySet, EntryClear, MapSet, MapClear, InitFile, InitDir, Ptr, LinkUp, LinkDown, InodeFree};
 ghost use Rattle.crash_model.specs.declared.refusals.FsFault.TheVariants.{NotFound, NotADirectory, Exists, NotAFile, NotEmpty, NoInode, NoBlock, DirectoryFull, FileFull, LinksFull};
 ghost use Rattle.worked_example_laws.specs.Examples.{a, b, c, d, f, x, d_x, root, inside, after, fresh_disk, with_file, with_files, full_links, full_directory, few_inodes, no_blocks, full_file, unmarked_root};

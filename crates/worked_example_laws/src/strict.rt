@@ -8,7 +8,7 @@ ghost use Rattle.crash_model.specs.Faults.{IsClean};
 ghost use Rattle.crash_model.specs.Strict.{stays_live, faults_under, IsCleanUnder, IsFailingUnder};
 ghost use Rattle.crash_model.specs.declared.fault.Fault.TheVariants.{Unwritten, LowLinks, Lost, NoBlock};
 ghost use Rattle.crash_model.specs.declared.patches.Patch.{Patch};
-ghost use Rattle.crash_model.specs.declared.names.Op.TheVariants.{Create, Unlink, Rename};
+ghost use Rattle.crash_model.specs.declared.operations.Op.TheVariants.{Create, Unlink, Rename};
 ghost use Rattle.worked_example_laws.specs.Examples.{a, b, after, steps_from, fresh_disk};
 
 /// Where a checker is told of no kept inodes, nothing but the six faults is asked of an image.

@@ -7,8 +7,8 @@ ghost use Rattle.crash_model.specs.Faults.{faults};
 ghost use Rattle.crash_model.specs.Patches.{image_of};
 ghost use Rattle.crash_model.specs.Replay.{headers, image_after_replay};
 ghost use Rattle.crash_model.specs.declared.fault.Fault.TheVariants.{Unwritten};
-ghost use Rattle.crash_model.specs.declared.names.Op.TheVariants.{Create};
-ghost use Rattle.crash_model.specs.declared.steps.Module.TheVariants.{Meta};
+ghost use Rattle.crash_model.specs.declared.operations.Op.TheVariants.{Create};
+ghost use Rattle.crash_model.specs.declared.modules.Module.TheVariants.{Meta};
 ghost use Rattle.worked_example_laws.specs.Computed.{HasGraph, Explored, CountsWith, new_bytes, set_of, table};
 ghost use Rattle.worked_example_laws.specs.Examples.{a, after, fresh_with_journal, one_file, written_file, with_directory, reused_directory};
 

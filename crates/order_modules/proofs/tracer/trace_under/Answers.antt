@@ -4,8 +4,8 @@ use Rattle.crash_model.specs.Rules.{AreAmong, rules_of}
 use Rattle.crash_model.specs.Trace.{trace_start, trace_from, IsGraphOf}
 use Rattle.crash_model.specs.declared.patches.Patch.{Patch}
 use Rattle.crash_model.specs.declared.rules.Rule.{Rule}
-use Rattle.crash_model.specs.declared.steps.Module.{Module}
-use Rattle.crash_model.specs.declared.steps.Module.TheVariants.{Full}
+use Rattle.crash_model.specs.declared.modules.Module.{Module}
+use Rattle.crash_model.specs.declared.modules.Module.TheVariants.{Full}
 use Rattle.full_journal_laws.specs.Full.{IsFullSafe}
 use Rattle.order_modules.proofs.tracer.trace_under.Goals as goal
 

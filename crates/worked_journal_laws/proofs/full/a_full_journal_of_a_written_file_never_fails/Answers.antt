@@ -7,7 +7,7 @@ use Rattle.std.proofs.Common.{◌≡◌, take, drop, true}
 use Rattle.crash_model.specs.Patches.{deps_of}
 use Rattle.crash_model.specs.Disk.{empty_disk}
 use Rattle.crash_model.specs.Rules.{rules_of}
-use Rattle.crash_model.specs.declared.steps.Module.TheVariants.{Full}
+use Rattle.crash_model.specs.declared.modules.Module.TheVariants.{Full}
 use Rattle.worked_example_laws.specs.Examples.{written_file}
 use Rattle.worked_example_laws.specs.Computed.{graph_of, trace_of, closed_sets, none_fails}
 use Rattle.worked_example_laws.proofs.FailingSets.{all_clean_if, none_in_parts}

@@ -1,6 +1,6 @@
 use Rattle.std.proofs.Common.{◌≡◌, ◌+◌, ◌∷◌, [], length, ap, ◌∙◌, arith}
 use Rattle.crash_model.specs.Trace.{in_place_patch}
-use Rattle.crash_model.specs.declared.steps.Module.{Module}
+use Rattle.crash_model.specs.declared.modules.Module.{Module}
 use Rattle.order_modules.specs.Labels.{origin_by}
 use Rattle.order_modules.specs.Transactions.{changes_in_place, file_data, changes_ahead}
 use Rattle.order_modules.proofs.Adding.{transaction_room, adds-long, adds-map, adds-copies}

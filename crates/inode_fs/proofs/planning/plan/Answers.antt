@@ -5,7 +5,7 @@ use Rattle.inode_fs.proofs.Sounds.{plan-keeps}
 use Rattle.inode_fs.proofs.Means.{plan-means}
 use Rattle.inode_fs.proofs.Refused.{plan-refused}
 use Rattle.inode_fs.proofs.Lands.{plan-lands, all-inside, with_changes-journal}
-use Rattle.inode_fs.proofs.plans.plan.Goals as goal
+use Rattle.inode_fs.proofs.planning.plan.Goals as goal
 
 pub returns-clause-count : goal.returns-clause-count
 returns-clause-count g c =

@@ -10,7 +10,7 @@ ghost use Rattle.crash_model.specs.View.{view_of};
 ghost use Rattle.crash_model.specs.Meaning.{IsRefused, Means};
 ghost use Rattle.crash_model.specs.declared.refusals.FsFault.{FsFault};
 ghost use Rattle.inode_fs.specs.Inside.{LiesInside, HasSameJournal, GivesName};
-ghost use Rattle.crash_model.specs.declared.names.Op.TheVariants.{Create, Write, Link, Unlink, Rename, Mkdir, Rmdir};
+ghost use Rattle.crash_model.specs.declared.operations.Op.TheVariants.{Create, Write, Link, Unlink, Rename, Mkdir, Rmdir};
 
 use crate::changes::{
     DIRECTORY_MARK, FILE_MARK, entry_clear, entry_set, init_block, inode_free, inode_init,
@@ -20,7 +20,8 @@ use crate::look::{
     DIRECTORY, Entry, FILE, entry_named, find, free_block, free_inode, free_slot, has_entries, walk,
 };
 use arrayvec::ArrayVec;
-use crash_model::names::{Op, Path};
+use crash_model::names::Path;
+use crash_model::operations::Op;
 use crash_model::plans::{Plan, Role};
 use crash_model::refusals::FsFault;
 use disk_image::Image;
