@@ -11,7 +11,7 @@ use Rattle.state_space.specs.Reach.{IsReached}
 use Rattle.state_space.specs.Counts.{IsSome, Outnumbers}
 use Rattle.board_rule.specs.Layout.{writer}
 use Rattle.board_rule.specs.Lists.{row_of, total}
-use Rattle.board_rule.specs.Lives.{unsettled, settled}
+use Rattle.board_rule.specs.Lives.{is_unsettled, is_settled}
 use Rattle.board_rule.specs.Views.{Told}
 use Rattle.board_rule.specs.Rule.{weight, LocksOk, RowsOk}
 use Rattle.board_rule.specs.declared.view.View.{View}
@@ -21,14 +21,14 @@ use Rattle.board_rule.proofs.Locks.{weight_else}
 one_of : (b : Bool) → cond b 1 0 + cond b 0 1 ≡ 1
 one_of b = elim b as (λ x. cond x 1 0 + cond x 0 1 ≡ 1) [ true ↦ refl | false ↦ refl ]
 
-pub each_counts : (n : ℕ) → unsettled n + settled n ≡ 1
+pub each_counts : (n : ℕ) → is_unsettled n + is_settled n ≡ 1
 each_counts n = one_of (ltb n 2)
 
-row_counts : (l : List ℕ) → total unsettled l + total settled l ≡ length l
+row_counts : (l : List ℕ) → total is_unsettled l + total is_settled l ≡ length l
 row_counts [] = refl
 row_counts (x ∷ xs) = omega (arith, row_counts xs, each_counts x)
 
-pub all_counts : (lives : List (List ℕ)) → total (total unsettled) lives + total (total settled) lives ≡ total length lives
+pub all_counts : (lives : List (List ℕ)) → total (total is_unsettled) lives + total (total is_settled) lives ≡ total length lives
 all_counts [] = refl
 all_counts (l ∷ lives) = omega (arith, all_counts lives, row_counts l)
 

@@ -10,10 +10,10 @@ use Rattle.state_space.specs.Reach.{IsReached}
 use Rattle.state_space.specs.Counts.{Outnumbers}
 use Rattle.board_rule.specs.Layout.{writer, place_of}
 use Rattle.board_rule.specs.Lists.{row_of, total}
-use Rattle.board_rule.specs.Lives.{unsettled}
+use Rattle.board_rule.specs.Lives.{is_unsettled}
 use Rattle.board_rule.specs.Views.{Told, OnLives, OnPending, OnCount}
 use Rattle.board_rule.specs.Rule.{claims_on, open_lives, PendingOk, CountOk, IsBare, Kept}
-use Rattle.board_rule.specs.Changes.{giving_up}
+use Rattle.board_rule.specs.Changes.{with_given_up}
 use Rattle.board_rule.specs.Plays.{announced, repaid, ended, counted, stopped, overflowed}
 use Rattle.board_rule.specs.declared.view.View.{View}
 use Rattle.board_rule.proofs.Sums.{total-set, term_le}
@@ -49,7 +49,7 @@ module _ (t : Told) (good : ℕ → Type 0) (S : Type 0) where
       let few = adds_few s.words s.views o.locks (λ j v e. ((o.seats j v e).near, o.pending.by_writers j v e)) in let all = all_counts o.lives in let bound = lives_few s o in
       let under : x < 18446744073709551615 = omega (arith, o.pending.sum, o.pending.few, few, all, bound, small) in let up : (x + 1) % 2 ^ 64 ≡ x + 1 = omega (arith, under) in let y = (x + 1) % 2 ^ 64 in
       let was = claimed_life t good S s o id q k m.0 near me has here in let inside = in_range (row_of o.lives q) k (omega (arith, was)) in
-      let one-open : 1 ≤ open_lives o.lives = omega (arith, lives_term unsettled o.lives q k (omega (arith, near, o.life.all)) inside, ap unsettled was) in
+      let one-open : 1 ≤ open_lives o.lives = omega (arith, lives_term is_unsettled o.lives q k (omega (arith, near, o.life.all)) inside, ap is_unsettled was) in
       let now : get_or (set s.words 0 y) 0 0 ≡ y = get_or-set_same s.words 0 y 0 (omega (arith, o.sized)) in (
         w,
         keeps,
@@ -113,8 +113,8 @@ module _ (t : Told) (good : ℕ → Type 0) (S : Type 0) where
 
   -- a store of the stop: the claim of the seat that stores it ends
   stop_turn : (s : State S View) (o : Rule s) (id : ℕ) (m : Me S View) (c : OnCount) → get_elem? s.views id ≡ some m.0 → c.uncounted ≡ m.0.count.uncounted → (c.over ≡ 1 → Outnumbers (IsReached t.next t.origin) t.limit)
-      → Rule (stepped s 2 1 id m.1 (record (giving_up m.0) { count = c }) keeps)
-  stop_turn s o id m c me same large = let l = (giving_up m.0).lives in let w : View = record m.0 { lives = l; count = c } in let a = total-set (λ v. v.pending.announced) s.views id m.0 w me in
+      → Rule (stepped s 2 1 id m.1 (record (with_given_up m.0) { count = c }) keeps)
+  stop_turn s o id m c me same large = let l = (with_given_up m.0).lives in let w : View = record m.0 { lives = l; count = c } in let a = total-set (λ v. v.pending.announced) s.views id m.0 w me in
       counter_turn s o id 2 1 l m.0.pending c m (omega arith) me (λ p. claims_given_up m.0 p) refl
       (λ _ b. record { added = b.added; claims = refl; given_up = ap (λ (g : List ℕ). g ++ replicate m.0.lives.claims m.0.lives.place) b.given_up ∙ ap (λ (n : ℕ). replicate n m.0.lives.place) b.claims; announced = b.announced; owed = b.owed; verdicts = b.verdicts; uncounted = same ∙ b.uncounted })
       (pending_turn o.lives o.lives s.words (set s.words 2 1) s.views id m.0 w o.pending me (omega (arith, get_or-set_other s.words 2 0 1 0 (λ e. omega (arith, e)))) (omega arith) (omega arith) (o.pending.by_writers id m.0 me)
@@ -122,7 +122,7 @@ module _ (t : Told) (good : ℕ → Type 0) (S : Type 0) where
       (count_turn t o.rows o.rows s.words (set s.words 2 1) s.views id m.0 w o.counts me (omega (arith, get_or-set_other s.words 2 1 1 0 (λ e. omega (arith, e)), same)) large)
 
   pub stops : (n id : ℕ) (m : Me S View) → Allows Rule n id m 2 (λ _. 1) (λ _. stopped (step n 2 1 0 none) m 1)
-  stops n id m s o wide me _ = (giving_up m.0, keeps, tt, stop_turn s o id m m.0.count me refl (o.counts.over id m.0 me), refl)
+  stops n id m s o wide me _ = (with_given_up m.0, keeps, tt, stop_turn s o id m m.0.count me refl (o.counts.over id m.0 me), refl)
 
   -- a full row, under its right, lacks a successor of a word that was seen
   pub overflows : (n id : ℕ) (m : Me S View) (x c k : ℕ) → m.0.rows.right ≡ writer → t.limit ≤ length (row_of m.0.rows.seen m.0.rows.held)
@@ -130,7 +130,7 @@ module _ (t : Told) (good : ℕ → Type 0) (S : Type 0) where
       → ((j : ℕ) → j < length (row_of m.0.rows.seen m.0.rows.held) → get_or (row_of m.0.rows.seen m.0.rows.held) j 0 ≢ x)
       → Allows Rule n id m 2 (λ _. 1) (λ _. overflowed (step n 2 1 0 none) m 1)
   overflows n id m x c k writes full near inside succ absent s o wide me _ = let ok = o.seats id m.0 me in let q = m.0.rows.held in let whole = ok.whole (omega (arith, writes)) in (
-    record (giving_up m.0) { count = record m.0.count { over = 1 } },
+    record (with_given_up m.0) { count = record m.0.count { over = 1 } },
     keeps,
     tt,
     stop_turn s o id m (record m.0.count { over = 1 }) me refl (λ _. full_row t o.rows s.words q x o.row ok.near (omega (arith, full, ap length whole)) (reached_successor t good S s o id m c k x me near inside succ)

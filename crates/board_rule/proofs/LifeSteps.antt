@@ -10,7 +10,7 @@ use Rattle.atomic_table.specs.Table.{State, Me, step, Act, keeps, Valid, carried
 use Rattle.atomic_table.proofs.Lists.{exchanged}
 use Rattle.board_rule.specs.Layout.{life_word, place_of}
 use Rattle.board_rule.specs.Lists.{row_of, Has}
-use Rattle.board_rule.specs.Lives.{life_of, is_claimed, unsettled, settled, verdict_of, Passes}
+use Rattle.board_rule.specs.Lives.{life_of, is_claimed, is_unsettled, is_settled, verdict_of, Passes}
 use Rattle.board_rule.specs.Views.{Told, OnLives}
 use Rattle.board_rule.specs.Rule.{times_among, claims_at, claims_on, IsBare, Kept}
 use Rattle.board_rule.specs.Changes.{with_learned, with_claim}
@@ -37,14 +37,14 @@ module _ (t : Told) (good : ℕ → Type 0) (S : Type 0) where
       → ((p : ℕ) → p ≢ place_of q k → claims_at p (record m.0 { lives = l }) ≡ claims_at p m.0) → l.given_up ≡ m.0.lives.given_up
       → n ≤ 3 → (n ≡ 2 → good (get_or (row_of o.rows q) k 0)) → (n ≡ 3 → good (get_or (row_of o.rows q) k 0) → ⊥) → (2 ≤ n → (y : ℕ) → Contains (t.next (get_or (row_of o.rows q) k 0)) y → Has o.rows y)
       → ((life : Life) → Passes life (life_of (get_or (row_of o.lives q) k 0)) → Passes life (life_of n)) → l.learned ≡ m.0.lives.learned ++ (place_of q k, new_life) ∷ [] → Passes new_life (life_of n)
-      → owed + unsettled n ≡ m.0.pending.owed + unsettled (get_or (row_of o.lives q) k 0) → owed + settled (get_or (row_of o.lives q) k 0) ≤ m.0.pending.owed + settled n → verdicts + settled (get_or (row_of o.lives q) k 0) ≡ m.0.pending.verdicts + settled n → unsettled n ≤ unsettled (get_or (row_of o.lives q) k 0)
+      → owed + is_unsettled n ≡ m.0.pending.owed + is_unsettled (get_or (row_of o.lives q) k 0) → owed + is_settled (get_or (row_of o.lives q) k 0) ≤ m.0.pending.owed + is_settled n → verdicts + is_settled (get_or (row_of o.lives q) k 0) ≡ m.0.pending.verdicts + is_settled n → is_unsettled n ≤ is_unsettled (get_or (row_of o.lives q) k 0)
       → (m.0.limit ≡ 0 → IsBare m.0 → IsBare (record m.0 { lives = l; pending = record m.0.pending { owed = owed; verdicts = verdicts } }))
       → Rule (stepped s (life_word t.limit q k) n id m.1 (record m.0 { lives = l; pending = record m.0.pending { owed = owed; verdicts = verdicts } }) keeps)
   life_turn s o id q k n new_life l owed verdicts m near inside me gain less kept top is-clean is-broken shut on more met sum few told down bare =
       let p = record m.0.pending { owed = owed; verdicts = verdicts } in let w : View = record m.0 { lives = l; pending = p } in let i = life_word t.limit q k in let words' = set s.words i n in
       let gone : (p : ℕ) → times_among p l.given_up ≡ times_among p m.0.lives.given_up = λ p. ap (times_among p) kept in
       let short : k < t.limit = omega (arith, inside, o.row.short q near) in let in_lives : k < length (row_of o.lives q) = omega (arith, inside, o.life.even q near) in
-      let u = lives_sum unsettled o.lives q k n (omega (arith, near, o.life.all)) in_lives in let v = lives_sum settled o.lives q k n (omega (arith, near, o.life.all)) in_lives in
+      let u = lives_sum is_unsettled o.lives q k n (omega (arith, near, o.life.all)) in_lives in let v = lives_sum is_settled o.lives q k n (omega (arith, near, o.life.all)) in_lives in
       let a = total-set (λ x. x.pending.announced) s.views id m.0 w me in let zeroth : get_or words' 0 0 ≡ get_or s.words 0 0 = get_or-set_other s.words i 0 n 0 (λ e. omega (arith, e)) in
       rest_turn t good S s o id i n m l p m.0.count (set o.lives q (set (row_of o.lives q) k n)) (λ b lo hi e. omega (arith, e, hi)) (λ b lo e. omega (arith, e, lo, short, near)) me bare
       (lives_turn t good o.rows o.lives s.words s.views id m.0 w q k n new_life near in_lives (omega (arith, o.sized, short, near)) o.life me (omega (arith, gain, gone (place_of q k))) (λ p ne. omega (arith, less p ne, gone p)) top is-clean is-broken shut on more met)

@@ -10,10 +10,10 @@ use mathlib.Core.Option.{some}
 use lib.ListN.{get_elem?}
 use Rattle.board_rule.specs.Layout.{life_word, place_of}
 use Rattle.board_rule.specs.Lists.{row_of, total, Has}
-use Rattle.board_rule.specs.Lives.{life_of, life_at, is_claimed, unsettled, settled, verdict_of, Passes}
+use Rattle.board_rule.specs.Lives.{life_of, life_at, is_claimed, is_unsettled, is_settled, verdict_of, Passes}
 use Rattle.board_rule.specs.Views.{Told}
 use Rattle.board_rule.specs.Rule.{times_among, claims_at, claims_on, LivesOk}
-use Rattle.board_rule.specs.Changes.{giving_up}
+use Rattle.board_rule.specs.Changes.{with_given_up}
 use Rattle.board_rule.specs.declared.life.Life.{Life}
 use Rattle.board_rule.specs.declared.life.Life.TheVariants.{Waiting, Claimed, Clean, Broken}
 use Rattle.board_rule.specs.declared.view.View.{View}
@@ -46,12 +46,12 @@ times_replicate p (suc n) x = dite (ℕ_discrete x p)
     (λ e. omega (arith, times_replicate p n x, ap {B = ℕ} (λ b. cond b 1 0) (eq-eqb x p e), ap {B = ℕ} (λ b. cond b n 0) (eq-eqb x p e), ap {B = ℕ} (λ b. cond b (suc n) 0) (eq-eqb x p e)))
     (λ ne. omega (arith, times_replicate p n x, ap {B = ℕ} (λ b. cond b 1 0) (ne_eqb x p ne), ap {B = ℕ} (λ b. cond b n 0) (ne_eqb x p ne), ap {B = ℕ} (λ b. cond b (suc n) 0) (ne_eqb x p ne)))
 
-pub claims_given_up : (v : View) (p : ℕ) → claims_on p (giving_up v) ≡ claims_on p v
-claims_given_up v p = omega (arith, claim_none (giving_up v) p refl, total-append (λ x. cond (eqb x p) 1 0) v.lives.given_up (replicate v.lives.claims v.lives.place), times_replicate p v.lives.claims v.lives.place)
+pub claims_given_up : (v : View) (p : ℕ) → claims_on p (with_given_up v) ≡ claims_on p v
+claims_given_up v p = omega (arith, claim_none (with_given_up v) p refl, total-append (λ x. cond (eqb x p) 1 0) v.lives.given_up (replicate v.lives.claims v.lives.place), times_replicate p v.lives.claims v.lives.place)
 
 -- what a verdict is as a life
-pub verdict_settles : (b : Bool) → (2 ≤ verdict_of b) × (verdict_of b ≤ 3) × (is_claimed (verdict_of b) ≡ 0) × (unsettled (verdict_of b) ≡ 0) × (settled (verdict_of b) ≡ 1)
-verdict_settles b = elim b as (λ x. (2 ≤ verdict_of x) × (verdict_of x ≤ 3) × (is_claimed (verdict_of x) ≡ 0) × (unsettled (verdict_of x) ≡ 0) × (settled (verdict_of x) ≡ 1))
+pub verdict_settles : (b : Bool) → (2 ≤ verdict_of b) × (verdict_of b ≤ 3) × (is_claimed (verdict_of b) ≡ 0) × (is_unsettled (verdict_of b) ≡ 0) × (is_settled (verdict_of b) ≡ 1)
+verdict_settles b = elim b as (λ x. (2 ≤ verdict_of x) × (verdict_of x ≤ 3) × (is_claimed (verdict_of x) ≡ 0) × (is_unsettled (verdict_of x) ≡ 0) × (is_settled (verdict_of x) ≡ 1))
     [ true ↦ (omega arith, omega arith, refl, refl, refl) | false ↦ (omega arith, omega arith, refl, refl, refl) ]
 
 pub verdict_clean : (b : Bool) → verdict_of b ≡ 2 → b ≡ true

@@ -6,7 +6,7 @@ use prog.Atomic.{either}
 use Rattle.atomic_table.specs.Table.{State, Me, step, Act, keeps, Valid, carried_after, stepped, Allows}
 use Rattle.atomic_table.proofs.Lists.{exchanged}
 use Rattle.board_rule.specs.Layout.{writer, lock_word, length_word, low_word, high_word, index_word, slot, window}
-use Rattle.board_rule.specs.Lists.{row_of, StartsWith, listed}
+use Rattle.board_rule.specs.Lists.{row_of, StartsWith, first_values}
 use Rattle.board_rule.specs.Views.{Told, OnRows}
 use Rattle.board_rule.specs.Rule.{weight, Stands, SeatOk, Kept}
 use Rattle.board_rule.specs.Changes.{with_right, without_right}
@@ -18,11 +18,11 @@ use Rattle.board_rule.proofs.Rows.{rows_stay, seat_stay, seat_free}
 use Rattle.board_rule.proofs.Index.{slot_lt, index_stay}
 use Rattle.board_rule.proofs.Turns.{unmoved, rows_turn}
 
-pub listed-length : {A : Type 0} (f : ℕ → A) (n : ℕ) → length (listed f n) ≡ n
-listed-length f zero = refl
-listed-length f (suc n) = ap suc (listed-length (λ k. f (suc k)) n)
+pub first_values-length : {A : Type 0} (f : ℕ → A) (n : ℕ) → length (first_values f n) ≡ n
+first_values-length f zero = refl
+first_values-length f (suc n) = ap suc (first_values-length (λ k. f (suc k)) n)
 
-pub listed_at : {A : Type 0} (f : ℕ → A) (n k : ℕ) (d : A) → k < n → get_or (listed f n) k d ≡ f k
+pub listed_at : {A : Type 0} (f : ℕ → A) (n k : ℕ) (d : A) → k < n → get_or (first_values f n) k d ≡ f k
 listed_at f zero k d h = absurd (omega (arith, h))
 listed_at f (suc n) zero d h = refl
 listed_at f (suc n) (suc k) d h = listed_at (λ j. f (suc j)) n k d (omega (arith, h))
@@ -56,7 +56,7 @@ module _ (t : Told) (good : ℕ → Type 0) (S : Type 0) where
 
   -- the index words of shard q as they are
   abbrev marks_of : List ℕ → ℕ → List ℕ
-  marks_of words q = listed (λ j. get_or words (index_word t.limit q j) 0) t.limit
+  marks_of words q = first_values (λ j. get_or words (index_word t.limit q j) 0) t.limit
 
   -- a step on the lock of q
   lock_turn : (s : State S View) (o : Rule s) (id q n : ℕ) (m : Me S View) (r : OnRows) → q < 13 → get_elem? s.views id ≡ some m.0 → r.added ≡ m.0.rows.added → m.0.pending.announced * writer ≤ r.right
@@ -85,7 +85,7 @@ module _ (t : Told) (good : ℕ → Type 0) (S : Type 0) where
         whole = λ _. grown;
         low = λ x e. absurd (omega (arith, ap length e));
         high = λ x e. absurd (omega (arith, ap length e));
-        marked = λ _. listed-length (λ j. get_or s.words (index_word t.limit q j) 0) t.limit;
+        marked = λ _. first_values-length (λ j. get_or s.words (index_word t.limit q j) 0) t.limit;
         marks = λ _ j b. get_or-set_other s.words (lock_word q) (index_word t.limit q j) n 0 (λ e. omega (arith, e, near)) ∙ sym (listed_at (λ j. get_or s.words (index_word t.limit q j) 0) t.limit j 0 b);
       }
 

@@ -12,7 +12,7 @@ use Rattle.state_space.specs.Counts.{Outnumbers}
 use Rattle.state_space.proofs.Runs.{reached_start}
 use Rattle.board_rule.specs.Layout.{half, writer, lock_word, length_word, low_word, high_word, life_word, index_word, size_for, place_of, slot}
 use Rattle.board_rule.specs.Lists.{row_of, total}
-use Rattle.board_rule.specs.Lives.{life_of, life_at, is_claimed, unsettled, settled, Passes}
+use Rattle.board_rule.specs.Lives.{life_of, life_at, is_claimed, is_unsettled, is_settled, Passes}
 use Rattle.board_rule.specs.Views.{Told}
 use Rattle.board_rule.specs.Rule.{EachSeat, start_place, open_lives, SeatOk, Stands, Unfiled, IsBare, Kept}
 use Rattle.board_rule.specs.Changes.{opening_rows, opening_words, first_view}
@@ -131,9 +131,9 @@ opens t good S wide = let start = t.origin in let limit = t.limit in let q = sta
         learned = only (λ u. All (λ m. Passes m.1 (life_of (life_at lives m.0))) u.lives.learned) (λ k d h. absurd (omega (arith, h)));
       };
       pending = record {
-        sum = omega (arith, w.pending, sum (total unsettled) refl refl (0 ∷ []));
+        sum = omega (arith, w.pending, sum (total is_unsettled) refl refl (0 ∷ []));
         few = omega arith;
-        verdicts = omega (arith, sum (total settled) refl refl (0 ∷ []));
+        verdicts = omega (arith, sum (total is_settled) refl refl (0 ∷ []));
         by_writers = only (λ u. u.pending.announced * writer ≤ u.rows.right) (omega arith);
         done = only (λ u. u.pending.finished ≡ 1 → (open_lives lives ≡ 0) × (total (λ x. x.pending.announced) (v ∷ []) ≡ 0)) (λ f. absurd (omega (arith, f)));
       };

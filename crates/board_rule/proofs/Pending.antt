@@ -6,7 +6,7 @@ use Rattle.state_space.specs.Reach.{IsReached}
 use Rattle.state_space.specs.Counts.{Outnumbers}
 use Rattle.board_rule.specs.Layout.{writer}
 use Rattle.board_rule.specs.Lists.{row_of, total}
-use Rattle.board_rule.specs.Lives.{unsettled, settled}
+use Rattle.board_rule.specs.Lives.{is_unsettled, is_settled}
 use Rattle.board_rule.specs.Views.{Told}
 use Rattle.board_rule.specs.Rule.{open_lives, PendingOk, CountOk}
 use Rattle.board_rule.specs.declared.view.View.{View}
@@ -23,13 +23,13 @@ lives_more g lives q n h = omega (arith, total_set_or (total g) lives q (row_of 
 pub lives_term : (g : ℕ → ℕ) (lives : List (List ℕ)) (q k : ℕ) → q < length lives → k < length (row_of lives q) → g (get_or (row_of lives q) k 0) ≤ total (total g) lives
 lives_term g lives q k h b = omega (arith, total_term (total g) lives q [] h, total_term g (row_of lives q) k 0 b)
 
-pub unsettled_low : (n : ℕ) → n < 2 → unsettled n ≡ 1
+pub unsettled_low : (n : ℕ) → n < 2 → is_unsettled n ≡ 1
 unsettled_low n h = ap {B = ℕ} (λ b. cond b 1 0) (lt-ltb n 2 h)
 
 pub pending_turn : (lives lives' : List (List ℕ)) (words words' : List ℕ) (views : List View) (i : ℕ) (v w : View) → PendingOk lives words views → get_elem? views i ≡ some v
     → get_or words' 0 0 + (open_lives lives + (v.pending.announced + v.pending.owed)) ≡ get_or words 0 0 + (open_lives lives' + (w.pending.announced + w.pending.owed))
-    → w.pending.owed + total (total settled) lives ≤ v.pending.owed + total (total settled) lives'
-    → w.pending.verdicts + total (total settled) lives ≡ v.pending.verdicts + total (total settled) lives'
+    → w.pending.owed + total (total is_settled) lives ≤ v.pending.owed + total (total is_settled) lives'
+    → w.pending.verdicts + total (total is_settled) lives ≡ v.pending.verdicts + total (total is_settled) lives'
     → w.pending.announced * writer ≤ w.rows.right
     → (open_lives lives ≡ 0 → total (λ u. u.pending.announced) views ≡ 0 → (open_lives lives' ≡ 0) × (w.pending.announced ≤ v.pending.announced))
     → (w.pending.finished ≡ 1 → (open_lives lives' ≡ 0) × (total (λ u. u.pending.announced) (set views i w) ≡ 0))

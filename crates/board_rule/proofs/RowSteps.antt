@@ -11,7 +11,7 @@ use Rattle.state_space.specs.Reach.{IsReached}
 use Rattle.state_space.proofs.Runs.{reached_next}
 use Rattle.board_rule.specs.Layout.{writer, half, lock_word, length_word, low_word, high_word, life_word, index_word, place_of}
 use Rattle.board_rule.specs.Lists.{row_of, StartsWith, Has, total}
-use Rattle.board_rule.specs.Lives.{unsettled, settled}
+use Rattle.board_rule.specs.Lives.{is_unsettled, is_settled}
 use Rattle.board_rule.specs.Views.{Told, OnRows}
 use Rattle.board_rule.specs.Rule.{weight, Behind, SeatOk, Kept}
 use Rattle.board_rule.specs.Changes.{with_entry}
@@ -188,8 +188,8 @@ module _ (t : Told) (good : ℕ → Type 0) (S : Type 0) where
           added = added_grow t.origin o.rows s.views id q x m.0 w k.near o.row.all o.added me (ap (λ (l : List ℕ). m.0.rows.added ++ place_of q (length l) ∷ []) whole);
           life = lives_grow t good o.rows o.lives s.words words' s.views id q x m.0 w k.near o.row.all b.2 o.life me (λ p a h. far (life_word t.limit p a) (omega arith)) (λ p. omega arith) refl;
           pending = pending_turn o.lives (set o.lives q (row_of o.lives q ++ 0 ∷ [])) s.words words' s.views id m.0 w o.pending me
-              (omega (arith, get_or-set_other s.words j 0 y 0 (λ e. omega (arith, e)), lives_more unsettled o.lives q 0 (omega (arith, k.near, o.life.all)), one-announced))
-              (omega (arith, lives_more settled o.lives q 0 (omega (arith, k.near, o.life.all)))) (omega (arith, lives_more settled o.lives q 0 (omega (arith, k.near, o.life.all)))) (omega arith)
+              (omega (arith, get_or-set_other s.words j 0 y 0 (λ e. omega (arith, e)), lives_more is_unsettled o.lives q 0 (omega (arith, k.near, o.life.all)), one-announced))
+              (omega (arith, lives_more is_settled o.lives q 0 (omega (arith, k.near, o.life.all)))) (omega (arith, lives_more is_settled o.lives q 0 (omega (arith, k.near, o.life.all)))) (omega arith)
               (λ _ none-announced. absurd (omega (arith, none-announced, some-announced))) (λ f. absurd (omega (arith, (o.pending.done id m.0 me f).1, some-announced)));
           counts = count_turn t o.rows (set o.rows q r) s.words words' s.views id m.0 w o.counts me (omega (arith, get_or-set_other s.words j 1 y 0 (λ e. omega (arith, e)), more)) (o.counts.over id m.0 me);
           index = index_grow t.limit o.rows s.words words' s.views id m.0 w q x o.wide k.near o.row.all o.index me (λ p a h f. far (index_word t.limit p a) (omega arith)) none-unfiled refl b.0 (ap (λ (l : List ℕ). length l + 1) whole);

@@ -12,11 +12,11 @@ use Rattle.atomic_table.proofs.Lists.{at_set, at_snoc, at_longer, set_here, set_
 use Rattle.state_space.specs.Reach.{IsReached}
 use Rattle.state_space.specs.Counts.{Outnumbers}
 use Rattle.board_rule.specs.Layout.{writer, place_of}
-use Rattle.board_rule.specs.Lists.{row_of, StartsWith, total, is_start, longer, merged, agree}
+use Rattle.board_rule.specs.Lists.{row_of, StartsWith, total, is_start, longer_row, longer_rows, agree}
 use Rattle.board_rule.specs.Lives.{life_of, life_at, Passes}
 use Rattle.board_rule.specs.Views.{Told}
 use Rattle.board_rule.specs.Rule.{EachSeat, weight, times, claims_on, open_lives, SeatOk, Unfiled, Kept}
-use Rattle.board_rule.specs.Changes.{either_one, joined, halved, fresh_seat, spent}
+use Rattle.board_rule.specs.Changes.{either_one, both_views, with_half_share, fresh_seat, spent_view}
 use Rattle.board_rule.specs.declared.view.View.{View}
 use Rattle.board_rule.proofs.Sums.{starts-refl, starts-length, total-set, total-append, seats_turn}
 use Rattle.board_rule.proofs.Locks.{weight_idle}
@@ -54,13 +54,13 @@ beginnings (z ∷ row) (x ∷ a) (y ∷ b) s u h = let hx : z ≡ x = ap (λ (l 
 
 -- what the test says of two rows
 abbrev pub Agrees : List ℕ → List ℕ → Type 0
-Agrees a b = StartsWith (longer a b) a × StartsWith (longer a b) b × (length (longer a b) ≡ max (length a) (length b))
+Agrees a b = StartsWith (longer_row a b) a × StartsWith (longer_row a b) b × (length (longer_row a b) ≡ max (length a) (length b))
 
 pub rows_agree : (a b : List ℕ) → cond (ltb (length a) (length b)) (is_start a b) (is_start b a) ≡ true → Agrees a b
 rows_agree a b e = dite (dec_le (suc (length a)) (length b))
-    (λ h. let lt = lt-ltb (length a) (length b) h in let is : longer a b ≡ b = ap {B = List ℕ} (λ t. cond t b a) lt in
+    (λ h. let lt = lt-ltb (length a) (length b) h in let is : longer_row a b ≡ b = ap {B = List ℕ} (λ t. cond t b a) lt in
     (subst (λ (l : List ℕ). StartsWith l a) (sym is) (start_sound a b (sym (ap {B = Bool} (λ t. cond t (is_start a b) (is_start b a)) lt) ∙ e)), subst (λ (l : List ℕ). StartsWith l b) (sym is) (starts-refl b), omega (arith, ap length is, h)))
-    (λ n. let le = le-ltb (length a) (length b) (omega (arith, n)) in let is : longer a b ≡ a = ap {B = List ℕ} (λ t. cond t b a) le in
+    (λ n. let le = le-ltb (length a) (length b) (omega (arith, n)) in let is : longer_row a b ≡ a = ap {B = List ℕ} (λ t. cond t b a) le in
     (subst (λ (l : List ℕ). StartsWith l a) (sym is) (starts-refl a), subst (λ (l : List ℕ). StartsWith l b) (sym is) (start_sound b a (sym (ap {B = Bool} (λ t. cond t (is_start a b) (is_start b a)) le) ∙ e)), omega (arith, ap length is, n)))
 
 test_one : (a b : List ℕ) (t : Bool) → cond (cond (ltb (length a) (length b)) (is_start a b) (is_start b a)) t false ≡ true → (cond (ltb (length a) (length b)) (is_start a b) (is_start b a) ≡ true) × (t ≡ true)
@@ -71,14 +71,14 @@ test_one a b t e = go (cond (ltb (length a) (length b)) (is_start a b) (is_start
     go false f = absurd (cc f)
 
 -- what two seats have seen that agree, row by row
-pub merged_agrees : (xs bs : List (List ℕ)) (q : ℕ) → length xs ≡ length bs → agree xs bs ≡ true → (row_of (merged xs bs) q ≡ longer (row_of xs q) (row_of bs q)) × Agrees (row_of xs q) (row_of bs q)
+pub merged_agrees : (xs bs : List (List ℕ)) (q : ℕ) → length xs ≡ length bs → agree xs bs ≡ true → (row_of (longer_rows xs bs) q ≡ longer_row (row_of xs q) (row_of bs q)) × Agrees (row_of xs q) (row_of bs q)
 merged_agrees [] [] q l e = (refl, (([], refl), ([], refl), refl))
 merged_agrees [] (b ∷ bs) q l e = absurd (omega (arith, l))
 merged_agrees (a ∷ xs) [] q l e = absurd (omega (arith, l))
 merged_agrees (a ∷ xs) (b ∷ bs) zero l e = (refl, rows_agree a b (test_one a b (agree xs bs) e).0)
 merged_agrees (a ∷ xs) (b ∷ bs) (suc q) l e = merged_agrees xs bs q (omega (arith, l)) (test_one a b (agree xs bs) e).1
 
-pub merged_length : (xs bs : List (List ℕ)) → length (merged xs bs) ≡ length xs
+pub merged_length : (xs bs : List (List ℕ)) → length (longer_rows xs bs) ≡ length xs
 merged_length [] bs = refl
 merged_length (a ∷ xs) [] = refl
 merged_length (a ∷ xs) (b ∷ bs) = ap suc (merged_length xs bs)
@@ -97,13 +97,13 @@ beginnings_agree (r ∷ rows) (a ∷ xs) [] l k s u = refl
 beginnings_agree (r ∷ rows) (a ∷ xs) (b ∷ bs) l k s u = ap {B = Bool} (λ t. cond t (agree xs bs) false) (test_rows r a b (s zero (omega arith)) (u zero (omega arith)))
     ∙ beginnings_agree rows xs bs (omega (arith, l)) (omega (arith, k)) (λ q h. s (suc q) (omega (arith, h))) (λ q h. u (suc q) (omega (arith, h)))
 
-merged_at : (P : List ℕ → Type 0) (xs bs : List (List ℕ)) (q : ℕ) → P (row_of xs q) → P (row_of bs q) → P (row_of (merged xs bs) q)
+merged_at : (P : List ℕ → Type 0) (xs bs : List (List ℕ)) (q : ℕ) → P (row_of xs q) → P (row_of bs q) → P (row_of (longer_rows xs bs) q)
 merged_at P [] bs q x y = x
 merged_at P (a ∷ xs) [] q x y = x
 merged_at P (a ∷ xs) (b ∷ bs) zero x y = elim (ltb (length a) (length b)) as (λ t. P (cond t b a)) [ true ↦ y | false ↦ x ]
 merged_at P (a ∷ xs) (b ∷ bs) (suc q) x y = merged_at P xs bs q x y
 
-merged_whole : (xs bs : List (List ℕ)) (q : ℕ) (row : List ℕ) → row_of xs q ≡ row → length (row_of bs q) ≤ length row → row_of (merged xs bs) q ≡ row
+merged_whole : (xs bs : List (List ℕ)) (q : ℕ) (row : List ℕ) → row_of xs q ≡ row → length (row_of bs q) ≤ length row → row_of (longer_rows xs bs) q ≡ row
 merged_whole [] bs q row e h = e
 merged_whole (a ∷ xs) [] q row e h = e
 merged_whole (a ∷ xs) (b ∷ bs) zero row e h = ap {B = List ℕ} (λ t. cond t b a) (le-ltb (length a) (length b) (omega (arith, h, ap length e))) ∙ e
@@ -123,7 +123,7 @@ unfiled_on views q k i j v w both gone me at-w apart held right unfiled no-right
     (λ nj. (d.0, d.1, set_else (set views i both) j d.0 gone nj ∙ set_else views i d.0 both ni ∙ d.2, d.3, d.4, d.5)))
 
 -- a seat at one of the 13 shards was joined from two that agree
-pub joined_agree : (v w : View) → (joined v w).rows.held < 13 → agree v.rows.seen w.rows.seen ≡ true
+pub joined_agree : (v w : View) → (both_views v w).rows.held < 13 → agree v.rows.seen w.rows.seen ≡ true
 joined_agree v w h = go (agree v.rows.seen w.rows.seen) h
   where
     go : (a : Bool) → cond a v.rows.held 13 < 13 → a ≡ true
@@ -132,14 +132,14 @@ joined_agree v w h = go (agree v.rows.seen w.rows.seen) h
 
 -- the seat that two make, at the shard h
 abbrev joined_at : View → View → ℕ → View
-joined_at v w h = record (joined v w) { rows = record (joined v w).rows { held = h } }
+joined_at v w h = record (both_views v w) { rows = record (both_views v w).rows { held = h } }
 
 module _ (t : Told) (good : ℕ → Type 0) (S : Type 0) where
   abbrev Rule : State S View → Type 0
   Rule = Kept t good
 
-  pub splits : (id : ℕ) (v : View) → Splits Rule id v (halved v) (fresh_seat v)
-  splits id v s o me = let w = halved v in let u = fresh_seat v in let k = o.seats id v me in let left = set s.views id w in let vs = left ++ u ∷ [] in
+  pub splits : (id : ℕ) (v : View) → Splits Rule id v (with_half_share v) (fresh_seat v)
+  splits id v s o me = let w = with_half_share v in let u = fresh_seat v in let k = o.seats id v me in let left = set s.views id w in let vs = left ++ u ∷ [] in
       let each : (F : View → Type 0) → EachSeat F s.views → F w → F u → EachSeat F vs = λ F old one two j x e. ⊎_elim (λ h. seats_turn F s.views id w one (λ a y ne f. old a y f) j x h) (λ h. subst F h two) (at_snoc left u x j e) in
       let same : (g : View → ℕ) → g w ≡ g v → g u ≡ 0 → total g vs ≡ total g s.views = λ g like none. omega (arith, total-append g left (u ∷ []), total-set g s.views id v w me, like, none) in
       let stands = (index_stay t.limit o.rows s.words s.words s.views id v w o.wide o.index me (λ q j h b. refl) (λ q j h b held writes owes. inr (held, writes, owes))).stands in record {
@@ -185,21 +185,21 @@ module _ (t : Told) (good : ℕ → Type 0) (S : Type 0) where
       }
 
   -- what joining needs, at the shard of the seat that stays
-  joins_at : (id other : ℕ) (v w : View) → w.rows.right ≡ 0 → w.lives.claims ≡ 0 → w.pending.announced ≡ 0 → w.pending.owed ≡ 0 → w.count.uncounted ≡ 0 → 0 < v.limit → Joins Rule id v other w (joined_at v w v.rows.held) spent
-  joins_at id other v w no-right no-claim none-announced none-owed none-uncounted wide s o me apart it = let both = joined_at v w v.rows.held in let vs = set (set s.views id both) other spent in
+  joins_at : (id other : ℕ) (v w : View) → w.rows.right ≡ 0 → w.lives.claims ≡ 0 → w.pending.announced ≡ 0 → w.pending.owed ≡ 0 → w.count.uncounted ≡ 0 → 0 < v.limit → Joins Rule id v other w (joined_at v w v.rows.held) spent_view
+  joins_at id other v w no-right no-claim none-announced none-owed none-uncounted wide s o me apart it = let both = joined_at v w v.rows.held in let vs = set (set s.views id both) other spent_view in
       let at-w : get_elem? s.views other ≡ some w = ⊎_elim (λ e. absurd (apart e.0)) (λ e. e.1) (at_set s.views id other both w it) in
       let k = o.seats id v me in let l = o.seats other w at-w in
-      let sum : (g : View → ℕ) → total g vs + (g v + g w) ≡ total g s.views + (g both + g spent) = λ g. omega (arith, total-set g s.views id v both me, total-set g (set s.views id both) other w spent it) in
-      let same : (g : View → ℕ) → g both ≡ g v → g w ≡ 0 → g spent ≡ 0 → total g vs ≡ total g s.views = λ g e f h. omega (arith, sum g, e, f, h) in
-      let each : (F : View → Type 0) → F both → F spent → EachSeat F s.views → EachSeat F vs = λ F b p rest.
-      seats_turn F (set s.views id both) other spent p (λ j x ne e. seats_turn F s.views id both b (λ i y n f. rest i y f) j x e) in record {
+      let sum : (g : View → ℕ) → total g vs + (g v + g w) ≡ total g s.views + (g both + g spent_view) = λ g. omega (arith, total-set g s.views id v both me, total-set g (set s.views id both) other w spent_view it) in
+      let same : (g : View → ℕ) → g both ≡ g v → g w ≡ 0 → g spent_view ≡ 0 → total g vs ≡ total g s.views = λ g e f h. omega (arith, sum g, e, f, h) in
+      let each : (F : View → Type 0) → F both → F spent_view → EachSeat F s.views → EachSeat F vs = λ F b p rest.
+      seats_turn F (set s.views id both) other spent_view p (λ j x ne e. seats_turn F s.views id both b (λ i y n f. rest i y f) j x e) in record {
         rows = o.rows;
         lives = o.lives;
         wide = o.wide;
         sized = o.sized;
         told = each (λ x. 0 < x.limit → x.limit ≡ t.limit) (o.told id v me) (λ h. absurd (omega (arith, h))) o.told;
         rooted = o.rooted;
-        locks = λ q h. (omega (arith, (o.locks q h).0, same (weight q) refl (weight_idle q w no-right) (weight_idle q spent refl)), (o.locks q h).1);
+        locks = λ q h. (omega (arith, (o.locks q h).0, same (weight q) refl (weight_idle q w no-right) (weight_idle q spent_view refl)), (o.locks q h).1);
         row = o.row;
         seats = each (λ x. SeatOk t.limit o.rows s.words x.rows)
             record {
@@ -212,7 +212,7 @@ module _ (t : Told) (good : ℕ → Type 0) (S : Type 0) where
               marked = k.marked;
               marks = k.marks;
             }
-            (seat_free t.limit o.rows s.words spent.rows refl (λ q h. subst (StartsWith (row_of o.rows q)) (sym (nils 13 q)) (row_of o.rows q, refl)) (omega arith) refl refl refl)
+            (seat_free t.limit o.rows s.words spent_view.rows refl (λ q h. subst (StartsWith (row_of o.rows q)) (sym (nils 13 q)) (row_of o.rows q, refl)) (omega arith) refl refl refl)
             o.seats;
         added = record {
           once = λ p. let mine : times p both ≡ times p v + times p w = total-append (λ x. cond (eqb x p) 1 0) v.rows.added w.rows.added in omega (arith, o.added.once p, sum (times p), mine);
@@ -223,7 +223,7 @@ module _ (t : Told) (good : ℕ → Type 0) (S : Type 0) where
           even = o.life.even;
           shown = o.life.shown;
           fresh = o.life.fresh;
-          claimed = λ q j h. let p = place_of q j in let mine : claims_on p both ≡ claims_on p v + claims_on p w = omega (arith, total-append (λ x. cond (eqb x p) 1 0) v.lives.given_up w.lives.given_up, claim_none w p no-claim) in omega (arith, o.life.claimed q j h, sum (claims_on p), mine, claim_none spent p refl);
+          claimed = λ q j h. let p = place_of q j in let mine : claims_on p both ≡ claims_on p v + claims_on p w = omega (arith, total-append (λ x. cond (eqb x p) 1 0) v.lives.given_up w.lives.given_up, claim_none w p no-claim) in omega (arith, o.life.claimed q j h, sum (claims_on p), mine, claim_none spent_view p refl);
           four = o.life.four;
           clean = o.life.clean;
           broken = o.life.broken;
@@ -245,16 +245,16 @@ module _ (t : Told) (good : ℕ → Type 0) (S : Type 0) where
         };
         index = record {
           places = o.index.places;
-          stands = λ q j h b. ⊎_elim (λ st. inl st) (λ d. inr (unfiled_on s.views q j id other v w both spent me at-w apart refl refl refl no-right d)) (o.index.stands q j h b);
+          stands = λ q j h b. ⊎_elim (λ st. inl st) (λ d. inr (unfiled_on s.views q j id other v w both spent_view me at-w apart refl refl refl no-right d)) (o.index.stands q j h b);
         };
         shares = shares_join s.views id other v w both o.shares me at-w it refl refl wide;
       }
 
   -- the seat given up has no right, no claim and no debt
-  pub joins : (id other : ℕ) (v w : View) → w.rows.right ≡ 0 → w.lives.claims ≡ 0 → w.pending.announced ≡ 0 → w.pending.owed ≡ 0 → w.count.uncounted ≡ 0 → 0 < v.limit → Joins Rule id v other w (joined v w) spent
+  pub joins : (id other : ℕ) (v w : View) → w.rows.right ≡ 0 → w.lives.claims ≡ 0 → w.pending.announced ≡ 0 → w.pending.owed ≡ 0 → w.count.uncounted ≡ 0 → 0 < v.limit → Joins Rule id v other w (both_views v w) spent_view
   joins id other v w a b c d e f s o me apart it =
-      let at-w : get_elem? s.views other ≡ some w = ⊎_elim (λ h. absurd (apart h.0)) (λ h. h.1) (at_set s.views id other (joined v w) w it) in let k = o.seats id v me in let l = o.seats other w at-w in
+      let at-w : get_elem? s.views other ≡ some w = ⊎_elim (λ h. absurd (apart h.0)) (λ h. h.1) (at_set s.views id other (both_views v w) w it) in let k = o.seats id v me in let l = o.seats other w at-w in
       let agreed : agree v.rows.seen w.rows.seen ≡ true = beginnings_agree o.rows v.rows.seen w.rows.seen (k.all ∙ sym o.row.all) (l.all ∙ sym o.row.all) (λ q h. k.saw q (omega (arith, h, o.row.all))) (λ q h. l.saw q (omega (arith, h, o.row.all))) in
-      let same : joined_at v w v.rows.held ≡ joined v w = ap (joined_at v w) (sym (ap {B = ℕ} (λ t. cond t v.rows.held 13) agreed)) in
-      subst (λ (b : View). Rule record { words = s.words; homes = s.homes; views = set (set s.views id b) other spent }) same
+      let same : joined_at v w v.rows.held ≡ both_views v w = ap (joined_at v w) (sym (ap {B = ℕ} (λ t. cond t v.rows.held 13) agreed)) in
+      subst (λ (b : View). Rule record { words = s.words; homes = s.homes; views = set (set s.views id b) other spent_view }) same
       (joins_at id other v w a b c d e f s o me apart (subst (λ (b : View). get_elem? (set s.views id b) other ≡ some w) (sym same) it))

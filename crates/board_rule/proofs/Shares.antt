@@ -10,7 +10,7 @@ use lib.ListN.{get_elem?}
 use Rattle.atomic_table.proofs.Lists.{at_snoc}
 use Rattle.board_rule.specs.Lists.{total}
 use Rattle.board_rule.specs.Views.{Share, portion}
-use Rattle.board_rule.specs.Changes.{half_of, both_shares, halved, fresh_seat, spent}
+use Rattle.board_rule.specs.Changes.{half_of, both_shares, with_half_share, fresh_seat, spent_view}
 use Rattle.board_rule.specs.Rule.{EachSeat, times, times_among, claims_on, IsBare, IsWhole, SharesOk}
 use Rattle.board_rule.specs.declared.view.View.{View}
 use Rattle.board_rule.proofs.Sums.{total-set, total-append, terms_le, seats_turn}
@@ -44,8 +44,8 @@ shares_turn views i v w o me same told bare = record {
   bare = seats_turn (λ u. u.limit ≡ 0 → IsBare u) views i w (λ none. let z : v.limit ≡ 0 = sym told ∙ none in bare z (o.bare i v me z)) (λ j u ne e. o.bare j u e);
 }
 
-pub shares_split : (views : List View) (i : ℕ) (v : View) → SharesOk views → get_elem? views i ≡ some v → SharesOk (set views i (halved v) ++ fresh_seat v ∷ [])
-shares_split views i v o me = let w = halved v in let u = fresh_seat v in let vs = set views i w in let n = o.from + 1 in
+pub shares_split : (views : List View) (i : ℕ) (v : View) → SharesOk views → get_elem? views i ≡ some v → SharesOk (set views i (with_half_share v) ++ fresh_seat v ∷ [])
+shares_split views i v o me = let w = with_half_share v in let u = fresh_seat v in let vs = set views i w in let n = o.from + 1 in
     let each : (F : View → Type 0) → EachSeat F views → F w → F u → EachSeat F (vs ++ u ∷ []) = λ F old one two j x e. ⊎_elim (λ h. seats_turn F views i w one (λ a y ne f. old a y f) j x h) (λ h. subst F h two) (at_snoc vs u x j e) in record {
       from = n;
       cut = each (λ x. x.share.cuts ≤ n) (λ j x e. omega (arith, o.cut j x e)) (omega (arith, o.cut i v me)) (omega (arith, o.cut i v me));
@@ -58,17 +58,17 @@ shares_split views i v o me = let w = halved v in let u = fresh_seat v in let vs
     }
 
 pub shares_join : (views : List View) (i j : ℕ) (v w both : View) → SharesOk views → get_elem? views i ≡ some v → get_elem? views j ≡ some w → get_elem? (set views i both) j ≡ some w
-    → both.share ≡ both_shares v.share w.share → both.limit ≡ v.limit → 0 < v.limit → SharesOk (set (set views i both) j spent)
-shares_join views i j v w both o me it still sum told wide = let vs = set (set views i both) j spent in let a = o.cut i v me in let b = o.cut j w it in
+    → both.share ≡ both_shares v.share w.share → both.limit ≡ v.limit → 0 < v.limit → SharesOk (set (set views i both) j spent_view)
+shares_join views i j v w both o me it still sum told wide = let vs = set (set views i both) j spent_view in let a = o.cut i v me in let b = o.cut j w it in
     let top : both.share.cuts ≡ max v.share.cuts w.share.cuts = ap (λ (s : Share). s.cuts) sum in
     let at : (k : ℕ) → o.from ≤ k → portion both.share k ≡ portion v.share k + portion w.share k = λ k h. ap (λ (s : Share). portion s k) sum ∙ portion_both v.share w.share k (omega (arith, a, h)) (omega (arith, b, h)) in
     let parts : both.share.parts ≡ portion v.share (max v.share.cuts w.share.cuts) + portion w.share (max v.share.cuts w.share.cuts) = ap (λ (s : Share). s.parts) sum in
-    let each : (F : View → Type 0) → F both → F spent → EachSeat F views → EachSeat F vs = λ F b p rest.
-    seats_turn F (set views i both) j spent p (λ a x ne e. seats_turn F views i both b (λ c y n f. rest c y f) a x e) in record {
+    let each : (F : View → Type 0) → F both → F spent_view → EachSeat F views → EachSeat F vs = λ F b p rest.
+    seats_turn F (set views i both) j spent_view p (λ a x ne e. seats_turn F views i both b (λ c y n f. rest c y f) a x e) in record {
       from = o.from;
       cut = each (λ x. x.share.cuts ≤ o.from) (omega (arith, top, a, b)) (omega arith) o.cut;
       whole = λ k h. let g : View → ℕ = λ x. portion x.share k in
-          (let z : total g vs ≡ total g views = omega (arith, total-set g views i v both me, total-set g (set views i both) j w spent still, at k h) in z) ∙ o.whole k h;
+          (let z : total g vs ≡ total g views = omega (arith, total-set g views i v both me, total-set g (set views i both) j w spent_view still, at k h) in z) ∙ o.whole k h;
       positive = each (λ x. 0 < x.limit → 0 < x.share.parts) (λ _. omega (arith, parts, portion_positive v.share (max v.share.cuts w.share.cuts) (o.positive i v me wide))) (λ none. absurd (omega (arith, none))) o.positive;
       bare = each (λ x. x.limit ≡ 0 → IsBare x) (λ none. absurd (omega (arith, none, told, wide)))
           (λ none. record { added = refl; claims = refl; given_up = refl; announced = refl; owed = refl; verdicts = refl; uncounted = refl }) o.bare;

@@ -1,7 +1,7 @@
 -- What steps make of a view.
 use Rattle.std.specs.Prelude.{ℕ, ◌+◌, max, List, [], ◌∷◌, ◌++◌, length, slice_set, replicate, cond, ◌==◌, ◌/◌, ◌%◌}
 use Rattle.board_rule.specs.Layout.{half, length_word, low_word, high_word, index_word, size_for, place_of, slot}
-use Rattle.board_rule.specs.Lists.{row_of, merged, agree}
+use Rattle.board_rule.specs.Lists.{row_of, longer_rows, agree}
 use Rattle.board_rule.specs.declared.life.Life.{Life}
 use Rattle.board_rule.specs.Views.{Share, portion}
 use Rattle.board_rule.specs.declared.view.View.{View}
@@ -42,8 +42,8 @@ abbrev pub without_claim : View → View
 without_claim v = record v { lives = record v.lives { claims = 0 } }
 
 -- the claim is given up, where there is one, and its entry stays claimed
-abbrev pub giving_up : View → View
-giving_up v = record v { lives = record v.lives { claims = 0; given_up = v.lives.given_up ++ replicate v.lives.claims v.lives.place } }
+abbrev pub with_given_up : View → View
+with_given_up v = record v { lives = record v.lives { claims = 0; given_up = v.lives.given_up ++ replicate v.lives.claims v.lives.place } }
 
 -- a board with the start as its one entry
 abbrev pub opening_rows : ℕ → List (List ℕ)
@@ -73,8 +73,8 @@ abbrev pub both_shares : Share → Share → Share
 both_shares s u = record { parts = portion s (max s.cuts u.cuts) + portion u (max s.cuts u.cuts); cuts = max s.cuts u.cuts }
 
 -- a seat that another was split off
-abbrev pub halved : View → View
-halved v = record v { share = half_of v.share }
+abbrev pub with_half_share : View → View
+with_half_share v = record v { share = half_of v.share }
 
 -- a new seat has seen and knows the same, and has half of the share, no right, no claim and no debt
 abbrev pub fresh_seat : View → View
@@ -87,8 +87,8 @@ fresh_seat v = record v {
 }
 
 -- what a seat that was given up leaves. It is one constant, so it knows no limit
-abbrev pub spent : View
-spent = record {
+abbrev pub spent_view : View
+spent_view = record {
   limit = 0;
   rows = record { seen = replicate 13 []; held = 0; right = 0; low = []; high = []; marks = []; unfiled = 0; added = [] };
   lives = record { claims = 0; place = 0; given_up = []; learned = [] };
@@ -101,9 +101,9 @@ abbrev pub either_one : ℕ → ℕ → ℕ
 either_one a b = cond (a == 1) a b
 
 -- what two seats know together. Where what they have seen disagrees the seat would be at a shard 13, which the rule excludes
-abbrev pub joined : View → View → View
-joined v w = record v {
-  rows = record v.rows { seen = merged v.rows.seen w.rows.seen; held = cond (agree v.rows.seen w.rows.seen) v.rows.held 13; added = v.rows.added ++ w.rows.added };
+abbrev pub both_views : View → View → View
+both_views v w = record v {
+  rows = record v.rows { seen = longer_rows v.rows.seen w.rows.seen; held = cond (agree v.rows.seen w.rows.seen) v.rows.held 13; added = v.rows.added ++ w.rows.added };
   lives = record v.lives { given_up = v.lives.given_up ++ w.lives.given_up; learned = v.lives.learned ++ w.lives.learned };
   pending = record v.pending { verdicts = v.pending.verdicts + w.pending.verdicts; finished = either_one v.pending.finished w.pending.finished };
   count = record v.count { over = either_one v.count.over w.count.over };
@@ -111,5 +111,5 @@ joined v w = record v {
 }
 
 -- two seats that cannot be side by side
-abbrev pub impossible : View → View → View
-impossible v w = record v { rows = record v.rows { held = 13 } }
+abbrev pub impossible_view : View → View → View
+impossible_view v w = record v { rows = record v.rows { held = 13 } }

@@ -18,9 +18,9 @@ total f [] = 0
 total f (x ∷ xs) = f x + total f xs
 
 -- f 0, f 1 and so on, n of them
-abbrev pub listed : {A : Type 0} → (ℕ → A) → ℕ → List A
-listed f zero = []
-listed f (suc n) = f 0 ∷ listed (λ k. f (suc k)) n
+abbrev pub first_values : {A : Type 0} → (ℕ → A) → ℕ → List A
+first_values f zero = []
+first_values f (suc n) = f 0 ∷ first_values (λ k. f (suc k)) n
 
 -- the first list is a beginning of the second
 abbrev pub is_start : List ℕ → List ℕ → Bool
@@ -29,13 +29,13 @@ is_start (a ∷ xs) [] = false
 is_start (a ∷ xs) (b ∷ bs) = cond (a == b) (is_start xs bs) false
 
 -- the longer list
-abbrev pub longer : List ℕ → List ℕ → List ℕ
-longer a b = cond (nat_lt (length a) (length b)) b a
+abbrev pub longer_row : List ℕ → List ℕ → List ℕ
+longer_row a b = cond (nat_lt (length a) (length b)) b a
 
-abbrev pub merged : List (List ℕ) → List (List ℕ) → List (List ℕ)
-merged [] bs = []
-merged (a ∷ xs) [] = a ∷ xs
-merged (a ∷ xs) (b ∷ bs) = longer a b ∷ merged xs bs
+abbrev pub longer_rows : List (List ℕ) → List (List ℕ) → List (List ℕ)
+longer_rows [] bs = []
+longer_rows (a ∷ xs) [] = a ∷ xs
+longer_rows (a ∷ xs) (b ∷ bs) = longer_row a b ∷ longer_rows xs bs
 
 -- of the two rows of each shard one is a beginning of the other
 abbrev pub agree : List (List ℕ) → List (List ℕ) → Bool

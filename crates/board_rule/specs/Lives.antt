@@ -15,11 +15,11 @@ abbrev pub is_claimed : ℕ → ℕ
 is_claimed n = cond (n == 1) 1 0
 
 -- 1 for a life that is waiting or claimed, else 0
-abbrev pub unsettled : ℕ → ℕ
-unsettled n = cond (nat_lt n 2) 1 0
+abbrev pub is_unsettled : ℕ → ℕ
+is_unsettled n = cond (nat_lt n 2) 1 0
 
-abbrev pub settled : ℕ → ℕ
-settled n = cond (nat_lt n 2) 0 1
+abbrev pub is_settled : ℕ → ℕ
+is_settled n = cond (nat_lt n 2) 0 1
 
 -- an entry with the first life can come to have the second: no life becomes waiting again, and no settled one changes
 abbrev pub Passes : Life → Life → Type 0

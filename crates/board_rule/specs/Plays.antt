@@ -6,7 +6,7 @@ use Rattle.board_rule.specs.Layout.{writer, half, lock_word, length_word, low_wo
 use Rattle.board_rule.specs.Lists.{row_of, StartsWith}
 use Rattle.board_rule.specs.Lives.{life_of}
 use Rattle.board_rule.specs.Rule.{Complete}
-use Rattle.board_rule.specs.Changes.{with_seen, with_right, without_right, with_entry, with_learned, with_claim, without_claim, giving_up}
+use Rattle.board_rule.specs.Changes.{with_seen, with_right, without_right, with_entry, with_learned, with_claim, without_claim, with_given_up}
 use Rattle.board_rule.specs.declared.life.Life.TheVariants.{Claimed}
 use Rattle.board_rule.specs.declared.view.View.{View}
 
@@ -109,8 +109,8 @@ module _ {S : Type 0} where
   counted st m r n = (n.1 ≡ m.1) × (r < m.0.limit → n.0 ≡ record m.0 { count = record m.0.count { uncounted = 0 } }) × (m.0.limit ≤ r → n.0 ≡ record m.0 { count = record m.0.count { uncounted = 0; over = 1 } })
 
   abbrev pub stopped : Step S → Me S View → ℕ → Me S View → Type 0
-  stopped st m r n = n ≡ (giving_up m.0, m.1)
+  stopped st m r n = n ≡ (with_given_up m.0, m.1)
 
   -- the stop of a seat that has found a full row
   abbrev pub overflowed : Step S → Me S View → ℕ → Me S View → Type 0
-  overflowed st m r n = n ≡ (record (giving_up m.0) { count = record m.0.count { over = 1 } }, m.1)
+  overflowed st m r n = n ≡ (record (with_given_up m.0) { count = record m.0.count { over = 1 } }, m.1)

@@ -1,13 +1,13 @@
 -- The rows and the lives as the words have them.
 use Rattle.std.specs.Prelude.{ℕ, ◌+◌, ◌*◌, List, slice_index}
 use Rattle.board_rule.specs.Layout.{half, length_word, low_word, high_word, life_word}
-use Rattle.board_rule.specs.Lists.{listed}
+use Rattle.board_rule.specs.Lists.{first_values}
 
 abbrev pub entry_of : ℕ → List ℕ → ℕ → ℕ → ℕ
 entry_of limit words q k = slice_index words (low_word q k) + slice_index words (high_word limit q k) * half
 
 abbrev pub rows_of : ℕ → List ℕ → List (List ℕ)
-rows_of limit words = listed (λ q. listed (entry_of limit words q) (slice_index words (length_word q))) 13
+rows_of limit words = first_values (λ q. first_values (entry_of limit words q) (slice_index words (length_word q))) 13
 
 abbrev pub lives_of : ℕ → List ℕ → List (List ℕ)
-lives_of limit words = listed (λ q. listed (λ k. slice_index words (life_word limit q k)) (slice_index words (length_word q))) 13
+lives_of limit words = first_values (λ q. first_values (λ k. slice_index words (life_word limit q k)) (slice_index words (length_word q))) 13

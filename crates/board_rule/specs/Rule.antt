@@ -8,7 +8,7 @@ use Rattle.state_space.specs.Reach.{IsReached}
 use Rattle.state_space.specs.Counts.{Outnumbers}
 use Rattle.board_rule.specs.Layout.{writer, half, lock_word, length_word, low_word, high_word, life_word, index_word, size_for, place_of, slot, window}
 use Rattle.board_rule.specs.Lists.{row_of, StartsWith, Has, total}
-use Rattle.board_rule.specs.Lives.{life_of, life_at, is_claimed, unsettled, settled, Passes}
+use Rattle.board_rule.specs.Lives.{life_of, life_at, is_claimed, is_unsettled, is_settled, Passes}
 use Rattle.board_rule.specs.Views.{Told, OnRows, Share, portion}
 use Rattle.board_rule.specs.declared.view.View.{View}
 
@@ -59,8 +59,8 @@ abbrev pub times : ℕ → View → ℕ
 times p v = times_among p v.rows.added
 
 -- 1 for a place that is published, else 0
-abbrev pub published : List (List ℕ) → ℕ → ℕ
-published rows p = cond (nat_lt (p / 13) (length (row_of rows (p % 13)))) 1 0
+abbrev pub is_published : List (List ℕ) → ℕ → ℕ
+is_published rows p = cond (nat_lt (p / 13) (length (row_of rows (p % 13)))) 1 0
 
 -- the place of the start
 abbrev pub start_place : ℕ → ℕ
@@ -68,7 +68,7 @@ start_place origin = place_of (origin % 13) 0
 
 -- Authors: each place that is published but the start's was published by one seat, once, and no other place was. So there is one entry more than there are such places.
 pub record AddedOk (origin : ℕ) (rows : List (List ℕ)) (views : List View) : Type 0 where
-  pub once : (p : ℕ) → total (times p) views + cond (p == start_place origin) 1 0 ≡ published rows p
+  pub once : (p : ℕ) → total (times p) views + cond (p == start_place origin) 1 0 ≡ is_published rows p
   pub many : total length rows ≡ total (λ v. length v.rows.added) views + 1
 
 -- what a seat has of the claim on the place p
@@ -94,13 +94,13 @@ pub record LivesOk (t : Told) (good : ℕ → Type 0) (rows lives : List (List �
 
 -- how many entries are not settled
 abbrev pub open_lives : List (List ℕ) → ℕ
-open_lives lives = total (total unsettled) lives
+open_lives lives = total (total is_unsettled) lives
 
 -- Pending: the entries that are not settled, the additions for words not published yet, and the subtractions owed. The seats have settled the entries that are settled. Where a seat knows that it was 0, nothing is unsettled and nothing is on its way.
 pub record PendingOk (lives : List (List ℕ)) (words : List ℕ) (views : List View) : Type 0 where
   pub sum : slice_index words 0 ≡ open_lives lives + total (λ v. v.pending.announced) views + total (λ v. v.pending.owed) views
-  pub few : total (λ v. v.pending.owed) views ≤ total (total settled) lives
-  pub verdicts : total (λ v. v.pending.verdicts) views ≡ total (total settled) lives
+  pub few : total (λ v. v.pending.owed) views ≤ total (total is_settled) lives
+  pub verdicts : total (λ v. v.pending.verdicts) views ≡ total (total is_settled) lives
   pub by_writers : EachSeat (λ v. v.pending.announced * writer ≤ v.rows.right) views
   pub done : EachSeat (λ v. v.pending.finished ≡ 1 → (open_lives lives ≡ 0) × (total (λ u. u.pending.announced) views ≡ 0)) views
 

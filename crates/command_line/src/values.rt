@@ -5,8 +5,8 @@ ghost use Rattle.command_line.specs.Ranges.{IsLimitUnder};
 
 use crate::faults::WordFault;
 use clap::ArgMatches;
+use crash_model::modules::Module;
 use crash_model::settings::{Explorer, ReportBy};
-use crash_model::steps::Module;
 
 /// The most sets that the board holds.
 const MAX_BOARD: usize = 32_768;

@@ -9,14 +9,14 @@ use Rattle.patch_sets.specs.Closed.{IsClosed}
 use Rattle.patch_sets.specs.Ends.{IsDifference, IsWithout}
 use Rattle.patch_sets.proofs.Bits.{in_with_same, in_with_old, in_or_left, in_or_right, none_in_empty}
 use Rattle.patch_sets.proofs.Ids.{from_has}
-use Rattle.crash_model.specs.Disk.{Disk, IsDisk, block_of, put}
+use Rattle.crash_model.specs.Disk.{Disk, IsDisk, block_of, with_bytes}
 use Rattle.crash_model.specs.Patches.{deps_of, places_of, image_from, image_of}
-use Rattle.crash_model.specs.Replay.{replayed}
+use Rattle.crash_model.specs.Replay.{image_after_replay}
 use Rattle.crash_model.specs.declared.patches.Patch.{Patch}
 use Rattle.patch_graph.specs.Graph.{IsAt, IsPatch}
 use Rattle.journal_replay.specs.Changed.{DifferAtMost}
-use Rattle.journal_replay.proofs.Blocks.{IsShaped, shaped-inside, shaped-put, length-block, block-put_other, block-put_same, overwrite-all, joined_blocks}
-use Rattle.crash_image.specs.Moves.{redone, undone_from, undone_of, AreOver, Applied, HasBlocks, IsReplayed}
+use Rattle.journal_replay.proofs.Blocks.{IsShaped, shaped-inside, shaped-with_bytes, length-block, block-put_other, block-put_same, overwrite-all, joined_blocks}
+use Rattle.crash_image.specs.Moves.{with_patch, without_patches_from, without_set, AreOver, Applied, HasBlocks, IsReplayed}
 use Rattle.crash_image.proofs.PutSteps.{image-empty}
 use Rattle.crash_image.proofs.Moved.{SameShape, disk-same, image-shape, moved_image}
 
@@ -69,11 +69,11 @@ pub record IsKept (n jl x : ℕ) (start d : Disk) : Type 0 where
   pub same : block_of d x ≡ block_of start x
 
 module _ (n jl x blocks : ℕ) (within : x < n) (out : Has blocks x → ⊥) where
-  put-kept : (start d : Disk) (b off : ℕ) (new : List ℕ) (taken : Bool) → off + length new ≤ 128 → b < n → (taken ≡ true → Has blocks b)
-      → IsKept n jl x start d → IsKept n jl x start (cond taken (put d b off new) d)
-  put-kept start d b off new false inside below changed kept = kept
-  put-kept start d b off new true inside below changed kept = record {
-    shaped = shaped-put n jl d b off new kept.shaped inside below;
+  with_bytes-kept : (start d : Disk) (b off : ℕ) (new : List ℕ) (taken : Bool) → off + length new ≤ 128 → b < n → (taken ≡ true → Has blocks b)
+      → IsKept n jl x start d → IsKept n jl x start (cond taken (with_bytes d b off new) d)
+  with_bytes-kept start d b off new false inside below changed kept = kept
+  with_bytes-kept start d b off new true inside below changed kept = record {
+    shaped = shaped-with_bytes n jl d b off new kept.shaped inside below;
     same = block-put_other d b off new x (λ e. out (subst (λ (k : ℕ). Has blocks k) (sym e) (changed refl))) inside
         (shaped-inside n jl d b kept.shaped below) (shaped-inside n jl d x kept.shaped within) ∙ kept.same;
   }
@@ -82,26 +82,26 @@ module _ (n jl x blocks : ℕ) (within : x < n) (out : Has blocks x → ⊥) whe
       → IsKept n jl x start d → IsKept n jl x start (image_from id d (places_of ps) set)
   image-kept id start d [] set each known has_all kept = kept
   image-kept id start d (p ∷ ps) set each known has_all kept =
-      image-kept (id + 1) start (cond (has set id) (redone p d) d) ps set (All-tail IsPatch p ps each) (All-tail (λ q. q.block < n) p ps known) has_all.1
-      (put-kept start d p.block p.offset p.new.items (has set id) (All-head IsPatch p ps each).inside (All-head (λ q. q.block < n) p ps known) has_all.0 kept)
+      image-kept (id + 1) start (cond (has set id) (with_patch p d) d) ps set (All-tail IsPatch p ps each) (All-tail (λ q. q.block < n) p ps known) has_all.1
+      (with_bytes-kept start d p.block p.offset p.new.items (has set id) (All-head IsPatch p ps each).inside (All-head (λ q. q.block < n) p ps known) has_all.0 kept)
 
-  undone-kept : (id : ℕ) (start d : Disk) (ps : List Patch) (set : ℕ) → All IsPatch ps → All (λ p. p.block < n) ps → RestHas id ps set blocks
-      → IsKept n jl x start d → IsKept n jl x start (undone_from id d ps set)
-  undone-kept id start d [] set each known has_all kept = kept
-  undone-kept id start d (p ∷ ps) set each known has_all kept =
+  without_patches-kept : (id : ℕ) (start d : Disk) (ps : List Patch) (set : ℕ) → All IsPatch ps → All (λ p. p.block < n) ps → RestHas id ps set blocks
+      → IsKept n jl x start d → IsKept n jl x start (without_patches_from id d ps set)
+  without_patches-kept id start d [] set each known has_all kept = kept
+  without_patches-kept id start d (p ∷ ps) set each known has_all kept =
       let here = All-head IsPatch p ps each in
-      put-kept start (undone_from (id + 1) d ps set) p.block p.offset p.undo.items (has set id) (omega (arith, here.inside, here.undone))
+      with_bytes-kept start (without_patches_from (id + 1) d ps set) p.block p.offset p.undo.items (has set id) (omega (arith, here.inside, here.undone))
       (All-head (λ q. q.block < n) p ps known) has_all.0
-      (undone-kept (id + 1) start d ps set (All-tail IsPatch p ps each) (All-tail (λ q. q.block < n) p ps known) has_all.1 kept)
+      (without_patches-kept (id + 1) start d ps set (All-tail IsPatch p ps each) (All-tail (λ q. q.block < n) p ps known) has_all.1 kept)
 
-shaped-choice : (n jl : ℕ) (d : Disk) (p : Patch) (taken : Bool) → IsPatch p → p.block < n → IsShaped n jl d → IsShaped n jl (cond taken (redone p d) d)
-shaped-choice n jl d p true whole below s = shaped-put n jl d p.block p.offset p.new.items s whole.inside below
+shaped-choice : (n jl : ℕ) (d : Disk) (p : Patch) (taken : Bool) → IsPatch p → p.block < n → IsShaped n jl d → IsShaped n jl (cond taken (with_patch p d) d)
+shaped-choice n jl d p true whole below s = shaped-with_bytes n jl d p.block p.offset p.new.items s whole.inside below
 shaped-choice n jl d p false whole below s = s
 
 shaped-image : (n jl id : ℕ) (d : Disk) (ps : List Patch) (set : ℕ) → All IsPatch ps → All (λ p. p.block < n) ps → IsShaped n jl d → IsShaped n jl (image_from id d (places_of ps) set)
 shaped-image n jl id d [] set each known s = s
 shaped-image n jl id d (p ∷ ps) set each known s =
-    shaped-image n jl (id + 1) (cond (has set id) (redone p d) d) ps set (All-tail IsPatch p ps each) (All-tail (λ q. q.block < n) p ps known)
+    shaped-image n jl (id + 1) (cond (has set id) (with_patch p d) d) ps set (All-tail IsPatch p ps each) (All-tail (λ q. q.block < n) p ps known)
     (shaped-choice n jl d p (has set id) (All-head IsPatch p ps each) (All-head (λ q. q.block < n) p ps known) s)
 
 -- ---- from set to set
@@ -117,9 +117,9 @@ sets_differ base ps a b back on first blocks over from to less more undone_block
       same = λ x below out.
           let within : x < base.blocks = subst (λ (n : ℕ). x < n) same.blocks below in
           let whole : IsShaped base.blocks base.journal start = shaped-image base.blocks base.journal 0 base ps a over.graph.each over.fits (disk-shape base over.disk) in
-          let taken_back = undone-kept base.blocks base.journal x blocks within out 0 start start ps back over.graph.each over.fits
+          let taken_back = without_patches-kept base.blocks base.journal x blocks within out 0 start start ps back over.graph.each over.fits
           (has_rest ps back blocks (has_more ps back first blocks sub undone_blocks)) record { shaped = whole; same = refl } in
-          let put_on = image-kept base.blocks base.journal x blocks within out 0 start (undone_of start ps back) ps on over.graph.each over.fits
+          let put_on = image-kept base.blocks base.journal x blocks within out 0 start (without_set start ps back) ps on over.graph.each over.fits
           (has_rest ps on blocks redone_blocks) taken_back in
           ap (λ (d : Disk). block_of d x) (sym (moved_image base ps over a b back on from to less more)) ∙ put_on.same;
     }
@@ -180,14 +180,14 @@ pub record IsCopying (from into : Disk) (left : ℕ) : Type 0 where
   pub journal : into.journal ≡ from.journal
   pub others : DifferAtMost left from into
 
-pub copied_one : (from into next : Disk) (left rest k : ℕ) → IsDisk from → IsWithout left k rest → k < from.blocks → next ≡ put into k 0 (block_of from k)
+pub copied_one : (from into next : Disk) (left rest k : ℕ) → IsDisk from → IsWithout left k rest → k < from.blocks → next ≡ with_bytes into k 0 (block_of from k)
     → IsCopying from into left → IsCopying from next rest
 copied_one from into next left rest k i without within is c =
     let whole : IsShaped from.blocks from.journal from = disk-shape from i in
     let s : IsShaped into.blocks into.journal into = disk-shape into c.disk in
     let long : length (block_of from k) ≡ 128 = length-block from k (shaped-inside from.blocks from.journal from k whole within) in
     let below : k < into.blocks = omega (arith, c.blocks) in
-    let put_shape : IsShaped into.blocks into.journal (put into k 0 (block_of from k)) = shaped-put into.blocks into.journal into k 0 (block_of from k) s (omega arith) below in
+    let put_shape : IsShaped into.blocks into.journal (with_bytes into k 0 (block_of from k)) = shaped-with_bytes into.blocks into.journal into k 0 (block_of from k) s (omega arith) below in
     let next_shape : IsShaped into.blocks into.journal next = subst (λ (d : Disk). IsShaped into.blocks into.journal d) (sym is) put_shape in
     record {
       disk = shape-disk into next c.disk next_shape;
@@ -195,7 +195,7 @@ copied_one from into next left rest k i without within is c =
       journal = next_shape.journal ∙ c.journal;
       others = record {
         same = λ x less out. ap (λ (d : Disk). block_of d x) is ∙ elim (cases_eq x k) [
-          | inl same ↦ subst (λ (y : ℕ). block_of (put into k 0 (block_of from k)) y ≡ block_of from y) (sym same)
+          | inl same ↦ subst (λ (y : ℕ). block_of (with_bytes into k 0 (block_of from k)) y ≡ block_of from y) (sym same)
               (block-put_same into k 0 (block_of from k) (omega arith) (shaped-inside into.blocks into.journal into k s below)
               ∙ overwrite-all (block_of into k) (block_of from k) (omega (arith, length-block into k (shaped-inside into.blocks into.journal into k s below))))
           | inr other ↦ block-put_other into k 0 (block_of from k) x other (omega arith) (shaped-inside into.blocks into.journal into k s below)
@@ -225,11 +225,11 @@ copied_all from into left i none c =
 
 -- the image before the first move
 pub replayed_first : (m : Applied) (base copy after : Disk) (ps : List Patch) (stale : ℕ) → m ≡ record { base = base; patches = ps; set = 0 } → copy ≡ base
-    → after ≡ replayed copy → DifferAtMost stale copy after → IsReplayed m after stale
+    → after ≡ image_after_replay copy → DifferAtMost stale copy after → IsReplayed m after stale
 replayed_first m base copy after ps stale is same here differ =
     let empty : copy ≡ image_of base ps 0 = same ∙ sym (image-empty base ps) in
     subst (λ (a : Applied). IsReplayed a after stale) (sym is) record {
-      is = here ∙ ap (λ (d : Disk). replayed d) empty;
+      is = here ∙ ap (λ (d : Disk). image_after_replay d) empty;
       differ = subst (λ (d : Disk). DifferAtMost stale d after) empty differ;
     }
 

@@ -7,7 +7,7 @@ use Rattle.crash_model.specs.Disk.{Disk, overwrite}
 use Rattle.crash_model.specs.Patches.{places_of, image_from, AreUndo}
 use Rattle.crash_model.specs.declared.patches.Patch.{Patch}
 use Rattle.crash_model.proofs.Bytes.{length-overwrite, overwrite-inside, overwrite-below, overwrite-above}
-use Rattle.crash_image.specs.Moves.{redone, undone, undone_from}
+use Rattle.crash_image.specs.Moves.{with_patch, without_patch, without_patches_from}
 use Rattle.crash_image.proofs.Cells.{bool_is, value_from, undo_from, IsLess, HasFront, moved}
 
 -- where a patch begins in the list of bytes
@@ -61,9 +61,9 @@ pub record HasByte (n i v : ℕ) (d : Disk) : Type 0 where
   pub long : length d.bytes ≡ n
   pub byte : get_or d.bytes i 0 ≡ v
 
-redone-byte : (n : ℕ) (b : Bool) (d : Disk) (p : Patch) (i v : ℕ) → Fits n p → HasByte n i v d → HasByte n i (cond b (unwrap_or (new_cell i p) v) v) (cond b (redone p d) d)
-redone-byte n false d p i v f has_byte = has_byte
-redone-byte n true d p i v f has_byte =
+with_patch-byte : (n : ℕ) (b : Bool) (d : Disk) (p : Patch) (i v : ℕ) → Fits n p → HasByte n i v d → HasByte n i (cond b (unwrap_or (new_cell i p) v) v) (cond b (with_patch p d) d)
+with_patch-byte n false d p i v f has_byte = has_byte
+with_patch-byte n true d p i v f has_byte =
     let ends : start_of p + length p.new.items ≤ n = f.fits in
     let long : length d.bytes ≡ n = has_byte.long in
     record {
@@ -95,10 +95,10 @@ undo-cell xs at i new old fits is v =
 pub record IsUndo (full : Disk) (p : Patch) : Type 0 where
   pub is : p.undo.items ≡ slice_range full.bytes (start_of p) (start_of p + length p.new.items)
 
-undone-byte : (n : ℕ) (b : Bool) (d full : Disk) (p : Patch) (i v w : ℕ) → Fits n p → IsUndo full p → HasByte n i w full → HasByte n i v d
-    → HasByte n i (cond (b && is_some (new_cell i p)) w v) (cond b (undone p d) d)
-undone-byte n false d full p i v w f undo was has_byte = has_byte
-undone-byte n true d full p i v w f undo was has_byte =
+without_patches-byte : (n : ℕ) (b : Bool) (d full : Disk) (p : Patch) (i v w : ℕ) → Fits n p → IsUndo full p → HasByte n i w full → HasByte n i v d
+    → HasByte n i (cond (b && is_some (new_cell i p)) w v) (cond b (without_patch p d) d)
+without_patches-byte n false d full p i v w f undo was has_byte = has_byte
+without_patches-byte n true d full p i v w f undo was has_byte =
     let ends : start_of p + length p.new.items ≤ n = f.fits in
     let whole : length full.bytes ≡ n = was.long in
     let here : start_of p + length p.new.items ≤ length full.bytes = omega arith in
@@ -118,25 +118,25 @@ undone-byte n true d full p i v w f undo was has_byte =
 pub image-byte : (n id : ℕ) (d : Disk) (ps : List Patch) (set i v : ℕ) → AllFit n ps → HasByte n i v d → HasByte n i (value_from id v (cells i ps) set) (image_from id d (places_of ps) set)
 image-byte n id d [] set i v f has_byte = has_byte
 image-byte n id d (p ∷ ps) set i v f has_byte =
-    image-byte n (id + 1) (cond (has set id) (redone p d) d) ps set i (cond (has set id) (unwrap_or (new_cell i p) v) v) f.1 (redone-byte n (has set id) d p i v f.0 has_byte)
+    image-byte n (id + 1) (cond (has set id) (with_patch p d) d) ps set i (cond (has set id) (unwrap_or (new_cell i p) v) v) f.1 (with_patch-byte n (has set id) d p i v f.0 has_byte)
 
-pub undone-bytes : (n id : ℕ) (d full : Disk) (ps : List Patch) (set i v w : ℕ) → AllFit n ps → AreUndo full ps → HasByte n i w full → HasByte n i v d
-    → HasByte n i (undo_from id w v (cells i ps) set) (undone_from id d ps set)
-undone-bytes n id d full [] set i v w f undo was has_byte = has_byte
-undone-bytes n id d full (p ∷ ps) set i v w f undo was has_byte =
-    undone-byte n (has set id) (undone_from (id + 1) d ps set) full p i _ w f.0 record { is = undo.0 } was
-    (undone-bytes n (id + 1) d (redone p full) ps set i v (unwrap_or (new_cell i p) w) f.1 undo.1 (redone-byte n true full p i w f.0 was) has_byte)
+pub without_patches-bytes : (n id : ℕ) (d full : Disk) (ps : List Patch) (set i v w : ℕ) → AllFit n ps → AreUndo full ps → HasByte n i w full → HasByte n i v d
+    → HasByte n i (undo_from id w v (cells i ps) set) (without_patches_from id d ps set)
+without_patches-bytes n id d full [] set i v w f undo was has_byte = has_byte
+without_patches-bytes n id d full (p ∷ ps) set i v w f undo was has_byte =
+    without_patches-byte n (has set id) (without_patches_from (id + 1) d ps set) full p i _ w f.0 record { is = undo.0 } was
+    (without_patches-bytes n (id + 1) d (with_patch p full) ps set i v (unwrap_or (new_cell i p) w) f.1 undo.1 (with_patch-byte n true full p i w f.0 was) has_byte)
 
 -- ---- from set to set
 
 -- undo of a without b, then redo of b without a, gives each byte of the image of b
 pub moved-byte : (n : ℕ) (base : Disk) (ps : List Patch) (a b back on i : ℕ) → length base.bytes ≡ n → AllFit n ps → AreUndo base ps
     → IsLess a b back → IsLess b a on → HasFront 0 (cells i ps) a → HasFront 0 (cells i ps) b
-    → (v : ℕ) × HasByte n i v (image_from 0 (undone_from 0 (image_from 0 base (places_of ps) a) ps back) (places_of ps) on) × HasByte n i v (image_from 0 base (places_of ps) b)
+    → (v : ℕ) × HasByte n i v (image_from 0 (without_patches_from 0 (image_from 0 base (places_of ps) a) ps back) (places_of ps) on) × HasByte n i v (image_from 0 base (places_of ps) b)
 moved-byte n base ps a b back on i long f undo less more p q =
     let v : ℕ = get_or base.bytes i 0 in
     let cs : List (Option ℕ) = cells i ps in
     let start : HasByte n i v base = record { long = long; byte = refl } in
-    let went_back = undone-bytes n 0 (image_from 0 base (places_of ps) a) base ps back i (value_from 0 v cs a) v f undo start (image-byte n 0 base ps a i v f start) in
-    let went_on = image-byte n 0 (undone_from 0 (image_from 0 base (places_of ps) a) ps back) ps on i (undo_from 0 v (value_from 0 v cs a) cs back) f went_back in
+    let went_back = without_patches-bytes n 0 (image_from 0 base (places_of ps) a) base ps back i (value_from 0 v cs a) v f undo start (image-byte n 0 base ps a i v f start) in
+    let went_on = image-byte n 0 (without_patches_from 0 (image_from 0 base (places_of ps) a) ps back) ps on i (undo_from 0 v (value_from 0 v cs a) cs back) f went_back in
     (value_from 0 v cs b, record { long = went_on.long; byte = went_on.byte ∙ moved a b back on less more 0 v cs p q }, image-byte n 0 base ps b i v f start)

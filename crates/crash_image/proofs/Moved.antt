@@ -10,7 +10,7 @@ use Rattle.patch_sets.proofs.Successors.{empty_closed}
 use Rattle.crash_model.specs.Disk.{Disk}
 use Rattle.crash_model.specs.Patches.{deps_of, places_of, image_from, image_of}
 use Rattle.crash_model.specs.declared.patches.Patch.{Patch}
-use Rattle.crash_image.specs.Moves.{redone, undone, undone_from, undone_of, AreOver}
+use Rattle.crash_image.specs.Moves.{with_patch, without_patch, without_patches_from, without_set, AreOver}
 use Rattle.crash_image.proofs.Cells.{IsLess}
 use Rattle.crash_image.proofs.ImageBytes.{AllFit, moved-byte}
 use Rattle.crash_image.proofs.Fronts.{all_fit, front_of}
@@ -39,14 +39,14 @@ either_shape false d e f one two = two
 pub image-shape : (id : ℕ) (d : Disk) (ps : List Patch) (set : ℕ) → SameShape (image_from id d (places_of ps) set) d
 image-shape id d [] set = same_shape d
 image-shape id d (p ∷ ps) set =
-    like (image-shape (id + 1) (cond (has set id) (redone p d) d) ps set)
-    (either_shape (has set id) (redone p d) d d record { blocks = refl; journal = refl } (same_shape d))
+    like (image-shape (id + 1) (cond (has set id) (with_patch p d) d) ps set)
+    (either_shape (has set id) (with_patch p d) d d record { blocks = refl; journal = refl } (same_shape d))
 
-pub undone-shape : (id : ℕ) (d : Disk) (ps : List Patch) (set : ℕ) → SameShape (undone_from id d ps set) d
-undone-shape id d [] set = same_shape d
-undone-shape id d (p ∷ ps) set =
-    let rest = undone-shape (id + 1) d ps set in
-    either_shape (has set id) (undone p (undone_from (id + 1) d ps set)) (undone_from (id + 1) d ps set) d
+pub without_patches-shape : (id : ℕ) (d : Disk) (ps : List Patch) (set : ℕ) → SameShape (without_patches_from id d ps set) d
+without_patches-shape id d [] set = same_shape d
+without_patches-shape id d (p ∷ ps) set =
+    let rest = without_patches-shape (id + 1) d ps set in
+    either_shape (has set id) (without_patch p (without_patches_from (id + 1) d ps set)) (without_patches_from (id + 1) d ps set) d
     record { blocks = rest.blocks; journal = rest.journal } rest
 
 pub disk-same : (d e : Disk) → SameShape d e → d.bytes ≡ e.bytes → d ≡ e
@@ -79,21 +79,21 @@ less_of a b d difference = record {
 module _ (base : Disk) (ps : List Patch) (over : AreOver base ps) where
   -- undo of a without b and redo of b without a make of the image of a that of b
   pub moved_image : (a b back on : ℕ) → IsClosed (deps_of ps) a → IsClosed (deps_of ps) b → IsDifference a b back → IsDifference b a on
-      → image_of (undone_of (image_of base ps a) ps back) ps on ≡ image_of base ps b
+      → image_of (without_set (image_of base ps a) ps back) ps on ≡ image_of base ps b
   moved_image a b back on from to less more =
       let n : ℕ = 128 * base.blocks in
       let fit : AllFit n ps = all_fit base.blocks n ps refl over.graph.each over.fits in
       let bytes = λ (i : ℕ). moved-byte n base ps a b back on i over.disk.whole fit over.undo (less_of a b back less) (less_of b a on more)
       (front_of base ps a i over from) (front_of base ps b i over to) in
       disk-same _ _
-      (like (image-shape 0 (undone_of (image_of base ps a) ps back) ps on) (like (undone-shape 0 (image_of base ps a) ps back)
+      (like (image-shape 0 (without_set (image_of base ps a) ps back) ps on) (like (without_patches-shape 0 (image_of base ps a) ps back)
       (like (image-shape 0 base ps a) (unlike (image-shape 0 base ps b)))))
       (same_number_lists _ _ ((bytes 0).1.long ∙ sym (bytes 0).2.long) (λ i below. (bytes i).1.byte ∙ sym (bytes i).2.byte))
 
   -- the base is what is left where all of the set is taken back
-  pub unmoved_image : (set : ℕ) → IsClosed (deps_of ps) set → undone_of (image_of base ps set) ps set ≡ base
+  pub unmoved_image : (set : ℕ) → IsClosed (deps_of ps) set → without_set (image_of base ps set) ps set ≡ base
   unmoved_image set closed =
-      sym (image-empty (undone_of (image_of base ps set) ps set) ps)
+      sym (image-empty (without_set (image_of base ps set) ps set) ps)
       ∙ moved_image set 0 set 0 closed (empty_closed (deps_of ps))
       record { exactly = λ id. (λ is. (is, none_in_empty id), λ is. is.0) }
       record { exactly = λ id. (λ is. absurd (none_in_empty id is), λ is. absurd (none_in_empty id is.0)) }

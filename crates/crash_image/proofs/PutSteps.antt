@@ -8,7 +8,7 @@ use Rattle.patch_sets.proofs.Ids.{has_true, has_false, from_has}
 use Rattle.crash_model.specs.Disk.{Disk}
 use Rattle.crash_model.specs.Patches.{places_of, image_from, image_of}
 use Rattle.crash_model.specs.declared.patches.Patch.{Patch}
-use Rattle.crash_image.specs.Moves.{redone, undone, undone_from, undone_of}
+use Rattle.crash_image.specs.Moves.{with_patch, without_patch, without_patches_from, without_set}
 
 -- ---- sets that have none, and sets that have the same
 
@@ -16,19 +16,19 @@ pub image-none : (id : ℕ) (d : Disk) (ps : List Patch) (set : ℕ) → ((q : �
     → image_from id d (places_of ps) set ≡ d
 image-none id d [] set none = refl
 image-none id d (p ∷ ps) set none =
-    ap (λ (b : Bool). image_from (id + 1) (cond b (redone p d) d) (places_of ps) set) (none id (omega arith))
+    ap (λ (b : Bool). image_from (id + 1) (cond b (with_patch p d) d) (places_of ps) set) (none id (omega arith))
     ∙ image-none (id + 1) d ps set (λ q from. none q (omega arith))
 
-pub undone-none : (id : ℕ) (d : Disk) (ps : List Patch) (set : ℕ) → ((q : ℕ) → id ≤ q → has set q ≡ false) → undone_from id d ps set ≡ d
-undone-none id d [] set none = refl
-undone-none id d (p ∷ ps) set none = rw (none id (omega arith)) (undone-none (id + 1) d ps set (λ q from. none q (omega arith)))
+pub without_patches-none : (id : ℕ) (d : Disk) (ps : List Patch) (set : ℕ) → ((q : ℕ) → id ≤ q → has set q ≡ false) → without_patches_from id d ps set ≡ d
+without_patches-none id d [] set none = refl
+without_patches-none id d (p ∷ ps) set none = rw (none id (omega arith)) (without_patches-none (id + 1) d ps set (λ q from. none q (omega arith)))
 
 image-same : (id : ℕ) (d : Disk) (ps : List Patch) (a b : ℕ) → ((q : ℕ) → id ≤ q → has a q ≡ has b q)
     → image_from id d (places_of ps) a ≡ image_from id d (places_of ps) b
 image-same id d [] a b same = refl
 image-same id d (p ∷ ps) a b same =
-    ap (λ (x : Bool). image_from (id + 1) (cond x (redone p d) d) (places_of ps) a) (same id (omega arith))
-    ∙ image-same (id + 1) (cond (has b id) (redone p d) d) ps a b (λ q from. same q (omega arith))
+    ap (λ (x : Bool). image_from (id + 1) (cond x (with_patch p d) d) (places_of ps) a) (same id (omega arith))
+    ∙ image-same (id + 1) (cond (has b id) (with_patch p d) d) ps a b (λ q from. same q (omega arith))
 
 -- ---- one patch
 
@@ -58,59 +58,59 @@ found x p e = cc
 -- the lowest goes first, and then the rest
 pub image-lowest : (r id : ℕ) (d : Disk) (ps : List Patch) (set k rest : ℕ) (p : Patch) → k ≡ id + r → slice_get ps r ≡ Some p
     → IsRest set k rest → ((q : ℕ) → q < k → has set q ≡ false)
-    → image_from id d (places_of ps) set ≡ image_from id (redone p d) (places_of ps) rest
+    → image_from id d (places_of ps) set ≡ image_from id (with_patch p d) (places_of ps) rest
 image-lowest r id d [] set k rest p at is less low = absurd (cc)
 image-lowest zero id d (x ∷ ps) set k rest p at is less low =
     let here : id ≡ k = omega arith in
     let had : has set id ≡ true = ap (has set) here ∙ less.had in
     let gone : has rest id ≡ false = ap (has rest) here ∙ less.gone in
     let same : x ≡ p = found x p is in
-    let after : Disk = redone p d in
-    ap (λ (b : Bool). image_from (id + 1) (cond b (redone x d) d) (places_of ps) set) had
-    ∙ ap (λ (y : Patch). image_from (id + 1) (redone y d) (places_of ps) set) same
+    let after : Disk = with_patch p d in
+    ap (λ (b : Bool). image_from (id + 1) (cond b (with_patch x d) d) (places_of ps) set) had
+    ∙ ap (λ (y : Patch). image_from (id + 1) (with_patch y d) (places_of ps) set) same
     ∙ image-same (id + 1) after ps set rest (λ q from. sym (less.others q (omega arith)))
-    ∙ ap (λ (b : Bool). image_from (id + 1) (cond b (redone x after) after) (places_of ps) rest) (sym gone)
+    ∙ ap (λ (b : Bool). image_from (id + 1) (cond b (with_patch x after) after) (places_of ps) rest) (sym gone)
 image-lowest (suc r) id d (x ∷ ps) set k rest p at is less low =
     let out : has set id ≡ false = low id (omega arith) in
     let still : has rest id ≡ false = less.others id (omega arith) ∙ out in
-    let after : Disk = redone p d in
-    ap (λ (b : Bool). image_from (id + 1) (cond b (redone x d) d) (places_of ps) set) out
+    let after : Disk = with_patch p d in
+    ap (λ (b : Bool). image_from (id + 1) (cond b (with_patch x d) d) (places_of ps) set) out
     ∙ image-lowest r (id + 1) d ps set k rest p (omega arith) is less low
-    ∙ ap (λ (b : Bool). image_from (id + 1) (cond b (redone x after) after) (places_of ps) rest) (sym still)
+    ∙ ap (λ (b : Bool). image_from (id + 1) (cond b (with_patch x after) after) (places_of ps) rest) (sym still)
 
 -- the highest is taken back first, and then the rest
-pub undone-highest : (r id : ℕ) (d : Disk) (ps : List Patch) (set k rest : ℕ) (p : Patch) → k ≡ id + r → slice_get ps r ≡ Some p
+pub without_patches-highest : (r id : ℕ) (d : Disk) (ps : List Patch) (set k rest : ℕ) (p : Patch) → k ≡ id + r → slice_get ps r ≡ Some p
     → IsRest set k rest → ((q : ℕ) → k < q → has set q ≡ false)
-    → undone_from id d ps set ≡ undone_from id (undone p d) ps rest
-undone-highest r id d [] set k rest p at is less high = absurd (cc)
-undone-highest zero id d (x ∷ ps) set k rest p at is less high =
+    → without_patches_from id d ps set ≡ without_patches_from id (without_patch p d) ps rest
+without_patches-highest r id d [] set k rest p at is less high = absurd (cc)
+without_patches-highest zero id d (x ∷ ps) set k rest p at is less high =
     let here : id ≡ k = omega arith in
     let had : has set id ≡ true = ap (has set) here ∙ less.had in
     let gone : has rest id ≡ false = ap (has rest) here ∙ less.gone in
     let same : x ≡ p = found x p is in
-    let before : undone_from (id + 1) d ps set ≡ d = undone-none (id + 1) d ps set (λ q from. high q (omega arith)) in
-    let after : undone_from (id + 1) (undone p d) ps rest ≡ undone p d =
-    undone-none (id + 1) (undone p d) ps rest (λ q from. less.others q (omega arith) ∙ high q (omega arith)) in
+    let before : without_patches_from (id + 1) d ps set ≡ d = without_patches-none (id + 1) d ps set (λ q from. high q (omega arith)) in
+    let after : without_patches_from (id + 1) (without_patch p d) ps rest ≡ without_patch p d =
+    without_patches-none (id + 1) (without_patch p d) ps rest (λ q from. less.others q (omega arith) ∙ high q (omega arith)) in
     rw (had, gone, same, before, after) refl
-undone-highest (suc r) id d (x ∷ ps) set k rest p at is less high =
-    rw (less.others id (omega arith)) (ap (λ (e : Disk). cond (has set id) (undone x e) e) (undone-highest r (id + 1) d ps set k rest p (omega arith) is less high))
+without_patches-highest (suc r) id d (x ∷ ps) set k rest p at is less high =
+    rw (less.others id (omega arith)) (ap (λ (e : Disk). cond (has set id) (without_patch x e) e) (without_patches-highest r (id + 1) d ps set k rest p (omega arith) is less high))
 
 -- ---- the loops' steps
 
 -- what a set makes of a disk, its lowest patch and then the rest make of it, and taken back its highest and then the rest
 module _ (d after whole : Disk) (ps : List Patch) (set k rest : ℕ) (p : Patch) (is : slice_get ps k ≡ Some p) (without : IsWithout set k rest) where
-  pub redo_step : IsLowest set k → after ≡ redone p d → image_of d ps set ≡ whole → image_of after ps rest ≡ whole
+  pub redo_step : IsLowest set k → after ≡ with_patch p d → image_of d ps set ≡ whole → image_of after ps rest ≡ whole
   redo_step lowest put_is was =
       ap (λ (e : Disk). image_of e ps rest) put_is
       ∙ sym (image-lowest k 0 d ps set k rest p (omega arith) is (rest_of set k rest lowest.inside without)
       (λ q below. has_false set q (λ has. let least = lowest.least q has in omega arith)))
       ∙ was
 
-  pub undo_step : IsHighest set k → after ≡ undone p d → undone_of d ps set ≡ whole
-      → undone_of after ps rest ≡ whole
+  pub undo_step : IsHighest set k → after ≡ without_patch p d → without_set d ps set ≡ whole
+      → without_set after ps rest ≡ whole
   undo_step highest put_is was =
-      ap (λ (e : Disk). undone_of e ps rest) put_is
-      ∙ sym (undone-highest k 0 d ps set k rest p (omega arith) is (rest_of set k rest highest.inside without)
+      ap (λ (e : Disk). without_set e ps rest) put_is
+      ∙ sym (without_patches-highest k 0 d ps set k rest p (omega arith) is (rest_of set k rest highest.inside without)
       (λ q above. has_false set q (λ has. let most = highest.most q has in omega arith)))
       ∙ was
 
@@ -120,8 +120,8 @@ none_has q = has_false 0 q (none_in_empty q)
 pub image-empty : (d : Disk) (ps : List Patch) → image_of d ps 0 ≡ d
 image-empty d ps = image-none 0 d ps 0 (λ q from. none_has q)
 
-pub undone-empty : (d : Disk) (ps : List Patch) → undone_of d ps 0 ≡ d
-undone-empty d ps = undone-none 0 d ps 0 (λ q from. none_has q)
+pub without_patches-empty : (d : Disk) (ps : List Patch) → without_set d ps 0 ≡ d
+without_patches-empty d ps = without_patches-none 0 d ps 0 (λ q from. none_has q)
 
 -- what holds of each id of a set holds of each that is left
 pub still_below : (n set k rest : ℕ) → IsWithout set k rest → ((id : ℕ) → Has set id → id < n) → (id : ℕ) → Has rest id → id < n

@@ -5,7 +5,7 @@ ghost use Rattle.std.specs.List.{All};
 ghost use Rattle.patch_sets.specs.Sets.{Has, IsSubset};
 ghost use Rattle.patch_sets.specs.Closed.{IsClosed};
 ghost use Rattle.crash_model.specs.Patches.{deps_of, image_of, AreUndo};
-ghost use Rattle.crash_model.specs.Replay.{replayed};
+ghost use Rattle.crash_model.specs.Replay.{image_after_replay};
 ghost use Rattle.journal_replay.specs.Changed.{DifferAtMost};
 ghost use Rattle.crash_image.specs.Moves.{HasBlocks};
 
@@ -29,13 +29,13 @@ pub struct Mover<'a, A: Allocator + Copy> {
 }
 
 impl<'a, A: Allocator + Copy> Model for Mover<'a, A> {
-    ghost use Rattle.crash_image.specs.Moves.{Applied, applied, IsApplied};
+    ghost use Rattle.crash_image.specs.Moves.{Applied, applied_set, IsApplied};
 
     ghost Value = { Applied };
 
-    ghost view = { λ m. applied m.image m.graph.now m.set };
+    ghost view = { λ m. applied_set m.image m.graph.now m.set };
 
-    ghost invariant = { λ m. IsApplied (applied m.image m.graph.now m.set) m.image };
+    ghost invariant = { λ m. IsApplied (applied_set m.image m.graph.now m.set) m.image };
 }
 
 impl<'a, A: Allocator + Copy> Mover<'a, A> {
@@ -95,7 +95,7 @@ impl<'a, A: Allocator + Copy> Mover<'a, A> {
     /// Makes of another image of the base's size the image of the set after replay of the journal.
     pub fn replayed(&self, into: &mut Image<A>)
         requires { into.old.blocks ≡ self.now.base.blocks }
-        ensures { into.new ≡ replayed (image_of self.now.base self.now.patches self.now.set) }
+        ensures { into.new ≡ image_after_replay (image_of self.now.base self.now.patches self.now.set) }
     {
         into.copy_from(&self.image);
         replay(into);

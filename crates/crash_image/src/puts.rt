@@ -4,7 +4,7 @@ ghost use Rattle.std.specs.Prelude.{◌≡◌, ℕ, ◌<◌, length};
 ghost use Rattle.std.specs.List.{All};
 ghost use Rattle.patch_sets.specs.Sets.{Has};
 ghost use Rattle.crash_model.specs.Patches.{image_of};
-ghost use Rattle.crash_image.specs.Moves.{undone_of};
+ghost use Rattle.crash_image.specs.Moves.{without_set};
 
 use disk_image::Image;
 use patch_graph::Graph;
@@ -33,7 +33,7 @@ pub fn redo<A: Allocator + Copy>(image: &mut Image<A>, graph: &Graph<A>, set: u1
 pub fn undo<A: Allocator + Copy>(image: &mut Image<A>, graph: &Graph<A>, set: u128)
     requires fits { All (λ patch. patch.block < image.old.blocks) graph.now }
     requires known { (id : ℕ) → Has set id → id < length graph.now }
-    ensures { image.new ≡ undone_of image.old graph.now set }
+    ensures { image.new ≡ without_set image.old graph.now set }
 {
     let mut left = set;
     while let Some(id) = highest(left) {

@@ -4,7 +4,7 @@ ghost use Rattle.std.specs.Prelude.{◌≡◌, ◌<◌};
 ghost use Rattle.std.specs.List.{All};
 ghost use Rattle.patch_sets.specs.Closed.{IsClosed};
 ghost use Rattle.crash_model.specs.Patches.{deps_of, image_of, AreUndo};
-ghost use Rattle.crash_model.specs.Replay.{replayed};
+ghost use Rattle.crash_model.specs.Replay.{image_after_replay};
 ghost use Rattle.journal_replay.specs.Changed.{DifferAtMost};
 
 use crate::mover::Mover;
@@ -70,7 +70,7 @@ impl<'a, A: Allocator + Copy> Replayer<'a, A> {
 
     /// The image of the set after replay.
     pub fn image(&self) -> &Image<A>
-        ensures { result.now ≡ replayed (image_of self.now.base self.now.patches self.now.set) }
+        ensures { result.now ≡ image_after_replay (image_of self.now.base self.now.patches self.now.set) }
     {
         &self.after
     }

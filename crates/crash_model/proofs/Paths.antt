@@ -14,8 +14,8 @@ use Rattle.arrayvec.specs.ArrayVec.{ArrayVec}
 use Rattle.crash_model.proofs.Cuts.{Lacks, Begins, cut_once, front_lacks, rest_begins}
 
 -- a slash before each name
-abbrev pub slashed : List (List ℕ) → List ℕ
-slashed names = flat_map (λ name. 47 ∷ name) names
+abbrev pub slash_text : List (List ℕ) → List ℕ
+slash_text names = flat_map (λ name. 47 ∷ name) names
 
 no_slash : (c : ℕ) → is_name_byte c ≡ true → c ≢ 47
 no_slash c e = grind (arith, nat_tests)
@@ -24,23 +24,23 @@ plain_lacks : (word : List ℕ) → list_all is_name_byte word ≡ true → Lack
 plain_lacks [] e = tt
 plain_lacks (c ∷ cs) e = let both = and_parts (is_name_byte c) (list_all is_name_byte cs) e in (no_slash c both.0, plain_lacks cs both.1)
 
-pub slashed-begins : (names : List (List ℕ)) → Begins 47 (slashed names)
-slashed-begins [] = tt
-slashed-begins (n ∷ ns) = refl
+pub slash_text-begins : (names : List (List ℕ)) → Begins 47 (slash_text names)
+slash_text-begins [] = tt
+slash_text-begins (n ∷ ns) = refl
 
-slashed-rest : (names : List (List ℕ)) (rest : List ℕ) → Begins 47 rest → Begins 47 (slashed names ++ rest)
-slashed-rest [] rest begins = begins
-slashed-rest (n ∷ ns) rest begins = refl
+slash_text-rest : (names : List (List ℕ)) (rest : List ℕ) → Begins 47 rest → Begins 47 (slash_text names ++ rest)
+slash_text-rest [] rest begins = begins
+slash_text-rest (n ∷ ns) rest begins = refl
 
 -- names that a text begins with are the first names of the path
-pub names_follow : (ns ms : List (List ℕ)) (rest : List ℕ) → All IsName ns → All IsName ms → Begins 47 rest → slashed ns ++ rest ≡ slashed ms → (tail : List (List ℕ)) × (ms ≡ ns ++ tail) × (rest ≡ slashed tail)
+pub names_follow : (ns ms : List (List ℕ)) (rest : List ℕ) → All IsName ns → All IsName ms → Begins 47 rest → slash_text ns ++ rest ≡ slash_text ms → (tail : List (List ℕ)) × (ms ≡ ns ++ tail) × (rest ≡ slash_text tail)
 names_follow [] ms rest _ _ _ e = (ms, refl, e)
 names_follow (n ∷ ns) [] rest _ _ _ e = cc
 names_follow (n ∷ ns) (m ∷ ms) rest first second begins e =
     let n_lacks = plain_lacks n (All-head IsName n ns first).plain in
     let m_lacks = plain_lacks m (All-head IsName m ms second).plain in
-    let texts : n ++ (slashed ns ++ rest) ≡ m ++ slashed ms = sym (append_assoc n (slashed ns) rest) ∙ cc_tail e in
-    let same = cut_once 47 n m (slashed ns ++ rest) (slashed ms) n_lacks m_lacks (slashed-rest ns rest begins) (slashed-begins ms) texts in
+    let texts : n ++ (slash_text ns ++ rest) ≡ m ++ slash_text ms = sym (append_assoc n (slash_text ns) rest) ∙ cc_tail e in
+    let same = cut_once 47 n m (slash_text ns ++ rest) (slash_text ms) n_lacks m_lacks (slash_text-rest ns rest begins) (slash_text-begins ms) texts in
     let next = names_follow ns ms rest (All-tail IsName n ns first) (All-tail IsName m ms second) begins same.1 in
     (next.0, (let head = same.0 in let tails = next.1 in cc), next.2)
   where
@@ -70,10 +70,10 @@ names_of path = path.through.items ++ path.last ∷ []
 pub names_are : (path : Path) → IsPath path → All IsName (names_of path)
 names_are path is = All-push IsName path.through.items path.last is.through is.last
 
-first_of : (names : List (List ℕ)) (last : List ℕ) → All IsName (names ++ last ∷ []) → HasFirstName (slashed (names ++ last ∷ []))
+first_of : (names : List (List ℕ)) (last : List ℕ) → All IsName (names ++ last ∷ []) → HasFirstName (slash_text (names ++ last ∷ []))
 first_of [] last are = (last, [], record { is_name = All-head IsName last [] are; whole = refl; ends = tt })
 first_of (n ∷ ns) last are =
-    (n, slashed (ns ++ last ∷ []), record { is_name = All-head IsName n (ns ++ last ∷ []) are; whole = refl; ends = begins_slash _ (slashed-begins (ns ++ last ∷ [])) })
+    (n, slash_text (ns ++ last ∷ []), record { is_name = All-head IsName n (ns ++ last ∷ []) are; whole = refl; ends = begins_slash _ (slash_text-begins (ns ++ last ∷ [])) })
 
 pub path_has_first : (text : List ℕ) → ¬ (HasFirstName text) → ¬ (IsPathWord text)
 path_has_first text none (path, is, spelt) =
@@ -88,31 +88,31 @@ All-front [] ys all = All-nil IsName
 All-front (x ∷ xs) ys all = All-cons IsName x xs (All-head IsName x (xs ++ ys) all) (All-front xs ys (All-tail IsName x (xs ++ ys) all))
 
 -- where a path's text goes on behind some of its names, the path has one more
-pub path_goes_on : (text : List ℕ) (names : List (List ℕ)) (rest : List ℕ) → All IsName names → text ≡ slashed names ++ rest → IsNothingOrSlash rest → rest ≢ [] → IsPathWord text → HasFirstName rest × (length names ≤ 3)
+pub path_goes_on : (text : List ℕ) (names : List (List ℕ)) (rest : List ℕ) → All IsName names → text ≡ slash_text names ++ rest → IsNothingOrSlash rest → rest ≢ [] → IsPathWord text → HasFirstName rest × (length names ≤ 3)
 path_goes_on text names rest are whole ends more (path, is, spelt) =
     let follow = names_follow names (names_of path) rest are (names_are path is) (slash_begins rest ends) (sym whole ∙ spelt) in
     ends_in follow.0 follow.1 follow.2
   where
-    ends_in : (tail : List (List ℕ)) → names_of path ≡ names ++ tail → rest ≡ slashed tail → HasFirstName rest × (length names ≤ 3)
+    ends_in : (tail : List (List ℕ)) → names_of path ≡ names ++ tail → rest ≡ slash_text tail → HasFirstName rest × (length names ≤ 3)
     ends_in [] all nothing = absurd (more nothing)
     ends_in (m ∷ ms) all is_rest =
         let tail_are : All IsName (names ++ m ∷ ms) = subst (All IsName) all (names_are path is) in
         let m_is = All-head IsName m ms (All-drop-front names (m ∷ ms) tail_are) in
         let lengths : length path.through.items + 1 ≡ length names + (length ms + 1) = sym (length_push path.through.items path.last) ∙ (ap length all ∙ simp (length-append, add-one)) in
         let few : length path.through.items ≤ 3 = is.few in
-        ((m, slashed ms, record { is_name = m_is; whole = is_rest; ends = begins_slash _ (slashed-begins ms) }), omega arith)
+        ((m, slash_text ms, record { is_name = m_is; whole = is_rest; ends = begins_slash _ (slash_text-begins ms) }), omega arith)
 
-pub slashed-push : (names : List (List ℕ)) (name rest text behind : List ℕ) → text ≡ slashed names ++ rest → rest ≡ 47 ∷ (name ++ behind) → text ≡ slashed (names ++ name ∷ []) ++ behind
-slashed-push names name rest text behind whole begins =
+pub slash_text-push : (names : List (List ℕ)) (name rest text behind : List ℕ) → text ≡ slash_text names ++ rest → rest ≡ 47 ∷ (name ++ behind) → text ≡ slash_text (names ++ name ∷ []) ++ behind
+slash_text-push names name rest text behind whole begins =
     let more = flat_map-append (λ (n : List ℕ). 47 ∷ n) names (name ∷ []) in
-    whole ∙ (ap (λ (t : List ℕ). slashed names ++ t) begins ∙ (sym (append_assoc (slashed names) (47 ∷ name) behind) ∙ ap (λ (t : List ℕ). t ++ behind) (rest_same ∙ sym more)))
+    whole ∙ (ap (λ (t : List ℕ). slash_text names ++ t) begins ∙ (sym (append_assoc (slash_text names) (47 ∷ name) behind) ∙ ap (λ (t : List ℕ). t ++ behind) (rest_same ∙ sym more)))
   where
-    rest_same : slashed names ++ (47 ∷ name) ≡ slashed names ++ slashed (name ∷ [])
-    rest_same = ap (λ (t : List ℕ). slashed names ++ t) (sym (append-nil (47 ∷ name)))
+    rest_same : slash_text names ++ (47 ∷ name) ≡ slash_text names ++ slash_text (name ∷ [])
+    rest_same = ap (λ (t : List ℕ). slash_text names ++ t) (sym (append-nil (47 ∷ name)))
 
 -- the names that a text was cut into are those of a path
-pub path_ends : (through : ArrayVec Name) (last : List ℕ) (rest text : List ℕ) → length through.items ≤ 3 → All IsName (through.items ++ last ∷ []) → text ≡ slashed (through.items ++ last ∷ []) ++ rest → rest ≡ [] → IsPath (record { through = through; last = last }) × (text ≡ path_text (record { through = through; last = last }))
+pub path_ends : (through : ArrayVec Name) (last : List ℕ) (rest text : List ℕ) → length through.items ≤ 3 → All IsName (through.items ++ last ∷ []) → text ≡ slash_text (through.items ++ last ∷ []) ++ rest → rest ≡ [] → IsPath (record { through = through; last = last }) × (text ≡ path_text (record { through = through; last = last }))
 path_ends through last rest text few are whole ends = (
   record { few = few; through = All-front through.items (last ∷ []) are; last = All-head IsName last [] (All-drop-front through.items (last ∷ []) are) },
-  whole ∙ (ap (λ (t : List ℕ). slashed (through.items ++ last ∷ []) ++ t) ends ∙ append-nil (slashed (through.items ++ last ∷ []))),
+  whole ∙ (ap (λ (t : List ℕ). slash_text (through.items ++ last ∷ []) ++ t) ends ∙ append-nil (slash_text (through.items ++ last ∷ []))),
 )

@@ -10,7 +10,7 @@ use Rattle.patch_sets.proofs.Ids.{eq_from_true, true_from_eq, from_ids, to_ids, 
 use Rattle.crash_model.specs.Disk.{Disk}
 use Rattle.crash_model.specs.Layout.{kind_of, is_live}
 use Rattle.crash_model.specs.Faults.{leads_to}
-use Rattle.crash_model.specs.Strict.{is_in, is_named, reached_in, is_reached}
+use Rattle.crash_model.specs.Strict.{is_in, is_named, reach_in, is_reached}
 
 -- ---- tests
 
@@ -104,46 +104,46 @@ module _ (d : Disk) where
   -- which inodes are reached in at most n steps
   abbrev passes : ℕ → ℕ → Bool
   passes zero inode = inode == 0 && kind_of d 0 == 2
-  passes (suc n) inode = is_in (reached_in d n) inode || (is_live d inode && list_any (λ dir. is_named d dir inode) (reached_in d n))
+  passes (suc n) inode = is_in (reach_in d n) inode || (is_live d inode && list_any (λ dir. is_named d dir inode) (reach_in d n))
 
-  reached-ids : (n : ℕ) → reached_in d n ≡ ids_below 16 (passes n)
-  unfolding reached_in
+  reached-ids : (n : ℕ) → reach_in d n ≡ ids_below 16 (passes n)
+  unfolding reach_in
   reached-ids zero = refl
   reached-ids (suc n) = refl
 
-  from_reached : (n i : ℕ) → is_in (reached_in d n) i ≡ true → (i < 16) × (passes n i ≡ true)
-  from_reached n i is = from_ids 16 (passes n) i (subst (λ (xs : List ℕ). Contains xs i) (reached-ids n) (in_from (reached_in d n) i is))
+  from_reached : (n i : ℕ) → is_in (reach_in d n) i ≡ true → (i < 16) × (passes n i ≡ true)
+  from_reached n i is = from_ids 16 (passes n) i (subst (λ (xs : List ℕ). Contains xs i) (reached-ids n) (in_from (reach_in d n) i is))
 
-  to_reached : (n i : ℕ) → i < 16 → passes n i ≡ true → is_in (reached_in d n) i ≡ true
-  to_reached n i below is = in_to (reached_in d n) i (subst (λ (xs : List ℕ). Contains xs i) (sym (reached-ids n)) (to_ids 16 (passes n) i below is))
+  to_reached : (n i : ℕ) → i < 16 → passes n i ≡ true → is_in (reach_in d n) i ≡ true
+  to_reached n i below is = in_to (reach_in d n) i (subst (λ (xs : List ℕ). Contains xs i) (sym (reached-ids n)) (to_ids 16 (passes n) i below is))
 
   -- what is reached stays so
-  kept_more : (n i : ℕ) → is_in (reached_in d n) i ≡ true → is_in (reached_in d (suc n)) i ≡ true
-  kept_more n i is = to_reached (suc n) i (from_reached n i is).0 (or_left (is_in (reached_in d n) i) _ is)
+  kept_more : (n i : ℕ) → is_in (reach_in d n) i ≡ true → is_in (reach_in d (suc n)) i ≡ true
+  kept_more n i is = to_reached (suc n) i (from_reached n i is).0 (or_left (is_in (reach_in d n) i) _ is)
 
-  kept_on : (n m i : ℕ) → is_in (reached_in d n) i ≡ true → is_in (reached_in d (m + n)) i ≡ true
-  kept_on n zero i is = subst (λ (k : ℕ). is_in (reached_in d k) i ≡ true) (zero_more n) is
-  kept_on n (suc m) i is = subst (λ (k : ℕ). is_in (reached_in d k) i ≡ true) (one_more_in m n) (kept_more (m + n) i (kept_on n m i is))
+  kept_on : (n m i : ℕ) → is_in (reach_in d n) i ≡ true → is_in (reach_in d (m + n)) i ≡ true
+  kept_on n zero i is = subst (λ (k : ℕ). is_in (reach_in d k) i ≡ true) (zero_more n) is
+  kept_on n (suc m) i is = subst (λ (k : ℕ). is_in (reach_in d k) i ≡ true) (one_more_in m n) (kept_more (m + n) i (kept_on n m i is))
 
   live_below : (i : ℕ) → is_live d i ≡ true → i < 16
   live_below i live = grind (arith, live)
 
   -- an entry leads one step further
-  step_in : (n dir i : ℕ) → is_in (reached_in d n) dir ≡ true → is_named d dir i ≡ true → is_live d i ≡ true → is_in (reached_in d (suc n)) i ≡ true
-  step_in n dir i is names live = to_reached (suc n) i (live_below i live) (or_right (is_in (reached_in d n) i) _
-      (and_both (is_live d i) _ live (any_to (λ (x : ℕ). is_named d x i) (reached_in d n) dir is names)))
+  step_in : (n dir i : ℕ) → is_in (reach_in d n) dir ≡ true → is_named d dir i ≡ true → is_live d i ≡ true → is_in (reach_in d (suc n)) i ≡ true
+  step_in n dir i is names live = to_reached (suc n) i (live_below i live) (or_right (is_in (reach_in d n) i) _
+      (and_both (is_live d i) _ live (any_to (λ (x : ℕ). is_named d x i) (reach_in d n) dir is names)))
 
   -- ---- the last step at which something is added
 
   abbrev IsStill : ℕ → Type 0
-  IsStill n = (i : ℕ) → is_in (reached_in d (suc n)) i ≡ true → is_in (reached_in d n) i ≡ true
+  IsStill n = (i : ℕ) → is_in (reach_in d (suc n)) i ≡ true → is_in (reach_in d n) i ≡ true
 
   still_more : (n : ℕ) → IsStill n → IsStill (suc n)
-  still_more n still i is = elim (or_cases (is_in (reached_in d (suc n)) i) _ (from_reached (suc (suc n)) i is).1) [
+  still_more n still i is = elim (or_cases (is_in (reach_in d (suc n)) i) _ (from_reached (suc (suc n)) i is).1) [
     | inl before ↦ before
     | inr led ↦
         let parts = and_parts (is_live d i) _ led in
-        let found = any_from (λ (dir : ℕ). is_named d dir i) (reached_in d (suc n)) parts.1 in
+        let found = any_from (λ (dir : ℕ). is_named d dir i) (reach_in d (suc n)) parts.1 in
         step_in n found.0 i (still found.0 found.1) found.2 parts.0
   ]
 
@@ -152,17 +152,17 @@ module _ (d : Disk) where
   still_on n (suc m) still = subst IsStill (one_more_in m n) (still_more (m + n) (still_on n m still))
 
   -- so many are reached, unless nothing is added by an earlier step
-  counted : (n : ℕ) → ((j : ℕ) × (j < n) × IsStill j) ⊎ (n ≤ length (reached_in d n))
+  counted : (n : ℕ) → ((j : ℕ) × (j < n) × IsStill j) ⊎ (n ≤ length (reach_in d n))
   counted zero = inr (omega arith)
   counted (suc n) = elim (counted n) [
     | inl found ↦ inl (found.0, omega (arith, found.1), found.2)
-    | inr many ↦ elim (cases_lt (length (reached_in d n)) (length (reached_in d (suc n)))) [
+    | inr many ↦ elim (cases_lt (length (reach_in d n)) (length (reach_in d (suc n)))) [
       | inl more ↦ inr (omega (arith, many, more))
       | inr few ↦ inl (n, omega arith, still_from n few)
     ]
   ]
     where
-      still_from : (n : ℕ) → length (reached_in d (suc n)) ≤ length (reached_in d n) → IsStill n
+      still_from : (n : ℕ) → length (reach_in d (suc n)) ≤ length (reach_in d n) → IsStill n
       still_from n few i is =
           let it = from_reached (suc n) i is in
           to_reached n i it.0 (ids_same (passes n) (passes (suc n)) 16
@@ -186,15 +186,15 @@ module _ (d : Disk) where
   reached-step dir i is names live = still_at_last i (step_in 16 dir i is names live)
 
   module _ (P : ℕ → Type 0) (root : kind_of d 0 ≡ 2 → P 0) (step : (dir i : ℕ) → P dir → is_named d dir i ≡ true → is_live d i ≡ true → P i) where
-    least_in : (n i : ℕ) → is_in (reached_in d n) i ≡ true → P i
+    least_in : (n i : ℕ) → is_in (reach_in d n) i ≡ true → P i
     least_in zero i is =
         let parts = and_parts (i == 0) (kind_of d 0 == 2) (from_reached 0 i is).1 in
         subst P (sym (eq_from_true i 0 parts.0)) (root (eq_from_true (kind_of d 0) 2 parts.1))
-    least_in (suc n) i is = elim (or_cases (is_in (reached_in d n) i) _ (from_reached (suc n) i is).1) [
+    least_in (suc n) i is = elim (or_cases (is_in (reach_in d n) i) _ (from_reached (suc n) i is).1) [
       | inl before ↦ least_in n i before
       | inr led ↦
           let parts = and_parts (is_live d i) _ led in
-          let found = any_from (λ (dir : ℕ). is_named d dir i) (reached_in d n) parts.1 in
+          let found = any_from (λ (dir : ℕ). is_named d dir i) (reach_in d n) parts.1 in
           step found.0 i (least_in n found.0 found.1) found.2 parts.0
     ]
 

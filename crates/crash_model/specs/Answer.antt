@@ -2,11 +2,11 @@
 use Rattle.std.specs.Prelude.{◌≡◌, ℕ, ◌≤◌, List, length, Option, Ok, Err, All}
 use Rattle.patch_sets.specs.Machine.{CanLeave}
 use Rattle.patch_sets.specs.Sets.{AreAllInOrder}
-use Rattle.crash_model.specs.Disk.{Disk, formatted, IsGeometry}
+use Rattle.crash_model.specs.Disk.{Disk, empty_disk, IsGeometry}
 use Rattle.crash_model.specs.Patches.{deps_of, homes_of}
 use Rattle.crash_model.specs.Refusals.{run_of_script, run_of_trace}
 use Rattle.crash_model.specs.Rules.{rules_under}
-use Rattle.crash_model.specs.Trace.{Tracing, begun, traced, based, IsGraphOf}
+use Rattle.crash_model.specs.Trace.{Tracing, trace_start, trace_from, base_from, IsGraphOf}
 use Rattle.crash_model.specs.Failing.{CountsClosed, ExceedsLimit}
 use Rattle.crash_model.specs.Strict.{IsToldKept, IsFailingUnder}
 use Rattle.crash_model.specs.Lists.{when}
@@ -37,7 +37,7 @@ pub record HasBase (bytes : List ℕ) (settings : Settings) (base : Disk) (steps
   pub before : List Step
   pub read : IsScript bytes before steps
   pub geometry : IsGeometry settings.blocks settings.journal
-  pub built : based (formatted settings.blocks settings.journal) before ≡ Ok base
+  pub built : base_from (empty_disk settings.blocks settings.journal) before ≡ Ok base
 
 -- the rules of the ordering that the settings ask for
 abbrev pub ordering_rules : Settings → List Rule
@@ -47,7 +47,7 @@ ordering_rules settings = rules_under settings.module settings.without.items set
 pub record HasGraph (bytes : List ℕ) (settings : Settings) (base : Disk) (last : Tracing) (patches : List Patch) : Type 0 where
   pub steps : List Step
   pub start : HasBase bytes settings base steps
-  pub run : traced settings.module (begun base) steps ≡ Ok last
+  pub run : trace_from settings.module (trace_start base) steps ≡ Ok last
   pub graph : IsGraphOf (ordering_rules settings) base last patches
 
 -- how much is told of a set, where the checker is told of these kept inodes or of none
@@ -91,10 +91,10 @@ pub data IsAnswer (bytes : List ℕ) (settings : Settings) : Answer → Type 0 w
   bad_geometry : (before steps : List Step) → IsScript bytes before steps → ¬ (IsGeometry settings.blocks settings.journal)
       → IsAnswer bytes settings (Refused BadGeometry)
   bad_base : (before steps : List Step) (fault : TraceFault) → IsScript bytes before steps → IsGeometry settings.blocks settings.journal
-      → based (formatted settings.blocks settings.journal) before ≡ Err fault
+      → base_from (empty_disk settings.blocks settings.journal) before ≡ Err fault
       → IsAnswer bytes settings (Refused (run_of_trace fault))
   bad_trace : (base : Disk) (steps : List Step) (fault : TraceFault) → HasBase bytes settings base steps
-      → traced settings.module (begun base) steps ≡ Err fault
+      → trace_from settings.module (trace_start base) steps ≡ Err fault
       → IsAnswer bytes settings (Refused (run_of_trace fault))
   too_many : (base : Disk) (last : Tracing) (patches : List Patch) → HasGraph bytes settings base last patches
       → ExceedsLimit patches settings.limit

@@ -32,18 +32,18 @@ unfoldable pub overwrite : List ℕ → ℕ → List ℕ → List ℕ
 overwrite xs at new = take at xs ++ new ++ drop (at + length new) xs
 
 -- the disk with the new bytes in a block from an offset on
-abbrev pub put : Disk → ℕ → ℕ → List ℕ → Disk
-put d block offset new = record d { bytes = overwrite d.bytes (128 * block + offset) new }
+abbrev pub with_bytes : Disk → ℕ → ℕ → List ℕ → Disk
+with_bytes d block offset new = record d { bytes = overwrite d.bytes (128 * block + offset) new }
 
 -- all bytes 0
-abbrev pub blank : ℕ → ℕ → Disk
-blank blocks journal = record { blocks = blocks; journal = journal; bytes = replicate (128 * blocks) 0 }
+abbrev pub zero_disk : ℕ → ℕ → Disk
+zero_disk blocks journal = record { blocks = blocks; journal = journal; bytes = replicate (128 * blocks) 0 }
 
 -- A new disk: the superblock; in use are the blocks up to the root's; inode 0 is a directory
 -- with one link and the root's block; the root's block is marked as that of inode 0; all else is 0.
-abbrev pub formatted : ℕ → ℕ → Disk
-formatted blocks journal =
-    put (put (put (put (blank blocks journal)
+abbrev pub empty_disk : ℕ → ℕ → Disk
+empty_disk blocks journal =
+    with_bytes (with_bytes (with_bytes (with_bytes (zero_disk blocks journal)
     0 0 (0x53 ∷ blocks ∷ journal ∷ []))
     1 0 (replicate (5 + journal) 1))
     2 0 (2 ∷ 1 ∷ 0 ∷ 0 ∷ (4 + journal) ∷ []))

@@ -2,14 +2,14 @@
 use Rattle.std.specs.Prelude.{ℕ, List, [], ◌∷◌, ◌++◌, length, map, flat_map, if◌then◌else◌, Option, Some, None, slice_get, codes, decimal}
 use Rattle.std.specs.List.{range_with_len}
 use Rattle.hex.specs.Hex.{encode_lower}
-use Rattle.crash_model.specs.Lists.{joined, some_below, when}
+use Rattle.crash_model.specs.Lists.{join_of, some_below, when}
 use Rattle.crash_model.specs.Disk.{Disk, block_of}
 use Rattle.crash_model.specs.Patches.{overlap}
 use Rattle.crash_model.specs.Rules.{part_text, rule_text}
 use Rattle.crash_model.specs.Script.{words_of}
 use Rattle.crash_model.specs.Trace.{Emitted, Tracing, groups_depend, rules_between, depends}
-use Rattle.crash_model.specs.Report.{line, quoted, json_array}
-use Rattle.crash_model.specs.declared.names.Op.{Op}
+use Rattle.crash_model.specs.Report.{line, json_string, json_array}
+use Rattle.crash_model.specs.declared.operations.Op.{Op}
 use Rattle.crash_model.specs.declared.patches.Patch.{Patch}
 use Rattle.crash_model.specs.declared.rules.Rule.{Rule}
 use Rattle.crash_model.specs.declared.steps.Act.TheVariants.{Do}
@@ -69,16 +69,16 @@ explanation rules base s patches = record { base = blocks_of base; patches = tol
 
 -- the words of an operation's line
 abbrev pub op_text : Op → List ℕ
-op_text op = joined 32 (words_of (Do op))
+op_text op = join_of 32 (words_of (Do op))
 
 -- the texts with a comma and a space between two
-abbrev pub listed : List (List ℕ) → List ℕ
-listed [] = []
-listed (x ∷ []) = x
-listed (x ∷ y ∷ ys) = x ++ codes ", " ++ listed (y ∷ ys)
+abbrev pub list_text : List (List ℕ) → List ℕ
+list_text [] = []
+list_text (x ∷ []) = x
+list_text (x ∷ y ∷ ys) = x ++ codes ", " ++ list_text (y ∷ ys)
 
 abbrev pub dependency_text : Dependency → List ℕ
-dependency_text w = line (codes "after " ++ decimal w.id ++ codes ": " ++ listed w.reasons)
+dependency_text w = line (codes "after " ++ decimal w.id ++ codes ": " ++ list_text w.reasons)
 
 abbrev pub told_text : ToldPatch → List ℕ
 told_text t =
@@ -95,10 +95,10 @@ explanation_text (Some told) = flat_map told_text told.patches
 -- ---- JSON
 
 abbrev pub hex_json : List ℕ → List ℕ
-hex_json bytes = quoted (encode_lower bytes)
+hex_json bytes = json_string (encode_lower bytes)
 
 abbrev pub dependency_json : Dependency → List ℕ
-dependency_json w = codes "{\"patch\":" ++ decimal w.id ++ codes ",\"why\":" ++ json_array (map quoted w.reasons) ++ codes "}"
+dependency_json w = codes "{\"patch\":" ++ decimal w.id ++ codes ",\"why\":" ++ json_array (map json_string w.reasons) ++ codes "}"
 
 abbrev pub told_json : ToldPatch → List ℕ
 told_json t =
@@ -108,8 +108,8 @@ told_json t =
     ++ codes ",\"line\":" ++ decimal e.origin.line
     ++ codes ",\"new\":" ++ hex_json e.place.new
     ++ codes ",\"offset\":" ++ decimal e.place.offset
-    ++ codes ",\"part\":" ++ quoted (part_text e.part)
-    ++ codes ",\"step\":" ++ quoted (op_text e.origin.op)
+    ++ codes ",\"part\":" ++ json_string (part_text e.part)
+    ++ codes ",\"step\":" ++ json_string (op_text e.origin.op)
     ++ codes ",\"undo\":" ++ hex_json t.undo ++ codes "}"
 
 -- the first key, with a comma behind it

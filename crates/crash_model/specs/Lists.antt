@@ -71,7 +71,7 @@ first_below-lowest n k test below none holds = first_below-found n k test below 
 pub ruleset each_below_steps = (first_below-zero, first_below-step, each_below-zero, each_below-step, some_below-zero, some_below-step)
 
 -- the pieces with the separator between each two
-abbrev pub joined : ℕ → List (List ℕ) → List ℕ
-joined separator [] = []
-joined separator (x ∷ []) = x
-joined separator (x ∷ y ∷ ys) = x ++ (separator ∷ joined separator (y ∷ ys))
+abbrev pub join_of : ℕ → List (List ℕ) → List ℕ
+join_of separator [] = []
+join_of separator (x ∷ []) = x
+join_of separator (x ∷ y ∷ ys) = x ++ (separator ∷ join_of separator (y ∷ ys))

@@ -9,7 +9,7 @@ use Rattle.crash_model.specs.Rules.{rules_in_first, rule_text}
 use Rattle.crash_model.specs.Trace.{Emitted, Tracing, IsGraphOf, applies}
 use Rattle.crash_model.specs.Failing.{CountsClosed, ExceedsLimit}
 use Rattle.crash_model.specs.Strict.{IsFailingUnder}
-use Rattle.crash_model.specs.Report.{Section, AreSections, IsLed, line, section_text, quoted, section_json}
+use Rattle.crash_model.specs.Report.{Section, AreSections, IsLed, line, section_text, json_string, section_json}
 use Rattle.crash_model.specs.declared.patches.Patch.{Patch}
 use Rattle.crash_model.specs.declared.rules.Rule.{Rule}
 use Rattle.crash_model.specs.declared.settings.Detail.{Detail}
@@ -105,4 +105,4 @@ usage_json n rule (Used pairs w) =
     ++ first_json n w.first ++ codes "\"pairs\":" ++ decimal pairs ++ rule
 
 abbrev pub told_rule_json : ℕ → ToldRule → List ℕ
-told_rule_json n t = codes "{" ++ usage_json n (codes ",\"rule\":" ++ quoted (rule_text t.rule)) t.usage ++ codes "}"
+told_rule_json n t = codes "{" ++ usage_json n (codes ",\"rule\":" ++ json_string (rule_text t.rule)) t.usage ++ codes "}"

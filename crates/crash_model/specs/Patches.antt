@@ -1,7 +1,7 @@
 -- Patches, and the disk that a set of them leaves.
 use Rattle.std.specs.Prelude.{◌≡◌, ℕ, ◌+◌, ◌*◌, List, [], ◌∷◌, length, map, slice_range, Bool, ◌&&◌, ◌==◌, nat_lt, if◌then◌else◌}
 use Rattle.patch_sets.specs.Sets.{has}
-use Rattle.crash_model.specs.Disk.{Disk, put}
+use Rattle.crash_model.specs.Disk.{Disk, with_bytes}
 use Rattle.crash_model.specs.declared.patches.Patch.{Patch}
 
 -- for each id the set of the ids that its patch depends on, and its block
@@ -30,7 +30,7 @@ overlap q p = q.block == p.block && nat_lt q.offset (p.offset + length p.new) &&
 -- the disk with the places of a set put in ascending order of their ids, of which the first is `id`
 abbrev pub image_from : ℕ → Disk → List Place → ℕ → Disk
 image_from id d [] set = d
-image_from id d (p ∷ ps) set = image_from (id + 1) (if has set id then put d p.block p.offset p.new else d) ps set
+image_from id d (p ∷ ps) set = image_from (id + 1) (if has set id then with_bytes d p.block p.offset p.new else d) ps set
 
 -- the base with the patches of a set put in ascending order of their ids
 abbrev pub image_of : Disk → List Patch → ℕ → Disk
@@ -41,4 +41,4 @@ abbrev pub AreUndo : Disk → List Patch → Type 0
 AreUndo d [] = Unit {0}
 AreUndo d (p ∷ ps) =
     (p.undo.items ≡ slice_range d.bytes (128 * p.block + p.offset) (128 * p.block + p.offset + length p.new.items))
-    × AreUndo (put d p.block p.offset p.new.items) ps
+    × AreUndo (with_bytes d p.block p.offset p.new.items) ps

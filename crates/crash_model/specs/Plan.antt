@@ -1,11 +1,11 @@
 -- What each operation changes, and when it is refused.
 use Rattle.std.specs.Prelude.{ℕ, ◌+◌, ◌-◌, ◌*◌, ◌/◌, ◌%◌, List, [], ◌∷◌, ◌++◌, length, replicate, Bool, ◌&&◌, ◌==◌, not, nat_le, nat_lt, if◌then◌else◌, Option, Some, None, is_some, is_none, unwrap_or, ok_or, option_map, option_to_list, Result, Ok, Err, bytes_eq}
 use Rattle.crash_model.specs.Lists.{first_below, some_below, when}
-use Rattle.crash_model.specs.Disk.{Disk, put}
+use Rattle.crash_model.specs.Disk.{Disk, with_bytes}
 use Rattle.crash_model.specs.Layout.{kind_of, links_of, pointer_of, map_of, is_live, is_data, counts, entry_of, is_entry, target_of, spelling_of, entry_offset}
-use Rattle.crash_model.specs.declared.names.Op.{Op}
+use Rattle.crash_model.specs.declared.operations.Op.{Op}
 use Rattle.crash_model.specs.declared.names.Path.{Path}
-use Rattle.crash_model.specs.declared.names.Op.TheVariants.{Create, Write, Link, Unlink, Rename, Mkdir, Rmdir}
+use Rattle.crash_model.specs.declared.operations.Op.TheVariants.{Create, Write, Link, Unlink, Rename, Mkdir, Rmdir}
 use Rattle.crash_model.specs.declared.refusals.FsFault.{FsFault}
 use Rattle.crash_model.specs.declared.refusals.FsFault.TheVariants.{NotFound, NotADirectory, Exists, NotAFile, NotEmpty, NoInode, NoBlock, DirectoryFull, FileFull, LinksFull}
 use Rattle.crash_model.specs.declared.plans.Change.{Change}
@@ -15,12 +15,12 @@ use Rattle.crash_model.specs.declared.plans.Role.TheVariants.{InodeInit, EntrySe
 -- ---- names
 
 -- an entry's bytes 1 to 11 for a name
-abbrev pub spelled : List ℕ → List ℕ
-spelled name = length name ∷ name ++ replicate (10 - length name) 0
+abbrev pub name_spelling : List ℕ → List ℕ
+name_spelling name = length name ∷ name ++ replicate (10 - length name) 0
 
 -- entry k has the name, and its target is live
 abbrev pub is_named : Disk → ℕ → List ℕ → ℕ → Bool
-is_named d dir name k = is_entry d dir k && is_live d (target_of d dir k) && bytes_eq (spelling_of d dir k) (spelled name)
+is_named d dir name k = is_entry d dir k && is_live d (target_of d dir k) && bytes_eq (spelling_of d dir k) (name_spelling name)
 
 -- the lowest entry of this name, in a directory that counts, whose target is live
 abbrev pub entry_named : Disk → ℕ → List ℕ → Option ℕ
@@ -32,9 +32,9 @@ abbrev pub inode_named : Disk → ℕ → List ℕ → Option ℕ
 inode_named d dir name = option_map (target_of d dir) (entry_named d dir name)
 
 -- the directory that a name leads to
-abbrev pub entered : Disk → Option ℕ → Result ℕ FsFault
-entered d None = Err NotFound
-entered d (Some inode) = if kind_of d inode == 2 then Ok inode else Err NotADirectory
+abbrev pub directory_of : Disk → Option ℕ → Result ℕ FsFault
+directory_of d None = Err NotFound
+directory_of d (Some inode) = if kind_of d inode == 2 then Ok inode else Err NotADirectory
 
 -- the second answer, made of the first where that is Ok
 abbrev pub then_ok : {A B : Type 0} → Result A FsFault → (A → Result B FsFault) → Result B FsFault
@@ -42,13 +42,13 @@ then_ok (Err e) next = Err e
 then_ok (Ok x) next = next x
 
 -- the directory that these names lead to
-abbrev pub walked : Disk → ℕ → List (List ℕ) → Result ℕ FsFault
-walked d dir [] = Ok dir
-walked d dir (name ∷ names) = then_ok (entered d (inode_named d dir name)) (λ child. walked d child names)
+abbrev pub walk_end : Disk → ℕ → List (List ℕ) → Result ℕ FsFault
+walk_end d dir [] = Ok dir
+walk_end d dir (name ∷ names) = then_ok (directory_of d (inode_named d dir name)) (λ child. walk_end d child names)
 
 -- what is planned in the directory and with the name that a path leads to
 abbrev pub at_path : {B : Type 0} → Disk → Path → (ℕ → List ℕ → Result B FsFault) → Result B FsFault
-at_path d path plan = then_ok (walked d 0 path.through.items) (λ dir. plan dir path.last)
+at_path d path plan = then_ok (walk_end d 0 path.through.items) (λ dir. plan dir path.last)
 
 -- what is planned with the directory and the entry that a path leads to
 abbrev pub at_entry : {B : Type 0} → Disk → Path → (ℕ → ℕ → Result B FsFault) → Result B FsFault
@@ -103,7 +103,7 @@ abbrev pub pointer_set : ℕ → ℕ → ℕ → Change
 pointer_set inode slot block = at_inode Ptr inode (4 + slot) (block ∷ [])
 
 abbrev pub entry_set : Disk → ℕ → ℕ → ℕ → List ℕ → Change
-entry_set d dir k inode name = change EntrySet (pointer_of d dir 0) (entry_offset k) ((inode + 1) ∷ spelled name)
+entry_set d dir k inode name = change EntrySet (pointer_of d dir 0) (entry_offset k) ((inode + 1) ∷ name_spelling name)
 
 abbrev pub entry_clear : Disk → ℕ → ℕ → Change
 entry_clear d dir k = change EntryClear (pointer_of d dir 0) (entry_offset k) (replicate 12 0)
@@ -138,8 +138,8 @@ abbrev pub has_entries : Disk → ℕ → Bool
 has_entries d dir = is_some (first_below 10 (is_entry d dir))
 
 -- the tests that link and rename share; the plan gets the old directory and entry, the target, the new directory and name
-abbrev pub relinked : Disk → Path → Path → (ℕ → ℕ → ℕ → ℕ → List ℕ → List Change) → Result (List Change) FsFault
-relinked d old new changes =
+abbrev pub relink_plan : Disk → Path → Path → (ℕ → ℕ → ℕ → ℕ → List ℕ → List Change) → Result (List Change) FsFault
+relink_plan d old new changes =
     at_entry d old (λ old_dir k. at_path d new (λ dir name.
     let target = target_of d old_dir k in
     unless ((is_some (entry_named d dir name), Exists) ∷ (not (kind_of d target == 1), NotAFile)
@@ -159,7 +159,7 @@ plan_of d (Write path) =
     unless ((not (kind_of d target == 1), NotAFile) ∷ (is_none (free_block d), NoBlock) ∷ (is_none (free_slot d target), FileFull) ∷ [])
     (map_set block ∷ init_block InitFile block 0x46 target ∷ pointer_set target (unwrap_or (free_slot d target) 0) block ∷ []))
 plan_of d (Link old new) =
-    relinked d old new (λ old_dir k target dir name.
+    relink_plan d old new (λ old_dir k target dir name.
     link_count LinkUp target (links_of d target + 1) ∷ entry_set d dir (unwrap_or (free_entry d dir) 0) target name ∷ [])
 plan_of d (Unlink path) =
     at_entry d path (λ dir k.
@@ -170,7 +170,7 @@ plan_of d (Unlink path) =
     then link_count LinkDown target (links_of d target - 1) ∷ []
     else (inode_free target ∷ map_clears d target))))
 plan_of d (Rename old new) =
-    relinked d old new (λ old_dir k target dir name.
+    relink_plan d old new (λ old_dir k target dir name.
     link_count LinkUp target (links_of d target + 1) ∷ entry_set d dir (unwrap_or (free_entry d dir) 0) target name
     ∷ entry_clear d old_dir k ∷ link_count LinkDown target (links_of d target) ∷ [])
 plan_of d (Mkdir path) =
@@ -188,11 +188,11 @@ plan_of d (Rmdir path) =
     (entry_clear d dir k ∷ inode_free target ∷ option_to_list (map_clear_at d target 0)))
 
 -- the disk with a list of changes made, the first first
-abbrev pub applied : Disk → List Change → Disk
-applied d [] = d
-applied d (c ∷ cs) = applied (put d c.block c.offset c.new.items) cs
+abbrev pub with_changes : Disk → List Change → Disk
+with_changes d [] = d
+with_changes d (c ∷ cs) = with_changes (with_bytes d c.block c.offset c.new.items) cs
 
 -- the same of an answer: as it was where it is a refusal
-abbrev pub result_applied : Disk → Result (List Change) FsFault → Disk
-result_applied d (Err e) = d
-result_applied d (Ok cs) = applied d cs
+abbrev pub with_plan : Disk → Result (List Change) FsFault → Disk
+with_plan d (Err e) = d
+with_plan d (Ok cs) = with_changes d cs

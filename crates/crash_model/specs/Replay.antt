@@ -50,5 +50,5 @@ copy_after d block found [] = found
 copy_after d block found (j ∷ js) = copy_after d block (unwrap_or (copy_in (block_of d j) j block) found) js
 
 -- each block is its last committed copy, or itself
-abbrev pub replayed : Disk → Disk
-replayed d = record d { bytes = flat_map (λ block. block_of d (copy_after d block block (headers d))) (range_with_len 0 d.blocks) }
+abbrev pub image_after_replay : Disk → Disk
+image_after_replay d = record d { bytes = flat_map (λ block. block_of d (copy_after d block block (headers d))) (range_with_len 0 d.blocks) }

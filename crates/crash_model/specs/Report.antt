@@ -5,17 +5,17 @@ use Rattle.patch_sets.specs.Machine.{LeadTo}
 use Rattle.patch_sets.specs.Sets.{ids_of}
 use Rattle.patch_sets.specs.Writes.{AreRuns, events_of}
 use Rattle.patch_sets.specs.declared.write.BlockWrite.{BlockWrite}
-use Rattle.crash_model.specs.Lists.{joined, some_below, when}
+use Rattle.crash_model.specs.Lists.{join_of, some_below, when}
 use Rattle.crash_model.specs.Disk.{Disk, block_of}
 use Rattle.crash_model.specs.Patches.{deps_of, homes_of, image_of}
-use Rattle.crash_model.specs.Replay.{replayed}
+use Rattle.crash_model.specs.Replay.{image_after_replay}
 use Rattle.crash_model.specs.Strict.{faults_under}
 use Rattle.crash_model.specs.declared.fault.Fault.{Fault}
 use Rattle.crash_model.specs.declared.fault.Fault.TheVariants.{Dangling, Twice, Unwritten, LowLinks, MarkedFree, Wild, Lost, NoBlock}
 use Rattle.crash_model.specs.declared.patches.Patch.{Patch}
 use Rattle.crash_model.specs.declared.settings.Detail.{Detail}
-use Rattle.crash_model.specs.declared.steps.Module.{Module}
-use Rattle.crash_model.specs.declared.steps.Module.TheVariants.{Async, Soft, Meta, Full}
+use Rattle.crash_model.specs.declared.modules.Module.{Module}
+use Rattle.crash_model.specs.declared.modules.Module.TheVariants.{Async, Soft, Meta, Full}
 
 -- ---- what is told of a set
 
@@ -39,7 +39,7 @@ pub record Section : Type 0 where
 
 -- what replay changes in an image, where it is to be explained
 abbrev pub replay_of : Bool → Disk → Option (List ReplayedBlock)
-replay_of explain image = if explain then Some (changed_blocks image (replayed image)) else None
+replay_of explain image = if explain then Some (changed_blocks image (image_after_replay image)) else None
 
 -- the sections of these sets, in their order
 abbrev pub AreSections : Detail → Disk → List Patch → List ℕ → List Section → Type 0
@@ -50,7 +50,7 @@ AreSections detail base patches (set ∷ sets) sections =
       set = set;
       writes = writes;
       replay = replay_of detail.explain (image_of base patches set);
-      found = faults_under detail.kept (replayed (image_of base patches set));
+      found = faults_under detail.kept (image_after_replay (image_of base patches set));
     } ∷ rest)
 
 -- the section's block writes lead to its set
@@ -104,12 +104,12 @@ section_text n s = crash_text n s ++ flat_map (λ f. line (codes "fault " ++ fau
 
 -- ---- JSON
 
-abbrev pub quoted : List ℕ → List ℕ
-quoted text = codes "\"" ++ text ++ codes "\""
+abbrev pub json_string : List ℕ → List ℕ
+json_string text = codes "\"" ++ text ++ codes "\""
 
 -- the items with a comma between two
 abbrev pub json_array : List (List ℕ) → List ℕ
-json_array items = codes "[" ++ joined 44 items ++ codes "]"
+json_array items = codes "[" ++ join_of 44 items ++ codes "]"
 
 abbrev pub ids_json : ℕ → ℕ → List ℕ
 ids_json n set = json_array (map decimal (ids_of n set))
@@ -121,7 +121,7 @@ abbrev pub writes_json : ℕ → List BlockWrite → List ℕ
 writes_json n writes = json_array (map (write_json n) writes)
 
 abbrev pub replayed_json : ReplayedBlock → List ℕ
-replayed_json r = codes "{\"block\":" ++ decimal r.block ++ codes ",\"bytes\":" ++ quoted (encode_lower r.bytes) ++ codes "}"
+replayed_json r = codes "{\"block\":" ++ decimal r.block ++ codes ",\"bytes\":" ++ json_string (encode_lower r.bytes) ++ codes "}"
 
 -- a key with its value and a comma, where there is one
 abbrev pub replay_json : Option (List ReplayedBlock) → List ℕ
@@ -130,7 +130,7 @@ replay_json (Some replay) = codes "\"replay\":" ++ json_array (map replayed_json
 
 abbrev pub section_json : ℕ → Section → List ℕ
 section_json n s =
-    codes "{\"faults\":" ++ json_array (map (λ f. quoted (fault_text f)) s.found) ++ codes ","
+    codes "{\"faults\":" ++ json_array (map (λ f. json_string (fault_text f)) s.found) ++ codes ","
     ++ replay_json s.replay
     ++ codes "\"set\":" ++ ids_json n s.set
     ++ codes ",\"writes\":" ++ writes_json n s.writes ++ codes "}"

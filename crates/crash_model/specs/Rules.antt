@@ -10,8 +10,8 @@ use Rattle.crash_model.specs.declared.rules.RulePart.TheVariants.{Change, InPlac
 use Rattle.crash_model.specs.declared.rules.Scope.{Scope}
 use Rattle.crash_model.specs.declared.rules.Scope.TheVariants.{Same, Previous}
 use Rattle.crash_model.specs.declared.rules.Rule.{Rule}
-use Rattle.crash_model.specs.declared.steps.Module.{Module}
-use Rattle.crash_model.specs.declared.steps.Module.TheVariants.{Async, Soft, Meta, Full}
+use Rattle.crash_model.specs.declared.modules.Module.{Module}
+use Rattle.crash_model.specs.declared.modules.Module.TheVariants.{Async, Soft, Meta, Full}
 
 -- ---- roles
 
@@ -94,39 +94,39 @@ are_scoped Previous later earlier = later == earlier + 1
 
 -- ---- the orderings
 
-abbrev pub same : RulePart → RulePart → Rule
-same later earlier = record { later = later; earlier = earlier; scope = Same }
+abbrev pub same_rule : RulePart → RulePart → Rule
+same_rule later earlier = record { later = later; earlier = earlier; scope = Same }
 
-abbrev pub previous : RulePart → RulePart → Rule
-previous later earlier = record { later = later; earlier = earlier; scope = Previous }
+abbrev pub previous_rule : RulePart → RulePart → Rule
+previous_rule later earlier = record { later = later; earlier = earlier; scope = Previous }
 
 -- soft updates
 abbrev pub soft_rules : List Rule
 soft_rules =
-    same (Change EntrySet) (Change InodeInit)
-    ∷ same (Change EntrySet) (Change LinkUp)
-    ∷ same (Change EntrySet) (Change Ptr)
-    ∷ same (Change InitFile) (Change MapSet)
-    ∷ same (Change InitDir) (Change MapSet)
-    ∷ same (Change Ptr) (Change InitFile)
-    ∷ same (Change Ptr) (Change InitDir)
-    ∷ same (Change Ptr) (Change MapSet)
-    ∷ same (Change LinkDown) (Change EntryClear)
-    ∷ same (Change InodeFree) (Change EntryClear)
-    ∷ same (Change MapClear) (Change InodeFree)
-    ∷ same (Change EntryClear) (Change EntrySet)
+    same_rule (Change EntrySet) (Change InodeInit)
+    ∷ same_rule (Change EntrySet) (Change LinkUp)
+    ∷ same_rule (Change EntrySet) (Change Ptr)
+    ∷ same_rule (Change InitFile) (Change MapSet)
+    ∷ same_rule (Change InitDir) (Change MapSet)
+    ∷ same_rule (Change Ptr) (Change InitFile)
+    ∷ same_rule (Change Ptr) (Change InitDir)
+    ∷ same_rule (Change Ptr) (Change MapSet)
+    ∷ same_rule (Change LinkDown) (Change EntryClear)
+    ∷ same_rule (Change InodeFree) (Change EntryClear)
+    ∷ same_rule (Change MapClear) (Change InodeFree)
+    ∷ same_rule (Change EntryClear) (Change EntrySet)
     ∷ []
 
 -- a journal
 abbrev pub journal_rules : List Rule
 journal_rules =
-    previous FileData Commit
-    ∷ same Commit Copy
-    ∷ same Commit FileData
-    ∷ previous Commit Commit
-    ∷ same InPlace Commit
-    ∷ same Done InPlace
-    ∷ previous Done Done
+    previous_rule FileData Commit
+    ∷ same_rule Commit Copy
+    ∷ same_rule Commit FileData
+    ∷ previous_rule Commit Commit
+    ∷ same_rule InPlace Commit
+    ∷ same_rule Done InPlace
+    ∷ previous_rule Done Done
     ∷ []
 
 abbrev pub rules_of : Module → List Rule
@@ -165,19 +165,19 @@ abbrev pub rules_in_first : List Rule → List Rule → List Rule
 rules_in_first rules others = filter (λ rule. not (has_rule others rule)) rules
 
 -- the module's rules that are taken out, and those that stay
-abbrev pub taken_out : Module → List Rule → List Rule
-taken_out kind without = rules_in_both (rules_of kind) without
+abbrev pub rules_taken_out : Module → List Rule → List Rule
+rules_taken_out kind without = rules_in_both (rules_of kind) without
 
 abbrev pub kept_rules : Module → List Rule → List Rule
 kept_rules kind without = rules_in_first (rules_of kind) without
 
 -- the rules that are put in, where the module's list has not kept them
-abbrev pub put_in : Module → List Rule → List Rule → List Rule
-put_in kind without with = rules_in_first with (kept_rules kind without)
+abbrev pub rules_put_in : Module → List Rule → List Rule → List Rule
+rules_put_in kind without with = rules_in_first with (kept_rules kind without)
 
 -- the rules of the module with some taken out and some put in at the end
 abbrev pub rules_under : Module → List Rule → List Rule → List Rule
-rules_under kind without with = kept_rules kind without ++ put_in kind without with
+rules_under kind without with = kept_rules kind without ++ rules_put_in kind without with
 
 -- each of some rules is among all of them
 abbrev pub AreAmong : List Rule → List Rule → Type 0

@@ -1,9 +1,9 @@
 -- Scripts: their lines, what a line says, and which line is refused first.
 use Rattle.std.specs.Prelude.{◌≡◌, ◌≢◌, ℕ, ◌+◌, ◌≤◌, ◌⊎◌, List, [], ◌∷◌, ◌++◌, length, codes, IsUtf8, Some, flat_map, slice_get, All, Contains}
-use Rattle.crash_model.specs.Lists.{joined}
+use Rattle.crash_model.specs.Lists.{join_of}
 use Rattle.crash_model.specs.Names.{IsName, IsGroupName}
 use Rattle.crash_model.specs.declared.names.Path.{Path}
-use Rattle.crash_model.specs.declared.names.Op.TheVariants.{Create, Write, Link, Unlink, Rename, Mkdir, Rmdir}
+use Rattle.crash_model.specs.declared.operations.Op.TheVariants.{Create, Write, Link, Unlink, Rename, Mkdir, Rmdir}
 use Rattle.crash_model.specs.declared.refusals.ScriptFault.{ScriptFault}
 use Rattle.crash_model.specs.declared.refusals.ScriptFault.TheVariants.{BadUtf8, BadLine, BadPath, NoStart, OutOfMemory}
 use Rattle.crash_model.specs.declared.steps.Act.{Act}
@@ -17,20 +17,20 @@ abbrev pub ArePlain : List (List ℕ) → Type 0
 ArePlain lines = All (λ line. ¬ (Contains line 10)) lines
 
 -- each line with a line feed behind it
-abbrev pub spelt : List (List ℕ) → List ℕ
-spelt lines = flat_map (λ line. line ++ 10 ∷ []) lines
+abbrev pub text_of_lines : List (List ℕ) → List ℕ
+text_of_lines lines = flat_map (λ line. line ++ 10 ∷ []) lines
 
 -- the bytes are these lines, each ended by a line feed; the last one may go without, but then it is not empty
 pub record AreLines (bytes : List ℕ) (lines : List (List ℕ)) : Type 0 where
   pub plain : ArePlain lines
-  pub whole : (bytes ≡ spelt lines)
-      ⊎ ((front : List (List ℕ)) × (last : List ℕ) × (last ≢ []) × (lines ≡ front ++ last ∷ []) × (bytes ≡ spelt front ++ last))
+  pub whole : (bytes ≡ text_of_lines lines)
+      ⊎ ((front : List (List ℕ)) × (last : List ℕ) × (last ≢ []) × (lines ≡ front ++ last ∷ []) × (bytes ≡ text_of_lines front ++ last))
 
 -- the text is these words with a space between two
 pub record AreWords (text : List ℕ) (words : List (List ℕ)) : Type 0 where
   pub plain : All (λ word. ¬ (Contains word 32)) words
   pub some : words ≢ []
-  pub whole : text ≡ joined 32 words
+  pub whole : text ≡ join_of 32 words
 
 -- ---- words
 
@@ -119,7 +119,7 @@ IsSkipped line = (line ≡ []) ⊎ (IsUtf8 line × ((rest : List ℕ) × (line �
 abbrev pub Reads : List ℕ → Line → Type 0
 Reads line Skipped = IsSkipped line
 Reads line Start = line ≡ codes "start"
-Reads line (Says act) = IsAct act × (line ≡ joined 32 (words_of act))
+Reads line (Says act) = IsAct act × (line ≡ join_of 32 (words_of act))
 
 -- ---- scripts
 

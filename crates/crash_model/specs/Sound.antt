@@ -4,7 +4,7 @@ use Rattle.crash_model.specs.Disk.{Disk, byte}
 use Rattle.crash_model.specs.Names.{IsName}
 use Rattle.crash_model.specs.Layout.{kind_of, links_of, pointer_of, map_of, is_live, counts, is_entry, target_of, spelling_of}
 use Rattle.crash_model.specs.Faults.{IsClean, entries_to}
-use Rattle.crash_model.specs.Plan.{spelled}
+use Rattle.crash_model.specs.Plan.{name_spelling}
 use Rattle.crash_model.specs.View.{HasName, HasInode, HasPointer}
 
 -- entries lead from inode 0 to an inode in n steps
@@ -23,7 +23,7 @@ pub record IsSound (d : Disk) : Type 0 where
   pub directories : (i : ℕ) → i < 16 → kind_of d i ≡ 2 → IsTrue (counts d i) × ((s : ℕ) → 0 < s → s < 4 → pointer_of d i s ≡ 0)
   pub packed : (i : ℕ) → i < 16 → kind_of d i ≡ 1 → (s : ℕ) → s + 1 < 4 → pointer_of d i s ≡ 0 → pointer_of d i (s + 1) ≡ 0
   -- entries have names, those of one directory different ones
-  pub named : (dir : ℕ) → dir < 16 → (k : ℕ) → k < 10 → IsTrue (is_entry d dir k) → (name : List ℕ) × IsName name × (spelling_of d dir k ≡ spelled name)
+  pub named : (dir : ℕ) → dir < 16 → (k : ℕ) → k < 10 → IsTrue (is_entry d dir k) → (name : List ℕ) × IsName name × (spelling_of d dir k ≡ name_spelling name)
   pub distinct : (dir : ℕ) → dir < 16 → (j k : ℕ) → j < k → k < 10 → IsTrue (is_entry d dir j) → IsTrue (is_entry d dir k) → spelling_of d dir j ≢ spelling_of d dir k
   -- link counts are the numbers of entries: one for a directory, one to eight for a file
   pub counted : (i : ℕ) → 0 < i → IsTrue (is_live d i) → length (entries_to d i) ≡ links_of d i

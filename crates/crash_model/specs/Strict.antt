@@ -7,9 +7,9 @@ use Rattle.crash_model.specs.Disk.{Disk}
 use Rattle.crash_model.specs.Layout.{kind_of, pointer_of, is_live}
 use Rattle.crash_model.specs.Lists.{some_below, when}
 use Rattle.crash_model.specs.Faults.{leads_to, faults}
-use Rattle.crash_model.specs.Plan.{plan_of, result_applied}
+use Rattle.crash_model.specs.Plan.{plan_of, with_plan}
 use Rattle.crash_model.specs.Patches.{deps_of, image_of}
-use Rattle.crash_model.specs.Replay.{replayed}
+use Rattle.crash_model.specs.Replay.{image_after_replay}
 use Rattle.crash_model.specs.declared.fault.Fault.{Fault}
 use Rattle.crash_model.specs.declared.fault.Fault.TheVariants.{Lost, NoBlock}
 use Rattle.crash_model.specs.declared.patches.Patch.{Patch}
@@ -21,7 +21,7 @@ use Rattle.crash_model.specs.declared.steps.Step.{Step}
 
 -- the disk after a step; a group changes nothing, nor does what is refused
 abbrev pub disk_after : Disk → Act → Disk
-disk_after d (Do op) = result_applied d (plan_of d op)
+disk_after d (Do op) = with_plan d (plan_of d op)
 disk_after d _ = d
 
 -- an inode is live in a disk and in the disk after each of the steps
@@ -48,15 +48,15 @@ abbrev pub is_named : Disk → ℕ → ℕ → Bool
 is_named d dir inode = list_any (λ k. leads_to d dir k inode) (range_with_len 0 10)
 
 -- the inodes to which entries lead from inode 0, a directory, in at most so many steps, each to a live inode
-unfoldable pub reached_in : Disk → ℕ → List ℕ
-reached_in d zero = ids_below 16 (λ inode. inode == 0 && kind_of d 0 == 2)
-reached_in d (suc n) =
-    let before = reached_in d n in
+unfoldable pub reach_in : Disk → ℕ → List ℕ
+reach_in d zero = ids_below 16 (λ inode. inode == 0 && kind_of d 0 == 2)
+reach_in d (suc n) =
+    let before = reach_in d n in
     ids_below 16 (λ inode. is_in before inode || (is_live d inode && list_any (λ dir. is_named d dir inode) before))
 
 -- of 16 inodes each that is reached at all is reached in 16 steps
 unfoldable pub is_reached : Disk → ℕ → Bool
-is_reached d inode = is_in (reached_in d 16) inode
+is_reached d inode = is_in (reach_in d 16) inode
 
 -- ---- the faults
 
@@ -91,4 +91,4 @@ pub record IsCleanUnder (kept : Option ℕ) (d : Disk) : Type 0 where
 -- a closed set whose image is not clean after replay
 pub record IsFailingUnder (kept : Option ℕ) (base : Disk) (patches : List Patch) (set : ℕ) : Type 0 where
   pub closed : IsClosed (deps_of patches) set
-  pub unclean : ¬ (IsCleanUnder kept (replayed (image_of base patches set)))
+  pub unclean : ¬ (IsCleanUnder kept (image_after_replay (image_of base patches set)))

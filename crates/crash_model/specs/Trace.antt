@@ -4,7 +4,7 @@ use Rattle.std.specs.List.{range_with_len, list_any}
 use Rattle.patch_sets.specs.Sets.{Has}
 use Rattle.patch_sets.specs.Closed.{AreEarlier}
 use Rattle.crash_model.specs.Disk.{Disk, block_of}
-use Rattle.crash_model.specs.Plan.{plan_of, applied}
+use Rattle.crash_model.specs.Plan.{plan_of, with_changes}
 use Rattle.crash_model.specs.Patches.{Place, place, places_of, deps_of, overlap, AreUndo}
 use Rattle.crash_model.specs.Refusals.{trace_fault}
 use Rattle.crash_model.specs.Rules.{has_part, are_scoped}
@@ -13,13 +13,13 @@ use Rattle.crash_model.specs.declared.refusals.TraceFault.{TraceFault}
 use Rattle.crash_model.specs.declared.refusals.TraceFault.TheVariants as no
 use Rattle.crash_model.specs.declared.plans.Change.{Change}
 use Rattle.crash_model.specs.declared.plans.Role.TheVariants.{InitFile}
-use Rattle.crash_model.specs.declared.names.Op.{Op}
+use Rattle.crash_model.specs.declared.operations.Op.{Op}
 use Rattle.crash_model.specs.declared.rules.Part.{Part}
 use Rattle.crash_model.specs.declared.rules.Part.TheVariants.{InPlace, FileData, Copy, Commit, Done}
 use Rattle.crash_model.specs.declared.rules.Rule.{Rule}
 use Rattle.crash_model.specs.declared.patches.Patch.{Patch}
-use Rattle.crash_model.specs.declared.steps.Module.{Module}
-use Rattle.crash_model.specs.declared.steps.Module.TheVariants.{Meta, Full}
+use Rattle.crash_model.specs.declared.modules.Module.{Module}
+use Rattle.crash_model.specs.declared.modules.Module.TheVariants.{Meta, Full}
 use Rattle.crash_model.specs.declared.steps.Act.{Act}
 use Rattle.crash_model.specs.declared.steps.Act.TheVariants.{Do, Group, End, Depend}
 use Rattle.crash_model.specs.declared.steps.Step.{Step}
@@ -64,19 +64,19 @@ rules_between rules q p = filter (λ rule. applies rule q p) rules
 
 -- ---- the patches of an operation
 
-abbrev pub plain : ℕ → Origin → Change → Emitted
-plain turn origin c = record { place = place c.block c.offset c.new.items; part = InPlace c.role; turn = turn; origin = origin }
+abbrev pub in_place_patch : ℕ → Origin → Change → Emitted
+in_place_patch turn origin c = record { place = place c.block c.offset c.new.items; part = InPlace c.role; turn = turn; origin = origin }
 
 abbrev pub is_file_data : Change → Bool
 is_file_data c = elim c.role [ InitFile ↦ true | _ ↦ false ]
 
 -- the changes that go through the journal under meta
-abbrev pub logged : List Change → List Change
-logged changes = filter (λ c. not (is_file_data c)) changes
+abbrev pub metadata_changes : List Change → List Change
+metadata_changes changes = filter (λ c. not (is_file_data c)) changes
 
 -- the blocks that changes touch, ascending
-abbrev pub touched : ℕ → List Change → List ℕ
-touched blocks changes = filter (λ b. list_any (λ c. c.block == b) changes) (range_with_len 0 blocks)
+abbrev pub touched_blocks : ℕ → List Change → List ℕ
+touched_blocks blocks changes = filter (λ b. list_any (λ c. c.block == b) changes) (range_with_len 0 blocks)
 
 -- a patch of transaction `turn`
 abbrev pub part_of : ℕ → Origin → Part → ℕ → ℕ → List ℕ → Emitted
@@ -88,18 +88,18 @@ copies after turn j origin [] = []
 copies after turn j origin (b ∷ bs) = part_of turn origin Copy j 0 (block_of after b) ∷ copies after turn (j + 1) origin bs
 
 -- changes that go through the journal, as transaction `turn` with its header at journal block j; `after` is the disk after it
-abbrev pub journaled : Disk → ℕ → ℕ → Origin → List ℕ → List Change → List Emitted
-journaled after turn j origin targets changes =
+abbrev pub journal_patches : Disk → ℕ → ℕ → Origin → List ℕ → List Change → List Emitted
+journal_patches after turn j origin targets changes =
     copies after turn (j + 1) origin targets
     ++ (part_of turn origin Commit j 0 (0xC7 ∷ turn ∷ length targets ∷ targets)
-    ∷ (map (plain turn origin) changes
+    ∷ (map (in_place_patch turn origin) changes
     ++ (part_of turn origin Done j 0 (0xC8 ∷ []) ∷ [])))
 
 -- the operation with the file data that go ahead of it
 abbrev pub transaction : Disk → ℕ → ℕ → Origin → List Change → List Emitted
 transaction after turn j origin changes =
     map (λ c. part_of turn origin FileData c.block c.offset c.new.items) (filter is_file_data changes)
-    ++ journaled after turn j origin (touched after.blocks (logged changes)) (logged changes)
+    ++ journal_patches after turn j origin (touched_blocks after.blocks (metadata_changes changes)) (metadata_changes changes)
 
 -- ---- the steps
 
@@ -116,8 +116,8 @@ pub record Tracing : Type 0 where
   pub ended : List (List ℕ)
   pub links : List (List ℕ × List ℕ)
 
-abbrev pub begun : Disk → Tracing
-begun base = record { disk = base; emitted = []; turn = 1; journal = 4; current = None; opened = []; ended = []; links = [] }
+abbrev pub trace_start : Disk → Tracing
+trace_start base = record { disk = base; emitted = []; turn = 1; journal = 4; current = None; opened = []; ended = []; links = [] }
 
 abbrev pub refuse_if : {A : Type 0} → Bool → TraceFault → A → Result A TraceFault
 refuse_if test fault answer = if test then Err fault else Ok answer
@@ -128,19 +128,19 @@ then_trace (Ok x) next = next x
 
 -- how many journal blocks an operation takes, and its patches
 abbrev pub journal_blocks : Module → ℕ → List Change → ℕ
-journal_blocks Meta blocks changes = 1 + length (touched blocks (logged changes))
-journal_blocks Full blocks changes = 1 + length (touched blocks changes)
+journal_blocks Meta blocks changes = 1 + length (touched_blocks blocks (metadata_changes changes))
+journal_blocks Full blocks changes = 1 + length (touched_blocks blocks changes)
 journal_blocks _ blocks changes = 0
 
 abbrev pub patches_by : Module → Disk → ℕ → ℕ → Origin → List Change → List Emitted
 patches_by Meta after turn j origin changes = transaction after turn j origin changes
-patches_by Full after turn j origin changes = journaled after turn j origin (touched after.blocks changes) changes
-patches_by _ after turn j origin changes = map (plain turn origin) changes
+patches_by Full after turn j origin changes = journal_patches after turn j origin (touched_blocks after.blocks changes) changes
+patches_by _ after turn j origin changes = map (in_place_patch turn origin) changes
 
-abbrev pub planned : Module → ℕ → Op → Tracing → Result (List Change) FsFault → Result Tracing TraceFault
-planned kind line op s (Err e) = Err (trace_fault line e)
-planned kind line op s (Ok changes) =
-    let after = applied s.disk changes in
+abbrev pub trace_of_plan : Module → ℕ → Op → Tracing → Result (List Change) FsFault → Result Tracing TraceFault
+trace_of_plan kind line op s (Err e) = Err (trace_fault line e)
+trace_of_plan kind line op s (Ok changes) =
+    let after = with_changes s.disk changes in
     let more = patches_by kind after s.turn s.journal (origin_at line op s.current) changes in
     let next = s.journal + journal_blocks kind s.disk.blocks changes in
     if nat_lt (4 + s.disk.journal) next then Err (no.JournalFull line)
@@ -155,7 +155,7 @@ ended_group s line None = Err (no.GroupFault line)
 ended_group s line (Some a) = Ok (record s { current = None; ended = s.ended ++ a ∷ [] })
 
 abbrev pub step : Module → Tracing → ℕ → Act → Result Tracing TraceFault
-step kind s line (Do op) = planned kind line op s (plan_of s.disk op)
+step kind s line (Do op) = trace_of_plan kind line op s (plan_of s.disk op)
 step kind s line (Group a) =
     refuse_if (is_some s.current || is_among a s.opened) (no.GroupFault line)
     (record s { current = Some a; opened = s.opened ++ a ∷ [] })
@@ -165,17 +165,17 @@ step kind s line (Depend b a) =
     (record s { links = s.links ++ (b, a) ∷ [] })
 
 -- all steps, up to the first refused one
-abbrev pub traced : Module → Tracing → List Step → Result Tracing TraceFault
-traced kind s [] = Ok s
-traced kind s (x ∷ xs) = then_trace (step kind s x.line x.act) (λ next. traced kind next xs)
+abbrev pub trace_from : Module → Tracing → List Step → Result Tracing TraceFault
+trace_from kind s [] = Ok s
+trace_from kind s (x ∷ xs) = then_trace (step kind s x.line x.act) (λ next. trace_from kind next xs)
 
 -- ---- the base
 
 -- the disk after the operations of the steps; a group has no place there
-abbrev pub based : Disk → List Step → Result Disk TraceFault
-based d [] = Ok d
-based d (x ∷ xs) = elim x.act [
-  | Do op ↦ elim (plan_of d op) [ Err e ↦ Err (trace_fault x.line e) | Ok changes ↦ based (applied d changes) xs ]
+abbrev pub base_from : Disk → List Step → Result Disk TraceFault
+base_from d [] = Ok d
+base_from d (x ∷ xs) = elim x.act [
+  | Do op ↦ elim (plan_of d op) [ Err e ↦ Err (trace_fault x.line e) | Ok changes ↦ base_from (with_changes d changes) xs ]
   | _ ↦ Err (no.GroupFault x.line)
 ]
 

@@ -2,14 +2,14 @@
 use Rattle.std.specs.Prelude.{◌≡◌, ◌≢◌, ℕ, ◌<◌, List, IsTrue}
 use Rattle.crash_model.specs.Disk.{Disk}
 use Rattle.crash_model.specs.Layout.{kind_of, links_of, pointer_of, map_of, is_live, is_data, is_entry, target_of, spelling_of, is_pointer}
-use Rattle.crash_model.specs.Plan.{spelled}
+use Rattle.crash_model.specs.Plan.{name_spelling}
 
 -- a name of a directory leads to an inode
 pub record HasName (d : Disk) (dir : ℕ) (name : List ℕ) (inode : ℕ) : Type 0 where
   pub place : ℕ
   pub within : (dir < 16) × (place < 10)
   pub used : IsTrue (is_entry d dir place)
-  pub spelt : spelling_of d dir place ≡ spelled name
+  pub spelt : spelling_of d dir place ≡ name_spelling name
   pub target : target_of d dir place ≡ inode
 
 -- a live inode with its kind and link count

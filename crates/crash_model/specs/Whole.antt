@@ -1,7 +1,7 @@
 -- A whole report, as text and as JSON.
 use Rattle.std.specs.Prelude.{ℕ, List, [], ◌∷◌, ◌++◌, map, flat_map, if◌then◌else◌, Option, codes, decimal}
-use Rattle.crash_model.specs.Rules.{rule_text, taken_out, put_in}
-use Rattle.crash_model.specs.Report.{Section, module_text, line, section_text, quoted, json_array, section_json}
+use Rattle.crash_model.specs.Rules.{rule_text, rules_taken_out, rules_put_in}
+use Rattle.crash_model.specs.Report.{Section, module_text, line, section_text, json_string, json_array, section_json}
 use Rattle.crash_model.specs.Explain.{Explanation, explanation_text, base_json, trace_json}
 use Rattle.crash_model.specs.Summary.{ToldFault, told_fault_text, told_fault_json}
 use Rattle.crash_model.specs.Needs.{ToldRule, told_rule_text, told_rule_json}
@@ -24,10 +24,10 @@ pub record Report : Type 0 where
 
 -- the rules that a report tells as taken out and as put in
 abbrev pub told_without : Settings → List Rule
-told_without settings = taken_out settings.module settings.without.items
+told_without settings = rules_taken_out settings.module settings.without.items
 
 abbrev pub told_with : Settings → List Rule
-told_with settings = put_in settings.module settings.without.items settings.with.items
+told_with settings = rules_put_in settings.module settings.without.items settings.with.items
 
 -- ---- text
 
@@ -60,7 +60,7 @@ text_report settings r =
 -- a key with the texts of the rules, where there are any
 abbrev pub rules_json : List ℕ → List Rule → List ℕ
 rules_json key [] = []
-rules_json key (rule ∷ rules) = codes "," ++ quoted key ++ codes ":" ++ json_array (map (λ r. quoted (rule_text r)) (rule ∷ rules))
+rules_json key (rule ∷ rules) = codes "," ++ json_string key ++ codes ":" ++ json_array (map (λ r. json_string (rule_text r)) (rule ∷ rules))
 
 -- the body's keys before `module`
 abbrev pub early_json : ℕ → ℕ → Body → List ℕ
@@ -79,7 +79,7 @@ json_report settings r =
     codes "{" ++ base_json r.explanation
     ++ codes "\"closed\":" ++ decimal r.closed
     ++ early_json r.patches r.failing r.body
-    ++ codes ",\"module\":" ++ quoted (module_text settings.module)
+    ++ codes ",\"module\":" ++ json_string (module_text settings.module)
     ++ codes ",\"patches\":" ++ decimal r.patches
     ++ late_json r.patches r.failing r.body
     ++ (if settings.strict then codes ",\"strict\":true" else [])

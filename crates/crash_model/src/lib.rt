@@ -6,7 +6,9 @@
 #![tactic(auto)]
 
 pub mod fault;
+pub mod modules;
 pub mod names;
+pub mod operations;
 pub mod orderings;
 pub mod patches;
 pub mod plans;

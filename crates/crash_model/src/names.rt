@@ -1,9 +1,9 @@
-//! Names, paths and operations.
+//! Names and paths.
 
 ghost use Rattle.std.specs.Prelude.{◌≡◌, ℕ, ◌-◌, ◌≤◌, ◌<◌, ◌++◌, ◌↔◌, replicate, length, IsTrue, MatchOption, slice_index, ◌≢◌};
 ghost use Rattle.std.specs.List.{list_all};
 ghost use Rattle.crash_model.specs.Names.{IsName, IsGroupName, IsShort, is_name_byte, is_group_byte, BeginsWith, HasFirstName};
-ghost use Rattle.crash_model.specs.Plan.{spelled};
+ghost use Rattle.crash_model.specs.Plan.{name_spelling};
 
 use arrayvec::ArrayVec;
 use std::marker::Model;
@@ -60,7 +60,7 @@ impl Name {
 
     /// Bytes 1 to 11 of a directory entry of this name: its length, the name, and zeros.
     pub fn spelled(&self) -> ArrayVec<u8, 11>
-        ensures bytes { result.items ≡ spelled self.now }
+        ensures bytes { result.items ≡ name_spelling self.now }
         ensures name { IsName self.now }
     {
         let mut out = ArrayVec::new();
@@ -175,61 +175,6 @@ fn are_group_bytes(bytes: &[u8]) -> bool
     bytes
         .iter()
         .all(|c| matches!(*c, b'a'..=b'z' | b'0'..=b'9' | b'A'..=b'Z'))
-}
-
-/// An operation on the file system.
-///
-/// In `Link` and `Rename` the first path is the old one.
-#[derive(Drop)]
-pub enum Op {
-    Create(Path),
-    Write(Path),
-    Link(Path, Path),
-    Unlink(Path),
-    Rename(Path, Path),
-    Mkdir(Path),
-    Rmdir(Path),
-}
-
-impl Op {
-    ghost use Rattle.crash_model.specs.Script.{IsAct};
-    ghost use Rattle.crash_model.specs.declared.steps.Act.TheVariants.{Do};
-
-    /// Its paths are paths. This reads them, and changes nothing.
-    pub fn has_paths(&self)
-        ensures { IsAct (Do self.now) }
-    {
-        match self {
-            Op::Create(path)
-            | Op::Write(path)
-            | Op::Unlink(path)
-            | Op::Mkdir(path)
-            | Op::Rmdir(path) => path.has_names(),
-            Op::Link(old, new) | Op::Rename(old, new) => {
-                old.has_names();
-                new.has_names();
-            }
-        }
-    }
-}
-
-impl fmt::Display for Op {
-    ghost use Rattle.std.specs.Prelude.{Some};
-    ghost use Rattle.crash_model.specs.Explain.{op_text};
-
-    ghost output = { λ op. Some (op_text op) };
-
-    fn fmt<W: fmt::Write>(&self, f: &mut fmt::Formatter<W>) -> fmt::Result {
-        match self {
-            Op::Create(path) => write!(f, "create {path}"),
-            Op::Write(path) => write!(f, "write {path}"),
-            Op::Link(old, new) => write!(f, "link {old} {new}"),
-            Op::Unlink(path) => write!(f, "unlink {path}"),
-            Op::Rename(old, new) => write!(f, "rename {old} {new}"),
-            Op::Mkdir(path) => write!(f, "mkdir {path}"),
-            Op::Rmdir(path) => write!(f, "rmdir {path}"),
-        }
-    }
 }
 
 /// The name of a patch group: 1 to 10 letters and digits.

@@ -1,8 +1,9 @@
 //! Orderings: how operations become patches, and the rules that order these.
 
 ghost use Rattle.std.specs.Prelude.{◌≡◌, ◌≤◌, length};
-ghost use Rattle.crash_model.specs.Rules.{rules_of, taken_out, kept_rules, put_in, rules_under};
+ghost use Rattle.crash_model.specs.Rules.{rules_of, rules_taken_out, kept_rules, rules_put_in, rules_under};
 
+use crate::modules::Module;
 use crate::plans::Role::{
     EntryClear, EntrySet, InitDir, InitFile, InodeFree, InodeInit, LinkDown, LinkUp, MapClear,
     MapSet, Ptr,
@@ -11,7 +12,6 @@ use crate::rule_lists::{RuleList, rules_in_both, rules_in_first};
 use crate::rules::Rule;
 use crate::rules::RulePart::{Change, Commit, Copy, Done, FileData, InPlace};
 use crate::rules::Scope::{Previous, Same};
-use crate::steps::Module;
 use arrayvec::ArrayVec;
 
 /// The rules of soft updates (Ganger and Patt, 1994).
@@ -140,7 +140,7 @@ impl Module {
 
     /// Those of its rules that are taken out, in its order.
     pub fn taken_out(self, without: &[Rule]) -> RuleList
-        ensures { result.items ≡ taken_out self without.now }
+        ensures { result.items ≡ rules_taken_out self without.now }
     {
         rules_in_both(self.rules(), without)
     }
@@ -156,7 +156,7 @@ impl Module {
     /// Those of the rules `with` that it has not kept, in their order.
     pub fn put_in(self, without: &[Rule], with: &[Rule]) -> RuleList
         requires { length with.now ≤ 16 }
-        ensures rules { result.items ≡ put_in self without.now with.now }
+        ensures rules { result.items ≡ rules_put_in self without.now with.now }
         ensures few { length result.items ≤ 16 }
     {
         let kept = self.kept_rules(without);

@@ -1,11 +1,11 @@
 //! What a run is asked for besides its script.
 
 ghost use Rattle.std.specs.Prelude.{◌≡◌};
-ghost use Rattle.crash_model.specs.Rules.{rules_under, taken_out, put_in};
+ghost use Rattle.crash_model.specs.Rules.{rules_under, rules_taken_out, rules_put_in};
 
+use crate::modules::Module;
 use crate::orderings::Ordering;
 use crate::rule_lists::RuleList;
-use crate::steps::Module;
 
 /// Who explores: the board that workers share, which holds up to 32,768 sets, or the sweep, which keeps no table.
 ///
@@ -66,14 +66,14 @@ impl Settings {
 
     /// The rules that are taken out, in the order of the module's list.
     pub fn taken_out(&self) -> RuleList
-        ensures { result.items ≡ taken_out self.now.«module» self.now.without.items }
+        ensures { result.items ≡ rules_taken_out self.now.«module» self.now.without.items }
     {
         self.module.taken_out(self.without.as_slice())
     }
 
     /// The rules that are put in, in the order in which they were given.
     pub fn put_in(&self) -> RuleList
-        ensures { result.items ≡ put_in self.now.«module» self.now.without.items self.now.with.items }
+        ensures { result.items ≡ rules_put_in self.now.«module» self.now.without.items self.now.with.items }
     {
         self.module
             .put_in(self.without.as_slice(), self.with.as_slice())

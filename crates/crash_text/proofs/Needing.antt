@@ -18,7 +18,7 @@ use Rattle.crash_model.specs.declared.rules.Rule.{Rule}
 use Rattle.crash_model.specs.declared.settings.Detail.{Detail}
 use Rattle.crash_model.proofs.Leading.{failing_closed, sections_lead}
 use Rattle.fault_summary.specs.Prevented.{IsFirstOut, IsFirstPrevented}
-use Rattle.report_sections.specs.Sections.{told, IsSection}
+use Rattle.report_sections.specs.Sections.{section_of, IsSection}
 use Rattle.report_sections.specs.ToldRules.{told_rule, usage_of}
 use Rattle.report_sections.specs.declared.rules.RuleUsage as code_usage
 use Rattle.report_sections.specs.declared.rules.ToldRule as code_rule
@@ -28,15 +28,15 @@ use Rattle.report_sections.proofs.Pushed.{is_told}
 -- the section of the first set that is not closed under the patches
 first_found : {A : Type 0} (detail : Detail) (base : Disk) (patches changed : List Patch) (sets : List ℕ) (i set : ℕ) (s : Section A) → AreEarlier (deps_of changed) → All (IsClosed (deps_of changed)) sets
     → i < length sets → set ≡ get_or sets i 0 → All (IsClosed (deps_of patches)) (take i sets) → ¬ (IsClosed (deps_of patches) set) → IsSection detail base changed set s
-    → IsFirstNew detail base patches changed sets (Some (told s))
+    → IsFirstNew detail base patches changed sets (Some (section_of s))
 first_found detail base patches changed sets i set s earlier closed within read before new is =
     let split : sets ≡ take i sets ++ set ∷ drop (suc i) sets =
     sym (take-append-drop i sets) ∙ ap (λ (ss : List ℕ). take i sets ++ ss) (drop-cons sets i 0 within ∙ ap (λ (x : ℕ). x ∷ drop (suc i) sets) (sym read)) in
     let here : IsClosed (deps_of changed) set = subst (IsClosed (deps_of changed)) (sym read) (closed i 0 within) in
     let alone : All (IsClosed (deps_of changed)) (set ∷ []) = All-cons (IsClosed (deps_of changed)) set [] here (All-nil (IsClosed (deps_of changed))) in
-    let are : AreSections detail base changed (set ∷ []) (told s ∷ []) = is_told detail base changed set s is in
-    let led : All (IsLed changed) (told s ∷ []) = sections_lead base changed earlier detail (set ∷ []) (told s ∷ []) alone are in
-    (take i sets, set, drop (suc i) sets, split, before, new, are, All-head (IsLed changed) (told s) [] led)
+    let are : AreSections detail base changed (set ∷ []) (section_of s ∷ []) = is_told detail base changed set s is in
+    let led : All (IsLed changed) (section_of s ∷ []) = sections_lead base changed earlier detail (set ∷ []) (section_of s ∷ []) alone are in
+    (take i sets, set, drop (suc i) sets, split, before, new, are, All-head (IsLed changed) (section_of s) [] led)
 
 -- no failing set is prevented
 pub none_new : (kept : Option ℕ) (base : Disk) (patches changed : List Patch) (sets : List ℕ) → IsFirstPrevented (IsFailingUnder kept base changed) (IsClosed (deps_of patches)) None
@@ -46,7 +46,7 @@ none_new kept base patches changed sets none all k d within = none (get_or sets 
 -- the section of the first failing set that the patches prevent
 pub some_new : {A : Type 0} (detail : Detail) (base : Disk) (patches changed : List Patch) (sets : List ℕ) (set : ℕ) (s : Section A) → AreEarlier (deps_of changed)
     → IsFirstOut (IsFailingUnder detail.kept base changed) (IsClosed (deps_of patches)) set → AreAllInOrder (IsFailingUnder detail.kept base changed) sets → IsSection detail base changed set s
-    → IsFirstNew detail base patches changed sets (Some (told s))
+    → IsFirstNew detail base patches changed sets (Some (section_of s))
 some_new detail base patches changed sets set s earlier first all is =
     first_found detail base patches changed sets at set s earlier (failing_closed detail.kept base changed sets all) within read front first.out is
   where

@@ -1,8 +1,8 @@
 -- Why there is no disk at the start line.
 use Rattle.std.specs.Prelude.{◌≡◌, ◌⊎◌, List, Err}
-use Rattle.crash_model.specs.Disk.{formatted, IsGeometry}
+use Rattle.crash_model.specs.Disk.{empty_disk, IsGeometry}
 use Rattle.crash_model.specs.Refusals.{run_of_trace}
-use Rattle.crash_model.specs.Trace.{based}
+use Rattle.crash_model.specs.Trace.{base_from}
 use Rattle.crash_model.specs.declared.refusals.TraceFault.{TraceFault}
 use Rattle.crash_model.specs.declared.refusals.RunFault.{RunFault}
 use Rattle.crash_model.specs.declared.refusals.RunFault.TheVariants.{BadGeometry}
@@ -14,4 +14,4 @@ abbrev pub IsBaseRefusal : Settings → List Step → RunFault → Type 0
 IsBaseRefusal settings steps fault =
     ((¬ (IsGeometry settings.blocks settings.journal)) × (fault ≡ BadGeometry))
     ⊎ (IsGeometry settings.blocks settings.journal
-    × ((why : TraceFault) × (based (formatted settings.blocks settings.journal) steps ≡ Err why) × (fault ≡ run_of_trace why)))
+    × ((why : TraceFault) × (base_from (empty_disk settings.blocks settings.journal) steps ≡ Err why) × (fault ≡ run_of_trace why)))

@@ -6,7 +6,7 @@ use Rattle.crash_model.specs.Disk.{Disk}
 use Rattle.crash_model.specs.Failing.{ExceedsLimit}
 use Rattle.crash_model.specs.Refusals.{run_of_trace}
 use Rattle.crash_model.specs.Strict.{IsToldKept}
-use Rattle.crash_model.specs.Trace.{Tracing, begun, traced, IsGraphOf}
+use Rattle.crash_model.specs.Trace.{Tracing, trace_start, trace_from, IsGraphOf}
 use Rattle.crash_model.specs.declared.patches.Patch.{Patch}
 use Rattle.crash_model.specs.declared.refusals.RunFault.{RunFault}
 use Rattle.crash_model.specs.declared.refusals.RunFault.TheVariants.{TooMany}
@@ -39,7 +39,7 @@ IsReportOf f text =
 pub record AreReported (settings : Settings) (base : Disk) (steps : List Step) (text : List ℕ) (failing : ℕ) : Type 0 where
   pub last : Tracing
   pub patches : List Patch
-  pub run : traced settings.module (begun base) steps ≡ Ok last
+  pub run : trace_from settings.module (trace_start base) steps ≡ Ok last
   pub graph : IsGraphOf (ordering_rules settings) base last patches
   pub kept : Option ℕ
   pub told : IsToldKept settings.strict base steps kept
@@ -48,6 +48,6 @@ pub record AreReported (settings : Settings) (base : Disk) (steps : List Step) (
 -- a step is refused, or there are too many closed sets
 abbrev pub AreRefused : Settings → Disk → List Step → RunFault → Type 0
 AreRefused settings base steps fault =
-    ((why : TraceFault) × (traced settings.module (begun base) steps ≡ Err why) × (fault ≡ run_of_trace why))
-    ⊎ ((last : Tracing) × (patches : List Patch) × (traced settings.module (begun base) steps ≡ Ok last)
+    ((why : TraceFault) × (trace_from settings.module (trace_start base) steps ≡ Err why) × (fault ≡ run_of_trace why))
+    ⊎ ((last : Tracing) × (patches : List Patch) × (trace_from settings.module (trace_start base) steps ≡ Ok last)
     × IsGraphOf (ordering_rules settings) base last patches × ExceedsLimit patches settings.limit × (fault ≡ TooMany))

@@ -11,7 +11,7 @@ ghost use Rattle.crash_model.specs.Patches.{deps_of};
 ghost use Rattle.crash_model.specs.Trace.{Tracing};
 ghost use Rattle.crash_model.specs.declared.settings.ReportBy.TheVariants.{ByRule};
 ghost use Rattle.fault_summary.specs.Prevented.{IsFirstPrevented};
-ghost use Rattle.report_sections.specs.Sections.{told};
+ghost use Rattle.report_sections.specs.Sections.{section_of};
 ghost use Rattle.report_sections.specs.ToldRules.{told_rule, usage_of};
 ghost use Rattle.crash_text.specs.Limits.{IsExplorable};
 ghost use Rattle.crash_text.specs.Telling.{AreFindings, IsReportOf, IsTraceOf};
@@ -146,7 +146,7 @@ fn first_section<A: Allocator + Copy>(
     ensures { IfOk result (λ first. (sets : List ℕ)
         → AreAllInOrder (IsFailingUnder findings.now.kept findings.now.base.now changed.now) sets
         → IsFirstNew (detail_of findings.now.settings.now findings.now.kept) findings.now.base.now
-        findings.now.traced.patches changed.now sets (option_map told first)) }
+        findings.now.traced.patches changed.now sets (option_map section_of first)) }
 {
     let Some(set) = set else {
         return Ok(None);

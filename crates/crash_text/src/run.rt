@@ -1,10 +1,10 @@
 //! The whole product as a function.
 
 ghost use Rattle.std.specs.Prelude.{◌≡◌, ◌≢◌, ◌≤◌, [], Ok, OnOk, IfOk, IfErr, string_bytes};
-ghost use Rattle.crash_model.specs.Disk.{formatted, IsGeometry};
+ghost use Rattle.crash_model.specs.Disk.{empty_disk, IsGeometry};
 ghost use Rattle.crash_model.specs.Sound.{IsSound, HasZeroJournal};
-ghost use Rattle.crash_model.specs.Trace.{based};
-ghost use Rattle.crash_model.specs.declared.steps.Module.TheVariants.{Full};
+ghost use Rattle.crash_model.specs.Trace.{base_from};
+ghost use Rattle.crash_model.specs.declared.modules.Module.TheVariants.{Full};
 ghost use Rattle.crash_model.specs.Answer.{IsAnswer, Reported, Refused};
 ghost use Rattle.crash_text.specs.BaseRefusal.{IsBaseRefusal};
 ghost use Rattle.crash_text.specs.Limits.{IsExplorable};
@@ -130,7 +130,7 @@ fn base_of<A: Allocator + Copy>(
 ) -> Result<Image<A>, RunFault>
     ensures lawful { OnOk result (IsGeometry settings.now.blocks settings.now.journal) }
     ensures built { IfOk result (λ base.
-        based (formatted settings.now.blocks settings.now.journal) steps.now ≡ Ok base) }
+        base_from (empty_disk settings.now.blocks settings.now.journal) steps.now ≡ Ok base) }
     ensures sound { IfOk result (λ base. IsSound base × HasZeroJournal base) }
     ensures refused { IfErr result (λ fault. (fault ≢ RunFault.OutOfMemory)
         → IsBaseRefusal settings.now steps.now fault) }

@@ -2,7 +2,7 @@
 use Rattle.std.proofs.Common.{◌≡◌, ℕ, ◌+◌, ◌-◌, ◌*◌, ◌<◌, ◌≤◌, ◌⊎◌, inl, inr, List, [], ◌∷◌, length, get_or, replicate, arith, ap, ◌∙◌}
 use Rattle.std.proofs.lemmas.Bool.{cases_lt}
 use Rattle.std.proofs.lemmas.List.{get_or-replicate, length-replicate, get_or_past}
-use Rattle.crash_model.specs.Disk.{IsGeometry, overwrite, formatted}
+use Rattle.crash_model.specs.Disk.{IsGeometry, overwrite, empty_disk}
 use Rattle.crash_model.specs.Sound.{IsSound, HasZeroJournal}
 use Rattle.crash_model.proofs.Bytes.{length-overwrite, overwrite-inside, overwrite-below, overwrite-above}
 use Rattle.disk_image.proofs.RootAlone.{HasRootAlone, sound-root}
@@ -100,7 +100,7 @@ unused-byte n j b good from below =
     ∙ after3 n j (128 + b) good (inl (omega (arith, good.most)))
     ∙ after2 n j (128 + b) good (omega arith)
 
-root-alone : (n j : ℕ) → IsGeometry n j → HasRootAlone (formatted n j)
+root-alone : (n j : ℕ) → IsGeometry n j → HasRootAlone (empty_disk n j)
 root-alone n j good = record {
   disk = record { least = good.least; most = good.most; room = good.room; whole = length-bytes4 n j good };
   kind = inode-byte n j 256 0 good (omega arith) (omega arith);
@@ -115,8 +115,8 @@ root-alone n j good = record {
   unused = λ b from below. unused-byte n j b good from below;
 }
 
-pub sound-formatted : (n j : ℕ) → IsGeometry n j → IsSound (formatted n j)
-sound-formatted n j good = sound-root (formatted n j) (root-alone n j good)
+pub sound-empty_disk : (n j : ℕ) → IsGeometry n j → IsSound (empty_disk n j)
+sound-empty_disk n j good = sound-root (empty_disk n j) (root-alone n j good)
 
-pub zero-journal-formatted : (n j : ℕ) → IsGeometry n j → HasZeroJournal (formatted n j)
-zero-journal-formatted n j good block from to offset within = zero-byte n j (128 * block + offset) good (omega arith) (inl (omega arith))
+pub zero-journal-empty_disk : (n j : ℕ) → IsGeometry n j → HasZeroJournal (empty_disk n j)
+zero-journal-empty_disk n j good block from to offset within = zero-byte n j (128 * block + offset) good (omega arith) (inl (omega arith))

@@ -1,7 +1,7 @@
 //! The disk that a format leaves, and why there is none.
 
 ghost use Rattle.std.specs.Prelude.{◌≡◌, ◌≤◌, ◌↔◌, IfOk, IsErrOf, OnOk, replicate};
-ghost use Rattle.crash_model.specs.Disk.{put, formatted as formatted_disk, IsGeometry};
+ghost use Rattle.crash_model.specs.Disk.{with_bytes, empty_disk, IsGeometry};
 ghost use Rattle.crash_model.specs.Sound.{IsSound, HasZeroJournal};
 
 use crate::image::Image;
@@ -35,7 +35,7 @@ impl<A: Allocator + Copy> Image<A> {
     /// and the root's empty block; its journal is zero. There are 16 to 128 blocks, and at least six more than journal
     /// blocks; else the geometry is bad.
     pub fn formatted(alloc: A, blocks: usize, journal: usize) -> Result<Image<A>, ImageFault>
-        ensures ok { IfOk result (λ image. image ≡ formatted_disk blocks journal) }
+        ensures ok { IfOk result (λ image. image ≡ empty_disk blocks journal) }
         ensures lawful { OnOk result (IsGeometry blocks journal) }
         ensures sound { IfOk result (λ image. IsSound image × HasZeroJournal image) }
         ensures bad { IsErrOf result ImageFault.BadGeometry ↔ ¬ (IsGeometry blocks journal) }
@@ -59,7 +59,7 @@ impl<A: Allocator + Copy> Image<A> {
     /// Marks the blocks below `count` as in use.
     fn mark_used(&mut self, count: usize)
         requires { count ≤ 128 }
-        ensures { self.new ≡ put self.old 1 0 (replicate count 1) }
+        ensures { self.new ≡ with_bytes self.old 1 0 (replicate count 1) }
     {
         let _blocks = self.blocks;
         let ones = [1; 128];

@@ -1,7 +1,7 @@
 //! The bytes of an image.
 
 ghost use Rattle.std.specs.Prelude.{◌≡◌, ℕ, ◌+◌, ◌*◌, ◌<◌, ◌≤◌, length, take, drop, IfOk};
-ghost use Rattle.crash_model.specs.Disk.{Disk, IsDisk, byte, block_of, overwrite, put};
+ghost use Rattle.crash_model.specs.Disk.{Disk, IsDisk, byte, block_of, overwrite, with_bytes};
 
 use std::alloc::{AllocError, Allocator};
 use std::marker::Model;
@@ -66,7 +66,7 @@ impl<A: Allocator + Copy> Image<A> {
     pub fn put(&mut self, block: usize, offset: usize, bytes: &[u8])
         requires block { block < self.old.blocks }
         requires inside { offset + length bytes.now ≤ 128 }
-        ensures { self.new ≡ put self.old block offset bytes.now }
+        ensures { self.new ≡ with_bytes self.old block offset bytes.now }
     {
         write_over(
             self.bytes.as_mut_slice(),
@@ -79,7 +79,7 @@ impl<A: Allocator + Copy> Image<A> {
     pub fn copy_block(&mut self, from: usize, to: usize)
         requires from { from < self.old.blocks }
         requires to { to < self.old.blocks }
-        ensures { self.new ≡ put self.old to 0 (block_of self.old from) }
+        ensures { self.new ≡ with_bytes self.old to 0 (block_of self.old from) }
     {
         copy_over(
             self.bytes.as_mut_slice(),

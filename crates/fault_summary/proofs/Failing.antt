@@ -4,9 +4,9 @@ use Rattle.std.specs.Prelude.{Option, if◌then◌else◌}
 use Rattle.std.specs.List.{AllPairs}
 use Rattle.patch_sets.specs.Sets.{has, IsBefore, AreAllInOrder}
 use Rattle.patch_sets.proofs.Canonical.{before_self}
-use Rattle.crash_model.specs.Disk.{Disk, put}
+use Rattle.crash_model.specs.Disk.{Disk, with_bytes}
 use Rattle.crash_model.specs.Patches.{Place, places_of, image_from, image_of}
-use Rattle.crash_model.specs.Replay.{replayed}
+use Rattle.crash_model.specs.Replay.{image_after_replay}
 use Rattle.crash_model.specs.Strict.{faults_under, IsFailingUnder}
 use Rattle.crash_model.specs.Summary.{IsFaultBefore, HasFault, AreRows}
 use Rattle.crash_model.specs.declared.fault.Fault.{Fault}
@@ -20,23 +20,23 @@ use Rattle.fault_summary.proofs.Summed.{same_sums}
 -- the image of a set has as many blocks as the base
 image_size : (id : ℕ) (d : Disk) (places : List Place) (set : ℕ) → (image_from id d places set).blocks ≡ d.blocks
 image_size id d [] set = refl
-image_size id d (p ∷ ps) set = image_size (id + 1) (if has set id then put d p.block p.offset p.new else d) ps set ∙ one (has set id)
+image_size id d (p ∷ ps) set = image_size (id + 1) (if has set id then with_bytes d p.block p.offset p.new else d) ps set ∙ one (has set id)
   where
-    one : (test : Bool) → (if test then put d p.block p.offset p.new else d).blocks ≡ d.blocks
+    one : (test : Bool) → (if test then with_bytes d p.block p.offset p.new else d).blocks ≡ d.blocks
     one true = refl
     one false = refl
 
-pub still_sized : (base : Disk) (patches : List Patch) (set : ℕ) (built after : Disk) → built ≡ image_of base patches set → after ≡ replayed built → after.blocks ≡ base.blocks
+pub still_sized : (base : Disk) (patches : List Patch) (set : ℕ) (built after : Disk) → built ≡ image_of base patches set → after ≡ image_after_replay built → after.blocks ≡ base.blocks
 still_sized base patches set built after made is = ap (λ (d : Disk). d.blocks) is ∙ (ap (λ (d : Disk). d.blocks) made ∙ image_size 0 base (places_of patches) set)
 
-pub found_faults : (kept : Option ℕ) (base : Disk) (patches : List Patch) (set : ℕ) (built after : Disk) (found : List Fault) → built ≡ image_of base patches set → after ≡ replayed built → found ≡ faults_under kept after → found ≡ faults_after kept base patches set
-found_faults kept base patches set built after found made is listed = listed ∙ ap (faults_under kept) (is ∙ ap replayed made)
+pub found_faults : (kept : Option ℕ) (base : Disk) (patches : List Patch) (set : ℕ) (built after : Disk) (found : List Fault) → built ≡ image_of base patches set → after ≡ image_after_replay built → found ≡ faults_under kept after → found ≡ faults_after kept base patches set
+found_faults kept base patches set built after found made is listed = listed ∙ ap (faults_under kept) (is ∙ ap image_after_replay made)
 
 -- the same of an image that was moved to the set, where the checker is told of the kept inodes
-pub moved_faults : (told kept : Option ℕ) (base : Disk) (patches : List Patch) (before after : Applied) (set : ℕ) (image : Disk) → told ≡ kept → (before.base ≡ base) × (before.patches ≡ patches) → after ≡ record before { set = set } → image ≡ replayed (image_of after.base after.patches after.set) → faults_under told image ≡ faults_after kept base patches set
+pub moved_faults : (told kept : Option ℕ) (base : Disk) (patches : List Patch) (before after : Applied) (set : ℕ) (image : Disk) → told ≡ kept → (before.base ≡ base) × (before.patches ≡ patches) → after ≡ record before { set = set } → image ≡ image_after_replay (image_of after.base after.patches after.set) → faults_under told image ≡ faults_after kept base patches set
 moved_faults told kept base patches before after set image same own moved is =
-    ap (λ (k : Option ℕ). faults_under k image) same ∙ ap (faults_under kept) (is ∙ (ap (λ (a : Applied). replayed (image_of a.base a.patches a.set)) moved
-    ∙ (ap (λ (d : Disk). replayed (image_of d before.patches set)) own.0 ∙ ap (λ (ps : List Patch). replayed (image_of base ps set)) own.1)))
+    ap (λ (k : Option ℕ). faults_under k image) same ∙ ap (faults_under kept) (is ∙ (ap (λ (a : Applied). image_after_replay (image_of a.base a.patches a.set)) moved
+    ∙ (ap (λ (d : Disk). image_after_replay (image_of d before.patches set)) own.0 ∙ ap (λ (ps : List Patch). image_after_replay (image_of base ps set)) own.1)))
 
 -- no set stands twice in canonical order
 pub each_once : (sets : List ℕ) → AllPairs IsBefore sets → AllPairs (λ a b. a ≢ b) sets

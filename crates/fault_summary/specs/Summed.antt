@@ -4,7 +4,7 @@ use Rattle.std.specs.List.{All, AllPairs, Contains}
 use Rattle.patch_sets.specs.Sets.{IsBefore}
 use Rattle.crash_model.specs.Disk.{Disk}
 use Rattle.crash_model.specs.Patches.{image_of}
-use Rattle.crash_model.specs.Replay.{replayed}
+use Rattle.crash_model.specs.Replay.{image_after_replay}
 use Rattle.crash_model.specs.Strict.{faults_under}
 use Rattle.crash_model.specs.Summary.{IsRow}
 use Rattle.crash_model.specs.declared.fault.Fault.{Fault}
@@ -71,4 +71,4 @@ HasAmong faults_of sets fault set = Contains sets set × Contains (faults_of set
 
 -- the faults that the image of a set has after replay, where a checker is told of kept inodes or of none
 abbrev pub faults_after : Option ℕ → Disk → List Patch → ℕ → List Fault
-faults_after kept base patches set = faults_under kept (replayed (image_of base patches set))
+faults_after kept base patches set = faults_under kept (image_after_replay (image_of base patches set))

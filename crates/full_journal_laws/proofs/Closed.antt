@@ -6,9 +6,9 @@ use Rattle.std.proofs.lemmas.List.{length-append, length-map}
 use Rattle.crash_model.specs.Disk.{Disk, block_of}
 use Rattle.patch_sets.specs.Sets.{has}
 use Rattle.crash_model.specs.Patches.{Place, place, overlap}
-use Rattle.crash_model.specs.Plan.{applied}
+use Rattle.crash_model.specs.Plan.{with_changes}
 use Rattle.crash_model.specs.Rules.{has_part, are_scoped, journal_rules}
-use Rattle.crash_model.specs.Trace.{Emitted, Origin, part_of, plain, copies, journaled, touched, applies, depends, groups_depend}
+use Rattle.crash_model.specs.Trace.{Emitted, Origin, part_of, in_place_patch, copies, journal_patches, touched_blocks, applies, depends, groups_depend}
 use Rattle.crash_model.specs.declared.rules.Part.{Part}
 use Rattle.crash_model.specs.declared.rules.Part.TheVariants.{InPlace, Copy, Commit, Done}
 use Rattle.crash_model.specs.declared.rules.Rule.{Rule}
@@ -39,9 +39,9 @@ copy_at after t j g [] m h = absurd (omega arith)
 copy_at after t j g (b ∷ bs) zero h = (part_of t g Copy j 0 (block_of after b), refl, record { part = refl; turn = refl })
 copy_at after t j g (b ∷ bs) (suc m) h = copy_at after t (j + 1) g bs m (omega arith)
 
-plain_at : (t : ℕ) (g : Origin) (cs : List Change) (m : ℕ) → m < length cs → (y : Emitted) × (role : Role) × (slice_get (map (plain t g) cs) m ≡ Some y) × IsPart (InPlace role) t y
+plain_at : (t : ℕ) (g : Origin) (cs : List Change) (m : ℕ) → m < length cs → (y : Emitted) × (role : Role) × (slice_get (map (in_place_patch t g) cs) m ≡ Some y) × IsPart (InPlace role) t y
 plain_at t g [] m h = absurd (omega arith)
-plain_at t g (c ∷ cs) zero h = (plain t g c, c.role, refl, record { part = refl; turn = refl })
+plain_at t g (c ∷ cs) zero h = (in_place_patch t g c, c.role, refl, record { part = refl; turn = refl })
 plain_at t g (c ∷ cs) (suc m) h = plain_at t g cs m (omega arith)
 
 pub length-copy : (after : Disk) (t j : ℕ) (g : Origin) (bs : List ℕ) → length (copies after t j g bs) ≡ length bs
@@ -63,15 +63,15 @@ pub record HasParts (t j : ℕ) (targets : List ℕ) (changes : ℕ) (xs : List 
   pub done_is : IsPart Done t done
   pub done_place : done.place ≡ place j 0 (0xC8 ∷ [])
 
-pub parts_of : (after : Disk) (t j : ℕ) (g : Origin) (targets : List ℕ) (cs : List Change) → HasParts t j targets (length cs) (journaled after t j g targets cs)
+pub parts_of : (after : Disk) (t j : ℕ) (g : Origin) (targets : List ℕ) (cs : List Change) → HasParts t j targets (length cs) (journal_patches after t j g targets cs)
 parts_of after t j g targets cs =
     let k : ℕ = length targets in
     let ps : List Emitted = copies after t (j + 1) g targets in
     let commit : Emitted = part_of t g Commit j 0 (0xC7 ∷ t ∷ k ∷ targets) in
     let done : Emitted = part_of t g Done j 0 (0xC8 ∷ []) in
-    let ms : List Emitted = map (plain t g) cs in
+    let ms : List Emitted = map (in_place_patch t g) cs in
     let l1 : length ps ≡ k = length-copy after t (j + 1) g targets in
-    let l2 : length ms ≡ length cs = length-map cs (plain t g) in
+    let l2 : length ms ≡ length cs = length-map cs (in_place_patch t g) in
     let l3 : length (ms ++ (done ∷ [])) ≡ length ms + length (done ∷ []) = length-append ms (done ∷ []) in
     let l4 : length (ps ++ (commit ∷ (ms ++ (done ∷ [])))) ≡ length ps + length (commit ∷ (ms ++ (done ∷ []))) = length-append ps (commit ∷ (ms ++ (done ∷ []))) in
     record {
@@ -133,10 +133,10 @@ pub closed_log : (ops : List (Origin × List Change)) (n : ℕ) (all : List Emit
 closed_log [] n all links set d id t j c done closed lies before_commit before_done = tt
 closed_log (o ∷ ops) n all links set d id t j c done closed lies before_commit before_done =
     let cs : List Change = o.1 in
-    let targets : List ℕ = touched n cs in
+    let targets : List ℕ = touched_blocks n cs in
     let k : ℕ = length targets in
-    let d' : Disk = applied d cs in
-    let xs : List Emitted = journaled d' t j o.0 targets cs in
+    let d' : Disk = with_changes d cs in
+    let xs : List Emitted = journal_patches d' t j o.0 targets cs in
     let rest : List Emitted = log_emitted n d' (t + 1) (j + 1 + k) ops in
     let parts : HasParts t j targets (length cs) xs = parts_of d' t j o.0 targets cs in
     let lie = λ (i : ℕ) (y : Emitted) (h : slice_get xs i ≡ Some y). lies i y (get-left xs rest i y h) in

@@ -6,7 +6,7 @@ use Rattle.patch_sets.specs.Sets.{AreAllInOrder}
 use Rattle.crash_model.specs.Disk.{Disk, IsDisk}
 use Rattle.crash_model.specs.Sound.{HasZeroJournal}
 use Rattle.crash_model.specs.Patches.{deps_of, image_of}
-use Rattle.crash_model.specs.Replay.{replayed}
+use Rattle.crash_model.specs.Replay.{image_after_replay}
 use Rattle.crash_model.specs.Strict.{IsToldKept, IsCleanUnder, IsFailingUnder}
 use Rattle.patch_sets.specs.Closed.{IsClosed}
 use Rattle.crash_model.specs.declared.patches.Patch.{Patch}
@@ -18,7 +18,7 @@ use Rattle.full_journal_laws.proofs.Kept.{strictly_clean}
 
 -- what replay leaves is clean, whatever the checker is told
 safe_is_clean : (strict : Bool) (kept : Option ℕ) (base : Disk) (steps : List Step) (patches : List Patch) → IsDisk base → IsToldKept strict base steps kept
-    → IsFullSafe base steps patches → (set : ℕ) → IsClosed (deps_of patches) set → IsCleanUnder kept (replayed (image_of base patches set))
+    → IsFullSafe base steps patches → (set : ℕ) → IsClosed (deps_of patches) set → IsCleanUnder kept (image_after_replay (image_of base patches set))
 safe_is_clean strict None base steps patches disk told safe set closed = record { faultless = (safe.2 set closed).sound.clean.faultless }
 safe_is_clean strict (Some kept) base steps patches disk told safe set closed = strictly_clean base steps safe.0 patches set kept disk told.1 (safe.2 set closed)
 

@@ -11,8 +11,8 @@ use Rattle.crash_model.specs.Layout.{kind_of, pointer_of, is_live, is_data, is_e
 use Rattle.crash_model.specs.Faults.{leads_to}
 use Rattle.crash_model.specs.Sound.{IsSound, ReachedIn}
 use Rattle.crash_model.specs.Patches.{image_of}
-use Rattle.crash_model.specs.Plan.{plan_of, result_applied}
-use Rattle.crash_model.specs.Replay.{replayed}
+use Rattle.crash_model.specs.Plan.{plan_of, with_plan}
+use Rattle.crash_model.specs.Replay.{image_after_replay}
 use Rattle.crash_model.specs.Strict.{disk_after, stays_live, IsKept, is_named, is_reached, LosesNothing, IsCleanUnder}
 use Rattle.crash_model.specs.Trace.{Tracing}
 use Rattle.crash_model.specs.declared.patches.Patch.{Patch}
@@ -102,7 +102,7 @@ module _ (xs : List Step) (i : ℕ)
   stays_one : (k : ℕ) (d : Disk) (act : Act) → is_live d i ≡ true → stays_live (disk_after d act) xs i ≡ true
       → is_live (after_ops d (take k (ops_at act ++ ops_of xs))) i ≡ true
   stays_one zero d act now on = now
-  stays_one (suc k) d (Do op) now on = rest k (result_applied d (plan_of d op)) on
+  stays_one (suc k) d (Do op) now on = rest k (with_plan d (plan_of d op)) on
   stays_one (suc k) d (Group name) now on = rest (suc k) d on
   stays_one (suc k) d End now on = rest (suc k) d on
   stays_one (suc k) d (Depend later earlier) now on = rest (suc k) d on
@@ -137,9 +137,9 @@ same_live d e i two three live =
 -- ---- the whole
 
 pub strictly_clean : (base : Disk) (steps : List Step) (s : Tracing) (patches : List Patch) (set kept : ℕ) → IsDisk base → IsKept base steps kept
-    → IsRecovered base steps s patches set → IsCleanUnder (Some kept) (replayed (image_of base patches set))
+    → IsRecovered base steps s patches set → IsCleanUnder (Some kept) (image_after_replay (image_of base patches set))
 strictly_clean base steps s patches set kept disk keeps recovered =
-    let d : Disk = replayed (image_of base patches set) in
+    let d : Disk = image_after_replay (image_of base patches set) in
     let k : ℕ = commits_from 0 s.emitted set in
     let left : Disk = after_ops base (take k (ops_of steps)) in
     let two : block_of d 2 ≡ block_of left 2 = recovered.same 2 (omega (arith, disk.least)) (inl (omega arith)) in

@@ -3,18 +3,18 @@ use Rattle.std.specs.Prelude.{◌≡◌, ℕ, ◌+◌, ◌<◌, List, [], ◌∷
 use Rattle.crash_model.specs.Disk.{Disk, IsDisk}
 use Rattle.patch_sets.specs.Sets.{has}
 use Rattle.crash_model.specs.Sound.{IsSound}
-use Rattle.crash_model.specs.Plan.{plan_of, applied}
+use Rattle.crash_model.specs.Plan.{plan_of, with_changes}
 use Rattle.crash_model.specs.Rules.{journal_rules}
-use Rattle.crash_model.specs.Trace.{Emitted, Origin, journaled, touched, depends}
-use Rattle.crash_model.specs.declared.names.Op.{Op}
+use Rattle.crash_model.specs.Trace.{Emitted, Origin, journal_patches, touched_blocks, depends}
+use Rattle.crash_model.specs.declared.operations.Op.{Op}
 use Rattle.crash_model.specs.declared.plans.Change.{Change}
 
 -- the emitted patches of operations, each with its origin
 abbrev pub log_emitted : ℕ → Disk → ℕ → ℕ → List (Origin × List Change) → List Emitted
 log_emitted n d t j [] = []
 log_emitted n d t j (o ∷ ops) =
-    journaled (applied d o.1) t j o.0 (touched n o.1) o.1
-    ++ log_emitted n (applied d o.1) (t + 1) (j + 1 + length (touched n o.1)) ops
+    journal_patches (with_changes d o.1) t j o.0 (touched_blocks n o.1) o.1
+    ++ log_emitted n (with_changes d o.1) (t + 1) (j + 1 + length (touched_blocks n o.1)) ops
 
 -- a set that has what its members depend on by the rules of the journal
 abbrev pub IsClosedIn : List (List ℕ × List ℕ) → List Emitted → ℕ → Type 0
@@ -30,5 +30,5 @@ pub record IsGood (n jl : ℕ) (d : Disk) : Type 0 where
 -- these are the changes of the operations, one operation after another
 abbrev pub ArePlans : Disk → List Op → List (List Change) → Type 0
 ArePlans d [] [] = Unit {0}
-ArePlans d (op ∷ ops) (cs ∷ plans) = (plan_of d op ≡ Ok cs) × ArePlans (applied d cs) ops plans
+ArePlans d (op ∷ ops) (cs ∷ plans) = (plan_of d op ≡ Ok cs) × ArePlans (with_changes d cs) ops plans
 ArePlans d _ _ = ⊥

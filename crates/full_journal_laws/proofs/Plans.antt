@@ -3,13 +3,13 @@ use Rattle.std.proofs.Common.{◌≡◌, ℕ, zero, suc, ◌+◌, ◌<◌, ◌�
 use Rattle.std.specs.Prelude.{◌==◌}
 use Rattle.std.specs.List.{filter, list_any, range_with_len}
 use Rattle.crash_model.specs.Disk.{Disk}
-use Rattle.crash_model.specs.Plan.{plan_of, applied}
+use Rattle.crash_model.specs.Plan.{plan_of, with_changes}
 use Rattle.crash_model.specs.Replay.{is_target}
-use Rattle.crash_model.specs.Trace.{touched}
-use Rattle.crash_model.specs.declared.names.Op.{Op}
+use Rattle.crash_model.specs.Trace.{touched_blocks}
+use Rattle.crash_model.specs.declared.operations.Op.{Op}
 use Rattle.crash_model.specs.declared.plans.Change.{Change}
 use Rattle.inode_fs.specs.Inside.{GivesName}
-use Rattle.inode_fs.proofs.Lands.{Lands, AllLand, plan-lands, applied-disk, applied-size}
+use Rattle.inode_fs.proofs.Lands.{Lands, AllLand, plan-lands, with_changes-disk, with_changes-size}
 use Rattle.inode_fs.proofs.Counts.{plan-count}
 use Rattle.inode_fs.proofs.Sounds.{plan-keeps}
 use Rattle.full_journal_laws.proofs.Transactions.{IsTurn, ArePlaced, AreAimed, change_places}
@@ -57,17 +57,17 @@ none_touched [] = refl
 none_touched (x ∷ xs) = none_touched xs
 
 -- changes touch no more blocks than they are
-pub touched_few : (n : ℕ) (cs : List Change) → length (touched n cs) ≤ length cs
-touched_few n [] = let none : length (touched n []) ≡ 0 = none_touched (range_with_len 0 n) in omega arith
+pub touched_few : (n : ℕ) (cs : List Change) → length (touched_blocks n cs) ≤ length cs
+touched_few n [] = let none : length (touched_blocks n []) ≡ 0 = none_touched (range_with_len 0 n) in omega arith
 touched_few n (c ∷ cs) =
     let split = filter_split (λ b. list_any (λ (x : Change). x.block == b) (c ∷ cs)) (λ b. c.block == b) (λ b. list_any (λ (x : Change). x.block == b) cs) (range_with_len 0 n) (touched_first c cs) in
     let one = one_of_range c.block 0 n in
-    let rest : length (touched n cs) ≤ length cs = touched_few n cs in
+    let rest : length (touched_blocks n cs) ≤ length cs = touched_few n cs in
     omega arith
 
 -- and one at least
-pub touched_some : (n : ℕ) (c : Change) (cs : List Change) → c.block < n → 1 ≤ length (touched n (c ∷ cs))
-touched_some n c cs below = some (touched n (c ∷ cs)) (any_filtered (λ x. list_any (λ (y : Change). y.block == x) (c ∷ cs)) 0 n c.block (omega arith) (omega arith) here)
+pub touched_some : (n : ℕ) (c : Change) (cs : List Change) → c.block < n → 1 ≤ length (touched_blocks n (c ∷ cs))
+touched_some n c cs below = some (touched_blocks n (c ∷ cs)) (any_filtered (λ x. list_any (λ (y : Change). y.block == x) (c ∷ cs)) 0 n c.block (omega arith) (omega arith) here)
   where
     same : (x : ℕ) → (x == x) ≡ true
     same x = grind (arith, tests)
@@ -98,7 +98,7 @@ all-placed : (n : ℕ) (d : Disk) (cs : List Change) → d.blocks ≡ n → AllL
 all-placed n d [] e all = tt
 all-placed n d (c ∷ cs) e all = (record { inside = all.0.range; known = subst (λ (m : ℕ). c.block < m) e all.0.block }, all-placed n d cs e all.1)
 
-all-some : (n : ℕ) (d : Disk) (cs : List Change) → d.blocks ≡ n → 1 ≤ length cs → AllLand d cs → 1 ≤ length (touched n cs)
+all-some : (n : ℕ) (d : Disk) (cs : List Change) → d.blocks ≡ n → 1 ≤ length cs → AllLand d cs → 1 ≤ length (touched_blocks n cs)
 all-some n d [] e some all = absurd (omega arith)
 all-some n d (c ∷ cs) e some all = touched_some n c cs (subst (λ (m : ℕ). c.block < m) e all.0.block)
 
@@ -108,13 +108,13 @@ module _ (n jl : ℕ) (d : Disk) (op : Op) (cs : List Change) (good : IsGood n j
   lands : AllLand d cs
   lands = plan-lands d op cs good.disk name is
 
-  pub plan-good : IsGood n jl (applied d cs)
+  pub plan-good : IsGood n jl (with_changes d cs)
   plan-good =
-      let size = applied-size d cs in
-      record { blocks = size.0 ∙ good.blocks; journal = size.1 ∙ good.journal; disk = applied-disk d cs good.disk lands; sound = plan-keeps d op cs good.disk good.sound name is }
+      let size = with_changes-size d cs in
+      record { blocks = size.0 ∙ good.blocks; journal = size.1 ∙ good.journal; disk = with_changes-disk d cs good.disk lands; sound = plan-keeps d op cs good.disk good.sound name is }
 
-  pub plan-turn : (j : ℕ) → j + 1 + length (touched n cs) ≤ 4 + jl → IsTurn n jl d j cs
+  pub plan-turn : (j : ℕ) → j + 1 + length (touched_blocks n cs) ≤ 4 + jl → IsTurn n jl d j cs
   plan-turn j room =
       let count = plan-count d op cs is in
-      let few : length (touched n cs) ≤ length cs = touched_few n cs in
+      let few : length (touched_blocks n cs) ≤ length cs = touched_few n cs in
       record { placed = all-placed n d cs good.blocks lands; aimed = all-aimed d cs lands; some = all-some n d cs good.blocks count.0 lands; few = omega (arith, few, count.1); room = room }

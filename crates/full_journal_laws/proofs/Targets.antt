@@ -3,7 +3,7 @@ use Rattle.std.proofs.Common.{◌≡◌, ◌≢◌, ℕ, zero, suc, ◌+◌, ◌
 use Rattle.std.specs.List.{filter, list_any, list_all, range_with_len}
 use Rattle.std.specs.Prelude.{◌==◌}
 use Rattle.crash_model.specs.Disk.{Disk}
-use Rattle.crash_model.specs.Trace.{touched}
+use Rattle.crash_model.specs.Trace.{touched_blocks}
 use Rattle.crash_model.specs.Replay.{is_target, is_ascending}
 use Rattle.crash_model.specs.declared.plans.Change.{Change}
 use Rattle.full_journal_laws.proofs.Transactions.{AreAimed, change_places}
@@ -66,10 +66,10 @@ aimed_any d (c ∷ cs) x aimed h = elim (bool_is (c.block == x)) [
   | inr f ↦ aimed_any d cs x aimed.1 (rw f at h)
 ]
 
-pub touched_targets : (d : Disk) (n : ℕ) (cs : List Change) → AreAimed d cs → list_all (is_target d) (touched n cs) ≡ true
+pub touched_targets : (d : Disk) (n : ℕ) (cs : List Change) → AreAimed d cs → list_all (is_target d) (touched_blocks n cs) ≡ true
 touched_targets d n cs aimed = all_filtered (is_target d) (λ b. list_any (λ c. c.block == b) cs) (range_with_len 0 n) (λ x. aimed_any d cs x aimed)
 
-pub touched_ascending : (n : ℕ) (cs : List Change) → is_ascending (touched n cs) ≡ true
+pub touched_ascending : (n : ℕ) (cs : List Change) → is_ascending (touched_blocks n cs) ≡ true
 touched_ascending n cs = ascending_filtered (λ b. list_any (λ c. c.block == b) cs) 0 n
 
 -- changes avoid the journal
@@ -85,8 +85,8 @@ avoid_none (c ∷ cs) x h = elim (bool_is (c.block == x)) [
 ]
 
 -- changes avoid a block that is not among those they touch
-pub avoid_untouched : (n : ℕ) (cs : List Change) (b : ℕ) → b < n → list_any (λ x. x == b) (touched n cs) ≡ false → Avoid b (change_places cs)
+pub avoid_untouched : (n : ℕ) (cs : List Change) (b : ℕ) → b < n → list_any (λ x. x == b) (touched_blocks n cs) ≡ false → Avoid b (change_places cs)
 avoid_untouched n cs b below none = elim (bool_is (list_any (λ (c : Change). c.block == b) cs)) [
-  | inl any ↦ let z : list_any (λ x. x == b) (touched n cs) ≡ true = any_filtered (λ x. list_any (λ c. c.block == x) cs) 0 n b (omega arith) (omega arith) any in absurd (cc)
+  | inl any ↦ let z : list_any (λ x. x == b) (touched_blocks n cs) ≡ true = any_filtered (λ x. list_any (λ c. c.block == x) cs) 0 n b (omega arith) (omega arith) any in absurd (cc)
   | inr f ↦ avoid_none cs b f
 ]

@@ -4,20 +4,20 @@ use Rattle.std.specs.Prelude.{All, is_some, bytes_eq}
 use Rattle.std.specs.List.{list_any}
 use Rattle.std.proofs.lemmas.List.Elements.{All-nil, All-cons, All-head, All-tail}
 use Rattle.crash_model.specs.Disk.{Disk}
-use Rattle.crash_model.specs.Plan.{plan_of, applied}
-use Rattle.crash_model.specs.Trace.{Emitted, Origin, origin_at, Tracing, traced, step, planned, ended_group, refuse_if, then_trace, journaled, touched, is_among, is_same_group}
+use Rattle.crash_model.specs.Plan.{plan_of, with_changes}
+use Rattle.crash_model.specs.Trace.{Emitted, Origin, origin_at, Tracing, trace_from, step, trace_of_plan, ended_group, refuse_if, then_trace, journal_patches, touched_blocks, is_among, is_same_group}
 use Rattle.crash_model.specs.Refusals.{trace_fault}
-use Rattle.crash_model.specs.declared.names.Op.{Op}
+use Rattle.crash_model.specs.declared.operations.Op.{Op}
 use Rattle.crash_model.specs.declared.refusals.FsFault.{FsFault}
 use Rattle.crash_model.specs.declared.refusals.TraceFault.{TraceFault}
 use Rattle.crash_model.specs.declared.refusals.TraceFault.TheVariants as fault
 use Rattle.crash_model.specs.declared.plans.Change.{Change}
-use Rattle.crash_model.specs.declared.steps.Module.TheVariants.{Full}
+use Rattle.crash_model.specs.declared.modules.Module.TheVariants.{Full}
 use Rattle.crash_model.specs.declared.steps.Act.TheVariants.{Do, Group, End, Depend}
 use Rattle.crash_model.specs.declared.steps.Act.{Act}
 use Rattle.crash_model.specs.declared.steps.Step.{Step}
 use Rattle.inode_fs.specs.Inside.{GivesName}
-use Rattle.inode_fs.proofs.Lands.{applied-size}
+use Rattle.inode_fs.proofs.Lands.{with_changes-size}
 use Rattle.full_journal_laws.proofs.Transactions.{IsLog}
 use Rattle.full_journal_laws.proofs.Logs.{log_emitted, IsGood, ArePlans}
 use Rattle.full_journal_laws.specs.Full.{ops_at, ops_of}
@@ -43,40 +43,40 @@ no_ok e r x p h = cc
 
 -- what is known of the steps after a step
 abbrev IsRest : ℕ → ℕ → List Step → Tracing → Type 0
-IsRest n jl xs r = (next : Tracing) → IsGood n jl next.disk → traced Full next xs ≡ Ok r → IsLogged n jl (ops_of xs) next r
+IsRest n jl xs r = (next : Tracing) → IsGood n jl next.disk → trace_from Full next xs ≡ Ok r → IsLogged n jl (ops_of xs) next r
 
 -- an operation
 operation : (n jl : ℕ) (line : ℕ) (s r : Tracing) (xs : List Step) (op : Op) (plan : Result (List Change) FsFault)
     → IsGood n jl s.disk → GivesName op → plan_of s.disk op ≡ plan → IsRest n jl xs r
-    → then_trace (planned Full line op s plan) (λ next. traced Full next xs) ≡ Ok r → IsLogged n jl (op ∷ ops_of xs) s r
+    → then_trace (trace_of_plan Full line op s plan) (λ next. trace_from Full next xs) ≡ Ok r → IsLogged n jl (op ∷ ops_of xs) s r
 operation n jl line s r xs op (Err e) good name is rest h = absurd (no_ok (trace_fault line e) r _ refl h)
 operation n jl line s r xs op (Ok cs) good name is rest h =
-    let after : Disk = applied s.disk cs in
+    let after : Disk = with_changes s.disk cs in
     let origin : Origin = origin_at line op s.current in
-    let k : ℕ = length (touched n cs) in
-    let size = applied-size s.disk cs in
+    let k : ℕ = length (touched_blocks n cs) in
+    let size = with_changes-size s.disk cs in
     let bs : s.disk.blocks ≡ n = good.blocks in
     let js : s.disk.journal ≡ jl = good.journal in
     let ba : after.blocks ≡ n = size.0 ∙ bs in
-    let more : List Emitted = journaled after s.turn s.journal origin (touched after.blocks cs) cs in
-    let free : ℕ = s.journal + (1 + length (touched s.disk.blocks cs)) in
+    let more : List Emitted = journal_patches after s.turn s.journal origin (touched_blocks after.blocks cs) cs in
+    let free : ℕ = s.journal + (1 + length (touched_blocks s.disk.blocks cs)) in
     let next : Tracing = record s { disk = after; emitted = s.emitted ++ more; turn = s.turn + 1; journal = free } in
     elim (bool_is (nat_lt (4 + s.disk.journal) free)) [
       | inl full ↦ absurd (no_ok (fault.JournalFull line) r _ refl (rw full at h))
       | inr room ↦ elim (bool_is (nat_lt 124 (length s.emitted + length more))) [
         | inl many ↦ absurd (no_ok (fault.TooManyPatches line) r _ refl (rw (room, many) at h))
         | inr few ↦
-            let h' : traced Full next xs ≡ Ok r = rw (room, few) at h in
+            let h' : trace_from Full next xs ≡ Ok r = rw (room, few) at h in
             let ih : IsLogged n jl (ops_of xs) next r = rest next (plan-good n jl s.disk op cs good name is) h' in
-            let here : free ≡ s.journal + 1 + k = ap (λ (m : ℕ). s.journal + (1 + length (touched m cs))) bs ∙ plus s.journal k in
+            let here : free ≡ s.journal + 1 + k = ap (λ (m : ℕ). s.journal + (1 + length (touched_blocks m cs))) bs ∙ plus s.journal k in
             let fits : free ≤ 4 + s.disk.journal = within free (4 + s.disk.journal) room in
             record {
               changes = (origin, cs) ∷ ih.changes;
               plans = (is, ih.plans);
               emits = ih.emits
                   ∙ append_assoc s.emitted more (log_emitted n after (s.turn + 1) free ih.changes)
-                  ∙ ap (λ (m : ℕ). s.emitted ++ (journaled after s.turn s.journal origin (touched m cs) cs ++ log_emitted n after (s.turn + 1) free ih.changes)) ba
-                  ∙ ap (λ (m : ℕ). s.emitted ++ (journaled after s.turn s.journal origin (touched n cs) cs ++ log_emitted n after (s.turn + 1) m ih.changes)) here;
+                  ∙ ap (λ (m : ℕ). s.emitted ++ (journal_patches after s.turn s.journal origin (touched_blocks m cs) cs ++ log_emitted n after (s.turn + 1) free ih.changes)) ba
+                  ∙ ap (λ (m : ℕ). s.emitted ++ (journal_patches after s.turn s.journal origin (touched_blocks n cs) cs ++ log_emitted n after (s.turn + 1) m ih.changes)) here;
               log = (plan-turn n jl s.disk op cs good name is s.journal (omega arith), subst (λ (m : ℕ). IsLog n jl after m (changes_of ih.changes)) here ih.log);
             }
       ]
@@ -103,20 +103,20 @@ same_log n jl ops s next r d e t j ih = record {
 
 -- a step that refuses by a test
 on_test : (n jl : ℕ) (b : Bool) (e : TraceFault) (ops : List Op) (s next r : Tracing) (xs : List Step)
-    → (traced Full next xs ≡ Ok r → IsLogged n jl ops s r)
-    → then_trace (refuse_if b e next) (λ more. traced Full more xs) ≡ Ok r → IsLogged n jl ops s r
+    → (trace_from Full next xs ≡ Ok r → IsLogged n jl ops s r)
+    → then_trace (refuse_if b e next) (λ more. trace_from Full more xs) ≡ Ok r → IsLogged n jl ops s r
 on_test n jl true e ops s next r xs rest h = absurd (no_ok e r _ refl h)
 on_test n jl false e ops s next r xs rest h = rest h
 
 on_end : (n jl : ℕ) (line : ℕ) (s r : Tracing) (xs : List Step) (open_group : Option (List ℕ)) → IsGood n jl s.disk → IsRest n jl xs r
-    → then_trace (ended_group s line open_group) (λ next. traced Full next xs) ≡ Ok r → IsLogged n jl (ops_of xs) s r
+    → then_trace (ended_group s line open_group) (λ next. trace_from Full next xs) ≡ Ok r → IsLogged n jl (ops_of xs) s r
 on_end n jl line s r xs None good rest h = absurd (no_ok (fault.GroupFault line) r _ refl h)
 on_end n jl line s r xs (Some a) good rest h =
     let next : Tracing = record s { current = None; ended = s.ended ++ a ∷ [] } in
     same_log n jl (ops_of xs) s next r refl refl refl refl (rest next good h)
 
 act_logged : (n jl : ℕ) (line : ℕ) (act : Act) (s r : Tracing) (xs : List Step) → IsGood n jl s.disk → All GivesName (ops_at act) → IsRest n jl xs r
-    → then_trace (step Full s line act) (λ next. traced Full next xs) ≡ Ok r → IsLogged n jl (ops_at act ++ ops_of xs) s r
+    → then_trace (step Full s line act) (λ next. trace_from Full next xs) ≡ Ok r → IsLogged n jl (ops_at act ++ ops_of xs) s r
 act_logged n jl line (Do op) s r xs good names rest h = operation n jl line s r xs op (plan_of s.disk op) good (All-head GivesName op [] names) refl rest h
 act_logged n jl line (Group a) s r xs good names rest h =
     let next : Tracing = record s { current = Some a; opened = s.opened ++ a ∷ [] } in
@@ -134,7 +134,7 @@ all_split (x ∷ xs) ys all =
     let rest = all_split xs ys (All-tail GivesName x (xs ++ ys) all) in
     (All-cons GivesName x xs (All-head GivesName x (xs ++ ys) all) rest.0, rest.1)
 
-pub traced_logged : (n jl : ℕ) (steps : List Step) (s r : Tracing) → IsGood n jl s.disk → All GivesName (ops_of steps) → traced Full s steps ≡ Ok r → IsLogged n jl (ops_of steps) s r
+pub traced_logged : (n jl : ℕ) (steps : List Step) (s r : Tracing) → IsGood n jl s.disk → All GivesName (ops_of steps) → trace_from Full s steps ≡ Ok r → IsLogged n jl (ops_of steps) s r
 traced_logged n jl [] s r good names h =
     let e : s ≡ r = cc in
     record { changes = []; plans = tt; emits = ap (λ (m : Tracing). m.emitted) (sym e) ∙ sym (append-nil s.emitted); log = tt }

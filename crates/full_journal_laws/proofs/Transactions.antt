@@ -3,9 +3,9 @@ use Rattle.std.specs.Prelude.{◌≡◌, ℕ, ◌+◌, ◌≤◌, ◌<◌, List,
 use Rattle.crash_model.specs.Disk.{Disk, block_of}
 use Rattle.patch_sets.specs.Sets.{has}
 use Rattle.crash_model.specs.Patches.{Place, place, image_from}
-use Rattle.crash_model.specs.Plan.{applied}
+use Rattle.crash_model.specs.Plan.{with_changes}
 use Rattle.crash_model.specs.Replay.{is_target, headers_from, copy_after}
-use Rattle.crash_model.specs.Trace.{touched}
+use Rattle.crash_model.specs.Trace.{touched_blocks}
 use Rattle.full_journal_laws.specs.Full.{IsOutside}
 use Rattle.journal_replay.proofs.Blocks.{IsShaped}
 use Rattle.crash_model.specs.declared.plans.Change.{Change}
@@ -29,8 +29,8 @@ turn_places after t j targets cs =
 abbrev pub log_places : ℕ → Disk → ℕ → ℕ → List (List Change) → List Place
 log_places n d t j [] = []
 log_places n d t j (cs ∷ ops) =
-    turn_places (applied d cs) t j (touched n cs) cs
-    ++ log_places n (applied d cs) (t + 1) (j + 1 + length (touched n cs)) ops
+    turn_places (with_changes d cs) t j (touched_blocks n cs) cs
+    ++ log_places n (with_changes d cs) (t + 1) (j + 1 + length (touched_blocks n cs)) ops
 
 -- ---- what a set has of it
 
@@ -45,15 +45,15 @@ pub record IsTurnClosed (id copies changes : ℕ) (committed done : Bool) (set :
 abbrev pub IsLogClosed : ℕ → ℕ → Bool → Bool → List (List Change) → ℕ → Type 0
 IsLogClosed n id committed done [] set = Unit {0}
 IsLogClosed n id committed done (cs ∷ ops) set =
-    IsTurnClosed id (length (touched n cs)) (length cs) committed done set
-    × IsLogClosed n (id + length (touched n cs) + 1 + length cs + 1) (has set (id + length (touched n cs))) (has set (id + length (touched n cs) + 1 + length cs)) ops set
+    IsTurnClosed id (length (touched_blocks n cs)) (length cs) committed done set
+    × IsLogClosed n (id + length (touched_blocks n cs) + 1 + length cs + 1) (has set (id + length (touched_blocks n cs))) (has set (id + length (touched_blocks n cs) + 1 + length cs)) ops set
 
 -- the disk after the operations whose commits the set has
 abbrev pub committed_disk : ℕ → Disk → ℕ → List (List Change) → ℕ → Disk
 committed_disk n d id [] set = d
 committed_disk n d id (cs ∷ ops) set =
-    if has set (id + length (touched n cs))
-    then committed_disk n (applied d cs) (id + length (touched n cs) + 1 + length cs + 1) ops set
+    if has set (id + length (touched_blocks n cs))
+    then committed_disk n (with_changes d cs) (id + length (touched_blocks n cs) + 1 + length cs + 1) ops set
     else d
 
 -- ---- what operations keep
@@ -76,13 +76,13 @@ AreAimed d (c ∷ cs) = (is_target d c.block ≡ true) × AreAimed d cs
 pub record IsTurn (n jl : ℕ) (d : Disk) (j : ℕ) (cs : List Change) : Type 0 where
   pub placed : ArePlaced n (change_places cs)
   pub aimed : AreAimed d cs
-  pub some : 1 ≤ length (touched n cs)
-  pub few : length (touched n cs) ≤ 8
-  pub room : j + 1 + length (touched n cs) ≤ 4 + jl
+  pub some : 1 ≤ length (touched_blocks n cs)
+  pub few : length (touched_blocks n cs) ≤ 8
+  pub room : j + 1 + length (touched_blocks n cs) ≤ 4 + jl
 
 abbrev pub IsLog : ℕ → ℕ → Disk → ℕ → List (List Change) → Type 0
 IsLog n jl d j [] = Unit {0}
-IsLog n jl d j (cs ∷ ops) = IsTurn n jl d j cs × IsLog n jl (applied d cs) (j + 1 + length (touched n cs)) ops
+IsLog n jl d j (cs ∷ ops) = IsTurn n jl d j cs × IsLog n jl (with_changes d cs) (j + 1 + length (touched_blocks n cs)) ops
 
 -- the block after replay
 abbrev pub replayed_block : Disk → ℕ → ℕ → ℕ → ℕ → ℕ → List ℕ

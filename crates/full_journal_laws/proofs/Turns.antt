@@ -3,18 +3,18 @@ use Rattle.std.proofs.Common.{◌≡◌, ◌≢◌, ℕ, zero, suc, ◌+◌, ◌
 use Rattle.std.specs.Prelude.{unwrap_or, option_map, ◌==◌}
 use Rattle.std.specs.List.{list_all, position}
 use Rattle.std.proofs.lemmas.List.{length-append, length-map, length-take, take_at}
-use Rattle.crash_model.specs.Disk.{Disk, block_of, put, overwrite}
+use Rattle.crash_model.specs.Disk.{Disk, block_of, with_bytes, overwrite}
 use Rattle.patch_sets.specs.Sets.{has}
 use Rattle.crash_model.specs.Patches.{Place, place, image_from}
-use Rattle.crash_model.specs.Plan.{applied}
-use Rattle.crash_model.specs.Trace.{touched}
+use Rattle.crash_model.specs.Plan.{with_changes}
+use Rattle.crash_model.specs.Trace.{touched_blocks}
 use Rattle.crash_model.specs.Replay.{is_header, copy_in, count_of, is_target, is_ascending}
 use Rattle.crash_model.specs.declared.plans.Change.{Change}
 use Rattle.full_journal_laws.proofs.Transactions.{IsPlaced, ArePlaced, IsTurn, IsTurnClosed, copy_places, change_places, turn_places, log_places, IsLog}
 use Rattle.full_journal_laws.specs.Full.{IsOutside}
 use Rattle.journal_replay.proofs.Blocks.{IsShaped, shaped-inside, length-block, overwrite-all, block-put_same}
 use Rattle.journal_replay.proofs.Targets.{bool_is, found_or_not, outside_apart}
-use Rattle.full_journal_laws.proofs.Images.{Avoid, all_put, image-append, image-none, image-all, shaped-put, shaped-image, shaped-all, kept-put, kept-image, kept-all, same-all}
+use Rattle.full_journal_laws.proofs.Images.{Avoid, with_places, image-append, image-none, image-all, shaped-with_bytes, shaped-image, shaped-all, kept-with_bytes, kept-image, kept-all, same-all}
 use Rattle.full_journal_laws.proofs.Targets.{touched_targets, touched_ascending, avoid_journal, avoid_untouched}
 
 -- What the patches of a set, of one transaction, make of disk e, where d is the disk that the operation was planned on.
@@ -22,17 +22,17 @@ pub record IsTurned (n jl : ℕ) (d e f : Disk) (t j : ℕ) (cs : List Change) (
   pub shaped : IsShaped n jl f
   -- of the journal, only the header and the copies change; the header only by the commit
   pub below : (x : ℕ) → 4 ≤ x → x < j → block_of f x ≡ block_of e x
-  pub above : (x : ℕ) → j + 1 + length (touched n cs) ≤ x → x < 4 + jl → block_of f x ≡ block_of e x
+  pub above : (x : ℕ) → j + 1 + length (touched_blocks n cs) ≤ x → x < 4 + jl → block_of f x ≡ block_of e x
   pub open_header : committed ≡ false → block_of f j ≡ block_of e j
   -- outside it nothing before the commit
   pub open_outside : committed ≡ false → (x : ℕ) → x < n → IsOutside jl x → block_of f x ≡ block_of e x
   -- the header, and where replay then looks for a block
   pub header : committed ≡ true → (g : Disk) → g.blocks ≡ n → g.journal ≡ jl → block_of g j ≡ block_of f j
-      → (is_header g j t (block_of g j) ≡ true) × (count_of (block_of g j) ≡ length (touched n cs))
+      → (is_header g j t (block_of g j) ≡ true) × (count_of (block_of g j) ≡ length (touched_blocks n cs))
   pub found : committed ≡ true → (b cur : ℕ) → b < n → IsOutside jl b
       → (done ≡ true → cur ≡ b) → ((cur ≡ b) ⊎ ((4 ≤ cur) × (cur < j))) → block_of e cur ≡ block_of d b
       → let now = unwrap_or (copy_in (block_of f j) j b) cur in
-      (done ≡ true → now ≡ b) × ((now ≡ b) ⊎ ((4 ≤ now) × (now < j + 1 + length (touched n cs)))) × (block_of f now ≡ block_of (applied d cs) b)
+      (done ≡ true → now ≡ b) × ((now ≡ b) ⊎ ((4 ≤ now) × (now < j + 1 + length (touched_blocks n cs)))) × (block_of f now ≡ block_of (with_changes d cs) b)
 
 -- ---- the places of a transaction
 
@@ -50,12 +50,12 @@ length-turn after t j targets cs =
     let e4 : length (change_places cs) ≡ length cs = length-map cs (λ (c : Change). place c.block c.offset c.new.items) in
     omega arith
 
-pub applied-all : (d : Disk) (cs : List Change) → applied d cs ≡ all_put d (change_places cs)
-applied-all d [] = refl
-applied-all d (c ∷ cs) = applied-all (put d c.block c.offset c.new.items) cs
+pub with_changes-all : (d : Disk) (cs : List Change) → with_changes d cs ≡ with_places d (change_places cs)
+with_changes-all d [] = refl
+with_changes-all d (c ∷ cs) = with_changes-all (with_bytes d c.block c.offset c.new.items) cs
 
-pub shaped-applied : (n jl : ℕ) (d : Disk) (j : ℕ) (cs : List Change) → IsShaped n jl d → IsTurn n jl d j cs → IsShaped n jl (applied d cs)
-shaped-applied n jl d j cs s turn = subst (IsShaped n jl) (sym (applied-all d cs)) (shaped-all n jl d (change_places cs) s turn.placed)
+pub shaped-with_changes : (n jl : ℕ) (d : Disk) (j : ℕ) (cs : List Change) → IsShaped n jl d → IsTurn n jl d j cs → IsShaped n jl (with_changes d cs)
+shaped-with_changes n jl d j cs s turn = subst (IsShaped n jl) (sym (with_changes-all d cs)) (shaped-all n jl d (change_places cs) s turn.placed)
 
 placed-append : (n : ℕ) (xs ys : List Place) → ArePlaced n xs → ArePlaced n ys → ArePlaced n (xs ++ ys)
 placed-append n [] ys p q = q
@@ -77,11 +77,11 @@ avoid-copies after j [] x h = tt
 avoid-copies after j (b ∷ bs) x h = (grind arith, avoid-copies after (j + 1) bs x (elim h [ inl l ↦ inl (omega arith) | inr r ↦ inr (omega arith) ]))
 
 -- the places of a transaction are inside the disk
-pub placed-turn : (n jl : ℕ) (d after : Disk) (t j : ℕ) (cs : List Change) → 4 + jl ≤ n → IsTurn n jl d j cs → ArePlaced n (turn_places after t j (touched n cs) cs)
+pub placed-turn : (n jl : ℕ) (d after : Disk) (t j : ℕ) (cs : List Change) → 4 + jl ≤ n → IsTurn n jl d j cs → ArePlaced n (turn_places after t j (touched_blocks n cs) cs)
 placed-turn n jl d after t j cs room turn =
-    let fits : j + 1 + length (touched n cs) ≤ 4 + jl = turn.room in
-    let few : length (touched n cs) ≤ 8 = turn.few in
-    placed-append n (copy_places after (j + 1) (touched n cs)) _ (placed-copies n after (j + 1) (touched n cs) (omega arith)) (
+    let fits : j + 1 + length (touched_blocks n cs) ≤ 4 + jl = turn.room in
+    let few : length (touched_blocks n cs) ≤ 8 = turn.few in
+    placed-append n (copy_places after (j + 1) (touched_blocks n cs)) _ (placed-copies n after (j + 1) (touched_blocks n cs) (omega arith)) (
       record { inside = omega arith; known = omega arith },
       placed-append n (change_places cs) _ turn.placed (record { inside = omega arith; known = omega arith }, tt),
     )
@@ -96,15 +96,15 @@ avoid-turn after t j targets cs x h changes =
 pub placed-log : (n jl : ℕ) (d : Disk) (t j : ℕ) (ops : List (List Change)) → IsShaped n jl d → 4 + jl ≤ n → 4 ≤ j → IsLog n jl d j ops → ArePlaced n (log_places n d t j ops)
 placed-log n jl d t j [] s room least log = tt
 placed-log n jl d t j (cs ∷ ops) s room least log =
-    placed-append n (turn_places (applied d cs) t j (touched n cs) cs) _ (placed-turn n jl d (applied d cs) t j cs room log.0)
-    (placed-log n jl (applied d cs) (t + 1) (j + 1 + length (touched n cs)) ops (shaped-applied n jl d j cs s log.0) room (omega arith) log.1)
+    placed-append n (turn_places (with_changes d cs) t j (touched_blocks n cs) cs) _ (placed-turn n jl d (with_changes d cs) t j cs room log.0)
+    (placed-log n jl (with_changes d cs) (t + 1) (j + 1 + length (touched_blocks n cs)) ops (shaped-with_changes n jl d j cs s log.0) room (omega arith) log.1)
 
 pub avoid-log : (n jl : ℕ) (d : Disk) (t j x : ℕ) (ops : List (List Change)) → IsShaped n jl d → IsLog n jl d j ops → 4 ≤ x → x < j → x < 4 + jl → Avoid x (log_places n d t j ops)
 avoid-log n jl d t j x [] s log least below inside = tt
 avoid-log n jl d t j x (cs ∷ ops) s log least below inside =
-    avoid-append x (turn_places (applied d cs) t j (touched n cs) cs) _
-    (avoid-turn (applied d cs) t j (touched n cs) cs x (inl below) (avoid_journal d jl cs x s.journal log.0.aimed least inside))
-    (avoid-log n jl (applied d cs) (t + 1) (j + 1 + length (touched n cs)) x ops (shaped-applied n jl d j cs s log.0) log.1 least (omega arith) inside)
+    avoid-append x (turn_places (with_changes d cs) t j (touched_blocks n cs) cs) _
+    (avoid-turn (with_changes d cs) t j (touched_blocks n cs) cs x (inl below) (avoid_journal d jl cs x s.journal log.0.aimed least inside))
+    (avoid-log n jl (with_changes d cs) (t + 1) (j + 1 + length (touched_blocks n cs)) x ops (shaped-with_changes n jl d j cs s log.0) log.1 least (omega arith) inside)
 
 -- ---- what a set has of a transaction
 
@@ -139,16 +139,16 @@ turn_open id e after t j targets cs before done set closed none_yet =
 -- with the commit: all copies, the commit, some of the changes, and perhaps the done
 turn_held : (id : ℕ) (e after : Disk) (t j : ℕ) (targets : List ℕ) (cs : List Change) (before done : Bool) (set : ℕ)
     → IsTurnClosed id (length targets) (length cs) before done set → has set (id + length targets) ≡ true
-    → let e2 = put (all_put e (copy_places after (j + 1) targets)) j 0 (0xC7 ∷ t ∷ length targets ∷ targets) in
+    → let e2 = with_bytes (with_places e (copy_places after (j + 1) targets)) j 0 (0xC7 ∷ t ∷ length targets ∷ targets) in
     let e3 = image_from (id + length targets + 1) e2 (change_places cs) set in
-    image_from id e (turn_places after t j targets cs) set ≡ cond (has set (id + length targets + 1 + length cs)) (put e3 j 0 (0xC8 ∷ [])) e3
+    image_from id e (turn_places after t j targets cs) set ≡ cond (has set (id + length targets + 1 + length cs)) (with_bytes e3 j 0 (0xC8 ∷ [])) e3
 turn_held id e after t j targets cs before done set closed held =
     let commit : Place = place j 0 (0xC7 ∷ t ∷ length targets ∷ targets) in
     let last : Place = place j 0 (0xC8 ∷ []) in
     let rest : List Place = change_places cs ++ (last ∷ []) in
     let k : ℕ = length targets in
-    let e1 : Disk = all_put e (copy_places after (j + 1) targets) in
-    let e2 : Disk = put e1 j 0 (0xC7 ∷ t ∷ length targets ∷ targets) in
+    let e1 : Disk = with_places e (copy_places after (j + 1) targets) in
+    let e2 : Disk = with_bytes e1 j 0 (0xC7 ∷ t ∷ length targets ∷ targets) in
     let long : length (copy_places after (j + 1) targets) ≡ k = length-copies after (j + 1) targets in
     let more : length (change_places cs) ≡ length cs = length-map cs (λ (c : Change). place c.block c.offset c.new.items) in
     let all : image_from id e (copy_places after (j + 1) targets) set ≡ e1 = image-all id e (copy_places after (j + 1) targets) set (λ q from to. closed.copied held q from (omega arith)) in
@@ -169,7 +169,7 @@ all_at p (x ∷ xs) zero h less = elim (bool_is (p x)) [ inl t ↦ t | inr f ↦
 all_at p (x ∷ xs) (suc m) h less = elim (bool_is (p x)) [ inl t ↦ all_at p xs m (rw t at h) (omega arith) | inr f ↦ (let z : false ≡ true = rw f at h in absurd (cc)) ]
 
 copies-at : (n jl : ℕ) (e after : Disk) (j : ℕ) (bs : List ℕ) (m : ℕ) → IsShaped n jl e → IsShaped n jl after → j + length bs ≤ n → m < length bs
-    → ((i : ℕ) → i < length bs → get_or bs i 0 < n) → block_of (all_put e (copy_places after j bs)) (j + m) ≡ block_of after (get_or bs m 0)
+    → ((i : ℕ) → i < length bs → get_or bs i 0 < n) → block_of (with_places e (copy_places after j bs)) (j + m) ≡ block_of after (get_or bs m 0)
 copies-at n jl e after j [] m r s fits less known = absurd (omega arith)
 copies-at n jl e after j (b ∷ bs) zero r s fits less known =
     let in_b : b < n = known 0 (omega arith) in
@@ -178,16 +178,16 @@ copies-at n jl e after j (b ∷ bs) zero r s fits less known =
     let long : length (block_of after b) ≡ 128 = length-block after b (shaped-inside n jl after b s in_b) in
     let old : length (block_of e j) ≡ 128 = length-block e j (shaped-inside n jl e j r in_j) in
     let ok : IsPlaced n p = record { inside = omega arith; known = in_j } in
-    subst (λ (x : ℕ). block_of (all_put (put e j 0 (block_of after b)) (copy_places after (j + 1) bs)) x ≡ block_of after b) (omega arith)
-    (kept-all n jl (put e j 0 (block_of after b)) (copy_places after (j + 1) bs) j (shaped-put n jl e p r ok) (placed-copies n after (j + 1) bs (omega arith)) in_j (avoid-copies after (j + 1) bs j (inl (omega arith)))
+    subst (λ (x : ℕ). block_of (with_places (with_bytes e j 0 (block_of after b)) (copy_places after (j + 1) bs)) x ≡ block_of after b) (omega arith)
+    (kept-all n jl (with_bytes e j 0 (block_of after b)) (copy_places after (j + 1) bs) j (shaped-with_bytes n jl e p r ok) (placed-copies n after (j + 1) bs (omega arith)) in_j (avoid-copies after (j + 1) bs j (inl (omega arith)))
     ∙ block-put_same e j 0 (block_of after b) (omega arith) (shaped-inside n jl e j r in_j)
     ∙ overwrite-all (block_of e j) (block_of after b) (omega arith))
 copies-at n jl e after j (b ∷ bs) (suc m) r s fits less known =
     let in_j : j < n = omega arith in
     let p : Place = place j 0 (block_of after b) in
     let ok : IsPlaced n p = record { inside = (let f : length (block_of after b) ≤ 128 = row-fits after b in omega arith); known = in_j } in
-    subst (λ (x : ℕ). block_of (all_put (put e j 0 (block_of after b)) (copy_places after (j + 1) bs)) x ≡ block_of after (get_or bs m 0)) (omega arith)
-    (copies-at n jl (put e j 0 (block_of after b)) after (j + 1) bs m (shaped-put n jl e p r ok) s (omega arith) (omega arith) (λ i h. known (suc i) (omega arith)))
+    subst (λ (x : ℕ). block_of (with_places (with_bytes e j 0 (block_of after b)) (copy_places after (j + 1) bs)) x ≡ block_of after (get_or bs m 0)) (omega arith)
+    (copies-at n jl (with_bytes e j 0 (block_of after b)) after (j + 1) bs m (shaped-with_bytes n jl e p r ok) s (omega arith) (omega arith) (λ i h. known (suc i) (omega arith)))
 
 -- ---- the header
 
@@ -231,7 +231,7 @@ copy_held t j b targets row h =
     ∙ ap (λ (xs : List ℕ). option_map (λ m. j + 1 + m) (position (λ x. x == b) xs)) (take_at targets h.rest (length targets) refl)
 
 row_after : (dn : Bool) (n jl t j : ℕ) (targets : List ℕ) (e3 : Disk) → IsShaped n jl e3 → j < n → HasRow 0xC7 t targets (block_of e3 j)
-    → HasRow (mark_of dn) t targets (block_of (cond dn (put e3 j 0 (0xC8 ∷ [])) e3) j)
+    → HasRow (mark_of dn) t targets (block_of (cond dn (with_bytes e3 j 0 (0xC8 ∷ [])) e3) j)
 row_after false n jl t j targets e3 s below h = h
 row_after true n jl t j targets e3 s below h = record {
   rest = h.rest;
@@ -240,13 +240,13 @@ row_after true n jl t j targets e3 s below h = record {
       ∙ ap (λ (row : List ℕ). 0xC8 ∷ drop 1 row) h.is;
 }
 
-shaped_after : (dn : Bool) (n jl j : ℕ) (e3 : Disk) → IsShaped n jl e3 → j < n → IsShaped n jl (cond dn (put e3 j 0 (0xC8 ∷ [])) e3)
+shaped_after : (dn : Bool) (n jl j : ℕ) (e3 : Disk) → IsShaped n jl e3 → j < n → IsShaped n jl (cond dn (with_bytes e3 j 0 (0xC8 ∷ [])) e3)
 shaped_after false n jl j e3 s below = s
-shaped_after true n jl j e3 s below = shaped-put n jl e3 (place j 0 (0xC8 ∷ [])) s (record { inside = omega arith; known = below })
+shaped_after true n jl j e3 s below = shaped-with_bytes n jl e3 (place j 0 (0xC8 ∷ [])) s (record { inside = omega arith; known = below })
 
-block_after : (dn : Bool) (n jl j x : ℕ) (e3 : Disk) → IsShaped n jl e3 → j < n → x < n → x ≢ j → block_of (cond dn (put e3 j 0 (0xC8 ∷ [])) e3) x ≡ block_of e3 x
+block_after : (dn : Bool) (n jl j x : ℕ) (e3 : Disk) → IsShaped n jl e3 → j < n → x < n → x ≢ j → block_of (cond dn (with_bytes e3 j 0 (0xC8 ∷ [])) e3) x ≡ block_of e3 x
 block_after false n jl j x e3 s below h other = refl
-block_after true n jl j x e3 s below h other = kept-put n jl e3 (place j 0 (0xC8 ∷ [])) x s (record { inside = omega arith; known = below }) h other
+block_after true n jl j x e3 s below h other = kept-with_bytes n jl e3 (place j 0 (0xC8 ∷ [])) x s (record { inside = omega arith; known = below }) h other
 
 -- the stages of a transaction whose commit is held, all within the disk
 pub record IsStaged (n jl : ℕ) (e d' : Disk) (t j : ℕ) (cs : List Change) (e1 e2 e3 : Disk) : Type 0 where
@@ -254,46 +254,46 @@ pub record IsStaged (n jl : ℕ) (e d' : Disk) (t j : ℕ) (cs : List Change) (e
   pub second : IsShaped n jl e2
   pub third : IsShaped n jl e3
   -- e1 has the copies; e2 also the header; e3 has put changes, none of them in the journal
-  pub copied : (m : ℕ) → m < length (touched n cs) → block_of e1 (j + 1 + m) ≡ block_of d' (get_or (touched n cs) m 0)
-  pub kept_one : (x : ℕ) → x < n → (x < j) ⊎ (j + 1 + length (touched n cs) ≤ x) → block_of e2 x ≡ block_of e x
+  pub copied : (m : ℕ) → m < length (touched_blocks n cs) → block_of e1 (j + 1 + m) ≡ block_of d' (get_or (touched_blocks n cs) m 0)
+  pub kept_one : (x : ℕ) → x < n → (x < j) ⊎ (j + 1 + length (touched_blocks n cs) ≤ x) → block_of e2 x ≡ block_of e x
   pub kept_two : (x : ℕ) → x < n → x ≢ j → block_of e2 x ≡ block_of e1 x
   pub kept_three : (x : ℕ) → x < n → Avoid x (change_places cs) → block_of e3 x ≡ block_of e2 x
-  pub row : HasRow 0xC7 t (touched n cs) (block_of e2 j)
+  pub row : HasRow 0xC7 t (touched_blocks n cs) (block_of e2 j)
 
 staged : (n jl : ℕ) (d e : Disk) (id t j : ℕ) (cs : List Change) (set : ℕ)
     → IsShaped n jl d → IsShaped n jl e → 4 + jl ≤ n → 4 ≤ j → IsTurn n jl d j cs
-    → let e1 = all_put e (copy_places (applied d cs) (j + 1) (touched n cs)) in
-    let e2 = put e1 j 0 (0xC7 ∷ t ∷ length (touched n cs) ∷ touched n cs) in
-    IsStaged n jl e (applied d cs) t j cs e1 e2 (image_from (id + length (touched n cs) + 1) e2 (change_places cs) set)
+    → let e1 = with_places e (copy_places (with_changes d cs) (j + 1) (touched_blocks n cs)) in
+    let e2 = with_bytes e1 j 0 (0xC7 ∷ t ∷ length (touched_blocks n cs) ∷ touched_blocks n cs) in
+    IsStaged n jl e (with_changes d cs) t j cs e1 e2 (image_from (id + length (touched_blocks n cs) + 1) e2 (change_places cs) set)
 staged n jl d e id t j cs set s r room least turn =
-    let k : ℕ = length (touched n cs) in
-    let d' : Disk = applied d cs in
-    let s' : IsShaped n jl d' = shaped-applied n jl d j cs s turn in
+    let k : ℕ = length (touched_blocks n cs) in
+    let d' : Disk = with_changes d cs in
+    let s' : IsShaped n jl d' = shaped-with_changes n jl d j cs s turn in
     let fits : j + 1 + k ≤ 4 + jl = turn.room in
     let few : k ≤ 8 = turn.few in
-    let copies : List Place = copy_places d' (j + 1) (touched n cs) in
-    let placed : ArePlaced n copies = placed-copies n d' (j + 1) (touched n cs) (omega arith) in
-    let e1 : Disk = all_put e copies in
-    let commit : Place = place j 0 (0xC7 ∷ t ∷ k ∷ touched n cs) in
+    let copies : List Place = copy_places d' (j + 1) (touched_blocks n cs) in
+    let placed : ArePlaced n copies = placed-copies n d' (j + 1) (touched_blocks n cs) (omega arith) in
+    let e1 : Disk = with_places e copies in
+    let commit : Place = place j 0 (0xC7 ∷ t ∷ k ∷ touched_blocks n cs) in
     let ok : IsPlaced n commit = record { inside = omega arith; known = omega arith } in
-    let e2 : Disk = put e1 j 0 (0xC7 ∷ t ∷ k ∷ touched n cs) in
+    let e2 : Disk = with_bytes e1 j 0 (0xC7 ∷ t ∷ k ∷ touched_blocks n cs) in
     let s1 : IsShaped n jl e1 = shaped-all n jl e copies r placed in
-    let s2 : IsShaped n jl e2 = shaped-put n jl e1 commit s1 ok in
+    let s2 : IsShaped n jl e2 = shaped-with_bytes n jl e1 commit s1 ok in
     let dn : d.blocks ≡ n = s.blocks in
     record {
       first = s1;
       second = s2;
       third = shaped-image n jl (id + k + 1) e2 (change_places cs) set s2 turn.placed;
-      copied = λ m less. copies-at n jl e d' (j + 1) (touched n cs) m r s' (omega arith) less
-          (λ i h. let t : is_target d (get_or (touched n cs) i 0) ≡ true = all_at (is_target d) (touched n cs) i (touched_targets d n cs turn.aimed) h in known d (get_or (touched n cs) i 0) n dn (omega arith) t);
-      kept_one = λ x below h. kept-put n jl e1 commit x s1 ok below (elim h [ inl l ↦ grind arith | inr g ↦ grind arith ])
-          ∙ kept-all n jl e copies x r placed below (avoid-copies d' (j + 1) (touched n cs) x (elim h [ inl l ↦ inl (omega arith) | inr g ↦ inr (omega arith) ]));
-      kept_two = λ x below other. kept-put n jl e1 commit x s1 ok below other;
+      copied = λ m less. copies-at n jl e d' (j + 1) (touched_blocks n cs) m r s' (omega arith) less
+          (λ i h. let t : is_target d (get_or (touched_blocks n cs) i 0) ≡ true = all_at (is_target d) (touched_blocks n cs) i (touched_targets d n cs turn.aimed) h in known d (get_or (touched_blocks n cs) i 0) n dn (omega arith) t);
+      kept_one = λ x below h. kept-with_bytes n jl e1 commit x s1 ok below (elim h [ inl l ↦ grind arith | inr g ↦ grind arith ])
+          ∙ kept-all n jl e copies x r placed below (avoid-copies d' (j + 1) (touched_blocks n cs) x (elim h [ inl l ↦ inl (omega arith) | inr g ↦ inr (omega arith) ]));
+      kept_two = λ x below other. kept-with_bytes n jl e1 commit x s1 ok below other;
       kept_three = λ x below avoid. kept-image n jl (id + k + 1) e2 (change_places cs) set x s2 turn.placed below avoid;
       row = record {
-        rest = drop (length (0xC7 ∷ t ∷ k ∷ touched n cs)) (block_of e1 j);
-        is = block-put_same e1 j 0 (0xC7 ∷ t ∷ k ∷ touched n cs) (omega arith) (shaped-inside n jl e1 j s1 (omega arith))
-            ∙ over-start (block_of e1 j) (0xC7 ∷ t ∷ k ∷ touched n cs);
+        rest = drop (length (0xC7 ∷ t ∷ k ∷ touched_blocks n cs)) (block_of e1 j);
+        is = block-put_same e1 j 0 (0xC7 ∷ t ∷ k ∷ touched_blocks n cs) (omega arith) (shaped-inside n jl e1 j s1 (omega arith))
+            ∙ over-start (block_of e1 j) (0xC7 ∷ t ∷ k ∷ touched_blocks n cs);
       };
     }
   where
@@ -307,104 +307,104 @@ IsFoundAt f d' next done b now = (done ≡ true → now ≡ b) × ((now ≡ b) �
 -- settled: the block itself
 found_done : (n jl : ℕ) (d e : Disk) (id t j : ℕ) (cs : List Change) (set b cur : ℕ) (e1 e2 e3 : Disk)
     → IsShaped n jl d → IsTurn n jl d j cs → 4 + jl ≤ n → 4 ≤ j
-    → IsStaged n jl e (applied d cs) t j cs e1 e2 e3 → e3 ≡ all_put e2 (change_places cs)
+    → IsStaged n jl e (with_changes d cs) t j cs e1 e2 e3 → e3 ≡ with_places e2 (change_places cs)
     → b < n → IsOutside jl b → cur ≡ b → block_of e cur ≡ block_of d b
-    → IsFoundAt (put e3 j 0 (0xC8 ∷ [])) (applied d cs) (j + 1 + length (touched n cs)) true b (unwrap_or (copy_in (block_of (put e3 j 0 (0xC8 ∷ [])) j) j b) cur)
+    → IsFoundAt (with_bytes e3 j 0 (0xC8 ∷ [])) (with_changes d cs) (j + 1 + length (touched_blocks n cs)) true b (unwrap_or (copy_in (block_of (with_bytes e3 j 0 (0xC8 ∷ [])) j) j b) cur)
 found_done n jl d e id t j cs set b cur e1 e2 e3 s turn room least stage all below out is same =
-    let k : ℕ = length (touched n cs) in
+    let k : ℕ = length (touched_blocks n cs) in
     let fits : j + 1 + k ≤ 4 + jl = turn.room in
-    let f : Disk = put e3 j 0 (0xC8 ∷ []) in
-    let row : HasRow 0xC8 t (touched n cs) (block_of f j) = row_after true n jl t j (touched n cs) e3 stage.third (omega arith)
+    let f : Disk = with_bytes e3 j 0 (0xC8 ∷ []) in
+    let row : HasRow 0xC8 t (touched_blocks n cs) (block_of f j) = row_after true n jl t j (touched_blocks n cs) e3 stage.third (omega arith)
     (record { rest = stage.row.rest; is = stage.kept_three j (omega arith) (avoid_journal d jl cs j s.journal turn.aimed least (omega arith)) ∙ stage.row.is }) in
-    let none : copy_in (block_of f j) j b ≡ None = copy_done t j b (touched n cs) (block_of f j) row in
+    let none : copy_in (block_of f j) j b ≡ None = copy_done t j b (touched_blocks n cs) (block_of f j) row in
     let now : unwrap_or (copy_in (block_of f j) j b) cur ≡ b = ap (λ (o : Option ℕ). unwrap_or o cur) none ∙ is in
     let apart : b ≢ j = outside_apart jl b j out least (omega arith) in
     let far : (b < j) ⊎ (j + 1 + k ≤ b) = elim out [ inl l ↦ inl (omega arith) | inr r ↦ inr (omega arith) ] in
     let before : block_of e2 b ≡ block_of d b = stage.kept_one b below far ∙ subst (λ (x : ℕ). block_of e x ≡ block_of d b) is same in
-    let here : block_of f b ≡ block_of (applied d cs) b =
+    let here : block_of f b ≡ block_of (with_changes d cs) b =
     block_after true n jl j b e3 stage.third (omega arith) below apart
     ∙ ap (λ (g : Disk). block_of g b) all
     ∙ same-all n jl d e2 (change_places cs) b s stage.second turn.placed below before
-    ∙ ap (λ (g : Disk). block_of g b) (sym (applied-all d cs)) in
-    subst (λ (x : ℕ). IsFoundAt f (applied d cs) (j + 1 + k) true b x) (sym now) ((λ h. refl), inl refl, here)
+    ∙ ap (λ (g : Disk). block_of g b) (sym (with_changes-all d cs)) in
+    subst (λ (x : ℕ). IsFoundAt f (with_changes d cs) (j + 1 + k) true b x) (sym now) ((λ h. refl), inl refl, here)
 
 -- not settled: the copy, or where it was before
 found_open : (n jl : ℕ) (d e : Disk) (id t j : ℕ) (cs : List Change) (set b cur : ℕ) (e1 e2 e3 : Disk)
     → IsShaped n jl d → IsShaped n jl e → IsTurn n jl d j cs → 4 + jl ≤ n → 4 ≤ j
-    → IsStaged n jl e (applied d cs) t j cs e1 e2 e3
+    → IsStaged n jl e (with_changes d cs) t j cs e1 e2 e3
     → b < n → IsOutside jl b → ((cur ≡ b) ⊎ ((4 ≤ cur) × (cur < j))) → block_of e cur ≡ block_of d b
-    → IsFoundAt e3 (applied d cs) (j + 1 + length (touched n cs)) false b (unwrap_or (copy_in (block_of e3 j) j b) cur)
+    → IsFoundAt e3 (with_changes d cs) (j + 1 + length (touched_blocks n cs)) false b (unwrap_or (copy_in (block_of e3 j) j b) cur)
 found_open n jl d e id t j cs set b cur e1 e2 e3 s r turn room least stage below out source same =
-    let k : ℕ = length (touched n cs) in
+    let k : ℕ = length (touched_blocks n cs) in
     let fits : j + 1 + k ≤ 4 + jl = turn.room in
-    let row : HasRow 0xC7 t (touched n cs) (block_of e3 j) =
+    let row : HasRow 0xC7 t (touched_blocks n cs) (block_of e3 j) =
     record { rest = stage.row.rest; is = stage.kept_three j (omega arith) (avoid_journal d jl cs j s.journal turn.aimed least (omega arith)) ∙ stage.row.is } in
-    let where_it_is : copy_in (block_of e3 j) j b ≡ option_map (λ m. j + 1 + m) (position (λ x. x == b) (touched n cs)) = copy_held t j b (touched n cs) (block_of e3 j) row in
-    elim (found_or_not b (touched n cs)) [
+    let where_it_is : copy_in (block_of e3 j) j b ≡ option_map (λ m. j + 1 + m) (position (λ x. x == b) (touched_blocks n cs)) = copy_held t j b (touched_blocks n cs) (block_of e3 j) row in
+    elim (found_or_not b (touched_blocks n cs)) [
       | inl at ↦
           let m : ℕ = at.0 in
           let less : m < k = at.2 in
           let now : unwrap_or (copy_in (block_of e3 j) j b) cur ≡ j + 1 + m = ap (λ (o : Option ℕ). unwrap_or o cur) (where_it_is ∙ ap (λ (o : Option ℕ). option_map (λ m. j + 1 + m) o) at.1) in
           let apart : j + 1 + m ≢ j = grind arith in
-          let here : block_of e3 (j + 1 + m) ≡ block_of (applied d cs) b =
+          let here : block_of e3 (j + 1 + m) ≡ block_of (with_changes d cs) b =
           stage.kept_three (j + 1 + m) (omega arith) (avoid_journal d jl cs (j + 1 + m) s.journal turn.aimed (omega arith) (omega arith))
           ∙ stage.kept_two (j + 1 + m) (omega arith) apart
           ∙ stage.copied m less
-          ∙ ap (λ (x : ℕ). block_of (applied d cs) x) at.3 in
-          subst (λ (x : ℕ). IsFoundAt e3 (applied d cs) (j + 1 + k) false b x) (sym now) ((λ h. absurd (cc)), inr (omega arith, omega arith), here)
+          ∙ ap (λ (x : ℕ). block_of (with_changes d cs) x) at.3 in
+          subst (λ (x : ℕ). IsFoundAt e3 (with_changes d cs) (j + 1 + k) false b x) (sym now) ((λ h. absurd (cc)), inr (omega arith, omega arith), here)
       | inr none ↦
           let now : unwrap_or (copy_in (block_of e3 j) j b) cur ≡ cur = ap (λ (o : Option ℕ). unwrap_or o cur) (where_it_is ∙ ap (λ (o : Option ℕ). option_map (λ m. j + 1 + m) o) none.0) in
           let avoid : Avoid b (change_places cs) = avoid_untouched n cs b below none.1 in
-          let after : block_of (applied d cs) b ≡ block_of d b = ap (λ (g : Disk). block_of g b) (applied-all d cs) ∙ kept-all n jl d (change_places cs) b s turn.placed below avoid in
+          let after : block_of (with_changes d cs) b ≡ block_of d b = ap (λ (g : Disk). block_of g b) (with_changes-all d cs) ∙ kept-all n jl d (change_places cs) b s turn.placed below avoid in
           let here : block_of e3 cur ≡ block_of e cur = elim source [
             | inl is ↦ subst (λ (x : ℕ). block_of e3 x ≡ block_of e x) (sym is)
                 (stage.kept_three b below avoid ∙ stage.kept_one b below (elim out [ inl l ↦ inl (omega arith) | inr g ↦ inr (omega arith) ]))
             | inr old ↦ let low : cur < j = old.1 in let from : 4 ≤ cur = old.0 in
                 stage.kept_three cur (omega arith) (avoid_journal d jl cs cur s.journal turn.aimed from (omega arith)) ∙ stage.kept_one cur (omega arith) (inl low)
           ] in
-          subst (λ (x : ℕ). IsFoundAt e3 (applied d cs) (j + 1 + k) false b x) (sym now)
+          subst (λ (x : ℕ). IsFoundAt e3 (with_changes d cs) (j + 1 + k) false b x) (sym now)
           ((λ h. absurd (cc)), elim source [ inl is ↦ inl is | inr old ↦ inr (old.0, (let low : cur < j = old.1 in omega arith)) ], here ∙ same ∙ sym after)
     ]
 
 pub turned : (n jl : ℕ) (d e : Disk) (id t j : ℕ) (cs : List Change) (before done : Bool) (set : ℕ)
-    → IsShaped n jl d → IsShaped n jl e → 4 + jl ≤ n → 4 ≤ j → IsTurn n jl d j cs → IsTurnClosed id (length (touched n cs)) (length cs) before done set
-    → IsTurned n jl d e (image_from id e (turn_places (applied d cs) t j (touched n cs) cs) set) t j cs (has set (id + length (touched n cs))) (has set (id + length (touched n cs) + 1 + length cs))
+    → IsShaped n jl d → IsShaped n jl e → 4 + jl ≤ n → 4 ≤ j → IsTurn n jl d j cs → IsTurnClosed id (length (touched_blocks n cs)) (length cs) before done set
+    → IsTurned n jl d e (image_from id e (turn_places (with_changes d cs) t j (touched_blocks n cs) cs) set) t j cs (has set (id + length (touched_blocks n cs))) (has set (id + length (touched_blocks n cs) + 1 + length cs))
 turned n jl d e id t j cs before done set s r room least turn closed =
-    let k : ℕ = length (touched n cs) in
-    let d' : Disk = applied d cs in
+    let k : ℕ = length (touched_blocks n cs) in
+    let d' : Disk = with_changes d cs in
     let fits : j + 1 + k ≤ 4 + jl = turn.room in
-    let ps : List Place = turn_places d' t j (touched n cs) cs in
+    let ps : List Place = turn_places d' t j (touched_blocks n cs) cs in
     let f : Disk = image_from id e ps set in
     let placed : ArePlaced n ps = placed-turn n jl d d' t j cs room turn in
-    let copies : List Place = copy_places d' (j + 1) (touched n cs) in
-    let placed_copies : ArePlaced n copies = placed-copies n d' (j + 1) (touched n cs) (omega arith) in
-    let e1 : Disk = all_put e copies in
-    let e2 : Disk = put e1 j 0 (0xC7 ∷ t ∷ k ∷ touched n cs) in
+    let copies : List Place = copy_places d' (j + 1) (touched_blocks n cs) in
+    let placed_copies : ArePlaced n copies = placed-copies n d' (j + 1) (touched_blocks n cs) (omega arith) in
+    let e1 : Disk = with_places e copies in
+    let e2 : Disk = with_bytes e1 j 0 (0xC7 ∷ t ∷ k ∷ touched_blocks n cs) in
     let e3 : Disk = image_from (id + k + 1) e2 (change_places cs) set in
     let stage : IsStaged n jl e d' t j cs e1 e2 e3 = staged n jl d e id t j cs set s r room least turn in
     let dn : d.blocks ≡ n = s.blocks in
     let dj : d.journal ≡ jl = s.journal in
     record {
       shaped = shaped-image n jl id e ps set r placed;
-      below = λ x from to. kept-image n jl id e ps set x r placed (omega arith) (avoid-turn d' t j (touched n cs) cs x (inl to) (avoid_journal d jl cs x dj turn.aimed from (omega arith)));
-      above = λ x from to. kept-image n jl id e ps set x r placed (omega arith) (avoid-turn d' t j (touched n cs) cs x (inr from) (avoid_journal d jl cs x dj turn.aimed (omega arith) to));
-      open_header = λ unheld. ap (λ (g : Disk). block_of g j) (turn_open id e d' t j (touched n cs) cs before done set closed unheld)
-          ∙ kept-image n jl id e copies set j r placed_copies (omega arith) (avoid-copies d' (j + 1) (touched n cs) j (inl (omega arith)));
-      open_outside = λ unheld x less out. ap (λ (g : Disk). block_of g x) (turn_open id e d' t j (touched n cs) cs before done set closed unheld)
-          ∙ kept-image n jl id e copies set x r placed_copies less (avoid-copies d' (j + 1) (touched n cs) x (elim out [ inl l ↦ inl (omega arith) | inr g ↦ inr (omega arith) ]));
+      below = λ x from to. kept-image n jl id e ps set x r placed (omega arith) (avoid-turn d' t j (touched_blocks n cs) cs x (inl to) (avoid_journal d jl cs x dj turn.aimed from (omega arith)));
+      above = λ x from to. kept-image n jl id e ps set x r placed (omega arith) (avoid-turn d' t j (touched_blocks n cs) cs x (inr from) (avoid_journal d jl cs x dj turn.aimed (omega arith) to));
+      open_header = λ unheld. ap (λ (g : Disk). block_of g j) (turn_open id e d' t j (touched_blocks n cs) cs before done set closed unheld)
+          ∙ kept-image n jl id e copies set j r placed_copies (omega arith) (avoid-copies d' (j + 1) (touched_blocks n cs) j (inl (omega arith)));
+      open_outside = λ unheld x less out. ap (λ (g : Disk). block_of g x) (turn_open id e d' t j (touched_blocks n cs) cs before done set closed unheld)
+          ∙ kept-image n jl id e copies set x r placed_copies less (avoid-copies d' (j + 1) (touched_blocks n cs) x (elim out [ inl l ↦ inl (omega arith) | inr g ↦ inr (omega arith) ]));
       header = λ held g gb gj at_j.
-          let row : HasRow (mark_of (has set (id + k + 1 + length cs))) t (touched n cs) (block_of f j) =
-          subst (λ (h : Disk). HasRow (mark_of (has set (id + k + 1 + length cs))) t (touched n cs) (block_of h j)) (sym (turn_held id e d' t j (touched n cs) cs before done set closed held))
-          (row_after (has set (id + k + 1 + length cs)) n jl t j (touched n cs) e3 stage.third (omega arith)
+          let row : HasRow (mark_of (has set (id + k + 1 + length cs))) t (touched_blocks n cs) (block_of f j) =
+          subst (λ (h : Disk). HasRow (mark_of (has set (id + k + 1 + length cs))) t (touched_blocks n cs) (block_of h j)) (sym (turn_held id e d' t j (touched_blocks n cs) cs before done set closed held))
+          (row_after (has set (id + k + 1 + length cs)) n jl t j (touched_blocks n cs) e3 stage.third (omega arith)
           (record { rest = stage.row.rest; is = stage.kept_three j (omega arith) (avoid_journal d jl cs j dj turn.aimed least (omega arith)) ∙ stage.row.is })) in
-          let what : block_of g j ≡ mark_of (has set (id + k + 1 + length cs)) ∷ t ∷ k ∷ (touched n cs ++ row.rest) = at_j ∙ row.is in
-          let aimed : list_all (is_target g) (touched n cs) ≡ true = same_targets g d (touched n cs) (gb ∙ sym dn) (gj ∙ sym dj) ∙ touched_targets d n cs turn.aimed in (
+          let what : block_of g j ≡ mark_of (has set (id + k + 1 + length cs)) ∷ t ∷ k ∷ (touched_blocks n cs ++ row.rest) = at_j ∙ row.is in
+          let aimed : list_all (is_target g) (touched_blocks n cs) ≡ true = same_targets g d (touched_blocks n cs) (gb ∙ sym dn) (gj ∙ sym dj) ∙ touched_targets d n cs turn.aimed in (
             ap (λ (row : List ℕ). is_header g j t row) what
-                ∙ good_row g j t (has set (id + k + 1 + length cs)) (touched n cs) row.rest turn.some turn.few (subst (λ (m : ℕ). j + 1 + k ≤ 4 + m) (sym gj) fits) (touched_ascending n cs) aimed,
+                ∙ good_row g j t (has set (id + k + 1 + length cs)) (touched_blocks n cs) row.rest turn.some turn.few (subst (λ (m : ℕ). j + 1 + k ≤ 4 + m) (sym gj) fits) (touched_ascending n cs) aimed,
             ap (λ (row : List ℕ). count_of row) what,
           );
       found = λ held b cur less out settled source same.
-          subst (λ (g : Disk). IsFoundAt g d' (j + 1 + k) (has set (id + k + 1 + length cs)) b (unwrap_or (copy_in (block_of g j) j b) cur)) (sym (turn_held id e d' t j (touched n cs) cs before done set closed held))
+          subst (λ (g : Disk). IsFoundAt g d' (j + 1 + k) (has set (id + k + 1 + length cs)) b (unwrap_or (copy_in (block_of g j) j b) cur)) (sym (turn_held id e d' t j (touched_blocks n cs) cs before done set closed held))
           (by_done (has set (id + k + 1 + length cs)) n jl d e id t j cs set b cur e1 e2 e3 s r turn room least stage
           (λ all. image-all (id + k + 1) e2 (change_places cs) set (λ q from to. closed.done_last all q (omega arith) (let more : length (change_places cs) ≡ length cs = length-map cs (λ (c : Change). place c.block c.offset c.new.items) in omega arith)))
           less out settled source same);
@@ -412,9 +412,9 @@ turned n jl d e id t j cs before done set s r room least turn closed =
   where
     by_done : (dn : Bool) (n jl : ℕ) (d e : Disk) (id t j : ℕ) (cs : List Change) (set b cur : ℕ) (e1 e2 e3 : Disk)
         → IsShaped n jl d → IsShaped n jl e → IsTurn n jl d j cs → 4 + jl ≤ n → 4 ≤ j
-        → IsStaged n jl e (applied d cs) t j cs e1 e2 e3 → (dn ≡ true → e3 ≡ all_put e2 (change_places cs))
+        → IsStaged n jl e (with_changes d cs) t j cs e1 e2 e3 → (dn ≡ true → e3 ≡ with_places e2 (change_places cs))
         → b < n → IsOutside jl b → (dn ≡ true → cur ≡ b) → ((cur ≡ b) ⊎ ((4 ≤ cur) × (cur < j))) → block_of e cur ≡ block_of d b
-        → let g = cond dn (put e3 j 0 (0xC8 ∷ [])) e3 in IsFoundAt g (applied d cs) (j + 1 + length (touched n cs)) dn b (unwrap_or (copy_in (block_of g j) j b) cur)
+        → let g = cond dn (with_bytes e3 j 0 (0xC8 ∷ [])) e3 in IsFoundAt g (with_changes d cs) (j + 1 + length (touched_blocks n cs)) dn b (unwrap_or (copy_in (block_of g j) j b) cur)
     by_done true n jl d e id t j cs set b cur e1 e2 e3 s r turn room least stage all less out settled source same =
         found_done n jl d e id t j cs set b cur e1 e2 e3 s turn room least stage (all refl) less out (settled refl) same
     by_done false n jl d e id t j cs set b cur e1 e2 e3 s r turn room least stage all less out settled source same =

@@ -3,18 +3,18 @@ use Rattle.std.specs.Prelude.{◌≡◌, ℕ, ◌+◌, ◌<◌, ◌≤◌, ◌�
 use Rattle.patch_sets.specs.Sets.{has}
 use Rattle.patch_sets.specs.Closed.{IsClosed}
 use Rattle.crash_model.specs.Disk.{Disk, block_of}
-use Rattle.crash_model.specs.Plan.{plan_of, result_applied}
+use Rattle.crash_model.specs.Plan.{plan_of, with_plan}
 use Rattle.crash_model.specs.Sound.{IsSound}
 use Rattle.crash_model.specs.Patches.{deps_of, image_of}
-use Rattle.crash_model.specs.Replay.{replayed}
-use Rattle.crash_model.specs.Trace.{Emitted, Tracing, begun, traced}
+use Rattle.crash_model.specs.Replay.{image_after_replay}
+use Rattle.crash_model.specs.Trace.{Emitted, Tracing, trace_start, trace_from}
 use Rattle.crash_model.specs.declared.rules.Part.{Part}
 use Rattle.crash_model.specs.declared.rules.Part.TheVariants.{Commit}
-use Rattle.crash_model.specs.declared.names.Op.{Op}
+use Rattle.crash_model.specs.declared.operations.Op.{Op}
 use Rattle.crash_model.specs.declared.patches.Patch.{Patch}
 use Rattle.crash_model.specs.declared.steps.Act.{Act}
 use Rattle.crash_model.specs.declared.steps.Act.TheVariants.{Do}
-use Rattle.crash_model.specs.declared.steps.Module.TheVariants.{Full}
+use Rattle.crash_model.specs.declared.modules.Module.TheVariants.{Full}
 use Rattle.crash_model.specs.declared.steps.Step.{Step}
 
 -- the operations of steps, in order
@@ -28,7 +28,7 @@ ops_of steps = flat_map (λ x. ops_at x.act) steps
 -- the disk after operations; a refused one changes nothing
 abbrev pub after_ops : Disk → List Op → Disk
 after_ops d [] = d
-after_ops d (op ∷ ops) = after_ops (result_applied d (plan_of d op)) ops
+after_ops d (op ∷ ops) = after_ops (with_plan d (plan_of d op)) ops
 
 -- a block outside of a journal of jl blocks
 abbrev pub IsOutside : ℕ → ℕ → Type 0
@@ -47,10 +47,10 @@ commits_from id (e ∷ es) set = (if is_commit e.part && has set id then 1 else 
 -- many commit patches the set has; a sound disk
 pub record IsRecovered (base : Disk) (steps : List Step) (s : Tracing) (patches : List Patch) (set : ℕ) : Type 0 where
   pub same : (block : ℕ) → block < base.blocks → IsOutside base.journal block
-      → block_of (replayed (image_of base patches set)) block ≡ block_of (after_ops base (take (commits_from 0 s.emitted set) (ops_of steps))) block
-  pub sound : IsSound (replayed (image_of base patches set))
+      → block_of (image_after_replay (image_of base patches set)) block ≡ block_of (after_ops base (take (commits_from 0 s.emitted set) (ops_of steps))) block
+  pub sound : IsSound (image_after_replay (image_of base patches set))
 
 -- the patches are those of the steps under the full journal, and replay recovers from every set that a crash can leave
 abbrev pub IsFullSafe : Disk → List Step → List Patch → Type 0
 IsFullSafe base steps patches =
-    (s : Tracing) × (traced Full (begun base) steps ≡ Ok s) × ((set : ℕ) → IsClosed (deps_of patches) set → IsRecovered base steps s patches set)
+    (s : Tracing) × (trace_from Full (trace_start base) steps ≡ Ok s) × ((set : ℕ) → IsClosed (deps_of patches) set → IsRecovered base steps s patches set)

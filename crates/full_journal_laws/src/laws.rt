@@ -5,13 +5,13 @@ ghost use Rattle.patch_sets.specs.Closed.{IsClosed};
 ghost use Rattle.crash_model.specs.Disk.{Disk, IsDisk};
 ghost use Rattle.crash_model.specs.Sound.{IsSound, HasZeroJournal};
 ghost use Rattle.crash_model.specs.Patches.{deps_of, image_of};
-ghost use Rattle.crash_model.specs.Replay.{replayed};
+ghost use Rattle.crash_model.specs.Replay.{image_after_replay};
 ghost use Rattle.crash_model.specs.Strict.{IsKept, IsCleanUnder};
-ghost use Rattle.crash_model.specs.Trace.{Tracing, begun, traced, IsGraphOf};
+ghost use Rattle.crash_model.specs.Trace.{Tracing, trace_start, trace_from, IsGraphOf};
 ghost use Rattle.crash_model.specs.Rules.{AreAmong, rules_of};
 ghost use Rattle.crash_model.specs.declared.patches.Patch.{Patch};
 ghost use Rattle.crash_model.specs.declared.rules.Rule.{Rule};
-ghost use Rattle.crash_model.specs.declared.steps.Module.TheVariants.{Full};
+ghost use Rattle.crash_model.specs.declared.modules.Module.TheVariants.{Full};
 ghost use Rattle.crash_model.specs.declared.steps.Step.{Step};
 ghost use Rattle.inode_fs.specs.Inside.{GivesName};
 ghost use Rattle.full_journal_laws.specs.Full.{ops_of, IsRecovered};
@@ -23,7 +23,8 @@ pub fn replay_recovers_the_committed_operations()
     ensures { (rules : List Rule) → (base : Disk) → (steps : List Step) → (s : Tracing) → (patches : List Patch)
         → (set : ℕ)
         → IsDisk base → IsSound base → HasZeroJournal base → All GivesName (ops_of steps)
-        → traced Full (begun base) steps ≡ Ok s → AreAmong (rules_of Full) rules → IsGraphOf rules base s patches
+        → trace_from Full (trace_start base) steps ≡ Ok s → AreAmong (rules_of Full) rules
+        → IsGraphOf rules base s patches
         → IsClosed (deps_of patches) set
         → IsRecovered base steps s patches set }
 {}
@@ -34,7 +35,8 @@ pub fn nothing_that_the_script_keeps_is_lost()
     ensures { (rules : List Rule) → (base : Disk) → (steps : List Step) → (s : Tracing) → (patches : List Patch)
         → (set kept : ℕ)
         → IsDisk base → IsSound base → HasZeroJournal base → All GivesName (ops_of steps)
-        → traced Full (begun base) steps ≡ Ok s → AreAmong (rules_of Full) rules → IsGraphOf rules base s patches
+        → trace_from Full (trace_start base) steps ≡ Ok s → AreAmong (rules_of Full) rules
+        → IsGraphOf rules base s patches
         → IsClosed (deps_of patches) set → IsKept base steps kept
-        → IsCleanUnder (Some kept) (replayed (image_of base patches set)) }
+        → IsCleanUnder (Some kept) (image_after_replay (image_of base patches set)) }
 {}

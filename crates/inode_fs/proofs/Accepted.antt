@@ -5,9 +5,9 @@ use Rattle.std.proofs.lemmas.Bool.{eqb-true, leb-false}
 use Rattle.soundness_laws.proofs.Answered.{then_ok-ok, at_entry-ok, unless-ok, answer-ok, some-found, none-found, test-holds}
 use Rattle.crash_model.specs.Disk.{Disk}
 use Rattle.crash_model.specs.Layout.{kind_of, links_of, target_of}
-use Rattle.crash_model.specs.Plan.{entry_named, walked, free_inode, free_block, free_entry, free_slot, has_entries, relinked, inode_init, inode_free, link_count, pointer_set, entry_set, entry_clear, map_set, map_clear_at, map_clears, init_block, plan_of}
+use Rattle.crash_model.specs.Plan.{entry_named, walk_end, free_inode, free_block, free_entry, free_slot, has_entries, relink_plan, inode_init, inode_free, link_count, pointer_set, entry_set, entry_clear, map_set, map_clear_at, map_clears, init_block, plan_of}
 use Rattle.crash_model.specs.declared.names.Path.{Path}
-use Rattle.crash_model.specs.declared.names.Op.TheVariants.{Create, Write, Link, Unlink, Rename, Mkdir, Rmdir}
+use Rattle.crash_model.specs.declared.operations.Op.TheVariants.{Create, Write, Link, Unlink, Rename, Mkdir, Rmdir}
 use Rattle.crash_model.specs.declared.plans.Change.{Change}
 use Rattle.crash_model.specs.declared.plans.Role.TheVariants.{InitFile, InitDir, LinkUp, LinkDown}
 
@@ -17,7 +17,7 @@ pub record CreateFound (d : Disk) (path : Path) (changes : List Change) : Type 0
   pub dir : ℕ
   pub i : ℕ
   pub k : ℕ
-  pub walk : walked d 0 path.through.items ≡ Ok dir
+  pub walk : walk_end d 0 path.through.items ≡ Ok dir
   pub absent : entry_named d dir path.last ≡ None
   pub inode : free_inode d ≡ Some i
   pub place : free_entry d dir ≡ Some k
@@ -26,7 +26,7 @@ pub record CreateFound (d : Disk) (path : Path) (changes : List Change) : Type 0
 pub create-ok : (d : Disk) (path : Path) (changes : List Change) → plan_of d (Create path) ≡ Ok changes → CreateFound d path changes
 unfolding plan_of
 create-ok d path changes e =
-    let walk = then_ok-ok (walked d 0 path.through.items) _ changes e in
+    let walk = then_ok-ok (walk_end d 0 path.through.items) _ changes e in
     let one = unless-ok _ _ _ changes walk.2 in
     let two = unless-ok _ _ _ changes one.1 in
     let three = unless-ok _ _ _ changes two.1 in
@@ -46,7 +46,7 @@ pub record WriteFound (d : Disk) (path : Path) (changes : List Change) : Type 0 
   pub k : ℕ
   pub b : ℕ
   pub s : ℕ
-  pub walk : walked d 0 path.through.items ≡ Ok dir
+  pub walk : walk_end d 0 path.through.items ≡ Ok dir
   pub named : entry_named d dir path.last ≡ Some k
   pub file : kind_of d (target_of d dir k) ≡ 1
   pub block : free_block d ≡ Some b
@@ -80,21 +80,21 @@ pub record RelinkFound (d : Disk) (old new : Path) : Type 0 where
   pub old_k : ℕ
   pub dir : ℕ
   pub k : ℕ
-  pub walk : walked d 0 old.through.items ≡ Ok old_dir
+  pub walk : walk_end d 0 old.through.items ≡ Ok old_dir
   pub named : entry_named d old_dir old.last ≡ Some old_k
-  pub new_walk : walked d 0 new.through.items ≡ Ok dir
+  pub new_walk : walk_end d 0 new.through.items ≡ Ok dir
   pub absent : entry_named d dir new.last ≡ None
   pub file : kind_of d (target_of d old_dir old_k) ≡ 1
   pub place : free_entry d dir ≡ Some k
   pub few : links_of d (target_of d old_dir old_k) < 8
 
 -- the changes are made of the old place, the target, the new directory and the name
-relink-ok : (d : Disk) (old new : Path) (plan : ℕ → ℕ → ℕ → ℕ → List ℕ → List Change) (changes : List Change) → relinked d old new plan ≡ Ok changes
+relink-ok : (d : Disk) (old new : Path) (plan : ℕ → ℕ → ℕ → ℕ → List ℕ → List Change) (changes : List Change) → relink_plan d old new plan ≡ Ok changes
     → (f : RelinkFound d old new) × (changes ≡ plan f.old_dir f.old_k (target_of d f.old_dir f.old_k) f.dir new.last)
 relink-ok d old new plan changes e =
     let at = at_entry-ok d old _ changes e in
     let target = target_of d at.dir at.k in
-    let walk = then_ok-ok (walked d 0 new.through.items) _ changes at.next in
+    let walk = then_ok-ok (walk_end d 0 new.through.items) _ changes at.next in
     let one = unless-ok _ _ _ changes walk.2 in
     let two = unless-ok _ _ _ changes one.1 in
     let three = unless-ok _ _ _ changes two.1 in
@@ -165,7 +165,7 @@ rename-ok d old new changes e =
 pub record UnlinkFound (d : Disk) (path : Path) (changes : List Change) : Type 0 where
   pub dir : ℕ
   pub k : ℕ
-  pub walk : walked d 0 path.through.items ≡ Ok dir
+  pub walk : walk_end d 0 path.through.items ≡ Ok dir
   pub named : entry_named d dir path.last ≡ Some k
   pub file : kind_of d (target_of d dir k) ≡ 1
   pub are : changes ≡ entry_clear d dir k ∷ (if nat_lt 1 (links_of d (target_of d dir k))
@@ -191,7 +191,7 @@ pub record MkdirFound (d : Disk) (path : Path) (changes : List Change) : Type 0 
   pub i : ℕ
   pub b : ℕ
   pub k : ℕ
-  pub walk : walked d 0 path.through.items ≡ Ok dir
+  pub walk : walk_end d 0 path.through.items ≡ Ok dir
   pub absent : entry_named d dir path.last ≡ None
   pub inode : free_inode d ≡ Some i
   pub block : free_block d ≡ Some b
@@ -201,7 +201,7 @@ pub record MkdirFound (d : Disk) (path : Path) (changes : List Change) : Type 0 
 pub mkdir-ok : (d : Disk) (path : Path) (changes : List Change) → plan_of d (Mkdir path) ≡ Ok changes → MkdirFound d path changes
 unfolding plan_of
 mkdir-ok d path changes e =
-    let walk = then_ok-ok (walked d 0 path.through.items) _ changes e in
+    let walk = then_ok-ok (walk_end d 0 path.through.items) _ changes e in
     let one = unless-ok _ _ _ changes walk.2 in
     let two = unless-ok _ _ _ changes one.1 in
     let three = unless-ok _ _ _ changes two.1 in
@@ -222,7 +222,7 @@ mkdir-ok d path changes e =
 pub record RmdirFound (d : Disk) (path : Path) (changes : List Change) : Type 0 where
   pub dir : ℕ
   pub k : ℕ
-  pub walk : walked d 0 path.through.items ≡ Ok dir
+  pub walk : walk_end d 0 path.through.items ≡ Ok dir
   pub named : entry_named d dir path.last ≡ Some k
   pub directory : kind_of d (target_of d dir k) ≡ 2
   pub empty : has_entries d (target_of d dir k) ≡ false

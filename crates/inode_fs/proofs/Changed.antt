@@ -5,14 +5,14 @@ use Rattle.crash_model.specs.Disk.{Disk, IsDisk}
 use Rattle.crash_model.specs.Names.{IsName}
 use Rattle.crash_model.specs.Lists.{some_below}
 use Rattle.crash_model.specs.Layout.{kind_of, links_of, pointer_of, is_data, target_of, is_entry}
-use Rattle.crash_model.specs.Plan.{spelled, inode_init, inode_free, map_set, map_clears, map_clear_at, init_block, pointer_set, entry_set, entry_clear, link_count, has_entries, applied}
+use Rattle.crash_model.specs.Plan.{name_spelling, inode_init, inode_free, map_set, map_clears, map_clear_at, init_block, pointer_set, entry_set, entry_clear, link_count, has_entries, with_changes}
 use Rattle.crash_model.specs.declared.names.Path.{Path}
 use Rattle.crash_model.specs.declared.plans.Change.{Change}
 use Rattle.crash_model.specs.declared.plans.Role.TheVariants.{InitFile, InitDir, LinkUp, LinkDown}
-use Rattle.soundness_laws.specs.Tables.{Tables, Place, tables_of, changed, with_inode, with_links, with_pointer, with_used, with_mark, with_entry, with_place, created, grown, linked, unlinked, removed, made, HasPointer, Sound}
+use Rattle.soundness_laws.specs.Tables.{Tables, Place, tables_of, with_value, with_inode, with_links, with_pointer, with_used, with_mark, with_entry, with_place, tables_after_create, tables_after_write, tables_after_link, tables_after_unlink, tables_after_removal, tables_after_mkdir, HasPointer, Sound}
 use Rattle.soundness_laws.specs.Tables.Place.{Free, Leads}
 use Rattle.soundness_laws.specs.Tables.Mark.{FileOf, DirectoryOf}
-use Rattle.soundness_laws.proofs.Sums.{changed-same, changed-other}
+use Rattle.soundness_laws.proofs.Sums.{with_value-same, with_value-other}
 use Rattle.soundness_laws.proofs.Names.{left_back}
 use Rattle.soundness_laws.proofs.OnTables.{place-no_directory, place-no_block}
 use Rattle.soundness_laws.proofs.ByTables.{kind-at, pointer-at, entry-at, entry-bytes}
@@ -24,15 +24,15 @@ use Rattle.soundness_laws.proofs.Inodes.{not-fresh}
 use Rattle.soundness_laws.proofs.Blocks.{FreesBlocks}
 use Rattle.soundness_laws.proofs.Steps.{Stands, init-makes, free-makes, links-makes, pointer-makes, pointer-kind, empty-place, map_set-makes, block-makes, set-makes, clear-makes}
 use Rattle.soundness_laws.proofs.Kept.{CanCreate, CanMake, CanGrow, CanLink, CanUnlink, CanRemove, file-leaf}
-use Rattle.soundness_laws.proofs.Meant.{renamed}
+use Rattle.soundness_laws.proofs.Meant.{tables_after_rename}
 use Rattle.inode_fs.proofs.Accepted.{CreateFound, WriteFound, RelinkFound, LinkFound, RenameFound, UnlinkFound, MkdirFound, RmdirFound}
 use Rattle.inode_fs.proofs.Searched.{Walked, walk-found, fresh-found, block-found, slot-found, named-found, place-found}
 use Rattle.inode_fs.proofs.Clears.{clears-make, clears-free}
 
 -- the disk after a list of changes has these tables
 pub record Made (d : Disk) (changes : List Change) (t : Tables) : Type 0 where
-  pub disk : IsDisk (applied d changes)
-  pub tables : tables_of (applied d changes) ≡ t
+  pub disk : IsDisk (with_changes d changes)
+  pub tables : tables_of (with_changes d changes) ≡ t
 
 along : (d : Disk) (changes by : List Change) (t : Tables) → changes ≡ by → Made d by t → Made d changes t
 along d changes by t is m = subst (λ (x : List Change). Made d x t) (sym is) m
@@ -70,18 +70,18 @@ can-create d path changes sound is_name f =
     record { place = place-found d f.dir f.k path.last sound is_name walk f.place f.absent; fresh = fresh-found d f.i 1 f.inode (omega arith, omega arith) }
 
 pub create-made : (d : Disk) (path : Path) (changes : List Change) → IsDisk d → Sound (tables_of d) → IsName path.last → (f : CreateFound d path changes)
-    → Made d changes (created (tables_of d) f.dir f.k f.i path.last)
+    → Made d changes (tables_after_create (tables_of d) f.dir f.k f.i path.last)
 create-made d path changes disk sound is_name f =
     let t = tables_of d in
     let can = can-create d path changes sound is_name f in
     let walk = walk-found d path.through.items f.dir sound f.walk in
     let below = can.fresh.below in
     let one = init-makes d f.i 1 disk below (sym (kind-at d f.i below) ∙ can.fresh.free) in
-    let d1 = applied d (inode_init f.i 1 ∷ []) in
+    let d1 = with_changes d (inode_init f.i 1 ∷ []) in
     let other = not-fresh t f.i 1 f.dir can.fresh (λ z. let two = walk.kind in omega arith) in
-    let s = stands d d1 f.dir (with_inode t f.i 1 1) sound walk one.tables (changed-other t.kind f.i 1 f.dir other) (ap (λ (row : ℕ → ℕ). row 0) (changed-other t.pointer f.i (λ _. 0) f.dir other)) refl in
+    let s = stands d d1 f.dir (with_inode t f.i 1 1) sound walk one.tables (with_value-other t.kind f.i 1 f.dir other) (ap (λ (row : ℕ → ℕ). row 0) (with_value-other t.pointer f.i (λ _. 0) f.dir other)) refl in
     let two = set-makes d d1 f.dir f.k f.i path.last one.disk s can.place.in_place is_name.few in
-    along d changes _ _ f.are (record { disk = two.disk; tables = two.tables ∙ ap (λ (x : Tables). with_entry x f.dir f.k (Leads f.i (spelled path.last))) one.tables })
+    along d changes _ _ f.are (record { disk = two.disk; tables = two.tables ∙ ap (λ (x : Tables). with_entry x f.dir f.k (Leads f.i (name_spelling path.last))) one.tables })
 
 -- ---- write
 
@@ -103,7 +103,7 @@ can-grow d path changes disk sound f =
     }
 
 pub write-made : (d : Disk) (path : Path) (changes : List Change) → IsDisk d → Sound (tables_of d) → (f : WriteFound d path changes)
-    → Made d changes (grown (tables_of d) (target_of d f.dir f.k) f.s f.b)
+    → Made d changes (tables_after_write (tables_of d) (target_of d f.dir f.k) f.s f.b)
 write-made d path changes disk sound f =
     let t = tables_of d in
     let target = target_of d f.dir f.k in
@@ -112,12 +112,12 @@ write-made d path changes disk sound f =
     let can = can-grow d path changes disk sound f in
     let block = block-found d f.b f.block in
     let one = map_set-makes d f.b disk block.high in
-    let d1 = applied d (map_set f.b ∷ []) in
+    let d1 = with_changes d (map_set f.b ∷ []) in
     let inside : is_data d f.b ≡ true = area d f.b (can.low, can.high) in
     let two = block-makes d1 InitFile f.b 0x46 target one.disk inside (λ dir in_dir kind.
     let old_kind : t.kind dir ≡ 2 = ap (λ (x : Tables). x.kind dir) (sym one.tables) ∙ kind-at d1 dir in_dir ∙ kind in
     λ same. block-apart t dir f.b sound old_kind can.free (ap (λ (x : Tables). x.pointer dir 0) (sym one.tables) ∙ pointer-at d1 dir 0 in_dir (omega arith) ∙ same)) in
-    let d2 = applied d1 (init_block InitFile f.b 0x46 target ∷ []) in
+    let d2 = with_changes d1 (init_block InitFile f.b 0x46 target ∷ []) in
     let tables : tables_of d2 ≡ with_mark (with_used t f.b true) f.b (FileOf target) = two.tables ∙ ap (λ (x : Tables). with_mark x f.b (FileOf target)) one.tables in
     let kind : kind_of d2 target ≡ 1 = sym (kind-at d2 target below) ∙ ap (λ (x : Tables). x.kind target) tables ∙ can.file in
     let after = pointer-kind d2 target f.s f.b two.disk below can.slot in
@@ -142,7 +142,7 @@ can-link d old new sound is_name f =
 -- the first two changes of `link` and of `rename`
 relink-made : (d : Disk) (old new : Path) → IsDisk d → Sound (tables_of d) → IsName new.last → (f : RelinkFound d old new)
     → Made d (link_count LinkUp (target_of d f.old_dir f.old_k) (links_of d (target_of d f.old_dir f.old_k) + 1) ∷ entry_set d f.dir f.k (target_of d f.old_dir f.old_k) new.last ∷ [])
-    (linked (tables_of d) f.dir f.k (target_of d f.old_dir f.old_k) new.last)
+    (tables_after_link (tables_of d) f.dir f.k (target_of d f.old_dir f.old_k) new.last)
 relink-made d old new disk sound is_name f =
     let t = tables_of d in
     let target = target_of d f.old_dir f.old_k in
@@ -151,20 +151,20 @@ relink-made d old new disk sound is_name f =
     let below = (named-found d f.old_dir old.last f.old_k old_walk.below f.named).target_below in
     let can = can-link d old new sound is_name f in
     let one = links-makes d LinkUp target (links_of d target + 1) disk below in
-    let d1 = applied d (link_count LinkUp target (links_of d target + 1) ∷ []) in
+    let d1 = with_changes d (link_count LinkUp target (links_of d target + 1) ∷ []) in
     let tables : tables_of d1 ≡ with_links t target (t.links target + 1) = one.tables ∙ ap (λ (x : ℕ). with_links t target (x + 1)) (sym (links-at d target below)) in
     let s = stands d d1 f.dir (with_links t target (t.links target + 1)) sound walk tables refl refl refl in
     let two = set-makes d d1 f.dir f.k target new.last one.disk s can.place.in_place is_name.few in
-    record { disk = two.disk; tables = two.tables ∙ ap (λ (x : Tables). with_entry x f.dir f.k (Leads target (spelled new.last))) tables }
+    record { disk = two.disk; tables = two.tables ∙ ap (λ (x : Tables). with_entry x f.dir f.k (Leads target (name_spelling new.last))) tables }
 
 pub link-made : (d : Disk) (old new : Path) (changes : List Change) → IsDisk d → Sound (tables_of d) → IsName new.last → (found : LinkFound d old new changes)
-    → Made d changes (linked (tables_of d) found.at.dir found.at.k (target_of d found.at.old_dir found.at.old_k) new.last)
+    → Made d changes (tables_after_link (tables_of d) found.at.dir found.at.k (target_of d found.at.old_dir found.at.old_k) new.last)
 link-made d old new changes disk sound is_name found = along d changes _ _ found.are (relink-made d old new disk sound is_name found.at)
 
 -- ---- rename
 
 pub rename-made : (d : Disk) (old new : Path) (changes : List Change) → IsDisk d → Sound (tables_of d) → IsName new.last → (found : RenameFound d old new changes)
-    → Made d changes (renamed (tables_of d) found.at.old_dir found.at.old_k found.at.dir found.at.k (target_of d found.at.old_dir found.at.old_k) new.last)
+    → Made d changes (tables_after_rename (tables_of d) found.at.old_dir found.at.old_k found.at.dir found.at.k (target_of d found.at.old_dir found.at.old_k) new.last)
 rename-made d old new changes disk sound is_name found =
     let f = found.at in
     let t = tables_of d in
@@ -172,42 +172,42 @@ rename-made d old new changes disk sound is_name found =
     let old_walk = walk-found d old.through.items f.old_dir sound f.walk in
     let entry = named-found d f.old_dir old.last f.old_k old_walk.below f.named in
     let two = relink-made d old new disk sound is_name f in
-    let d2 = applied d (link_count LinkUp target (links_of d target + 1) ∷ entry_set d f.dir f.k target new.last ∷ []) in
-    let s = stands d d2 f.old_dir (linked t f.dir f.k target new.last) sound old_walk two.tables refl refl refl in
+    let d2 = with_changes d (link_count LinkUp target (links_of d target + 1) ∷ entry_set d f.dir f.k target new.last ∷ []) in
+    let s = stands d d2 f.old_dir (tables_after_link t f.dir f.k target new.last) sound old_walk two.tables refl refl refl in
     let three = clear-makes d d2 f.old_dir f.old_k two.disk s entry.below in
-    let d3 = applied d2 (entry_clear d f.old_dir f.old_k ∷ []) in
+    let d3 = with_changes d2 (entry_clear d f.old_dir f.old_k ∷ []) in
     let four = links-makes d3 LinkDown target (links_of d target) three.disk entry.target_below in
     along d changes _ _ found.are (record {
       disk = four.disk;
       tables = four.tables
           ∙ ap (λ (x : Tables). with_links x target (links_of d target)) (three.tables ∙ ap (λ (x : Tables). with_entry x f.old_dir f.old_k Free) two.tables)
-          ∙ ap (λ (x : ℕ). with_links (with_entry (linked t f.dir f.k target new.last) f.old_dir f.old_k Free) target x) (sym (links-at d target entry.target_below));
+          ∙ ap (λ (x : ℕ). with_links (with_entry (tables_after_link t f.dir f.k target new.last) f.old_dir f.old_k Free) target x) (sym (links-at d target entry.target_below));
     })
 
 -- ---- unlink
 
 -- the last name of an inode, and its blocks below a slot
 remove-made : (d : Disk) (dir k i n : ℕ) (name : List ℕ) → IsDisk d → Sound (tables_of d) → Walked d dir → k < 10 → i < 16
-    → (tables_of d).entry dir k ≡ Leads i (spelled name) → ((m j : ℕ) (sp : List ℕ) → (tables_of d).entry i m ≢ Leads j sp) → n ≤ 4
+    → (tables_of d).entry dir k ≡ Leads i (name_spelling name) → ((m j : ℕ) (sp : List ℕ) → (tables_of d).entry i m ≢ Leads j sp) → n ≤ 4
     → ((s b : ℕ) → HasPointer (tables_of d).kind (tables_of d).pointer i s b → s < n)
-    → (used : ℕ → Bool) × Made d (entry_clear d dir k ∷ inode_free i ∷ some_below n (map_clear_at d i)) (removed (tables_of d) dir k i used)
+    → (used : ℕ → Bool) × Made d (entry_clear d dir k ∷ inode_free i ∷ some_below n (map_clear_at d i)) (tables_after_removal (tables_of d) dir k i used)
     × FreesBlocks (tables_of d).kind (tables_of d).pointer (tables_of d).used used i
 remove-made d dir k i n name disk sound walk in_place below there leaf few slots =
     let t = tables_of d in
     let s = stands d d dir t sound walk refl refl refl refl in
     let one = clear-makes d d dir k disk s in_place in
-    let d1 = applied d (entry_clear d dir k ∷ []) in
+    let d1 = with_changes d (entry_clear d dir k ∷ []) in
     let two = free-makes d1 i one.disk below (λ m small.
     sym (entry-at d1 i m below small) ∙ ap (λ (x : Tables). x.entry i m) one.tables ∙ empty (with_place t.entry dir k Free i m) (λ j sp e. leaf m j sp (left_back t.entry dir k i m j sp e).1)) in
-    let d2 = applied d1 (inode_free i ∷ []) in
+    let d2 = with_changes d1 (inode_free i ∷ []) in
     let cleared = clears-make d d2 i n two.disk refl in
-    let tables : tables_of d2 ≡ removed t dir k i t.used = two.tables
-    ∙ ap (λ (x : Tables). record x { kind = changed x.kind i 0; links = changed x.links i 0; pointer = changed x.pointer i (λ _. 0) }) one.tables in
-    let live : t.kind i ≢ 0 = sound.names.no_dangling dir k i (spelled name) there in
+    let tables : tables_of d2 ≡ tables_after_removal t dir k i t.used = two.tables
+    ∙ ap (λ (x : Tables). record x { kind = with_value x.kind i 0; links = with_value x.links i 0; pointer = with_value x.pointer i (λ _. 0) }) one.tables in
+    let live : t.kind i ≢ 0 = sound.names.no_dangling dir k i (name_spelling name) there in
     let same : (tables_of d2).used ≡ t.used = ap (λ (x : Tables). x.used) tables in (
       cleared.used,
       record { disk = cleared.disk; tables = cleared.tables ∙ ap (λ (x : Tables). record x { used = cleared.used }) tables },
-      clears-free d d2 (applied d2 (some_below n (map_clear_at d i))) i n sound live few same cleared slots,
+      clears-free d d2 (with_changes d2 (some_below n (map_clear_at d i))) i n sound live few same cleared slots,
     )
   where
     empty : (p : Place) → ((j : ℕ) (sp : List ℕ) → p ≢ Leads j sp) → p ≡ Free
@@ -216,8 +216,8 @@ remove-made d dir k i n name disk sound walk in_place below there leaf few slots
 
 -- other names are left, or this was the last one
 pub data Unlinked (d : Disk) (dir k i : ℕ) (name : List ℕ) (changes : List Change) : Type 0 where
-  Named : (left : ℕ) → CanUnlink (tables_of d) dir k i (spelled name) left → Made d changes (unlinked (tables_of d) dir k i left) → Unlinked d dir k i name changes
-  Gone : (used : ℕ → Bool) → CanRemove (tables_of d) dir k i (spelled name) used → Made d changes (removed (tables_of d) dir k i used) → Unlinked d dir k i name changes
+  Named : (left : ℕ) → CanUnlink (tables_of d) dir k i (name_spelling name) left → Made d changes (tables_after_unlink (tables_of d) dir k i left) → Unlinked d dir k i name changes
+  Gone : (used : ℕ → Bool) → CanRemove (tables_of d) dir k i (name_spelling name) used → Made d changes (tables_after_removal (tables_of d) dir k i used) → Unlinked d dir k i name changes
 
 pub unlink-made : (d : Disk) (path : Path) (changes : List Change) → IsDisk d → Sound (tables_of d) → (f : UnlinkFound d path changes) → Unlinked d f.dir f.k (target_of d f.dir f.k) path.last changes
 unlink-made d path changes disk sound f =
@@ -229,7 +229,7 @@ unlink-made d path changes disk sound f =
     let links = links-at d target entry.target_below in
     let some = sound.inodes.few_names target file in
     let one = clear-makes d d f.dir f.k disk (stands d d f.dir t sound walk refl refl refl refl) entry.below in
-    let d1 = applied d (entry_clear d f.dir f.k ∷ []) in
+    let d1 = with_changes d (entry_clear d f.dir f.k ∷ []) in
     elim (cases_lt 1 (links_of d target)) [
       | inl more ↦
           let down = links-makes d1 LinkDown target (links_of d target - 1) one.disk entry.target_below in
@@ -256,8 +256,8 @@ empty-leaf d i none m j sp e =
 
 pub record Removed (d : Disk) (dir k i : ℕ) (name : List ℕ) (changes : List Change) : Type 0 where
   pub used : ℕ → Bool
-  pub can : CanRemove (tables_of d) dir k i (spelled name) used
-  pub made : Made d changes (removed (tables_of d) dir k i used)
+  pub can : CanRemove (tables_of d) dir k i (name_spelling name) used
+  pub made : Made d changes (tables_after_removal (tables_of d) dir k i used)
 
 pub rmdir-made : (d : Disk) (path : Path) (changes : List Change) → IsDisk d → Sound (tables_of d) → (f : RmdirFound d path changes) → Removed d f.dir f.k (target_of d f.dir f.k) path.last changes
 unfolding some_below
@@ -294,7 +294,7 @@ can-make d path changes sound is_name f =
     }
 
 pub mkdir-made : (d : Disk) (path : Path) (changes : List Change) → IsDisk d → Sound (tables_of d) → IsName path.last → (f : MkdirFound d path changes)
-    → Made d changes (made (tables_of d) f.dir f.k f.i f.b path.last)
+    → Made d changes (tables_after_mkdir (tables_of d) f.dir f.k f.i f.b path.last)
 mkdir-made d path changes disk sound is_name f =
     let t = tables_of d in
     let i = f.i in
@@ -308,35 +308,35 @@ mkdir-made d path changes disk sound is_name f =
     let other : f.dir ≢ i = apart f.dir can.fresh (λ z. let two = walk.kind in omega arith) in
     let one = init-makes d i 2 disk below (sym (kind-at d i below) ∙ can.fresh.free) in
     let t1 = with_inode t i 2 1 in
-    let d1 = applied d (inode_init i 2 ∷ []) in
+    let d1 = with_changes d (inode_init i 2 ∷ []) in
     let two = map_set-makes d1 b one.disk block.high in
     let t2 = with_used t1 b true in
-    let d2 = applied d1 (map_set b ∷ []) in
+    let d2 = with_changes d1 (map_set b ∷ []) in
     let tables2 : tables_of d2 ≡ t2 = two.tables ∙ ap (λ (x : Tables). with_used x b true) one.tables in
     let inside : is_data d b ≡ true = area d b (can.low, can.high) in
-    let own_none : t2.pointer i 0 ≡ 0 = ap (λ (row : ℕ → ℕ). row 0) (changed-same t.pointer i (λ _. 0)) in
+    let own_none : t2.pointer i 0 ≡ 0 = ap (λ (row : ℕ → ℕ). row 0) (with_value-same t.pointer i (λ _. 0)) in
     let three = block-makes d2 InitDir b 0x44 i two.disk inside (λ dir in_dir kind same.
     let pointer : t2.pointer dir 0 ≡ b = ap (λ (x : Tables). x.pointer dir 0) (sym tables2) ∙ pointer-at d2 dir 0 in_dir (omega arith) ∙ same in
     elim (cases_eq dir i) [
       | inl e ↦ let none : b ≡ 0 = sym pointer ∙ ap (λ (x : ℕ). t2.pointer x 0) e ∙ own_none in omega arith
       | inr n ↦ block-apart t dir b sound
-          (sym (changed-other t.kind i 2 dir n) ∙ ap (λ (x : Tables). x.kind dir) (sym tables2) ∙ kind-at d2 dir in_dir ∙ kind)
+          (sym (with_value-other t.kind i 2 dir n) ∙ ap (λ (x : Tables). x.kind dir) (sym tables2) ∙ kind-at d2 dir in_dir ∙ kind)
           can.free
-          (ap (λ (row : ℕ → ℕ). row 0) (sym (changed-other t.pointer i (λ _. 0) dir n)) ∙ pointer)
+          (ap (λ (row : ℕ → ℕ). row 0) (sym (with_value-other t.pointer i (λ _. 0) dir n)) ∙ pointer)
     ]) in
     let t3 = with_mark t2 b (DirectoryOf i) in
-    let d3 = applied d2 (init_block InitDir b 0x44 i ∷ []) in
+    let d3 = with_changes d2 (init_block InitDir b 0x44 i ∷ []) in
     let tables3 : tables_of d3 ≡ t3 = three.tables ∙ ap (λ (x : Tables). with_mark x b (DirectoryOf i)) tables2 in
     let no_block : pointer_of d3 i 0 ≡ 0 = sym (pointer-at d3 i 0 below (omega arith)) ∙ ap (λ (x : Tables). x.pointer i 0) tables3 ∙ own_none in
     let four = pointer-makes d3 i 0 b three.disk below (omega arith) (λ m small.
     empty-place d2 InitDir i b 0x44 two.disk below low block.high m small ∙ sym (place-no_block d3 i m no_block)) in
     let t4 = with_pointer t3 i 0 b in
-    let d4 = applied d3 (pointer_set i 0 b ∷ []) in
+    let d4 = with_changes d3 (pointer_set i 0 b ∷ []) in
     let tables4 : tables_of d4 ≡ t4 = four.tables ∙ ap (λ (x : Tables). with_pointer x i 0 b) tables3 in
     let pointer : t4.pointer f.dir 0 ≡ t.pointer f.dir 0 =
-    ap (λ (row : ℕ → ℕ). row 0) (changed-other t3.pointer i (changed (t3.pointer i) 0 b) f.dir other ∙ changed-other t.pointer i (λ _. 0) f.dir other) in
+    ap (λ (row : ℕ → ℕ). row 0) (with_value-other t3.pointer i (with_value (t3.pointer i) 0 b) f.dir other ∙ with_value-other t.pointer i (λ _. 0) f.dir other) in
     let mark : t4.mark (t.pointer f.dir 0) ≡ t.mark (t.pointer f.dir 0) =
-    changed-other t.mark b (DirectoryOf i) (t.pointer f.dir 0) (block-apart t f.dir b sound walk.kind can.free) in
-    let s = stands d d4 f.dir t4 sound walk tables4 (changed-other t.kind i 2 f.dir other) pointer mark in
+    with_value-other t.mark b (DirectoryOf i) (t.pointer f.dir 0) (block-apart t f.dir b sound walk.kind can.free) in
+    let s = stands d d4 f.dir t4 sound walk tables4 (with_value-other t.kind i 2 f.dir other) pointer mark in
     let five = set-makes d d4 f.dir f.k i path.last four.disk s can.place.in_place is_name.few in
-    along d changes _ _ f.are (record { disk = five.disk; tables = five.tables ∙ ap (λ (x : Tables). with_entry x f.dir f.k (Leads i (spelled path.last))) tables4 })
+    along d changes _ _ f.are (record { disk = five.disk; tables = five.tables ∙ ap (λ (x : Tables). with_entry x f.dir f.k (Leads i (name_spelling path.last))) tables4 })

@@ -2,24 +2,24 @@
 use Rattle.std.proofs.Common.{◌≡◌, ◌≢◌, ℕ, zero, suc, ◌<◌, ◌≤◌, ◌⊎◌, inl, inr, List, [], ◌∷◌, ◌++◌, Bool, true, false, arith, refl, sym, ◌∙◌, ap, subst}
 use Rattle.std.specs.Prelude.{option_to_list}
 use Rattle.std.proofs.lemmas.Bool.{cases_eq}
-use Rattle.crash_model.specs.Disk.{Disk, IsDisk, put}
+use Rattle.crash_model.specs.Disk.{Disk, IsDisk, with_bytes}
 use Rattle.crash_model.specs.Lists.{some_below, when}
 use Rattle.crash_model.specs.Layout.{pointer_of, is_data}
-use Rattle.crash_model.specs.Plan.{map_clear, map_clear_at, applied}
+use Rattle.crash_model.specs.Plan.{map_clear, map_clear_at, with_changes}
 use Rattle.crash_model.specs.declared.plans.Change.{Change}
-use Rattle.soundness_laws.specs.Tables.{Tables, tables_of, changed, HasPointer, Sound}
-use Rattle.soundness_laws.proofs.Sums.{changed-same, changed-other}
+use Rattle.soundness_laws.specs.Tables.{Tables, tables_of, with_value, HasPointer, Sound}
+use Rattle.soundness_laws.proofs.Sums.{with_value-same, with_value-other}
 use Rattle.soundness_laws.proofs.Puts.{data-block}
 use Rattle.soundness_laws.proofs.ByTables.{pointer-at, live-at}
 use Rattle.soundness_laws.proofs.Steps.{map_clear-makes}
 use Rattle.soundness_laws.proofs.Blocks.{FreesBlocks}
 use Rattle.soundness_laws.proofs.FromTables.{area}
 use Rattle.soundness_laws.proofs.ToTables.{pointer-bytes}
-use Rattle.inode_fs.proofs.Lands.{applied-size}
+use Rattle.inode_fs.proofs.Lands.{with_changes-size}
 
-pub applied-append : (d : Disk) (cs es : List Change) → applied d (cs ++ es) ≡ applied (applied d cs) es
-applied-append d [] es = refl
-applied-append d (c ∷ cs) es = applied-append (put d c.block c.offset c.new.items) cs es
+pub with_changes-append : (d : Disk) (cs es : List Change) → with_changes d (cs ++ es) ≡ with_changes (with_changes d cs) es
+with_changes-append d [] es = refl
+with_changes-append d (c ∷ cs) es = with_changes-append (with_bytes d c.block c.offset c.new.items) cs es
 
 -- the blocks in use after a list of changes: those that no slot below n of the inode of d names
 pub record Cleared (d e after : Disk) (i n : ℕ) : Type 0 where
@@ -32,7 +32,7 @@ pub record Cleared (d e after : Disk) (i n : ℕ) : Type 0 where
 below_suc : (k n : ℕ) → k < suc n → (k < n) ⊎ (k ≡ n)
 below_suc k n h = grind arith
 
-pub clears-make : (d e : Disk) (i n : ℕ) → IsDisk e → e.blocks ≡ d.blocks → Cleared d e (applied e (some_below n (map_clear_at d i))) i n
+pub clears-make : (d e : Disk) (i n : ℕ) → IsDisk e → e.blocks ≡ d.blocks → Cleared d e (with_changes e (some_below n (map_clear_at d i))) i n
 unfolding some_below
 clears-make d e i zero disk same = record {
   used = (tables_of e).used;
@@ -42,11 +42,11 @@ clears-make d e i zero disk same = record {
   kept = λ b u none. u;
 }
 clears-make d e i (suc n) disk same =
-    subst (λ (x : Disk). Cleared d e x i (suc n)) (sym (applied-append e (some_below n (map_clear_at d i)) (option_to_list (map_clear_at d i n))))
+    subst (λ (x : Disk). Cleared d e x i (suc n)) (sym (with_changes-append e (some_below n (map_clear_at d i)) (option_to_list (map_clear_at d i n))))
     (go (is_data d (pointer_of d i n)) refl (clears-make d e i n disk same))
   where
-    go : (test : Bool) → is_data d (pointer_of d i n) ≡ test → Cleared d e (applied e (some_below n (map_clear_at d i))) i n
-        → Cleared d e (applied (applied e (some_below n (map_clear_at d i))) (option_to_list (when test (map_clear (pointer_of d i n))))) i (suc n)
+    go : (test : Bool) → is_data d (pointer_of d i n) ≡ test → Cleared d e (with_changes e (some_below n (map_clear_at d i))) i n
+        → Cleared d e (with_changes (with_changes e (some_below n (map_clear_at d i))) (option_to_list (when test (map_clear (pointer_of d i n))))) i (suc n)
     go false outside c = record {
       used = c.used;
       disk = c.disk;
@@ -61,19 +61,19 @@ clears-make d e i (suc n) disk same =
       kept = λ b u none. c.kept b u (λ s below. none s (omega arith));
     }
     go true inside c =
-        let middle = applied e (some_below n (map_clear_at d i)) in
+        let middle = with_changes e (some_below n (map_clear_at d i)) in
         let b = pointer_of d i n in
         let high = (data-block d b inside).1 in
-        let size = (applied-size e (some_below n (map_clear_at d i))).0 in
+        let size = (with_changes-size e (some_below n (map_clear_at d i))).0 in
         let m = map_clear-makes middle b c.disk (omega arith) in
         record {
-          used = changed c.used b false;
+          used = with_value c.used b false;
           disk = m.disk;
-          tables = m.tables ∙ ap (λ (x : Tables). record x { used = changed x.used b false }) c.tables;
+          tables = m.tables ∙ ap (λ (x : Tables). record x { used = with_value x.used b false }) c.tables;
           left = λ a u. elim (cases_eq a b) [
-            | inl at ↦ absurd (let both : true ≡ false = sym u ∙ ap (changed c.used b false) at ∙ changed-same c.used b false in cc)
+            | inl at ↦ absurd (let both : true ≡ false = sym u ∙ ap (with_value c.used b false) at ∙ with_value-same c.used b false in cc)
             | inr other ↦
-                let old = c.left a (sym (changed-other c.used b false a other) ∙ u) in (
+                let old = c.left a (sym (with_value-other c.used b false a other) ∙ u) in (
                   old.0,
                   λ s below data_area. elim (below_suc s n below) [
                     | inl less ↦ old.1 s less data_area
@@ -83,7 +83,7 @@ clears-make d e i (suc n) disk same =
           ];
           kept = λ a u none.
               let other : a ≢ b = λ at. none n (omega arith) inside (sym at) in
-              changed-other c.used b false a other ∙ c.kept a u (λ s below. none s (omega arith));
+              with_value-other c.used b false a other ∙ c.kept a u (λ s below. none s (omega arith));
         }
 
 -- all slots that name a block are among the first n

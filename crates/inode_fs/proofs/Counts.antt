@@ -5,8 +5,8 @@ use Rattle.crash_model.specs.Disk.{Disk}
 use Rattle.crash_model.specs.Lists.{some_below}
 use Rattle.crash_model.specs.Layout.{target_of, links_of}
 use Rattle.crash_model.specs.Plan.{plan_of, map_clear_at, map_clears, link_count, inode_free}
-use Rattle.crash_model.specs.declared.names.Op.{Op}
-use Rattle.crash_model.specs.declared.names.Op.TheVariants.{Create, Write, Link, Unlink, Rename, Mkdir, Rmdir}
+use Rattle.crash_model.specs.declared.operations.Op.{Op}
+use Rattle.crash_model.specs.declared.operations.Op.TheVariants.{Create, Write, Link, Unlink, Rename, Mkdir, Rmdir}
 use Rattle.crash_model.specs.declared.plans.Change.{Change}
 use Rattle.crash_model.specs.declared.plans.Role.TheVariants.{LinkDown}
 use Rattle.inode_fs.proofs.Accepted.{create-ok, write-ok, link-ok, rename-ok, unlink-ok, mkdir-ok, rmdir-ok}

@@ -4,14 +4,14 @@ use Rattle.std.specs.Prelude.{All, option_to_list, nat_lt, if◌then◌else◌}
 use Rattle.std.proofs.lemmas.List.Elements.{All-nil, All-cons}
 use Rattle.std.proofs.lemmas.Bool.Decides.{nat_tests}
 use Rattle.std.proofs.lemmas.Grind.{elements}
-use Rattle.crash_model.specs.Disk.{Disk, IsDisk, put}
+use Rattle.crash_model.specs.Disk.{Disk, IsDisk, with_bytes}
 use Rattle.crash_model.specs.Names.{IsName}
 use Rattle.crash_model.specs.Lists.{some_below, when}
 use Rattle.crash_model.specs.Layout.{links_of, pointer_of, counts, is_data, target_of, entry_offset}
-use Rattle.crash_model.specs.Plan.{spelled, is_named, is_free_entry, is_free_block, is_free_slot, has_no_kind, change, at_inode, inode_free, link_count, entry_set, map_clear, init_block, map_clear_at, map_clears, plan_of, applied}
+use Rattle.crash_model.specs.Plan.{name_spelling, is_named, is_free_entry, is_free_block, is_free_slot, has_no_kind, change, at_inode, inode_free, link_count, entry_set, map_clear, init_block, map_clear_at, map_clears, plan_of, with_changes}
 use Rattle.crash_model.specs.declared.names.Path.{Path}
-use Rattle.crash_model.specs.declared.names.Op.{Op}
-use Rattle.crash_model.specs.declared.names.Op.TheVariants.{Create, Write, Link, Unlink, Rename, Mkdir, Rmdir}
+use Rattle.crash_model.specs.declared.operations.Op.{Op}
+use Rattle.crash_model.specs.declared.operations.Op.TheVariants.{Create, Write, Link, Unlink, Rename, Mkdir, Rmdir}
 use Rattle.crash_model.specs.declared.plans.Change.{Change}
 use Rattle.crash_model.specs.declared.plans.Role.{Role}
 use Rattle.crash_model.specs.declared.plans.Role.TheVariants.{InodeInit, InodeFree, InitFile, InitDir, LinkUp, LinkDown, EntrySet, EntryClear, Ptr, MapSet, MapClear}
@@ -48,7 +48,7 @@ block-lands d role b mark owner inside =
     record { block = own.1; some = omega arith; range = omega arith; spares = inr own.0; behind = omega (arith, own.0) }
 
 set-lands : (d : Disk) (dir k i : ℕ) (name : List ℕ) → counts d dir ≡ true → k < 10 → IsName name → Lands d (entry_set d dir k i name)
-set-lands d dir k i name holds below is_name = entry-lands d EntrySet dir k ((i + 1) ∷ spelled name) holds below (omega arith) (grind (arith, elements, is_name.few))
+set-lands d dir k i name holds below is_name = entry-lands d EntrySet dir k ((i + 1) ∷ name_spelling name) holds below (omega arith) (grind (arith, elements, is_name.few))
 
 -- ---- what the searches found
 
@@ -202,8 +202,8 @@ pub all-inside : (d : Disk) (changes : List Change) → AllLand d changes → Al
 all-inside d [] all = All-nil (LiesInside d.blocks)
 all-inside d (c ∷ cs) all = All-cons (LiesInside d.blocks) c cs (record { block = all.0.block; some = all.0.some; range = all.0.range }) (all-inside d cs all.1)
 
-put-disk : (d : Disk) (c : Change) → IsDisk d → Lands d c → IsDisk (put d c.block c.offset c.new.items)
-put-disk d c disk lands = record {
+with_bytes-disk : (d : Disk) (c : Change) → IsDisk d → Lands d c → IsDisk (with_bytes d c.block c.offset c.new.items)
+with_bytes-disk d c disk lands = record {
   least = disk.least;
   most = disk.most;
   room = disk.room;
@@ -211,27 +211,27 @@ put-disk d c disk lands = record {
 }
 
 -- where changes lie depends on the disk's size alone
-stay : (d : Disk) (c : Change) (cs : List Change) → AllLand d cs → AllLand (put d c.block c.offset c.new.items) cs
+stay : (d : Disk) (c : Change) (cs : List Change) → AllLand d cs → AllLand (with_bytes d c.block c.offset c.new.items) cs
 stay d c [] all = tt
 stay d c (e ∷ es) all = (record { block = all.0.block; some = all.0.some; range = all.0.range; spares = all.0.spares; behind = all.0.behind }, stay d c es all.1)
 
-pub applied-disk : (d : Disk) (changes : List Change) → IsDisk d → AllLand d changes → IsDisk (applied d changes)
-applied-disk d [] disk all = disk
-applied-disk d (c ∷ cs) disk all = applied-disk (put d c.block c.offset c.new.items) cs (put-disk d c disk all.0) (stay d c cs all.1)
+pub with_changes-disk : (d : Disk) (changes : List Change) → IsDisk d → AllLand d changes → IsDisk (with_changes d changes)
+with_changes-disk d [] disk all = disk
+with_changes-disk d (c ∷ cs) disk all = with_changes-disk (with_bytes d c.block c.offset c.new.items) cs (with_bytes-disk d c disk all.0) (stay d c cs all.1)
 
-pub applied-journal : (d : Disk) (changes : List Change) → IsDisk d → AllLand d changes → HasSameJournal d (applied d changes)
-applied-journal d [] disk all block low high = refl
-applied-journal d (c ∷ cs) disk all block low high =
-    let next = put d c.block c.offset c.new.items in
+pub with_changes-journal : (d : Disk) (changes : List Change) → IsDisk d → AllLand d changes → HasSameJournal d (with_changes d changes)
+with_changes-journal d [] disk all block low high = refl
+with_changes-journal d (c ∷ cs) disk all block low high =
+    let next = with_bytes d c.block c.offset c.new.items in
     let at = 128 * c.block + c.offset in
     let fits : at + length c.new.items ≤ length d.bytes = omega (arith, disk.whole, all.0.block, all.0.range) in
     let side : (128 * block + 128 ≤ at) ⊎ (at + length c.new.items ≤ 128 * block) = elim all.0.spares [
       | inl before ↦ inr (omega (arith, all.0.range))
       | inr behind ↦ inl (omega arith)
     ] in
-    applied-journal next cs (put-disk d c disk all.0) (stay d c cs all.1) block low high
+    with_changes-journal next cs (with_bytes-disk d c disk all.0) (stay d c cs all.1) block low high
     ∙ range-outside d.bytes at c.new.items (128 * block) 128 fits side
 
-pub applied-size : (d : Disk) (changes : List Change) → ((applied d changes).blocks ≡ d.blocks) × ((applied d changes).journal ≡ d.journal)
-applied-size d [] = (refl, refl)
-applied-size d (c ∷ cs) = applied-size (put d c.block c.offset c.new.items) cs
+pub with_changes-size : (d : Disk) (changes : List Change) → ((with_changes d changes).blocks ≡ d.blocks) × ((with_changes d changes).journal ≡ d.journal)
+with_changes-size d [] = (refl, refl)
+with_changes-size d (c ∷ cs) = with_changes-size (with_bytes d c.block c.offset c.new.items) cs

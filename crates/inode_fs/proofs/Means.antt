@@ -4,15 +4,15 @@ use Rattle.std.specs.Prelude.{option_map}
 use Rattle.std.proofs.lemmas.Bool.{cases_eq, eq-eqb, ne_eqb, false≢true}
 use Rattle.crash_model.specs.Disk.{Disk, IsDisk}
 use Rattle.crash_model.specs.Layout.{kind_of, target_of}
-use Rattle.crash_model.specs.Plan.{plan_of, spelled, entry_named, inode_named, entered, walked, free_inode, free_block, free_slot, applied}
+use Rattle.crash_model.specs.Plan.{plan_of, name_spelling, entry_named, inode_named, directory_of, walk_end, free_inode, free_block, free_slot, with_changes}
 use Rattle.crash_model.specs.Sound.{IsSound}
 use Rattle.crash_model.specs.View.{View, view_of}
 use Rattle.crash_model.specs.Meaning.{Becomes, nothing, with_name, IsLowest, IsFreeInode, IsFreeBlock, IsFreeSlot, IsKind, Walks, IsParent, IsTarget, Means, MeansUnlinkOne, MeansUnlinkLast}
 use Rattle.crash_model.specs.declared.refusals.FsFault.{FsFault}
 use Rattle.crash_model.specs.declared.refusals.FsFault.TheVariants.{NotADirectory}
-use Rattle.crash_model.specs.declared.names.Op.{Op}
+use Rattle.crash_model.specs.declared.operations.Op.{Op}
 use Rattle.crash_model.specs.declared.names.Path.{Path}
-use Rattle.crash_model.specs.declared.names.Op.TheVariants.{Create, Write, Link, Unlink, Rename, Mkdir, Rmdir}
+use Rattle.crash_model.specs.declared.operations.Op.TheVariants.{Create, Write, Link, Unlink, Rename, Mkdir, Rmdir}
 use Rattle.crash_model.specs.declared.plans.Change.{Change}
 use Rattle.soundness_laws.specs.Tables.{Tables, tables_of, view, SameView, Sound}
 use Rattle.soundness_laws.specs.Tables.Place.{Leads}
@@ -21,8 +21,8 @@ use Rattle.soundness_laws.proofs.Becomes.{same-self, same-all_of, becomes-same}
 use Rattle.soundness_laws.proofs.ByTables.{kind-at}
 use Rattle.soundness_laws.proofs.Views.{same-view}
 use Rattle.soundness_laws.proofs.ToTables.{sound-tables}
-use Rattle.soundness_laws.proofs.Kept.{linked-sound}
-use Rattle.soundness_laws.proofs.Meant.{created-becomes, grown-becomes, linked-becomes, unlinked-becomes, removed-becomes, renamed-becomes, made-becomes}
+use Rattle.soundness_laws.proofs.Kept.{tables_after_link-sound}
+use Rattle.soundness_laws.proofs.Meant.{tables_after_create-becomes, tables_after_write-becomes, tables_after_link-becomes, tables_after_unlink-becomes, tables_after_removal-becomes, tables_after_rename-becomes, tables_after_mkdir-becomes}
 use Rattle.inode_fs.specs.Inside.{GivesName}
 use Rattle.inode_fs.proofs.Accepted.{create-ok, write-ok, link-ok, rename-ok, unlink-ok, mkdir-ok, rmdir-ok}
 use Rattle.inode_fs.proofs.Searched.{Walked, walk-found, fresh-found, fresh-lowest, block-found, slot-found, named-found}
@@ -32,7 +32,7 @@ use Rattle.inode_fs.proofs.Sounds.{old-entry}
 
 -- ---- names and kinds of the view
 
-pub name-of : (d : Disk) (dir k i : ℕ) (name : List ℕ) → (tables_of d).entry dir k ≡ Leads i (spelled name) → (view_of d).name dir name i
+pub name-of : (d : Disk) (dir k i : ℕ) (name : List ℕ) → (tables_of d).entry dir k ≡ Leads i (name_spelling name) → (view_of d).name dir name i
 name-of d dir k i name e = ((same-view d).names dir name i).1 (k, e)
 
 pub kind-of : (d : Disk) (i kind : ℕ) → (tables_of d).kind i ≡ kind → kind ≢ 0 → IsKind (view_of d) i kind
@@ -47,10 +47,10 @@ pub record Entered (d : Disk) (dir : ℕ) (name : List ℕ) (child : ℕ) : Type
   pub target : target_of d dir k ≡ child
   pub kind : kind_of d child ≡ 2
 
-pub entered-ok : (d : Disk) (dir : ℕ) (name : List ℕ) (child : ℕ) → entered d (inode_named d dir name) ≡ Ok child → Entered d dir name child
-entered-ok d dir name child e = go (entry_named d dir name) refl e
+pub directory_of-ok : (d : Disk) (dir : ℕ) (name : List ℕ) (child : ℕ) → directory_of d (inode_named d dir name) ≡ Ok child → Entered d dir name child
+directory_of-ok d dir name child e = go (entry_named d dir name) refl e
   where
-    go : (o : Option ℕ) → entry_named d dir name ≡ o → entered d (option_map (target_of d dir) o) ≡ Ok child → Entered d dir name child
+    go : (o : Option ℕ) → entry_named d dir name ≡ o → directory_of d (option_map (target_of d dir) o) ≡ Ok child → Entered d dir name child
     go None p r = cc
     go (Some k) p r = elim (cases_eq (kind_of d (target_of d dir k)) 2) [
       | inl two ↦
@@ -60,27 +60,27 @@ entered-ok d dir name child e = go (entry_named d dir name) refl e
       | inr other ↦ absurd (let no_ok : ◌≡◌ {A = Result ℕ FsFault} (Err NotADirectory) (Ok child) = rw (ne_eqb (kind_of d (target_of d dir k)) 2 other) at r in cc)
     ]
 
-pub entered-name : (d : Disk) (dir : ℕ) (name : List ℕ) (child : ℕ) → dir < 16 → Entered d dir name child → (view_of d).name dir name child × Walked d child
-entered-name d dir name child below e =
+pub directory_of-name : (d : Disk) (dir : ℕ) (name : List ℕ) (child : ℕ) → dir < 16 → Entered d dir name child → (view_of d).name dir name child × Walked d child
+directory_of-name d dir name child below e =
     let n = named-found d dir name e.k below e.named in (
-      name-of d dir e.k child name (n.leads ∙ ap (λ (x : ℕ). Leads x (spelled name)) e.target),
+      name-of d dir e.k child name (n.leads ∙ ap (λ (x : ℕ). Leads x (name_spelling name)) e.target),
       record { below = subst (λ (x : ℕ). x < 16) e.target n.target_below; kind = kind-at d child (subst (λ (x : ℕ). x < 16) e.target n.target_below) ∙ e.kind },
     )
 
-pub walks : (d : Disk) (names : List (List ℕ)) (from to : ℕ) → Walked d from → walked d from names ≡ Ok to → Walks (view_of d) from names to
+pub walks : (d : Disk) (names : List (List ℕ)) (from to : ℕ) → Walked d from → walk_end d from names ≡ Ok to → Walks (view_of d) from names to
 walks d [] from to at e = cc
 walks d (name ∷ names) from to at e =
-    let step = then_ok-ok (entered d (inode_named d from name)) (λ child. walked d child names) to e in
-    let here = entered-name d from name step.0 at.below (entered-ok d from name step.0 step.1) in
+    let step = then_ok-ok (directory_of d (inode_named d from name)) (λ child. walk_end d child names) to e in
+    let here = directory_of-name d from name step.0 at.below (directory_of-ok d from name step.0 step.1) in
     (step.0, here.0, kind-of d step.0 2 here.1.kind (λ z. omega arith), walks d names step.0 to here.1 step.2)
 
-pub root-walked : (d : Disk) → Sound (tables_of d) → Walked d 0
-root-walked d sound = record { below = omega arith; kind = sound.inodes.root.0 }
+pub root-walk_end : (d : Disk) → Sound (tables_of d) → Walked d 0
+root-walk_end d sound = record { below = omega arith; kind = sound.inodes.root.0 }
 
-parent-is : (d : Disk) (path : Path) (dir : ℕ) → Sound (tables_of d) → walked d 0 path.through.items ≡ Ok dir → IsParent (view_of d) path dir
-parent-is d path dir sound e = walks d path.through.items 0 dir (root-walked d sound) e
+parent-is : (d : Disk) (path : Path) (dir : ℕ) → Sound (tables_of d) → walk_end d 0 path.through.items ≡ Ok dir → IsParent (view_of d) path dir
+parent-is d path dir sound e = walks d path.through.items 0 dir (root-walk_end d sound) e
 
-target-is : (d : Disk) (path : Path) (dir k : ℕ) → Sound (tables_of d) → walked d 0 path.through.items ≡ Ok dir → entry_named d dir path.last ≡ Some k → IsTarget (view_of d) path dir (target_of d dir k)
+target-is : (d : Disk) (path : Path) (dir k : ℕ) → Sound (tables_of d) → walk_end d 0 path.through.items ≡ Ok dir → entry_named d dir path.last ≡ Some k → IsTarget (view_of d) path dir (target_of d dir k)
 target-is d path dir k sound walk named =
     let at = walk-found d path.through.items dir sound walk in
     (parent-is d path dir sound walk, name-of d dir k (target_of d dir k) path.last (named-found d dir path.last k at.below named).leads)
@@ -116,13 +116,13 @@ lowest-slot d i s below live e =
 -- ---- what is gained and lost
 
 after : (d : Disk) (changes : List Change) (t : Tables) (gained lost lost' : View) → Made d changes t → SameView lost lost' → Becomes (view (tables_of d)) (view t) gained lost'
-    → Becomes (view_of d) (view_of (applied d changes)) gained lost
+    → Becomes (view_of d) (view_of (with_changes d changes)) gained lost
 after d changes t gained lost lost' made same becomes =
-    let new = applied d changes in
+    let new = with_changes d changes in
     becomes-same (view_of d) (view_of new) lost (view (tables_of d)) (view (tables_of new)) lost' gained (same-view d) (same-view new) same
     (subst (λ (x : Tables). Becomes (view (tables_of d)) (view x) gained lost') (sym made.tables) becomes)
 
-pub plan-means : (d : Disk) (op : Op) (changes : List Change) → IsDisk d → IsSound d → GivesName op → plan_of d op ≡ Ok changes → Means d.blocks d.journal (view_of d) (view_of (applied d changes)) op
+pub plan-means : (d : Disk) (op : Op) (changes : List Change) → IsDisk d → IsSound d → GivesName op → plan_of d op ≡ Ok changes → Means d.blocks d.journal (view_of d) (view_of (with_changes d changes)) op
 plan-means d (Create path) changes disk sound name e =
     let t = sound-tables d disk sound in
     let f = create-ok d path changes e in (
@@ -131,7 +131,7 @@ plan-means d (Create path) changes disk sound name e =
       record {
         inode = f.i;
         lowest = lowest-inode d f.i f.inode;
-        becomes = after d changes _ _ _ _ (create-made d path changes disk t name f) (same-self nothing) (created-becomes (tables_of d) f.dir f.k f.i path.last (can-create d path changes t name f));
+        becomes = after d changes _ _ _ _ (create-made d path changes disk t name f) (same-self nothing) (tables_after_create-becomes (tables_of d) f.dir f.k f.i path.last (can-create d path changes t name f));
       },
     )
 plan-means d (Write path) changes disk sound name e =
@@ -149,7 +149,7 @@ plan-means d (Write path) changes disk sound name e =
         block = f.b;
         lowest_slot = lowest-slot d target f.s below (λ z. let one = can.file in omega arith) f.slot;
         lowest_block = lowest-block d f.b f.block;
-        becomes = after d changes _ _ _ _ (write-made d path changes disk t f) (same-self nothing) (grown-becomes (tables_of d) target f.s f.b t can);
+        becomes = after d changes _ _ _ _ (write-made d path changes disk t f) (same-self nothing) (tables_after_write-becomes (tables_of d) target f.s f.b t can);
       },
     )
 plan-means d (Link old new) changes disk sound name e =
@@ -166,7 +166,7 @@ plan-means d (Link old new) changes disk sound name e =
       record {
         links = (tables_of d).links target;
         had = ((same-view d).inodes target 1 ((tables_of d).links target)).1 (can.file, refl, λ z. omega arith);
-        becomes = after d changes _ _ _ _ (link-made d old new changes disk t name found) (same-self _) (linked-becomes (tables_of d) f.dir f.k target new.last can);
+        becomes = after d changes _ _ _ _ (link-made d old new changes disk t name found) (same-self _) (tables_after_link-becomes (tables_of d) f.dir f.k target new.last can);
       },
     )
 plan-means d (Unlink path) changes disk sound name e =
@@ -175,17 +175,17 @@ plan-means d (Unlink path) changes disk sound name e =
     let target = target_of d f.dir f.k in
     let walk = walk-found d path.through.items f.dir t f.walk in
     let file = kind-at d target (named-found d f.dir path.last f.k walk.below f.named).target_below ∙ f.file in
-    let means : MeansUnlinkOne (view_of d) (view_of (applied d changes)) f.dir path.last target ⊎ MeansUnlinkLast (view_of d) (view_of (applied d changes)) f.dir path.last target =
+    let means : MeansUnlinkOne (view_of d) (view_of (with_changes d changes)) f.dir path.last target ⊎ MeansUnlinkLast (view_of d) (view_of (with_changes d changes)) f.dir path.last target =
     elim (unlink-made d path changes disk t f) [
       | Named left can made ↦ inl (record {
         left = left;
         some = can.some;
         had = ((same-view d).inodes target 1 (left + 1)).1 (can.file, can.links, λ z. omega arith);
-        becomes = after d changes _ _ _ _ made (same-self _) (unlinked-becomes (tables_of d) f.dir f.k target path.last left t can);
+        becomes = after d changes _ _ _ _ made (same-self _) (tables_after_unlink-becomes (tables_of d) f.dir f.k target path.last left t can);
       })
       | Gone used can made ↦ inr (record {
         had = ((same-view d).inodes target 1 1).1 (file, can.last, λ z. omega arith);
-        becomes = after d changes _ _ _ _ made (same-all_of (with_name nothing f.dir path.last target) (view_of d) (view (tables_of d)) target (same-view d)) (removed-becomes (tables_of d) f.dir f.k target path.last used t can);
+        becomes = after d changes _ _ _ _ made (same-all_of (with_name nothing f.dir path.last target) (view_of d) (view (tables_of d)) target (same-view d)) (tables_after_removal-becomes (tables_of d) f.dir f.k target path.last used t can);
       })
     ] in
     (f.dir, target, target-is d path f.dir f.k t f.walk f.named, means)
@@ -202,7 +202,7 @@ plan-means d (Rename old new) changes disk sound name e =
       parent-is d new f.dir t f.new_walk,
       record {
         becomes = after d changes _ _ _ _ (rename-made d old new changes disk t name found) (same-self _)
-            (renamed-becomes (tables_of d) f.old_dir f.old_k f.dir f.k target old.last new.last (linked-sound (tables_of d) f.dir f.k target new.last t can) can (old-entry d old new t f));
+            (tables_after_rename-becomes (tables_of d) f.old_dir f.old_k f.dir f.k target old.last new.last (tables_after_link-sound (tables_of d) f.dir f.k target new.last t can) can (old-entry d old new t f));
       },
     )
 plan-means d (Mkdir path) changes disk sound name e =
@@ -215,7 +215,7 @@ plan-means d (Mkdir path) changes disk sound name e =
         block = f.b;
         lowest_inode = lowest-inode d f.i f.inode;
         lowest_block = lowest-block d f.b f.block;
-        becomes = after d changes _ _ _ _ (mkdir-made d path changes disk t name f) (same-self nothing) (made-becomes (tables_of d) f.dir f.k f.i f.b path.last t (can-make d path changes t name f));
+        becomes = after d changes _ _ _ _ (mkdir-made d path changes disk t name f) (same-self nothing) (tables_after_mkdir-becomes (tables_of d) f.dir f.k f.i f.b path.last t (can-make d path changes t name f));
       },
     )
 plan-means d (Rmdir path) changes disk sound name e =
@@ -230,6 +230,6 @@ plan-means d (Rmdir path) changes disk sound name e =
       target-is d path f.dir f.k t f.walk f.named,
       record {
         had = ((same-view d).inodes target 2 1).1 (directory, r.can.last, λ z. omega arith);
-        becomes = after d changes _ _ _ _ r.made (same-all_of (with_name nothing f.dir path.last target) (view_of d) (view (tables_of d)) target (same-view d)) (removed-becomes (tables_of d) f.dir f.k target path.last r.used t r.can);
+        becomes = after d changes _ _ _ _ r.made (same-all_of (with_name nothing f.dir path.last target) (view_of d) (view (tables_of d)) target (same-view d)) (tables_after_removal-becomes (tables_of d) f.dir f.k target path.last r.used t r.can);
       },
     )

@@ -4,22 +4,22 @@ use Rattle.std.specs.Prelude.{ok_or, option_map, if◌then◌else◌}
 use Rattle.std.proofs.lemmas.Bool.{cases_eq, eq-eqb, ne_eqb}
 use Rattle.crash_model.specs.Disk.{Disk, IsDisk}
 use Rattle.crash_model.specs.Layout.{kind_of, target_of}
-use Rattle.crash_model.specs.Plan.{plan_of, spelled, entry_named, inode_named, entered, walked, then_ok, at_entry, relinked}
+use Rattle.crash_model.specs.Plan.{plan_of, name_spelling, entry_named, inode_named, directory_of, walk_end, then_ok, at_entry, relink_plan}
 use Rattle.crash_model.specs.Sound.{IsSound}
 use Rattle.crash_model.specs.View.{view_of}
 use Rattle.crash_model.specs.Meaning.{LeadsTo, IsKind, Walks, WalkFails, AtPath, AtName, Relinks, IsRefused}
 use Rattle.crash_model.specs.declared.refusals.FsFault.{FsFault}
 use Rattle.crash_model.specs.declared.refusals.FsFault.TheVariants.{NotFound, NotADirectory}
-use Rattle.crash_model.specs.declared.names.Op.{Op}
+use Rattle.crash_model.specs.declared.operations.Op.{Op}
 use Rattle.crash_model.specs.declared.names.Path.{Path}
-use Rattle.crash_model.specs.declared.names.Op.TheVariants.{Create, Write, Link, Unlink, Rename, Mkdir, Rmdir}
+use Rattle.crash_model.specs.declared.operations.Op.TheVariants.{Create, Write, Link, Unlink, Rename, Mkdir, Rmdir}
 use Rattle.crash_model.specs.declared.plans.Change.{Change}
 use Rattle.soundness_laws.specs.Tables.{tables_of, Sound}
 use Rattle.soundness_laws.proofs.ByTables.{kind-at}
 use Rattle.soundness_laws.proofs.ToTables.{sound-tables}
 use Rattle.inode_fs.proofs.Accepted.{link_changes, rename_changes}
 use Rattle.inode_fs.proofs.Searched.{Walked, walk-found, NamedEntry, named-found}
-use Rattle.inode_fs.proofs.Means.{kind-of, name-of, walks, root-walked}
+use Rattle.inode_fs.proofs.Means.{kind-of, name-of, walks, root-walk_end}
 use Rattle.inode_fs.proofs.ViewTests.{named-by, test-named, test-inode, test-block, test-slot, test-full, test-kind, test-links, test-entries}
 
 -- an answer is a refusal exactly where something holds of the fault
@@ -46,30 +46,30 @@ accepted answer f = (λ e. cc, λ z. absurd z)
 
 -- the walk ends at one directory, or fails with one fault
 pub record WalksAs (d : Disk) (from : ℕ) (names : List (List ℕ)) : Type 0 where
-  pub ends : (to : ℕ) → Walks (view_of d) from names to → walked d from names ≡ Ok to
-  pub fails : Refuses (walked d from names) (WalkFails (view_of d) from names)
+  pub ends : (to : ℕ) → Walks (view_of d) from names to → walk_end d from names ≡ Ok to
+  pub fails : Refuses (walk_end d from names) (WalkFails (view_of d) from names)
 
 ok_or-none : (o : Option ℕ) → o ≡ None → ok_or o NotFound ≡ Err NotFound
 ok_or-none o e = rw e refl
 
 -- a name that is a directory's is entered
-enters : (d : Disk) (dir : ℕ) (name : List ℕ) (child : ℕ) → Sound (tables_of d) → dir < 16 → (view_of d).name dir name child → kind_of d child ≡ 2 → entered d (inode_named d dir name) ≡ Ok child
+enters : (d : Disk) (dir : ℕ) (name : List ℕ) (child : ℕ) → Sound (tables_of d) → dir < 16 → (view_of d).name dir name child → kind_of d child ≡ 2 → directory_of d (inode_named d dir name) ≡ Ok child
 enters d dir name child sound below h two =
     let by = named-by d dir name child sound below h in
-    ap (λ (o : Option ℕ). entered d (option_map (target_of d dir) o)) by.named
+    ap (λ (o : Option ℕ). directory_of d (option_map (target_of d dir) o)) by.named
     ∙ rw (by.target, eq-eqb (kind_of d child) 2 two) refl
 
-no_directory : (d : Disk) (dir : ℕ) (name : List ℕ) (child : ℕ) → Sound (tables_of d) → dir < 16 → (view_of d).name dir name child → kind_of d child ≢ 2 → entered d (inode_named d dir name) ≡ Err NotADirectory
+no_directory : (d : Disk) (dir : ℕ) (name : List ℕ) (child : ℕ) → Sound (tables_of d) → dir < 16 → (view_of d).name dir name child → kind_of d child ≢ 2 → directory_of d (inode_named d dir name) ≡ Err NotADirectory
 no_directory d dir name child sound below h other =
     let by = named-by d dir name child sound below h in
-    ap (λ (o : Option ℕ). entered d (option_map (target_of d dir) o)) by.named
+    ap (λ (o : Option ℕ). directory_of d (option_map (target_of d dir) o)) by.named
     ∙ rw (by.target, ne_eqb (kind_of d child) 2 other) refl
 
 -- what a name leads to, for a walk
 data Turn (d : Disk) (dir : ℕ) (name : List ℕ) : Type 0 where
-  Absent : ¬ (LeadsTo (view_of d) dir name) → entered d (inode_named d dir name) ≡ Err NotFound → Turn d dir name
-  Other : (child : ℕ) → (view_of d).name dir name child → ¬ (IsKind (view_of d) child 2) → entered d (inode_named d dir name) ≡ Err NotADirectory → Turn d dir name
-  Directory : (child : ℕ) → (view_of d).name dir name child → IsKind (view_of d) child 2 → Walked d child → entered d (inode_named d dir name) ≡ Ok child → Turn d dir name
+  Absent : ¬ (LeadsTo (view_of d) dir name) → directory_of d (inode_named d dir name) ≡ Err NotFound → Turn d dir name
+  Other : (child : ℕ) → (view_of d).name dir name child → ¬ (IsKind (view_of d) child 2) → directory_of d (inode_named d dir name) ≡ Err NotADirectory → Turn d dir name
+  Directory : (child : ℕ) → (view_of d).name dir name child → IsKind (view_of d) child 2 → Walked d child → directory_of d (inode_named d dir name) ≡ Ok child → Turn d dir name
 
 turn : (d : Disk) (dir : ℕ) (name : List ℕ) → Sound (tables_of d) → dir < 16 → Turn d dir name
 turn d dir name sound below = go (entry_named d dir name) refl
@@ -77,7 +77,7 @@ turn d dir name sound below = go (entry_named d dir name) refl
     go : (o : Option ℕ) → entry_named d dir name ≡ o → Turn d dir name
     go None e =
         Absent (λ h. let by = named-by d dir name h.0 sound below h.1 in let no : None ≡ Some by.k = sym e ∙ by.named in cc)
-        (ap (λ (o : Option ℕ). entered d (option_map (target_of d dir) o)) e)
+        (ap (λ (o : Option ℕ). directory_of d (option_map (target_of d dir) o)) e)
     go (Some k) e =
         let n = named-found d dir name k below e in
         let child = target_of d dir k in
@@ -110,9 +110,9 @@ walks-as d (name ∷ names) from sound at = go (turn d from name sound at.below)
     go (Absent none e) rest = record {
       ends = λ to w. absurd (none (w.0, w.1));
       fails = λ f. (
-        λ r. let same : Err NotFound ≡ Err f = sym (ap (λ (x : Result ℕ FsFault). then_ok x (λ child. walked d child names)) e) ∙ r in inl (none, cc),
+        λ r. let same : Err NotFound ≡ Err f = sym (ap (λ (x : Result ℕ FsFault). then_ok x (λ child. walk_end d child names)) e) ∙ r in inl (none, cc),
         λ h. elim h [
-          | inl w ↦ ap (λ (x : Result ℕ FsFault). then_ok x (λ child. walked d child names)) e ∙ ap (λ (x : FsFault). Err x) (sym w.1)
+          | inl w ↦ ap (λ (x : Result ℕ FsFault). then_ok x (λ child. walk_end d child names)) e ∙ ap (λ (x : FsFault). Err x) (sym w.1)
           | inr w ↦ absurd (none (w.0, w.1))
         ],
       );
@@ -120,11 +120,11 @@ walks-as d (name ∷ names) from sound at = go (turn d from name sound at.below)
     go (Other child h other e) rest = record {
       ends = λ to w. absurd (other (subst (λ (x : ℕ). IsKind (view_of d) x 2) (one-inode d from name w.0 child sound at.below w.1 h) w.2));
       fails = λ f. (
-        λ r. let same : Err NotADirectory ≡ Err f = sym (ap (λ (x : Result ℕ FsFault). then_ok x (λ child. walked d child names)) e) ∙ r in inr (child, h, inl (other, cc)),
+        λ r. let same : Err NotADirectory ≡ Err f = sym (ap (λ (x : Result ℕ FsFault). then_ok x (λ child. walk_end d child names)) e) ∙ r in inr (child, h, inl (other, cc)),
         λ g. elim g [
           | inl w ↦ absurd (w.0 (child, h))
           | inr w ↦ elim w.2 [
-            | inl x ↦ ap (λ (x : Result ℕ FsFault). then_ok x (λ child. walked d child names)) e ∙ ap (λ (x : FsFault). Err x) (sym x.1)
+            | inl x ↦ ap (λ (x : Result ℕ FsFault). then_ok x (λ child. walk_end d child names)) e ∙ ap (λ (x : FsFault). Err x) (sym x.1)
             | inr x ↦ absurd (other (subst (λ (x : ℕ). IsKind (view_of d) x 2) (one-inode d from name w.0 child sound at.below w.1 h) x.0))
           ]
         ],
@@ -132,7 +132,7 @@ walks-as d (name ∷ names) from sound at = go (turn d from name sound at.below)
     }
     go (Directory child h kind walk e) rest =
         let r = rest child walk in
-        let opens = ap (λ (x : Result ℕ FsFault). then_ok x (λ child. walked d child names)) e in
+        let opens = ap (λ (x : Result ℕ FsFault). then_ok x (λ child. walk_end d child names)) e in
         record {
           ends = λ to w. opens ∙ r.ends to (subst (λ (x : ℕ). Walks (view_of d) x names to) (one-inode d from name w.0 child sound at.below w.1 h) w.3);
           fails = λ f. (
@@ -152,13 +152,13 @@ walks-as d (name ∷ names) from sound at = go (turn d from name sound at.below)
 -- ---- at a path
 
 at-path : {B : Type 0} (d : Disk) (path : Path) (plan : ℕ → Result B FsFault) (Then : ℕ → FsFault → Type 0) → Sound (tables_of d)
-    → ((dir : ℕ) → Walked d dir → Refuses (plan dir) (Then dir)) → Refuses (then_ok (walked d 0 path.through.items) plan) (AtPath (view_of d) path Then)
-at-path {B = B} d path plan Then sound next f = go (walked d 0 path.through.items) refl
+    → ((dir : ℕ) → Walked d dir → Refuses (plan dir) (Then dir)) → Refuses (then_ok (walk_end d 0 path.through.items) plan) (AtPath (view_of d) path Then)
+at-path {B = B} d path plan Then sound next f = go (walk_end d 0 path.through.items) refl
   where
     w : WalksAs d 0 path.through.items
-    w = walks-as d path.through.items 0 sound (root-walked d sound)
+    w = walks-as d path.through.items 0 sound (root-walk_end d sound)
 
-    go : (r : Result ℕ FsFault) → walked d 0 path.through.items ≡ r → ((then_ok r plan ≡ Err f) ↔ AtPath (view_of d) path Then f)
+    go : (r : Result ℕ FsFault) → walk_end d 0 path.through.items ≡ r → ((then_ok r plan ≡ Err f) ↔ AtPath (view_of d) path Then f)
     go (Err g) e = (
       λ q. let same : Err g ≡ Err f = cc in inl ((w.fails f).0 (e ∙ same)),
       λ h. elim h [
@@ -167,7 +167,7 @@ at-path {B = B} d path plan Then sound next f = go (walked d 0 path.through.item
       ],
     )
     go (Ok dir) e = (
-      λ q. inr (dir, walks d path.through.items 0 dir (root-walked d sound) e, (next dir (walk-found d path.through.items dir sound e) f).0 q),
+      λ q. inr (dir, walks d path.through.items 0 dir (root-walk_end d sound) e, (next dir (walk-found d path.through.items dir sound e) f).0 q),
       λ h. elim h [
         | inl x ↦ absurd (let no : ◌≡◌ {A = Result ℕ FsFault} (Ok dir) (Err f) = sym e ∙ (w.fails f).1 x in cc)
         | inr x ↦
@@ -205,10 +205,10 @@ at-name {B = B} d path plan Then sound next =
 -- ---- the operations
 
 live-target : (d : Disk) (dir : ℕ) (name : List ℕ) (k : ℕ) → Sound (tables_of d) → NamedEntry d dir name k → (tables_of d).kind (target_of d dir k) ≢ 0
-live-target d dir name k sound n = sound.names.no_dangling dir k (target_of d dir k) (spelled name) n.leads
+live-target d dir name k sound n = sound.names.no_dangling dir k (target_of d dir k) (name_spelling name) n.leads
 
 -- `link` and `rename`
-relink-refused : (d : Disk) (old new : Path) (changes : ℕ → ℕ → ℕ → ℕ → List ℕ → List Change) → Sound (tables_of d) → Refuses (relinked d old new changes) (Relinks (view_of d) old new)
+relink-refused : (d : Disk) (old new : Path) (changes : ℕ → ℕ → ℕ → ℕ → List ℕ → List Change) → Sound (tables_of d) → Refuses (relink_plan d old new changes) (Relinks (view_of d) old new)
 relink-refused d old new changes t =
     at-name d old _ _ t (λ old_dir k _ n.
     at-path d new _ _ t (λ dir walk.

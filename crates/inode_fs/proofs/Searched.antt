@@ -6,12 +6,12 @@ use Rattle.std.proofs.lemmas.Slice.Eq.{bytes_eq-Decides}
 use Rattle.crash_model.specs.Disk.{Disk}
 use Rattle.crash_model.specs.Names.{IsName}
 use Rattle.crash_model.specs.Layout.{kind_of, pointer_of, map_of, is_data, is_live, is_entry, target_of, counts, entry_of, spelling_of}
-use Rattle.crash_model.specs.Plan.{spelled, is_named, entry_named, walked, is_free_entry, free_entry, has_no_kind, free_inode, is_free_block, free_block, is_free_slot, free_slot}
+use Rattle.crash_model.specs.Plan.{name_spelling, is_named, entry_named, walk_end, is_free_entry, free_entry, has_no_kind, free_inode, is_free_block, free_block, is_free_slot, free_slot}
 use Rattle.soundness_laws.specs.Tables.{tables_of, place_of, Sound}
 use Rattle.soundness_laws.specs.Tables.Place.{Free, Leads}
 use Rattle.soundness_laws.proofs.Searches.{first_below-is_none, first_below-is_some}
 use Rattle.soundness_laws.proofs.Puts.{data-block}
-use Rattle.soundness_laws.proofs.ByTables.{kind-at, pointer-at, entry-at, live-at, EntryBytes, entry-bytes, walked-is_ok}
+use Rattle.soundness_laws.proofs.ByTables.{kind-at, pointer-at, entry-at, live-at, EntryBytes, entry-bytes, walk_end-is_ok}
 use Rattle.soundness_laws.proofs.Views.{used-at, place-leads, entry-is}
 use Rattle.soundness_laws.proofs.Inodes.{IsFresh}
 use Rattle.soundness_laws.proofs.Kept.{IsPlace}
@@ -84,7 +84,7 @@ pub record NamedEntry (d : Disk) (dir : ℕ) (name : List ℕ) (k : ℕ) : Type 
   pub below : k < 10
   pub counting : counts d dir ≡ true
   pub target_below : target_of d dir k < 16
-  pub leads : (tables_of d).entry dir k ≡ Leads (target_of d dir k) (spelled name)
+  pub leads : (tables_of d).entry dir k ≡ Leads (target_of d dir k) (name_spelling name)
 
 pub named-found : (d : Disk) (dir : ℕ) (name : List ℕ) (k : ℕ) → dir < 16 → entry_named d dir name ≡ Some k → NamedEntry d dir name k
 named-found d dir name k in_dir e =
@@ -92,7 +92,7 @@ named-found d dir name k in_dir e =
     let parts = three (is_entry d dir k) (is_live d (target_of d dir k)) _ f.holds in
     let entry : is_entry d dir k ≡ true = parts.0 in
     let live : is_live d (target_of d dir k) ≡ true = parts.1 in
-    let spelling : spelling_of d dir k ≡ spelled name = (bytes_eq-Decides (spelling_of d dir k) (spelled name)).0 parts.2 in
+    let spelling : spelling_of d dir k ≡ name_spelling name = (bytes_eq-Decides (spelling_of d dir k) (name_spelling name)).0 parts.2 in
     record {
       below = f.below;
       counting = grind (arith, nat_tests);
@@ -105,17 +105,17 @@ named-found d dir name k in_dir e =
     three true false c e = cc
     three false b c e = cc
 
-pub named-by : (d : Disk) (dir m j : ℕ) (name : List ℕ) → EntryBytes d dir m j (spelled name) → is_live d j ≡ true → is_named d dir name m ≡ true
+pub named-by : (d : Disk) (dir m j : ℕ) (name : List ℕ) → EntryBytes d dir m j (name_spelling name) → is_live d j ≡ true → is_named d dir name m ≡ true
 named-by d dir m j name b live =
-    let is = entry-is d dir m j (spelled name) b in
-    let spelt = (bytes_eq-Decides (spelling_of d dir m) (spelled name)).1 b.spelt in
+    let is = entry-is d dir m j (name_spelling name) b in
+    let spelt = (bytes_eq-Decides (spelling_of d dir m) (name_spelling name)).1 b.spelt in
     let lives : is_live d (target_of d dir m) ≡ true = ap (is_live d) is.1 ∙ live in
     rw (is.0, lives, spelt) refl
 
-pub absent-found : (d : Disk) (dir : ℕ) (name : List ℕ) → Sound (tables_of d) → entry_named d dir name ≡ None → (m j : ℕ) → (tables_of d).entry dir m ≢ Leads j (spelled name)
+pub absent-found : (d : Disk) (dir : ℕ) (name : List ℕ) → Sound (tables_of d) → entry_named d dir name ≡ None → (m j : ℕ) → (tables_of d).entry dir m ≢ Leads j (name_spelling name)
 absent-found d dir name sound none m j e =
-    let b = entry-bytes d dir m j (spelled name) e in
-    let live = live-at d j (sound.names.no_dangling dir m j (spelled name) e) in
+    let b = entry-bytes d dir m j (name_spelling name) e in
+    let live = live-at d j (sound.names.no_dangling dir m j (name_spelling name) e) in
     false≢true (sym (first_below-is_none 10 (is_named d dir name) none m b.in_place) ∙ named-by d dir m j name b live.1)
 
 -- ---- directories
@@ -124,10 +124,10 @@ pub record Walked (d : Disk) (dir : ℕ) : Type 0 where
   pub below : dir < 16
   pub kind : (tables_of d).kind dir ≡ 2
 
-pub walk-found : (d : Disk) (names : List (List ℕ)) (dir : ℕ) → Sound (tables_of d) → walked d 0 names ≡ Ok dir → Walked d dir
+pub walk-found : (d : Disk) (names : List (List ℕ)) (dir : ℕ) → Sound (tables_of d) → walk_end d 0 names ≡ Ok dir → Walked d dir
 walk-found d names dir sound e =
     let root : kind_of d 0 ≡ 2 = sym (kind-at d 0 (omega arith)) ∙ sound.inodes.root.0 in
-    let w = walked-is_ok d 0 names dir (omega arith) root e in
+    let w = walk_end-is_ok d 0 names dir (omega arith) root e in
     record { below = w.0; kind = kind-at d dir w.0 ∙ w.1 }
 
 -- the place of a new name

@@ -6,7 +6,7 @@ use Rattle.std.proofs.lemmas.Bool.Decides.{nat_tests}
 use Rattle.crash_model.specs.Disk.{Disk}
 use Rattle.crash_model.specs.Layout.{kind_of, links_of, pointer_of, map_of, is_data, is_entry, counts, entry_of, target_of, spelling_of}
 use Rattle.crash_model.specs.Lists.{first_below}
-use Rattle.crash_model.specs.Plan.{spelled, entry_named, has_no_kind, free_inode, is_free_block, free_block, is_free_entry, free_entry, is_free_slot, free_slot, is_full_dir, has_entries}
+use Rattle.crash_model.specs.Plan.{name_spelling, entry_named, has_no_kind, free_inode, is_free_block, free_block, is_free_entry, free_entry, is_free_slot, free_slot, is_full_dir, has_entries}
 use Rattle.crash_model.specs.View.{view_of}
 use Rattle.crash_model.specs.Meaning.{LeadsTo, IsKind, IsFull, NoInodeLeft, NoBlockLeft, IsFreeSlot}
 use Rattle.soundness_laws.specs.Tables.{tables_of, Sound}
@@ -16,7 +16,7 @@ use Rattle.soundness_laws.proofs.Pigeons.{each-taken}
 use Rattle.soundness_laws.proofs.ByTables.{kind-at, pointer-at, entry-bytes, counts-by_tables}
 use Rattle.soundness_laws.proofs.Views.{links-at, used-at, entry-is, same-view}
 use Rattle.soundness_laws.proofs.FromTables.{entry-in, area}
-use Rattle.soundness_laws.proofs.Meant.{spelled-injective}
+use Rattle.soundness_laws.proofs.Meant.{name_spelling-injective}
 use Rattle.inode_fs.proofs.Searched.{Walked, fresh-found, block-found, slot-found, named-found, absent-found}
 use Rattle.inode_fs.proofs.Means.{name-of, kind-of}
 
@@ -49,15 +49,15 @@ pub record NamedBy (d : Disk) (dir : ℕ) (name : List ℕ) (i : ℕ) : Type 0 w
 pub named-by : (d : Disk) (dir : ℕ) (name : List ℕ) (i : ℕ) → Sound (tables_of d) → dir < 16 → (view_of d).name dir name i → NamedBy d dir name i
 named-by d dir name i sound below h = go (entry_named d dir name) refl
   where
-    place : (k : ℕ) × ((tables_of d).entry dir k ≡ Leads i (spelled name))
+    place : (k : ℕ) × ((tables_of d).entry dir k ≡ Leads i (name_spelling name))
     place = ((same-view d).names dir name i).0 h
 
     go : (o : Option ℕ) → entry_named d dir name ≡ o → NamedBy d dir name i
     go None e = absurd (absent-found d dir name sound e place.0 i place.1)
     go (Some k) e =
         let n = named-found d dir name k below e in
-        let same : k ≡ place.0 = sound.names.distinct dir k place.0 (target_of d dir k) i (spelled name) n.leads place.1 in
-        let both : Leads (target_of d dir k) (spelled name) ≡ Leads i (spelled name) = sym n.leads ∙ ap ((tables_of d).entry dir) same ∙ place.1 in
+        let same : k ≡ place.0 = sound.names.distinct dir k place.0 (target_of d dir k) i (name_spelling name) n.leads place.1 in
+        let both : Leads (target_of d dir k) (name_spelling name) ≡ Leads i (name_spelling name) = sym n.leads ∙ ap ((tables_of d).entry dir) same ∙ place.1 in
         record { k = k; named = e; target = cc }
 
 pub test-named : (d : Disk) (dir : ℕ) (name : List ℕ) → Sound (tables_of d) → dir < 16 → ((is_some (entry_named d dir name) ≡ true) ↔ LeadsTo (view_of d) dir name)
@@ -115,7 +115,7 @@ test-slot d i below live = (
 record UsedEntry (d : Disk) (dir k : ℕ) : Type 0 where
   inode : ℕ
   name : List ℕ
-  leads : (tables_of d).entry dir k ≡ Leads inode (spelled name)
+  leads : (tables_of d).entry dir k ≡ Leads inode (name_spelling name)
 
 used-entry : (d : Disk) (dir k : ℕ) → Sound (tables_of d) → dir < 16 → k < 10 → is_entry d dir k ≡ true → UsedEntry d dir k
 used-entry d dir k sound below small e =
@@ -149,7 +149,7 @@ full-names d dir sound below all = (
     apart j k (inl in_j) (inl in_k) less small same =
         let u = all j in_j in
         let v = all k in_k in
-        let at = sound.names.distinct dir j k u.inode v.inode (spelled u.name) u.leads (v.leads ∙ ap (λ (x : List ℕ). Leads v.inode (spelled x)) (sym same)) in
+        let at = sound.names.distinct dir j k u.inode v.inode (name_spelling u.name) u.leads (v.leads ∙ ap (λ (x : List ℕ). Leads v.inode (name_spelling x)) (sym same)) in
         omega arith
     apart j k (inr more) e less small same = omega arith
     apart j k (inl in_j) (inr more) less small same = omega arith
@@ -178,7 +178,7 @@ test-full d dir sound walk = (
     spot full k (inl less) = (((same-view d).names dir (full.0 k) (full.1 k less).0).0 (full.1 k less).1).0
     spot full k (inr more) = 0
 
-    spot-leads : (full : IsFull (view_of d) dir) (k : ℕ) (less : k < 10) → (tables_of d).entry dir (spot full k (inl less)) ≡ Leads (full.1 k less).0 (spelled (full.0 k))
+    spot-leads : (full : IsFull (view_of d) dir) (k : ℕ) (less : k < 10) → (tables_of d).entry dir (spot full k (inl less)) ≡ Leads (full.1 k less).0 (name_spelling (full.0 k))
     spot-leads full k less = (((same-view d).names dir (full.0 k) (full.1 k less).0).0 (full.1 k less).1).1
 
     spot-below : (full : IsFull (view_of d) dir) (k : ℕ) (c : (k < 10) ⊎ (10 ≤ k)) → k < 10 → spot full k c < 10
@@ -187,10 +187,10 @@ test-full d dir sound walk = (
 
     spot-apart : (full : IsFull (view_of d) dir) (j k : ℕ) (c : (j < 10) ⊎ (10 ≤ j)) (e : (k < 10) ⊎ (10 ≤ k)) → j < k → k < 10 → spot full j c ≢ spot full k e
     spot-apart full j k (inl in_j) (inl in_k) less small same =
-        let both : Leads (full.1 j in_j).0 (spelled (full.0 j)) ≡ Leads (full.1 k in_k).0 (spelled (full.0 k)) =
+        let both : Leads (full.1 j in_j).0 (name_spelling (full.0 j)) ≡ Leads (full.1 k in_k).0 (name_spelling (full.0 k)) =
         sym (spot-leads full j in_j) ∙ ap ((tables_of d).entry dir) same ∙ spot-leads full k in_k in
-        let spelling : spelled (full.0 j) ≡ spelled (full.0 k) = cc in
-        full.2 j k less small (spelled-injective (full.0 j) (full.0 k) spelling)
+        let spelling : name_spelling (full.0 j) ≡ name_spelling (full.0 k) = cc in
+        full.2 j k less small (name_spelling-injective (full.0 j) (full.0 k) spelling)
     spot-apart full j k (inr more) e less small same = omega arith
     spot-apart full j k (inl in_j) (inr more) less small same = omega arith
 
@@ -258,6 +258,6 @@ test-entries d i sound below = (
       (u.name, (u.inode, name-of d i found.0 u.inode u.name u.leads)),
   λ w. some-is (first_below 10 (is_entry d i)) (λ none.
       let place = ((same-view d).names i w.0 w.1.0).0 w.1.1 in
-      let b = entry-bytes d i place.0 w.1.0 (spelled w.0) place.1 in
-      false≢true (sym (first_below-is_none 10 (is_entry d i) none place.0 b.in_place) ∙ (entry-is d i place.0 w.1.0 (spelled w.0) b).0)),
+      let b = entry-bytes d i place.0 w.1.0 (name_spelling w.0) place.1 in
+      false≢true (sym (first_below-is_none 10 (is_entry d i) none place.0 b.in_place) ∙ (entry-is d i place.0 w.1.0 (name_spelling w.0) b).0)),
 )

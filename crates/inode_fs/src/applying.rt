@@ -1,7 +1,7 @@
 //! The changes of a plan, made.
 
 ghost use Rattle.std.specs.Prelude.{◌≡◌, ◌≤◌, All};
-ghost use Rattle.crash_model.specs.Plan.{applied};
+ghost use Rattle.crash_model.specs.Plan.{with_changes};
 ghost use Rattle.inode_fs.specs.Inside.{LiesInside};
 
 use crash_model::plans::Plan;
@@ -13,7 +13,7 @@ use std::alloc::Allocator;
 /// Each of them has to lie inside the image, as those that [`crate::plan`] gives on it do.
 pub fn apply<A: Allocator + Copy>(image: &mut Image<A>, plan: &Plan)
     requires { All (LiesInside image.old.blocks) plan.now.items }
-    ensures changes { image.new ≡ applied image.old plan.now.items }
+    ensures changes { image.new ≡ with_changes image.old plan.now.items }
     ensures size { (image.new.blocks ≡ image.old.blocks) × (image.new.journal ≡ image.old.journal) }
 {
     for change in plan.as_slice() {

@@ -6,7 +6,7 @@ ghost use Rattle.crash_model.specs.Layout.{is_live};
 ghost use Rattle.crash_model.specs.Strict.{disk_after, IsKept};
 
 use crate::applying::apply;
-use crate::plans::plan;
+use crate::planning::plan;
 use crash_model::steps::{Act, Step};
 use disk_image::Image;
 use std::alloc::{AllocError, Allocator};

@@ -9,11 +9,12 @@ mod applying;
 mod changes;
 mod keeping;
 mod look;
-mod plans;
+mod planning;
 
 pub use applying::apply;
-pub use crash_model::names::{Name, Op, Path};
+pub use crash_model::names::{Name, Path};
+pub use crash_model::operations::Op;
 pub use crash_model::plans::{Change, Plan, Role};
 pub use crash_model::refusals::FsFault;
 pub use keeping::kept;
-pub use plans::plan;
+pub use planning::plan;

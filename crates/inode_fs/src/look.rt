@@ -4,7 +4,7 @@
 
 ghost use Rattle.std.specs.Prelude.{ℕ, List, Result, Err, ◌≡◌, ◌<◌, ◌&&◌, IsTrue, bytes_eq, IfSome, IfOk, MatchResult};
 ghost use Rattle.crash_model.specs.Layout.{kind_of, is_live, is_entry, target_of, spelling_of};
-ghost use Rattle.crash_model.specs.Plan.{is_named, entry_named, inode_named, entered, walked, at_entry, free_inode, free_block, free_slot, has_entries};
+ghost use Rattle.crash_model.specs.Plan.{is_named, entry_named, inode_named, directory_of, walk_end, at_entry, free_inode, free_block, free_slot, has_entries};
 ghost use Rattle.crash_model.specs.declared.plans.Change.{Change};
 ghost use Rattle.crash_model.specs.declared.refusals.FsFault.{FsFault};
 
@@ -59,7 +59,7 @@ pub fn entry_named<A: Allocator + Copy>(image: &Image<A>, dir: u8, name: &Name) 
 /// leads to something else.
 fn enter<A: Allocator + Copy>(image: &Image<A>, dir: u8, name: &Name) -> Result<u8, FsFault>
     requires { dir < 16 }
-    ensures value { result ≡ entered image.now (inode_named image.now dir name.now) }
+    ensures value { result ≡ directory_of image.now (inode_named image.now dir name.now) }
     ensures within { IfOk result (λ child. child < 16) }
 {
     match entry_named(image, dir, name) {
@@ -78,7 +78,7 @@ fn enter<A: Allocator + Copy>(image: &Image<A>, dir: u8, name: &Name) -> Result<
 /// The directory that holds a path's last name: from the root through all names but the last. The first name that
 /// fails decides the refusal, 10 or 11.
 pub fn walk<A: Allocator + Copy>(image: &Image<A>, path: &Path) -> Result<u8, FsFault>
-    ensures value { result ≡ walked image.now 0 path.now.through.items }
+    ensures value { result ≡ walk_end image.now 0 path.now.through.items }
     ensures within { IfOk result (λ dir. dir < 16) }
 {
     let mut dir = 0;

@@ -3,7 +3,7 @@ use Rattle.std.proofs.Common.{◌≡◌, ◌≢◌, ℕ, zero, suc, ◌+◌, ◌
 use Rattle.std.specs.List.{flat_map, range_with_len}
 use Rattle.std.proofs.lemmas.Grind.{elements, same_number_lists}
 use Rattle.std.proofs.lemmas.List.{length-take-le, length-drop, get_or-take, get_or-drop, drop-drop, drop_all, take-append-drop}
-use Rattle.crash_model.specs.Disk.{Disk, overwrite, block_of, put}
+use Rattle.crash_model.specs.Disk.{Disk, overwrite, block_of, with_bytes}
 use Rattle.crash_model.proofs.Bytes.{length-overwrite, overwrite-inside, overwrite-below, overwrite-above}
 
 -- block b lies inside the disk
@@ -19,8 +19,8 @@ length-block d b i =
 pub block-at : (d : Disk) (b k : ℕ) → k < 128 → get_or (block_of d b) k 0 ≡ get_or d.bytes (128 * b + k) 0
 block-at d b k h = get_or-take 128 (drop (128 * b) d.bytes) k 0 h ∙ get_or-drop (128 * b) d.bytes k 0
 
-pub inside-put : (d : Disk) (b off : ℕ) (new : List ℕ) (x : ℕ) → off + length new ≤ 128 → Inside d b → Inside d x → Inside (put d b off new) x
-inside-put d b off new x h i y =
+pub inside-with_bytes : (d : Disk) (b off : ℕ) (new : List ℕ) (x : ℕ) → off + length new ≤ 128 → Inside d b → Inside d x → Inside (with_bytes d b off new) x
+inside-with_bytes d b off new x h i y =
     let f : 128 * b + 128 ≤ length d.bytes = i.fits in
     let g : 128 * x + 128 ≤ length d.bytes = y.fits in
     let fits : (128 * b + off) + length new ≤ length d.bytes = omega arith in
@@ -28,13 +28,13 @@ inside-put d b off new x h i y =
     record { fits = omega arith }
 
 -- another block stays
-pub block-put_other : (d : Disk) (b off : ℕ) (new : List ℕ) (x : ℕ) → x ≢ b → off + length new ≤ 128 → Inside d b → Inside d x → block_of (put d b off new) x ≡ block_of d x
+pub block-put_other : (d : Disk) (b off : ℕ) (new : List ℕ) (x : ℕ) → x ≢ b → off + length new ≤ 128 → Inside d b → Inside d x → block_of (with_bytes d b off new) x ≡ block_of d x
 block-put_other d b off new x other h i y =
     let f : 128 * b + 128 ≤ length d.bytes = i.fits in
     let g : 128 * x + 128 ≤ length d.bytes = y.fits in
     let fits : (128 * b + off) + length new ≤ length d.bytes = omega arith in
-    let p : Disk = put d b off new in
-    let l1 : length (block_of p x) ≡ 128 = length-block p x (inside-put d b off new x h i y) in
+    let p : Disk = with_bytes d b off new in
+    let l1 : length (block_of p x) ≡ 128 = length-block p x (inside-with_bytes d b off new x h i y) in
     let l2 : length (block_of d x) ≡ 128 = length-block d x y in
     same_number_lists _ _ (l1 ∙ sym l2) (λ k below.
     let k_below : k < 128 = omega arith in
@@ -47,12 +47,12 @@ block-put_other d b off new x other h i y =
     apart x b h = grind arith
 
 -- the block itself is overwritten
-pub block-put_same : (d : Disk) (b off : ℕ) (new : List ℕ) → off + length new ≤ 128 → Inside d b → block_of (put d b off new) b ≡ overwrite (block_of d b) off new
+pub block-put_same : (d : Disk) (b off : ℕ) (new : List ℕ) → off + length new ≤ 128 → Inside d b → block_of (with_bytes d b off new) b ≡ overwrite (block_of d b) off new
 block-put_same d b off new h i =
     let f : 128 * b + 128 ≤ length d.bytes = i.fits in
     let fits : (128 * b + off) + length new ≤ length d.bytes = omega arith in
-    let p : Disk = put d b off new in
-    let l1 : length (block_of p b) ≡ 128 = length-block p b (inside-put d b off new b h i i) in
+    let p : Disk = with_bytes d b off new in
+    let l1 : length (block_of p b) ≡ 128 = length-block p b (inside-with_bytes d b off new b h i i) in
     let l2 : length (block_of d b) ≡ 128 = length-block d b i in
     let fits' : off + length new ≤ length (block_of d b) = omega arith in
     let l3 : length (overwrite (block_of d b) off new) ≡ length (block_of d b) = length-overwrite (block_of d b) off new fits' in
@@ -78,18 +78,18 @@ pub record IsShaped (n jl : ℕ) (d : Disk) : Type 0 where
 pub shaped-inside : (n jl : ℕ) (d : Disk) (x : ℕ) → IsShaped n jl d → x < n → Inside d x
 shaped-inside n jl d x s h = let l : length d.bytes ≡ 128 * n = s.long in record { fits = omega arith }
 
-pub shaped-put : (n jl : ℕ) (d : Disk) (b off : ℕ) (new : List ℕ) → IsShaped n jl d → off + length new ≤ 128 → b < n → IsShaped n jl (put d b off new)
-shaped-put n jl d b off new s inside known =
+pub shaped-with_bytes : (n jl : ℕ) (d : Disk) (b off : ℕ) (new : List ℕ) → IsShaped n jl d → off + length new ≤ 128 → b < n → IsShaped n jl (with_bytes d b off new)
+shaped-with_bytes n jl d b off new s inside known =
     let l : length d.bytes ≡ 128 * n = s.long in
     record { blocks = s.blocks; journal = s.journal; long = length-overwrite d.bytes (128 * b + off) new (omega arith) ∙ l }
 
 -- a block replaced by another: the others stay, and it is the other
-pub shaped-copy : (n jl : ℕ) (d : Disk) (from to : ℕ) → IsShaped n jl d → from < n → to < n → IsShaped n jl (put d to 0 (block_of d from))
+pub shaped-copy : (n jl : ℕ) (d : Disk) (from to : ℕ) → IsShaped n jl d → from < n → to < n → IsShaped n jl (with_bytes d to 0 (block_of d from))
 shaped-copy n jl d from to s f t =
     let l : length (block_of d from) ≡ 128 = length-block d from (shaped-inside n jl d from s f) in
-    shaped-put n jl d to 0 (block_of d from) s (omega arith) t
+    shaped-with_bytes n jl d to 0 (block_of d from) s (omega arith) t
 
-pub copy-other : (n jl : ℕ) (d : Disk) (from to x : ℕ) → IsShaped n jl d → from < n → to < n → x < n → x ≢ to → block_of (put d to 0 (block_of d from)) x ≡ block_of d x
+pub copy-other : (n jl : ℕ) (d : Disk) (from to x : ℕ) → IsShaped n jl d → from < n → to < n → x < n → x ≢ to → block_of (with_bytes d to 0 (block_of d from)) x ≡ block_of d x
 copy-other n jl d from to x s f t h other =
     let l : length (block_of d from) ≡ 128 = length-block d from (shaped-inside n jl d from s f) in
     block-put_other d to 0 (block_of d from) x other (omega arith) (shaped-inside n jl d to s t) (shaped-inside n jl d x s h)
@@ -98,7 +98,7 @@ pub overwrite-all : (xs new : List ℕ) → length xs ≤ length new → overwri
 unfolding overwrite
 overwrite-all xs new h = same_number_lists _ _ (grind (arith, elements)) (λ k below. grind (arith, elements))
 
-pub copy-same : (n jl : ℕ) (d : Disk) (from to : ℕ) → IsShaped n jl d → from < n → to < n → block_of (put d to 0 (block_of d from)) to ≡ block_of d from
+pub copy-same : (n jl : ℕ) (d : Disk) (from to : ℕ) → IsShaped n jl d → from < n → to < n → block_of (with_bytes d to 0 (block_of d from)) to ≡ block_of d from
 copy-same n jl d from to s f t =
     let l : length (block_of d from) ≡ 128 = length-block d from (shaped-inside n jl d from s f) in
     let l' : length (block_of d to) ≡ 128 = length-block d to (shaped-inside n jl d to s t) in

@@ -4,9 +4,9 @@ ghost use Rattle.std.specs.Prelude.{◌≡◌, ℕ, ◌+◌, ◌<◌, ◌≤◌,
 ghost use Rattle.std.specs.List.{All};
 ghost use Rattle.patch_sets.specs.Sets.{Has, IsSubset};
 ghost use Rattle.crash_model.specs.Disk.{block_of, IsDisk};
-ghost use Rattle.crash_model.specs.Replay.{replayed};
+ghost use Rattle.crash_model.specs.Replay.{image_after_replay};
 ghost use Rattle.journal_replay.specs.Changed.{DifferAtMost};
-ghost use Rattle.journal_replay.specs.Walk.{copied};
+ghost use Rattle.journal_replay.specs.Walk.{with_copies};
 
 use crate::header::header_at;
 use disk_image::Image;
@@ -18,7 +18,7 @@ use std::alloc::Allocator;
 /// It is defined on every image, takes no memory, and writes no block of the journal. The result has the numbers of
 /// the blocks that it wrote, as a set of patches has ids: all others are as they were.
 pub fn replay<A: Allocator + Copy>(image: &mut Image<A>) -> u128
-    ensures replayed { image.new ≡ replayed image.old }
+    ensures replayed { image.new ≡ image_after_replay image.old }
     ensures journal { (block : ℕ) → 4 ≤ block → block < 4 + image.old.journal
         → block_of image.new block ≡ block_of image.old block }
     ensures others { DifferAtMost result image.old image.new }
@@ -56,7 +56,7 @@ fn copy_blocks<A: Allocator + Copy>(image: &mut Image<A>, first: usize, targets:
     requires few { image.old.blocks ≤ 128 }
     requires from { first + length targets.now ≤ image.old.blocks }
     requires to { All (λ target. target < image.old.blocks) targets.now }
-    ensures { image.new ≡ copied image.old first targets.now }
+    ensures { image.new ≡ with_copies image.old first targets.now }
 {
     for (m, target) in targets.iter().enumerate() {
         image.copy_block(first + m, usize::from(*target));

@@ -4,11 +4,11 @@ use Rattle.std.specs.List.{filter, list_any}
 use Rattle.std.proofs.lemmas.List.{take_more, length-map, length-take-le, map_push, take-append-drop, take_all}
 use Rattle.crash_model.specs.Disk.{Disk, block_of}
 use Rattle.crash_model.specs.declared.rules.Part.TheVariants.{Copy, Commit, Done}
-use Rattle.crash_model.specs.Trace.{Emitted, Origin, part_of, copies, plain}
+use Rattle.crash_model.specs.Trace.{Emitted, Origin, part_of, copies, in_place_patch}
 use Rattle.crash_model.specs.declared.plans.Change.{Change}
-use Rattle.crash_model.specs.declared.steps.Module.{Module}
+use Rattle.crash_model.specs.declared.modules.Module.{Module}
 use Rattle.order_modules.specs.Log.{Log, Adds}
-use Rattle.order_modules.specs.Transactions.{is_ahead, ahead, placed, file_data, transaction_of}
+use Rattle.order_modules.specs.Transactions.{is_ahead, changes_ahead, changes_in_place, file_data, transaction_of}
 
 pub adds-none : (log : Log) → Adds log log []
 adds-none log = record { base = refl; kind = refl; rules = refl; links = refl; emitted = sym (append-nil log.emitted) }
@@ -158,21 +158,21 @@ any_chosen p q (y ∷ ys) (suc i) x inside read one two = go (p y) (any_chosen p
 
 -- ---- a whole transaction
 
-pub transaction_room : (kind : Module) (changes : List Change) → length (ahead kind changes) + length (placed kind changes) ≡ length changes
+pub transaction_room : (kind : Module) (changes : List Change) → length (changes_ahead kind changes) + length (changes_in_place kind changes) ≡ length changes
 transaction_room kind changes = filter_both (is_ahead kind) changes
 
 pub transaction_adds : (kind : Module) (after : Disk) (turn j : ℕ) (origin : Origin) (targets : List ℕ) (changes : List Change) (a b c d e f : Log) → kind ≡ a.kind
-    → Adds a b (map (file_data turn origin) (ahead a.kind changes)) → Adds b c (copies after turn (j + 1) origin targets)
-    → Adds c d (part_of turn origin Commit j 0 (0xC7 ∷ turn ∷ length targets ∷ targets) ∷ []) → Adds d e (map (plain turn origin) (placed d.kind changes))
+    → Adds a b (map (file_data turn origin) (changes_ahead a.kind changes)) → Adds b c (copies after turn (j + 1) origin targets)
+    → Adds c d (part_of turn origin Commit j 0 (0xC7 ∷ turn ∷ length targets ∷ targets) ∷ []) → Adds d e (map (in_place_patch turn origin) (changes_in_place d.kind changes))
     → Adds e f (part_of turn origin Done j 0 (0xC8 ∷ []) ∷ []) → Adds a f (transaction_of a.kind after turn j origin targets changes)
 transaction_adds kind after turn j origin targets changes a b c d e f same first second third fourth fifth =
-    let xs : List Emitted = map (file_data turn origin) (ahead a.kind changes) in
+    let xs : List Emitted = map (file_data turn origin) (changes_ahead a.kind changes) in
     let ys : List Emitted = copies after turn (j + 1) origin targets in
     let z : Emitted = part_of turn origin Commit j 0 (0xC7 ∷ turn ∷ length targets ∷ targets) in
-    let ws : List Emitted = map (plain turn origin) (placed a.kind changes) in
+    let ws : List Emitted = map (in_place_patch turn origin) (changes_in_place a.kind changes) in
     let v : Emitted = part_of turn origin Done j 0 (0xC8 ∷ []) in
     let same_kind : d.kind ≡ a.kind = third.kind ∙ second.kind ∙ first.kind in
-    let fourth' : Adds d e ws = subst (λ (k : Module). Adds d e (map (plain turn origin) (placed k changes))) same_kind fourth in
+    let fourth' : Adds d e ws = subst (λ (k : Module). Adds d e (map (in_place_patch turn origin) (changes_in_place k changes))) same_kind fourth in
     adds-then a b f xs (ys ++ (z ∷ (ws ++ v ∷ []))) first
     (adds-then b c f ys (z ∷ (ws ++ v ∷ [])) second
     (adds-then c d f (z ∷ []) (ws ++ v ∷ []) third

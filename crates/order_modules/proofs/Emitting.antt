@@ -10,15 +10,15 @@ use Rattle.std.proofs.lemmas.Bool.{cases_lt}
 use Rattle.arrayvec.specs.ArrayVec.{ArrayVec}
 use Rattle.patch_sets.specs.Sets.{Has}
 use Rattle.patch_sets.proofs.Bits.{eq_or_not, none_in_empty}
-use Rattle.crash_model.specs.Disk.{Disk, block_of, put}
+use Rattle.crash_model.specs.Disk.{Disk, block_of, with_bytes}
 use Rattle.crash_model.specs.Patches.{Place, place, places_of, deps_of, overlap, AreUndo}
 use Rattle.crash_model.specs.Trace.{Emitted, is_same_group, groups_depend, applies, depends}
 use Rattle.crash_model.specs.declared.patches.Patch.{Patch}
 use Rattle.crash_model.specs.declared.rules.Rule.{Rule}
-use Rattle.crash_model.specs.declared.steps.Module.{Module}
+use Rattle.crash_model.specs.declared.modules.Module.{Module}
 use Rattle.patch_graph.specs.Graph.{Overlaps, OverlapsAt, AddsOverlaps}
 use Rattle.order_modules.specs.Labels.{emitted_at, emitted_of, emitted_by, group_by, links_by}
-use Rattle.order_modules.specs.Log.{Log, IsLog, WaitsAt, all_put}
+use Rattle.order_modules.specs.Log.{Log, IsLog, WaitsAt, with_places}
 use Rattle.order_modules.specs.declared.labels.Label.{Label}
 use Rattle.order_modules.specs.declared.labels.Link.{Link}
 
@@ -35,18 +35,18 @@ get_old [] y x z i at here = absurd (cc)
 get_old (a ∷ xs) y x z zero at here = cc
 get_old (a ∷ xs) y x z (suc i) at here = get_old xs y x z i at here
 
-all_put-push : (d : Disk) (ps : List Place) (p : Place) → all_put d (ps ++ p ∷ []) ≡ put (all_put d ps) p.block p.offset p.new
-all_put-push d [] p = refl
-all_put-push d (x ∷ ps) p = all_put-push (put d x.block x.offset x.new) ps p
+with_places-push : (d : Disk) (ps : List Place) (p : Place) → with_places d (ps ++ p ∷ []) ≡ with_bytes (with_places d ps) p.block p.offset p.new
+with_places-push d [] p = refl
+with_places-push d (x ∷ ps) p = with_places-push (with_bytes d x.block x.offset x.new) ps p
 
-all_put-blocks : (d : Disk) (ps : List Place) → (all_put d ps).blocks ≡ d.blocks
-all_put-blocks d [] = refl
-all_put-blocks d (x ∷ ps) = all_put-blocks (put d x.block x.offset x.new) ps
+with_places-blocks : (d : Disk) (ps : List Place) → (with_places d ps).blocks ≡ d.blocks
+with_places-blocks d [] = refl
+with_places-blocks d (x ∷ ps) = with_places-blocks (with_bytes d x.block x.offset x.new) ps
 
 undo-push : (d : Disk) (ps : List Patch) (p : Patch) → AreUndo d ps
-    → p.undo.items ≡ slice_range (all_put d (places_of ps)).bytes (128 * p.block + p.offset) (128 * p.block + p.offset + length p.new.items) → AreUndo d (ps ++ p ∷ [])
+    → p.undo.items ≡ slice_range (with_places d (places_of ps)).bytes (128 * p.block + p.offset) (128 * p.block + p.offset + length p.new.items) → AreUndo d (ps ++ p ∷ [])
 undo-push d [] p u here = (here, tt)
-undo-push d (x ∷ ps) p u here = (u.0, undo-push (put d x.block x.offset x.new.items) ps p u.1 here)
+undo-push d (x ∷ ps) p u here = (u.0, undo-push (with_bytes d x.block x.offset x.new.items) ps p u.1 here)
 
 pub emitted-push : (ps : List Place) (ls : List Label) (p : Place) (l : Label) → length ls ≡ length ps → emitted_by (ps ++ p ∷ []) (ls ++ l ∷ []) ≡ emitted_by ps ls ++ emitted_at p l ∷ []
 emitted-push [] [] p l same = refl
@@ -153,12 +153,12 @@ module _ (log : Log) (labels : List Label) (label : Label) (patch : Patch) (set 
       patch_same h = cc
 
   emit_core : patch.block < log.base.blocks → patch.undo.items ≡ slice_range log.written.bytes (128 * patch.block + patch.offset) (128 * patch.block + patch.offset + length patch.new.items)
-      → IsLog (record log { written = put log.written patch.block patch.offset patch.new.items; emitted = log.emitted ++ emitted_patch patch label ∷ []; patches = log.patches ++ record patch { deps = set } ∷ [] })
+      → IsLog (record log { written = with_bytes log.written patch.block patch.offset patch.new.items; emitted = log.emitted ++ emitted_patch patch label ∷ []; patches = log.patches ++ record patch { deps = set } ∷ [] })
   emit_core known undo = record {
     known = All-push (λ p. p.block < log.base.blocks) log.patches (record patch { deps = set }) is.known known;
-    written = ap (λ (d : Disk). put d patch.block patch.offset patch.new.items) is.written
-        ∙ sym (all_put-push log.base (places_of log.patches) (place patch.block patch.offset patch.new.items))
-        ∙ ap (λ (ps : List Place). all_put log.base ps) (sym placed);
+    written = ap (λ (d : Disk). with_bytes d patch.block patch.offset patch.new.items) is.written
+        ∙ sym (with_places-push log.base (places_of log.patches) (place patch.block patch.offset patch.new.items))
+        ∙ ap (λ (ps : List Place). with_places log.base ps) (sym placed);
     graph = record {
       places = placed ∙ ap (λ (ps : List Place). ps ++ place patch.block patch.offset patch.new.items ∷ []) is.graph.places ∙ sym (map_push (λ (e : Emitted). e.place) log.emitted (emitted_patch patch label));
       undo = undo-push log.base log.patches (record patch { deps = set }) is.graph.undo
@@ -233,14 +233,14 @@ pub log-emit : (log : Log) (labels : List Label) (label : Label) (patch added : 
     → IsLog log → length labels ≡ length log.patches → log.emitted ≡ emitted_by (places_of log.patches) labels
     → AddsOverlaps log.patches patch added → ((id : ℕ) → Has patch.deps id ↔ WaitsAt log.rules log.links labels label id)
     → patch.block < log.base.blocks → patch.undo.items ≡ slice_range log.written.bytes (128 * patch.block + patch.offset) (128 * patch.block + patch.offset + length patch.new.items)
-    → IsLog (record log { written = put log.written patch.block patch.offset patch.new.items; emitted = log.emitted ++ emitted_patch patch label ∷ []; patches = log.patches ++ added ∷ [] })
+    → IsLog (record log { written = with_bytes log.written patch.block patch.offset patch.new.items; emitted = log.emitted ++ emitted_patch patch label ∷ []; patches = log.patches ++ added ∷ [] })
 log-emit log labels label patch added is labelled emitted adds waits known undo =
     let eq : added ≡ record patch { deps = added.deps } = same_patch log.patches patch added adds in
-    subst (λ (a : Patch). IsLog (record log { written = put log.written patch.block patch.offset patch.new.items; emitted = log.emitted ++ emitted_patch patch label ∷ []; patches = log.patches ++ a ∷ [] })) (sym eq)
+    subst (λ (a : Patch). IsLog (record log { written = with_bytes log.written patch.block patch.offset patch.new.items; emitted = log.emitted ++ emitted_patch patch label ∷ []; patches = log.patches ++ a ∷ [] })) (sym eq)
     (emit_core log labels label patch added.deps is labelled emitted adds.deps waits known undo)
 
 pub written_blocks : (log : Log) → IsLog log → log.written.blocks ≡ log.base.blocks
-written_blocks log is = ap (λ (d : Disk). d.blocks) is.written ∙ all_put-blocks log.base (places_of log.patches)
+written_blocks log is = ap (λ (d : Disk). d.blocks) is.written ∙ with_places-blocks log.base (places_of log.patches)
 
 -- the same by what stands in the fields
 module _ (base written : Disk) (kind : Module) (rules : List Rule) (links : List (List ℕ × List ℕ)) (labels : List Label) (label : Label) (patches : List Patch) (patch added : Patch) where
@@ -265,14 +265,14 @@ module _ (base written : Disk) (kind : Module) (rules : List Rule) (links : List
   pub emit_fields : (new : List Patch) (labels' : List Label) (written' : Disk)
       → IsLog log_before → length labels ≡ length patches → AddsOverlaps patches patch added → ((id : ℕ) → Has patch.deps id ↔ WaitsAt rules links labels label id)
       → patch.block < base.blocks → patch.undo.items ≡ slice_range written.bytes (128 * patch.block + patch.offset) (128 * patch.block + patch.offset + length patch.new.items)
-      → new ≡ patches ++ added ∷ [] → labels' ≡ labels ++ label ∷ [] → written' ≡ put written patch.block patch.offset patch.new.items
+      → new ≡ patches ++ added ∷ [] → labels' ≡ labels ++ label ∷ [] → written' ≡ with_bytes written patch.block patch.offset patch.new.items
       → IsLog (record { base = base; written = written'; kind = kind; rules = rules; links = links; emitted = emitted_by (places_of new) labels'; patches = new }) × (length labels' ≡ length new)
   emit_fields new labels' written' is labelled adds waits known undo new_is labels_is written_is =
       let last = log-emit log_before labels label patch added is labelled refl adds waits known undo in
       let make : List Patch → List Emitted → Disk → Log = λ ps es d. record { base = base; written = d; kind = kind; rules = rules; links = links; emitted = es; patches = ps } in
       let es : emitted_by (places_of new) labels' ≡ emitted_by (places_of patches) labels ++ emitted_patch patch label ∷ [] =
       emitted_new new labels' labelled adds new_is labels_is in
-      let to : make new (emitted_by (places_of new) labels') written' ≡ make (patches ++ added ∷ []) (emitted_by (places_of patches) labels ++ emitted_patch patch label ∷ []) (put written patch.block patch.offset patch.new.items) =
+      let to : make new (emitted_by (places_of new) labels') written' ≡ make (patches ++ added ∷ []) (emitted_by (places_of patches) labels ++ emitted_patch patch label ∷ []) (with_bytes written patch.block patch.offset patch.new.items) =
       ap (λ (ps : List Patch). make ps (emitted_by (places_of new) labels') written') new_is
       ∙ ap (λ (xs : List Emitted). make (patches ++ added ∷ []) xs written') es
       ∙ ap (λ (d : Disk). make (patches ++ added ∷ []) (emitted_by (places_of patches) labels ++ emitted_patch patch label ∷ []) d) written_is in
@@ -310,9 +310,9 @@ undo_read d b o b' o' row undo bytes new same_b same_o fits row_is undo_is new_i
     ∙ block_range d b o (length bytes) fits
     ∙ ap (λ (xs : List ℕ). slice_range d.bytes (128 * b + o) (128 * b + o + length xs)) (sym new_is)
 
-pub put_read : (d e : Disk) (b o b' o' : ℕ) (bytes new : List ℕ) → b' ≡ b → o' ≡ o → e ≡ put d b' o' bytes → new ≡ bytes → e ≡ put d b o new
+pub put_read : (d e : Disk) (b o b' o' : ℕ) (bytes new : List ℕ) → b' ≡ b → o' ≡ o → e ≡ with_bytes d b' o' bytes → new ≡ bytes → e ≡ with_bytes d b o new
 put_read d e b o b' o' bytes new same_b same_o here new_is =
-    here ∙ ap (λ (k : ℕ). put d k o' bytes) same_b ∙ ap (λ (k : ℕ). put d b k bytes) same_o ∙ ap (λ (xs : List ℕ). put d b o xs) (sym new_is)
+    here ∙ ap (λ (k : ℕ). with_bytes d k o' bytes) same_b ∙ ap (λ (k : ℕ). with_bytes d b k bytes) same_o ∙ ap (λ (xs : List ℕ). with_bytes d b o xs) (sym new_is)
 
 pub waits_read : (rules rules' : List Rule) (set : ℕ) (links links' : List Link) (labels labels' : List Label) (label : Label) → rules' ≡ rules → links' ≡ links → labels' ≡ labels
     → ((id : ℕ) → Has set id ↔ WaitsAt rules' (links_by links') labels' label id) → (id : ℕ) → Has set id ↔ WaitsAt rules (links_by links) labels label id

@@ -1,11 +1,11 @@
 -- The steps before tracing, up to the first refused one.
 use Rattle.std.specs.Prelude.{◌≡◌, ◌⊎◌, List, [], ◌∷◌, Ok, Err}
 use Rattle.crash_model.specs.Disk.{Disk}
-use Rattle.crash_model.specs.Plan.{plan_of, applied}
+use Rattle.crash_model.specs.Plan.{plan_of, with_changes}
 use Rattle.crash_model.specs.View.{view_of}
 use Rattle.crash_model.specs.Meaning.{Means, IsRefused}
 use Rattle.crash_model.specs.Refusals.{trace_fault}
-use Rattle.crash_model.specs.declared.names.Op.{Op}
+use Rattle.crash_model.specs.declared.operations.Op.{Op}
 use Rattle.crash_model.specs.declared.refusals.FsFault.{FsFault}
 use Rattle.crash_model.specs.declared.refusals.TraceFault.{TraceFault}
 use Rattle.crash_model.specs.declared.refusals.TraceFault.TheVariants.{GroupFault}
@@ -16,7 +16,7 @@ use Rattle.crash_model.specs.declared.steps.Step.{Step}
 abbrev pub disk_before_refusal : Disk → List Step → Disk
 disk_before_refusal d [] = d
 disk_before_refusal d (x ∷ xs) = elim x.act [
-  | Do op ↦ elim (plan_of d op) [ Err e ↦ d | Ok changes ↦ disk_before_refusal (applied d changes) xs ]
+  | Do op ↦ elim (plan_of d op) [ Err e ↦ d | Ok changes ↦ disk_before_refusal (with_changes d changes) xs ]
   | _ ↦ d
 ]
 

@@ -1,12 +1,12 @@
 -- The patches so far.
 use Rattle.std.specs.Prelude.{◌≡◌, ℕ, ◌<◌, All, List, [], ◌∷◌, ◌++◌, ◌||◌, Some, slice_get, IsTrue}
 use Rattle.std.specs.List.{list_any}
-use Rattle.crash_model.specs.Disk.{Disk, put}
+use Rattle.crash_model.specs.Disk.{Disk, with_bytes}
 use Rattle.crash_model.specs.Patches.{Place, places_of}
-use Rattle.crash_model.specs.Trace.{Emitted, begun, IsGraphOf, groups_depend, applies}
+use Rattle.crash_model.specs.Trace.{Emitted, trace_start, IsGraphOf, groups_depend, applies}
 use Rattle.crash_model.specs.declared.patches.Patch.{Patch}
 use Rattle.crash_model.specs.declared.rules.Rule.{Rule}
-use Rattle.crash_model.specs.declared.steps.Module.{Module}
+use Rattle.crash_model.specs.declared.modules.Module.{Module}
 use Rattle.order_modules.specs.Labels.{emitted_of}
 use Rattle.order_modules.specs.declared.labels.Label.{Label}
 
@@ -22,15 +22,15 @@ pub record Log : Type 0 where
   pub patches : List Patch
 
 -- the disk with places put one after another
-abbrev pub all_put : Disk → List Place → Disk
-all_put d [] = d
-all_put d (p ∷ ps) = all_put (put d p.block p.offset p.new) ps
+abbrev pub with_places : Disk → List Place → Disk
+with_places d [] = d
+with_places d (p ∷ ps) = with_places (with_bytes d p.block p.offset p.new) ps
 
 -- the graph is that of the patches
 pub record IsLog (log : Log) : Type 0 where
-  pub written : log.written ≡ all_put log.base (places_of log.patches)
+  pub written : log.written ≡ with_places log.base (places_of log.patches)
   pub known : All (λ patch. patch.block < log.base.blocks) log.patches
-  pub graph : IsGraphOf log.rules log.base (record (begun log.base) { emitted = log.emitted; links = log.links }) log.patches
+  pub graph : IsGraphOf log.rules log.base (record (trace_start log.base) { emitted = log.emitted; links = log.links }) log.patches
 
 -- the log is over the same base, by the same ordering
 pub record Keeps (old new : Log) : Type 0 where

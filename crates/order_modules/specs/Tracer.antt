@@ -4,8 +4,8 @@ use Rattle.std.specs.Borrow.{Bor}
 use Rattle.crash_model.specs.Disk.{Disk, IsDisk}
 use Rattle.crash_model.specs.Trace.{Tracing}
 use Rattle.crash_model.specs.declared.refusals.TraceFault.{TraceFault}
-use Rattle.crash_model.specs.declared.steps.Module.{Module}
-use Rattle.crash_model.specs.declared.steps.Module.TheVariants.{Async, Soft, Meta, Full}
+use Rattle.crash_model.specs.declared.modules.Module.{Module}
+use Rattle.crash_model.specs.declared.modules.Module.TheVariants.{Async, Soft, Meta, Full}
 use Rattle.order_modules.specs.Log.{Log}
 
 abbrev pub names_by : List (Bor (List ℕ)) → List (List ℕ)

@@ -2,11 +2,11 @@
 use Rattle.std.specs.Prelude.{ℕ, ◌+◌, ◌==◌, List, [], ◌∷◌, ◌++◌, length, map, Bool, false, not}
 use Rattle.std.specs.List.{filter, list_any, range_with_len}
 use Rattle.crash_model.specs.Disk.{Disk}
-use Rattle.crash_model.specs.Trace.{Emitted, Origin, is_file_data, plain, part_of, copies}
+use Rattle.crash_model.specs.Trace.{Emitted, Origin, is_file_data, in_place_patch, part_of, copies}
 use Rattle.crash_model.specs.declared.rules.Part.TheVariants.{FileData, Commit, Done}
 use Rattle.crash_model.specs.declared.plans.Change.{Change}
-use Rattle.crash_model.specs.declared.steps.Module.{Module}
-use Rattle.crash_model.specs.declared.steps.Module.TheVariants.{Async, Soft, Meta, Full}
+use Rattle.crash_model.specs.declared.modules.Module.{Module}
+use Rattle.crash_model.specs.declared.modules.Module.TheVariants.{Async, Soft, Meta, Full}
 
 -- file data, which the metadata journal writes ahead of the transaction
 abbrev pub is_ahead : Module → Change → Bool
@@ -18,24 +18,24 @@ is_ahead Full c = false
 abbrev pub is_placed : Module → Change → Bool
 is_placed kind c = not (is_ahead kind c)
 
-abbrev pub ahead : Module → List Change → List Change
-ahead kind changes = filter (is_ahead kind) changes
+abbrev pub changes_ahead : Module → List Change → List Change
+changes_ahead kind changes = filter (is_ahead kind) changes
 
 -- the changes that are made in place
-abbrev pub placed : Module → List Change → List Change
-placed kind changes = filter (is_placed kind) changes
+abbrev pub changes_in_place : Module → List Change → List Change
+changes_in_place kind changes = filter (is_placed kind) changes
 
 abbrev pub file_data : ℕ → Origin → Change → Emitted
 file_data turn origin c = part_of turn origin FileData c.block c.offset c.new.items
 
 -- the blocks below n that the changes in place touch, ascending
 abbrev pub targets_of : Module → ℕ → List Change → List ℕ
-targets_of kind n changes = filter (λ b. list_any (λ c. c.block == b) (placed kind changes)) (range_with_len 0 n)
+targets_of kind n changes = filter (λ b. list_any (λ c. c.block == b) (changes_in_place kind changes)) (range_with_len 0 n)
 
 abbrev pub transaction_of : Module → Disk → ℕ → ℕ → Origin → List ℕ → List Change → List Emitted
 transaction_of kind after turn j origin targets changes =
-    map (file_data turn origin) (ahead kind changes)
+    map (file_data turn origin) (changes_ahead kind changes)
     ++ (copies after turn (j + 1) origin targets
     ++ (part_of turn origin Commit j 0 (0xC7 ∷ turn ∷ length targets ∷ targets)
-    ∷ (map (plain turn origin) (placed kind changes)
+    ∷ (map (in_place_patch turn origin) (changes_in_place kind changes)
     ++ (part_of turn origin Done j 0 (0xC8 ∷ []) ∷ []))))

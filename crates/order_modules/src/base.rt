@@ -1,7 +1,7 @@
 //! The disk that the steps before tracing lead to.
 
 ghost use Rattle.std.specs.Prelude.{◌≡◌, Ok, Err, OnOk, IfOk, IfErr};
-ghost use Rattle.crash_model.specs.Trace.{based};
+ghost use Rattle.crash_model.specs.Trace.{base_from};
 ghost use Rattle.crash_model.specs.Sound.{IsSound};
 ghost use Rattle.inode_fs.specs.Inside.{HasSameJournal};
 ghost use Rattle.order_modules.specs.Base.{disk_before_refusal, StepsTurn, StepsStop};
@@ -22,8 +22,8 @@ pub fn build_base<A: Allocator + Copy>(
     image: &mut Image<A>,
     steps: &[Step],
 ) -> Result<(), TraceFault>
-    ensures built { OnOk result (based image.old steps.now ≡ Ok image.new) }
-    ensures refused { IfErr result (λ fault. based image.old steps.now ≡ Err fault) }
+    ensures built { OnOk result (base_from image.old steps.now ≡ Ok image.new) }
+    ensures refused { IfErr result (λ fault. base_from image.old steps.now ≡ Err fault) }
     ensures before { image.new ≡ disk_before_refusal image.old steps.now }
     ensures journal { (image.new.journal ≡ image.old.journal) × HasSameJournal image.old image.new }
     ensures sound { IsSound image.old → IsSound image.new }

@@ -1,40 +1,20 @@
-//! The steps on patch groups (Frost et al., SOSP 2007), and the one that all steps go through.
+//! The steps on patch groups (Frost et al., SOSP 2007).
 
-ghost use Rattle.std.specs.Prelude.{◌≡◌, ◌≢◌, ◌<◌, ◌^◌, Err, All, IfErr, OnOk, bytes_eq};
+ghost use Rattle.std.specs.Prelude.{◌≡◌, ◌≢◌, Err, IfErr, OnOk, bytes_eq};
 ghost use Rattle.std.specs.List.{list_any};
 ghost use Rattle.crash_model.specs.Trace.{step as step_of};
 ghost use Rattle.crash_model.specs.declared.steps.Act.TheVariants.{Group, End, Depend};
 ghost use Rattle.crash_model.specs.declared.refusals.TraceFault.TheVariants as fault;
-ghost use Rattle.inode_fs.specs.Inside.{GivesName};
-ghost use Rattle.full_journal_laws.specs.Full.{ops_at};
 ghost use Rattle.order_modules.specs.Tracer.{Moves};
 
 use crate::tracer::Tracer;
 use crash_model::names::GroupName;
 use crash_model::refusals::TraceFault;
-use crash_model::steps::{Act, Step};
 use std::alloc::Allocator;
 
 impl<'a, A: Allocator + Copy> Tracer<'a, A> {
-    /// Takes a step of the script.
-    pub fn step(&mut self, step: &'a Step) -> Result<(), TraceFault>
-        requires { self.old.tracing.turn < 2 ^ 63 }
-        ensures ok { OnOk result (Moves self.old self.new
-            (step_of self.old.log.kind self.old.tracing step.now.line step.now.act)) }
-        ensures names { OnOk result (All GivesName (ops_at step.now.act)) }
-        ensures refused { IfErr result (λ refusal. refusal ≢ fault.OutOfMemory
-            → step_of self.old.log.kind self.old.tracing step.now.line step.now.act ≡ Err refusal) }
-    {
-        match &step.act {
-            Act::Do(op) => self.operate(step.line, op),
-            Act::Group(name) => self.open(step.line, name),
-            Act::End => self.end(step.line),
-            Act::Depend(later, earlier) => self.depend(step.line, later, earlier),
-        }
-    }
-
     /// Opens a group: none may be open, and this one may not have been opened before.
-    fn open(&mut self, line: usize, name: &'a GroupName) -> Result<(), TraceFault>
+    pub fn open(&mut self, line: usize, name: &'a GroupName) -> Result<(), TraceFault>
         ensures ok { OnOk result (Moves self.old self.new
             (step_of self.old.log.kind self.old.tracing line (Group name.now))) }
         ensures refused { IfErr result (λ refusal. refusal ≢ fault.OutOfMemory
@@ -49,7 +29,7 @@ impl<'a, A: Allocator + Copy> Tracer<'a, A> {
     }
 
     /// Ends the open group.
-    fn end(&mut self, line: usize) -> Result<(), TraceFault>
+    pub fn end(&mut self, line: usize) -> Result<(), TraceFault>
         ensures ok { OnOk result (Moves self.old self.new (step_of self.old.log.kind self.old.tracing line End)) }
         ensures refused { IfErr result (λ refusal. refusal ≢ fault.OutOfMemory
             → step_of self.old.log.kind self.old.tracing line End ≡ Err refusal) }
@@ -63,7 +43,7 @@ impl<'a, A: Allocator + Copy> Tracer<'a, A> {
     }
 
     /// Makes the patches that a group will get wait for those of an ended group.
-    fn depend(
+    pub fn depend(
         &mut self,
         line: usize,
         later: &'a GroupName,

@@ -5,7 +5,8 @@ ghost use Rattle.std.specs.List.{list_any};
 ghost use Rattle.crash_model.specs.Trace.{is_same_group, groups_depend, applies};
 ghost use Rattle.order_modules.specs.Labels.{group_by, links_by, emitted_of};
 
-use crash_model::names::{GroupName, Op};
+use crash_model::names::GroupName;
+use crash_model::operations::Op;
 use crash_model::rules::{Part, Rule};
 
 /// Where a patch comes from: its operation, the line that has it in the script, and the group that was open.

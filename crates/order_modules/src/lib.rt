@@ -11,15 +11,17 @@ mod groups;
 mod labels;
 mod log;
 mod reasons;
+mod stepping;
 mod traced;
 mod tracer;
 mod transactions;
 
 pub use base::build_base;
+pub use crash_model::modules::Module;
 pub use crash_model::names::GroupName;
 pub use crash_model::orderings::Ordering;
 pub use crash_model::refusals::TraceFault;
-pub use crash_model::steps::{Act, Module, Step};
+pub use crash_model::steps::{Act, Step};
 pub use labels::{Label, Origin};
 pub use reasons::{Reason, Reasons};
 pub use traced::Traced;

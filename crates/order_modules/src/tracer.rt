@@ -1,13 +1,13 @@
 //! The trace of a script: its operations, in order, turned into patches.
 
 ghost use Rattle.std.specs.Prelude.{◌≡◌, ◌≢◌, ℕ, ◌+◌, ◌<◌, ◌≤◌, ◌⊎◌, ◌^◌, [], length, Ok, Err, IfOk, IfErr, OnOk, All};
-ghost use Rattle.crash_model.specs.Trace.{Tracing, begun, planned, step as step_of, traced, IsGraphOf};
+ghost use Rattle.crash_model.specs.Trace.{Tracing, trace_start, trace_of_plan, step as step_of, trace_from, IsGraphOf};
 ghost use Rattle.crash_model.specs.Disk.{IsDisk};
 ghost use Rattle.crash_model.specs.Plan.{plan_of};
 ghost use Rattle.crash_model.specs.Rules.{AreAmong, rules_of};
 ghost use Rattle.crash_model.specs.declared.refusals.TraceFault.TheVariants as fault;
 ghost use Rattle.crash_model.specs.Sound.{IsSound, HasZeroJournal};
-ghost use Rattle.crash_model.specs.declared.steps.Module.TheVariants.{Full};
+ghost use Rattle.crash_model.specs.declared.modules.Module.TheVariants.{Full};
 ghost use Rattle.inode_fs.specs.Inside.{LiesInside, GivesName};
 ghost use Rattle.full_journal_laws.specs.Full.{ops_of, IsFullSafe};
 ghost use Rattle.order_modules.specs.Tracer.{Moves, IsOrdered, IsJournaled};
@@ -16,11 +16,13 @@ use crate::labels::Origin;
 use crate::log::PatchLog;
 use crate::traced::Traced;
 use crate::transactions::touched;
-use crash_model::names::{GroupName, Op};
+use crash_model::modules::Module;
+use crash_model::names::GroupName;
+use crash_model::operations::Op;
 use crash_model::orderings::Ordering;
 use crash_model::plans::Plan;
 use crash_model::refusals::TraceFault;
-use crash_model::steps::{Act, Module, Step};
+use crash_model::steps::{Act, Step};
 use disk_image::Image;
 use inode_fs::{apply, plan};
 use patch_graph::Graph;
@@ -45,11 +47,12 @@ pub fn trace<'a, A: Allocator + Copy>(
     steps: &'a [Step],
     ordering: &'a Ordering,
 ) -> Result<Traced<'a, A>, TraceFault>
-    ensures ok { IfOk result (λ t. (s : Tracing) × (traced ordering.now.«module» (begun image.now) steps.now ≡ Ok s)
+    ensures ok { IfOk result (λ t. (s : Tracing)
+        × (trace_from ordering.now.«module» (trace_start image.now) steps.now ≡ Ok s)
         × IsGraphOf ordering.now.rules.items image.now s t.patches × (t.emitted ≡ s.emitted) × (t.links ≡ s.links)) }
     ensures rules { IfOk result (λ t. t.rules ≡ ordering.now.rules.items) }
     ensures refused { IfErr result (λ refusal. refusal ≢ fault.OutOfMemory
-        → traced ordering.now.«module» (begun image.now) steps.now ≡ Err refusal) }
+        → trace_from ordering.now.«module» (trace_start image.now) steps.now ≡ Err refusal) }
     ensures fits { IfOk result (λ t. All (λ patch. patch.block < image.now.blocks) t.patches) }
     ensures names { IfOk result (λ _. All GivesName (ops_of steps.now)) }
     ensures full { ordering.now.«module» ≡ Full → AreAmong (rules_of Full) ordering.now.rules.items → IsSound image.now
@@ -71,10 +74,10 @@ pub fn trace_under<A: Allocator + Copy>(
     steps: &[Step],
     module: Module,
 ) -> Result<Graph<A>, TraceFault>
-    ensures ok { IfOk result (λ graph. (s : Tracing) × (traced «module» (begun image.now) steps.now ≡ Ok s)
+    ensures ok { IfOk result (λ graph. (s : Tracing) × (trace_from «module» (trace_start image.now) steps.now ≡ Ok s)
         × IsGraphOf (rules_of «module») image.now s graph) }
     ensures refused { IfErr result (λ refusal. refusal ≢ fault.OutOfMemory
-        → traced «module» (begun image.now) steps.now ≡ Err refusal) }
+        → trace_from «module» (trace_start image.now) steps.now ≡ Err refusal) }
     ensures fits { IfOk result (λ graph. All (λ patch. patch.block < image.now.blocks) graph) }
     ensures names { IfOk result (λ _. All GivesName (ops_of steps.now)) }
     ensures full { «module» ≡ Full → IsSound image.now → HasZeroJournal image.now
@@ -121,7 +124,7 @@ impl<'a, A: Allocator + Copy> Tracer<'a, A> {
         base: &'a Image<A>,
         ordering: &'a Ordering,
     ) -> Result<Tracer<'a, A>, AllocError>
-        ensures begun { IfOk result (λ t. (t.tracing ≡ begun base.now) × (t.log.base ≡ base.now)) }
+        ensures begun { IfOk result (λ t. (t.tracing ≡ trace_start base.now) × (t.log.base ≡ base.now)) }
         ensures ordering { IfOk result (λ t. (t.log.kind ≡ ordering.now.«module»)
             × (t.log.rules ≡ ordering.now.rules.items)) }
         ensures disk { IfOk result (λ _. IsDisk base.now) }
@@ -152,10 +155,10 @@ impl<'a, A: Allocator + Copy> Tracer<'a, A> {
     pub fn operate(&mut self, line: usize, op: &'a Op) -> Result<(), TraceFault>
         requires { self.old.tracing.turn < 2 ^ 63 }
         ensures ok { OnOk result (Moves self.old self.new
-            (planned self.old.log.kind line op.now self.old.tracing (plan_of self.old.tracing.disk op.now))) }
+            (trace_of_plan self.old.log.kind line op.now self.old.tracing (plan_of self.old.tracing.disk op.now))) }
         ensures name { OnOk result (GivesName op.now) }
         ensures refused { IfErr result (λ refusal. refusal ≢ fault.OutOfMemory
-            → planned self.old.log.kind line op.now self.old.tracing (plan_of self.old.tracing.disk op.now)
+            → trace_of_plan self.old.log.kind line op.now self.old.tracing (plan_of self.old.tracing.disk op.now)
             ≡ Err refusal) }
     {
         let plan = match plan(&self.disk, op) {
@@ -174,9 +177,9 @@ impl<'a, A: Allocator + Copy> Tracer<'a, A> {
         requires few { self.old.tracing.turn < 2 ^ 63 }
         requires inside { All (LiesInside self.old.tracing.disk.blocks) plan.now.items }
         ensures ok { OnOk result (Moves self.old self.new
-            (planned self.old.log.kind line op.now self.old.tracing (Ok plan.now.items))) }
+            (trace_of_plan self.old.log.kind line op.now self.old.tracing (Ok plan.now.items))) }
         ensures refused { IfErr result (λ refusal. refusal ≢ fault.OutOfMemory
-            → planned self.old.log.kind line op.now self.old.tracing (Ok plan.now.items) ≡ Err refusal) }
+            → trace_of_plan self.old.log.kind line op.now self.old.tracing (Ok plan.now.items) ≡ Err refusal) }
     {
         if !self.log.has_room(plan.len()) {
             return Err(TraceFault::TooManyPatches { line });
@@ -195,9 +198,9 @@ impl<'a, A: Allocator + Copy> Tracer<'a, A> {
         requires few { self.old.tracing.turn < 2 ^ 63 }
         requires inside { All (LiesInside self.old.tracing.disk.blocks) plan.now.items }
         ensures ok { OnOk result (Moves self.old self.new
-            (planned self.old.log.kind line op.now self.old.tracing (Ok plan.now.items))) }
+            (trace_of_plan self.old.log.kind line op.now self.old.tracing (Ok plan.now.items))) }
         ensures refused { IfErr result (λ refusal. refusal ≢ fault.OutOfMemory
-            → planned self.old.log.kind line op.now self.old.tracing (Ok plan.now.items) ≡ Err refusal) }
+            → trace_of_plan self.old.log.kind line op.now self.old.tracing (Ok plan.now.items) ≡ Err refusal) }
     {
         let targets = touched(self.log.module(), self.disk.blocks(), plan.as_slice());
         let next = self.next + 1 + targets.len();

@@ -2,19 +2,20 @@
 
 ghost use Rattle.std.specs.Prelude.{◌≡◌, ℕ, ◌+◌, ◌<◌, ◌≤◌, ◌==◌, [], ◌∷◌, ◌++◌, length, map, IsTrue, OnOk};
 ghost use Rattle.std.specs.List.{All, list_any, filter, range_with_len};
-ghost use Rattle.crash_model.specs.Trace.{plain, part_of, copies};
+ghost use Rattle.crash_model.specs.Trace.{in_place_patch, part_of, copies};
 ghost use Rattle.crash_model.specs.declared.rules.Part.TheVariants as part;
 ghost use Rattle.inode_fs.specs.Inside.{LiesInside};
 ghost use Rattle.order_modules.specs.Labels.{origin_by};
 ghost use Rattle.order_modules.specs.Log.{Adds, Keeps};
-ghost use Rattle.order_modules.specs.Transactions.{is_ahead, ahead, placed, file_data, targets_of, transaction_of};
+ghost use Rattle.order_modules.specs.Transactions.{is_ahead, changes_ahead, changes_in_place, file_data};
+ghost use Rattle.order_modules.specs.Transactions.{targets_of, transaction_of};
 
 use crate::labels::{Label, Origin};
 use crate::log::PatchLog;
 use arrayvec::ArrayVec;
+use crash_model::modules::Module;
 use crash_model::plans::{Change, Role};
 use crash_model::rules::Part;
-use crash_model::steps::Module;
 use disk_image::Image;
 use std::alloc::{AllocError, Allocator};
 
@@ -47,7 +48,7 @@ pub fn touched(module: Module, blocks: usize, changes: &[Change]) -> ArrayVec<u8
 
 /// Whether a change in place is in the block.
 fn is_touched(module: Module, block: usize, changes: &[Change]) -> bool
-    ensures { result ≡ list_any (λ c. c.block == block) (placed «module» changes.now) }
+    ensures { result ≡ list_any (λ c. c.block == block) (changes_in_place «module» changes.now) }
 {
     for change in changes {
         if usize::from(change.block) == block && !is_ahead(module, change) {
@@ -95,9 +96,9 @@ impl<'a, A: Allocator + Copy> PatchLog<'a, A> {
         changes: &[Change],
     ) -> Result<(), AllocError>
         requires inside { All (LiesInside self.old.base.blocks) changes.now }
-        requires room { length self.old.emitted + length (ahead self.old.kind changes.now) ≤ 124 }
+        requires room { length self.old.emitted + length (changes_ahead self.old.kind changes.now) ≤ 124 }
         ensures ok { OnOk result (Adds self.old self.new
-            (map (file_data turn (origin_by origin.entry)) (ahead self.old.kind changes.now))) }
+            (map (file_data turn (origin_by origin.entry)) (changes_ahead self.old.kind changes.now))) }
         ensures kept { Keeps self.old self.new }
     {
         for change in changes {
@@ -183,9 +184,9 @@ impl<'a, A: Allocator + Copy> PatchLog<'a, A> {
         changes: &[Change],
     ) -> Result<(), AllocError>
         requires inside { All (LiesInside self.old.base.blocks) changes.now }
-        requires room { length self.old.emitted + length (placed self.old.kind changes.now) ≤ 124 }
+        requires room { length self.old.emitted + length (changes_in_place self.old.kind changes.now) ≤ 124 }
         ensures ok { OnOk result (Adds self.old self.new
-            (map (plain turn (origin_by origin.entry)) (placed self.old.kind changes.now))) }
+            (map (in_place_patch turn (origin_by origin.entry)) (changes_in_place self.old.kind changes.now))) }
         ensures kept { Keeps self.old self.new }
     {
         for change in changes {

@@ -2,14 +2,14 @@
 use Rattle.std.proofs.Common.{◌≡◌, ℕ, ◌+◌, List, [], ◌∷◌, ◌++◌, length, map, Option, Some, None, refl, sym, ap, ◌∙◌, arith, length-append}
 use Rattle.std.specs.Prelude.{option_to_list, option_map}
 use Rattle.std.proofs.lemmas.List.{map-append, length-map}
-use Rattle.crash_model.specs.Lists.{joined, some_below, some_below-step}
+use Rattle.crash_model.specs.Lists.{join_of, some_below, some_below-step}
 use Rattle.serde_json.specs.Data.{Data}
 use Rattle.report_json.specs.JsonReport.{comma_before}
 use Rattle.report_json.proofs.Commas.{item_more}
 
 -- what there is of the first numbers, each of which has one
 pub record TellsBelow {X : Type 0} (form : X → List ℕ) (n : ℕ) (at : ℕ → Option X) (before all : List ℕ) : Type 0 where
-  pub whole : all ≡ before ++ joined 44 (map form (some_below n at))
+  pub whole : all ≡ before ++ join_of 44 (map form (some_below n at))
   pub number : length (some_below n at) ≡ n
 
 pub tells_more : {X : Type 0} (form : X → List ℕ) (n : ℕ) (at : ℕ → Option X) (x : X) (before all after text : List ℕ) → TellsBelow form n at before all → at n ≡ Some x → text ≡ form x → after ≡ all ++ comma_before n ++ text → TellsBelow form (n + 1) at before after
@@ -18,7 +18,7 @@ tells_more {X = X} form n at x before all after text tells is text_is more =
     let place : n ≡ length (map form (some_below n at)) = omega (arith, length-map (some_below n at) form, tells.number) in
     record {
       whole = item_more (map form (some_below n at)) n before all after (form x) place tells.whole (more ∙ ap (λ (t : List ℕ). all ++ comma_before n ++ t) text_is)
-          ∙ ap (λ (ts : List (List ℕ)). before ++ joined 44 ts) (sym (ap (map form) step ∙ map-append form (some_below n at) (x ∷ [])));
+          ∙ ap (λ (ts : List (List ℕ)). before ++ join_of 44 ts) (sym (ap (map form) step ∙ map-append form (some_below n at) (x ∷ [])));
       number = ap length step ∙ (length-append (some_below n at) (x ∷ []) ∙ ap (λ (k : ℕ). k + 1) tells.number);
     }
 

@@ -15,8 +15,8 @@ use Rattle.patch_sets.specs.declared.write.BlockWrite.{BlockWrite}
 use Rattle.serde_json.specs.Data.{Data, string, array}
 use Rattle.serde_json.specs.View.{items_of}
 use Rattle.serde_json.specs.Written.{compact_text, items_text, has_float, items_have_float}
-use Rattle.crash_model.specs.Lists.{joined}
-use Rattle.crash_model.specs.Report.{Section, ReplayedBlock, fault_text, quoted, json_array, ids_json, write_json, replayed_json, section_json}
+use Rattle.crash_model.specs.Lists.{join_of}
+use Rattle.crash_model.specs.Report.{Section, ReplayedBlock, fault_text, json_string, json_array, ids_json, write_json, replayed_json, section_json}
 use Rattle.crash_model.specs.declared.fault.Fault.{Fault}
 use Rattle.crash_model.specs.declared.fault.Fault.TheVariants.{Dangling, Twice, Unwritten, LowLinks, MarkedFree, Wild, Lost, NoBlock}
 use Rattle.report_json.specs.JsonReport.{IsWritten}
@@ -103,27 +103,27 @@ hex_plain (b ∷ bs) are =
     ∙ (ap (λ (t : List ℕ). slice_index lower_digits (b / 16) ∷ (t ++ escape (encode_lower bs))) low
     ∙ ap (λ (t : List ℕ). slice_index lower_digits (b / 16) ∷ (slice_index lower_digits (b % 16) ∷ t)) (hex_plain bs (λ i. are (suc i))))
 
-pub string_bytes : (text : List ℕ) → IsPlain text → compact_text (string text) ≡ quoted text
+pub string_bytes : (text : List ℕ) → IsPlain text → compact_text (string text) ≡ json_string text
 string_bytes text plain = ap (λ (t : List ℕ). 34 ∷ (t ++ 34 ∷ [])) plain
 
 -- ---- lists
 
-items_bytes : {X : Type 0} (f : X → Data) (g : X → List ℕ) → ((x : X) → compact_text (f x) ≡ g x) → (x : X) (xs : List X) → compact_text (f x) ++ items_text true (items_of (map f xs)) ≡ joined 44 (map g (x ∷ xs)) ++ 93 ∷ []
+items_bytes : {X : Type 0} (f : X → Data) (g : X → List ℕ) → ((x : X) → compact_text (f x) ≡ g x) → (x : X) (xs : List X) → compact_text (f x) ++ items_text true (items_of (map f xs)) ≡ join_of 44 (map g (x ∷ xs)) ++ 93 ∷ []
 items_bytes f g same x [] = ap (λ (t : List ℕ). t ++ 93 ∷ []) (same x)
 items_bytes f g same x (y ∷ ys) =
     ap (λ (t : List ℕ). t ++ (44 ∷ (compact_text (f y) ++ items_text true (items_of (map f ys))))) (same x)
-    ∙ (ap (λ (t : List ℕ). g x ++ (44 ∷ t)) (items_bytes f g same y ys) ∙ sym (append_assoc (g x) (44 ∷ joined 44 (map g (y ∷ ys))) (93 ∷ [])))
+    ∙ (ap (λ (t : List ℕ). g x ++ (44 ∷ t)) (items_bytes f g same y ys) ∙ sym (append_assoc (g x) (44 ∷ join_of 44 (map g (y ∷ ys))) (93 ∷ [])))
 
 pub array_bytes : {X : Type 0} (f : X → Data) (g : X → List ℕ) → ((x : X) → compact_text (f x) ≡ g x) → (xs : List X) → compact_text (array (items_of (map f xs))) ≡ json_array (map g xs)
 array_bytes f g same [] = refl
 array_bytes f g same (x ∷ xs) = ap (λ (t : List ℕ). 91 ∷ t) (items_bytes f g same x xs)
 
 -- the same of items with a property
-items_bytes_of : {X : Type 0} (P : X → Type 0) (f : X → Data) (g : X → List ℕ) → ((x : X) → P x → compact_text (f x) ≡ g x) → (x : X) (xs : List X) → P x → All P xs → compact_text (f x) ++ items_text true (items_of (map f xs)) ≡ joined 44 (map g (x ∷ xs)) ++ 93 ∷ []
+items_bytes_of : {X : Type 0} (P : X → Type 0) (f : X → Data) (g : X → List ℕ) → ((x : X) → P x → compact_text (f x) ≡ g x) → (x : X) (xs : List X) → P x → All P xs → compact_text (f x) ++ items_text true (items_of (map f xs)) ≡ join_of 44 (map g (x ∷ xs)) ++ 93 ∷ []
 items_bytes_of P f g same x [] first rest = ap (λ (t : List ℕ). t ++ 93 ∷ []) (same x first)
 items_bytes_of P f g same x (y ∷ ys) first rest =
     ap (λ (t : List ℕ). t ++ (44 ∷ (compact_text (f y) ++ items_text true (items_of (map f ys))))) (same x first)
-    ∙ (ap (λ (t : List ℕ). g x ++ (44 ∷ t)) (items_bytes_of P f g same y ys (All-head P y ys rest) (All-tail P y ys rest)) ∙ sym (append_assoc (g x) (44 ∷ joined 44 (map g (y ∷ ys))) (93 ∷ [])))
+    ∙ (ap (λ (t : List ℕ). g x ++ (44 ∷ t)) (items_bytes_of P f g same y ys (All-head P y ys rest) (All-tail P y ys rest)) ∙ sym (append_assoc (g x) (44 ∷ join_of 44 (map g (y ∷ ys))) (93 ∷ [])))
 
 pub array_bytes_of : {X : Type 0} (P : X → Type 0) (f : X → Data) (g : X → List ℕ) → ((x : X) → P x → compact_text (f x) ≡ g x) → (xs : List X) → All P xs → compact_text (array (items_of (map f xs))) ≡ json_array (map g xs)
 array_bytes_of P f g same [] are = refl
@@ -148,12 +148,12 @@ write_bytes patches w =
     spelt ∙ (ap form (ids_bytes patches w.ids) ∙ regroup_5 (codes "{\"block\":") (decimal w.block) (codes ",\"patches\":") (ids_json patches w.ids) (codes "}"))
 
 abbrev pub fault_json : Fault → List ℕ
-fault_json f = quoted (fault_text f)
+fault_json f = json_string (fault_text f)
 
 pub fault_bytes : (f : Fault) → compact_text (fault_data f) ≡ fault_json f
 fault_bytes f = string_bytes (fault_text f) (fault_plain f)
 
-pub hex_bytes : (bytes : List ℕ) → IsBytes bytes → compact_text (hex_data bytes) ≡ quoted (encode_lower bytes)
+pub hex_bytes : (bytes : List ℕ) → IsBytes bytes → compact_text (hex_data bytes) ≡ json_string (encode_lower bytes)
 hex_bytes bytes are = string_bytes (encode_lower bytes) (hex_plain bytes are)
 
 abbrev HasBytes : ReplayedBlock → Type 0
@@ -164,7 +164,7 @@ unfolding escape_byte
 replayed_bytes r are =
     let form = λ (bytes : List ℕ). codes "{\"block\":" ++ (decimal r.block ++ (codes ",\"bytes\":" ++ (bytes ++ codes "}"))) in
     let spelt : compact_text (replayed_data r) ≡ form (compact_text (hex_data r.bytes)) = refl in
-    spelt ∙ (ap form (hex_bytes r.bytes are) ∙ regroup_5 (codes "{\"block\":") (decimal r.block) (codes ",\"bytes\":") (quoted (encode_lower r.bytes)) (codes "}"))
+    spelt ∙ (ap form (hex_bytes r.bytes are) ∙ regroup_5 (codes "{\"block\":") (decimal r.block) (codes ",\"bytes\":") (json_string (encode_lower r.bytes)) (codes "}"))
 
 pub replay_bytes : (replay : List ReplayedBlock) → All HasBytes replay → compact_text (replay_data replay) ≡ json_array (map replayed_json replay)
 replay_bytes replay are = array_bytes_of HasBytes replayed_data replayed_json replayed_bytes replay are

@@ -4,7 +4,7 @@ use Rattle.std.specs.Fork.{slice_chunk}
 use Rattle.std.proofs.Math.Nat.{suc-mul, zero-mul}
 use Rattle.std.proofs.lemmas.List.{append-nil, length-map, length-drop, map-append}
 use Rattle.crash_model.specs.Disk.{Disk}
-use Rattle.crash_model.specs.Lists.{joined}
+use Rattle.crash_model.specs.Lists.{join_of}
 use Rattle.crash_model.specs.Report.{Section, section_json}
 use Rattle.crash_model.specs.declared.patches.Patch.{Patch}
 use Rattle.crash_model.specs.declared.settings.Detail.{Detail}
@@ -13,11 +13,11 @@ use Rattle.report_sections.proofs.Pushed.{length-sections}
 use Rattle.report_json.specs.JsonReport.{WritesSections, comma_before}
 
 -- a comma stands between two parts
-joined_behind : (x : List ℕ) (xs : List (List ℕ)) (y : List ℕ) (ys : List (List ℕ)) → joined 44 (x ∷ xs ++ y ∷ ys) ≡ joined 44 (x ∷ xs) ++ (44 ∷ joined 44 (y ∷ ys))
+joined_behind : (x : List ℕ) (xs : List (List ℕ)) (y : List ℕ) (ys : List (List ℕ)) → join_of 44 (x ∷ xs ++ y ∷ ys) ≡ join_of 44 (x ∷ xs) ++ (44 ∷ join_of 44 (y ∷ ys))
 joined_behind x [] y ys = refl
-joined_behind x (z ∷ zs) y ys = ap (λ (t : List ℕ). x ++ (44 ∷ t)) (joined_behind z zs y ys) ∙ sym (append_assoc x (44 ∷ joined 44 (z ∷ zs)) (44 ∷ joined 44 (y ∷ ys)))
+joined_behind x (z ∷ zs) y ys = ap (λ (t : List ℕ). x ++ (44 ∷ t)) (joined_behind z zs y ys) ∙ sym (append_assoc x (44 ∷ join_of 44 (z ∷ zs)) (44 ∷ join_of 44 (y ∷ ys)))
 
-joined_parts : (at : ℕ) (xs ys : List (List ℕ)) → (at ≡ 0 → length xs ≡ 0) → (0 < at → 0 < length xs) → 0 < length ys → joined 44 (xs ++ ys) ≡ joined 44 xs ++ (comma_before at ++ joined 44 ys)
+joined_parts : (at : ℕ) (xs ys : List (List ℕ)) → (at ≡ 0 → length xs ≡ 0) → (0 < at → 0 < length xs) → 0 < length ys → join_of 44 (xs ++ ys) ≡ join_of 44 xs ++ (comma_before at ++ join_of 44 ys)
 joined_parts zero [] ys none some more = refl
 joined_parts zero (x ∷ xs) ys none some more = absurd (omega (arith, none refl))
 joined_parts (suc n) [] ys none some more = absurd (omega (arith, some (omega arith)))
@@ -48,8 +48,8 @@ module _ (detail : Detail) (base : Disk) (patches : List Patch) (sets : List ℕ
       part_more sets size (λ (xs : List ℕ). WritesSections detail base patches xs head after) n record {
         sections = so_far.sections ++ one.sections;
         are = sections_join detail base patches (take (n * size) sets) (slice_chunk sets size n) so_far.sections one.sections so_far.are one.are;
-        whole = more ∙ (ap (λ (t : List ℕ). t ++ comma_before n ++ part) so_far.whole ∙ (ap (λ (t : List ℕ). head ++ joined 44 (map form so_far.sections) ++ comma_before n ++ t) one.whole
-            ∙ (regroup head (joined 44 (map form so_far.sections)) (comma_before n) (joined 44 (map form one.sections)) ∙ ap (λ (t : List ℕ). head ++ t) (sym both))));
+        whole = more ∙ (ap (λ (t : List ℕ). t ++ comma_before n ++ part) so_far.whole ∙ (ap (λ (t : List ℕ). head ++ join_of 44 (map form so_far.sections) ++ comma_before n ++ t) one.whole
+            ∙ (regroup head (join_of 44 (map form so_far.sections)) (comma_before n) (join_of 44 (map form one.sections)) ∙ ap (λ (t : List ℕ). head ++ t) (sym both))));
       }
     where
       before : length (map form so_far.sections) ≡ length (take (n * size) sets)
@@ -58,8 +58,8 @@ module _ (detail : Detail) (base : Disk) (patches : List Patch) (sets : List ℕ
       behind : length (map form one.sections) ≡ length (slice_chunk sets size n)
       behind = length-map one.sections form ∙ length-sections detail base patches (slice_chunk sets size n) one.sections one.are
 
-      both : joined 44 (map form (so_far.sections ++ one.sections)) ≡ joined 44 (map form so_far.sections) ++ (comma_before n ++ joined 44 (map form one.sections))
-      both = ap (λ (ts : List (List ℕ)). joined 44 ts) (map-append form so_far.sections one.sections)
+      both : join_of 44 (map form (so_far.sections ++ one.sections)) ≡ join_of 44 (map form so_far.sections) ++ (comma_before n ++ join_of 44 (map form one.sections))
+      both = ap (λ (ts : List (List ℕ)). join_of 44 ts) (map-append form so_far.sections one.sections)
           ∙ joined_parts n (map form so_far.sections) (map form one.sections) (λ e. before ∙ none_before n e) (λ positive. omega (arith, before, some_before n some full positive)) (omega (arith, behind, full))
 
       regroup : (a b c d : List ℕ) → a ++ b ++ c ++ d ≡ a ++ (b ++ (c ++ d))

@@ -14,12 +14,12 @@ use Rattle.serde_json.specs.declared.value.Value.{Value}
 use Rattle.crash_model.specs.Explain.{Dependency, ToldPatch, told_json, dependency_json, op_text, reasons}
 use Rattle.crash_model.specs.Lists.{some_below, when}
 use Rattle.crash_model.specs.Names.{is_name_byte, IsName}
-use Rattle.crash_model.specs.Report.{quoted, json_array}
+use Rattle.crash_model.specs.Report.{json_string, json_array}
 use Rattle.crash_model.specs.Rules.{role_text, part_text, rule_part_text, scope_text, rule_text}
 use Rattle.crash_model.specs.Script.{IsPath, IsAct, path_text}
 use Rattle.crash_model.specs.Trace.{Emitted, depends}
-use Rattle.crash_model.specs.declared.names.Op.{Op}
-use Rattle.crash_model.specs.declared.names.Op.TheVariants.{Create, Write, Link, Unlink, Rename, Mkdir, Rmdir}
+use Rattle.crash_model.specs.declared.operations.Op.{Op}
+use Rattle.crash_model.specs.declared.operations.Op.TheVariants.{Create, Write, Link, Unlink, Rename, Mkdir, Rmdir}
 use Rattle.crash_model.specs.declared.names.Path.{Path}
 use Rattle.crash_model.specs.declared.plans.Role.{Role}
 use Rattle.crash_model.specs.declared.plans.Role.TheVariants as role
@@ -169,7 +169,7 @@ unfolding escape_byte
 dependency_bytes w plain =
     let form = λ (why : List ℕ). codes "{\"patch\":" ++ (decimal w.id ++ (codes ",\"why\":" ++ (why ++ codes "}"))) in
     let spelt : compact_text (dependency_data w) ≡ form (compact_text (texts_data w.reasons)) = refl in
-    spelt ∙ (ap form (array_bytes_of IsPlain string quoted string_bytes w.reasons plain) ∙ regroup_5 (codes "{\"patch\":") (decimal w.id) (codes ",\"why\":") (json_array (map quoted w.reasons)) (codes "}"))
+    spelt ∙ (ap form (array_bytes_of IsPlain string json_string string_bytes w.reasons plain) ∙ regroup_5 (codes "{\"patch\":") (decimal w.id) (codes ",\"why\":") (json_array (map json_string w.reasons)) (codes "}"))
 
 -- ---- a patch
 
@@ -195,11 +195,11 @@ told_bytes t plain why =
     spelt
     ∙ (ap (λ (x : List ℕ). form x (compact_text (hex_data e.place.new)) (compact_text (string (part_text e.part))) (compact_text (string (op_text e.origin.op))) (compact_text (hex_data t.undo))) after
     ∙ (ap (λ (x : List ℕ). form (json_array (map dependency_json t.after)) x (compact_text (string (part_text e.part))) (compact_text (string (op_text e.origin.op))) (compact_text (hex_data t.undo))) new
-    ∙ (ap (λ (x : List ℕ). form (json_array (map dependency_json t.after)) (quoted (encode_lower e.place.new)) x (compact_text (string (op_text e.origin.op))) (compact_text (hex_data t.undo))) part
-    ∙ (ap (λ (x : List ℕ). form (json_array (map dependency_json t.after)) (quoted (encode_lower e.place.new)) (quoted (part_text e.part)) x (compact_text (hex_data t.undo))) step
-    ∙ (ap (λ (x : List ℕ). form (json_array (map dependency_json t.after)) (quoted (encode_lower e.place.new)) (quoted (part_text e.part)) (quoted (op_text e.origin.op)) x) undo
-    ∙ regroup_17 (codes "{\"after\":") (json_array (map dependency_json t.after)) (codes ",\"block\":") block (codes ",\"line\":") line (codes ",\"new\":") (quoted (encode_lower e.place.new)) (codes ",\"offset\":") offset
-    (codes ",\"part\":") (quoted (part_text e.part)) (codes ",\"step\":") (quoted (op_text e.origin.op)) (codes ",\"undo\":") (quoted (encode_lower t.undo)) (codes "}"))))))
+    ∙ (ap (λ (x : List ℕ). form (json_array (map dependency_json t.after)) (json_string (encode_lower e.place.new)) x (compact_text (string (op_text e.origin.op))) (compact_text (hex_data t.undo))) part
+    ∙ (ap (λ (x : List ℕ). form (json_array (map dependency_json t.after)) (json_string (encode_lower e.place.new)) (json_string (part_text e.part)) x (compact_text (hex_data t.undo))) step
+    ∙ (ap (λ (x : List ℕ). form (json_array (map dependency_json t.after)) (json_string (encode_lower e.place.new)) (json_string (part_text e.part)) (json_string (op_text e.origin.op)) x) undo
+    ∙ regroup_17 (codes "{\"after\":") (json_array (map dependency_json t.after)) (codes ",\"block\":") block (codes ",\"line\":") line (codes ",\"new\":") (json_string (encode_lower e.place.new)) (codes ",\"offset\":") offset
+    (codes ",\"part\":") (json_string (part_text e.part)) (codes ",\"step\":") (json_string (op_text e.origin.op)) (codes ",\"undo\":") (json_string (encode_lower t.undo)) (codes "}"))))))
 
 dependency_no_float : (w : Dependency) → has_float (dependency_data w) ≡ false
 dependency_no_float w = rw (none_float string (λ _. refl) w.reasons) refl

@@ -6,7 +6,7 @@ use Rattle.json.specs.Print.{escape_byte}
 use Rattle.serde_json.specs.Data.{Data, string}
 use Rattle.serde_json.specs.Written.{compact_text}
 use Rattle.crash_model.specs.Needs.{RuleUsage, Unused, TooMany, Used, ToldRule, told_rule_json}
-use Rattle.crash_model.specs.Report.{Section, quoted, section_json}
+use Rattle.crash_model.specs.Report.{Section, json_string, section_json}
 use Rattle.crash_model.specs.Rules.{role_text, rule_part_text, scope_text, rule_text}
 use Rattle.crash_model.specs.declared.plans.Role.{Role}
 use Rattle.crash_model.specs.declared.plans.Role.TheVariants.{InodeInit, EntrySet, EntryClear, MapSet, MapClear, InitFile, InitDir, Ptr, LinkUp, LinkDown, InodeFree}
@@ -92,7 +92,7 @@ used_bytes pairs closed failing rule first =
 
 module _ (patches : ℕ) (rule : Rule) where
   text : List ℕ
-  text = quoted (rule_text rule)
+  text = json_string (rule_text rule)
 
   spelt : compact_text (string (rule_text rule)) ≡ text
   unfolding text

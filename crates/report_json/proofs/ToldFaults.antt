@@ -6,7 +6,7 @@ use Rattle.patch_sets.specs.declared.write.BlockWrite.{BlockWrite}
 use Rattle.json.specs.Print.{escape_byte}
 use Rattle.serde_json.specs.Data.{Data}
 use Rattle.serde_json.specs.Written.{compact_text, has_float}
-use Rattle.crash_model.specs.Report.{ReplayedBlock, fault_text, quoted, json_array, ids_json, write_json, writes_json, replayed_json, replay_json}
+use Rattle.crash_model.specs.Report.{ReplayedBlock, fault_text, json_string, json_array, ids_json, write_json, writes_json, replayed_json, replay_json}
 use Rattle.crash_model.specs.declared.fault.Fault.{Fault}
 use Rattle.report_json.specs.JsonReport.{IsWritten}
 use Rattle.report_json.specs.ToldFaults.{told_fault_data}
@@ -22,7 +22,7 @@ regroup_13 a b c k l m d e f g h i j = simp append_assoc
 -- the text of the object, by its parts
 abbrev pub object_text : ℕ → Fault → ℕ → ℕ → List BlockWrite → Option (List ReplayedBlock) → List ℕ
 object_text patches fault sets set writes replay =
-    codes "{\"fault\":" ++ quoted (fault_text fault) ++ codes ","
+    codes "{\"fault\":" ++ json_string (fault_text fault) ++ codes ","
     ++ replay_json replay
     ++ codes "\"set\":" ++ ids_json patches set
     ++ codes ",\"sets\":" ++ decimal sets
@@ -37,9 +37,9 @@ object_bytes patches fault sets set writes None are =
     let ws = array_bytes (write_data patches) (write_json patches) (write_bytes patches) writes in
     spelt
     ∙ (ap (λ (t : List ℕ). form t (compact_text (ids_data patches set)) (compact_text (writes_data patches writes))) (fault_bytes fault)
-    ∙ (ap (λ (t : List ℕ). form (quoted (fault_text fault)) t (compact_text (writes_data patches writes))) ids
-    ∙ (ap (λ (t : List ℕ). form (quoted (fault_text fault)) (ids_json patches set) t) ws
-    ∙ regroup_10 (codes "{\"fault\":") (quoted (fault_text fault)) (codes ",") (codes "\"set\":") (ids_json patches set) (codes ",\"sets\":") (decimal sets) (codes ",\"writes\":") (writes_json patches writes) (codes "}"))))
+    ∙ (ap (λ (t : List ℕ). form (json_string (fault_text fault)) t (compact_text (writes_data patches writes))) ids
+    ∙ (ap (λ (t : List ℕ). form (json_string (fault_text fault)) (ids_json patches set) t) ws
+    ∙ regroup_10 (codes "{\"fault\":") (json_string (fault_text fault)) (codes ",") (codes "\"set\":") (ids_json patches set) (codes ",\"sets\":") (decimal sets) (codes ",\"writes\":") (writes_json patches writes) (codes "}"))))
 object_bytes patches fault sets set writes (Some replay) are =
     let form = λ (f rs ids ws : List ℕ). codes "{\"fault\":" ++ (f ++ (codes ",\"replay\":" ++ (rs ++ (codes ",\"set\":" ++ (ids ++ (codes ",\"sets\":" ++ (decimal sets ++ (codes ",\"writes\":" ++ (ws ++ codes "}"))))))))) in
     let spelt : compact_text (told_fault_data patches fault sets set writes (Some replay)) ≡ form (compact_text (fault_data fault)) (compact_text (replay_data replay)) (compact_text (ids_data patches set)) (compact_text (writes_data patches writes)) = refl in
@@ -48,10 +48,10 @@ object_bytes patches fault sets set writes (Some replay) are =
     let ws = array_bytes (write_data patches) (write_json patches) (write_bytes patches) writes in
     spelt
     ∙ (ap (λ (t : List ℕ). form t (compact_text (replay_data replay)) (compact_text (ids_data patches set)) (compact_text (writes_data patches writes))) (fault_bytes fault)
-    ∙ (ap (λ (t : List ℕ). form (quoted (fault_text fault)) t (compact_text (ids_data patches set)) (compact_text (writes_data patches writes))) rs
-    ∙ (ap (λ (t : List ℕ). form (quoted (fault_text fault)) (json_array (map replayed_json replay)) t (compact_text (writes_data patches writes))) ids
-    ∙ (ap (λ (t : List ℕ). form (quoted (fault_text fault)) (json_array (map replayed_json replay)) (ids_json patches set) t) ws
-    ∙ regroup_13 (codes "{\"fault\":") (quoted (fault_text fault)) (codes ",") (codes "\"replay\":") (json_array (map replayed_json replay)) (codes ",") (codes "\"set\":") (ids_json patches set) (codes ",\"sets\":") (decimal sets) (codes ",\"writes\":") (writes_json patches writes) (codes "}")))))
+    ∙ (ap (λ (t : List ℕ). form (json_string (fault_text fault)) t (compact_text (ids_data patches set)) (compact_text (writes_data patches writes))) rs
+    ∙ (ap (λ (t : List ℕ). form (json_string (fault_text fault)) (json_array (map replayed_json replay)) t (compact_text (writes_data patches writes))) ids
+    ∙ (ap (λ (t : List ℕ). form (json_string (fault_text fault)) (json_array (map replayed_json replay)) (ids_json patches set) t) ws
+    ∙ regroup_13 (codes "{\"fault\":") (json_string (fault_text fault)) (codes ",") (codes "\"replay\":") (json_array (map replayed_json replay)) (codes ",") (codes "\"set\":") (ids_json patches set) (codes ",\"sets\":") (decimal sets) (codes ",\"writes\":") (writes_json patches writes) (codes "}")))))
 
 object_no_float : (patches : ℕ) (fault : Fault) (sets set : ℕ) (writes : List BlockWrite) (replay : Option (List ReplayedBlock)) → has_float (told_fault_data patches fault sets set writes replay) ≡ false
 object_no_float patches fault sets set writes None =

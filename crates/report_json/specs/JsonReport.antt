@@ -1,6 +1,6 @@
 -- Reports as JSON.
 use Rattle.std.specs.Prelude.{◌≡◌, ℕ, zero, suc, List, [], ◌++◌, length, map, if◌then◌else◌, Bool, false, codes, decimal}
-use Rattle.crash_model.specs.Lists.{joined}
+use Rattle.crash_model.specs.Lists.{join_of}
 use Rattle.crash_model.specs.Disk.{Disk}
 use Rattle.serde_json.specs.Data.{Data}
 use Rattle.serde_json.specs.Written.{compact_text, has_float}
@@ -13,7 +13,7 @@ use Rattle.crash_model.specs.Whole.{early_json, late_json}
 use Rattle.crash_model.specs.declared.fault.FaultRow.{FaultRow}
 use Rattle.crash_model.specs.declared.patches.Patch.{Patch}
 use Rattle.crash_model.specs.declared.settings.Detail.{Detail}
-use Rattle.crash_model.specs.declared.steps.Module.{Module}
+use Rattle.crash_model.specs.declared.modules.Module.{Module}
 use Rattle.order_modules.specs.Traced.{TracedPatches}
 use Rattle.report_sections.specs.Bodies.{TellsBody}
 use Rattle.report_sections.specs.ToldRules.{told_rule}
@@ -61,15 +61,15 @@ WritesLate report old new =
 pub record WritesSections (detail : Detail) (base : Disk) (patches : List Patch) (sets old new : List ℕ) : Type 0 where
   pub sections : List Section
   pub are : AreSections detail base patches sets sections
-  pub whole : new ≡ old ++ joined 44 (map (section_json (length patches)) sections)
+  pub whole : new ≡ old ++ join_of 44 (map (section_json (length patches)) sections)
 
 -- the same of the objects of these rows
 pub record WritesFaults (detail : Detail) (base : Disk) (patches : List Patch) (rows : List FaultRow) (old new : List ℕ) : Type 0 where
   pub told : List ToldFault
   pub of_rows : map (λ t. t.row) told ≡ rows
   pub firsts : AreSections detail base patches (map (λ row. row.first) rows) (map (λ t. t.first) told)
-  pub whole : new ≡ old ++ joined 44 (map (told_fault_json (length patches)) told)
+  pub whole : new ≡ old ++ join_of 44 (map (told_fault_json (length patches)) told)
 
 -- and of the objects of these rules, of n patches
 abbrev pub WritesRules : {A : Type 0} → ℕ → List (ToldRule A) → List ℕ → List ℕ → Type 0
-WritesRules n rules old new = new ≡ old ++ joined 44 (map (λ rule. told_rule_json n (told_rule rule)) rules)
+WritesRules n rules old new = new ≡ old ++ join_of 44 (map (λ rule. told_rule_json n (told_rule rule)) rules)

@@ -1,15 +1,15 @@
 //! The keys that every report has.
 
 ghost use Rattle.std.specs.Prelude.{◌≡◌, ◌++◌, map, string_bytes, OnOk};
-ghost use Rattle.crash_model.specs.Lists.{joined};
-ghost use Rattle.crash_model.specs.Report.{quoted};
+ghost use Rattle.crash_model.specs.Lists.{join_of};
+ghost use Rattle.crash_model.specs.Report.{json_string};
 ghost use Rattle.crash_model.specs.Rules.{rule_text};
 ghost use Rattle.crash_model.specs.Whole.{rules_json};
 ghost use Rattle.report_json.specs.JsonReport.{module_key, strict_key};
 
 use crate::items::write_comma;
+use crash_model::modules::Module;
 use crash_model::rules::Rule;
-use crash_model::steps::Module;
 use std::alloc::AllocError;
 
 /// The module and the number of patches.
@@ -53,7 +53,7 @@ pub(crate) fn write_rule_key(out: &mut String, key: &str, rules: &[Rule]) -> Res
 /// The texts of the rules, with a comma between two.
 fn write_rule_texts(out: &mut String, rules: &[Rule]) -> Result<(), AllocError>
     ensures { OnOk result (string_bytes out.new
-        ≡ string_bytes out.old ++ joined 44 (map (λ r. quoted (rule_text r)) rules.now)) }
+        ≡ string_bytes out.old ++ join_of 44 (map (λ r. json_string (rule_text r)) rules.now)) }
 {
     for (at, rule) in rules.iter().enumerate() {
         let rule = *rule;

@@ -2,7 +2,7 @@
 
 ghost use Rattle.std.specs.Prelude.{◌≡◌, ◌++◌, ◌<◌, length, map, string_bytes, IfOk, OnOk, Some, option_map, option_to_list, slice_get};
 ghost use Rattle.crash_model.specs.Explain.{ToldPatch, told_json, hex_json, blocks_of, op_text};
-ghost use Rattle.crash_model.specs.Lists.{joined, some_below};
+ghost use Rattle.crash_model.specs.Lists.{join_of, some_below};
 ghost use Rattle.crash_model.specs.Patches.{place};
 ghost use Rattle.crash_model.specs.Script.{IsAct};
 ghost use Rattle.crash_model.specs.Trace.{Emitted};
@@ -18,7 +18,7 @@ ghost use Rattle.serde_json.specs.View.{view};
 
 use crate::items::write_item;
 use crate::values::hex_value;
-use crash_model::names::Op;
+use crash_model::operations::Op;
 use crash_model::patches::Patch;
 use disk_image::Image;
 use order_modules::{Label, Reason, Traced};
@@ -41,7 +41,7 @@ pub(crate) fn write_base<A: Allocator + Copy>(
 /// The bytes of each block, with a comma between two.
 fn write_blocks<A: Allocator + Copy>(out: &mut String, base: &Image<A>) -> Result<(), AllocError>
     ensures { OnOk result (string_bytes out.new
-        ≡ string_bytes out.old ++ joined 44 (map hex_json (blocks_of base.now))) }
+        ≡ string_bytes out.old ++ join_of 44 (map hex_json (blocks_of base.now))) }
 {
     let heap = *out.allocator();
     for block in 0..base.blocks() {
@@ -71,7 +71,7 @@ fn write_patches<A: Allocator + Copy>(
     traced: &Traced<'_, A>,
 ) -> Result<(), AllocError>
     ensures { OnOk result (string_bytes out.new
-        ≡ string_bytes out.old ++ joined 44 (map told_json
+        ≡ string_bytes out.old ++ join_of 44 (map told_json
         (some_below (length traced.now.patches) (told_at traced.now)))) }
 {
     let heap = *out.allocator();

@@ -7,7 +7,7 @@ ghost use Rattle.hex.specs.Hex.{IsBytes};
 ghost use Rattle.report_json.specs.JsonReport.{IsWritten};
 ghost use Rattle.report_json.specs.ToldFaults.{told_fault_data};
 ghost use Rattle.report_sections.specs.Replay.{told_block};
-ghost use Rattle.report_sections.specs.Sections.{told};
+ghost use Rattle.report_sections.specs.Sections.{section_of};
 ghost use Rattle.serde_json.specs.View.{view};
 
 use crate::values::{ids_value, replay_value, writes_value};
@@ -25,7 +25,7 @@ pub(crate) fn told_fault_value<A: Allocator>(
     first: &Section<A>,
 ) -> Result<Value, AllocError>
     ensures { IfOk result (λ value.
-        IsWritten (view value) (told_fault_json patches (record { row = row.now; first = told first.now }))) }
+        IsWritten (view value) (told_fault_json patches (record { row = row.now; first = section_of first.now }))) }
 {
     match &first.replay {
         None => plain_value(heap, patches, row, first),

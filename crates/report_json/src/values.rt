@@ -6,7 +6,7 @@ ghost use Rattle.crash_model.specs.Report.{section_json};
 ghost use Rattle.hex.specs.Hex.{IsBytes};
 ghost use Rattle.serde_json.specs.View.{view};
 ghost use Rattle.report_sections.specs.Replay.{told_block};
-ghost use Rattle.report_sections.specs.Sections.{told};
+ghost use Rattle.report_sections.specs.Sections.{section_of};
 ghost use Rattle.report_json.specs.JsonReport.{IsWritten};
 ghost use Rattle.report_json.specs.Values.{set_data, ids_data, write_data, writes_data, faults_data, hex_data, replayed_data, replay_data};
 
@@ -23,7 +23,7 @@ pub(crate) fn section_value<A: Allocator>(
     patches: usize,
     section: &Section<A>,
 ) -> Result<Value, AllocError>
-    ensures { IfOk result (λ value. IsWritten (view value) (section_json patches (told section.now))) }
+    ensures { IfOk result (λ value. IsWritten (view value) (section_json patches (section_of section.now))) }
 {
     match &section.replay {
         None => plain_section(heap, patches, section),

@@ -13,7 +13,7 @@ use Rattle.crash_model.specs.declared.fault.FaultRow.{FaultRow}
 use Rattle.crash_model.specs.declared.patches.Patch.{Patch}
 use Rattle.crash_model.specs.declared.settings.Detail.{Detail}
 use Rattle.report_sections.specs.declared.section.Section.{Section}
-use Rattle.report_sections.specs.Sections.{told, IsSection}
+use Rattle.report_sections.specs.Sections.{section_of, IsSection}
 use Rattle.report_sections.proofs.Pushed.{sections_push}
 
 -- the sections of some sets and then of others are those of them all
@@ -62,7 +62,7 @@ module _ {A : Type 0} (rows : List FaultRow) (i : ℕ) (d : FaultRow) (so_far : 
 
   -- the next row with its section
   abbrev one : ToldFault
-  one = record { row = row; first = told s }
+  one = record { row = row; first = section_of s }
 
   abbrev row_of : ToldFault → FaultRow
   row_of t = t.row
@@ -82,5 +82,5 @@ module _ {A : Type 0} (rows : List FaultRow) (i : ℕ) (d : FaultRow) (so_far : 
       → AreSections detail base patches (map first_of (take (i + 1) rows)) (map told_of (so_far ++ one ∷ []))
   firsts_more detail base patches firsts is =
       subst (λ (ss : List report.Section). AreSections detail base patches (map first_of (take (i + 1) rows)) ss) (sym (map-append told_of so_far (one ∷ [])))
-      (subst (λ (sets : List ℕ). AreSections detail base patches sets (map told_of so_far ++ told s ∷ [])) (sym (ap (map first_of) (take_more rows i d within) ∙ map-append first_of (take i rows) (row ∷ [])))
+      (subst (λ (sets : List ℕ). AreSections detail base patches sets (map told_of so_far ++ section_of s ∷ [])) (sym (ap (map first_of) (take_more rows i d within) ∙ map-append first_of (take i rows) (row ∷ [])))
       (sections_push detail base patches (map first_of (take i rows)) row.first (map told_of so_far) s firsts is))

@@ -2,16 +2,16 @@
 use Rattle.std.proofs.Common.{◌≡◌, ℕ, ◌+◌, Bool, true, false, List, [], ◌∷◌, refl, ap, ◌∙◌}
 use Rattle.std.specs.Prelude.{if◌then◌else◌}
 use Rattle.patch_sets.specs.Sets.{has}
-use Rattle.crash_model.specs.Disk.{Disk, put}
+use Rattle.crash_model.specs.Disk.{Disk, with_bytes}
 use Rattle.crash_model.specs.Patches.{Place, places_of, image_from, image_of}
 use Rattle.crash_model.specs.declared.patches.Patch.{Patch}
 use Rattle.report_sections.specs.Maker.{IsMaker}
 
 image_size : (id : ℕ) (d : Disk) (places : List Place) (set : ℕ) → (image_from id d places set).blocks ≡ d.blocks
 image_size id d [] set = refl
-image_size id d (p ∷ ps) set = image_size (id + 1) (if has set id then put d p.block p.offset p.new else d) ps set ∙ one (has set id)
+image_size id d (p ∷ ps) set = image_size (id + 1) (if has set id then with_bytes d p.block p.offset p.new else d) ps set ∙ one (has set id)
   where
-    one : (test : Bool) → (if test then put d p.block p.offset p.new else d).blocks ≡ d.blocks
+    one : (test : Bool) → (if test then with_bytes d p.block p.offset p.new else d).blocks ≡ d.blocks
     one true = refl
     one false = refl
 

@@ -3,7 +3,7 @@ use Rattle.std.specs.Prelude.{◌≡◌, ℕ, List}
 use Rattle.patch_sets.specs.Writes.{AreRuns}
 use Rattle.crash_model.specs.Disk.{Disk}
 use Rattle.crash_model.specs.Patches.{homes_of, image_of}
-use Rattle.crash_model.specs.Replay.{replayed}
+use Rattle.crash_model.specs.Replay.{image_after_replay}
 use Rattle.crash_model.specs.Report as report
 use Rattle.crash_model.specs.Report.{replay_of}
 use Rattle.crash_model.specs.Strict.{faults_under}
@@ -13,11 +13,11 @@ use Rattle.report_sections.specs.Replay.{told_replay}
 use Rattle.report_sections.specs.declared.section.Section.{Section}
 
 -- a section as the report's definition sees it
-abbrev pub told : {A : Type 0} → Section A → report.Section
-told s = record { set = s.set; writes = s.writes.items; replay = told_replay s.replay; found = s.faults.items }
+abbrev pub section_of : {A : Type 0} → Section A → report.Section
+section_of s = record { set = s.set; writes = s.writes.items; replay = told_replay s.replay; found = s.faults.items }
 
 pub record IsSection {A : Type 0} (detail : Detail) (base : Disk) (patches : List Patch) (set : ℕ) (s : Section A) : Type 0 where
   pub of_set : s.set ≡ set
   pub runs : AreRuns (homes_of patches) set s.writes.items
   pub replay : told_replay s.replay ≡ replay_of detail.explain (image_of base patches set)
-  pub faults : s.faults.items ≡ faults_under detail.kept (replayed (image_of base patches set))
+  pub faults : s.faults.items ≡ faults_under detail.kept (image_after_replay (image_of base patches set))

@@ -1,7 +1,7 @@
 -- What is told of a rule, as the report's definition sees it.
 use Rattle.std.specs.Prelude.{option_map}
 use Rattle.crash_model.specs.Needs as needs
-use Rattle.report_sections.specs.Sections.{told}
+use Rattle.report_sections.specs.Sections.{section_of}
 use Rattle.report_sections.specs.declared.rules.RuleUsage.{RuleUsage}
 use Rattle.report_sections.specs.declared.rules.RuleUsage.TheVariants.{Unused, TooMany, Used}
 use Rattle.report_sections.specs.declared.rules.ToldRule.{ToldRule}
@@ -9,7 +9,7 @@ use Rattle.report_sections.specs.declared.rules.ToldRule.{ToldRule}
 abbrev pub usage_of : {A : Type 0} → RuleUsage A → needs.RuleUsage
 usage_of Unused = needs.Unused
 usage_of (TooMany pairs) = needs.TooMany pairs
-usage_of (Used pairs closed failing first) = needs.Used pairs (record { closed = closed; failing = failing; first = option_map told first })
+usage_of (Used pairs closed failing first) = needs.Used pairs (record { closed = closed; failing = failing; first = option_map section_of first })
 
 abbrev pub told_rule : {A : Type 0} → ToldRule A → needs.ToldRule
 told_rule t = record { rule = t.rule; usage = usage_of t.usage }

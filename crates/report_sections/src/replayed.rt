@@ -2,7 +2,7 @@
 
 ghost use Rattle.std.specs.Prelude.{◌≡◌, ◌<◌, IfOk, OnOk, map};
 ghost use Rattle.crash_model.specs.Disk.{block_of};
-ghost use Rattle.crash_model.specs.Replay.{replayed};
+ghost use Rattle.crash_model.specs.Replay.{image_after_replay};
 ghost use Rattle.crash_model.specs.Report.{changed_blocks, replay_of};
 ghost use Rattle.report_sections.specs.Replay.{told_block, told_replay};
 
@@ -25,7 +25,7 @@ pub(crate) fn replay_and_tell<A: Allocator + Copy>(
     explain: bool,
 ) -> Result<Option<Vec<ReplayedBlock, A>>, AllocError>
     ensures size { image.new.blocks ≡ image.old.blocks }
-    ensures replayed { OnOk result (image.new ≡ replayed image.old) }
+    ensures replayed { OnOk result (image.new ≡ image_after_replay image.old) }
     ensures told { IfOk result (λ replay. told_replay replay ≡ replay_of explain image.old) }
 {
     if !explain {

@@ -4,7 +4,7 @@ use Rattle.std.specs.Prelude.{slice_get, option_to_list, not, ◌==◌}
 use Rattle.std.specs.List.{flat_map}
 use Rattle.std.proofs.lemmas.List.{append-nil, length-map, map-append, take_more}
 use Rattle.std.proofs.lemmas.List.Concat.{flat_map-append}
-use Rattle.crash_model.specs.Explain.{Dependency, ToldPatch, told_text, dependency_text, reasons, listed}
+use Rattle.crash_model.specs.Explain.{Dependency, ToldPatch, told_text, dependency_text, reasons, list_text}
 use Rattle.crash_model.specs.Lists.{some_below, some_below-step}
 use Rattle.crash_model.specs.Trace.{Emitted, depends}
 use Rattle.crash_model.specs.declared.patches.Patch.{Patch}
@@ -38,11 +38,11 @@ none_told t q p earlier n before at some none =
 
 -- where there are some, they are told
 pub some_told : (t : TracedPatches) (q p : Emitted) (earlier n : ℕ) (texts : List (List ℕ)) (before one two after : List ℕ) → slice_get t.emitted earlier ≡ Some p → depends t.rules t.links q p ≡ not (n == 0) → 0 < n
-    → texts ≡ reasons t.rules t.links q p → one ≡ before ++ (codes "after " ++ decimal earlier ++ codes ": ") → two ≡ one ++ listed texts → after ≡ two ++ codes "\n"
+    → texts ≡ reasons t.rules t.links q p → one ≡ before ++ (codes "after " ++ decimal earlier ++ codes ": ") → two ≡ one ++ list_text texts → after ≡ two ++ codes "\n"
     → after ≡ before ++ flat_map dependency_text (option_to_list (dependency_at t q earlier))
 some_told t q p earlier n texts before one two after at some any are first second third =
-    third ∙ (ap (λ (text : List ℕ). text ++ codes "\n") (second ∙ ap (λ (text : List ℕ). text ++ listed texts) first)
-    ∙ (regroup before (codes "after " ++ decimal earlier ++ codes ": ") (listed texts) (codes "\n")
+    third ∙ (ap (λ (text : List ℕ). text ++ codes "\n") (second ∙ ap (λ (text : List ℕ). text ++ list_text texts) first)
+    ∙ (regroup before (codes "after " ++ decimal earlier ++ codes ": ") (list_text texts) (codes "\n")
     ∙ ap (λ (o : Option Dependency). before ++ flat_map dependency_text (option_to_list o)) (sym (dependency_is t q p earlier n texts at some any are))))
   where
     regroup : (a b c d : List ℕ) → a ++ b ++ c ++ d ≡ a ++ ((b ++ c ++ d) ++ [])
@@ -50,13 +50,13 @@ some_told t q p earlier n texts before one two after at some any are first secon
 
 -- ---- reasons
 
-listed_push : (x : List ℕ) (xs : List (List ℕ)) (y : List ℕ) → listed (x ∷ xs ++ y ∷ []) ≡ listed (x ∷ xs) ++ (codes ", " ++ y)
+listed_push : (x : List ℕ) (xs : List (List ℕ)) (y : List ℕ) → list_text (x ∷ xs ++ y ∷ []) ≡ list_text (x ∷ xs) ++ (codes ", " ++ y)
 listed_push x [] y = append_assoc x (codes ", ") y
-listed_push x (z ∷ zs) y = ap (λ (t : List ℕ). x ++ codes ", " ++ t) (listed_push z zs y) ∙ sym (append_assoc (x ++ codes ", ") (listed (z ∷ zs)) (codes ", " ++ y))
+listed_push x (z ∷ zs) y = ap (λ (t : List ℕ). x ++ codes ", " ++ t) (listed_push z zs y) ∙ sym (append_assoc (x ++ codes ", ") (list_text (z ∷ zs)) (codes ", " ++ y))
 
-listed_at : (xs : List (List ℕ)) (y : List ℕ) (at : ℕ) → at ≡ length xs → listed (xs ++ y ∷ []) ≡ listed xs ++ (gap_before at ++ y)
+listed_at : (xs : List (List ℕ)) (y : List ℕ) (at : ℕ) → at ≡ length xs → list_text (xs ++ y ∷ []) ≡ list_text xs ++ (gap_before at ++ y)
 listed_at [] y at place = ap (λ (n : ℕ). gap_before n ++ y) (sym place)
-listed_at (x ∷ xs) y at place = listed_push x xs y ∙ ap (λ (n : ℕ). listed (x ∷ xs) ++ (gap_before n ++ y)) (sym place)
+listed_at (x ∷ xs) y at place = listed_push x xs y ∙ ap (λ (n : ℕ). list_text (x ∷ xs) ++ (gap_before n ++ y)) (sym place)
 
 pub gap_some : (at : ℕ) → 0 < at → gap_before at ≡ codes ", "
 gap_some zero some = absurd (omega arith)
@@ -66,12 +66,12 @@ pub gap_none : (at : ℕ) → at ≤ 0 → gap_before at ≡ []
 gap_none zero none = refl
 gap_none (suc n) none = absurd (omega arith)
 
-pub reason_told : {X : Type 0} (f : X → List ℕ) (xs : List X) (i : ℕ) (d : X) (before all after : List ℕ) → i < length xs → all ≡ before ++ listed (map f (take i xs)) → after ≡ all ++ gap_before i ++ f (get_or xs i d) → after ≡ before ++ listed (map f (take (i + 1) xs))
+pub reason_told : {X : Type 0} (f : X → List ℕ) (xs : List X) (i : ℕ) (d : X) (before all after : List ℕ) → i < length xs → all ≡ before ++ list_text (map f (take i xs)) → after ≡ all ++ gap_before i ++ f (get_or xs i d) → after ≡ before ++ list_text (map f (take (i + 1) xs))
 reason_told {X = X} f xs i d before all after within told more =
     more ∙ (ap (λ (t : List ℕ). t ++ gap_before i ++ f (get_or xs i d)) told
-    ∙ (regroup before (listed (map f (take i xs))) (gap_before i) (f (get_or xs i d))
-    ∙ ap (λ (t : List ℕ). before ++ t) (sym (ap (λ (ys : List X). listed (map f ys)) (take_more xs i d within)
-    ∙ (ap listed (map-append f (take i xs) (get_or xs i d ∷ [])) ∙ listed_at (map f (take i xs)) (f (get_or xs i d)) i (place f xs i within))))))
+    ∙ (regroup before (list_text (map f (take i xs))) (gap_before i) (f (get_or xs i d))
+    ∙ ap (λ (t : List ℕ). before ++ t) (sym (ap (λ (ys : List X). list_text (map f ys)) (take_more xs i d within)
+    ∙ (ap list_text (map-append f (take i xs) (get_or xs i d ∷ [])) ∙ listed_at (map f (take i xs)) (f (get_or xs i d)) i (place f xs i within))))))
   where
     regroup : (a b c d : List ℕ) → a ++ b ++ c ++ d ≡ a ++ (b ++ (c ++ d))
     regroup a b c d = simp append_assoc

@@ -15,7 +15,7 @@ use Rattle.crash_model.specs.declared.settings.Detail.{Detail}
 use Rattle.report_sections.specs.Bodies.{explanation_by, whole_of}
 use Rattle.report_sections.specs.declared.report.Report.{Report}
 use Rattle.report_sections.specs.declared.section.Section as code
-use Rattle.report_sections.specs.Sections.{told, IsSection}
+use Rattle.report_sections.specs.Sections.{section_of, IsSection}
 use Rattle.report_sections.proofs.Joined.{rows_more, firsts_more}
 use Rattle.report_sections.proofs.Pushed.{sections_more}
 use Rattle.report_text.specs.TextReport.{WritesSections, WritesFaults}
@@ -26,15 +26,15 @@ item_more form items item head text after so_far more =
     more ∙ (ap (λ (t : List ℕ). t ++ form item) so_far ∙ (append_assoc head (flat_map form items) (form item)
     ∙ ap (λ (t : List ℕ). head ++ t) (sym (flat_map-append form items (item ∷ []) ∙ ap (λ (t : List ℕ). flat_map form items ++ t) (append-nil (form item))))))
 
-pub section_more : {A : Type 0} (detail : Detail) (base : Disk) (patches : List Patch) (sets : List ℕ) (i n : ℕ) (head text after : List ℕ) (s : code.Section A) → i < length sets → n ≡ length patches → WritesSections detail base patches (take i sets) head text → IsSection detail base patches (get_or sets i 0) s → after ≡ text ++ section_text n (told s) → WritesSections detail base patches (take (i + 1) sets) head after
+pub section_more : {A : Type 0} (detail : Detail) (base : Disk) (patches : List Patch) (sets : List ℕ) (i n : ℕ) (head text after : List ℕ) (s : code.Section A) → i < length sets → n ≡ length patches → WritesSections detail base patches (take i sets) head text → IsSection detail base patches (get_or sets i 0) s → after ≡ text ++ section_text n (section_of s) → WritesSections detail base patches (take (i + 1) sets) head after
 section_more detail base patches sets i n head text after s within number so_far is more = record {
-  sections = so_far.sections ++ told s ∷ [];
+  sections = so_far.sections ++ section_of s ∷ [];
   are = sections_more detail base patches sets i so_far.sections s within so_far.are is;
-  whole = item_more (section_text (length patches)) so_far.sections (told s) head text after so_far.whole
-      (more ∙ ap (λ (k : ℕ). text ++ section_text k (told s)) number);
+  whole = item_more (section_text (length patches)) so_far.sections (section_of s) head text after so_far.whole
+      (more ∙ ap (λ (k : ℕ). text ++ section_text k (section_of s)) number);
 }
 
-pub fault_more : {A : Type 0} (detail : Detail) (base : Disk) (patches : List Patch) (rows : List FaultRow) (i n : ℕ) (d : FaultRow) (head text after : List ℕ) (s : code.Section A) → i < length rows → n ≡ length patches → WritesFaults detail base patches (take i rows) head text → IsSection detail base patches (get_or rows i d).first s → after ≡ text ++ told_fault_text n (record { row = get_or rows i d; first = told s }) → WritesFaults detail base patches (take (i + 1) rows) head after
+pub fault_more : {A : Type 0} (detail : Detail) (base : Disk) (patches : List Patch) (rows : List FaultRow) (i n : ℕ) (d : FaultRow) (head text after : List ℕ) (s : code.Section A) → i < length rows → n ≡ length patches → WritesFaults detail base patches (take i rows) head text → IsSection detail base patches (get_or rows i d).first s → after ≡ text ++ told_fault_text n (record { row = get_or rows i d; first = section_of s }) → WritesFaults detail base patches (take (i + 1) rows) head after
 fault_more detail base patches rows i n d head text after s within number so_far is more = record {
   told = so_far.told ++ one ∷ [];
   of_rows = rows_more rows i d so_far.told s within so_far.of_rows;
@@ -44,7 +44,7 @@ fault_more detail base patches rows i n d head text after s within number so_far
 }
   where
     one : ToldFault
-    one = record { row = get_or rows i d; first = told s }
+    one = record { row = get_or rows i d; first = section_of s }
 
 -- the text behind the head, where patches are explained
 pub explained : {A : Type 0} (report : Report A) (explain : Bool) (first second : List ℕ) → explain ≡ true → second ≡ first ++ explanation_text (Some (explanation_by report.base.now report.traced.now)) → second ≡ first ++ explanation_text (when explain (explanation_by report.base.now report.traced.now))

@@ -5,7 +5,7 @@ ghost use Rattle.hex.specs.Hex.{encode_lower};
 ghost use Rattle.patch_sets.specs.Sets.{ids_of};
 ghost use Rattle.crash_model.specs.Report.{line, numbers, write_text, replayed_text, crash_text, section_text, fault_text};
 ghost use Rattle.report_sections.specs.Replay.{told_block};
-ghost use Rattle.report_sections.specs.Sections.{told};
+ghost use Rattle.report_sections.specs.Sections.{section_of};
 
 use crash_model::fault::Fault;
 use itoa::Buffer;
@@ -20,7 +20,8 @@ pub(crate) fn write_section<A: Allocator + Copy, B: Allocator>(
     patches: usize,
     section: &Section<B>,
 ) -> Result<(), AllocError>
-    ensures { OnOk result (string_bytes out.new ≡ string_bytes out.old ++ section_text patches (told section.now)) }
+    ensures { OnOk result (string_bytes out.new
+        ≡ string_bytes out.old ++ section_text patches (section_of section.now)) }
 {
     write_crash(out, patches, section)?;
     write_faults(out, &section.faults)?;
@@ -34,7 +35,7 @@ pub(crate) fn write_crash<A: Allocator + Copy, B: Allocator>(
     patches: usize,
     section: &Section<B>,
 ) -> Result<(), AllocError>
-    ensures { OnOk result (string_bytes out.new ≡ string_bytes out.old ++ crash_text patches (told section.now)) }
+    ensures { OnOk result (string_bytes out.new ≡ string_bytes out.old ++ crash_text patches (section_of section.now)) }
 {
     out.push_str("set")?;
     write_ids(out, patches, section.set)?;

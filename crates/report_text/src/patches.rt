@@ -1,7 +1,7 @@
 //! The lines of the patches of a trace.
 
 ghost use Rattle.std.specs.Prelude.{◌≡◌, ◌++◌, ◌<◌, length, string_bytes, OnOk, flat_map, map, slice_get, option_to_list, Some};
-ghost use Rattle.crash_model.specs.Explain.{told_patches, told_text, dependency_text, listed};
+ghost use Rattle.crash_model.specs.Explain.{told_patches, told_text, dependency_text, list_text};
 ghost use Rattle.crash_model.specs.Patches.{place};
 ghost use Rattle.crash_model.specs.Trace.{Emitted};
 ghost use Rattle.order_modules.specs.Labels.{emitted_at};
@@ -93,7 +93,7 @@ fn write_dependency<A: Allocator, B: Allocator + Copy>(
 
 /// The reasons, with a comma and a space between two.
 fn write_reasons<A: Allocator>(out: &mut String<A>, reasons: &[Reason]) -> Result<(), AllocError>
-    ensures { OnOk result (string_bytes out.new ≡ string_bytes out.old ++ listed (map reason_text reasons.now)) }
+    ensures { OnOk result (string_bytes out.new ≡ string_bytes out.old ++ list_text (map reason_text reasons.now)) }
 {
     for (at, reason) in reasons.iter().enumerate() {
         write_reason(out, at, *reason)?;

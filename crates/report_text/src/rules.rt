@@ -2,7 +2,7 @@
 
 ghost use Rattle.std.specs.Prelude.{◌≡◌, ◌++◌, [], flat_map, option_map, string_bytes, OnOk};
 ghost use Rattle.crash_model.specs.Needs.{first_text, usage_text, told_rule_text};
-ghost use Rattle.report_sections.specs.Sections.{told};
+ghost use Rattle.report_sections.specs.Sections.{section_of};
 ghost use Rattle.report_sections.specs.ToldRules.{usage_of, told_rule};
 
 use crate::lines::write_section;
@@ -74,7 +74,7 @@ fn write_first<A: Allocator + Copy>(
     first: &Option<Section<A>>,
 ) -> Result<(), AllocError>
     ensures { OnOk result (string_bytes out.new
-        ≡ string_bytes out.old ++ first_text patches (option_map told first.now)) }
+        ≡ string_bytes out.old ++ first_text patches (option_map section_of first.now)) }
 {
     if let Some(section) = first {
         write_section(out, patches, section)?;

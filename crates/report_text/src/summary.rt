@@ -2,7 +2,7 @@
 
 ghost use Rattle.std.specs.Prelude.{◌≡◌, ◌++◌, string_bytes, OnOk};
 ghost use Rattle.crash_model.specs.Summary.{told_fault_text};
-ghost use Rattle.report_sections.specs.Sections.{told};
+ghost use Rattle.report_sections.specs.Sections.{section_of};
 
 use crate::lines::write_crash;
 use crash_model::fault::FaultRow;
@@ -18,7 +18,7 @@ pub(crate) fn write_told_fault<A: Allocator + Copy, B: Allocator>(
     first: &Section<B>,
 ) -> Result<(), AllocError>
     ensures { OnOk result (string_bytes out.new
-        ≡ string_bytes out.old ++ told_fault_text patches (record { row = row.now; first = told first.now })) }
+        ≡ string_bytes out.old ++ told_fault_text patches (record { row = row.now; first = section_of first.now })) }
 {
     let fault = row.fault;
     let sets = row.sets;

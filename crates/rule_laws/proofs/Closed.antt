@@ -7,7 +7,7 @@ use Rattle.crash_model.specs.Disk.{Disk}
 use Rattle.crash_model.specs.Failing.{IsFailing}
 use Rattle.crash_model.specs.Faults.{IsClean}
 use Rattle.crash_model.specs.Patches.{Place, place, places_of, deps_of, image_from}
-use Rattle.crash_model.specs.Replay.{replayed}
+use Rattle.crash_model.specs.Replay.{image_after_replay}
 use Rattle.crash_model.specs.Rules.{AreAmong}
 use Rattle.crash_model.specs.Strict.{IsCleanUnder, IsFailingUnder}
 use Rattle.crash_model.specs.Trace.{Emitted, Tracing, IsGraphOf}
@@ -49,7 +49,7 @@ module _ (some all : List Rule) (base : Disk) (s : Tracing) (few more : List Pat
       let same : places_of few ≡ places_of more = graph.places ∙ sym wider.places in
       record {
         closed = closed_more failing.closed;
-        unclean = λ clean. failing.unclean (subst (λ (ps : List Place). IsClean (replayed (image_from 0 base ps set))) same clean);
+        unclean = λ clean. failing.unclean (subst (λ (ps : List Place). IsClean (image_after_replay (image_from 0 base ps set))) same clean);
       }
 
   pub failing_under_more : (kept : Option ℕ) → IsFailingUnder kept base more set → IsFailingUnder kept base few set
@@ -57,5 +57,5 @@ module _ (some all : List Rule) (base : Disk) (s : Tracing) (few more : List Pat
       let same : places_of few ≡ places_of more = graph.places ∙ sym wider.places in
       record {
         closed = closed_more failing.closed;
-        unclean = λ clean. failing.unclean (subst (λ (ps : List Place). IsCleanUnder kept (replayed (image_from 0 base ps set))) same clean);
+        unclean = λ clean. failing.unclean (subst (λ (ps : List Place). IsCleanUnder kept (image_after_replay (image_from 0 base ps set))) same clean);
       }

@@ -10,8 +10,8 @@ use Rattle.crash_model.specs.declared.rules.Part.TheVariants.{InPlace, FileData,
 use Rattle.crash_model.specs.declared.rules.Rule.{Rule}
 use Rattle.crash_model.specs.declared.rules.Scope.{Scope}
 use Rattle.crash_model.specs.declared.rules.Scope.TheVariants.{Same, Previous}
-use Rattle.crash_model.specs.declared.steps.Module.{Module}
-use Rattle.crash_model.specs.declared.steps.Module.TheVariants.{Async, Soft, Meta, Full}
+use Rattle.crash_model.specs.declared.modules.Module.{Module}
+use Rattle.crash_model.specs.declared.modules.Module.TheVariants.{Async, Soft, Meta, Full}
 use Rattle.rule_laws.specs.Tables.{row, are_in}
 
 -- ---- what holds of every part

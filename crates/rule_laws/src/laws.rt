@@ -11,7 +11,7 @@ ghost use Rattle.crash_model.specs.Strict.{IsFailingUnder};
 ghost use Rattle.crash_model.specs.Trace.{Emitted, Tracing, IsGraphOf, applies};
 ghost use Rattle.crash_model.specs.declared.patches.Patch.{Patch};
 ghost use Rattle.crash_model.specs.declared.rules.Rule.{Rule};
-ghost use Rattle.crash_model.specs.declared.steps.Module.{Module};
+ghost use Rattle.crash_model.specs.declared.modules.Module.{Module};
 ghost use Rattle.rule_laws.specs.Tables.{row, are_in};
 
 /// The rules of a module make a patch wait for an earlier one exactly where the module's table does.

@@ -8,11 +8,11 @@ use Rattle.crash_model.specs.Names.{IsName, IsGroupName, is_name_byte, is_group_
 use Rattle.crash_model.specs.Script.{AreWords, IsPath, path_text, IsAct, words_of, Line, Reads}
 use Rattle.crash_model.specs.Script as script
 use Rattle.crash_model.specs.declared.names.Path.{Path}
-use Rattle.crash_model.specs.declared.names.Op.TheVariants as op
+use Rattle.crash_model.specs.declared.operations.Op.TheVariants as op
 use Rattle.crash_model.specs.declared.steps.Act.{Act}
 use Rattle.crash_model.specs.declared.steps.Act.TheVariants as act
 use Rattle.crash_model.proofs.Cuts.{Lacks}
-use Rattle.crash_model.proofs.Paths.{slashed, names_of, names_are}
+use Rattle.crash_model.proofs.Paths.{slash_text, names_of, names_are}
 use Rattle.script_text.specs.declared.verb.Verb.{Verb}
 use Rattle.script_text.specs.declared.verb.Verb.TheVariants.{Create, Write, Link, Unlink, Rename, Mkdir, Rmdir, Group, End, Depend, Start}
 use Rattle.script_text.specs.Words.{spelling}
@@ -45,10 +45,10 @@ lacks-append : (s : ℕ) (xs ys : List ℕ) → Lacks s xs → Lacks s ys → La
 lacks-append s [] ys one two = two
 lacks-append s (x ∷ xs) ys one two = (one.0, lacks-append s xs ys one.1 two)
 
-slashed_lacks : (names : List (List ℕ)) → All IsName names → Lacks 32 (slashed names)
+slashed_lacks : (names : List (List ℕ)) → All IsName names → Lacks 32 (slash_text names)
 slashed_lacks [] are = tt
 slashed_lacks (n ∷ ns) are =
-    lacks-append 32 (47 ∷ n) (slashed ns) ((λ e. false≢true (cc)), plain_lacks is_name_byte name_no_space n (All-head IsName n ns are).plain) (slashed_lacks ns (All-tail IsName n ns are))
+    lacks-append 32 (47 ∷ n) (slash_text ns) ((λ e. false≢true (cc)), plain_lacks is_name_byte name_no_space n (All-head IsName n ns are).plain) (slashed_lacks ns (All-tail IsName n ns are))
 
 path_plain : (path : Path) → IsPath path → ¬ (Contains (path_text path) 32)
 path_plain path is = lacks_none 32 (path_text path) (slashed_lacks (names_of path) (names_are path is))

@@ -4,7 +4,7 @@ use Rattle.std.specs.List.{All, Contains}
 use Rattle.std.specs.Str.{IsUtf8, bytes_eq}
 use Rattle.std.proofs.lemmas.Bool.{false≢true}
 use Rattle.std.proofs.lemmas.List.Elements.{All-from_recursion, All-contains}
-use Rattle.crash_model.specs.Lists.{joined}
+use Rattle.crash_model.specs.Lists.{join_of}
 use Rattle.crash_model.specs.Script.{Operand, PathOperand, GroupOperand, Fits, HasForm, forms, AreWords, IsSkipped}
 use Rattle.script_text.specs.declared.line.Line.{Line}
 use Rattle.script_text.specs.declared.line.Line.TheVariants.{Skipped, Says}
@@ -165,5 +165,5 @@ refused_operands text first words verb BadLine utf8 says cut spelt fault = (utf8
 
 pub says_line : (text : List ℕ) (words : List (List ℕ)) (l : Line) → AreWords text words → SaysWords words l → SaysLine text l
 says_line text words Skipped cut says = absurd says
-says_line text words line.Start cut says = cut.whole ∙ ap (joined 32) says
-says_line text words (Says act) cut says = (says.0, cut.whole ∙ ap (joined 32) says.1)
+says_line text words line.Start cut says = cut.whole ∙ ap (join_of 32) says
+says_line text words (Says act) cut says = (says.0, cut.whole ∙ ap (join_of 32) says.1)

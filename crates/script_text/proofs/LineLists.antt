@@ -3,7 +3,7 @@ use Rattle.std.proofs.Common.{◌≡◌, ◌≢◌, ℕ, ◌<◌, ◌⊎◌, inl
 use Rattle.std.specs.List.{Contains}
 use Rattle.std.proofs.lemmas.Bool.Decides.{nat_tests}
 use Rattle.std.proofs.lemmas.List.Elements.{All-head, All-tail, All-nil, All-cons}
-use Rattle.crash_model.specs.Script.{AreLines, ArePlain, spelt}
+use Rattle.crash_model.specs.Script.{AreLines, ArePlain, text_of_lines}
 use Rattle.crash_model.proofs.Cuts.{Lacks}
 use Rattle.script_text.specs.Lines.{IsFirstLine, lines_of, before_lines}
 use Rattle.script_text.proofs.Cuts.{lacks_none, none_lacks}
@@ -49,25 +49,25 @@ first_line_shorter bytes line rest some first = by_end first.whole
 
 -- ---- each list of bytes has one list of lines
 
-spelt_lines : (lines : List (List ℕ)) → ArePlain lines → lines_of (spelt lines) ≡ lines
+spelt_lines : (lines : List (List ℕ)) → ArePlain lines → lines_of (text_of_lines lines) ≡ lines
 spelt_lines [] plain = refl
 spelt_lines (line ∷ lines) plain =
-    ap lines_of (append_assoc line (10 ∷ []) (spelt lines))
-    ∙ (lines_of-line line (spelt lines) (none_lacks 10 line (All-head (λ line. ¬ (Contains line 10)) line lines plain))
+    ap lines_of (append_assoc line (10 ∷ []) (text_of_lines lines))
+    ∙ (lines_of-line line (text_of_lines lines) (none_lacks 10 line (All-head (λ line. ¬ (Contains line 10)) line lines plain))
     ∙ ap (λ (ls : List (List ℕ)). line ∷ ls) (spelt_lines lines (All-tail (λ line. ¬ (Contains line 10)) line lines plain)))
 
-spelt_last : (front : List (List ℕ)) (last : List ℕ) → last ≢ [] → ArePlain (front ++ last ∷ []) → lines_of (spelt front ++ last) ≡ front ++ last ∷ []
+spelt_last : (front : List (List ℕ)) (last : List ℕ) → last ≢ [] → ArePlain (front ++ last ∷ []) → lines_of (text_of_lines front ++ last) ≡ front ++ last ∷ []
 spelt_last [] [] some plain = absurd (some refl)
 spelt_last [] (c ∷ cs) some plain = lines_of-last c cs (none_lacks 10 (c ∷ cs) (All-head (λ line. ¬ (Contains line 10)) (c ∷ cs) [] plain))
 spelt_last (line ∷ lines) last some plain =
-    ap lines_of (append_assoc (line ++ 10 ∷ []) (spelt lines) last ∙ append_assoc line (10 ∷ []) (spelt lines ++ last))
-    ∙ (lines_of-line line (spelt lines ++ last) (none_lacks 10 line (All-head (λ line. ¬ (Contains line 10)) line (lines ++ last ∷ []) plain))
+    ap lines_of (append_assoc (line ++ 10 ∷ []) (text_of_lines lines) last ∙ append_assoc line (10 ∷ []) (text_of_lines lines ++ last))
+    ∙ (lines_of-line line (text_of_lines lines ++ last) (none_lacks 10 line (All-head (λ line. ¬ (Contains line 10)) line (lines ++ last ∷ []) plain))
     ∙ ap (λ (ls : List (List ℕ)). line ∷ ls) (spelt_last lines last some (All-tail (λ line. ¬ (Contains line 10)) line (lines ++ last ∷ []) plain)))
 
 pub lines_are : (bytes : List ℕ) (lines : List (List ℕ)) → AreLines bytes lines → lines ≡ lines_of bytes
 lines_are bytes lines are = by_end are.whole
   where
-    by_end : (bytes ≡ spelt lines) ⊎ ((front : List (List ℕ)) × (last : List ℕ) × (last ≢ []) × (lines ≡ front ++ last ∷ []) × (bytes ≡ spelt front ++ last)) → lines ≡ lines_of bytes
+    by_end : (bytes ≡ text_of_lines lines) ⊎ ((front : List (List ℕ)) × (last : List ℕ) × (last ≢ []) × (lines ≡ front ++ last ∷ []) × (bytes ≡ text_of_lines front ++ last)) → lines ≡ lines_of bytes
     by_end (inl all) = sym (ap lines_of all ∙ spelt_lines lines are.plain)
     by_end (inr (front, last, some, split, whole)) =
         split ∙ sym (ap lines_of whole ∙ spelt_last front last some (subst ArePlain split are.plain))
@@ -80,8 +80,8 @@ are_lines-feed cs lines are = record {
   whole = by_end are.whole;
 }
   where
-    by_end : (cs ≡ spelt lines) ⊎ ((front : List (List ℕ)) × (last : List ℕ) × (last ≢ []) × (lines ≡ front ++ last ∷ []) × (cs ≡ spelt front ++ last))
-        → (10 ∷ cs ≡ spelt ([] ∷ lines)) ⊎ ((front : List (List ℕ)) × (last : List ℕ) × (last ≢ []) × ([] ∷ lines ≡ front ++ last ∷ []) × (10 ∷ cs ≡ spelt front ++ last))
+    by_end : (cs ≡ text_of_lines lines) ⊎ ((front : List (List ℕ)) × (last : List ℕ) × (last ≢ []) × (lines ≡ front ++ last ∷ []) × (cs ≡ text_of_lines front ++ last))
+        → (10 ∷ cs ≡ text_of_lines ([] ∷ lines)) ⊎ ((front : List (List ℕ)) × (last : List ℕ) × (last ≢ []) × ([] ∷ lines ≡ front ++ last ∷ []) × (10 ∷ cs ≡ text_of_lines front ++ last))
     by_end (inl all) = inl (ap (λ (t : List ℕ). 10 ∷ t) all)
     by_end (inr (front, last, some, split, whole)) = inr ([] ∷ front, last, some, ap (λ (ls : List (List ℕ)). [] ∷ ls) split, ap (λ (t : List ℕ). 10 ∷ t) whole)
 
@@ -94,7 +94,7 @@ are_lines-byte c cs [] other are = by_end are.whole
       whole = inr ([], c ∷ [], (λ e. cc), refl, ap (λ (t : List ℕ). c ∷ t) none);
     }
 
-    by_end : (cs ≡ []) ⊎ ((front : List (List ℕ)) × (last : List ℕ) × (last ≢ []) × ([] ≡ front ++ last ∷ []) × (cs ≡ spelt front ++ last)) → AreLines (c ∷ cs) ((c ∷ []) ∷ [])
+    by_end : (cs ≡ []) ⊎ ((front : List (List ℕ)) × (last : List ℕ) × (last ≢ []) × ([] ≡ front ++ last ∷ []) × (cs ≡ text_of_lines front ++ last)) → AreLines (c ∷ cs) ((c ∷ []) ∷ [])
     by_end (inl none) = alone none
     by_end (inr ([], last, some, split, whole)) = cc
     by_end (inr (f ∷ fs, last, some, split, whole)) = cc
@@ -105,8 +105,8 @@ are_lines-byte c cs (line ∷ lines) other are = record {
   whole = by_end are.whole;
 }
   where
-    by_end : (cs ≡ spelt (line ∷ lines)) ⊎ ((front : List (List ℕ)) × (last : List ℕ) × (last ≢ []) × (line ∷ lines ≡ front ++ last ∷ []) × (cs ≡ spelt front ++ last))
-        → (c ∷ cs ≡ spelt ((c ∷ line) ∷ lines)) ⊎ ((front : List (List ℕ)) × (last : List ℕ) × (last ≢ []) × ((c ∷ line) ∷ lines ≡ front ++ last ∷ []) × (c ∷ cs ≡ spelt front ++ last))
+    by_end : (cs ≡ text_of_lines (line ∷ lines)) ⊎ ((front : List (List ℕ)) × (last : List ℕ) × (last ≢ []) × (line ∷ lines ≡ front ++ last ∷ []) × (cs ≡ text_of_lines front ++ last))
+        → (c ∷ cs ≡ text_of_lines ((c ∷ line) ∷ lines)) ⊎ ((front : List (List ℕ)) × (last : List ℕ) × (last ≢ []) × ((c ∷ line) ∷ lines ≡ front ++ last ∷ []) × (c ∷ cs ≡ text_of_lines front ++ last))
     by_end (inl all) = inl (ap (λ (t : List ℕ). c ∷ t) all)
     by_end (inr ([], last, some, split, whole)) =
         let heads : line ≡ last = cc in

@@ -6,7 +6,7 @@ use Rattle.std.proofs.lemmas.List.Elements.{All-head, All-tail, All-nil, All-con
 use Rattle.std.proofs.lemmas.List.{length-map}
 use Rattle.std.proofs.lemmas.List.Splits.{slice_split_none, slice_split_at, join_with_byte-slice_split}
 use denote.Ref.{Bor}
-use Rattle.crash_model.specs.Lists.{joined}
+use Rattle.crash_model.specs.Lists.{join_of}
 use Rattle.crash_model.specs.Script.{AreWords}
 use Rattle.crash_model.proofs.Cuts.{Lacks}
 use Rattle.script_text.proofs.Cuts.{lacks_none, none_lacks}
@@ -14,7 +14,7 @@ use Rattle.script_text.proofs.Cuts.{lacks_none, none_lacks}
 abbrev pub spaced : List ℕ → List (List ℕ)
 spaced text = slice_split (λ b. eqb b 32) text
 
-joined_same : (c : ℕ) (words : List (List ℕ)) → joined c words ≡ join_with_byte c words
+joined_same : (c : ℕ) (words : List (List ℕ)) → join_of c words ≡ join_with_byte c words
 joined_same c [] = refl
 joined_same c (w ∷ []) = refl
 joined_same c (w ∷ v ∷ vs) = ap (λ (t : List ℕ). w ++ (c ∷ t)) (joined_same c (v ∷ vs))
@@ -26,12 +26,12 @@ no_space : (word : List ℕ) → Lacks 32 word → All (λ x. eqb x 32 ≡ false
 no_space [] lacks = All-nil (λ x. eqb x 32 ≡ false)
 no_space (x ∷ xs) lacks = All-cons (λ x. eqb x 32 ≡ false) x xs (differs 32 x lacks.0) (no_space xs lacks.1)
 
-split_joined : (words : List (List ℕ)) → words ≢ [] → All (λ word. ¬ (Contains word 32)) words → spaced (joined 32 words) ≡ words
+split_joined : (words : List (List ℕ)) → words ≢ [] → All (λ word. ¬ (Contains word 32)) words → spaced (join_of 32 words) ≡ words
 split_joined [] some plain = absurd (some refl)
 split_joined (w ∷ []) some plain =
     slice_split_none (λ b. eqb b 32) w (no_space w (none_lacks 32 w (All-head (λ word. ¬ (Contains word 32)) w [] plain)))
 split_joined (w ∷ v ∷ vs) some plain =
-    slice_split_at (λ b. eqb b 32) w 32 (joined 32 (v ∷ vs)) (no_space w (none_lacks 32 w (All-head (λ word. ¬ (Contains word 32)) w (v ∷ vs) plain))) refl
+    slice_split_at (λ b. eqb b 32) w 32 (join_of 32 (v ∷ vs)) (no_space w (none_lacks 32 w (All-head (λ word. ¬ (Contains word 32)) w (v ∷ vs) plain))) refl
     ∙ ap (λ (ws : List (List ℕ)). w ∷ ws) (split_joined (v ∷ vs) (λ e. cc) (All-tail (λ word. ¬ (Contains word 32)) w (v ∷ vs) plain))
 
 pub words_are : (text : List ℕ) (words : List (List ℕ)) → AreWords text words → words ≡ spaced text

@@ -6,7 +6,7 @@ ghost use Rattle.script_text.specs.Words.{SaysLine, IsLineFault, line_fault};
 
 use crate::verb::Verb;
 use crate::words::words;
-use crash_model::names::Op;
+use crash_model::operations::Op;
 use crash_model::refusals::ScriptFault;
 use crash_model::steps::Act;
 use std::str;

@@ -5,7 +5,7 @@ ghost use Rattle.script_text.specs.Words.{spelling, operands_of, IsNoVerb, SaysW
 
 use crate::line::{Line, LineFault};
 use crate::operands;
-use crash_model::names::Op;
+use crash_model::operations::Op;
 use crash_model::steps::Act;
 
 /// What a line asks for, by its first word.

@@ -9,7 +9,7 @@ use Rattle.board_rule.specs.Plays.{IsIdle}
 use Rattle.board_rule.specs.declared.view.View.{View}
 use Rattle.board_rule.proofs.Sums.{starts-length, starts-at, last-here}
 use Rattle.seen_board.specs.Known.{Known, known_of, Counts}
-use Rattle.seen_board.specs.Clauses.{SeesOn, Sees, Gains, Names, Lacks, LacksBelow, number, giving_up}
+use Rattle.seen_board.specs.Clauses.{SeesOn, Sees, Gains, Names, Lacks, LacksBelow, number, with_given_up}
 use Rattle.seen_board.specs.Inserts.{Follows, IsSuccessor, Returns, PutOk, AddOk, Filed, Appends}
 use Rattle.seen_board.specs.declared.answers.Place.{Place}
 use Rattle.seen_board.specs.declared.answers.Put.{Put}
@@ -52,8 +52,8 @@ module _ {v w : View} {word : ℕ} (t : Appends v word w) (q at : ℕ) (held : v
   appends_knows id id' over same e = rw same (rw (← e) (rw t.is (rw held (rw is refl))))
 
   -- and where the seat stops then
-  pub appends_over : (id id' : TableId) → id' ≡ id → w.count.over ≡ 1 → giving_up (known_of id' w) ≡ record (giving_up (known_of id v)) { seen = w.rows.seen; right = 0; added = w.rows.added; over = 1 }
-  appends_over id id' same e = ap (λ (s : Known). record (giving_up s) { added = w.rows.added }) (appends_knows id id' 1 same e)
+  pub appends_over : (id id' : TableId) → id' ≡ id → w.count.over ≡ 1 → with_given_up (known_of id' w) ≡ record (with_given_up (known_of id v)) { seen = w.rows.seen; right = 0; added = w.rows.added; over = 1 }
+  appends_over id id' same e = ap (λ (s : Known). record (with_given_up s) { added = w.rows.added }) (appends_knows id id' 1 same e)
 
   pub appends_sees : SeesOn v.rows.seen w.rows.seen
   appends_sees = rw t.is (rw held (sees_set v.rows.seen q (row_of v.rows.seen q ++ word ∷ []) all near (word ∷ [], refl)))
@@ -87,15 +87,15 @@ gains_successor next u v w right q x gains e succ = let c : v.claims ≡ u.claim
 pub put_known : (u v w : Known) (right q x : ℕ) (place : Place) → Gains u right q v → w ≡ record v { right = 0 } → Names v.seen place x → PutOk x u w (Found place)
 put_known u v w right q x place gains e named = (returns_from u v w right q gains e, rw e named)
 
-pub put_over : (u v w : Known) (right q x : ℕ) → Gains u right q v → w ≡ record (giving_up v) { right = 0; over = 1 } → PutOk x u w Over
-put_over u v w right q x gains e = rw e (ap (λ (s : Known). record (giving_up s) { right = 0; held = v.held; added = v.added; over = 1 }) gains.0, gains.1)
+pub put_over : (u v w : Known) (right q x : ℕ) → Gains u right q v → w ≡ record (with_given_up v) { right = 0; over = 1 } → PutOk x u w Over
+put_over u v w right q x gains e = rw e (ap (λ (s : Known). record (with_given_up s) { right = 0; held = v.held; added = v.added; over = 1 }) gains.0, gains.1)
 
 -- and where a word was added, it was
 pub put_added : (u v w : Known) (right q x : ℕ) (put : Put) → Gains u right q v → Lacks (row_of u.seen (x % 13)) x → AddOk x v w put → PutOk x u w put
 put_added u v w right q x (New place) gains absent (e, sees, named) = (subst (λ (h : ℕ). w ≡ record u { seen = w.seen; right = 0; held = h; added = u.added ++ number place ∷ [] }) (sym (ap (λ (s : Known). s.held) e)) (e ∙ ap (λ (s : Known). record s { seen = w.seen; right = 0; held = v.held; added = s.added ++ number place ∷ [] }) gains.0), sees_on_trans u.seen v.seen w.seen gains.1 sees, named, absent)
 put_added u v w right q x (Found place) gains absent no_such = absurd no_such
 put_added u v w right q x Busy gains absent no_such = absurd no_such
-put_added u v w right q x Over gains absent (e, sees) = (subst (λ (h : ℕ). w ≡ record (giving_up u) { seen = w.seen; right = 0; held = h; added = w.added; over = 1 }) (sym (ap (λ (s : Known). s.held) e)) (e ∙ ap (λ (s : Known). record (giving_up s) { seen = w.seen; right = 0; held = v.held; added = w.added; over = 1 }) gains.0), sees_on_trans u.seen v.seen w.seen gains.1 sees)
+put_added u v w right q x Over gains absent (e, sees) = (subst (λ (h : ℕ). w ≡ record (with_given_up u) { seen = w.seen; right = 0; held = h; added = w.added; over = 1 }) (sym (ap (λ (s : Known). s.held) e)) (e ∙ ap (λ (s : Known). record (with_given_up s) { seen = w.seen; right = 0; held = v.held; added = w.added; over = 1 }) gains.0), sees_on_trans u.seen v.seen w.seen gains.1 sees)
 
 pub returns_after : (u v w : Known) → Sees u v → Returns v w → Returns u w
 returns_after u v w sees back = (back.0 ∙ ap (λ (s : Known). record s { seen = w.seen; held = w.held; right = 0 }) sees.0, sees_on_trans u.seen v.seen w.seen sees.1 back.1)
@@ -109,4 +109,4 @@ put_after u v w x (New place) back (e, sees, named, absent) =
     (e ∙ ap (λ (s : Known). record s { seen = w.seen; held = w.held; right = 0; added = s.added ++ number place ∷ [] }) back.0, sees_on_trans u.seen v.seen w.seen back.1 sees, named, lacks_before u.seen v.seen (x % 13) x (omega arith) back.1 absent)
 put_after u v w x (Found place) back ((e, sees), named) = ((e ∙ ap (λ (s : Known). record s { seen = w.seen; held = w.held; right = 0 }) back.0, sees_on_trans u.seen v.seen w.seen back.1 sees), named)
 put_after u v w x Busy back (e, sees) = (e ∙ ap (λ (s : Known). record s { seen = w.seen; held = w.held; right = 0 }) back.0, sees_on_trans u.seen v.seen w.seen back.1 sees)
-put_after u v w x Over back (e, sees) = (e ∙ ap (λ (s : Known). record (giving_up s) { seen = w.seen; held = w.held; right = 0; added = w.added; over = 1 }) back.0, sees_on_trans u.seen v.seen w.seen back.1 sees)
+put_after u v w x Over back (e, sees) = (e ∙ ap (λ (s : Known). record (with_given_up s) { seen = w.seen; held = w.held; right = 0; added = w.added; over = 1 }) back.0, sees_on_trans u.seen v.seen w.seen back.1 sees)

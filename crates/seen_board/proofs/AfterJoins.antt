@@ -4,8 +4,8 @@ use Rattle.std.specs.Prelude.{max}
 use mathlib.Core.Logic.{dite}
 use native.Mathlib.Decide.{ℕ_discrete}
 use Rattle.atomic_table.specs.Seated.{TableId}
-use Rattle.board_rule.specs.Lists.{row_of, StartsWith, merged, agree}
-use Rattle.board_rule.specs.Changes.{joined}
+use Rattle.board_rule.specs.Lists.{row_of, StartsWith, longer_rows, agree}
+use Rattle.board_rule.specs.Changes.{both_views}
 use Rattle.board_rule.specs.Plays.{IsIdle}
 use Rattle.board_rule.specs.declared.view.View.{View}
 use Rattle.board_rule.proofs.Seats.{merged_agrees, merged_length, joined_agree}
@@ -19,26 +19,26 @@ larger_so_far counts first second q n inside is done rest p h = dite (ℕ_discre
     (λ e. rw e (get_or-set_same counts q n 0 inside ∙ is ∙ ap (λ (x : ℕ). max x (get_or second q 0)) (rest q (omega arith))))
     (λ ne. get_or-set_other counts q p n 0 ne ∙ done p (omega (arith, h, ne)))
 
-module _ (v w : View) (near : (joined v w).rows.held < 13) (all-v : length v.rows.seen ≡ 13) (all-w : length w.rows.seen ≡ 13) where
+module _ (v w : View) (near : (both_views v w).rows.held < 13) (all-v : length v.rows.seen ≡ 13) (all-w : length w.rows.seen ≡ 13) where
   agreed : agree v.rows.seen w.rows.seen ≡ true
   agreed = joined_agree v w near
 
-  held : (joined v w).rows.held ≡ v.rows.held
+  held : (both_views v w).rows.held ≡ v.rows.held
   held = ap {B = ℕ} (λ t. cond t v.rows.held 13) agreed
 
-  pub join_knows : (a b c : TableId) → b ≡ a → known_of b (joined v w) ≡ both_known (known_of a v) (known_of c w) (merged v.rows.seen w.rows.seen)
-  join_knows a b c e = rw e (ap (λ (h : ℕ). record (both_known (known_of a v) (known_of c w) (merged v.rows.seen w.rows.seen)) { held = h }) held)
+  pub join_knows : (a b c : TableId) → b ≡ a → known_of b (both_views v w) ≡ both_known (known_of a v) (known_of c w) (longer_rows v.rows.seen w.rows.seen)
+  join_knows a b c e = rw e (ap (λ (h : ℕ). record (both_known (known_of a v) (known_of c w) (longer_rows v.rows.seen w.rows.seen)) { held = h }) held)
 
-  rows : (q : ℕ) → StartsWith (row_of (merged v.rows.seen w.rows.seen) q) (row_of v.rows.seen q) × StartsWith (row_of (merged v.rows.seen w.rows.seen) q) (row_of w.rows.seen q) × (length (row_of (merged v.rows.seen w.rows.seen) q) ≡ max (length (row_of v.rows.seen q)) (length (row_of w.rows.seen q)))
+  rows : (q : ℕ) → StartsWith (row_of (longer_rows v.rows.seen w.rows.seen) q) (row_of v.rows.seen q) × StartsWith (row_of (longer_rows v.rows.seen w.rows.seen) q) (row_of w.rows.seen q) × (length (row_of (longer_rows v.rows.seen w.rows.seen) q) ≡ max (length (row_of v.rows.seen q)) (length (row_of w.rows.seen q)))
   rows q = let m = merged_agrees v.rows.seen w.rows.seen q (all-v ∙ sym all-w) agreed in rw m.0 m.1
 
-  pub join_first : SeesOn v.rows.seen (merged v.rows.seen w.rows.seen)
+  pub join_first : SeesOn v.rows.seen (longer_rows v.rows.seen w.rows.seen)
   join_first q h = (rows q).0
 
-  pub join_second : SeesOn w.rows.seen (merged v.rows.seen w.rows.seen)
+  pub join_second : SeesOn w.rows.seen (longer_rows v.rows.seen w.rows.seen)
   join_second q h = (rows q).1
 
-  pub join_counts : (limit : ℕ) (first second counts : List ℕ) → Counts limit first v.rows.seen → Counts limit second w.rows.seen → ((q : ℕ) → q < 13 → get_or counts q 0 ≡ max (get_or first q 0) (get_or second q 0)) → Counts limit counts (merged v.rows.seen w.rows.seen)
+  pub join_counts : (limit : ℕ) (first second counts : List ℕ) → Counts limit first v.rows.seen → Counts limit second w.rows.seen → ((q : ℕ) → q < 13 → get_or counts q 0 ≡ max (get_or first q 0) (get_or second q 0)) → Counts limit counts (longer_rows v.rows.seen w.rows.seen)
   join_counts limit first second counts o u is = record {
     small = o.small;
     all = merged_length v.rows.seen w.rows.seen ∙ all-v;
@@ -46,5 +46,5 @@ module _ (v w : View) (near : (joined v w).rows.held < 13) (all-v : length v.row
     short = λ q h. omega (arith, o.short q h, u.short q h, (rows q).2);
   }
 
-pub join_idle : (v w : View) → IsIdle v → IsIdle (joined v w)
+pub join_idle : (v w : View) → IsIdle v → IsIdle (both_views v w)
 join_idle v w o = record { low = o.low; high = o.high; unfiled = o.unfiled; announced = o.announced; owed = o.owed; uncounted = o.uncounted }

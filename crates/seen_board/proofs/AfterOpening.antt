@@ -4,7 +4,7 @@ use mathlib.Core.Logic.{dite}
 use native.Mathlib.Decide.{ℕ_discrete, dec_le}
 use Rattle.atomic_table.specs.Seated.{TableId}
 use Rattle.board_rule.specs.Lists.{row_of, total}
-use Rattle.board_rule.specs.Lives.{life_of, is_claimed, settled}
+use Rattle.board_rule.specs.Lives.{life_of, is_claimed, is_settled}
 use Rattle.board_rule.specs.Layout.{half, size_for, place_of, length_word, low_word, high_word, index_word, slot}
 use Rattle.board_rule.specs.Changes.{opening_rows, opening_words, first_view}
 use Rattle.board_rule.proofs.Lives.{in_range, claim_none}
@@ -37,10 +37,10 @@ row_there (x ∷ xs) zero h = omega arith
 row_there (x ∷ xs) (suc q) h = omega (arith, row_there xs q h)
 
 -- a life that is neither claimed nor among any settled ones is waiting
-waits : (lives : List (List ℕ)) (q : ℕ) → is_claimed (get_or (row_of lives q) 0 0) ≡ 0 → total (total settled) lives ≡ 0 → get_or (row_of lives q) 0 0 ≡ 0
+waits : (lives : List (List ℕ)) (q : ℕ) → is_claimed (get_or (row_of lives q) 0 0) ≡ 0 → total (total is_settled) lives ≡ 0 → get_or (row_of lives q) 0 0 ≡ 0
 waits lives q unclaimed none = let n = get_or (row_of lives q) 0 0 in dite (dec_le 2 n)
     (λ two. let inside = in_range (row_of lives q) 0 (omega (arith, two)) in
-    absurd (omega (arith, none, lives_term settled lives q 0 (row_there lives q inside) inside, ap {B = ℕ} (λ b. cond b 0 1) (le-ltb n 2 two))))
+    absurd (omega (arith, none, lives_term is_settled lives q 0 (row_there lives q inside) inside, ap {B = ℕ} (λ b. cond b 0 1) (le-ltb n 2 two))))
     (λ low. dite (ℕ_discrete n 1) (λ e. absurd (omega (arith, unclaimed, ap is_claimed e))) (λ ne. omega (arith, low, ne)))
 
 -- what a seat was told that has made no call

@@ -37,8 +37,8 @@ abbrev pub HasOrGaveUp : Known → Place → Type 0
 HasOrGaveUp s place = HasClaim s place ⊎ Contains s.given_up (number place)
 
 -- the seat's claim ends, where it has one, and the place is noted: its entry stays claimed
-abbrev pub giving_up : Known → Known
-giving_up s = record s { claims = 0; given_up = s.given_up ++ replicate s.claims s.place }
+abbrev pub with_given_up : Known → Known
+with_given_up s = record s { claims = 0; given_up = s.given_up ++ replicate s.claims s.place }
 
 -- what was seen is a beginning of what is seen now
 abbrev pub SeesOn : List (List ℕ) → List (List ℕ) → Type 0
@@ -61,11 +61,11 @@ abbrev pub LacksBelow : ℕ → List ℕ → ℕ → Type 0
 LacksBelow n row word = (n ≤ length row) × ((k : ℕ) → k < n → slice_index row k ≢ word)
 
 -- the seat learned that the place has had this life
-abbrev pub having_met : Known → Place → Life → Known
-having_met s place life = record s { learned = s.learned ++ (number place, life) ∷ [] }
+abbrev pub with_met : Known → Place → Life → Known
+with_met s place life = record s { learned = s.learned ++ (number place, life) ∷ [] }
 
-abbrev pub settled_as : Bool → Life
-settled_as good = cond good Clean Broken
+abbrev pub verdict_life : Bool → Life
+verdict_life good = cond good Clean Broken
 
 -- what two seats know together, with what they have seen
 abbrev pub both_known : Known → Known → List (List ℕ) → Known

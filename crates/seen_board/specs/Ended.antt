@@ -5,8 +5,8 @@ use Rattle.state_space.specs.Reach.{IsReached}
 use Rattle.state_space.specs.Counts.{IsSome, IsListOf}
 use Rattle.board_rule.specs.Layout.{size_for, length_word, place_of}
 use Rattle.board_rule.specs.Lists.{row_of, Has, total}
-use Rattle.board_rule.specs.Lives.{life_of, is_claimed, settled}
-use Rattle.board_rule.specs.Rule.{times_among, published, start_place}
+use Rattle.board_rule.specs.Lives.{life_of, is_claimed, is_settled}
+use Rattle.board_rule.specs.Rule.{times_among, is_published, start_place}
 use Rattle.board_rule.specs.Readings.{rows_of, lives_of}
 use Rattle.board_rule.specs.declared.life.Life.{Life}
 use Rattle.board_rule.specs.declared.life.Life.TheVariants.{Waiting, Clean, Broken}
@@ -19,8 +19,8 @@ pub record Ended : Type 0 where
   pub pending : ℕ
   pub count : ℕ
 
-abbrev pub ended : ℕ → List ℕ → Ended
-ended limit words = record { rows = rows_of limit words; lives = lives_of limit words; pending = slice_index words 0; count = slice_index words 1 }
+abbrev pub end_of : ℕ → List ℕ → Ended
+end_of limit words = record { rows = rows_of limit words; lives = lives_of limit words; pending = slice_index words 0; count = slice_index words 1 }
 
 -- the life of the entry at place k of shard q
 abbrev pub life_of_entry : Ended → ℕ → ℕ → Life
@@ -63,7 +63,7 @@ pub record Done (next : ℕ → List ℕ) (origin : ℕ) (e : Ended) : Type 0 wh
 -- what one seat with the whole board was told is all that happened
 pub record Accounts (origin : ℕ) (s : Known) (e : Ended) : Type 0 where
   -- the places that it was told New of and the start's are, each once, the places of the entries
-  pub places : (p : ℕ) → times_among p s.added + cond (p == start_place origin) 1 0 ≡ published e.rows p
+  pub places : (p : ℕ) → times_among p s.added + cond (p == start_place origin) 1 0 ≡ is_published e.rows p
   pub entries : total length e.rows ≡ length s.added + 1
   pub count : e.count ≡ length s.added + 1
   -- an entry is claimed exactly where its claim is had or given up, and that by one call

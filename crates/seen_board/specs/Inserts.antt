@@ -6,7 +6,7 @@ use Rattle.board_rule.specs.Lists.{row_of}
 use Rattle.board_rule.specs.Changes.{with_entry}
 use Rattle.board_rule.specs.declared.view.View.{View}
 use Rattle.seen_board.specs.Known.{Known}
-use Rattle.seen_board.specs.Clauses.{SeesOn, Names, Lacks, number, giving_up}
+use Rattle.seen_board.specs.Clauses.{SeesOn, Names, Lacks, number, with_given_up}
 use Rattle.seen_board.specs.declared.answers.Put.{Put}
 use Rattle.seen_board.specs.declared.answers.Put.TheVariants.{New, Known as Found, Busy, Over}
 use Rattle.seen_board.specs.declared.answers.Looked.{Looked}
@@ -37,14 +37,14 @@ abbrev pub PutOk : ℕ → Known → Known → Put → Type 0
 PutOk word v w (New place) = (w ≡ record v { seen = w.seen; held = w.held; right = 0; added = v.added ++ number place ∷ [] }) × SeesOn v.seen w.seen × Names w.seen place word × Lacks (row_of v.seen (word % 13)) word
 PutOk word v w (Found place) = Returns v w × Names w.seen place word
 PutOk word v w Busy = Returns v w
-PutOk word v w Over = (w ≡ record (giving_up v) { seen = w.seen; held = w.held; right = 0; added = w.added; over = 1 }) × SeesOn v.seen w.seen
+PutOk word v w Over = (w ≡ record (with_given_up v) { seen = w.seen; held = w.held; right = 0; added = w.added; over = 1 }) × SeesOn v.seen w.seen
 
 -- what a word that is put in under the write right leaves
 abbrev pub AddOk : ℕ → Known → Known → Put → Type 0
 AddOk word v w (New place) = (w ≡ record v { seen = w.seen; right = 0; added = v.added ++ number place ∷ [] }) × SeesOn v.seen w.seen × Names w.seen place word
 AddOk word v w (Found place) = ⊥
 AddOk word v w Busy = ⊥
-AddOk word v w Over = (w ≡ record (giving_up v) { seen = w.seen; right = 0; added = w.added; over = 1 }) × SeesOn v.seen w.seen
+AddOk word v w Over = (w ≡ record (with_given_up v) { seen = w.seen; right = 0; added = w.added; over = 1 }) × SeesOn v.seen w.seen
 
 -- what a look under the read right tells of the row
 abbrev pub LookedOk : List ℕ → ℕ → Looked → Type 0

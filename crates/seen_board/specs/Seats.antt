@@ -4,7 +4,7 @@ use Rattle.atomic_table.specs.declared.shared.Seat.{Seat}
 use Rattle.board_rule.specs.Layout.{writer, slot}
 use Rattle.board_rule.specs.declared.view.View.{View}
 use Rattle.seen_board.specs.Known.{Shown}
-use Rattle.seen_board.specs.declared.layout.Sought.{Sought}
+use Rattle.seen_board.specs.declared.layout.Probe.{Probe}
 
 -- the seat is of the board's table
 abbrev pub SitsAt : {S : Type 0} → Shown S → Seat Unit View → Type 0
@@ -27,5 +27,5 @@ abbrev pub HasWriteRightOf : View → ℕ → Type 0
 HasWriteRightOf v q = (q < 13) × (v.rows.held ≡ q) × (v.rows.right ≡ writer)
 
 -- the shard is the word's, and the index word its first
-abbrev pub IsSought : ℕ → Sought → Type 0
-IsSought limit s = (s.shard ≡ s.word % 13) × (s.first ≡ slot limit s.word 0) × (s.first < limit)
+abbrev pub IsProbe : ℕ → Probe → Type 0
+IsProbe limit s = (s.shard ≡ s.word % 13) × (s.first ≡ slot limit s.word 0) × (s.first < limit)

@@ -1,7 +1,7 @@
 //! Claiming an entry and settling it.
 ghost use Rattle.std.specs.Prelude.{◌≡◌, ◌↔◌, ℕ, ◌+◌, true, false, IsTrue, Contains};
 ghost use Rattle.board_rule.specs.Lists.{Has};
-ghost use Rattle.seen_board.specs.Clauses.{IsOf, HasPlace, HasClaim, word_at, number, having_met, settled_as};
+ghost use Rattle.seen_board.specs.Clauses.{IsOf, HasPlace, HasClaim, word_at, number, with_met, verdict_life};
 ghost use Rattle.board_rule.specs.declared.life.Life.TheVariants.{Claimed};
 
 use crate::answers::Place;
@@ -29,9 +29,9 @@ impl<S: Space, A: Allocator> Board<S, A> {
         requires none { seat.old.claims ≡ 0 }
         requires seen { HasPlace seat.old.seen place }
         ensures yes { result ≡ true
-            → seat.new ≡ record (having_met seat.old place Claimed) { claims = 1; place = number place } }
+            → seat.new ≡ record (with_met seat.old place Claimed) { claims = 1; place = number place } }
         ensures once { result ≡ true → Contains seat.old.given_up (number place) → ⊥ }
-        ensures no { result ≡ false → seat.new ≡ having_met seat.old place Claimed }
+        ensures no { result ≡ false → seat.new ≡ with_met seat.old place Claimed }
     {
         let life = self.layout.life(place.shard, place.at as usize);
         self.table
@@ -50,7 +50,7 @@ impl<S: Space, A: Allocator> Board<S, A> {
             → Has seat.old.seen y }
         requires verdict { IsTrue good ↔ S.is_good self.now.space (word_at seat.old.seen place) }
         ensures { seat.new
-            ≡ record (having_met seat.old place (settled_as good)) { claims = 0; verdicts = seat.old.verdicts + 1 } }
+            ≡ record (with_met seat.old place (verdict_life good)) { claims = 0; verdicts = seat.old.verdicts + 1 } }
     {
         let life = self.layout.life(place.shard, place.at as usize);
         let verdict = if good { CLEAN } else { BROKEN };

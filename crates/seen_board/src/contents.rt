@@ -21,11 +21,11 @@ pub struct Contents<A: Allocator> {
 impl<A: Allocator> Model for Contents<A> {
     ghost use Rattle.std.specs.Prelude.{◌≡◌};
     ghost use Rattle.std.specs.Mem.Slots.{slots_items, slots_len, IsFull};
-    ghost use Rattle.seen_board.specs.Ended.{Ended, ended, IsReadable};
+    ghost use Rattle.seen_board.specs.Ended.{Ended, end_of, IsReadable};
 
     ghost Value = { Ended };
 
-    ghost view = { λ c. ended c.layout.limit (slots_items c.closed.words) };
+    ghost view = { λ c. end_of c.layout.limit (slots_items c.closed.words) };
 
     ghost invariant = { λ c. IsFull c.closed.words × (slots_len c.closed.slots ≡ 0)
         × IsReadable c.layout.limit (slots_items c.closed.words) };

@@ -1,6 +1,6 @@
 //! Reading that all is finished, and telling the others to stop.
 ghost use Rattle.std.specs.Prelude.{◌≡◌, true, false};
-ghost use Rattle.seen_board.specs.Clauses.{IsOf, giving_up};
+ghost use Rattle.seen_board.specs.Clauses.{IsOf, with_given_up};
 
 use crate::board::Board;
 use crate::layout::{PENDING, STOP};
@@ -24,7 +24,7 @@ impl<S: Space, A: Allocator> Board<S, A> {
     /// for good.
     pub fn stop(&self, seat: &mut BoardSeat)
         requires seat { IsOf self.now seat.old }
-        ensures { seat.new ≡ giving_up seat.old }
+        ensures { seat.new ≡ with_given_up seat.old }
     {
         self.table.shared.store::<Stop>(&mut seat.seat, STOP, 1);
     }

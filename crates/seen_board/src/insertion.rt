@@ -1,13 +1,13 @@
 //! Putting words in, each a successor of the one that the seat has claimed.
 ghost use Rattle.std.specs.Prelude.{◌≡◌, ◌%◌, ◌≤◌, length};
 ghost use Rattle.board_rule.specs.Lists.{row_of};
-ghost use Rattle.seen_board.specs.Clauses.{IsOf, IsAtRest, Lacks, LacksBelow, Writes, giving_up};
+ghost use Rattle.seen_board.specs.Clauses.{IsOf, IsAtRest, Lacks, LacksBelow, Writes, with_given_up};
 ghost use Rattle.seen_board.specs.Inserts.{IsSuccessor, Returns, PutOk, LookedOk};
-ghost use Rattle.seen_board.specs.Seats.{IsSought};
+ghost use Rattle.seen_board.specs.Seats.{IsProbe};
 
 use crate::answers::{Got, Looked, Place, Put};
 use crate::board::Board;
-use crate::layout::{STOP, Sought};
+use crate::layout::{Probe, STOP};
 use crate::seat::BoardSeat;
 use crate::steps::Overflow;
 use state_space::Space;
@@ -15,19 +15,19 @@ use std::alloc::Allocator;
 
 impl<S: Space, A: Allocator> Board<S, A> {
     /// Looks a word up under the read right, which is given up again, where no place below `from` has it.
-    fn look_reading(&self, seat: &mut BoardSeat, from: u16, sought: Sought) -> Looked
+    fn look_reading(&self, seat: &mut BoardSeat, from: u16, probe: Probe) -> Looked
         requires seat { IsAtRest self.now seat.old }
-        requires sought { IsSought self.now.limit sought }
-        requires before { LacksBelow from (row_of seat.old.seen sought.shard) sought.word }
+        requires probe { IsProbe self.now.limit probe }
+        requires before { LacksBelow from (row_of seat.old.seen probe.shard) probe.word }
         ensures returns { Returns seat.old seat.new }
-        ensures looked { LookedOk (row_of seat.new.seen sought.shard) sought.word result }
+        ensures looked { LookedOk (row_of seat.new.seen probe.shard) probe.word result }
     {
-        match self.try_read(seat, sought.shard) {
+        match self.try_read(seat, probe.shard) {
             Got::Busy => return Looked::Taken,
             Got::Right => {}
         }
-        let found = self.look_from(seat, from, sought);
-        self.leave(seat, sought.shard);
+        let found = self.look_from(seat, from, probe);
+        self.leave(seat, probe.shard);
         match found {
             Some(at) => Looked::At(at),
             None => Looked::Absent,
@@ -35,42 +35,42 @@ impl<S: Space, A: Allocator> Board<S, A> {
     }
 
     /// Tells that a full row lacks a word that is reached. The stop is set, and the claim is given up.
-    fn overflow(&self, seat: &mut BoardSeat, sought: Sought)
+    fn overflow(&self, seat: &mut BoardSeat, probe: Probe)
         requires seat { IsOf self.now seat.old }
-        requires sought { IsSought self.now.limit sought }
-        requires writes { Writes seat.old sought.shard }
-        requires successor { IsSuccessor (S.successors self.now.space) seat.old sought.word }
-        requires full { self.now.limit ≤ length (row_of seat.old.seen sought.shard) }
-        requires absent { Lacks (row_of seat.old.seen sought.shard) sought.word }
-        ensures { seat.new ≡ record (giving_up seat.old) { over = 1 } }
+        requires probe { IsProbe self.now.limit probe }
+        requires writes { Writes seat.old probe.shard }
+        requires successor { IsSuccessor (S.successors self.now.space) seat.old probe.word }
+        requires full { self.now.limit ≤ length (row_of seat.old.seen probe.shard) }
+        requires absent { Lacks (row_of seat.old.seen probe.shard) probe.word }
+        ensures { seat.new ≡ record (with_given_up seat.old) { over = 1 } }
     {
         self.table.shared.store::<Overflow>(&mut seat.seat, STOP, 1);
     }
 
     /// Takes the write right and puts a word in, where the part of the row that was seen lacks it.
-    fn insert_writing(&self, seat: &mut BoardSeat, sought: Sought) -> Put
+    fn insert_writing(&self, seat: &mut BoardSeat, probe: Probe) -> Put
         requires seat { IsAtRest self.now seat.old }
-        requires sought { IsSought self.now.limit sought }
-        requires successor { IsSuccessor (S.successors self.now.space) seat.old sought.word }
-        requires absent { Lacks (row_of seat.old.seen sought.shard) sought.word }
-        ensures put { PutOk sought.word seat.old seat.new result }
+        requires probe { IsProbe self.now.limit probe }
+        requires successor { IsSuccessor (S.successors self.now.space) seat.old probe.word }
+        requires absent { Lacks (row_of seat.old.seen probe.shard) probe.word }
+        ensures put { PutOk probe.word seat.old seat.new result }
     {
-        let shard = sought.shard;
+        let shard = probe.shard;
         let seen = seat.counts[shard as usize];
         match self.try_write(seat, shard) {
             Got::Busy => return Put::Busy,
             Got::Right => {}
         }
-        if let Some(at) = self.look_from(seat, seen, sought) {
+        if let Some(at) = self.look_from(seat, seen, probe) {
             self.give(seat, shard);
             return Put::Known(Place { shard, at });
         }
         if seat.counts[shard as usize] as usize == self.layout.limit {
-            self.overflow(seat, sought);
+            self.overflow(seat, probe);
             self.give(seat, shard);
             return Put::Over;
         }
-        self.add(seat, sought)
+        self.add(seat, probe)
     }
 
     /// Tries to put a word in that is a successor of the one that the seat has claimed.
@@ -96,17 +96,17 @@ impl<S: Space, A: Allocator> Board<S, A> {
         requires before { LacksBelow from (row_of seat.old.seen (word % 13)) word }
         ensures put { PutOk word seat.old seat.new result }
     {
-        let sought = self.sought(word);
-        if let Some(place) = self.find_sought(seat, sought) {
+        let probe = self.probe(word);
+        if let Some(place) = self.find_probe(seat, probe) {
             return Put::Known(place);
         }
-        match self.look_reading(seat, from, sought) {
+        match self.look_reading(seat, from, probe) {
             Looked::Taken => Put::Busy,
             Looked::At(at) => Put::Known(Place {
-                shard: sought.shard,
+                shard: probe.shard,
                 at,
             }),
-            Looked::Absent => self.insert_writing(seat, sought),
+            Looked::Absent => self.insert_writing(seat, probe),
         }
     }
 }

@@ -2,7 +2,7 @@
 //! for.
 ghost use Rattle.std.specs.Prelude.{◌≡◌, ◌%◌, ◌<◌, ◌≤◌};
 ghost use Rattle.board_rule.specs.Layout.{lock_word, length_word, low_word, high_word, life_word, index_word, size_for, slot, window};
-ghost use Rattle.seen_board.specs.Seats.{IsSought};
+ghost use Rattle.seen_board.specs.Seats.{IsProbe};
 
 /// The number of shards of a board.
 pub const SHARDS: usize = 13;
@@ -112,13 +112,13 @@ impl Layout {
     }
 
     /// The t-th index word of a word, counted from 0. Behind the last word of the index comes word 0.
-    pub fn slot(&self, sought: Sought, t: usize) -> usize
-        requires sought { IsSought self.now.limit sought }
+    pub fn slot(&self, probe: Probe, t: usize) -> usize
+        requires probe { IsProbe self.now.limit probe }
         requires range { (t ≤ self.now.limit) × (self.now.limit ≤ 32768) }
-        ensures slot { result ≡ slot self.now.limit sought.word t }
+        ensures slot { result ≡ slot self.now.limit probe.word t }
         ensures below { result < self.now.limit }
     {
-        let slot = sought.first + t;
+        let slot = probe.first + t;
         if slot < self.limit {
             slot
         } else {
@@ -129,7 +129,7 @@ impl Layout {
 
 /// A word that is looked for, with its shard and the first of its index words.
 #[derive(Clone, Copy, Debug, Drop)]
-pub(crate) struct Sought {
+pub(crate) struct Probe {
     pub word: u128,
     pub shard: u8,
     pub first: usize,

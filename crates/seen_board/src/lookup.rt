@@ -3,11 +3,11 @@ ghost use Rattle.std.specs.Prelude.{◌≡◌, ◌≢◌, ℕ, ◌<◌, ◌≤�
 ghost use Rattle.board_rule.specs.Lists.{row_of};
 ghost use Rattle.seen_board.specs.Clauses.{IsOf, HasRight, Lacks, Names, Sees};
 ghost use Rattle.seen_board.specs.Founds.{FoundOk};
-ghost use Rattle.seen_board.specs.Seats.{SitsAt, IsSame, HasRightOf, IsSought};
+ghost use Rattle.seen_board.specs.Seats.{SitsAt, IsSame, HasRightOf, IsProbe};
 
 use crate::answers::{Found, Place};
 use crate::board::Board;
-use crate::layout::{Sought, shard_of};
+use crate::layout::{Probe, shard_of};
 use crate::seat::BoardSeat;
 use crate::steps::{Mark, Scan};
 use atomic_table::Seat;
@@ -17,11 +17,11 @@ use std::alloc::Allocator;
 
 impl<S: Space, A: Allocator> Board<S, A> {
     /// What is computed once of a word that is looked for.
-    pub(crate) fn sought(&self, word: u128) -> Sought
+    pub(crate) fn probe(&self, word: u128) -> Probe
         ensures word { result.word ≡ word }
-        ensures sought { IsSought self.now.limit result }
+        ensures probe { IsProbe self.now.limit result }
     {
-        Sought {
+        Probe {
             word,
             shard: shard_of(word),
             first: self.layout.first_slot(word),
@@ -29,26 +29,26 @@ impl<S: Space, A: Allocator> Board<S, A> {
     }
 
     /// What the index tells of a word, under a right of its shard and with nothing to file.
-    fn search(&self, seat: &mut Seat<(), View>, sought: Sought) -> Found
+    fn search(&self, seat: &mut Seat<(), View>, probe: Probe) -> Found
         requires seat { SitsAt self.now seat.old }
-        requires sought { IsSought self.now.limit sought }
-        requires right { HasRightOf seat.old.me.0 sought.shard }
+        requires probe { IsProbe self.now.limit probe }
+        requires right { HasRightOf seat.old.me.0 probe.shard }
         requires filed { seat.old.me.0.rows.unfiled ≡ 0 }
-        requires short { length (row_of seat.old.me.0.rows.seen sought.shard) ≤ self.now.limit }
+        requires short { length (row_of seat.old.me.0.rows.seen probe.shard) ≤ self.now.limit }
         ensures same { IsSame seat.old seat.new }
-        ensures found { FoundOk (row_of seat.old.me.0.rows.seen sought.shard) sought.word result }
+        ensures found { FoundOk (row_of seat.old.me.0.rows.seen probe.shard) probe.word result }
     {
         for t in 0..self.layout.window() {
-            let slot = self.layout.slot(sought, t);
+            let slot = self.layout.slot(probe, t);
             let mark = self
                 .table
                 .shared
-                .load::<Mark>(seat, self.layout.mark(sought.shard, slot));
+                .load::<Mark>(seat, self.layout.mark(probe.shard, slot));
             if mark == 0 {
                 return Found::Absent;
             }
             let at = mark as usize - 1;
-            if self.entry(seat, sought.shard, at) == sought.word {
+            if self.entry(seat, probe.shard, at) == probe.word {
                 return Found::At(at as u16);
             }
         }
@@ -73,22 +73,22 @@ impl<S: Space, A: Allocator> Board<S, A> {
     }
 
     /// The place of a word under a right of its shard, where no place below `from` has it.
-    pub(crate) fn look_from(&self, seat: &mut BoardSeat, from: u16, sought: Sought) -> Option<u16>
+    pub(crate) fn look_from(&self, seat: &mut BoardSeat, from: u16, probe: Probe) -> Option<u16>
         requires seat { IsOf self.now seat.old }
-        requires sought { IsSought self.now.limit sought }
-        requires right { HasRight seat.old sought.shard }
-        requires before { (k : ℕ) → k < from → slice_index (row_of seat.old.seen sought.shard) k ≢ sought.word }
+        requires probe { IsProbe self.now.limit probe }
+        requires right { HasRight seat.old probe.shard }
+        requires before { (k : ℕ) → k < from → slice_index (row_of seat.old.seen probe.shard) k ≢ probe.word }
         ensures same { seat.new ≡ seat.old }
-        ensures found { MatchOption result (Lacks (row_of seat.old.seen sought.shard) sought.word) (λ k.
-            (k < length (row_of seat.old.seen sought.shard))
-            × (slice_index (row_of seat.old.seen sought.shard) k ≡ sought.word)) }
+        ensures found { MatchOption result (Lacks (row_of seat.old.seen probe.shard) probe.word) (λ k.
+            (k < length (row_of seat.old.seen probe.shard))
+            × (slice_index (row_of seat.old.seen probe.shard) k ≡ probe.word)) }
     {
-        match self.search(&mut seat.seat, sought) {
+        match self.search(&mut seat.seat, probe) {
             Found::At(at) => Some(at),
             Found::Absent => None,
             Found::Full => {
-                let count = seat.counts[sought.shard as usize];
-                self.walk(seat, sought.shard, from, count, sought.word)
+                let count = seat.counts[probe.shard as usize];
+                self.walk(seat, probe.shard, from, count, probe.word)
             }
         }
     }
@@ -101,10 +101,9 @@ impl<S: Space, A: Allocator> Board<S, A> {
         ensures found { MatchOption result (Lacks (row_of seat.old.seen (word % 13)) word) (λ place.
             Names seat.old.seen place word) }
     {
-        let sought = self.sought(word);
-        let shard = sought.shard;
-        self.look_from(seat, 0, sought)
-            .map(|at| Place { shard, at })
+        let probe = self.probe(word);
+        let shard = probe.shard;
+        self.look_from(seat, 0, probe).map(|at| Place { shard, at })
     }
 
     /// Loads an index word. The places up to the one that it names are published, so the seat has seen them.
@@ -129,24 +128,24 @@ impl<S: Space, A: Allocator> Board<S, A> {
         ensures sees { Sees seat.old seat.new }
         ensures found { MatchOption result (Unit {0}) (λ place. Names seat.new.seen place word) }
     {
-        self.find_sought(seat, self.sought(word))
+        self.find_probe(seat, self.probe(word))
     }
 
     /// Looks a word up with no right, as `find`.
-    pub(crate) fn find_sought(&self, seat: &mut BoardSeat, sought: Sought) -> Option<Place>
+    pub(crate) fn find_probe(&self, seat: &mut BoardSeat, probe: Probe) -> Option<Place>
         requires seat { IsOf self.now seat.old }
-        requires sought { IsSought self.now.limit sought }
+        requires probe { IsProbe self.now.limit probe }
         ensures sees { Sees seat.old seat.new }
-        ensures found { MatchOption result (Unit {0}) (λ place. Names seat.new.seen place sought.word) }
+        ensures found { MatchOption result (Unit {0}) (λ place. Names seat.new.seen place probe.word) }
     {
-        let shard = sought.shard;
+        let shard = probe.shard;
         for t in 0..self.layout.window() {
-            let mark = self.scan(seat, shard, self.layout.slot(sought, t));
+            let mark = self.scan(seat, shard, self.layout.slot(probe, t));
             if mark == 0 {
                 return None;
             }
             let at = mark as usize - 1;
-            if self.entry(&mut seat.seat, shard, at) == sought.word {
+            if self.entry(&mut seat.seat, shard, at) == probe.word {
                 return Some(Place {
                     shard,
                     at: at as u16,

@@ -1,7 +1,8 @@
 //! The rule of a board's table, and the names of the steps on it.
 ghost use Rattle.std.specs.Prelude.{ℕ};
 ghost use Rattle.board_rule.specs.Rule.{Kept};
-ghost use Rattle.board_rule.specs.Changes.{first_view, halved, fresh_seat, joined, impossible, spent};
+ghost use Rattle.board_rule.specs.Changes.{first_view, with_half_share, fresh_seat};
+ghost use Rattle.board_rule.specs.Changes.{both_views, impossible_view, spent_view};
 ghost use Rattle.board_rule.specs.Plays.{peeked, never, placed, entered, seized, left, measured, low_read, high_read, low_laid, high_laid, publishes, marked, scanned, filed, claimed, settled, announced, repaid, ended, counted, stopped, overflowed};
 
 use atomic_table::{Join, Play, Split, TableRule};
@@ -186,7 +187,7 @@ impl Play<(), View> for Overflow {
 pub struct Fresh;
 
 impl Split<View> for Fresh {
-    ghost left = { halved };
+    ghost left = { with_half_share };
 
     ghost right = { fresh_seat };
 }
@@ -194,16 +195,16 @@ impl Split<View> for Fresh {
 pub struct Both;
 
 impl Join<View> for Both {
-    ghost both = { joined };
+    ghost both = { both_views };
 
-    ghost spent = { spent };
+    ghost spent = { spent_view };
 }
 
 /// Two seats that cannot be side by side.
 pub struct Clash;
 
 impl Join<View> for Clash {
-    ghost both = { impossible };
+    ghost both = { impossible_view };
 
-    ghost spent = { spent };
+    ghost spent = { spent_view };
 }

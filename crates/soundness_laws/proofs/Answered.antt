@@ -2,7 +2,7 @@
 use Rattle.std.proofs.Common.{◌≡◌, ℕ, Bool, true, false, Option, Some, None, Result, Ok, Err, refl}
 use Rattle.std.specs.Prelude.{is_some, is_none, unwrap_or, ok_or, not, if◌then◌else◌}
 use Rattle.crash_model.specs.Disk.{Disk}
-use Rattle.crash_model.specs.Plan.{entry_named, walked, then_ok, at_entry}
+use Rattle.crash_model.specs.Plan.{entry_named, walk_end, then_ok, at_entry}
 use Rattle.crash_model.specs.declared.refusals.FsFault.{FsFault}
 use Rattle.crash_model.specs.declared.refusals.FsFault.TheVariants.{NotFound}
 use Rattle.crash_model.specs.declared.names.Path.{Path}
@@ -19,13 +19,13 @@ ok_or-ok None fault x e = cc
 pub record AtEntry {B : Type 0} (d : Disk) (path : Path) (plan : ℕ → ℕ → Result B FsFault) (y : B) : Type 0 where
   pub dir : ℕ
   pub k : ℕ
-  pub walk : walked d 0 path.through.items ≡ Ok dir
+  pub walk : walk_end d 0 path.through.items ≡ Ok dir
   pub named : entry_named d dir path.last ≡ Some k
   pub next : plan dir k ≡ Ok y
 
 pub at_entry-ok : {B : Type 0} (d : Disk) (path : Path) (plan : ℕ → ℕ → Result B FsFault) (y : B) → at_entry d path plan ≡ Ok y → AtEntry d path plan y
 at_entry-ok d path plan y e =
-    let walk = then_ok-ok (walked d 0 path.through.items) _ y e in
+    let walk = then_ok-ok (walk_end d 0 path.through.items) _ y e in
     let dir = walk.0 in
     let entry = then_ok-ok (ok_or (entry_named d dir path.last) NotFound) (λ k. plan dir k) y walk.2 in
     record { dir = dir; k = entry.0; walk = walk.1; named = ok_or-ok (entry_named d dir path.last) NotFound entry.0 entry.1; next = entry.2 }

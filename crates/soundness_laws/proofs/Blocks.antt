@@ -1,20 +1,20 @@
 -- Blocks of inodes that are new, gone, or have a block more.
 use Rattle.std.proofs.Common.{◌≡◌, ◌≢◌, ℕ, ◌+◌, ◌<◌, ◌≤◌, ◌⊎◌, inl, inr, Bool, true, false, arith, refl, sym, ◌∙◌, ap, subst}
 use Rattle.std.proofs.lemmas.Bool.{cases_eq, eq-eqb}
-use Rattle.soundness_laws.specs.Tables.{Tables, Mark, changed, HasPointer, SoundBlocks}
+use Rattle.soundness_laws.specs.Tables.{Tables, Mark, with_value, HasPointer, SoundBlocks}
 use Rattle.soundness_laws.specs.Tables.Mark.{FileOf, DirectoryOf}
-use Rattle.soundness_laws.proofs.Sums.{changed-same, changed-other}
+use Rattle.soundness_laws.proofs.Sums.{with_value-same, with_value-other}
 use Rattle.soundness_laws.proofs.Inodes.{IsFresh, not-fresh}
 
 -- a new file has no pointer
 pub blocks-new_file : (t : Tables) (i : ℕ) → SoundBlocks t.blocks t.journal t.kind t.pointer t.mark t.used → t.kind 0 ≡ 2 → IsFresh t i 1
-    → SoundBlocks t.blocks t.journal (changed t.kind i 1) (changed t.pointer i (λ _. 0)) t.mark t.used
+    → SoundBlocks t.blocks t.journal (with_value t.kind i 1) (with_value t.pointer i (λ _. 0)) t.mark t.used
 blocks-new_file t i sound root fresh =
-    let kind = changed t.kind i 1 in
-    let pointer = changed t.pointer i (λ _. 0) in
-    let apart : (j s b : ℕ) → HasPointer kind pointer j s b → j ≢ i = λ j s b h e. h.2 (sym h.1 ∙ ap (λ (row : ℕ → ℕ). row s) (ap pointer e ∙ changed-same t.pointer i (λ _. 0))) in
-    let kinds : (j : ℕ) → j ≢ i → kind j ≡ t.kind j = λ j n. changed-other t.kind i 1 j n in
-    let pointers : (j s : ℕ) → j ≢ i → pointer j s ≡ t.pointer j s = λ j s n. ap (λ (row : ℕ → ℕ). row s) (changed-other t.pointer i (λ _. 0) j n) in
+    let kind = with_value t.kind i 1 in
+    let pointer = with_value t.pointer i (λ _. 0) in
+    let apart : (j s b : ℕ) → HasPointer kind pointer j s b → j ≢ i = λ j s b h e. h.2 (sym h.1 ∙ ap (λ (row : ℕ → ℕ). row s) (ap pointer e ∙ with_value-same t.pointer i (λ _. 0))) in
+    let kinds : (j : ℕ) → j ≢ i → kind j ≡ t.kind j = λ j n. with_value-other t.kind i 1 j n in
+    let pointers : (j s : ℕ) → j ≢ i → pointer j s ≡ t.pointer j s = λ j s n. ap (λ (row : ℕ → ℕ). row s) (with_value-other t.pointer i (λ _. 0) j n) in
     let back : (j s b : ℕ) → HasPointer kind pointer j s b → HasPointer t.kind t.pointer j s b =
     λ j s b h. let n = apart j s b h in (λ z. h.0 (kinds j n ∙ z), sym (pointers j s n) ∙ h.1, h.2) in
     let kept : (j s b : ℕ) → HasPointer t.kind t.pointer j s b → HasPointer kind pointer j s b =
@@ -22,7 +22,7 @@ blocks-new_file t i sound root fresh =
     let root_other : 0 ≢ i = not-fresh t i 1 0 fresh (λ z. omega (arith, root)) in
     record {
       slots = λ j s h. elim (cases_eq j i) [
-        | inl e ↦ absurd (h (ap (λ (row : ℕ → ℕ). row s) (ap pointer e ∙ changed-same t.pointer i (λ _. 0))))
+        | inl e ↦ absurd (h (ap (λ (row : ℕ → ℕ). row s) (ap pointer e ∙ with_value-same t.pointer i (λ _. 0))))
         | inr n ↦ sound.slots j s (λ z. h (pointers j s n ∙ z))
       ];
       once = λ b j s h r p q. sound.once b j s h r (back j s b p) (back h r b q);
@@ -31,11 +31,11 @@ blocks-new_file t i sound root fresh =
       in_data_area = λ j s b h. sound.in_data_area j s b (back j s b h);
       root_block = pointers 0 0 root_other ∙ sound.root_block;
       one_block = λ j h. elim (cases_eq j i) [
-        | inl e ↦ absurd (let one : kind j ≡ 1 = ap kind e ∙ changed-same t.kind i 1 in omega arith)
+        | inl e ↦ absurd (let one : kind j ≡ 1 = ap kind e ∙ with_value-same t.kind i 1 in omega arith)
         | inr n ↦ let o = sound.one_block j (sym (kinds j n) ∙ h) in (λ z. o.0 (sym (pointers j 0 n) ∙ z), λ s m. pointers j s n ∙ o.1 s m)
       ];
       packed = λ j s h z. elim (cases_eq j i) [
-        | inl e ↦ ap (λ (row : ℕ → ℕ). row (s + 1)) (ap pointer e ∙ changed-same t.pointer i (λ _. 0))
+        | inl e ↦ ap (λ (row : ℕ → ℕ). row (s + 1)) (ap pointer e ∙ with_value-same t.pointer i (λ _. 0))
         | inr n ↦ pointers j (s + 1) n ∙ sound.packed j s (sym (kinds j n) ∙ h) (sym (pointers j s n) ∙ z)
       ];
       low_used = sound.low_used;
@@ -49,18 +49,18 @@ pub record FreesBlocks (kind : ℕ → ℕ) (pointer : ℕ → ℕ → ℕ) (use
   pub kept : (b : ℕ) → used b ≡ true → ((s : ℕ) → ¬ (HasPointer kind pointer i s b)) → used' b ≡ true
 
 pub blocks-freed : (t : Tables) (i : ℕ) (used' : ℕ → Bool) → SoundBlocks t.blocks t.journal t.kind t.pointer t.mark t.used → i ≢ 0 → FreesBlocks t.kind t.pointer t.used used' i
-    → SoundBlocks t.blocks t.journal (changed t.kind i 0) (changed t.pointer i (λ _. 0)) t.mark used'
+    → SoundBlocks t.blocks t.journal (with_value t.kind i 0) (with_value t.pointer i (λ _. 0)) t.mark used'
 blocks-freed t i used' sound not_root f =
-    let kind = changed t.kind i 0 in
-    let pointer = changed t.pointer i (λ _. 0) in
-    let apart : (j : ℕ) → kind j ≢ 0 → j ≢ i = λ j live e. live (ap kind e ∙ changed-same t.kind i 0) in
-    let kinds : (j : ℕ) → j ≢ i → kind j ≡ t.kind j = λ j n. changed-other t.kind i 0 j n in
-    let pointers : (j s : ℕ) → j ≢ i → pointer j s ≡ t.pointer j s = λ j s n. ap (λ (row : ℕ → ℕ). row s) (changed-other t.pointer i (λ _. 0) j n) in
+    let kind = with_value t.kind i 0 in
+    let pointer = with_value t.pointer i (λ _. 0) in
+    let apart : (j : ℕ) → kind j ≢ 0 → j ≢ i = λ j live e. live (ap kind e ∙ with_value-same t.kind i 0) in
+    let kinds : (j : ℕ) → j ≢ i → kind j ≡ t.kind j = λ j n. with_value-other t.kind i 0 j n in
+    let pointers : (j s : ℕ) → j ≢ i → pointer j s ≡ t.pointer j s = λ j s n. ap (λ (row : ℕ → ℕ). row s) (with_value-other t.pointer i (λ _. 0) j n) in
     let back : (j s b : ℕ) → HasPointer kind pointer j s b → HasPointer t.kind t.pointer j s b =
     λ j s b h. let n = apart j h.0 in (λ z. h.0 (kinds j n ∙ z), sym (pointers j s n) ∙ h.1, h.2) in
     record {
       slots = λ j s h. elim (cases_eq j i) [
-        | inl e ↦ absurd (h (ap (λ (row : ℕ → ℕ). row s) (ap pointer e ∙ changed-same t.pointer i (λ _. 0))))
+        | inl e ↦ absurd (h (ap (λ (row : ℕ → ℕ). row s) (ap pointer e ∙ with_value-same t.pointer i (λ _. 0))))
         | inr n ↦ sound.slots j s (λ z. h (pointers j s n ∙ z))
       ];
       once = λ b j s h r p q. sound.once b j s h r (back j s b p) (back h r b q);
@@ -122,16 +122,16 @@ pub pointer-gained : (t : Tables) (kind' : ℕ → ℕ) (pointer' : ℕ → ℕ 
 pointer-gained t kind' pointer' mark i s b g = (g.live, g.here, λ z. let low = g.low in omega arith)
 
 pub blocks-gained : (t : Tables) (kind' : ℕ → ℕ) (pointer' : ℕ → ℕ → ℕ) (mark : Mark) (i s b : ℕ) → SoundBlocks t.blocks t.journal t.kind t.pointer t.mark t.used → GainsBlock t kind' pointer' mark i s b
-    → SoundBlocks t.blocks t.journal kind' pointer' (changed t.mark b mark) (changed t.used b true)
+    → SoundBlocks t.blocks t.journal kind' pointer' (with_value t.mark b mark) (with_value t.used b true)
 blocks-gained t kind' pointer' mark i s b sound g =
     let back = pointer-back t kind' pointer' mark i s b g in
-    let used' = changed t.used b true in
+    let used' = with_value t.used b true in
     -- no pointer named the block
     let apart : (j r c : ℕ) → HasPointer t.kind t.pointer j r c → c ≢ b = λ j r c h same.
     let one : t.used b ≡ true = ap t.used (sym same) ∙ sound.named_used j r c h in
     let both : true ≡ false = sym one ∙ g.free in cc in
-    let old_mark : (j r c : ℕ) → HasPointer t.kind t.pointer j r c → changed t.mark b mark c ≡ t.mark c = λ j r c h. changed-other t.mark b mark c (apart j r c h) in
-    let old_used : (c : ℕ) → t.used c ≡ true → used' c ≡ true = λ c u. elim (cases_eq c b) [ inl same ↦ rw (eq-eqb c b same) refl | inr other ↦ changed-other t.used b true c other ∙ u ] in
+    let old_mark : (j r c : ℕ) → HasPointer t.kind t.pointer j r c → with_value t.mark b mark c ≡ t.mark c = λ j r c h. with_value-other t.mark b mark c (apart j r c h) in
+    let old_used : (c : ℕ) → t.used c ≡ true → used' c ≡ true = λ c u. elim (cases_eq c b) [ inl same ↦ rw (eq-eqb c b same) refl | inr other ↦ with_value-other t.used b true c other ∙ u ] in
     let old_kind : (j r c : ℕ) → HasPointer t.kind t.pointer j r c → kind' j ≡ t.kind j = λ j r c h. elim (cases_eq j i) [
       | inl same ↦ ap kind' same ∙ g.stays (λ z. h.0 (ap t.kind same ∙ z)) ∙ ap t.kind (sym same)
       | inr other ↦ g.kinds j other
@@ -160,11 +160,11 @@ blocks-gained t kind' pointer' mark i s b sound g =
       ];
       file_blocks = λ j r c h one. elim (back j r c h) [
         | inl old ↦ old_mark j r c old ∙ sound.file_blocks j r c old (sym (old_kind j r c old) ∙ one)
-        | inr new ↦ ap (changed t.mark b mark) new.2 ∙ changed-same t.mark b mark ∙ (g.file (ap kind' (sym new.0) ∙ one)).0 ∙ ap FileOf (sym new.0)
+        | inr new ↦ ap (with_value t.mark b mark) new.2 ∙ with_value-same t.mark b mark ∙ (g.file (ap kind' (sym new.0) ∙ one)).0 ∙ ap FileOf (sym new.0)
       ];
       directory_blocks = λ j r c h two. elim (back j r c h) [
         | inl old ↦ old_mark j r c old ∙ sound.directory_blocks j r c old (sym (old_kind j r c old) ∙ two)
-        | inr new ↦ ap (changed t.mark b mark) new.2 ∙ changed-same t.mark b mark ∙ (g.directory (ap kind' (sym new.0) ∙ two)).0 ∙ ap DirectoryOf (sym new.0)
+        | inr new ↦ ap (with_value t.mark b mark) new.2 ∙ with_value-same t.mark b mark ∙ (g.directory (ap kind' (sym new.0) ∙ two)).0 ∙ ap DirectoryOf (sym new.0)
       ];
       in_data_area = λ j r c h. elim (back j r c h) [
         | inl old ↦ sound.in_data_area j r c old
@@ -190,12 +190,12 @@ blocks-gained t kind' pointer' mark i s b sound g =
       low_used = λ c low. old_used c (sound.low_used c low);
       named_used = λ j r c h. elim (back j r c h) [
         | inl old ↦ old_used c (sound.named_used j r c old)
-        | inr new ↦ ap used' new.2 ∙ changed-same t.used b true
+        | inr new ↦ ap used' new.2 ∙ with_value-same t.used b true
       ];
       used_named = λ c low u. elim (cases_eq c b) [
         | inl same ↦ (i, s, subst (λ (x : ℕ). HasPointer kind' pointer' i s x) (sym same) (pointer-gained t kind' pointer' mark i s b g))
         | inr other ↦
-            let w = sound.used_named c low (sym (changed-other t.used b true c other) ∙ u) in
+            let w = sound.used_named c low (sym (with_value-other t.used b true c other) ∙ u) in
             (w.0, w.1, pointer-kept t kind' pointer' mark i s b g w.0 w.1 c w.2)
       ];
     }

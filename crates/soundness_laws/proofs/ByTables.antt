@@ -5,14 +5,14 @@ use Rattle.std.proofs.lemmas.Bool.{cases_eq, cases_lt, eq-eqb, ne_eqb, lt-ltb, l
 use Rattle.std.proofs.lemmas.Bool.Decides.{nat_tests}
 use Rattle.crash_model.specs.Disk.{Disk, IsDisk, byte}
 use Rattle.crash_model.specs.Layout.{kind_of, pointer_of, is_data, is_live, target_of, counts, entry_of, spelling_of}
-use Rattle.crash_model.specs.Plan.{is_named, entry_named, inode_named, entered, walked}
+use Rattle.crash_model.specs.Plan.{is_named, entry_named, inode_named, directory_of, walk_end}
 use Rattle.crash_model.specs.declared.refusals.FsFault.{FsFault}
 use Rattle.crash_model.specs.declared.refusals.FsFault.TheVariants.{NotADirectory}
 use Rattle.crash_model.proofs.Bytes.{length-overwrite}
 use Rattle.soundness_laws.specs.Tables.{tables_of, place_at, place_of, mark_at}
 use Rattle.soundness_laws.specs.Tables.Place.{Free, Leads}
 use Rattle.soundness_laws.specs.Tables.Mark.{Plain, FileOf, DirectoryOf}
-use Rattle.soundness_laws.proofs.Puts.{written}
+use Rattle.soundness_laws.proofs.Puts.{with_bytes_at}
 use Rattle.soundness_laws.proofs.Searches.{first_below-is_some}
 use Rattle.soundness_laws.proofs.Answered.{then_ok-ok}
 
@@ -83,18 +83,18 @@ counts-by_tables d dir below kind mark =
     let m = mark_directory d (pointer_of d dir 0) dir (rw (lt-ltb dir 16 below) at mark) in
     rw (eq-eqb (kind_of d dir) 2 k, m.0, eq-eqb (byte d (pointer_of d dir 0) 0) 0x44 m.1, eq-eqb (byte d (pointer_of d dir 0) 1) dir m.2) refl
 
-pub disk-written : (d : Disk) (at : ℕ) (new : List ℕ) → IsDisk d → at + length new ≤ length d.bytes → IsDisk (written d at new)
-disk-written d at new disk fits = record { least = disk.least; most = disk.most; room = disk.room; whole = length-overwrite d.bytes at new fits ∙ disk.whole }
+pub disk-with_bytes_at : (d : Disk) (at : ℕ) (new : List ℕ) → IsDisk d → at + length new ≤ length d.bytes → IsDisk (with_bytes_at d at new)
+disk-with_bytes_at d at new disk fits = record { least = disk.least; most = disk.most; room = disk.room; whole = length-overwrite d.bytes at new fits ∙ disk.whole }
 
 -- ---- walks
 
 pub named-target : (d : Disk) (dir : ℕ) (name : List ℕ) (k : ℕ) → is_named d dir name k ≡ true → is_live d (target_of d dir k) ≡ true
 named-target d dir name k e = grind (arith, nat_tests)
 
-pub entered-is_ok : (d : Disk) (dir : ℕ) (name : List ℕ) (child : ℕ) → entered d (inode_named d dir name) ≡ Ok child → (child < 16) × (kind_of d child ≡ 2)
-entered-is_ok d dir name child e = go (entry_named d dir name) refl e
+pub directory_of-is_ok : (d : Disk) (dir : ℕ) (name : List ℕ) (child : ℕ) → directory_of d (inode_named d dir name) ≡ Ok child → (child < 16) × (kind_of d child ≡ 2)
+directory_of-is_ok d dir name child e = go (entry_named d dir name) refl e
   where
-    go : (o : Option ℕ) → entry_named d dir name ≡ o → entered d (option_map (target_of d dir) o) ≡ Ok child → (child < 16) × (kind_of d child ≡ 2)
+    go : (o : Option ℕ) → entry_named d dir name ≡ o → directory_of d (option_map (target_of d dir) o) ≡ Ok child → (child < 16) × (kind_of d child ≡ 2)
     go None p r = cc
     go (Some k) p r = elim (cases_eq (kind_of d (target_of d dir k)) 2) [
       | inl two ↦
@@ -106,9 +106,9 @@ entered-is_ok d dir name child e = go (entry_named d dir name) refl e
       | inr other ↦ absurd (let no_ok : ◌≡◌ {A = Result ℕ FsFault} (Err NotADirectory) (Ok child) = rw (ne_eqb (kind_of d (target_of d dir k)) 2 other) at r in cc)
     ]
 
-pub walked-is_ok : (d : Disk) (dir : ℕ) (names : List (List ℕ)) (last : ℕ) → dir < 16 → kind_of d dir ≡ 2 → walked d dir names ≡ Ok last → (last < 16) × (kind_of d last ≡ 2)
-walked-is_ok d dir [] last below two e = let same : dir ≡ last = cc in (subst (λ (x : ℕ). x < 16) same below, ap (kind_of d) (sym same) ∙ two)
-walked-is_ok d dir (name ∷ names) last below two e =
-    let step = then_ok-ok (entered d (inode_named d dir name)) (λ child. walked d child names) last e in
-    let here = entered-is_ok d dir name step.0 step.1 in
-    walked-is_ok d step.0 names last here.0 here.1 step.2
+pub walk_end-is_ok : (d : Disk) (dir : ℕ) (names : List (List ℕ)) (last : ℕ) → dir < 16 → kind_of d dir ≡ 2 → walk_end d dir names ≡ Ok last → (last < 16) × (kind_of d last ≡ 2)
+walk_end-is_ok d dir [] last below two e = let same : dir ≡ last = cc in (subst (λ (x : ℕ). x < 16) same below, ap (kind_of d) (sym same) ∙ two)
+walk_end-is_ok d dir (name ∷ names) last below two e =
+    let step = then_ok-ok (directory_of d (inode_named d dir name)) (λ child. walk_end d child names) last e in
+    let here = directory_of-is_ok d dir name step.0 step.1 in
+    walk_end-is_ok d step.0 names last here.0 here.1 step.2

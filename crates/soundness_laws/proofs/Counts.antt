@@ -3,7 +3,7 @@ use Rattle.std.proofs.Common.{◌≡◌, ◌≢◌, ℕ, ◌+◌, ◌<◌, inl, 
 use Rattle.std.proofs.lemmas.Bool.{cases_eq, eq-eqb, ne_eqb}
 use Rattle.soundness_laws.specs.Tables.{Place, with_place, leads, sum_below, count_to, SoundCounts}
 use Rattle.soundness_laws.specs.Tables.Place.{Free, Leads}
-use Rattle.soundness_laws.proofs.Sums.{count_to-changed, changed_twice-other}
+use Rattle.soundness_laws.proofs.Sums.{count_to-with_value, changed_twice-other}
 use Rattle.soundness_laws.proofs.Places.{sum_below-zero, sum_below-some}
 use Rattle.soundness_laws.proofs.Names.{cases_place, left_back}
 
@@ -36,7 +36,7 @@ leads-other i j spelling other = rw (ne_eqb i j (λ e. other (sym e))) refl
 count_to-gained : (entry : ℕ → ℕ → Place) (dir k i : ℕ) (spelling : List ℕ) (j : ℕ) → dir < 16 → k < 10 → entry dir k ≡ Free
     → count_to (with_place entry dir k (Leads i spelling)) j ≡ count_to entry j + leads (Leads i spelling) j
 count_to-gained entry dir k i spelling j in_dir in_place free =
-    let both = count_to-changed entry dir k (Leads i spelling) j in_dir in_place in
+    let both = count_to-with_value entry dir k (Leads i spelling) j in_dir in_place in
     let none : leads (entry dir k) j ≡ 0 = ap (λ (p : Place). leads p j) free in
     omega arith
 
@@ -44,7 +44,7 @@ count_to-gained entry dir k i spelling j in_dir in_place free =
 count_to-lost : (entry : ℕ → ℕ → Place) (dir k i : ℕ) (spelling : List ℕ) (j : ℕ) → dir < 16 → k < 10 → entry dir k ≡ Leads i spelling
     → count_to (with_place entry dir k Free) j + leads (Leads i spelling) j ≡ count_to entry j
 count_to-lost entry dir k i spelling j in_dir in_place there =
-    let both = count_to-changed entry dir k Free j in_dir in_place in
+    let both = count_to-with_value entry dir k Free j in_dir in_place in
     let had : leads (entry dir k) j ≡ leads (Leads i spelling) j = ap (λ (p : Place). leads p j) there in
     omega arith
 

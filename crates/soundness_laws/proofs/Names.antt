@@ -2,7 +2,7 @@
 use Rattle.std.proofs.Common.{◌≡◌, ◌≢◌, ℕ, zero, suc, ◌<◌, ◌⊎◌, inl, inr, List, arith, sym, ◌∙◌, ap, subst}
 use Rattle.std.proofs.lemmas.Bool.{cases_eq}
 use Rattle.crash_model.specs.Names.{IsName}
-use Rattle.crash_model.specs.Plan.{spelled}
+use Rattle.crash_model.specs.Plan.{name_spelling}
 use Rattle.soundness_laws.specs.Tables.{Place, SoundNames, ReachedIn, with_place}
 use Rattle.soundness_laws.specs.Tables.Place.{Free, Leads}
 use Rattle.soundness_laws.proofs.Sums.{changed_twice-same, changed_twice-other}
@@ -20,7 +20,7 @@ pub record GainsName (kind kind' : ℕ → ℕ) (entry : ℕ → ℕ → Place) 
   pub in_place : k < 10
   pub parent : kind dir ≡ 2
   pub is_name : IsName name
-  pub absent : (m j : ℕ) → entry dir m ≢ Leads j (spelled name)
+  pub absent : (m j : ℕ) → entry dir m ≢ Leads j (name_spelling name)
   pub target : kind' i ≢ 0
   pub not_root : i ≢ 0
   pub kept : (h : ℕ) → kind h ≢ 0 → kind' h ≡ kind h
@@ -62,11 +62,11 @@ reached_more entry new kept zero i h = h
 reached_more entry new kept (suc n) i h = (h.0, h.1, h.2, kept h.0 h.1 i h.2 h.3, reached_more entry new kept n h.0 h.4)
 
 pub names-gained : (kind kind' : ℕ → ℕ) (entry : ℕ → ℕ → Place) (dir k i : ℕ) (name : List ℕ) → SoundNames kind entry → GainsName kind kind' entry dir k i name
-    → SoundNames kind' (with_place entry dir k (Leads i (spelled name)))
+    → SoundNames kind' (with_place entry dir k (Leads i (name_spelling name)))
 names-gained kind kind' entry dir k i name sound g =
-    let new = with_place entry dir k (Leads i (spelled name)) in
-    let back = entry_back entry dir k i (spelled name) in
-    let kept : (d m j : ℕ) (sp : List ℕ) → entry d m ≡ Leads j sp → new d m ≡ Leads j sp = λ d m j sp e. entry_kept entry dir k (Leads i (spelled name)) d m j sp g.free e in
+    let new = with_place entry dir k (Leads i (name_spelling name)) in
+    let back = entry_back entry dir k i (name_spelling name) in
+    let kept : (d m j : ℕ) (sp : List ℕ) → entry d m ≡ Leads j sp → new d m ≡ Leads j sp = λ d m j sp e. entry_kept entry dir k (Leads i (name_spelling name)) d m j sp g.free e in
     let live : (h : ℕ) → kind h ≢ 0 → kind' h ≢ 0 = λ h l z. l (sym (g.kept h l) ∙ z) in
     let parent_live : kind dir ≢ 0 = λ z. omega (arith, g.parent) in
     record {
@@ -92,7 +92,7 @@ names-gained kind kind' entry dir k i name sound g =
         | inl old ↦ let r = sound.reached h old in (r.0, reached_more entry new kept r.0 h r.1)
         | inr e ↦
             let r = sound.reached dir parent_live in
-            (suc r.0, (dir, k, spelled name, rw e (changed_twice-same entry dir k (Leads i (spelled name))), reached_more entry new kept r.0 dir r.1))
+            (suc r.0, (dir, k, name_spelling name, rw e (changed_twice-same entry dir k (Leads i (name_spelling name))), reached_more entry new kept r.0 dir r.1))
       ];
     }
 

@@ -6,11 +6,11 @@ use Rattle.std.proofs.lemmas.Bool.Decides.{nat_tests}
 use Rattle.std.proofs.lemmas.Grind.{elements, same_number_lists}
 use Rattle.crash_model.specs.Disk.{Disk, IsDisk, byte, overwrite}
 use Rattle.crash_model.specs.Layout.{kind_of, links_of, pointer_of, map_of, is_data, counts, entry_of, spelling_of}
-use Rattle.crash_model.specs.Plan.{inode_init, inode_free, entry_set, entry_clear, spelled, applied}
+use Rattle.crash_model.specs.Plan.{inode_init, inode_free, entry_set, entry_clear, name_spelling, with_changes}
 use Rattle.crash_model.proofs.Bytes.{length-overwrite, overwrite-inside}
-use Rattle.soundness_laws.specs.Tables.{tables_of, place_at, place_of, changed, with_inode, with_used, with_entry, within}
+use Rattle.soundness_laws.specs.Tables.{tables_of, place_at, place_of, with_value, with_inode, with_used, with_entry, within}
 use Rattle.soundness_laws.specs.Tables.Place.{Free, Leads}
-use Rattle.soundness_laws.proofs.Puts.{written, SameBlock, same-block, byte-outside, range-outside, place-same, mark-same, data-block, within-changed, within-same, same_tables, tables-inode}
+use Rattle.soundness_laws.proofs.Puts.{with_bytes_at, SameBlock, same-block, byte-outside, range-outside, place-same, mark-same, data-block, within-with_value, within-same, same_tables, tables-inode}
 
 pub byte-inside : (xs : List ℕ) (at : ℕ) (new : List ℕ) (o p : ℕ) → at + length new ≤ length xs → o < length new → p ≡ at + o → get_or (overwrite xs at new) p 0 ≡ get_or new o 0
 byte-inside xs at new o p fits less e =
@@ -40,10 +40,10 @@ place-no_block d dir k none =
     helper true b c e n sp h = rw h refl
     helper false b c e n sp h = refl
 
-pub tables-inode_init : (d : Disk) (i kind : ℕ) → IsDisk d → i < 16 → kind_of d i ≡ 0 → tables_of (applied d (inode_init i kind ∷ [])) ≡ with_inode (tables_of d) i kind 1
+pub tables-inode_init : (d : Disk) (i kind : ℕ) → IsDisk d → i < 16 → kind_of d i ≡ 0 → tables_of (with_changes d (inode_init i kind ∷ [])) ≡ with_inode (tables_of d) i kind 1
 tables-inode_init d i kind disk below free =
     let new = kind ∷ 1 ∷ replicate 14 0 in
-    let e = written d (256 + 16 * i + 0) new in
+    let e = with_bytes_at d (256 + 16 * i + 0) new in
     let inside : 256 + 16 * i + 0 + length new ≤ length d.bytes = omega (arith, disk.whole, disk.least) in
     let spot : 128 * (2 + i / 8) + (16 * (i % 8) + 0) ≡ 256 + 16 * i + 0 = omega arith in
     let k : kind_of e i ≡ kind = byte-inside d.bytes (256 + 16 * i + 0) new 0 (256 + 16 * i) inside (omega arith) (omega arith) in
@@ -51,7 +51,7 @@ tables-inode_init d i kind disk below free =
     let slot : (s : ℕ) → s < 4 → pointer_of e i s ≡ 0 = λ s less. byte-inside d.bytes (256 + 16 * i + 0) new (4 + s) (260 + 16 * i + s) inside (omega arith) (omega arith) ∙ behind_two kind 1 14 (4 + s) (omega arith) in
     let p : within 0 4 (pointer_of e i) ≡ (λ _. 0) = fun_ext (λ s. elim (cases_lt s 4) [ inl less ↦ rw (lt-ltb s 4 less) (slot s less) | inr more ↦ rw (le-ltb s 4 more) refl ]) in
     let own : (m : ℕ) → m < 10 → place_of e i m ≡ place_of d i m = λ m small. place-no_block e i m (slot 0 (omega arith)) ∙ sym (place-no_directory d i m (λ h. omega arith)) in
-    ap (λ (at : ℕ). tables_of (written d at new)) spot
+    ap (λ (at : ℕ). tables_of (with_bytes_at d at new)) spot
     ∙ tables-inode d i 0 new disk below (omega arith) own
     ∙ rw (k, l, p) refl
 
@@ -92,12 +92,12 @@ range-inside xs at new o n p fits less e =
     grind (arith, elements))
 
 pub tables-entry : (d : Disk) (dir k : ℕ) (new : List ℕ) → IsDisk d → dir < 16 → k < 10 → counts d dir ≡ true → length new ≡ 12
-    → tables_of (written d (128 * pointer_of d dir 0 + (8 + 12 * k)) new) ≡ with_entry (tables_of d) dir k (place_at true (get_or new 0 0) (take 11 (drop 1 new)))
+    → tables_of (with_bytes_at d (128 * pointer_of d dir 0 + (8 + 12 * k)) new) ≡ with_entry (tables_of d) dir k (place_at true (get_or new 0 0) (take 11 (drop 1 new)))
 unfolding tables_of
 tables-entry d dir k new disk in_dir in_place holds twelve =
     let p = pointer_of d dir 0 in
     let at = 128 * p + (8 + 12 * k) in
-    let e = written d at new in
+    let e = with_bytes_at d at new in
     let own = counts-parts d dir holds in
     let low : 4 ≤ p = omega (arith, own.low) in
     let inside : at + length new ≤ length d.bytes = omega (arith, own.high, disk.whole) in
@@ -142,28 +142,28 @@ tables-entry d dir k new disk in_dir in_place holds twelve =
     (within-same (λ _. 0) 16 (λ h. within 0 4 (pointer_of d h)) (λ h. within 0 4 (pointer_of e h)) (λ j less. within-same 0 4 (pointer_of d j) (pointer_of e j) (λ s small. pointers j s less small)))
     (within-same false d.blocks (λ b. not (eqb (map_of d b) 0)) (λ b. not (eqb (map_of e b) 0)) (λ b less. ap (λ (x : ℕ). not (eqb x 0)) (early (128 + b) (omega (arith, disk.most)))))
     (fun_ext (λ b. rw (marks b 0 (omega arith), marks b 1 (omega arith)) refl))
-    (within-changed (λ _. Free) 16 dir (rows d) (rows e) in_dir (λ j less other. within-same Free 10 (place_of d j) (place_of e j) (λ m small. others j m less other small))
-    ∙ rw (within-changed Free 10 k (place_of d dir) (place_of e dir) in_place beside, this, lt-ltb dir 16 in_dir) refl)
+    (within-with_value (λ _. Free) 16 dir (rows d) (rows e) in_dir (λ j less other. within-same Free 10 (place_of d j) (place_of e j) (λ m small. others j m less other small))
+    ∙ rw (within-with_value Free 10 k (place_of d dir) (place_of e dir) in_place beside, this, lt-ltb dir 16 in_dir) refl)
 
 pub tables-entry_set : (d : Disk) (dir k inode : ℕ) (name : List ℕ) → IsDisk d → dir < 16 → k < 10 → counts d dir ≡ true → length name ≤ 10
-    → tables_of (applied d (entry_set d dir k inode name ∷ [])) ≡ with_entry (tables_of d) dir k (Leads inode (spelled name))
+    → tables_of (with_changes d (entry_set d dir k inode name ∷ [])) ≡ with_entry (tables_of d) dir k (Leads inode (name_spelling name))
 tables-entry_set d dir k inode name disk in_dir in_place holds short =
-    let eleven : length (spelled name) ≡ 11 = grind (arith, elements) in
-    let all : take 11 (spelled name) ≡ spelled name = take_all 11 (spelled name) (omega arith) in
-    tables-entry d dir k ((inode + 1) ∷ spelled name) disk in_dir in_place holds (omega arith)
+    let eleven : length (name_spelling name) ≡ 11 = grind (arith, elements) in
+    let all : take 11 (name_spelling name) ≡ name_spelling name = take_all 11 (name_spelling name) (omega arith) in
+    tables-entry d dir k ((inode + 1) ∷ name_spelling name) disk in_dir in_place holds (omega arith)
     ∙ rw (all, add-one) refl
 
 pub tables-entry_clear : (d : Disk) (dir k : ℕ) → IsDisk d → dir < 16 → k < 10 → counts d dir ≡ true
-    → tables_of (applied d (entry_clear d dir k ∷ [])) ≡ with_entry (tables_of d) dir k Free
+    → tables_of (with_changes d (entry_clear d dir k ∷ [])) ≡ with_entry (tables_of d) dir k Free
 tables-entry_clear d dir k disk in_dir in_place holds = tables-entry d dir k (replicate 12 0) disk in_dir in_place holds refl
 
 -- ---- a byte of the map
 
-pub tables-map : (d : Disk) (b v : ℕ) → IsDisk d → b < d.blocks → tables_of (written d (128 * 1 + b) (v ∷ [])) ≡ with_used (tables_of d) b (not (eqb v 0))
+pub tables-map : (d : Disk) (b v : ℕ) → IsDisk d → b < d.blocks → tables_of (with_bytes_at d (128 * 1 + b) (v ∷ [])) ≡ with_used (tables_of d) b (not (eqb v 0))
 unfolding tables_of
 tables-map d b v disk below =
     let at = 128 * 1 + b in
-    let e = written d at (v ∷ []) in
+    let e = with_bytes_at d at (v ∷ []) in
     let inside : at + 1 ≤ length d.bytes = omega (arith, disk.whole, disk.most) in
     let late : (j : ℕ) → 256 ≤ j → get_or e.bytes j 0 ≡ get_or d.bytes j 0 = λ j more. byte-outside d.bytes at (v ∷ []) j inside (inr (omega (arith, disk.most))) in
     let blocks : (h : ℕ) → is_data d h ≡ true → SameBlock d e h = λ h data_area. same-block d at (v ∷ []) h inside (inr (let w = data-block d h data_area in omega (arith, disk.most))) in
@@ -172,7 +172,7 @@ tables-map d b v disk below =
     (within-same 0 16 (kind_of d) (kind_of e) (λ j less. late (256 + 16 * j) (omega arith)))
     (within-same 0 16 (links_of d) (links_of e) (λ j less. late (257 + 16 * j) (omega arith)))
     (within-same (λ _. 0) 16 (λ h. within 0 4 (pointer_of d h)) (λ h. within 0 4 (pointer_of e h)) (λ j less. within-same 0 4 (pointer_of d j) (pointer_of e j) (λ s small. late (260 + 16 * j + s) (omega arith))))
-    (within-changed false d.blocks b (λ h. not (eqb (map_of d h) 0)) (λ h. not (eqb (map_of e h) 0)) below (λ h less other. ap (λ (x : ℕ). not (eqb x 0)) (byte-outside d.bytes at (v ∷ []) (128 + h) inside (elim (cases_order h b) [
+    (within-with_value false d.blocks b (λ h. not (eqb (map_of d h) 0)) (λ h. not (eqb (map_of e h) 0)) below (λ h less other. ap (λ (x : ℕ). not (eqb x 0)) (byte-outside d.bytes at (v ∷ []) (128 + h) inside (elim (cases_order h b) [
       | inl same ↦ absurd (other same)
       | inr ne ↦ elim ne [ inl low ↦ inl (omega arith) | inr high ↦ inr (omega arith) ]
     ]))) ∙ rw this refl)
@@ -183,10 +183,10 @@ tables-map d b v disk below =
 -- ---- an inode goes, which nothing is below
 
 pub tables-inode_free : (d : Disk) (i : ℕ) → IsDisk d → i < 16 → ((m : ℕ) → m < 10 → place_of d i m ≡ Free)
-    → tables_of (applied d (inode_free i ∷ [])) ≡ record (tables_of d) { kind = changed (tables_of d).kind i 0; links = changed (tables_of d).links i 0; pointer = changed (tables_of d).pointer i (λ _. 0) }
+    → tables_of (with_changes d (inode_free i ∷ [])) ≡ record (tables_of d) { kind = with_value (tables_of d).kind i 0; links = with_value (tables_of d).links i 0; pointer = with_value (tables_of d).pointer i (λ _. 0) }
 tables-inode_free d i disk below empty =
     let new = replicate {A = ℕ} 16 0 in
-    let e = written d (256 + 16 * i + 0) new in
+    let e = with_bytes_at d (256 + 16 * i + 0) new in
     let inside : 256 + 16 * i + 0 + length new ≤ length d.bytes = omega (arith, disk.whole, disk.least) in
     let spot : 128 * (2 + i / 8) + (16 * (i % 8) + 0) ≡ 256 + 16 * i + 0 = omega arith in
     let byte_zero : (o p : ℕ) → o < 16 → p ≡ 256 + 16 * i + 0 + o → get_or e.bytes p 0 ≡ 0 = λ o p less same. byte-inside d.bytes (256 + 16 * i + 0) new o p inside less same ∙ zeros 16 o in
@@ -195,6 +195,6 @@ tables-inode_free d i disk below empty =
     let slot : (s : ℕ) → s < 4 → pointer_of e i s ≡ 0 = λ s less. byte_zero (4 + s) (260 + 16 * i + s) (omega arith) (omega arith) in
     let p : within 0 4 (pointer_of e i) ≡ (λ _. 0) = fun_ext (λ s. elim (cases_lt s 4) [ inl less ↦ rw (lt-ltb s 4 less) (slot s less) | inr more ↦ rw (le-ltb s 4 more) refl ]) in
     let own : (m : ℕ) → m < 10 → place_of e i m ≡ place_of d i m = λ m small. place-no_block e i m (slot 0 (omega arith)) ∙ sym (empty m small) in
-    ap (λ (at : ℕ). tables_of (written d at new)) spot
+    ap (λ (at : ℕ). tables_of (with_bytes_at d at new)) spot
     ∙ tables-inode d i 0 new disk below (omega arith) own
     ∙ rw (k, l, p) refl

@@ -7,12 +7,12 @@ use Rattle.std.proofs.lemmas.Grind.{elements, same_number_lists}
 use Rattle.crash_model.specs.Disk.{Disk, IsDisk, byte, overwrite}
 use Rattle.crash_model.specs.Layout.{kind_of, links_of, pointer_of, map_of, is_data}
 use Rattle.crash_model.proofs.Bytes.{length-overwrite, overwrite-below, overwrite-above}
-use Rattle.soundness_laws.specs.Tables.{Tables, Place, Mark, tables_of, place_at, place_of, mark_at, changed, within}
+use Rattle.soundness_laws.specs.Tables.{Tables, Place, Mark, tables_of, place_at, place_of, mark_at, with_value, within}
 use Rattle.soundness_laws.specs.Tables.Place.{Free}
 
 -- the disk with bytes from a place on
-abbrev pub written : Disk → ℕ → List ℕ → Disk
-written d at new = record d { bytes = overwrite d.bytes at new }
+abbrev pub with_bytes_at : Disk → ℕ → List ℕ → Disk
+with_bytes_at d at new = record d { bytes = overwrite d.bytes at new }
 
 pub record SameBlock (d e : Disk) (b : ℕ) : Type 0 where
   pub bytes : (o : ℕ) → o < 128 → byte e b o ≡ byte d b o
@@ -30,7 +30,7 @@ range-outside xs at new j n fits side =
     let there : get_or (overwrite xs at new) (j + k) 0 ≡ get_or xs (j + k) 0 = byte-outside xs at new (j + k) fits (elim side [ inl h ↦ inl (omega arith) | inr h ↦ inr (omega arith) ]) in
     grind (arith, elements))
 
-pub same-block : (d : Disk) (at : ℕ) (new : List ℕ) (b : ℕ) → at + length new ≤ length d.bytes → (128 * b + 128 ≤ at) ⊎ (at + length new ≤ 128 * b) → SameBlock d (written d at new) b
+pub same-block : (d : Disk) (at : ℕ) (new : List ℕ) (b : ℕ) → at + length new ≤ length d.bytes → (128 * b + 128 ≤ at) ⊎ (at + length new ≤ 128 * b) → SameBlock d (with_bytes_at d at new) b
 same-block d at new b fits side = record {
   bytes = λ o less. byte-outside d.bytes at new (128 * b + o) fits (elim side [ inl h ↦ inl (omega arith) | inr h ↦ inr (omega arith) ]);
   spellings = λ o less. range-outside d.bytes at new (128 * b + o) 11 fits (elim side [ inl h ↦ inl (omega arith) | inr h ↦ inr (omega arith) ]);
@@ -78,8 +78,8 @@ mark-same d bytes b same = elim (cases_Bool (is_data d b)) [
 
 -- ---- functions on a range
 
-pub within-changed : {X : Type 0} (none : X) (n i : ℕ) (f g : ℕ → X) → i < n → ((j : ℕ) → j < n → j ≢ i → g j ≡ f j) → within none n g ≡ changed (within none n f) i (g i)
-within-changed none n i f g below same = fun_ext (λ j. elim (cases_eq j i) [
+pub within-with_value : {X : Type 0} (none : X) (n i : ℕ) (f g : ℕ → X) → i < n → ((j : ℕ) → j < n → j ≢ i → g j ≡ f j) → within none n g ≡ with_value (within none n f) i (g i)
+within-with_value none n i f g below same = fun_ext (λ j. elim (cases_eq j i) [
   | inl here ↦ rw (eq-eqb j i here, here, lt-ltb i n below) refl
   | inr there ↦ rw (ne_eqb j i there) (elim (cases_lt j n) [ inl less ↦ rw (lt-ltb j n less) (same j less there) | inr more ↦ rw (le-ltb j n more) refl ])
 ])
@@ -87,8 +87,8 @@ within-changed none n i f g below same = fun_ext (λ j. elim (cases_eq j i) [
 pub within-same : {X : Type 0} (none : X) (n : ℕ) (f g : ℕ → X) → ((j : ℕ) → j < n → g j ≡ f j) → within none n g ≡ within none n f
 within-same none n f g same = fun_ext (λ j. elim (cases_lt j n) [ inl less ↦ rw (lt-ltb j n less) (same j less) | inr more ↦ rw (le-ltb j n more) refl ])
 
-pub changed-kept : {X : Type 0} (f : ℕ → X) (i : ℕ) (v : X) → v ≡ f i → changed f i v ≡ f
-changed-kept f i v same = fun_ext (λ j. elim (cases_eq j i) [
+pub with_value-kept : {X : Type 0} (f : ℕ → X) (i : ℕ) (v : X) → v ≡ f i → with_value f i v ≡ f
+with_value-kept f i v same = fun_ext (λ j. elim (cases_eq j i) [
   | inl here ↦ rw (eq-eqb j i here) (same ∙ ap f (sym here))
   | inr there ↦ rw (ne_eqb j i there) refl
 ])
@@ -115,21 +115,21 @@ inode-other d i from new j o p disk below fits other less e =
 
 -- only one row of the inodes changes, where the inode's own places stay as they were
 pub tables-inode : (d : Disk) (i from : ℕ) (new : List ℕ) → IsDisk d → i < 16 → from + length new ≤ 16
-    → ((k : ℕ) → k < 10 → place_of (written d (256 + 16 * i + from) new) i k ≡ place_of d i k)
-    → tables_of (written d (256 + 16 * i + from) new)
+    → ((k : ℕ) → k < 10 → place_of (with_bytes_at d (256 + 16 * i + from) new) i k ≡ place_of d i k)
+    → tables_of (with_bytes_at d (256 + 16 * i + from) new)
     ≡ record (tables_of d) {
-      kind = changed (tables_of d).kind i (kind_of (written d (256 + 16 * i + from) new) i);
-      links = changed (tables_of d).links i (links_of (written d (256 + 16 * i + from) new) i);
-      pointer = changed (tables_of d).pointer i (within 0 4 (pointer_of (written d (256 + 16 * i + from) new) i));
+      kind = with_value (tables_of d).kind i (kind_of (with_bytes_at d (256 + 16 * i + from) new) i);
+      links = with_value (tables_of d).links i (links_of (with_bytes_at d (256 + 16 * i + from) new) i);
+      pointer = with_value (tables_of d).pointer i (within 0 4 (pointer_of (with_bytes_at d (256 + 16 * i + from) new) i));
     }
 unfolding tables_of
 tables-inode d i from new disk below fits own =
-    let e = written d (256 + 16 * i + from) new in
+    let e = with_bytes_at d (256 + 16 * i + from) new in
     let inside : 256 + 16 * i + from + length new ≤ length d.bytes = omega (arith, disk.whole, disk.least) in
     same_tables _ _ _ _ _ _ _ _ _ _ _ _ _ _
-    (within-changed 0 16 i (kind_of d) (kind_of e) below (λ j less other. inode-other d i from new j 0 (256 + 16 * j) disk below fits other (omega arith) (omega arith)))
-    (within-changed 0 16 i (links_of d) (links_of e) below (λ j less other. inode-other d i from new j 1 (257 + 16 * j) disk below fits other (omega arith) (omega arith)))
-    (within-changed (λ _. 0) 16 i (λ h. within 0 4 (pointer_of d h)) (λ h. within 0 4 (pointer_of e h)) below (λ j less other. within-same 0 4 (pointer_of d j) (pointer_of e j) (λ s small. inode-other d i from new j (4 + s) (260 + 16 * j + s) disk below fits other (omega arith) (omega arith))))
+    (within-with_value 0 16 i (kind_of d) (kind_of e) below (λ j less other. inode-other d i from new j 0 (256 + 16 * j) disk below fits other (omega arith) (omega arith)))
+    (within-with_value 0 16 i (links_of d) (links_of e) below (λ j less other. inode-other d i from new j 1 (257 + 16 * j) disk below fits other (omega arith) (omega arith)))
+    (within-with_value (λ _. 0) 16 i (λ h. within 0 4 (pointer_of d h)) (λ h. within 0 4 (pointer_of e h)) below (λ j less other. within-same 0 4 (pointer_of d j) (pointer_of e j) (λ s small. inode-other d i from new j (4 + s) (260 + 16 * j + s) disk below fits other (omega arith) (omega arith))))
     (within-same false d.blocks (λ b. not (eqb (map_of d b) 0)) (λ b. not (eqb (map_of e b) 0)) (λ b less. ap (λ (x : ℕ). not (eqb x 0)) (byte-outside d.bytes (256 + 16 * i + from) new (128 + b) inside (inl (omega (arith, disk.most))))))
     (fun_ext (λ b. mark-same d e.bytes b (λ h. same-block d (256 + 16 * i + from) new b inside (inr (let p = data-block d b h in omega arith)))))
     (within-same (λ _. Free) 16 (λ dir. within Free 10 (place_of d dir)) (λ dir. within Free 10 (place_of e dir)) (λ dir less. within-same Free 10 (place_of d dir) (place_of e dir) (λ k small. elim (cases_eq dir i) [

@@ -5,31 +5,31 @@ use Rattle.std.proofs.lemmas.Bool.{cases_eq, cases_order, eq-eqb, ne_eqb, lt-ltb
 use Rattle.std.proofs.lemmas.Grind.{elements}
 use Rattle.crash_model.specs.Disk.{Disk, IsDisk, byte}
 use Rattle.crash_model.specs.Layout.{kind_of, links_of, pointer_of, map_of, is_data, counts, entry_of, entry_offset}
-use Rattle.crash_model.specs.Plan.{inode_init, inode_free, link_count, pointer_set, map_set, map_clear, init_block, entry_set, entry_clear, spelled, applied}
+use Rattle.crash_model.specs.Plan.{inode_init, inode_free, link_count, pointer_set, map_set, map_clear, init_block, entry_set, entry_clear, name_spelling, with_changes}
 use Rattle.crash_model.specs.declared.plans.Change.{Change}
 use Rattle.crash_model.specs.declared.plans.Role.{Role}
-use Rattle.soundness_laws.specs.Tables.{Tables, tables_of, place_at, place_of, mark_at, within, changed, with_inode, with_links, with_pointer, with_used, with_mark, with_entry}
+use Rattle.soundness_laws.specs.Tables.{Tables, tables_of, place_at, place_of, mark_at, within, with_value, with_inode, with_links, with_pointer, with_used, with_mark, with_entry}
 use Rattle.soundness_laws.specs.Tables.Place.{Free, Leads}
 use Rattle.soundness_laws.specs.Tables.Mark.{DirectoryOf}
-use Rattle.soundness_laws.proofs.Puts.{written, SameBlock, same-block, byte-outside, place-same, mark-same, data-block, within-changed, within-same, changed-kept, same_tables, tables-inode}
+use Rattle.soundness_laws.proofs.Puts.{with_bytes_at, SameBlock, same-block, byte-outside, place-same, mark-same, data-block, within-with_value, within-same, with_value-kept, same_tables, tables-inode}
 use Rattle.soundness_laws.proofs.OnTables.{byte-inside, behind_two, place-no_directory, counts-parts, tables-inode_init, tables-inode_free, tables-map, tables-entry_set, tables-entry_clear}
-use Rattle.soundness_laws.proofs.ByTables.{kind-at, pointer-at, counts-by_tables, disk-written}
+use Rattle.soundness_laws.proofs.ByTables.{kind-at, pointer-at, counts-by_tables, disk-with_bytes_at}
 
 -- a change makes a disk with these tables
 pub record Makes (d : Disk) (c : Change) (t : Tables) : Type 0 where
-  pub disk : IsDisk (applied d (c ∷ []))
-  pub tables : tables_of (applied d (c ∷ [])) ≡ t
+  pub disk : IsDisk (with_changes d (c ∷ []))
+  pub tables : tables_of (with_changes d (c ∷ [])) ≡ t
 
 -- ---- inodes
 
-inode-disk : (d : Disk) (i from : ℕ) (new : List ℕ) → IsDisk d → i < 16 → from + length new ≤ 16 → IsDisk (written d (128 * (2 + i / 8) + (16 * (i % 8) + from)) new)
-inode-disk d i from new disk below fits = disk-written d (128 * (2 + i / 8) + (16 * (i % 8) + from)) new disk (omega (arith, disk.whole, disk.least))
+inode-disk : (d : Disk) (i from : ℕ) (new : List ℕ) → IsDisk d → i < 16 → from + length new ≤ 16 → IsDisk (with_bytes_at d (128 * (2 + i / 8) + (16 * (i % 8) + from)) new)
+inode-disk d i from new disk below fits = disk-with_bytes_at d (128 * (2 + i / 8) + (16 * (i % 8) + from)) new disk (omega (arith, disk.whole, disk.least))
 
 pub init-makes : (d : Disk) (i kind : ℕ) → IsDisk d → i < 16 → kind_of d i ≡ 0 → Makes d (inode_init i kind) (with_inode (tables_of d) i kind 1)
 init-makes d i kind disk below free = record { disk = inode-disk d i 0 (kind ∷ 1 ∷ replicate 14 0) disk below (omega arith); tables = tables-inode_init d i kind disk below free }
 
 pub free-makes : (d : Disk) (i : ℕ) → IsDisk d → i < 16 → ((m : ℕ) → m < 10 → place_of d i m ≡ Free)
-    → Makes d (inode_free i) (record (tables_of d) { kind = changed (tables_of d).kind i 0; links = changed (tables_of d).links i 0; pointer = changed (tables_of d).pointer i (λ _. 0) })
+    → Makes d (inode_free i) (record (tables_of d) { kind = with_value (tables_of d).kind i 0; links = with_value (tables_of d).links i 0; pointer = with_value (tables_of d).pointer i (λ _. 0) })
 free-makes d i disk below empty = record { disk = inode-disk d i 0 (replicate 16 0) disk below (omega arith); tables = tables-inode_free d i disk below empty }
 
 pub links-makes : (d : Disk) (role : Role) (i links : ℕ) → IsDisk d → i < 16 → Makes d (link_count role i links) (with_links (tables_of d) i links)
@@ -37,7 +37,7 @@ unfolding tables_of
 links-makes d role i links disk below =
     let t = tables_of d in
     let at = 256 + 16 * i + 1 in
-    let e = written d at (links ∷ []) in
+    let e = with_bytes_at d at (links ∷ []) in
     let inside : at + 1 ≤ length d.bytes = omega (arith, disk.whole, disk.least) in
     let spot : 128 * (2 + i / 8) + (16 * (i % 8) + 1) ≡ at = omega arith in
     let kind : kind_of e i ≡ kind_of d i = byte-outside d.bytes at (links ∷ []) (256 + 16 * i) inside (inl (omega arith)) in
@@ -47,12 +47,12 @@ links-makes d role i links disk below =
     place-same d e.bytes i m small kind (pointer 0 (omega arith)) (λ h. same-block d at (links ∷ []) (pointer_of d i 0) inside (inr (let p = data-block d (pointer_of d i 0) h in omega arith))) in
     record {
       disk = inode-disk d i 1 (links ∷ []) disk below (omega arith);
-      tables = ap (λ (x : ℕ). tables_of (written d x (links ∷ []))) spot
+      tables = ap (λ (x : ℕ). tables_of (with_bytes_at d x (links ∷ []))) spot
           ∙ tables-inode d i 1 (links ∷ []) disk below (omega arith) own
           ∙ same_tables t.blocks t.journal _ _ _ _ _ _ _ _ _ _ _ _
-          (changed-kept t.kind i (kind_of e i) (kind ∙ sym (kind-at d i below)))
-          (ap (changed t.links i) own_links)
-          (changed-kept t.pointer i (within 0 4 (pointer_of e i)) (within-same 0 4 (pointer_of d i) (pointer_of e i) pointer ∙ sym (row d i below)))
+          (with_value-kept t.kind i (kind_of e i) (kind ∙ sym (kind-at d i below)))
+          (ap (with_value t.links i) own_links)
+          (with_value-kept t.pointer i (within 0 4 (pointer_of e i)) (within-same 0 4 (pointer_of d i) (pointer_of e i) pointer ∙ sym (row d i below)))
           refl refl refl;
     }
   where
@@ -61,12 +61,12 @@ links-makes d role i links disk below =
 
 -- a slot is set, and no entry comes with the block
 pub pointer-makes : (d : Disk) (i s b : ℕ) → IsDisk d → i < 16 → s < 4
-    → ((m : ℕ) → m < 10 → place_of (written d (256 + 16 * i + (4 + s)) (b ∷ [])) i m ≡ place_of d i m) → Makes d (pointer_set i s b) (with_pointer (tables_of d) i s b)
+    → ((m : ℕ) → m < 10 → place_of (with_bytes_at d (256 + 16 * i + (4 + s)) (b ∷ [])) i m ≡ place_of d i m) → Makes d (pointer_set i s b) (with_pointer (tables_of d) i s b)
 unfolding tables_of
 pointer-makes d i s b disk below small own =
     let t = tables_of d in
     let at = 256 + 16 * i + (4 + s) in
-    let e = written d at (b ∷ []) in
+    let e = with_bytes_at d at (b ∷ []) in
     let inside : at + 1 ≤ length d.bytes = omega (arith, disk.whole, disk.least) in
     let spot : 128 * (2 + i / 8) + (16 * (i % 8) + (4 + s)) ≡ at = omega arith in
     let kind : kind_of e i ≡ kind_of d i = byte-outside d.bytes at (b ∷ []) (256 + 16 * i) inside (inl (omega arith)) in
@@ -76,16 +76,16 @@ pointer-makes d i s b disk below small own =
       | inl same ↦ absurd (other same)
       | inr ne ↦ elim ne [ inl h ↦ inl (omega arith) | inr h ↦ inr (omega arith) ]
     ]) in
-    let own_row : within 0 4 (pointer_of e i) ≡ changed (t.pointer i) s b =
-    within-changed 0 4 s (pointer_of d i) (pointer_of e i) small others ∙ ap (λ (x : ℕ). changed (within 0 4 (pointer_of d i)) s x) here ∙ ap (λ (f : ℕ → ℕ). changed f s b) (sym (row d i below)) in
+    let own_row : within 0 4 (pointer_of e i) ≡ with_value (t.pointer i) s b =
+    within-with_value 0 4 s (pointer_of d i) (pointer_of e i) small others ∙ ap (λ (x : ℕ). with_value (within 0 4 (pointer_of d i)) s x) here ∙ ap (λ (f : ℕ → ℕ). with_value f s b) (sym (row d i below)) in
     record {
       disk = inode-disk d i (4 + s) (b ∷ []) disk below (omega arith);
-      tables = ap (λ (x : ℕ). tables_of (written d x (b ∷ []))) spot
+      tables = ap (λ (x : ℕ). tables_of (with_bytes_at d x (b ∷ []))) spot
           ∙ tables-inode d i (4 + s) (b ∷ []) disk below (omega arith) own
           ∙ same_tables t.blocks t.journal _ _ _ _ _ _ _ _ _ _ _ _
-          (changed-kept t.kind i (kind_of e i) (kind ∙ sym (kind-at d i below)))
-          (changed-kept t.links i (links_of e i) (links ∙ sym (links_row d i below)))
-          (ap (changed t.pointer i) own_row)
+          (with_value-kept t.kind i (kind_of e i) (kind ∙ sym (kind-at d i below)))
+          (with_value-kept t.links i (links_of e i) (links ∙ sym (links_row d i below)))
+          (ap (with_value t.pointer i) own_row)
           refl refl refl;
     }
   where
@@ -96,19 +96,19 @@ pointer-makes d i s b disk below small own =
     links_row d i below = rw (lt-ltb i 16 below) refl
 
 -- the kind stays as it was
-pub pointer-kind : (d : Disk) (i s b : ℕ) → IsDisk d → i < 16 → s < 4 → kind_of (written d (256 + 16 * i + (4 + s)) (b ∷ [])) i ≡ kind_of d i
+pub pointer-kind : (d : Disk) (i s b : ℕ) → IsDisk d → i < 16 → s < 4 → kind_of (with_bytes_at d (256 + 16 * i + (4 + s)) (b ∷ [])) i ≡ kind_of d i
 pointer-kind d i s b disk below small = byte-outside d.bytes (256 + 16 * i + (4 + s)) (b ∷ []) (256 + 16 * i) (omega (arith, disk.whole, disk.least)) (inl (omega arith))
 
 -- a block that has a directory's mark and nothing else has no entries, whichever directory it is given to
 pub empty-place : (d : Disk) (role : Role) (i b mark : ℕ) → IsDisk d → i < 16 → 4 ≤ b → b < d.blocks → (m : ℕ) → m < 10
-    → (let e = applied d (init_block role b mark i ∷ []) in place_of (written e (256 + 16 * i + (4 + 0)) (b ∷ [])) i m ≡ Free)
+    → (let e = with_changes d (init_block role b mark i ∷ []) in place_of (with_bytes_at e (256 + 16 * i + (4 + 0)) (b ∷ [])) i m ≡ Free)
 empty-place d role i b mark disk below low high m small =
     let new = mark ∷ i ∷ replicate 126 0 in
-    let e : Disk = written d (128 * b + 0) new in
+    let e : Disk = with_bytes_at d (128 * b + 0) new in
     let at = 256 + 16 * i + (4 + 0) in
-    let f = written e at (b ∷ []) in
+    let f = with_bytes_at e at (b ∷ []) in
     let fits : 128 * b + 0 + length new ≤ length d.bytes = omega (arith, disk.whole) in
-    let disk_e : IsDisk e = disk-written d (128 * b + 0) new disk fits in
+    let disk_e : IsDisk e = disk-with_bytes_at d (128 * b + 0) new disk fits in
     let inside : at + 1 ≤ length e.bytes = omega (arith, disk_e.whole, disk_e.least) in
     let here : pointer_of f i 0 ≡ b = byte-inside e.bytes at (b ∷ []) 0 (260 + 16 * i + 0) inside (omega arith) (omega arith) in
     let old : byte f b (8 + 12 * m) ≡ byte e b (8 + 12 * m) = byte-outside e.bytes at (b ∷ []) (128 * b + (8 + 12 * m)) inside (inr (omega arith)) in
@@ -124,10 +124,10 @@ empty-place d role i b mark disk below low high m small =
 -- ---- the allocation map
 
 pub map_set-makes : (d : Disk) (b : ℕ) → IsDisk d → b < d.blocks → Makes d (map_set b) (with_used (tables_of d) b true)
-map_set-makes d b disk below = record { disk = disk-written d (128 * 1 + b) (1 ∷ []) disk (omega (arith, disk.whole, disk.most)); tables = tables-map d b 1 disk below }
+map_set-makes d b disk below = record { disk = disk-with_bytes_at d (128 * 1 + b) (1 ∷ []) disk (omega (arith, disk.whole, disk.most)); tables = tables-map d b 1 disk below }
 
 pub map_clear-makes : (d : Disk) (b : ℕ) → IsDisk d → b < d.blocks → Makes d (map_clear b) (with_used (tables_of d) b false)
-map_clear-makes d b disk below = record { disk = disk-written d (128 * 1 + b) (0 ∷ []) disk (omega (arith, disk.whole, disk.most)); tables = tables-map d b 0 disk below }
+map_clear-makes d b disk below = record { disk = disk-with_bytes_at d (128 * 1 + b) (0 ∷ []) disk (omega (arith, disk.whole, disk.most)); tables = tables-map d b 0 disk below }
 
 -- ---- a block that no directory has
 
@@ -138,7 +138,7 @@ block-makes d role b mark owner disk inside none =
     let t = tables_of d in
     let new = mark ∷ owner ∷ replicate 126 0 in
     let at = 128 * b + 0 in
-    let e = written d at new in
+    let e = with_bytes_at d at new in
     let area = data-block d b inside in
     let full : length new ≡ 128 = refl in
     let fits : at + length new ≤ length d.bytes = omega (arith, disk.whole, area.1) in
@@ -152,7 +152,7 @@ block-makes d role b mark owner disk inside none =
     let first : byte e b 0 ≡ mark = byte-inside d.bytes at new 0 (128 * b + 0) fits (omega arith) (omega arith) in
     let second : byte e b 1 ≡ owner = byte-inside d.bytes at new 1 (128 * b + 1) fits (omega arith) (omega arith) in
     record {
-      disk = disk-written d at new disk fits;
+      disk = disk-with_bytes_at d at new disk fits;
       tables = same_tables t.blocks t.journal _ _ _ _ _ _ _ _ _ _ _ _
           (within-same 0 16 (kind_of d) (kind_of e) kinds)
           (within-same 0 16 (links_of d) (links_of e) (λ j less. early (257 + 16 * j) (omega arith)))
@@ -180,25 +180,25 @@ pub record Stands (d e : Disk) (dir : ℕ) : Type 0 where
 stands-block : (d e : Disk) (dir : ℕ) → Stands d e dir → pointer_of e dir 0 ≡ pointer_of d dir 0
 stands-block d e dir s = sym (pointer-at e dir 0 s.below (omega arith)) ∙ s.block ∙ pointer-at d dir 0 s.below (omega arith)
 
-entry-disk : (d e : Disk) (dir k : ℕ) (new : List ℕ) → IsDisk e → Stands d e dir → k < 10 → length new ≤ 12 → IsDisk (written e (128 * pointer_of d dir 0 + entry_offset k) new)
+entry-disk : (d e : Disk) (dir k : ℕ) (new : List ℕ) → IsDisk e → Stands d e dir → k < 10 → length new ≤ 12 → IsDisk (with_bytes_at e (128 * pointer_of d dir 0 + entry_offset k) new)
 entry-disk d e dir k new disk s small few =
     let own = counts-parts e dir (counts-by_tables e dir s.below s.kind s.mark) in
     let high = own.high in
     let same = stands-block d e dir s in
-    disk-written e (128 * pointer_of d dir 0 + entry_offset k) new disk (omega (arith, disk.whole))
+    disk-with_bytes_at e (128 * pointer_of d dir 0 + entry_offset k) new disk (omega (arith, disk.whole))
 
-pub set-makes : (d e : Disk) (dir k i : ℕ) (name : List ℕ) → IsDisk e → Stands d e dir → k < 10 → length name ≤ 10 → Makes e (entry_set d dir k i name) (with_entry (tables_of e) dir k (Leads i (spelled name)))
+pub set-makes : (d e : Disk) (dir k i : ℕ) (name : List ℕ) → IsDisk e → Stands d e dir → k < 10 → length name ≤ 10 → Makes e (entry_set d dir k i name) (with_entry (tables_of e) dir k (Leads i (name_spelling name)))
 set-makes d e dir k i name disk s small short =
-    let twelve : length ((i + 1) ∷ spelled name) ≤ 12 = grind (arith, elements) in
+    let twelve : length ((i + 1) ∷ name_spelling name) ≤ 12 = grind (arith, elements) in
     record {
-      disk = entry-disk d e dir k ((i + 1) ∷ spelled name) disk s small twelve;
-      tables = ap (λ (p : ℕ). tables_of (written e (128 * p + entry_offset k) ((i + 1) ∷ spelled name))) (sym (stands-block d e dir s))
+      disk = entry-disk d e dir k ((i + 1) ∷ name_spelling name) disk s small twelve;
+      tables = ap (λ (p : ℕ). tables_of (with_bytes_at e (128 * p + entry_offset k) ((i + 1) ∷ name_spelling name))) (sym (stands-block d e dir s))
           ∙ tables-entry_set e dir k i name disk s.below small (counts-by_tables e dir s.below s.kind s.mark) short;
     }
 
 pub clear-makes : (d e : Disk) (dir k : ℕ) → IsDisk e → Stands d e dir → k < 10 → Makes e (entry_clear d dir k) (with_entry (tables_of e) dir k Free)
 clear-makes d e dir k disk s small = record {
   disk = entry-disk d e dir k (replicate 12 0) disk s small (omega arith);
-  tables = ap (λ (p : ℕ). tables_of (written e (128 * p + entry_offset k) (replicate 12 0))) (sym (stands-block d e dir s))
+  tables = ap (λ (p : ℕ). tables_of (with_bytes_at e (128 * p + entry_offset k) (replicate 12 0))) (sym (stands-block d e dir s))
       ∙ tables-entry_clear e dir k disk s.below small (counts-by_tables e dir s.below s.kind s.mark);
 }

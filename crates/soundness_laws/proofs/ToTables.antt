@@ -7,7 +7,7 @@ use Rattle.crash_model.specs.Layout.{kind_of, links_of, pointer_of, map_of, is_d
 use Rattle.crash_model.specs.Faults.{is_tame, is_wild, is_right_mark, names_block, each_slot, namers, leads_to, each_entry, entries_to}
 use Rattle.crash_model.specs.Lists.{some_below, when}
 use Rattle.crash_model.proofs.Clean.{clean_no_fault}
-use Rattle.crash_model.specs.Plan.{spelled}
+use Rattle.crash_model.specs.Plan.{name_spelling}
 use Rattle.crash_model.specs.Sound.{IsSound, ReachedIn}
 use Rattle.soundness_laws.specs.Tables.{Place, tables_of, place_of, place_at, HasPointer as PointerIn, ReachedIn as ReachedBy, leads, sum_below, count_to, SoundBlocks, SoundInodes, SoundNames, SoundCounts, Sound}
 use Rattle.soundness_laws.specs.Tables.Place.{Leads}
@@ -94,7 +94,7 @@ reached-by d zero i r = r
 reached-by d (suc n) i r =
     let own = (same-view d).names r.0 r.1 i in
     let place = own.0 r.2 in
-    (r.0, place.0, spelled r.1, place.1, reached-by d n r.0 r.3)
+    (r.0, place.0, name_spelling r.1, place.1, reached-by d n r.0 r.3)
 
 -- ---- the four groups
 

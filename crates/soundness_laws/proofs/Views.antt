@@ -4,7 +4,7 @@ use Rattle.std.proofs.lemmas.Bool.{cases_lt, ne_eqb, lt-ltb, le-ltb, le-leb, eqb
 use Rattle.std.proofs.lemmas.Bool.Decides.{nat_tests}
 use Rattle.crash_model.specs.Disk.{Disk}
 use Rattle.crash_model.specs.Layout.{kind_of, links_of, pointer_of, map_of, is_entry, target_of, counts, entry_of, spelling_of}
-use Rattle.crash_model.specs.Plan.{spelled}
+use Rattle.crash_model.specs.Plan.{name_spelling}
 use Rattle.crash_model.specs.View.{HasName, HasInode, HasPointer, IsUsed, view_of}
 use Rattle.soundness_laws.specs.Tables.{tables_of, place_at, place_of, NameIn, InodeIn, HasPointer as PointerIn, UsedIn, view, SameView}
 use Rattle.soundness_laws.specs.Tables.Place.{Leads}
@@ -62,8 +62,8 @@ name-to d dir name i h = (h.place, entry-at d dir h.place h.within.0 h.within.1 
 
 name-from : (d : Disk) (dir : ℕ) (name : List ℕ) (i : ℕ) → NameIn (tables_of d) dir name i → HasName d dir name i
 name-from d dir name i n =
-    let b = entry-bytes d dir n.0 i (spelled name) n.1 in
-    let is = entry-is d dir n.0 i (spelled name) b in
+    let b = entry-bytes d dir n.0 i (name_spelling name) n.1 in
+    let is = entry-is d dir n.0 i (name_spelling name) b in
     record { place = n.0; within = (b.in_dir, b.in_place); used = is.0; spelt = b.spelt; target = is.1 }
 
 inode-to : (d : Disk) (i kind links : ℕ) → HasInode d i kind links → InodeIn (tables_of d) i kind links

@@ -3,7 +3,7 @@ use Rattle.std.specs.Prelude.{◌≡◌, ◌≢◌, ℕ, zero, suc, ◌+◌, ◌
 use Rattle.crash_model.specs.Disk.{Disk, byte}
 use Rattle.crash_model.specs.Names.{IsName}
 use Rattle.crash_model.specs.Layout.{kind_of, links_of, pointer_of, map_of, is_data, counts, entry_of, spelling_of}
-use Rattle.crash_model.specs.Plan.{spelled}
+use Rattle.crash_model.specs.Plan.{name_spelling}
 use Rattle.crash_model.specs.View.{View}
 
 -- a place of a directory: free, or an entry that leads to an inode under a spelling
@@ -58,26 +58,26 @@ tables_of d = record {
 
 -- ---- changes of one table
 
-abbrev pub changed : {X : Type 0} → (ℕ → X) → ℕ → X → ℕ → X
-changed f i v j = if j == i then v else f j
+abbrev pub with_value : {X : Type 0} → (ℕ → X) → ℕ → X → ℕ → X
+with_value f i v j = if j == i then v else f j
 
 abbrev pub with_inode : Tables → ℕ → ℕ → ℕ → Tables
-with_inode t i kind links = record t { kind = changed t.kind i kind; links = changed t.links i links; pointer = changed t.pointer i (λ _. 0) }
+with_inode t i kind links = record t { kind = with_value t.kind i kind; links = with_value t.links i links; pointer = with_value t.pointer i (λ _. 0) }
 
 abbrev pub with_links : Tables → ℕ → ℕ → Tables
-with_links t i links = record t { links = changed t.links i links }
+with_links t i links = record t { links = with_value t.links i links }
 
 abbrev pub with_pointer : Tables → ℕ → ℕ → ℕ → Tables
-with_pointer t i s b = record t { pointer = changed t.pointer i (changed (t.pointer i) s b) }
+with_pointer t i s b = record t { pointer = with_value t.pointer i (with_value (t.pointer i) s b) }
 
 abbrev pub with_used : Tables → ℕ → Bool → Tables
-with_used t b bit = record t { used = changed t.used b bit }
+with_used t b bit = record t { used = with_value t.used b bit }
 
 abbrev pub with_mark : Tables → ℕ → Mark → Tables
-with_mark t b mark = record t { mark = changed t.mark b mark }
+with_mark t b mark = record t { mark = with_value t.mark b mark }
 
 abbrev pub with_place : (ℕ → ℕ → Place) → ℕ → ℕ → Place → ℕ → ℕ → Place
-with_place entry dir k place = changed entry dir (changed (entry dir) k place)
+with_place entry dir k place = with_value entry dir (with_value (entry dir) k place)
 
 abbrev pub with_entry : Tables → ℕ → ℕ → Place → Tables
 with_entry t dir k place = record t { entry = with_place t.entry dir k place }
@@ -85,7 +85,7 @@ with_entry t dir k place = record t { entry = with_place t.entry dir k place }
 -- ---- the view of tables, as that of a disk
 
 abbrev pub NameIn : Tables → ℕ → List ℕ → ℕ → Type 0
-NameIn t dir name inode = (place : ℕ) × (t.entry dir place ≡ Leads inode (spelled name))
+NameIn t dir name inode = (place : ℕ) × (t.entry dir place ≡ Leads inode (name_spelling name))
 
 abbrev pub InodeIn : Tables → ℕ → ℕ → ℕ → Type 0
 InodeIn t inode kind links = (t.kind inode ≡ kind) × (t.links inode ≡ links) × (kind ≢ 0)
@@ -109,34 +109,34 @@ pub record SameView (v w : View) : Type 0 where
 
 -- ---- what operations make of them
 
-abbrev pub created : Tables → ℕ → ℕ → ℕ → List ℕ → Tables
-created t dir k i name = with_entry (with_inode t i 1 1) dir k (Leads i (spelled name))
+abbrev pub tables_after_create : Tables → ℕ → ℕ → ℕ → List ℕ → Tables
+tables_after_create t dir k i name = with_entry (with_inode t i 1 1) dir k (Leads i (name_spelling name))
 
 -- a file has one more block
-abbrev pub grown : Tables → ℕ → ℕ → ℕ → Tables
-grown t i s b = with_pointer (with_mark (with_used t b true) b (FileOf i)) i s b
+abbrev pub tables_after_write : Tables → ℕ → ℕ → ℕ → Tables
+tables_after_write t i s b = with_pointer (with_mark (with_used t b true) b (FileOf i)) i s b
 
 -- a file has one more name
-abbrev pub linked : Tables → ℕ → ℕ → ℕ → List ℕ → Tables
-linked t dir k i name = with_entry (with_links t i (t.links i + 1)) dir k (Leads i (spelled name))
+abbrev pub tables_after_link : Tables → ℕ → ℕ → ℕ → List ℕ → Tables
+tables_after_link t dir k i name = with_entry (with_links t i (t.links i + 1)) dir k (Leads i (name_spelling name))
 
 -- a file has one name less, and so many links
-abbrev pub unlinked : Tables → ℕ → ℕ → ℕ → ℕ → Tables
-unlinked t dir k i links = with_links (with_entry t dir k Free) i links
+abbrev pub tables_after_unlink : Tables → ℕ → ℕ → ℕ → ℕ → Tables
+tables_after_unlink t dir k i links = with_links (with_entry t dir k Free) i links
 
 -- an inode is gone with its name, and these blocks are in use
-abbrev pub removed : Tables → ℕ → ℕ → ℕ → (ℕ → Bool) → Tables
-removed t dir k i used = record t {
-  kind = changed t.kind i 0;
-  links = changed t.links i 0;
-  pointer = changed t.pointer i (λ _. 0);
+abbrev pub tables_after_removal : Tables → ℕ → ℕ → ℕ → (ℕ → Bool) → Tables
+tables_after_removal t dir k i used = record t {
+  kind = with_value t.kind i 0;
+  links = with_value t.links i 0;
+  pointer = with_value t.pointer i (λ _. 0);
   used = used;
   entry = with_place t.entry dir k Free;
 }
 
 -- a new directory with its block
-abbrev pub made : Tables → ℕ → ℕ → ℕ → ℕ → List ℕ → Tables
-made t dir k i b name = with_entry (with_pointer (with_mark (with_used (with_inode t i 2 1) b true) b (DirectoryOf i)) i 0 b) dir k (Leads i (spelled name))
+abbrev pub tables_after_mkdir : Tables → ℕ → ℕ → ℕ → ℕ → List ℕ → Tables
+tables_after_mkdir t dir k i b name = with_entry (with_pointer (with_mark (with_used (with_inode t i 2 1) b true) b (DirectoryOf i)) i 0 b) dir k (Leads i (name_spelling name))
 
 -- ---- sound tables: four groups of facts, each said of the tables that it needs and of no other
 
@@ -183,7 +183,7 @@ pub record SoundNames (kind : ℕ → ℕ) (entry : ℕ → ℕ → Place) : Typ
   pub parents : (dir k i : ℕ) (spelling : List ℕ) → entry dir k ≡ Leads i spelling → kind dir ≡ 2
   pub no_dangling : (dir k i : ℕ) (spelling : List ℕ) → entry dir k ≡ Leads i spelling → kind i ≢ 0
   pub no_way_up : (dir k i : ℕ) (spelling : List ℕ) → entry dir k ≡ Leads i spelling → i ≢ 0
-  pub named : (dir k i : ℕ) (spelling : List ℕ) → entry dir k ≡ Leads i spelling → (name : List ℕ) × IsName name × (spelling ≡ spelled name)
+  pub named : (dir k i : ℕ) (spelling : List ℕ) → entry dir k ≡ Leads i spelling → (name : List ℕ) × IsName name × (spelling ≡ name_spelling name)
   pub distinct : (dir j k i h : ℕ) (spelling : List ℕ) → entry dir j ≡ Leads i spelling → entry dir k ≡ Leads h spelling → j ≡ k
   pub reached : (i : ℕ) → kind i ≢ 0 → (n : ℕ) × ReachedIn entry n i
 

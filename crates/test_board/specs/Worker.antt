@@ -1,7 +1,7 @@
 use Rattle.std.specs.Prelude.{◌≡◌, ◌↔◌, ℕ, ◌<◌, Bool, IsTrue, List, [], ◌∷◌, ◌++◌, slice_index}
 use Rattle.board_rule.specs.Lists.{Has}
 use Rattle.seen_board.specs.Known.{Shown, Known}
-use Rattle.seen_board.specs.Clauses.{IsOf, SeesOn, HasClaim, HasPlace, word_at, number, settled_as}
+use Rattle.seen_board.specs.Clauses.{IsOf, SeesOn, HasClaim, HasPlace, word_at, number, verdict_life}
 use Rattle.seen_board.specs.Inserts.{PutOk}
 use Rattle.seen_board.specs.declared.answers.Place.{Place}
 use Rattle.seen_board.specs.declared.answers.Put.{Put}
@@ -25,7 +25,7 @@ pub record Expands {S : Type 0} (b : Shown S) (v : Known) (place : Place) (next 
 
 -- the seat v has settled the place by this verdict
 abbrev pub HasSettled : Type 0 → Place → Known → Known → Type 0
-HasSettled good place v w = (verdict : Bool) × (IsTrue verdict ↔ good) × (w.learned ≡ v.learned ++ (number place, settled_as verdict) ∷ [])
+HasSettled good place v w = (verdict : Bool) × (IsTrue verdict ↔ good) × (w.learned ≡ v.learned ++ (number place, verdict_life verdict) ∷ [])
 
 -- what tries to put the words in, in their order and as far as there are answers, made of the seat
 abbrev pub Tries : List ℕ → Known → Known → List Put → Type 0

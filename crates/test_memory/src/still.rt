@@ -5,8 +5,9 @@ ghost use Rattle.std.specs.List.{All};
 ghost use Rattle.crash_model.specs.Patches.{AreUndo};
 
 use crash_image::{Mover, PatchSpace};
-use crash_model::names::{GroupName, Op, Path};
-use crash_model::steps::Module;
+use crash_model::modules::Module;
+use crash_model::names::{GroupName, Path};
+use crash_model::operations::Op;
 use disk_image::Image;
 use fs_check::is_clean;
 use inode_fs::{apply, plan};

@@ -4,8 +4,8 @@ ghost use Rattle.std.specs.Prelude.{Some, None};
 
 use crate::asked::{exactly, refused};
 use crash_answer::answer;
+use crash_model::modules::Module;
 use crash_model::refusals::RunFault;
-use crash_model::steps::Module;
 use crash_text::serve::serve;
 use devices::memory::Taken;
 use devices::sink::Sink;

@@ -6,7 +6,7 @@ ghost use Rattle.crash_model.specs.Patches.{AreUndo};
 
 use crate::traces::{Trace, closed_sets, trace_of, trace_of_asked};
 use crash_image::{Mover, build};
-use crash_model::steps::Module;
+use crash_model::modules::Module;
 use disk_image::Image;
 use std::alloc::Global;
 use std::process::Abort;

@@ -2,8 +2,8 @@
 
 use crate::asked::{is_a_fault, is_taken};
 use command_line::settings_of;
+use crash_model::modules::Module;
 use crash_model::settings::{Explorer, ReportBy};
-use crash_model::steps::Module;
 use std::test::Fail;
 use test_support::settings::plain_settings;
 

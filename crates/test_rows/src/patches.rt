@@ -1,11 +1,11 @@
 //! The patches of scripts: where they stand, what they depend on, and why.
 
 use crate::traces::trace_of;
+use crash_model::modules::Module;
 use crash_model::plans::Role;
 use crash_model::refusals::TraceFault;
 use crash_model::rules::RulePart::Change;
 use crash_model::rules::{Part, Rule, Scope};
-use crash_model::steps::Module;
 use disk_image::Image;
 use order_modules::{Ordering, build_base, trace};
 use patch_graph::Graph;

@@ -1,8 +1,8 @@
 //! Rules as users write them, and orderings with rules taken out and put in.
 
+use crash_model::modules::Module;
 use crash_model::orderings::Ordering;
 use crash_model::rules::Rule;
-use crash_model::steps::Module;
 use std::process::Abort;
 use std::test::Fail;
 

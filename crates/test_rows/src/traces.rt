@@ -4,7 +4,7 @@ ghost use Rattle.std.specs.Prelude.{◌≡◌, ◌<◌, ◌↔◌, ◌∷◌, If
 ghost use Rattle.std.specs.List.{All};
 ghost use Rattle.crash_model.specs.Patches.{AreUndo};
 
-use crash_model::steps::Module;
+use crash_model::modules::Module;
 use disk_image::Image;
 use order_modules::{Ordering, build_base, trace};
 use patch_graph::Graph;

@@ -3,8 +3,8 @@
 ghost use Rattle.std.specs.Prelude.{◌≡◌};
 
 use crate::settings::plain_settings;
+use crash_model::modules::Module;
 use crash_model::settings::{Explorer, Settings};
-use crash_model::steps::Module;
 use std::alloc::{AllocError, Global};
 
 /// A script with its settings, and what the reference program reports of it.

@@ -2,9 +2,9 @@
 
 ghost use Rattle.std.specs.Prelude.{◌≡◌};
 
+use crash_model::modules::Module;
 use crash_model::rule_lists::RuleList;
 use crash_model::settings::{Explorer, ReportBy, Settings};
-use crash_model::steps::Module;
 
 /// The settings of a command line that names the module alone.
 pub fn plain_settings(module: Module) -> Settings

@@ -5,13 +5,13 @@ use Rattle.std.proofs.lemmas.Bool.{and_parts, leb-true, le-leb, ltb-true}
 use Rattle.patch_sets.proofs.Ids.{eq_from_true}
 use Rattle.crash_model.specs.Answer as answers
 use Rattle.crash_model.specs.Answer.{Refused, Reported, HasBase, HasGraph, IsAnswer, detail_of, ordering_rules}
-use Rattle.crash_model.specs.Disk.{Disk, formatted, IsGeometry}
+use Rattle.crash_model.specs.Disk.{Disk, empty_disk, IsGeometry}
 use Rattle.crash_model.specs.Patches.{deps_of}
 use Rattle.crash_model.specs.Refusals.{run_of_trace}
 use Rattle.crash_model.specs.Explain.{explanation}
 use Rattle.crash_model.specs.Lists.{when}
 use Rattle.crash_model.specs.Whole.{Sets, report}
-use Rattle.crash_model.specs.Trace.{begun, traced, based}
+use Rattle.crash_model.specs.Trace.{trace_start, trace_from, base_from}
 use Rattle.crash_model.specs.declared.refusals.TraceFault.{TraceFault}
 use Rattle.crash_model.specs.declared.refusals.RunFault.TheVariants.{BadGeometry, TooMany}
 use Rattle.crash_model.specs.declared.settings.Detail.{Detail}
@@ -20,8 +20,8 @@ use Rattle.crash_model.specs.declared.settings.ReportBy.TheVariants.{BySet}
 use Rattle.crash_model.specs.declared.steps.Act.{Act}
 use Rattle.crash_model.proofs.Leading.{failing_closed, closed_are_left, sections_lead}
 use Rattle.worked_example_laws.specs.Computed.{closed_sets, failing_under, kept_of, are_in_order, trace_of, is_accepted, section_of, have_runs}
-use Rattle.worked_example_laws.specs.Examples.{numbered}
-use Rattle.worked_example_laws.specs.Spelled.{are_acts, script, based_or, base_of, is_based, traced_acts, graph, is_geometry, is_told}
+use Rattle.worked_example_laws.specs.Examples.{numbered_steps}
+use Rattle.worked_example_laws.specs.Spelled.{are_acts, script, base_or, base_of, has_base, trace_steps, graph, is_geometry, is_told}
 use Rattle.worked_example_laws.proofs.FailingSets.{accepted_is, counts_closed, all_under}
 use Rattle.worked_example_laws.proofs.Graphs.{earlier, graph_is}
 use Rattle.worked_example_laws.proofs.Keeping.{is_told_kept}
@@ -34,54 +34,54 @@ geometry_if settings e =
     let more = and_parts (nat_le settings.blocks 128) (nat_le (settings.journal + 6) settings.blocks) first.1 in
     record { least = leb-true 16 settings.blocks first.0; most = leb-true settings.blocks 128 more.0; room = leb-true (settings.journal + 6) settings.blocks more.1 }
 
-based_is : (d : Disk) (r : Result Disk TraceFault) → is_based r ≡ true → r ≡ Ok (based_or d r)
+based_is : (d : Disk) (r : Result Disk TraceFault) → has_base r ≡ true → r ≡ Ok (base_or d r)
 based_is d (Err fault) e = cc
 based_is d (Ok base) e = refl
 
 -- the disk at the start line, and the graph of the steps behind it
 module _ (settings : Settings) (before behind : List Act) (read : are_acts before ≡ true) (read_too : are_acts behind ≡ true) (geometry : is_geometry settings ≡ true) where
-  pub start : is_based (based (formatted settings.blocks settings.journal) (numbered 1 before)) ≡ true
-      → HasBase (script before behind) settings (base_of settings before) (traced_acts before behind)
+  pub start : has_base (base_from (empty_disk settings.blocks settings.journal) (numbered_steps 1 before)) ≡ true
+      → HasBase (script before behind) settings (base_of settings before) (trace_steps before behind)
   start whole = record {
-    before = numbered 1 before;
+    before = numbered_steps 1 before;
     read = script_is before behind read read_too;
     geometry = geometry_if settings geometry;
-    built = based_is (formatted settings.blocks settings.journal) (based (formatted settings.blocks settings.journal) (numbered 1 before)) whole;
+    built = based_is (empty_disk settings.blocks settings.journal) (base_from (empty_disk settings.blocks settings.journal) (numbered_steps 1 before)) whole;
   }
 
-  pub has_graph : is_based (based (formatted settings.blocks settings.journal) (numbered 1 before)) ≡ true
-      → is_accepted (traced settings.module (begun (base_of settings before)) (traced_acts before behind)) ≡ true
+  pub has_graph : has_base (base_from (empty_disk settings.blocks settings.journal) (numbered_steps 1 before)) ≡ true
+      → is_accepted (trace_from settings.module (trace_start (base_of settings before)) (trace_steps before behind)) ≡ true
       → HasGraph (script before behind) settings (base_of settings before)
-      (trace_of settings.module (base_of settings before) (traced_acts before behind)) (graph settings before behind)
+      (trace_of settings.module (base_of settings before) (trace_steps before behind)) (graph settings before behind)
   has_graph whole run =
       let base = base_of settings before in
-      let last = trace_of settings.module base (traced_acts before behind) in record {
-        steps = traced_acts before behind;
+      let last = trace_of settings.module base (trace_steps before behind) in record {
+        steps = trace_steps before behind;
         start = start whole;
-        run = accepted_is base (traced settings.module (begun base) (traced_acts before behind)) run;
+        run = accepted_is base (trace_from settings.module (trace_start base) (trace_steps before behind)) run;
         graph = graph_is (ordering_rules settings) base last;
       }
 
 -- an act before the start line is refused
 pub refused_base : (settings : Settings) (before behind : List Act) (fault : TraceFault)
     → are_acts before ≡ true → are_acts behind ≡ true → is_geometry settings ≡ true
-    → based (formatted settings.blocks settings.journal) (numbered 1 before) ≡ Err fault
+    → base_from (empty_disk settings.blocks settings.journal) (numbered_steps 1 before) ≡ Err fault
     → IsAnswer (script before behind) settings (Refused (run_of_trace fault))
 refused_base settings before behind fault read read_too geometry is =
-    answers.bad_base (numbered 1 before) (traced_acts before behind) fault (script_is before behind read read_too) (geometry_if settings geometry) is
+    answers.bad_base (numbered_steps 1 before) (trace_steps before behind) fault (script_is before behind read read_too) (geometry_if settings geometry) is
 
 -- an act behind it is refused
 pub refused_trace : (settings : Settings) (before behind : List Act) (fault : TraceFault)
     → are_acts before ≡ true → are_acts behind ≡ true → is_geometry settings ≡ true
-    → is_based (based (formatted settings.blocks settings.journal) (numbered 1 before)) ≡ true
-    → traced settings.module (begun (base_of settings before)) (traced_acts before behind) ≡ Err fault
+    → has_base (base_from (empty_disk settings.blocks settings.journal) (numbered_steps 1 before)) ≡ true
+    → trace_from settings.module (trace_start (base_of settings before)) (trace_steps before behind) ≡ Err fault
     → IsAnswer (script before behind) settings (Refused (run_of_trace fault))
 refused_trace settings before behind fault read read_too geometry whole is =
-    answers.bad_trace (base_of settings before) (traced_acts before behind) fault (start settings before behind read read_too geometry whole) is
+    answers.bad_trace (base_of settings before) (trace_steps before behind) fault (start settings before behind read read_too geometry whole) is
 
 -- how much is told of a set
 abbrev pub told_detail : Settings → List Act → List Act → Detail
-told_detail settings before behind = detail_of settings (kept_of settings.strict (base_of settings before) (traced_acts before behind))
+told_detail settings before behind = detail_of settings (kept_of settings.strict (base_of settings before) (trace_steps before behind))
 
 -- the report, of each failing set
 pub reported : (settings : Settings) (before behind : List Act) (closed : ℕ) (failing : List ℕ) (text : List ℕ)
@@ -92,14 +92,14 @@ pub reported : (settings : Settings) (before behind : List Act) (closed : ℕ) (
       closed = closed;
       failing = length failing;
       explanation = when settings.explain (explanation (ordering_rules settings) (base_of settings before)
-          (trace_of settings.module (base_of settings before) (traced_acts before behind)) (graph settings before behind));
+          (trace_of settings.module (base_of settings before) (trace_steps before behind)) (graph settings before behind));
       body = Sets (map (section_of (told_detail settings before behind) (base_of settings before) (graph settings before behind)) failing);
     })
     → IsAnswer (script before behind) settings (Reported text (length failing))
 unfolding has_graph
 reported settings before behind closed failing text told by_set is =
     let base = base_of settings before in
-    let steps = traced_acts before behind in
+    let steps = trace_steps before behind in
     let last = trace_of settings.module base steps in
     let kept = kept_of settings.strict base steps in
     let detail = detail_of settings kept in
@@ -107,8 +107,8 @@ reported settings before behind closed failing text told by_set is =
     let one = and_parts (are_acts before) _ told in
     let two = and_parts (are_acts behind) _ one.1 in
     let three = and_parts (is_geometry settings) _ two.1 in
-    let four = and_parts (is_based (based (formatted settings.blocks settings.journal) (numbered 1 before))) _ three.1 in
-    let five = and_parts (is_accepted (traced settings.module (begun base) steps)) _ four.1 in
+    let four = and_parts (has_base (base_from (empty_disk settings.blocks settings.journal) (numbered_steps 1 before))) _ three.1 in
+    let five = and_parts (is_accepted (trace_from settings.module (trace_start base) steps)) _ four.1 in
     let six = and_parts (length (closed_sets (deps_of patches)) == closed) _ five.1 in
     let seven = and_parts (are_in_order (length (deps_of patches)) failing (failing_under kept base patches)) (nat_le closed settings.limit && have_runs patches failing) six.1 in
     let eight = and_parts (nat_le closed settings.limit) (have_runs patches failing) seven.1 in
@@ -143,19 +143,19 @@ no_geometry settings none g =
 pub refused_geometry : (settings : Settings) (before behind : List Act) → are_acts before ≡ true → are_acts behind ≡ true
     → is_geometry settings ≡ false → IsAnswer (script before behind) settings (Refused BadGeometry)
 refused_geometry settings before behind read read_too none =
-    answers.bad_geometry (numbered 1 before) (traced_acts before behind) (script_is before behind read read_too) (no_geometry settings none)
+    answers.bad_geometry (numbered_steps 1 before) (trace_steps before behind) (script_is before behind read read_too) (no_geometry settings none)
 
 -- more closed sets than the limit
 pub refused_limit : (settings : Settings) (before behind : List Act)
     → are_acts before ≡ true → are_acts behind ≡ true → is_geometry settings ≡ true
-    → is_based (based (formatted settings.blocks settings.journal) (numbered 1 before)) ≡ true
-    → is_accepted (traced settings.module (begun (base_of settings before)) (traced_acts before behind)) ≡ true
+    → has_base (base_from (empty_disk settings.blocks settings.journal) (numbered_steps 1 before)) ≡ true
+    → is_accepted (trace_from settings.module (trace_start (base_of settings before)) (trace_steps before behind)) ≡ true
     → nat_lt settings.limit (length (closed_sets (deps_of (graph settings before behind)))) ≡ true
     → IsAnswer (script before behind) settings (Refused TooMany)
 refused_limit settings before behind read read_too geometry whole run more =
     let base = base_of settings before in
     let patches = graph settings before behind in
-    let last = trace_of settings.module base (traced_acts before behind) in
+    let last = trace_of settings.module base (trace_steps before behind) in
     let first = earlier (ordering_rules settings) base last in
     let all = counts_closed patches (length (closed_sets (deps_of patches))) first refl in
     answers.too_many base last patches (has_graph settings before behind read read_too geometry whole run)

@@ -15,17 +15,17 @@ use Rattle.patch_sets.proofs.Ids.{eq_from_true, true_from_eq}
 use Rattle.crash_model.specs.Rules.{rules_of}
 use Rattle.crash_model.specs.Disk.{Disk}
 use Rattle.crash_model.specs.Patches.{deps_of, image_of}
-use Rattle.crash_model.specs.Replay.{replayed}
+use Rattle.crash_model.specs.Replay.{image_after_replay}
 use Rattle.crash_model.specs.Failing.{IsFailing, CountsClosed}
 use Rattle.crash_model.specs.Strict.{faults_under, IsFailingUnder}
 use Rattle.crash_model.specs.declared.fault.Fault.{Fault}
-use Rattle.crash_model.specs.Trace.{Tracing, begun, traced}
+use Rattle.crash_model.specs.Trace.{Tracing, trace_start, trace_from}
 use Rattle.crash_model.specs.declared.patches.Patch.{Patch}
 use Rattle.crash_model.specs.declared.refusals.TraceFault.{TraceFault}
-use Rattle.crash_model.specs.declared.steps.Module.{Module}
+use Rattle.crash_model.specs.declared.modules.Module.{Module}
 use Rattle.crash_model.specs.declared.steps.Step.{Step}
 use Rattle.worked_example_laws.proofs.Graphs.{earlier, has_graph}
-use Rattle.worked_example_laws.specs.Computed.{closed_sets, is_none_found, fails, failing_sets, fails_under, failing_under, ones_below, is_before, is_ordered, is_in, are_in_order, graph_of, trace_of, HasGraph, Explored, is_accepted, accepted, explores, CountsWith, none_fails}
+use Rattle.worked_example_laws.specs.Computed.{closed_sets, is_none_found, fails, failing_sets, fails_under, failing_under, ones_below, is_before, is_ordered, is_in, are_in_order, graph_of, trace_of, HasGraph, Explored, is_accepted, trace_or_start, explores, CountsWith, none_fails}
 use Rattle.worked_example_laws.proofs.ClosedSets.{AreApart, closed_are_all, pairs_apart, apart_filter, from_filter, to_filter}
 
 -- ---- how many
@@ -76,13 +76,13 @@ module _ (kept : Option ℕ) (base : Disk) (patches : List Patch) (before : AreE
       let it = from_filter (fails_under kept base patches) (closed_sets (deps_of patches)) set is in
       record {
         closed = (closed_are_all (deps_of patches) before).each set it.0;
-        unclean = λ clean. none_at_true (faults_under kept (replayed (image_of base patches set))) it.1 clean.faultless;
+        unclean = λ clean. none_at_true (faults_under kept (image_after_replay (image_of base patches set))) it.1 clean.faultless;
       }
 
   pub in_under : (set : ℕ) → IsFailingUnder kept base patches set → Contains (failing_under kept base patches) set
   in_under set failing = to_filter (fails_under kept base patches) (closed_sets (deps_of patches)) set
       ((closed_are_all (deps_of patches) before).every set failing.closed)
-      (by_fault (faults_under kept (replayed (image_of base patches set))) (λ none. failing.unclean record { faultless = none }))
+      (by_fault (faults_under kept (image_after_replay (image_of base patches set))) (λ none. failing.unclean record { faultless = none }))
 
 -- the same where nothing is asked of what is kept
 module _ (base : Disk) (patches : List Patch) where
@@ -173,17 +173,17 @@ all_failing base patches sets before e =
       exactly = λ set. ((λ is. failing_from_under base patches set ((all.exactly set).0 is)), (λ failing. (all.exactly set).1 (under_from_failing base patches set failing)));
     }
 
-pub accepted_is : (base : Disk) (r : Result Tracing TraceFault) → is_accepted r ≡ true → r ≡ Ok (accepted base r)
+pub accepted_is : (base : Disk) (r : Result Tracing TraceFault) → is_accepted r ≡ true → r ≡ Ok (trace_or_start base r)
 accepted_is base (Err fault) e = cc
 accepted_is base (Ok s) e = refl
 
 -- a computed graph that has a property
 pub graph_if : (kind : Module) (base : Disk) (steps : List Step) (P : List Patch → Type 0)
-    → is_accepted (traced kind (begun base) steps) ≡ true → P (graph_of (rules_of kind) base (trace_of kind base steps)) → HasGraph kind base steps P
-graph_if kind base steps P run holds = has_graph kind base steps P (accepted_is base (traced kind (begun base) steps) run) holds
+    → is_accepted (trace_from kind (trace_start base) steps) ≡ true → P (graph_of (rules_of kind) base (trace_of kind base steps)) → HasGraph kind base steps P
+graph_if kind base steps P run holds = has_graph kind base steps P (accepted_is base (trace_from kind (trace_start base) steps) run) holds
 
 pub counted_if : (kind : Module) (base : Disk) (steps : List Step) (closed : ℕ)
-    → is_accepted (traced kind (begun base) steps) ≡ true
+    → is_accepted (trace_from kind (trace_start base) steps) ≡ true
     → length (closed_sets (deps_of (graph_of (rules_of kind) base (trace_of kind base steps)))) ≡ closed
     → HasGraph kind base steps (λ patches. CountsClosed patches closed)
 counted_if kind base steps closed run many =
@@ -191,7 +191,7 @@ counted_if kind base steps closed run many =
     (counts_closed (graph_of (rules_of kind) base (trace_of kind base steps)) closed (earlier (rules_of kind) base (trace_of kind base steps)) many)
 
 pub number_if : (kind : Module) (base : Disk) (steps : List Step) (many : ℕ)
-    → is_accepted (traced kind (begun base) steps) ≡ true
+    → is_accepted (trace_from kind (trace_start base) steps) ≡ true
     → length (failing_sets base (graph_of (rules_of kind) base (trace_of kind base steps))) ≡ many
     → HasGraph kind base steps (λ patches. HoldsOf (IsFailing base patches) many)
 number_if kind base steps many run is =
@@ -199,7 +199,7 @@ number_if kind base steps many run is =
     (counts_failing base (graph_of (rules_of kind) base (trace_of kind base steps)) (earlier (rules_of kind) base (trace_of kind base steps)) many is)
 
 pub counted_with_if : (kind : Module) (base : Disk) (steps : List Step) (ids : List ℕ) (held count : ℕ)
-    → is_accepted (traced kind (begun base) steps) ≡ true
+    → is_accepted (trace_from kind (trace_start base) steps) ≡ true
     → length (filter (λ set. length (filter (has set) ids) == held) (closed_sets (deps_of (graph_of (rules_of kind) base (trace_of kind base steps))))) ≡ count
     → HasGraph kind base steps (λ patches. CountsWith patches ids held count)
 counted_with_if kind base steps ids held count run many =
@@ -208,7 +208,7 @@ counted_with_if kind base steps ids held count run many =
 
 -- one of the closed sets fails
 pub failing_if : (kind : Module) (base : Disk) (steps : List Step) (set : ℕ)
-    → is_accepted (traced kind (begun base) steps) ≡ true
+    → is_accepted (trace_from kind (trace_start base) steps) ≡ true
     → is_in (closed_sets (deps_of (graph_of (rules_of kind) base (trace_of kind base steps)))) set ≡ true
     → fails base (graph_of (rules_of kind) base (trace_of kind base steps)) set ≡ true
     → HasGraph kind base steps (λ patches. IsFailing base patches set)
@@ -223,7 +223,7 @@ pub explored_if : (kind : Module) (base : Disk) (steps : List Step) (closed : �
 explored_if kind base steps closed failing e =
     let patches = graph_of (rules_of kind) base (trace_of kind base steps) in
     let before = earlier (rules_of kind) base (trace_of kind base steps) in
-    let first = and_parts (is_accepted (traced kind (begun base) steps)) _ e in
+    let first = and_parts (is_accepted (trace_from kind (trace_start base) steps)) _ e in
     let more = and_parts (length (closed_sets (deps_of (graph_of (rules_of kind) base (trace_of kind base steps)))) == closed) _ first.1 in
     graph_if kind base steps (λ ps. CountsClosed ps closed × AreAllInOrder (IsFailing base ps) failing) first.0
     (counts_closed patches closed before (eq_from_true _ _ more.0), all_failing base patches failing before more.1)
@@ -253,7 +253,7 @@ none_in_parts (suc n) base patches (set ∷ some) low high =
     and_of a b p q = rw (p, q) refl
 
 pub all_clean_if : (kind : Module) (base : Disk) (steps : List Step) (closed : ℕ)
-    → is_accepted (traced kind (begun base) steps) ≡ true
+    → is_accepted (trace_from kind (trace_start base) steps) ≡ true
     → length (closed_sets (deps_of (graph_of (rules_of kind) base (trace_of kind base steps)))) ≡ closed
     → none_fails base (graph_of (rules_of kind) base (trace_of kind base steps)) (closed_sets (deps_of (graph_of (rules_of kind) base (trace_of kind base steps)))) ≡ true
     → Explored kind base steps closed []

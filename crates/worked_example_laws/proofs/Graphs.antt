@@ -4,13 +4,13 @@ use Rattle.std.specs.Prelude.{◌↔◌, ◌⊎◌, IsTrue, Some, Ok, slice_get,
 use Rattle.patch_sets.specs.Sets.{Has, with_id}
 use Rattle.patch_sets.specs.Closed.{AreEarlier}
 use Rattle.patch_sets.proofs.Bits.{none_in_empty, in_with_same, in_with_old, in_with_cases}
-use Rattle.crash_model.specs.Disk.{Disk, put}
+use Rattle.crash_model.specs.Disk.{Disk, with_bytes}
 use Rattle.crash_model.specs.Patches.{places_of, deps_of, AreUndo}
 use Rattle.crash_model.specs.Rules.{rules_of}
-use Rattle.crash_model.specs.Trace.{Emitted, Tracing, begun, traced, depends, IsGraphOf}
+use Rattle.crash_model.specs.Trace.{Emitted, Tracing, trace_start, trace_from, depends, IsGraphOf}
 use Rattle.crash_model.specs.declared.patches.Patch.{Patch}
 use Rattle.crash_model.specs.declared.rules.Rule.{Rule}
-use Rattle.crash_model.specs.declared.steps.Module.{Module}
+use Rattle.crash_model.specs.declared.modules.Module.{Module}
 use Rattle.crash_model.specs.declared.steps.Step.{Step}
 use Rattle.worked_example_laws.specs.Computed.{set_below, depends_if, needs, patches_from, graph_of, trace_of, HasGraph}
 
@@ -47,23 +47,23 @@ to_set_below (suc n) passes id below is = by_test (passes n) refl (λ low. to_se
 module _ (rules : List Rule) (links : List (List ℕ × List ℕ)) (all : List Emitted) where
   places : (q : ℕ) (d : Disk) (es : List Emitted) → places_of (patches_from rules links all q d es) ≡ map (λ e. e.place) es
   places q d [] = refl
-  places q d (e ∷ es) = ap (λ ps. e.place ∷ ps) (places (q + 1) (put d e.place.block e.place.offset e.place.new) es)
+  places q d (e ∷ es) = ap (λ ps. e.place ∷ ps) (places (q + 1) (with_bytes d e.place.block e.place.offset e.place.new) es)
 
   undo : (q : ℕ) (d : Disk) (es : List Emitted) → AreUndo d (patches_from rules links all q d es)
   undo q d [] = tt
-  undo q d (e ∷ es) = (refl, undo (q + 1) (put d e.place.block e.place.offset e.place.new) es)
+  undo q d (e ∷ es) = (refl, undo (q + 1) (with_bytes d e.place.block e.place.offset e.place.new) es)
 
   -- what the patch at place i depends on
   deps_at : (es : List Emitted) (q : ℕ) (d : Disk) (i : ℕ) → i < length es → slice_index (deps_of (patches_from rules links all q d es)) i ≡ needs rules links all (q + i)
   deps_at [] q d i below = absurd (omega arith)
   deps_at (e ∷ es) q d zero below = ap (needs rules links all) (omega arith)
   deps_at (e ∷ es) q d (suc i) below =
-      deps_at es (q + 1) (put d e.place.block e.place.offset e.place.new) i (omega arith) ∙ ap (needs rules links all) (omega arith)
+      deps_at es (q + 1) (with_bytes d e.place.block e.place.offset e.place.new) i (omega arith) ∙ ap (needs rules links all) (omega arith)
 
   deps_past : (es : List Emitted) (q : ℕ) (d : Disk) (i : ℕ) → length es ≤ i → slice_index (deps_of (patches_from rules links all q d es)) i ≡ 0
   deps_past [] q d i past = refl
   deps_past (e ∷ es) q d zero past = absurd (omega arith)
-  deps_past (e ∷ es) q d (suc i) past = deps_past es (q + 1) (put d e.place.block e.place.offset e.place.new) i (omega arith)
+  deps_past (e ∷ es) q d (suc i) past = deps_past es (q + 1) (with_bytes d e.place.block e.place.offset e.place.new) i (omega arith)
 
 below_or_past : (i n : ℕ) → (i < n) ⊎ (n ≤ i)
 below_or_past i n = grind arith
@@ -107,7 +107,7 @@ module _ (rules : List Rule) (base : Disk) (s : Tracing) where
 
 -- steps that are accepted have the computed graph
 pub has_graph : (kind : Module) (base : Disk) (steps : List Step) (P : List Patch → Type 0)
-    → traced kind (begun base) steps ≡ Ok (trace_of kind base steps) → P (graph_of (rules_of kind) base (trace_of kind base steps)) → HasGraph kind base steps P
+    → trace_from kind (trace_start base) steps ≡ Ok (trace_of kind base steps) → P (graph_of (rules_of kind) base (trace_of kind base steps)) → HasGraph kind base steps P
 has_graph kind base steps P run holds = record {
   last = trace_of kind base steps;
   run = run;

@@ -5,13 +5,13 @@ use Rattle.state_space.proofs.Counting.{one_number, not_more}
 use Rattle.patch_sets.specs.Closed.{IsClosed}
 use Rattle.patch_sets.proofs.Canonical.{one_list}
 use Rattle.crash_model.specs.Answer.{Answer, Refused, Reported, IsReport, IsBody, IsAnswer, ordering_rules}
-use Rattle.crash_model.specs.Disk.{Disk, formatted}
+use Rattle.crash_model.specs.Disk.{Disk, empty_disk}
 use Rattle.crash_model.specs.Explain.{explanation}
 use Rattle.crash_model.specs.Lists.{when}
 use Rattle.crash_model.specs.Patches.{deps_of}
 use Rattle.crash_model.specs.Refusals.{run_of_script}
 use Rattle.crash_model.specs.Strict.{IsFailingUnder}
-use Rattle.crash_model.specs.Trace.{Tracing, begun, traced, based}
+use Rattle.crash_model.specs.Trace.{Tracing, trace_start, trace_from, base_from}
 use Rattle.crash_model.specs.Whole.{report}
 use Rattle.crash_model.specs.declared.patches.Patch.{Patch}
 use Rattle.crash_model.specs.declared.refusals.TraceFault.{TraceFault}
@@ -59,13 +59,13 @@ module _ (settings : Settings) (base : Disk) (steps : List Step) where
 module _ (settings : Settings) where
   based_one : (r : Result Disk TraceFault) (steps : List Step) (answer other : Answer) → ComesOfBase settings r steps answer → ComesOfBase settings r steps other → answer ≡ other
   based_one (Err fault) steps answer other is also = is ∙ sym also
-  based_one (Ok base) steps answer other is also = traced_one settings base steps (traced settings.module (begun base) steps) answer other is also
+  based_one (Ok base) steps answer other is also = traced_one settings base steps (trace_from settings.module (trace_start base) steps) answer other is also
 
   steps_answer_one : (base steps : List Step) (answer other : Answer) → ComesOfSteps settings base steps answer → ComesOfSteps settings base steps other → answer ≡ other
   steps_answer_one base steps answer other (inl is) (inl also) = is.1 ∙ sym also.1
   steps_answer_one base steps answer other (inl is) (inr also) = absurd (is.0 also.0)
   steps_answer_one base steps answer other (inr is) (inl also) = absurd (also.0 is.0)
-  steps_answer_one base steps answer other (inr is) (inr also) = based_one (based (formatted settings.blocks settings.journal) base) steps answer other is.1 also.1
+  steps_answer_one base steps answer other (inr is) (inr also) = based_one (base_from (empty_disk settings.blocks settings.journal) base) steps answer other is.1 also.1
 
   script_answer_one : (bytes : List ℕ) (answer other : Answer) → ComesOfScript settings bytes answer → ComesOfScript settings bytes other → answer ≡ other
   script_answer_one bytes answer other (inl is) (inl also) =

@@ -19,7 +19,7 @@ use Rattle.crash_model.specs.Failing.{ExceedsLimit}
 use Rattle.crash_model.specs.Strict.{faults_under, IsFailingUnder}
 use Rattle.crash_model.specs.Needs.{Without, RuleUsage, Unused, TooMany, Used, ToldRule, IsFirstNew, IsWithout, IsRuleUsage, AreToldRules}
 use Rattle.crash_model.specs.Patches.{deps_of, homes_of, image_of}
-use Rattle.crash_model.specs.Replay.{replayed}
+use Rattle.crash_model.specs.Replay.{image_after_replay}
 use Rattle.crash_model.specs.Report.{Section, AreSections, replay_of}
 use Rattle.crash_model.specs.Rules.{rules_in_first}
 use Rattle.crash_model.specs.Summary.{numbers_of, IsFaultBefore, HasFault, IsFirst, IsRow, AreRows, ToldFault, AreToldFaults}
@@ -48,7 +48,7 @@ sections_one detail base patches (set ∷ some) sections others are are_too =
       set = set;
       writes = writes i;
       replay = replay_of detail.explain (image_of base patches set);
-      found = faults_under detail.kept (replayed (image_of base patches set));
+      found = faults_under detail.kept (image_after_replay (image_of base patches set));
     } ∷ rest i) ∙ sym are_too.4)
 
 -- ---- each fault once

@@ -3,7 +3,7 @@ use Rattle.std.proofs.Common.{◌≡◌, ℕ, zero, suc, ◌+◌, ◌*◌, ◌<�
 use Rattle.std.specs.Prelude.{◌⊎◌, Some, slice_get, slice_index, slice_range}
 use Rattle.patch_sets.specs.Sets.{Has, IsSubset}
 use Rattle.patch_sets.proofs.Bits.{none_in_empty, same_set}
-use Rattle.crash_model.specs.Disk.{Disk, put}
+use Rattle.crash_model.specs.Disk.{Disk, with_bytes}
 use Rattle.crash_model.specs.Patches.{Place, place, places_of, deps_of, AreUndo}
 use Rattle.crash_model.specs.Trace.{Emitted, Tracing, IsGraphOf}
 use Rattle.crash_model.specs.declared.patches.Patch.{Patch}
@@ -44,8 +44,8 @@ undos_one d e (p ∷ ps) [] same places are are_too = cc
 undos_one d e (p ∷ ps) (q ∷ qs) same places are are_too =
     let first : place p.block p.offset p.new.items ≡ place q.block q.offset q.new.items = heads places in
     let undo : p.undo.items ≡ q.undo.items = are.0 ∙ (undo_at d e (place p.block p.offset p.new.items) (place q.block q.offset q.new.items) same first ∙ sym are_too.0) in
-    let rest : undos_of ps ≡ undos_of qs = undos_one (put d p.block p.offset p.new.items) (put e q.block q.offset q.new.items) ps qs
-    (λ i. put (same i) (first i).block (first i).offset (first i).new) (tails places) are.1 are_too.1 in
+    let rest : undos_of ps ≡ undos_of qs = undos_one (with_bytes d p.block p.offset p.new.items) (with_bytes e q.block q.offset q.new.items) ps qs
+    (λ i. with_bytes (same i) (first i).block (first i).offset (first i).new) (tails places) are.1 are_too.1 in
     cc (undo, rest)
   where
     undo_at : (d e : Disk) (x y : Place) → d ≡ e → x ≡ y

@@ -5,8 +5,8 @@ use Rattle.std.specs.List.{All, Contains}
 use Rattle.std.proofs.lemmas.List.Elements.{All-head, All-tail}
 use Rattle.patch_sets.proofs.Ids.{true_from_eq, false_from_ne}
 use Rattle.crash_model.proofs.Cuts.{Lacks}
-use Rattle.crash_model.specs.Lists.{joined}
-use Rattle.crash_model.specs.Script.{AreLines, spelt}
+use Rattle.crash_model.specs.Lists.{join_of}
+use Rattle.crash_model.specs.Script.{AreLines, text_of_lines}
 
 -- the byte ahead of the first piece
 abbrev pub onto : ℕ → List (List ℕ) → List (List ℕ)
@@ -43,11 +43,11 @@ pieces_first s [] rest lacks = rw (true_from_eq s s refl) refl
 pieces_first s (c ∷ cs) rest lacks = rw (false_from_ne c s lacks.0) (ap (onto c) (pieces_first s cs rest lacks.1))
 
 -- words with the byte between two
-pub pieces_joined : (s : ℕ) (words : List (List ℕ)) → AreLacking s words → words ≢ [] → pieces s (joined s words) ≡ words
+pub pieces_joined : (s : ℕ) (words : List (List ℕ)) → AreLacking s words → words ≢ [] → pieces s (join_of s words) ≡ words
 pieces_joined s [] lacks some = absurd (some refl)
 pieces_joined s (x ∷ []) lacks some = pieces_alone s x lacks.0
 pieces_joined s (x ∷ y ∷ ys) lacks some =
-    pieces_first s x (joined s (y ∷ ys)) lacks.0 ∙ ap (λ ps. x ∷ ps) (pieces_joined s (y ∷ ys) lacks.1 (λ e. cc))
+    pieces_first s x (join_of s (y ∷ ys)) lacks.0 ∙ ap (λ ps. x ∷ ps) (pieces_joined s (y ∷ ys) lacks.1 (λ e. cc))
 
 -- words with the byte ahead of each
 pub pieces_slashed : (s : ℕ) (words : List (List ℕ)) → AreLacking s words → pieces s (flat_map (λ word. s ∷ word) words) ≡ [] ∷ words
@@ -94,9 +94,9 @@ lacking_front s (x ∷ xs) ys all = let rest = lacking_front s xs ys all.1 in ((
 pub lines_are : (bytes : List ℕ) (lines : List (List ℕ)) → AreLines bytes lines → lines ≡ full_pieces (pieces 10 bytes)
 lines_are bytes lines are = by_end are.whole
   where
-    by_end : (bytes ≡ spelt lines) ⊎ ((front : List (List ℕ)) × (last : List ℕ) × (last ≢ []) × (lines ≡ front ++ last ∷ []) × (bytes ≡ spelt front ++ last)) → lines ≡ full_pieces (pieces 10 bytes)
+    by_end : (bytes ≡ text_of_lines lines) ⊎ ((front : List (List ℕ)) × (last : List ℕ) × (last ≢ []) × (lines ≡ front ++ last ∷ []) × (bytes ≡ text_of_lines front ++ last)) → lines ≡ full_pieces (pieces 10 bytes)
     by_end (inl ended) =
-        sym (ap (λ bs. full_pieces (pieces 10 bs)) (ended ∙ sym (append-nil (spelt lines)))
+        sym (ap (λ bs. full_pieces (pieces 10 bs)) (ended ∙ sym (append-nil (text_of_lines lines)))
         ∙ (ap full_pieces (pieces_ended 10 lines [] (lacking_from 10 lines are.plain) tt) ∙ full_ended lines))
     by_end (inr (front, last, some, is, whole)) =
         let lacks = lacking_front 10 front (last ∷ []) (subst (AreLacking 10) is (lacking_from 10 lines are.plain)) in

@@ -8,10 +8,10 @@ use Rattle.std.proofs.lemmas.Bool.Decides.{nat_tests}
 use Rattle.std.proofs.lemmas.List.Elements.{All-head, All-tail, All-nil, All-cons, All-push}
 use Rattle.std.proofs.lemmas.Str.{IsUtf8-from_ascii}
 use Rattle.crash_model.proofs.Cuts.{Lacks}
-use Rattle.crash_model.specs.Lists.{joined}
+use Rattle.crash_model.specs.Lists.{join_of}
 use Rattle.crash_model.specs.Names.{IsWord, IsName, IsGroupName, is_name_byte, is_group_byte}
 use Rattle.crash_model.specs.Script.{IsPath, IsPathWord, path_text, Operand, PathOperand, GroupOperand, forms, Fits, HasPaths, HasForm, Line, Skipped, Start, Says, words_of, IsAct, IsSkipped, Reads}
-use Rattle.crash_model.specs.declared.names.Op.TheVariants.{Create, Write, Link, Unlink, Rename, Mkdir, Rmdir}
+use Rattle.crash_model.specs.declared.operations.Op.TheVariants.{Create, Write, Link, Unlink, Rename, Mkdir, Rmdir}
 use Rattle.crash_model.specs.declared.names.Path.{Path}
 use Rattle.crash_model.specs.declared.steps.Act.{Act}
 use Rattle.crash_model.specs.declared.steps.Act.TheVariants.{Do, Group, End, Depend}
@@ -205,7 +205,7 @@ some_words (Group a) e = cc
 some_words End e = cc
 some_words (Depend b a) e = cc
 
-pub act_pieces : (act : Act) → IsAct act → pieces 32 (joined 32 (words_of act)) ≡ words_of act
+pub act_pieces : (act : Act) → IsAct act → pieces 32 (join_of 32 (words_of act)) ≡ words_of act
 act_pieces act is = pieces_joined 32 (words_of act) (words_lack act is) (some_words act)
 
 -- ---- lines
@@ -233,7 +233,7 @@ pub reads_says : (line : List ℕ) (what : Line) → Reads line what → says li
 reads_says line Skipped (inl empty) = ap says empty
 reads_says line Skipped (inr (text, (rest, is))) = ap says is ∙ comment_says rest
 reads_says line Start is = ap says is
-reads_says line (Says act) (is, spelt) = ap says spelt ∙ ap (says_by (joined 32 (words_of act))) (ap act_of (act_pieces act is) ∙ act_is act is)
+reads_says line (Says act) (is, spelt) = ap says spelt ∙ ap (says_by (join_of 32 (words_of act))) (ap act_of (act_pieces act is) ∙ act_is act is)
 
 pub reads_one : (line : List ℕ) (what other : Line) → Reads line what → Reads line other → what ≡ other
 reads_one line what other is also = let one = reads_says line what is in let two = reads_says line other also in cc
@@ -344,13 +344,13 @@ path_low path is = slashed_low (path.through.items ++ path.last ∷ []) (names_a
 low_group : (name : List ℕ) → IsGroupName name → Low name
 low_group name is = low_if is_group_byte group_low name is.plain
 
-low_two : (first word : List ℕ) → Low first → Low word → Low (joined 32 (first ∷ word ∷ []))
+low_two : (first word : List ℕ) → Low first → Low word → Low (join_of 32 (first ∷ word ∷ []))
 low_two first word low more = low_append first (32 ∷ word) low (omega arith, more)
 
-low_three : (first word last : List ℕ) → Low first → Low word → Low last → Low (joined 32 (first ∷ word ∷ last ∷ []))
-low_three first word last low more end = low_append first (32 ∷ joined 32 (word ∷ last ∷ [])) low (omega arith, low_two word last more end)
+low_three : (first word last : List ℕ) → Low first → Low word → Low last → Low (join_of 32 (first ∷ word ∷ last ∷ []))
+low_three first word last low more end = low_append first (32 ∷ join_of 32 (word ∷ last ∷ [])) low (omega arith, low_two word last more end)
 
-act_low : (act : Act) → IsAct act → Low (joined 32 (words_of act))
+act_low : (act : Act) → IsAct act → Low (join_of 32 (words_of act))
 act_low (Do (Create p)) is = low_two (codes "create") (path_text p) (low_text (codes "create") refl) (path_low p is)
 act_low (Do (Write p)) is = low_two (codes "write") (path_text p) (low_text (codes "write") refl) (path_low p is)
 act_low (Do (Link p q)) is = low_three (codes "link") (path_text p) (path_text q) (low_text (codes "link") refl) (path_low p is.0) (path_low q is.1)
@@ -369,7 +369,7 @@ pub reads_utf8 : (line : List ℕ) (what : Line) → Reads line what → IsUtf8 
 reads_utf8 line Skipped (inl empty) = subst IsUtf8 (sym empty) (low_utf8 [] tt)
 reads_utf8 line Skipped (inr comment) = comment.0
 reads_utf8 line Start is = subst IsUtf8 (sym is) (low_utf8 (codes "start") (low_text (codes "start") refl))
-reads_utf8 line (Says act) (is, spelt) = subst IsUtf8 (sym spelt) (low_utf8 (joined 32 (words_of act)) (act_low act is))
+reads_utf8 line (Says act) (is, spelt) = subst IsUtf8 (sym spelt) (low_utf8 (join_of 32 (words_of act)) (act_low act is))
 
 -- ---- a line that says something has a form, with paths where they belong
 
@@ -379,7 +379,7 @@ plain_from s (word ∷ words) lacks = All-cons (λ word. ¬ (Contains word s)) w
 
 -- the parts of a form, for text that is given as words
 pub form_at : (k : ℕ) (operands : List Operand) (first : List ℕ) (words : List (List ℕ)) → k < 11 → get_or forms k (first, operands) ≡ (first, operands)
-    → AreLacking 32 (first ∷ words) → Fits operands words → HasForm (joined 32 (first ∷ words)) operands words
+    → AreLacking 32 (first ∷ words) → Fits operands words → HasForm (join_of 32 (first ∷ words)) operands words
 form_at k operands first words below at lacks fits = record {
   first = first;
   is_form = (k, below, at);
@@ -394,7 +394,7 @@ path_some path e = by_names path.through.items e
     by_names [] e = cc
     by_names (x ∷ xs) e = cc
 
-act_form : (act : Act) → IsAct act → HasForm (joined 32 (words_of act)) (operands_of act) (behind_first (words_of act))
+act_form : (act : Act) → IsAct act → HasForm (join_of 32 (words_of act)) (operands_of act) (behind_first (words_of act))
 act_form (Do (Create p)) is = form_at 0 _ (codes "create") (path_text p ∷ []) (omega arith) refl (words_lack (Do (Create p)) is) (path_some p, tt)
 act_form (Do (Write p)) is = form_at 1 _ (codes "write") (path_text p ∷ []) (omega arith) refl (words_lack (Do (Write p)) is) (path_some p, tt)
 act_form (Do (Link p q)) is = form_at 2 _ (codes "link") (path_text p ∷ path_text q ∷ []) (omega arith) refl (words_lack (Do (Link p q)) is) (path_some p, (path_some q, tt))

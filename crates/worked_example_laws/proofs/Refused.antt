@@ -8,13 +8,13 @@ use Rattle.std.proofs.lemmas.List.Elements.{All-nil, All-cons}
 use Rattle.std.proofs.lemmas.Str.{IsUtf8-from_is_utf8, is_utf8-from_IsUtf8}
 use Rattle.patch_sets.proofs.Ids.{ne_from_false}
 use Rattle.crash_model.proofs.Cuts.{Lacks}
-use Rattle.crash_model.specs.Lists.{joined}
+use Rattle.crash_model.specs.Lists.{join_of}
 use Rattle.crash_model.specs.Names.{is_group_byte}
-use Rattle.crash_model.specs.Script.{ArePlain, AreLines, Operand, PathOperand, GroupOperand, forms, Fits, HasPaths, IsSkipped, AreAccepted, IsFirstRefused, IsBadLine, IsBadPath, IsScriptRefusal, spelt}
+use Rattle.crash_model.specs.Script.{ArePlain, AreLines, Operand, PathOperand, GroupOperand, forms, Fits, HasPaths, IsSkipped, AreAccepted, IsFirstRefused, IsBadLine, IsBadPath, IsScriptRefusal, text_of_lines}
 use Rattle.crash_model.specs.declared.names.Path.{Path}
 use Rattle.crash_model.specs.declared.refusals.ScriptFault.TheVariants.{BadUtf8, BadLine, BadPath, NoStart}
 use Rattle.crash_model.specs.declared.steps.Act.{Act}
-use Rattle.worked_example_laws.specs.Examples.{numbered}
+use Rattle.worked_example_laws.specs.Examples.{numbered_steps}
 use Rattle.worked_example_laws.specs.Spelled.{is_word, is_plain, line_of, lines_of, are_acts}
 use Rattle.worked_example_laws.proofs.Pieces.{pieces, AreLacking}
 use Rattle.worked_example_laws.proofs.Readings.{path_of, no_path, fit, form_of, form_at, no_form}
@@ -37,22 +37,22 @@ plain_if (line ∷ lines) e =
     let parts = and_parts (is_plain line) (list_all is_plain lines) e in
     All-cons (λ line. ¬ (Contains line 10)) line lines (lacks_if line 10 (not_false (list_any (λ c. c == 10) line) parts.0)) (plain_if lines parts.1)
 
-pub ended_lines : (lines : List (List ℕ)) → list_all is_plain lines ≡ true → AreLines (spelt lines) lines
+pub ended_lines : (lines : List (List ℕ)) → list_all is_plain lines ≡ true → AreLines (text_of_lines lines) lines
 ended_lines lines e = record { plain = plain_if lines e; whole = inl refl }
 
-pub open_lines : (front : List (List ℕ)) (last : List ℕ) → list_all is_plain (front ++ last ∷ []) ≡ true → last ≢ [] → AreLines (spelt front ++ last) (front ++ last ∷ [])
+pub open_lines : (front : List (List ℕ)) (last : List ℕ) → list_all is_plain (front ++ last ∷ []) ≡ true → last ≢ [] → AreLines (text_of_lines front ++ last) (front ++ last ∷ [])
 open_lines front last e some = record { plain = plain_if (front ++ last ∷ []) e; whole = inr (front, last, some, refl, refl) }
 
 -- acts before the start line, and with acts behind it
 pub acts_accepted : (acts : List Act) → are_acts acts ≡ true → AreAccepted (map line_of acts)
 acts_accepted acts e = record {
-  each = each_reads 1 (map line_of acts) (numbered 1 acts) (steps_are 1 acts e);
-  one_start = λ i j at_i at_j. absurd (no_start 1 (map line_of acts) (numbered 1 acts) (steps_are 1 acts e) (get_contains (map line_of acts) i (codes "start") at_i));
+  each = each_reads 1 (map line_of acts) (numbered_steps 1 acts) (steps_are 1 acts e);
+  one_start = λ i j at_i at_j. absurd (no_start 1 (map line_of acts) (numbered_steps 1 acts) (steps_are 1 acts e) (get_contains (map line_of acts) i (codes "start") at_i));
 }
 
 pub started_accepted : (before behind : List Act) → are_acts before ≡ true → are_acts behind ≡ true → AreAccepted (lines_of before behind)
 started_accepted before behind e f =
-    steps_accepted 1 1 (map line_of before) (map line_of behind) (numbered 1 before) (numbered 1 behind) (steps_are 1 before e) (steps_are 1 behind f)
+    steps_accepted 1 1 (map line_of before) (map line_of behind) (numbered_steps 1 before) (numbered_steps 1 behind) (steps_are 1 before e) (steps_are 1 behind f)
 
 -- ---- what a line is not
 
@@ -129,19 +129,19 @@ no_spaces [] e = tt
 no_spaces (word ∷ words) e = let parts = and_parts (has_no_space word) (list_all has_no_space words) e in (no_space word parts.0, no_spaces words parts.1)
 
 pub bad_path_if : (k : ℕ) (operands : List Operand) (first : List ℕ) (words : List (List ℕ)) → k < 11 → get_or forms k (first, operands) ≡ (first, operands)
-    → is_telling (joined 32 (first ∷ words)) ≡ true → list_all has_no_space (first ∷ words) ≡ true → fit operands words ≡ true → lack_path operands words ≡ true
-    → IsBadPath (joined 32 (first ∷ words))
+    → is_telling (join_of 32 (first ∷ words)) ≡ true → list_all has_no_space (first ∷ words) ≡ true → fit operands words ≡ true → lack_path operands words ≡ true
+    → IsBadPath (join_of 32 (first ∷ words))
 bad_path_if k operands first words below at e spaces fits lacks =
-    let parts = and_parts (is_utf8 (joined 32 (first ∷ words))) (not (is_passed_over (joined 32 (first ∷ words)))) e in (
-      IsUtf8-from_is_utf8 (joined 32 (first ∷ words)) parts.0,
-      not_skipped (joined 32 (first ∷ words)) (not_false (is_passed_over (joined 32 (first ∷ words))) parts.1),
+    let parts = and_parts (is_utf8 (join_of 32 (first ∷ words))) (not (is_passed_over (join_of 32 (first ∷ words)))) e in (
+      IsUtf8-from_is_utf8 (join_of 32 (first ∷ words)) parts.0,
+      not_skipped (join_of 32 (first ∷ words)) (not_false (is_passed_over (join_of 32 (first ∷ words))) parts.1),
       (operands, words, form_at k operands first words below at (no_spaces (first ∷ words) spaces) (fits_if operands words fits), lacks_path operands words lacks),
     )
 
 -- ---- the first refused line
 
 first_refused : (P : List (List ℕ) → List ℕ → Type 0) (before : List (List ℕ)) (line : List ℕ) (behind : List (List ℕ)) → AreAccepted before
-    → list_all is_plain (before ++ line ∷ behind) ≡ true → P before line → IsFirstRefused (spelt (before ++ line ∷ behind)) (length before + 1) P
+    → list_all is_plain (before ++ line ∷ behind) ≡ true → P before line → IsFirstRefused (text_of_lines (before ++ line ∷ behind)) (length before + 1) P
 first_refused P before line behind accepted plain is = record {
   before = before;
   line = line;
@@ -153,12 +153,12 @@ first_refused P before line behind accepted plain is = record {
 }
 
 pub utf8_refused : (before : List (List ℕ)) (line : List ℕ) (behind : List (List ℕ)) → AreAccepted before → list_all is_plain (before ++ line ∷ behind) ≡ true
-    → is_utf8 line ≡ false → IsScriptRefusal (spelt (before ++ line ∷ behind)) (BadUtf8 (length before + 1))
+    → is_utf8 line ≡ false → IsScriptRefusal (text_of_lines (before ++ line ∷ behind)) (BadUtf8 (length before + 1))
 utf8_refused before line behind accepted plain e = first_refused (λ _ line. ¬ (IsUtf8 line)) before line behind accepted plain (not_text line e)
 
 -- the last line, with no line feed behind it
 pub last_utf8_refused : (before : List (List ℕ)) (line : List ℕ) → AreAccepted before → list_all is_plain (before ++ line ∷ []) ≡ true → line ≢ []
-    → is_utf8 line ≡ false → IsScriptRefusal (spelt before ++ line) (BadUtf8 (length before + 1))
+    → is_utf8 line ≡ false → IsScriptRefusal (text_of_lines before ++ line) (BadUtf8 (length before + 1))
 last_utf8_refused before line accepted plain some e = record {
   before = before;
   line = line;
@@ -170,21 +170,21 @@ last_utf8_refused before line accepted plain some e = record {
 }
 
 pub line_refused : (before : List (List ℕ)) (line : List ℕ) (behind : List (List ℕ)) → AreAccepted before → list_all is_plain (before ++ line ∷ behind) ≡ true
-    → is_telling line ≡ true → form_of (pieces 32 line) ≡ None → IsScriptRefusal (spelt (before ++ line ∷ behind)) (BadLine (length before + 1))
+    → is_telling line ≡ true → form_of (pieces 32 line) ≡ None → IsScriptRefusal (text_of_lines (before ++ line ∷ behind)) (BadLine (length before + 1))
 line_refused before line behind accepted plain e none = first_refused IsBadLine before line behind accepted plain (bad_line_if before line e none)
 
 -- a second start line
 pub start_refused : (before : List (List ℕ)) (behind : List (List ℕ)) → AreAccepted before → list_all is_plain (before ++ codes "start" ∷ behind) ≡ true
-    → Contains before (codes "start") → IsScriptRefusal (spelt (before ++ codes "start" ∷ behind)) (BadLine (length before + 1))
+    → Contains before (codes "start") → IsScriptRefusal (text_of_lines (before ++ codes "start" ∷ behind)) (BadLine (length before + 1))
 start_refused before behind accepted plain first = first_refused IsBadLine before (codes "start") behind accepted plain (inr (refl, first))
 
 pub path_refused : (before behind : List (List ℕ)) (first : List ℕ) (words : List (List ℕ)) → AreAccepted before
-    → list_all is_plain (before ++ joined 32 (first ∷ words) ∷ behind) ≡ true → IsBadPath (joined 32 (first ∷ words))
-    → IsScriptRefusal (spelt (before ++ joined 32 (first ∷ words) ∷ behind)) (BadPath (length before + 1))
+    → list_all is_plain (before ++ join_of 32 (first ∷ words) ∷ behind) ≡ true → IsBadPath (join_of 32 (first ∷ words))
+    → IsScriptRefusal (text_of_lines (before ++ join_of 32 (first ∷ words) ∷ behind)) (BadPath (length before + 1))
 path_refused before behind first words accepted plain is =
-    first_refused (λ _ line. IsBadPath line) before (joined 32 (first ∷ words)) behind accepted plain is
+    first_refused (λ _ line. IsBadPath line) before (join_of 32 (first ∷ words)) behind accepted plain is
 
 -- no start line
-pub never_started : (acts : List Act) → are_acts acts ≡ true → IsScriptRefusal (spelt (map line_of acts)) (NoStart (length (map line_of acts) + 1))
+pub never_started : (acts : List Act) → are_acts acts ≡ true → IsScriptRefusal (text_of_lines (map line_of acts)) (NoStart (length (map line_of acts) + 1))
 never_started acts e =
-    (map line_of acts, record { plain = plain_lines acts e; whole = inl refl }, acts_accepted acts e, no_start 1 (map line_of acts) (numbered 1 acts) (steps_are 1 acts e), refl)
+    (map line_of acts, record { plain = plain_lines acts e; whole = inl refl }, acts_accepted acts e, no_start 1 (map line_of acts) (numbered_steps 1 acts) (steps_are 1 acts e), refl)

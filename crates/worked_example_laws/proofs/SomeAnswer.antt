@@ -4,12 +4,12 @@ use Rattle.std.specs.Prelude.{◌⊎◌, Result, Ok, Err}
 use Rattle.std.proofs.lemmas.Bool.{ltb-true}
 use Rattle.patch_sets.specs.Closed.{AreEarlier}
 use Rattle.crash_model.specs.Answer.{Answer, Refused, Reported, HasBase, HasGraph, IsAnswer, ordering_rules, bad_script, bad_geometry, bad_base, bad_trace, too_many, reported}
-use Rattle.crash_model.specs.Disk.{Disk, formatted, IsGeometry}
+use Rattle.crash_model.specs.Disk.{Disk, empty_disk, IsGeometry}
 use Rattle.crash_model.specs.Explain.{explanation}
 use Rattle.crash_model.specs.Lists.{when}
 use Rattle.crash_model.specs.Patches.{deps_of}
 use Rattle.crash_model.specs.Refusals.{run_of_trace, run_of_script}
-use Rattle.crash_model.specs.Trace.{Tracing, begun, traced, based}
+use Rattle.crash_model.specs.Trace.{Tracing, trace_start, trace_from, base_from}
 use Rattle.crash_model.specs.Whole.{Report, report}
 use Rattle.crash_model.specs.declared.patches.Patch.{Patch}
 use Rattle.crash_model.specs.declared.refusals.TraceFault.{TraceFault}
@@ -72,9 +72,9 @@ module _ (settings : Settings) (bytes : List ℕ) where
           )
 
   from_base : (base : Disk) (steps : List Step) → HasBase bytes settings base steps → (answer : Answer) × IsAnswer bytes settings answer
-  from_base base steps start = by_trace (traced settings.module (begun base) steps) refl
+  from_base base steps start = by_trace (trace_from settings.module (trace_start base) steps) refl
     where
-      by_trace : (r : Result Tracing TraceFault) → traced settings.module (begun base) steps ≡ r → (answer : Answer) × IsAnswer bytes settings answer
+      by_trace : (r : Result Tracing TraceFault) → trace_from settings.module (trace_start base) steps ≡ r → (answer : Answer) × IsAnswer bytes settings answer
       by_trace (Err fault) is = (Refused (run_of_trace fault), bad_trace base steps fault start is)
       by_trace (Ok last) is = from_graph base last (graph_of (ordering_rules settings) base last)
           (record { steps = steps; start = start; run = is; graph = graph_is (ordering_rules settings) base last })
@@ -82,13 +82,13 @@ module _ (settings : Settings) (bytes : List ℕ) where
   from_steps : (before steps : List Step) → IsScript bytes before steps → (answer : Answer) × IsAnswer bytes settings answer
   from_steps before steps read = by_geometry (is_geometry settings) refl
     where
-      by_base : IsGeometry settings.blocks settings.journal → (r : Result Disk TraceFault) → based (formatted settings.blocks settings.journal) before ≡ r
+      by_base : IsGeometry settings.blocks settings.journal → (r : Result Disk TraceFault) → base_from (empty_disk settings.blocks settings.journal) before ≡ r
           → (answer : Answer) × IsAnswer bytes settings answer
       by_base geometry (Err fault) is = (Refused (run_of_trace fault), bad_base before steps fault read geometry is)
       by_base geometry (Ok base) is = from_base base steps (record { before = before; read = read; geometry = geometry; built = is })
 
       by_geometry : (b : Bool) → is_geometry settings ≡ b → (answer : Answer) × IsAnswer bytes settings answer
-      by_geometry true e = by_base (geometry_if settings e) (based (formatted settings.blocks settings.journal) before) refl
+      by_geometry true e = by_base (geometry_if settings e) (base_from (empty_disk settings.blocks settings.journal) before) refl
       by_geometry false e = (Refused BadGeometry, bad_geometry before steps read (no_geometry settings e))
 
   -- there is an answer

@@ -22,7 +22,7 @@ use Rattle.crash_model.specs.Failing.{ExceedsLimit}
 use Rattle.crash_model.specs.Strict.{faults_under, IsFailingUnder}
 use Rattle.crash_model.specs.Needs.{pairs_of, Without, RuleUsage, Unused, TooMany, Used, ToldRule, IsFirstNew, IsWithout, IsRuleUsage, AreToldRules}
 use Rattle.crash_model.specs.Patches.{deps_of, image_of}
-use Rattle.crash_model.specs.Replay.{replayed}
+use Rattle.crash_model.specs.Replay.{image_after_replay}
 use Rattle.crash_model.specs.Report.{Section, AreSections, IsLed, replay_of}
 use Rattle.crash_model.specs.Rules.{rules_in_first}
 use Rattle.crash_model.specs.Summary.{numbers_of, IsFaultBefore, HasFault, IsFirst, IsRow, ToldFault, AreToldFaults}
@@ -262,7 +262,7 @@ head_of (x ∷ xs) w is = (x, xs, refl)
 
 module _ (detail : Detail) (base : Disk) (patches : List Patch) (before : AreEarlier (deps_of patches)) (sets : List ℕ) (exactly : AreAllInOrder (IsFailingUnder detail.kept base patches) sets) (up : Ascends sets) where
   abbrev found : ℕ → List Fault
-  found set = faults_under detail.kept (replayed (image_of base patches set))
+  found set = faults_under detail.kept (image_after_replay (image_of base patches set))
 
   abbrev with_fault : Fault → List ℕ
   with_fault f = filter (λ set. has_fault f (found set)) sets
@@ -337,7 +337,7 @@ module _ (detail : Detail) (base : Disk) (patches : List Patch) (before : AreEar
 
       -- the section of one set, before others
       head_is : {set : ℕ} (section : Section) (others : List Section) → (one : AreSections detail base patches (set ∷ []) (section ∷ []))
-          → section ∷ others ≡ record { set = set; writes = one.0; replay = replay_of detail.explain (image_of base patches set); found = faults_under detail.kept (replayed (image_of base patches set)) } ∷ others
+          → section ∷ others ≡ record { set = set; writes = one.0; replay = replay_of detail.explain (image_of base patches set); found = faults_under detail.kept (image_after_replay (image_of base patches set)) } ∷ others
       head_is section others one = ap (λ (s : Section). s ∷ others) (heads one.4)
 
   told_faults : (told : List ToldFault) × AreToldFaults detail base patches told × All (λ t. IsLed patches t.first) told

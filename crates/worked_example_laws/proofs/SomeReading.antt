@@ -9,10 +9,10 @@ use Rattle.std.proofs.lemmas.Str.{IsUtf8-from_is_utf8}
 use Rattle.patch_sets.proofs.Bits.{eq_or_not}
 use Rattle.patch_sets.proofs.Ids.{eq_from_true, ne_from_false, false_from_ne}
 use Rattle.crash_model.proofs.Cuts.{Lacks}
-use Rattle.crash_model.specs.Lists.{joined}
+use Rattle.crash_model.specs.Lists.{join_of}
 use Rattle.crash_model.specs.Names.{IsName, is_name_byte}
-use Rattle.crash_model.specs.Script.{AreLines, spelt, AreWords, path_text, IsPath, IsPathWord, Operand, PathOperand, GroupOperand, forms, Fits, HasPaths, HasForm, Line, Skipped, Start, Says, IsAct, words_of, IsSkipped, Reads, AreSteps, IsScript, AreAccepted, IsScriptRefusal}
-use Rattle.crash_model.specs.declared.names.Op.TheVariants.{Create, Write, Link, Unlink, Rename, Mkdir, Rmdir}
+use Rattle.crash_model.specs.Script.{AreLines, text_of_lines, AreWords, path_text, IsPath, IsPathWord, Operand, PathOperand, GroupOperand, forms, Fits, HasPaths, HasForm, Line, Skipped, Start, Says, IsAct, words_of, IsSkipped, Reads, AreSteps, IsScript, AreAccepted, IsScriptRefusal}
+use Rattle.crash_model.specs.declared.operations.Op.TheVariants.{Create, Write, Link, Unlink, Rename, Mkdir, Rmdir}
 use Rattle.crash_model.specs.declared.names.Path.{Path}
 use Rattle.crash_model.specs.declared.refusals.ScriptFault.{ScriptFault}
 use Rattle.crash_model.specs.declared.refusals.ScriptFault.TheVariants.{BadUtf8, BadLine, BadPath, NoStart}
@@ -40,7 +40,7 @@ same_bytes xs ys = by_test (bytes_eq xs ys) refl
 record AreCut (bytes : List ℕ) (front : List (List ℕ)) (last : List ℕ) : Type 0 where
   lacks : AreLacking 10 front
   lacks_last : Lacks 10 last
-  whole : bytes ≡ spelt front ++ last
+  whole : bytes ≡ text_of_lines front ++ last
 
 cut_of : (bytes : List ℕ) → (front : List (List ℕ)) × (last : List ℕ) × AreCut bytes front last
 cut_of [] = ([], [], record { lacks = tt; lacks_last = tt; whole = refl })
@@ -64,7 +64,7 @@ some_lines bytes = by_last (cut_of bytes)
     lacking_push (line ∷ front) last lacks more = (lacks.0, lacking_push front last lacks.1 more)
 
     by_last : (front : List (List ℕ)) × (last : List ℕ) × AreCut bytes front last → (lines : List (List ℕ)) × AreLines bytes lines
-    by_last (front, [], cut) = (front, record { plain = plain_from 10 front cut.lacks; whole = inl (cut.whole ∙ append-nil (spelt front)) })
+    by_last (front, [], cut) = (front, record { plain = plain_from 10 front cut.lacks; whole = inl (cut.whole ∙ append-nil (text_of_lines front)) })
     by_last (front, c ∷ cs, cut) = (
       front ++ (c ∷ cs) ∷ [],
       record {
@@ -94,21 +94,21 @@ some_pieces s (c ∷ cs) = by_test (c == s) (pieces s cs)
     by_test false [] = (c ∷ [], [], refl)
     by_test false (p ∷ ps) = (c ∷ p, ps, refl)
 
-joined_pieces : (s : ℕ) (xs : List ℕ) → joined s (pieces s xs) ≡ xs
+joined_pieces : (s : ℕ) (xs : List ℕ) → join_of s (pieces s xs) ≡ xs
 joined_pieces s [] = refl
 joined_pieces s (c ∷ cs) = by_test (c == s) refl (some_pieces s cs) (joined_pieces s cs)
   where
-    by_test : (b : Bool) → (c == s) ≡ b → (p : List ℕ) × (ps : List (List ℕ)) × (pieces s cs ≡ p ∷ ps) → joined s (pieces s cs) ≡ cs → joined s (if b then [] ∷ pieces s cs else onto c (pieces s cs)) ≡ c ∷ cs
-    by_test true e (p, ps, is) rest = ap (λ qs. joined s ([] ∷ qs)) is ∙ (ap (λ qs. s ∷ joined s qs) (sym is) ∙ (ap (λ xs. s ∷ xs) rest ∙ ap (λ d. d ∷ cs) (sym (eq_from_true c s e))))
-    by_test false e (p, ps, is) rest = ap (λ qs. joined s (onto c qs)) is ∙ (ahead p ps ∙ ap (λ xs. c ∷ xs) (ap (joined s) (sym is) ∙ rest))
+    by_test : (b : Bool) → (c == s) ≡ b → (p : List ℕ) × (ps : List (List ℕ)) × (pieces s cs ≡ p ∷ ps) → join_of s (pieces s cs) ≡ cs → join_of s (if b then [] ∷ pieces s cs else onto c (pieces s cs)) ≡ c ∷ cs
+    by_test true e (p, ps, is) rest = ap (λ qs. join_of s ([] ∷ qs)) is ∙ (ap (λ qs. s ∷ join_of s qs) (sym is) ∙ (ap (λ xs. s ∷ xs) rest ∙ ap (λ d. d ∷ cs) (sym (eq_from_true c s e))))
+    by_test false e (p, ps, is) rest = ap (λ qs. join_of s (onto c qs)) is ∙ (ahead p ps ∙ ap (λ xs. c ∷ xs) (ap (join_of s) (sym is) ∙ rest))
       where
-        ahead : (p : List ℕ) (ps : List (List ℕ)) → joined s ((c ∷ p) ∷ ps) ≡ c ∷ joined s (p ∷ ps)
+        ahead : (p : List ℕ) (ps : List (List ℕ)) → join_of s ((c ∷ p) ∷ ps) ≡ c ∷ join_of s (p ∷ ps)
         ahead p [] = refl
         ahead p (q ∷ qs) = refl
 
 -- ---- paths
 
-joined_slashed : (name : List ℕ) (names : List (List ℕ)) → joined 47 ([] ∷ name ∷ names) ≡ flat_map (λ n. 47 ∷ n) (name ∷ names)
+joined_slashed : (name : List ℕ) (names : List (List ℕ)) → join_of 47 ([] ∷ name ∷ names) ≡ flat_map (λ n. 47 ∷ n) (name ∷ names)
 joined_slashed name [] = ap (λ xs. 47 ∷ xs) (sym (append-nil name))
 joined_slashed name (next ∷ names) = ap (λ xs. 47 ∷ (name ++ xs)) (joined_slashed next names)
 
@@ -153,7 +153,7 @@ path_here word path e = by_pieces (pieces 47 word) refl e
         let each : All IsName (path.through.items ++ path.last ∷ []) = subst (All IsName) named.names_are (names_if (name ∷ names) all) in
         let parts = names_front path.through.items (path.last ∷ []) each in (
           record { few = named.few; through = parts.0; last = All-head IsName path.last [] parts.1 },
-          sym (joined_pieces 47 word) ∙ (ap (joined 47) is ∙ (joined_slashed name names ∙ ap (λ ns. flat_map (λ n. 47 ∷ n) ns) named.names_are)),
+          sym (joined_pieces 47 word) ∙ (ap (join_of 47) is ∙ (joined_slashed name names ∙ ap (λ ns. flat_map (λ n. 47 ∷ n) ns) named.names_are)),
         )
     by_names names is false all e = cc
 
@@ -217,26 +217,26 @@ ReadAs line words first operands = AreWords line (first ∷ words) → Fits oper
 module _ (line : List ℕ) where
   one_path : (first : List ℕ) (make : Path → Act) → ((p : Path) → words_of (make p) ≡ first ∷ path_text p ∷ []) → ((p : Path) → IsPath p → IsAct (make p))
       → (words : List (List ℕ)) → ReadAs line words first (PathOperand ∷ [])
-  one_path first make spelt act [] cut fits paths = absurd fits
-  one_path first make spelt act (word ∷ []) cut fits paths =
+  one_path first make text_of_lines act [] cut fits paths = absurd fits
+  one_path first make text_of_lines act (word ∷ []) cut fits paths =
       let p = paths.0 in
-      (Says (make p.0), (act p.0 p.1, cut.whole ∙ (ap (λ w. joined 32 (first ∷ w ∷ [])) p.2 ∙ ap (joined 32) (sym (spelt p.0)))))
-  one_path first make spelt act (word ∷ more ∷ words) cut fits paths = absurd fits.1
+      (Says (make p.0), (act p.0 p.1, cut.whole ∙ (ap (λ w. join_of 32 (first ∷ w ∷ [])) p.2 ∙ ap (join_of 32) (sym (text_of_lines p.0)))))
+  one_path first make text_of_lines act (word ∷ more ∷ words) cut fits paths = absurd fits.1
 
   two_paths : (first : List ℕ) (make : Path → Path → Act) → ((p q : Path) → words_of (make p q) ≡ first ∷ path_text p ∷ path_text q ∷ []) → ((p q : Path) → IsPath p → IsPath q → IsAct (make p q))
       → (words : List (List ℕ)) → ReadAs line words first (PathOperand ∷ PathOperand ∷ [])
-  two_paths first make spelt act [] cut fits paths = absurd fits
-  two_paths first make spelt act (word ∷ []) cut fits paths = absurd fits.1
-  two_paths first make spelt act (word ∷ other ∷ []) cut fits paths =
+  two_paths first make text_of_lines act [] cut fits paths = absurd fits
+  two_paths first make text_of_lines act (word ∷ []) cut fits paths = absurd fits.1
+  two_paths first make text_of_lines act (word ∷ other ∷ []) cut fits paths =
       let p = paths.0 in
       let q = paths.1.0 in (
         Says (make p.0 q.0),
         (
           act p.0 q.0 p.1 q.1,
-          cut.whole ∙ ((λ i. joined 32 (first ∷ p.2 i ∷ q.2 i ∷ [])) ∙ ap (joined 32) (sym (spelt p.0 q.0))),
+          cut.whole ∙ ((λ i. join_of 32 (first ∷ p.2 i ∷ q.2 i ∷ [])) ∙ ap (join_of 32) (sym (text_of_lines p.0 q.0))),
         ),
       )
-  two_paths first make spelt act (word ∷ other ∷ more ∷ words) cut fits paths = absurd fits.1.1
+  two_paths first make text_of_lines act (word ∷ other ∷ more ∷ words) cut fits paths = absurd fits.1.1
 
   one_group : (words : List (List ℕ)) → ReadAs line words (codes "group") (GroupOperand ∷ [])
   one_group [] cut fits paths = absurd fits
@@ -299,7 +299,7 @@ module _ (line : List ℕ) where
         by_paths operands (record {
           first = first;
           is_form = (k, below, at);
-          cut = record { plain = plain_from 32 (first ∷ words) lacks; some = λ e. cc; whole = sym (joined_pieces 32 line) ∙ ap (joined 32) is };
+          cut = record { plain = plain_from 32 (first ∷ words) lacks; some = λ e. cc; whole = sym (joined_pieces 32 line) ∙ ap (join_of 32) is };
           fits = fits_if operands words e;
         }) (paths_or_not operands words)
     by_fit k operands below at false e =

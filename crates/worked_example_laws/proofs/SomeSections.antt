@@ -10,7 +10,7 @@ use Rattle.patch_sets.proofs.Writes.{AreCutTo, cut_none, cut_skip, cut_alone, cu
 use Rattle.crash_model.specs.Disk.{Disk}
 use Rattle.crash_model.specs.Strict.{faults_under}
 use Rattle.crash_model.specs.Patches.{homes_of, image_of}
-use Rattle.crash_model.specs.Replay.{replayed}
+use Rattle.crash_model.specs.Replay.{image_after_replay}
 use Rattle.crash_model.specs.Report.{Section, AreSections, replay_of}
 use Rattle.crash_model.specs.declared.patches.Patch.{Patch}
 use Rattle.crash_model.specs.declared.settings.Detail.{Detail}
@@ -86,7 +86,7 @@ some_sections detail base patches (set ∷ some) =
       set = set;
       writes = writes.0;
       replay = replay_of detail.explain (image_of base patches set);
-      found = faults_under detail.kept (replayed (image_of base patches set));
+      found = faults_under detail.kept (image_after_replay (image_of base patches set));
     } in
     (section ∷ rest.0, (writes.0, rest.0, writes.1, rest.1, refl))
 
@@ -97,6 +97,6 @@ some_section detail base patches set =
       set = set;
       writes = writes.0;
       replay = replay_of detail.explain (image_of base patches set);
-      found = faults_under detail.kept (replayed (image_of base patches set));
+      found = faults_under detail.kept (image_after_replay (image_of base patches set));
     } in
     (section, (writes.0, [], writes.1, refl, refl))

@@ -6,11 +6,11 @@ use Rattle.std.proofs.lemmas.Bool.{and_parts, ltb-true, leb-true}
 use Rattle.std.proofs.lemmas.List.Elements.{All-nil, All-cons, All-append}
 use Rattle.crash_model.specs.Names.{IsWord, IsName, is_name_byte, is_group_byte}
 use Rattle.crash_model.specs.Script.{ArePlain, IsPath, IsAct, AreSteps, IsScript}
-use Rattle.crash_model.specs.declared.names.Op.TheVariants.{Create, Write, Link, Unlink, Rename, Mkdir, Rmdir}
+use Rattle.crash_model.specs.declared.operations.Op.TheVariants.{Create, Write, Link, Unlink, Rename, Mkdir, Rmdir}
 use Rattle.crash_model.specs.declared.names.Path.{Path}
 use Rattle.crash_model.specs.declared.steps.Act.{Act}
 use Rattle.crash_model.specs.declared.steps.Act.TheVariants.{Do, Group, End, Depend}
-use Rattle.worked_example_laws.specs.Examples.{numbered}
+use Rattle.worked_example_laws.specs.Examples.{numbered_steps}
 use Rattle.worked_example_laws.specs.Spelled.{is_word, is_path, is_act, line_of, is_plain, are_acts, script}
 use Rattle.patch_sets.proofs.Ids.{true_from_eq}
 
@@ -75,15 +75,15 @@ plain_lines (act ∷ acts) e =
     All-cons (λ line. ¬ (Contains line 10)) (line_of act) (map line_of acts)
     (lacks_if (line_of act) 10 (not_false (list_any (λ c. c == 10) (line_of act)) mine.1)) (plain_lines acts parts.1)
 
-pub steps_are : (n : ℕ) (acts : List Act) → are_acts acts ≡ true → AreSteps n (map line_of acts) (numbered n acts)
+pub steps_are : (n : ℕ) (acts : List Act) → are_acts acts ≡ true → AreSteps n (map line_of acts) (numbered_steps n acts)
 steps_are n [] e = refl
 steps_are n (act ∷ acts) e =
     let parts = and_parts (is_act act && is_plain (line_of act)) (are_acts acts) e in
     let mine = and_parts (is_act act) (is_plain (line_of act)) parts.0 in
-    inr (act, numbered (n + 1) acts, (act_if act mine.0, refl), steps_are (n + 1) acts parts.1, refl)
+    inr (act, numbered_steps (n + 1) acts, (act_if act mine.0, refl), steps_are (n + 1) acts parts.1, refl)
 
 pub script_is : (before behind : List Act) → are_acts before ≡ true → are_acts behind ≡ true
-    → IsScript (script before behind) (numbered 1 before) (numbered (length (map line_of before) + 2) behind)
+    → IsScript (script before behind) (numbered_steps 1 before) (numbered_steps (length (map line_of before) + 2) behind)
 script_is before behind e f = record {
   before = map line_of before;
   behind = map line_of behind;

@@ -2,12 +2,12 @@
 use Rattle.std.proofs.Common.{◌≡◌, ℕ, List, refl, sym, subst, inl, inr}
 use Rattle.std.specs.Prelude.{◌⊎◌, Option, Result, Ok, Err}
 use Rattle.crash_model.specs.Answer.{Answer, Refused, Reported, HasBase, HasGraph, IsReport, IsAnswer, ordering_rules, bad_script, bad_geometry, bad_base, bad_trace, too_many, reported}
-use Rattle.crash_model.specs.Disk.{Disk, formatted, IsGeometry}
+use Rattle.crash_model.specs.Disk.{Disk, empty_disk, IsGeometry}
 use Rattle.crash_model.specs.Failing.{ExceedsLimit}
 use Rattle.crash_model.specs.Refusals.{run_of_script, run_of_trace}
 use Rattle.crash_model.specs.Script.{IsScript, IsScriptRefusal}
 use Rattle.crash_model.specs.Strict.{IsToldKept}
-use Rattle.crash_model.specs.Trace.{Tracing, begun, traced, based, IsGraphOf}
+use Rattle.crash_model.specs.Trace.{Tracing, trace_start, trace_from, base_from, IsGraphOf}
 use Rattle.crash_model.specs.declared.patches.Patch.{Patch}
 use Rattle.crash_model.specs.declared.refusals.RunFault.TheVariants.{BadGeometry, TooMany}
 use Rattle.crash_model.specs.declared.refusals.ScriptFault.{ScriptFault}
@@ -28,12 +28,12 @@ module _ (settings : Settings) where
 
   abbrev pub ComesOfBase : Result Disk TraceFault → List Step → Answer → Type 0
   ComesOfBase (Err fault) steps answer = answer ≡ Refused (run_of_trace fault)
-  ComesOfBase (Ok base) steps answer = ComesOfTrace base steps (traced settings.module (begun base) steps) answer
+  ComesOfBase (Ok base) steps answer = ComesOfTrace base steps (trace_from settings.module (trace_start base) steps) answer
 
   abbrev pub ComesOfSteps : List Step → List Step → Answer → Type 0
   ComesOfSteps before steps answer =
       ((¬ (IsGeometry settings.blocks settings.journal)) × (answer ≡ Refused BadGeometry))
-      ⊎ (IsGeometry settings.blocks settings.journal × ComesOfBase (based (formatted settings.blocks settings.journal) before) steps answer)
+      ⊎ (IsGeometry settings.blocks settings.journal × ComesOfBase (base_from (empty_disk settings.blocks settings.journal) before) steps answer)
 
   abbrev pub ComesOfScript : List ℕ → Answer → Type 0
   ComesOfScript bytes answer =
@@ -41,7 +41,7 @@ module _ (settings : Settings) where
       ⊎ ((before : List Step) × (steps : List Step) × IsScript bytes before steps × ComesOfSteps before steps answer)
 
   from_base : (bytes : List ℕ) (base : Disk) (steps : List Step) (answer : Answer) → HasBase bytes settings base steps
-      → ComesOfTrace base steps (traced settings.module (begun base) steps) answer → ComesOfScript bytes answer
+      → ComesOfTrace base steps (trace_from settings.module (trace_start base) steps) answer → ComesOfScript bytes answer
   from_base bytes base steps answer start comes =
       inr (start.before, steps, start.read, inr (start.geometry, subst (λ r. ComesOfBase r steps answer) (sym start.built) comes))
 

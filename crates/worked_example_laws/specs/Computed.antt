@@ -9,19 +9,19 @@ use Rattle.crash_model.specs.Failing.{IsFailing, CountsClosed}
 use Rattle.patch_sets.specs.declared.write.BlockWrite.{BlockWrite}
 use Rattle.crash_model.specs.Report.{replay_of, Section}
 use Rattle.crash_model.specs.Strict.{faults_under, stays_live}
-use Rattle.crash_model.specs.Disk.{Disk, byte, put}
+use Rattle.crash_model.specs.Disk.{Disk, byte, with_bytes}
 use Rattle.crash_model.specs.Layout.{kind_of, links_of, pointer_of, map_of, is_live, counts, is_entry}
 use Rattle.crash_model.specs.Patches.{deps_of, homes_of, image_of}
 use Rattle.crash_model.specs.Faults.{faults}
-use Rattle.crash_model.specs.Replay.{replayed}
+use Rattle.crash_model.specs.Replay.{image_after_replay}
 use Rattle.crash_model.specs.Rules.{rules_of}
-use Rattle.crash_model.specs.Trace.{Emitted, Tracing, begun, traced, depends, IsGraphOf}
+use Rattle.crash_model.specs.Trace.{Emitted, Tracing, trace_start, trace_from, depends, IsGraphOf}
 use Rattle.crash_model.specs.declared.fault.Fault.{Fault}
 use Rattle.crash_model.specs.declared.patches.Patch.{Patch}
 use Rattle.crash_model.specs.declared.settings.Detail.{Detail}
 use Rattle.crash_model.specs.declared.refusals.TraceFault.{TraceFault}
 use Rattle.crash_model.specs.declared.rules.Rule.{Rule}
-use Rattle.crash_model.specs.declared.steps.Module.{Module}
+use Rattle.crash_model.specs.declared.modules.Module.{Module}
 use Rattle.crash_model.specs.declared.steps.Step.{Step}
 
 -- the set of the ids below n that pass a test
@@ -49,7 +49,7 @@ patches_from rules links all q d (e ∷ es) =
       undo = record { items = slice_range d.bytes (128 * e.place.block + e.place.offset) (128 * e.place.block + e.place.offset + length e.place.new) };
       deps = needs rules links all q;
     }
-    ∷ patches_from rules links all (q + 1) (put d e.place.block e.place.offset e.place.new) es
+    ∷ patches_from rules links all (q + 1) (with_bytes d e.place.block e.place.offset e.place.new) es
 
 abbrev pub graph_of : List Rule → Disk → Tracing → List Patch
 graph_of rules base s = patches_from rules s.links s.emitted 0 base s.emitted
@@ -67,14 +67,14 @@ is_none_found [] = true
 is_none_found (f ∷ fs) = false
 
 abbrev pub fails : Disk → List Patch → ℕ → Bool
-fails base patches set = not (is_none_found (faults (replayed (image_of base patches set))))
+fails base patches set = not (is_none_found (faults (image_after_replay (image_of base patches set))))
 
 abbrev pub failing_sets : Disk → List Patch → List ℕ
 failing_sets base patches = filter (fails base patches) (closed_sets (deps_of patches))
 
 -- the same where the script keeps a set of inodes or nothing is asked of that
 abbrev pub fails_under : Option ℕ → Disk → List Patch → ℕ → Bool
-fails_under kept base patches set = not (is_none_found (faults_under kept (replayed (image_of base patches set))))
+fails_under kept base patches set = not (is_none_found (faults_under kept (image_after_replay (image_of base patches set))))
 
 abbrev pub failing_under : Option ℕ → Disk → List Patch → List ℕ
 failing_under kept base patches = filter (fails_under kept base patches) (closed_sets (deps_of patches))
@@ -115,21 +115,21 @@ abbrev pub sets : List (List ℕ) → List ℕ
 sets each = map set_of each
 
 -- what the steps emit, or nothing where one is refused
-abbrev pub accepted : Disk → Result Tracing TraceFault → Tracing
-accepted base (Err fault) = begun base
-accepted base (Ok s) = s
+abbrev pub trace_or_start : Disk → Result Tracing TraceFault → Tracing
+trace_or_start base (Err fault) = trace_start base
+trace_or_start base (Ok s) = s
 
 abbrev pub is_accepted : Result Tracing TraceFault → Bool
 is_accepted (Err fault) = false
 is_accepted (Ok s) = true
 
 abbrev pub trace_of : Module → Disk → List Step → Tracing
-trace_of kind base steps = accepted base (traced kind (begun base) steps)
+trace_of kind base steps = trace_or_start base (trace_from kind (trace_start base) steps)
 
 -- the steps are accepted, and their graph has the property
 pub record HasGraph (kind : Module) (base : Disk) (steps : List Step) (P : List Patch → Type 0) : Type 0 where
   pub last : Tracing
-  pub run : traced kind (begun base) steps ≡ Ok last
+  pub run : trace_from kind (trace_start base) steps ≡ Ok last
   pub patches : List Patch
   pub graph : IsGraphOf (rules_of kind) base last patches
   pub holds : P patches
@@ -143,7 +143,7 @@ Explored kind base steps closed failing =
 abbrev pub explores : Module → Disk → List Step → ℕ → List ℕ → Bool
 explores kind base steps closed failing =
     let patches = graph_of (rules_of kind) base (trace_of kind base steps) in
-    is_accepted (traced kind (begun base) steps) && ((length (closed_sets (deps_of patches)) == closed)
+    is_accepted (trace_from kind (trace_start base) steps) && ((length (closed_sets (deps_of patches)) == closed)
     && are_in_order (length (deps_of patches)) failing (failing_sets base patches))
 
 -- so many closed sets have exactly `many` of these ids
@@ -194,19 +194,19 @@ is_zero_journal d = all_below (4 + d.journal) (λ b. nat_lt b 4 || all_below 128
 -- ---- block writes and reports
 
 -- a patch ahead of the block writes behind it
-abbrev pub ahead : List ℕ → ℕ → List BlockWrite → List BlockWrite
-ahead homes id [] = record { block = slice_index homes id; ids = with_id 0 id } ∷ []
-ahead homes id (w ∷ writes) =
+abbrev pub with_patch_ahead : List ℕ → ℕ → List BlockWrite → List BlockWrite
+with_patch_ahead homes id [] = record { block = slice_index homes id; ids = with_id 0 id } ∷ []
+with_patch_ahead homes id (w ∷ writes) =
     if w.block == slice_index homes id then record { block = w.block; ids = with_id w.ids id } ∷ writes
     else (record { block = slice_index homes id; ids = with_id 0 id } ∷ w ∷ writes)
 
 -- ascending ids cut where the block changes
-abbrev pub cut : List ℕ → List ℕ → List BlockWrite
-cut homes [] = []
-cut homes (id ∷ ids) = ahead homes id (cut homes ids)
+abbrev pub writes_by_block : List ℕ → List ℕ → List BlockWrite
+writes_by_block homes [] = []
+writes_by_block homes (id ∷ ids) = with_patch_ahead homes id (writes_by_block homes ids)
 
 abbrev pub writes_of : List ℕ → ℕ → List BlockWrite
-writes_of homes set = cut homes (ids_of (length homes) set)
+writes_of homes set = writes_by_block homes (ids_of (length homes) set)
 
 -- a write of some ids of its block, with another block behind it
 abbrev pub is_own : List ℕ → BlockWrite → Bool
@@ -228,7 +228,7 @@ section_of detail base patches set = record {
   set = set;
   writes = writes_of (homes_of patches) set;
   replay = replay_of detail.explain (image_of base patches set);
-  found = faults_under detail.kept (replayed (image_of base patches set));
+  found = faults_under detail.kept (image_after_replay (image_of base patches set));
 }
 
 abbrev pub have_runs : List Patch → List ℕ → Bool

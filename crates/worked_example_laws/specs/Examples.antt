@@ -1,9 +1,9 @@
 -- The disks and steps of the worked examples.
 use Rattle.std.specs.Prelude.{ℕ, ◌+◌, List, [], ◌∷◌, replicate, codes}
-use Rattle.crash_model.specs.Disk.{Disk, formatted, put}
-use Rattle.crash_model.specs.Plan.{plan_of, result_applied}
-use Rattle.crash_model.specs.declared.names.Op.{Op}
-use Rattle.crash_model.specs.declared.names.Op.TheVariants.{Create, Write, Link, Unlink, Rename, Mkdir, Rmdir}
+use Rattle.crash_model.specs.Disk.{Disk, empty_disk, with_bytes}
+use Rattle.crash_model.specs.Plan.{plan_of, with_plan}
+use Rattle.crash_model.specs.declared.operations.Op.{Op}
+use Rattle.crash_model.specs.declared.operations.Op.TheVariants.{Create, Write, Link, Unlink, Rename, Mkdir, Rmdir}
 use Rattle.crash_model.specs.declared.names.Path.{Path}
 use Rattle.crash_model.specs.declared.steps.Act.{Act}
 use Rattle.crash_model.specs.declared.steps.Act.TheVariants.{Do, Group, End, Depend}
@@ -39,21 +39,21 @@ abbrev pub d_x : Path
 d_x = inside (codes "d") (codes "x")
 
 -- the smallest new disk, without a journal and with one of six blocks
-abbrev pub fresh : Disk
-fresh = formatted 16 0
+abbrev pub fresh_disk : Disk
+fresh_disk = empty_disk 16 0
 
 abbrev pub fresh_with_journal : Disk
-fresh_with_journal = formatted 16 6
+fresh_with_journal = empty_disk 16 6
 
 -- the disk after these operations; one that is refused changes nothing
 abbrev pub after : Disk → List Op → Disk
 after disk [] = disk
-after disk (op ∷ ops) = after (result_applied disk (plan_of disk op)) ops
+after disk (op ∷ ops) = after (with_plan disk (plan_of disk op)) ops
 
 -- these acts, one a line
-abbrev pub numbered : ℕ → List Act → List Step
-numbered line [] = []
-numbered line (act ∷ acts) = record { line = line; act = act } ∷ numbered (line + 1) acts
+abbrev pub numbered_steps : ℕ → List Act → List Step
+numbered_steps line [] = []
+numbered_steps line (act ∷ acts) = record { line = line; act = act } ∷ numbered_steps (line + 1) acts
 
 abbrev pub steps_from : ℕ → List Op → List Step
 steps_from line [] = []
@@ -72,23 +72,23 @@ written_file = steps_from 2 (Create a ∷ Write a ∷ [])
 
 -- each file in a group of its own, the second group after the first
 abbrev pub grouped_files : List Step
-grouped_files = numbered 2 (Group (codes "A") ∷ Do (Create a) ∷ End ∷ Depend (codes "B") (codes "A") ∷ Group (codes "B") ∷ Do (Create b) ∷ End ∷ [])
+grouped_files = numbered_steps 2 (Group (codes "A") ∷ Do (Create a) ∷ End ∷ Depend (codes "B") (codes "A") ∷ Group (codes "B") ∷ Do (Create b) ∷ End ∷ [])
 
 -- ---- where /a is there
 
 abbrev pub with_file : Disk
-with_file = after fresh (Create a ∷ [])
+with_file = after fresh_disk (Create a ∷ [])
 
 abbrev pub second_link : List Step
 second_link = steps_from 3 (Link a b ∷ [])
 
-abbrev pub renamed : List Step
-renamed = steps_from 3 (Rename a b ∷ [])
+abbrev pub renamed_file : List Step
+renamed_file = steps_from 3 (Rename a b ∷ [])
 
 -- ---- where /a has a block and /b has none: the block of /a goes to /b
 
 abbrev pub with_files : Disk
-with_files = after fresh (Create a ∷ Write a ∷ Create b ∷ [])
+with_files = after fresh_disk (Create a ∷ Write a ∷ Create b ∷ [])
 
 abbrev pub reused_block : List Step
 reused_block = steps_from 5 (Unlink a ∷ Write b ∷ [])
@@ -96,7 +96,7 @@ reused_block = steps_from 5 (Unlink a ∷ Write b ∷ [])
 -- ---- where the directory /d has the file /d/x, and /f has no block: the block of /d goes to /f
 
 abbrev pub with_directory : Disk
-with_directory = after (formatted 24 12) (Mkdir d ∷ Create d_x ∷ Create f ∷ [])
+with_directory = after (empty_disk 24 12) (Mkdir d ∷ Create d_x ∷ Create f ∷ [])
 
 abbrev pub reused_directory : List Step
 reused_directory = steps_from 5 (Unlink d_x ∷ Rmdir d ∷ Write f ∷ [])
@@ -105,7 +105,7 @@ reused_directory = steps_from 5 (Unlink d_x ∷ Rmdir d ∷ Write f ∷ [])
 
 -- ten files in /d
 abbrev pub full_directory : Disk
-full_directory = after fresh (Mkdir d ∷ Create (inside (codes "d") (codes "0")) ∷ Create (inside (codes "d") (codes "1")) ∷ Create (inside (codes "d") (codes "2"))
+full_directory = after fresh_disk (Mkdir d ∷ Create (inside (codes "d") (codes "0")) ∷ Create (inside (codes "d") (codes "1")) ∷ Create (inside (codes "d") (codes "2"))
     ∷ Create (inside (codes "d") (codes "3")) ∷ Create (inside (codes "d") (codes "4")) ∷ Create (inside (codes "d") (codes "5")) ∷ Create (inside (codes "d") (codes "6"))
     ∷ Create (inside (codes "d") (codes "7")) ∷ Create (inside (codes "d") (codes "8")) ∷ Create (inside (codes "d") (codes "9")) ∷ [])
 
@@ -114,8 +114,8 @@ abbrev pub few_inodes : Disk
 few_inodes = after full_directory (Create a ∷ Create b ∷ Create c ∷ Create (root (codes "e")) ∷ [])
 
 -- /a with eight links
-abbrev pub linked : Disk
-linked = after with_file (Link a b ∷ Link a c ∷ Link a d ∷ Link a (root (codes "e")) ∷ Link a f ∷ Link a (root (codes "g")) ∷ Link a (root (codes "h")) ∷ [])
+abbrev pub full_links : Disk
+full_links = after with_file (Link a b ∷ Link a c ∷ Link a d ∷ Link a (root (codes "e")) ∷ Link a f ∷ Link a (root (codes "g")) ∷ Link a (root (codes "h")) ∷ [])
 
 -- /a with four blocks
 abbrev pub full_file : Disk
@@ -123,14 +123,14 @@ full_file = after with_file (Write a ∷ Write a ∷ Write a ∷ Write a ∷ [])
 
 -- two blocks for data, both taken
 abbrev pub no_blocks : Disk
-no_blocks = after (formatted 16 10) (Create a ∷ Write a ∷ [])
+no_blocks = after (empty_disk 16 10) (Create a ∷ Write a ∷ [])
 
 -- ---- disks that no operation leaves
 
 -- the root's block without its mark
 abbrev pub unmarked_root : Disk
-unmarked_root = put fresh 4 0 (0 ∷ [])
+unmarked_root = with_bytes fresh_disk 4 0 (0 ∷ [])
 
 -- the inodes' two blocks all of one byte
 abbrev pub with_inode_bytes : ℕ → Disk
-with_inode_bytes byte = put (put fresh 2 0 (replicate 128 byte)) 3 0 (replicate 128 byte)
+with_inode_bytes byte = with_bytes (with_bytes fresh_disk 2 0 (replicate 128 byte)) 3 0 (replicate 128 byte)

@@ -2,22 +2,22 @@
 use Rattle.std.specs.Prelude.{ℕ, ◌+◌, List, [], ◌∷◌, ◌++◌, length, map, codes, Bool, true, false, not, ◌&&◌, ◌==◌, nat_lt, nat_le, Result, Ok, Err}
 use Rattle.std.specs.List.{list_all, list_any}
 use Rattle.crash_model.specs.Answer.{ordering_rules}
-use Rattle.crash_model.specs.Disk.{Disk, formatted}
-use Rattle.crash_model.specs.Lists.{joined}
+use Rattle.crash_model.specs.Disk.{Disk, empty_disk}
+use Rattle.crash_model.specs.Lists.{join_of}
 use Rattle.crash_model.specs.Patches.{deps_of}
-use Rattle.crash_model.specs.Trace.{begun, traced, based}
+use Rattle.crash_model.specs.Trace.{trace_start, trace_from, base_from}
 use Rattle.crash_model.specs.declared.patches.Patch.{Patch}
 use Rattle.crash_model.specs.declared.refusals.TraceFault.{TraceFault}
 use Rattle.crash_model.specs.declared.settings.Settings.{Settings}
 use Rattle.crash_model.specs.declared.settings.Explorer.TheVariants.{Auto}
 use Rattle.crash_model.specs.declared.settings.ReportBy.TheVariants.{BySet}
-use Rattle.crash_model.specs.declared.steps.Module.{Module}
+use Rattle.crash_model.specs.declared.modules.Module.{Module}
 use Rattle.crash_model.specs.declared.steps.Step.{Step}
 use Rattle.worked_example_laws.specs.Computed.{closed_sets, failing_under, kept_of, are_in_order, graph_of, trace_of, is_accepted, have_runs}
-use Rattle.worked_example_laws.specs.Examples.{numbered}
+use Rattle.worked_example_laws.specs.Examples.{numbered_steps}
 use Rattle.crash_model.specs.Names.{is_name_byte, is_group_byte}
-use Rattle.crash_model.specs.Script.{spelt, words_of}
-use Rattle.crash_model.specs.declared.names.Op.TheVariants.{Create, Write, Link, Unlink, Rename, Mkdir, Rmdir}
+use Rattle.crash_model.specs.Script.{text_of_lines, words_of}
+use Rattle.crash_model.specs.declared.operations.Op.TheVariants.{Create, Write, Link, Unlink, Rename, Mkdir, Rmdir}
 use Rattle.crash_model.specs.declared.names.Path.{Path}
 use Rattle.crash_model.specs.declared.steps.Act.{Act}
 use Rattle.crash_model.specs.declared.steps.Act.TheVariants.{Do, Group, End, Depend}
@@ -43,7 +43,7 @@ is_act (Depend b a) = is_word is_group_byte b && is_word is_group_byte a
 
 -- the line of an act, and the lines of a script
 abbrev pub line_of : Act → List ℕ
-line_of act = joined 32 (words_of act)
+line_of act = join_of 32 (words_of act)
 
 abbrev pub lines_of : List Act → List Act → List (List ℕ)
 lines_of before behind = map line_of before ++ codes "start" ∷ map line_of behind
@@ -57,28 +57,28 @@ are_acts acts = list_all (λ act. is_act act && is_plain (line_of act)) acts
 
 -- the script's bytes
 abbrev pub script : List Act → List Act → List ℕ
-script before behind = spelt (lines_of before behind)
+script before behind = text_of_lines (lines_of before behind)
 
 -- ---- answers
 
 -- the base of a script with these acts before its start line, or a new disk where one of them is refused
-abbrev pub based_or : Disk → Result Disk TraceFault → Disk
-based_or d (Err fault) = d
-based_or d (Ok base) = base
+abbrev pub base_or : Disk → Result Disk TraceFault → Disk
+base_or d (Err fault) = d
+base_or d (Ok base) = base
 
 abbrev pub base_of : Settings → List Act → Disk
-base_of settings before = based_or (formatted settings.blocks settings.journal) (based (formatted settings.blocks settings.journal) (numbered 1 before))
+base_of settings before = base_or (empty_disk settings.blocks settings.journal) (base_from (empty_disk settings.blocks settings.journal) (numbered_steps 1 before))
 
-abbrev pub is_based : Result Disk TraceFault → Bool
-is_based (Err fault) = false
-is_based (Ok base) = true
+abbrev pub has_base : Result Disk TraceFault → Bool
+has_base (Err fault) = false
+has_base (Ok base) = true
 
-abbrev pub traced_acts : List Act → List Act → List Step
-traced_acts before behind = numbered (length (map line_of before) + 2) behind
+abbrev pub trace_steps : List Act → List Act → List Step
+trace_steps before behind = numbered_steps (length (map line_of before) + 2) behind
 
 -- the graph of the script
 abbrev pub graph : Settings → List Act → List Act → List Patch
-graph settings before behind = graph_of (ordering_rules settings) (base_of settings before) (trace_of settings.module (base_of settings before) (traced_acts before behind))
+graph settings before behind = graph_of (ordering_rules settings) (base_of settings before) (trace_of settings.module (base_of settings before) (trace_steps before behind))
 
 abbrev pub is_geometry : Settings → Bool
 is_geometry settings = nat_le 16 settings.blocks && (nat_le settings.blocks 128 && nat_le (settings.journal + 6) settings.blocks)
@@ -89,10 +89,10 @@ is_told settings before behind closed failing =
     let base = base_of settings before in
     let patches = graph settings before behind in
     are_acts before && (are_acts behind && (is_geometry settings
-    && (is_based (based (formatted settings.blocks settings.journal) (numbered 1 before))
-    && (is_accepted (traced settings.module (begun base) (traced_acts before behind))
+    && (has_base (base_from (empty_disk settings.blocks settings.journal) (numbered_steps 1 before))
+    && (is_accepted (trace_from settings.module (trace_start base) (trace_steps before behind))
     && ((length (closed_sets (deps_of patches)) == closed)
-    && (are_in_order (length (deps_of patches)) failing (failing_under (kept_of settings.strict base (traced_acts before behind)) base patches)
+    && (are_in_order (length (deps_of patches)) failing (failing_under (kept_of settings.strict base (trace_steps before behind)) base patches)
     && (nat_le closed settings.limit && have_runs patches failing)))))))
 
 -- the settings of a module's own ordering, whose report tells each failing set

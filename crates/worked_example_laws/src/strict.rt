@@ -2,14 +2,14 @@
 #![tactic(auto, unfolding(crash_model::specs::Disk::overwrite, crash_model::specs::Lists::each_below, crash_model::specs::Lists::some_below, crash_model::specs::Lists::first_below, crash_model::specs::Plan::plan_of, crash_model::specs::Faults::each_slot, crash_model::specs::Faults::each_entry, crash_model::specs::Faults::namers, crash_model::specs::Faults::entries_to, crash_model::specs::Faults::faults, crash_model::specs::Strict::reached_in, crash_model::specs::Strict::is_reached, crash_model::specs::Strict::strict_faults))]
 
 ghost use Rattle.std.specs.Prelude.{◌≡◌, ◌↔◌, ℕ, List, [], ◌∷◌, ◌++◌, Some, None, true, false, replicate};
-ghost use Rattle.crash_model.specs.Disk.{Disk, put};
+ghost use Rattle.crash_model.specs.Disk.{Disk, with_bytes};
 ghost use Rattle.crash_model.specs.Failing.{IsFailing};
 ghost use Rattle.crash_model.specs.Faults.{IsClean};
 ghost use Rattle.crash_model.specs.Strict.{stays_live, faults_under, IsCleanUnder, IsFailingUnder};
 ghost use Rattle.crash_model.specs.declared.fault.Fault.TheVariants.{Unwritten, LowLinks, Lost, NoBlock};
 ghost use Rattle.crash_model.specs.declared.patches.Patch.{Patch};
-ghost use Rattle.crash_model.specs.declared.names.Op.TheVariants.{Create, Unlink, Rename};
-ghost use Rattle.worked_example_laws.specs.Examples.{a, b, after, steps_from, fresh};
+ghost use Rattle.crash_model.specs.declared.operations.Op.TheVariants.{Create, Unlink, Rename};
+ghost use Rattle.worked_example_laws.specs.Examples.{a, b, after, steps_from, fresh_disk};
 
 /// Where a checker is told of no kept inodes, nothing but the six faults is asked of an image.
 pub fn a_checker_that_is_told_of_nothing_is_not_strict()
@@ -21,33 +21,37 @@ pub fn a_checker_that_is_told_of_nothing_is_not_strict()
 /// `rename /a /b` with the old name cleared and the new one not set: the file is kept and lost. It is no fault where
 /// nothing is asked, or where the file is not kept.
 pub fn a_file_without_a_name_is_lost()
-    ensures lost { faults_under (Some 3) (put (after fresh (Create a ∷ [])) 4 8 (replicate 12 0)) ≡ Lost 1 ∷ [] }
-    ensures unasked { faults_under None (put (after fresh (Create a ∷ [])) 4 8 (replicate 12 0)) ≡ [] }
-    ensures not_kept { faults_under (Some 1) (put (after fresh (Create a ∷ [])) 4 8 (replicate 12 0)) ≡ [] }
-    ensures two_names { faults_under (Some 3) (put (after fresh (Create a ∷ [])) 4 20 (2 ∷ 1 ∷ 98 ∷ replicate 9 0))
+    ensures lost { faults_under (Some 3) (with_bytes (after fresh_disk (Create a ∷ [])) 4 8 (replicate 12 0))
+        ≡ Lost 1 ∷ [] }
+    ensures unasked { faults_under None (with_bytes (after fresh_disk (Create a ∷ [])) 4 8 (replicate 12 0)) ≡ [] }
+    ensures not_kept { faults_under (Some 1) (with_bytes (after fresh_disk (Create a ∷ [])) 4 8 (replicate 12 0)) ≡ [] }
+    ensures two_names { faults_under (Some 3)
+        (with_bytes (after fresh_disk (Create a ∷ [])) 4 20 (2 ∷ 1 ∷ 98 ∷ replicate 9 0))
         ≡ LowLinks 1 2 1 ∷ [] }
 {}
 
 /// `mkdir /d` with the name and without the block, and beside it a file without a name: by number, then by inode.
 pub fn a_directory_that_is_named_has_a_block()
-    ensures alone { faults_under (Some 1) (put (put fresh 2 16 (2 ∷ 1 ∷ [])) 4 8 (2 ∷ 1 ∷ 100 ∷ [])) ≡ NoBlock 1 ∷ [] }
+    ensures alone { faults_under (Some 1)
+        (with_bytes (with_bytes fresh_disk 2 16 (2 ∷ 1 ∷ [])) 4 8 (2 ∷ 1 ∷ 100 ∷ []))
+        ≡ NoBlock 1 ∷ [] }
     ensures beside { faults_under (Some 3)
-        (put (put fresh 2 16 (1 ∷ 1 ∷ replicate 14 0 ++ 2 ∷ 1 ∷ [])) 4 20 (3 ∷ 1 ∷ 100 ∷ []))
+        (with_bytes (with_bytes fresh_disk 2 16 (1 ∷ 1 ∷ replicate 14 0 ++ 2 ∷ 1 ∷ [])) 4 20 (3 ∷ 1 ∷ 100 ∷ []))
         ≡ Lost 1 ∷ NoBlock 2 ∷ [] }
-    ensures nameless { faults_under (Some 1) (put fresh 2 16 (2 ∷ 1 ∷ [])) ≡ [] }
+    ensures nameless { faults_under (Some 1) (with_bytes fresh_disk 2 16 (2 ∷ 1 ∷ [])) ≡ [] }
 {}
 
 /// Without the root's inode, and without its block, nothing is reached from it.
 pub fn nothing_is_reached_without_the_root()
-    ensures inode { faults_under (Some 1) (put fresh 2 0 (replicate 16 0)) ≡ Lost 0 ∷ [] }
-    ensures file { faults_under (Some 3) (put (after fresh (Create a ∷ [])) 2 0 (1 ∷ []))
+    ensures inode { faults_under (Some 1) (with_bytes fresh_disk 2 0 (replicate 16 0)) ≡ Lost 0 ∷ [] }
+    ensures file { faults_under (Some 3) (with_bytes (after fresh_disk (Create a ∷ [])) 2 0 (1 ∷ []))
         ≡ Unwritten 0 0 4 ∷ Lost 0 ∷ Lost 1 ∷ [] }
 {}
 
 /// A script keeps what no operation frees and none has made; an inode that is freed and made anew is not kept.
 pub fn what_stays_live_is_kept()
-    ensures renamed { stays_live (after fresh (Create a ∷ [])) (steps_from 3 (Rename a b ∷ [])) 1 ≡ true }
-    ensures freed { stays_live (after fresh (Create a ∷ [])) (steps_from 3 (Unlink a ∷ Create b ∷ [])) 1 ≡ false }
-    ensures made { stays_live fresh (steps_from 2 (Create a ∷ Rename a b ∷ [])) 1 ≡ false }
-    ensures root { stays_live fresh (steps_from 2 (Create a ∷ Rename a b ∷ [])) 0 ≡ true }
+    ensures renamed { stays_live (after fresh_disk (Create a ∷ [])) (steps_from 3 (Rename a b ∷ [])) 1 ≡ true }
+    ensures freed { stays_live (after fresh_disk (Create a ∷ [])) (steps_from 3 (Unlink a ∷ Create b ∷ [])) 1 ≡ false }
+    ensures made { stays_live fresh_disk (steps_from 2 (Create a ∷ Rename a b ∷ [])) 1 ≡ false }
+    ensures root { stays_live fresh_disk (steps_from 2 (Create a ∷ Rename a b ∷ [])) 0 ≡ true }
 {}

@@ -1,9 +1,9 @@
 //! A journal of metadata and file data: its graphs, and what a crash can leave of them.
 
 ghost use Rattle.std.specs.Prelude.{◌≡◌, [], ◌∷◌};
-ghost use Rattle.crash_model.specs.Disk.{formatted};
+ghost use Rattle.crash_model.specs.Disk.{empty_disk};
 ghost use Rattle.crash_model.specs.Failing.{CountsClosed};
-ghost use Rattle.crash_model.specs.declared.steps.Module.TheVariants.{Full};
+ghost use Rattle.crash_model.specs.declared.modules.Module.TheVariants.{Full};
 ghost use Rattle.worked_example_laws.specs.Computed.{HasGraph, Explored, CountsWith, table};
 ghost use Rattle.worked_example_laws.specs.Examples.{fresh_with_journal, one_file, written_file, with_directory, reused_directory};
 
@@ -14,7 +14,7 @@ pub fn a_full_journal_of_one_file_never_fails()
 
 /// `create /a`, `write /a` with a journal of metadata and file data, of seven blocks.
 pub fn a_full_journal_of_a_written_file_never_fails()
-    ensures { Explored Full (formatted 16 7) written_file 105 [] }
+    ensures { Explored Full (empty_disk 16 7) written_file 105 [] }
 {}
 
 /// The three transactions with a journal of metadata and file data: each patch's block, offset and dependencies.

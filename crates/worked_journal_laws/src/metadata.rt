@@ -5,10 +5,10 @@ ghost use Rattle.crash_model.specs.Disk.{block_of};
 ghost use Rattle.crash_model.specs.Failing.{CountsClosed, IsFailing};
 ghost use Rattle.crash_model.specs.Faults.{faults};
 ghost use Rattle.crash_model.specs.Patches.{image_of};
-ghost use Rattle.crash_model.specs.Replay.{headers, replayed};
+ghost use Rattle.crash_model.specs.Replay.{headers, image_after_replay};
 ghost use Rattle.crash_model.specs.declared.fault.Fault.TheVariants.{Unwritten};
-ghost use Rattle.crash_model.specs.declared.names.Op.TheVariants.{Create};
-ghost use Rattle.crash_model.specs.declared.steps.Module.TheVariants.{Meta};
+ghost use Rattle.crash_model.specs.declared.operations.Op.TheVariants.{Create};
+ghost use Rattle.crash_model.specs.declared.modules.Module.TheVariants.{Meta};
 ghost use Rattle.worked_example_laws.specs.Computed.{HasGraph, Explored, CountsWith, new_bytes, set_of, table};
 ghost use Rattle.worked_example_laws.specs.Examples.{a, after, fresh_with_journal, one_file, written_file, with_directory, reused_directory};
 
@@ -70,6 +70,6 @@ pub fn a_journal_of_metadata_can_put_an_old_directory_over_file_data()
         headers (image_of with_directory patches (set_of (0 ∷ 1 ∷ 2 ∷ 3 ∷ 6 ∷ 7 ∷ 8 ∷ 9 ∷ 14 ∷ 15 ∷ 16 ∷ 17 ∷ [])))
         ≡ 4 ∷ 7 ∷ 11 ∷ []) }
     ensures fault { HasGraph Meta with_directory reused_directory (λ patches.
-        faults (replayed (image_of with_directory patches
+        faults (image_after_replay (image_of with_directory patches
         (set_of (0 ∷ 1 ∷ 2 ∷ 3 ∷ 6 ∷ 7 ∷ 8 ∷ 9 ∷ 14 ∷ 15 ∷ 16 ∷ 17 ∷ [])))) ≡ Unwritten 3 0 17 ∷ []) }
 {}

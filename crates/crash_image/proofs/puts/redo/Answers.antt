@@ -1,14 +1,14 @@
 use Rattle.std.proofs.Common.{◌≡◌, ℕ, length, ap, sym, ◌∙◌}
 use Rattle.crash_model.specs.Disk.{Disk}
 use Rattle.crash_model.specs.Patches.{image_of}
-use Rattle.crash_image.specs.Moves.{redone}
+use Rattle.crash_image.specs.Moves.{with_patch}
 use Rattle.crash_image.proofs.PutSteps.{redo_step, still_below, image-empty}
 use Rattle.crash_image.proofs.puts.redo.Goals as goal
 
 pub loop-id-preserved : goal.loop-id-preserved
 loop-id-preserved g c =
     let p = c.patch-patch.result.now in
-    let put_is : c.put.new.self ≡ redone p c.loop-id.image = cc in
+    let put_is : c.put.new.self ≡ with_patch p c.loop-id.image = cc in
     record {
       rest = redo_step c.loop-id.image c.put.new.self (image_of c.args.image.now c.args.graph.now c.args.set) c.args.graph.now c.loop-id.left c.in-Some.id
           c.without-left.result p c.patch-patch.ensures.at c.without-left.ensures.others c.in-Some.ensures.found put_is c.loop-id.invariant.rest;

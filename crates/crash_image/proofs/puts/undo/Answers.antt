@@ -1,15 +1,15 @@
 use Rattle.std.proofs.Common.{◌≡◌, ℕ, length, ap, sym, ◌∙◌}
 use Rattle.crash_model.specs.Disk.{Disk}
-use Rattle.crash_image.specs.Moves.{undone, undone_of}
-use Rattle.crash_image.proofs.PutSteps.{undo_step, still_below, undone-empty}
+use Rattle.crash_image.specs.Moves.{without_patch, without_set}
+use Rattle.crash_image.proofs.PutSteps.{undo_step, still_below, without_patches-empty}
 use Rattle.crash_image.proofs.puts.undo.Goals as goal
 
 pub loop-id-preserved : goal.loop-id-preserved
 loop-id-preserved g c =
     let p = c.patch-patch.result.now in
-    let put_is : c.put.new.self ≡ undone p c.loop-id.image = cc in
+    let put_is : c.put.new.self ≡ without_patch p c.loop-id.image = cc in
     record {
-      rest = undo_step c.loop-id.image c.put.new.self (undone_of c.args.image.now c.args.graph.now c.args.set) c.args.graph.now c.loop-id.left c.in-Some.id
+      rest = undo_step c.loop-id.image c.put.new.self (without_set c.args.image.now c.args.graph.now c.args.set) c.args.graph.now c.loop-id.left c.in-Some.id
           c.without-left.result p c.patch-patch.ensures.at c.without-left.ensures.others c.in-Some.ensures.found put_is c.loop-id.invariant.rest;
       known = still_below (length c.args.graph.now) c.loop-id.left c.in-Some.id c.without-left.result c.without-left.ensures.others c.loop-id.invariant.known;
       blocks = ap (λ (d : Disk). d.blocks) put_is ∙ c.loop-id.invariant.blocks;
@@ -17,6 +17,6 @@ loop-id-preserved g c =
 
 pub returns : goal.returns
 returns g c =
-    sym (undone-empty c.loop-id.image c.args.graph.now)
-    ∙ ap (λ (s : ℕ). undone_of c.loop-id.image c.args.graph.now s) (sym c.in_default.ensures.found)
+    sym (without_patches-empty c.loop-id.image c.args.graph.now)
+    ∙ ap (λ (s : ℕ). without_set c.loop-id.image c.args.graph.now s) (sym c.in_default.ensures.found)
     ∙ c.loop-id.invariant.rest

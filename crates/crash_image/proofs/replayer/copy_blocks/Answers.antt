@@ -1,5 +1,5 @@
 use Rattle.std.proofs.Common.{ℕ, List, arith, ap, ◌∙◌}
-use Rattle.crash_model.specs.Disk.{put}
+use Rattle.crash_model.specs.Disk.{with_bytes}
 use Rattle.crash_image.proofs.Differ.{copied_one, copied_beyond, copied_all}
 use Rattle.crash_image.proofs.replayer.copy_blocks.Goals as goal
 use Rattle.crash_image.proofs.replayer.copy_blocks.Goals.{then-block-count, else-block-count}
@@ -11,7 +11,7 @@ pub loop-block-preserved : goal.loop-block-preserved
 loop-block-preserved g c = elim c.if-block-count.branch [
   | then-block-count w ↦ rw w.into-is (copied_one c.args.from.now c.loop-block.into w.put.new.self c.loop-block.left c.without-left.result c.in-Some.block
       c.blocks-count.ensures.disk c.without-left.ensures.others (omega (arith, w.if-block-count.true, c.blocks-count.ensures.value))
-      (w.put.ensures ∙ ap (λ (xs : List ℕ). put c.loop-block.into c.in-Some.block 0 xs) w.block.ensures.bytes) c.loop-block.invariant)
+      (w.put.ensures ∙ ap (λ (xs : List ℕ). with_bytes c.loop-block.into c.in-Some.block 0 xs) w.block.ensures.bytes) c.loop-block.invariant)
   | else-block-count w ↦ rw w.into-is (copied_beyond c.args.from.now c.loop-block.into c.loop-block.left c.without-left.result c.in-Some.block
       c.without-left.ensures.others (omega (arith, w.if-block-count.false, c.blocks-count.ensures.value)) c.loop-block.invariant)
 ]

@@ -1,12 +1,12 @@
 use Rattle.std.proofs.Common.{rules, ◌≤◌, List, refl, sym, ap, ◌∙◌, arith}
 use Rattle.crash_model.specs.Needs.{pairs_of}
-use Rattle.crash_model.specs.Trace.{Emitted, Tracing, begun}
+use Rattle.crash_model.specs.Trace.{Emitted, Tracing, trace_start}
 use Rattle.crash_text.proofs.needs.usage.Goals as goal
 
 pub count_failing-requires-clause-undo : goal.count_failing-requires-clause-undo
 count_failing-requires-clause-undo g c = λ _ _.
     let f = c.args.findings.now in
-    let s : Tracing = record (begun f.base.now) { emitted = f.traced.emitted; links = f.traced.links } in
+    let s : Tracing = record (trace_start f.base.now) { emitted = f.traced.emitted; links = f.traced.links } in
     (c.in_ok-changed.ensures.graph s refl refl).undo
 
 pub returns-in-Ok : goal.returns-in-Ok

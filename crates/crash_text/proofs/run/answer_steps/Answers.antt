@@ -5,8 +5,8 @@ use Rattle.crash_model.specs.Disk.{IsDisk}
 use Rattle.crash_model.specs.Rules.{AreAmong, rules_of, rules_under}
 use Rattle.crash_model.specs.declared.patches.Patch.{Patch}
 use Rattle.crash_model.specs.declared.rules.Rule.{Rule}
-use Rattle.crash_model.specs.declared.steps.Module.{Module}
-use Rattle.crash_model.specs.declared.steps.Module.TheVariants.{Full}
+use Rattle.crash_model.specs.declared.modules.Module.{Module}
+use Rattle.crash_model.specs.declared.modules.Module.TheVariants.{Full}
 use Rattle.crash_model.proofs.PutIn.{put_in_among}
 use Rattle.full_journal_laws.proofs.Failing.{none-failing}
 use Rattle.crash_text.proofs.run.answer_steps.Goals as goal

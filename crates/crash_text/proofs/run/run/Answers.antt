@@ -1,9 +1,9 @@
 use Rattle.std.proofs.Common.{rules, ◌≡◌, ◌≢◌, Ok, Err, IfErr, ap, subst, sym}
 use Rattle.std.specs.Prelude.{string_bytes}
 use Rattle.crash_model.specs.Answer.{Refused, Reported, HasBase, IsAnswer, bad_script}
-use Rattle.crash_model.specs.Disk.{formatted}
+use Rattle.crash_model.specs.Disk.{empty_disk}
 use Rattle.crash_model.specs.Refusals.{run_of_script}
-use Rattle.crash_model.specs.Trace.{based}
+use Rattle.crash_model.specs.Trace.{base_from}
 use Rattle.crash_model.specs.declared.refusals.RunFault.TheVariants.{OutOfMemory}
 use Rattle.crash_text.specs.BaseRefusal.{IsBaseRefusal}
 use Rattle.crash_text.specs.Telling.{AreReported, AreRefused}
@@ -36,7 +36,7 @@ returns-in_err-outcome-clause-refused g c =
       before = script.base.items;
       read = c.in_ok-script.ensures.ok;
       geometry = c.in_ok-base.ensures.lawful;
-      built = subst (λ s. based (formatted settings.blocks settings.journal) s ≡ Ok base) c.deref.ensures.value c.in_ok-base.ensures.built;
+      built = subst (λ s. base_from (empty_disk settings.blocks settings.journal) s ≡ Ok base) c.deref.ensures.value c.in_ok-base.ensures.built;
     } in
     let same : c.from_residual-in_err-outcome.result ≡ Err fault = search rules in
     subst (λ r. IfErr r (λ f. f ≢ OutOfMemory → IsAnswer c.args.script.now settings (Refused f))) (sym same)
@@ -52,7 +52,7 @@ returns-clause-reported g c =
       before = script.base.items;
       read = c.in_ok-script.ensures.ok;
       geometry = c.in_ok-base.ensures.lawful;
-      built = subst (λ s. based (formatted settings.blocks settings.journal) s ≡ Ok base) c.deref.ensures.value c.in_ok-base.ensures.built;
+      built = subst (λ s. base_from (empty_disk settings.blocks settings.journal) s ≡ Ok base) c.deref.ensures.value c.in_ok-base.ensures.built;
     } in
     reported_steps c.args.script.now settings base script.traced.items (string_bytes c.in_ok-outcome.outcome.text) c.in_ok-outcome.outcome.failing start
     (subst (λ s. AreReported settings base s (string_bytes c.in_ok-outcome.outcome.text) c.in_ok-outcome.outcome.failing) c.deref-2.ensures.value c.in_ok-outcome.ensures.reported)

@@ -3,11 +3,11 @@ use Rattle.std.specs.Prelude.{bytes_eq}
 use Rattle.crash_model.specs.Disk.{Disk}
 use Rattle.crash_model.specs.Layout.{is_entry, is_live, target_of, spelling_of}
 use Rattle.crash_model.specs.Lists.{first_below-none, first_below-lowest}
-use Rattle.crash_model.specs.Plan.{spelled, is_named}
+use Rattle.crash_model.specs.Plan.{name_spelling, is_named}
 use Rattle.inode_fs.proofs.look.entry_named.Goals as goal
 
 -- a test of the spelling is a test of the name
-named : (d : Disk) (dir k : ℕ) (name spelling : List ℕ) (test : Bool) → spelling ≡ spelled name
+named : (d : Disk) (dir k : ℕ) (name spelling : List ℕ) (test : Bool) → spelling ≡ name_spelling name
     → test ≡ ((is_entry d dir k && is_live d (target_of d dir k)) && bytes_eq (spelling_of d dir k) spelling) → is_named d dir name k ≡ test
 named d dir k name spelling test same is = rw (← same) (sym is)
 

@@ -1,5 +1,5 @@
 use Rattle.std.proofs.Common.{◌+◌, List, ℕ, ap, sym, ◌∙◌}
-use Rattle.journal_replay.specs.Walk.{copied}
+use Rattle.journal_replay.specs.Walk.{with_copies}
 use Rattle.journal_replay.proofs.Changed.{all_few, unchanged, header_changes}
 use Rattle.journal_replay.proofs.Walk.{walking-start, header_known, header_copied, header_left, header_step, replay_ends, replay_keeps_journal}
 use Rattle.journal_replay.proofs.journal.replay.Goals as goal
@@ -27,7 +27,7 @@ loop-header-preserved g c =
       changed = elim c.if-header.branch [
         | then-header w ↦ rw (w.image-is, w.written-is) (header_changes c.args.image.now d w.copy_blocks.new.image at turn h w.as_slice-then-header.result.now
             c.loop-header.written w.with_all-written.result c.loop-header.invariant.walk c.in-Some.ensures w.as_slice-then-header.ensures.value
-            (w.copy_blocks.ensures ∙ ap (λ (xs : List ℕ). copied d (at + 1) xs) (w.as_slice.ensures.value ∙ sym w.as_slice-then-header.ensures.value))
+            (w.copy_blocks.ensures ∙ ap (λ (xs : List ℕ). with_copies d (at + 1) xs) (w.as_slice.ensures.value ∙ sym w.as_slice-then-header.ensures.value))
             w.with_all-written.ensures.old record { each = w.with_all-written.ensures.more } c.loop-header.invariant.changed)
         | else-header w ↦ rw (w.image-is, w.written-is) c.loop-header.invariant.changed
       ];

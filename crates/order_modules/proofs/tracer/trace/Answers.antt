@@ -1,10 +1,10 @@
 use Rattle.std.proofs.lemmas.Result.{err_from_is_err_and}
 use Rattle.std.proofs.Common.{◌≡◌, ◌≤◌, List, length, Ok, subst, arith}
 use Rattle.crash_model.specs.Disk.{Disk}
-use Rattle.crash_model.specs.Trace.{begun, traced, IsGraphOf}
+use Rattle.crash_model.specs.Trace.{trace_start, trace_from, IsGraphOf}
 use Rattle.crash_model.specs.declared.rules.Rule.{Rule}
-use Rattle.crash_model.specs.declared.steps.Module.{Module}
-use Rattle.crash_model.specs.declared.steps.Module.TheVariants.{Full}
+use Rattle.crash_model.specs.declared.modules.Module.{Module}
+use Rattle.crash_model.specs.declared.modules.Module.TheVariants.{Full}
 use Rattle.full_journal_laws.proofs.Final.{recovered}
 use Rattle.order_modules.proofs.Steps.{step_taken, step_refused, traced_end, traced_names}
 use Rattle.order_modules.proofs.tracer.trace.Goals as goal
@@ -23,7 +23,7 @@ returns-clause-full g c = λ full among sound zeros.
     let steps = c.args.steps.now in
     let t = c.loop-step.tracer in
     let ended : length steps ≤ c.loop-step.step-index = omega (arith, c.loop-step-test.false, c.loop-step.auto) in
-    let is_traced : traced Full (begun base) steps ≡ Ok t.tracing = subst (λ (k : Module). traced k (begun base) steps ≡ Ok t.tracing) full (traced_end c.args.ordering.now.module c.args.ordering.now.rules.items base steps c.loop-step.step-index t ended c.loop-step.invariant) in
+    let is_traced : trace_from Full (trace_start base) steps ≡ Ok t.tracing = subst (λ (k : Module). trace_from k (trace_start base) steps ≡ Ok t.tracing) full (traced_end c.args.ordering.now.module c.args.ordering.now.rules.items base steps c.loop-step.step-index t ended c.loop-step.invariant) in
     let rules = c.args.ordering.now.rules.items in
     let graph : IsGraphOf rules base t.tracing c.into_traced.result.patches =
     subst (λ (rs : List Rule). IsGraphOf rs base t.tracing c.into_traced.result.patches) c.loop-step.invariant.same_rules

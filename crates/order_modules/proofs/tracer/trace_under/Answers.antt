@@ -1,11 +1,11 @@
 use Rattle.std.proofs.Common.{◌≡◌, List, Ok, sym, ap, subst, ◌∙◌}
 use Rattle.std.proofs.lemmas.List.Elements.{All-contains_itself}
 use Rattle.crash_model.specs.Rules.{AreAmong, rules_of}
-use Rattle.crash_model.specs.Trace.{begun, traced, IsGraphOf}
+use Rattle.crash_model.specs.Trace.{trace_start, trace_from, IsGraphOf}
 use Rattle.crash_model.specs.declared.patches.Patch.{Patch}
 use Rattle.crash_model.specs.declared.rules.Rule.{Rule}
-use Rattle.crash_model.specs.declared.steps.Module.{Module}
-use Rattle.crash_model.specs.declared.steps.Module.TheVariants.{Full}
+use Rattle.crash_model.specs.declared.modules.Module.{Module}
+use Rattle.crash_model.specs.declared.modules.Module.TheVariants.{Full}
 use Rattle.full_journal_laws.specs.Full.{IsFullSafe}
 use Rattle.order_modules.proofs.tracer.trace_under.Goals as goal
 
@@ -15,7 +15,7 @@ returns-clause-ok g c =
     let steps = c.args.steps.now in
     let made = c.in_ok-traced.ensures.ok in (
       made.0,
-      subst (λ (k : Module). traced k (begun base) steps ≡ Ok made.0) c.of-ordering.ensures.«module» made.1,
+      subst (λ (k : Module). trace_from k (trace_start base) steps ≡ Ok made.0) c.of-ordering.ensures.«module» made.1,
       subst (λ (patches : List Patch). IsGraphOf (rules_of c.args.«module») base made.0 patches) (sym c.into_graph.ensures)
           (subst (λ (rules : List Rule). IsGraphOf rules base made.0 c.in_ok-traced.traced.patches) c.of-ordering.ensures.rules made.2),
     )

@@ -2,15 +2,15 @@ use Rattle.std.proofs.Common.{◌≡◌, ◌+◌, ◌++◌, ◌∷◌, [], ℕ, 
 use Rattle.std.specs.Prelude.{◌==◌}
 use Rattle.std.specs.List.{list_any}
 use Rattle.crash_model.specs.declared.plans.Change.{Change}
-use Rattle.crash_model.specs.declared.steps.Module.{Module}
+use Rattle.crash_model.specs.declared.modules.Module.{Module}
 use Rattle.patch_sets.proofs.Ids.{ids_more}
-use Rattle.order_modules.specs.Transactions.{placed, targets_of}
+use Rattle.order_modules.specs.Transactions.{changes_in_place, targets_of}
 use Rattle.order_modules.proofs.transactions.touched.Goals as goal
 use Rattle.order_modules.proofs.transactions.touched.Goals.{then-is_touched, else-is_touched}
 
 module _ (kind : Module) (n : ℕ) (changes : List Change) where
   abbrev is_touched : ℕ → Bool
-  is_touched b = list_any (λ c. c.block == b) (placed kind changes)
+  is_touched b = list_any (λ c. c.block == b) (changes_in_place kind changes)
 
   one_more : (old new : List ℕ) → old ≡ targets_of kind n changes → is_touched n ≡ true → new ≡ old ++ n ∷ [] → new ≡ targets_of kind (n + 1) changes
   one_more old new so t more =

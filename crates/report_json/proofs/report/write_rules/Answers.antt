@@ -1,6 +1,6 @@
 use Rattle.std.proofs.Common.{◌++◌, map, string_bytes, ap, ◌∙◌}
 use Rattle.std.proofs.lemmas.List.{take_all}
-use Rattle.crash_model.specs.Lists.{joined}
+use Rattle.crash_model.specs.Lists.{join_of}
 use Rattle.crash_model.specs.Needs.{told_rule_json}
 use Rattle.report_sections.specs.ToldRules.{told_rule}
 use Rattle.serde_json.specs.Written.{compact_text}
@@ -18,4 +18,4 @@ loop-at-preserved g c =
 
 pub returns : goal.returns
 returns g c =
-    c.loop-at.invariant ∙ ap (λ rs. string_bytes c.args.out.now ++ joined 44 (map (λ rule. told_rule_json c.args.patches (told_rule rule)) rs)) (take_all c.loop-at.at c.args.rules.now c.loop-at-test.false)
+    c.loop-at.invariant ∙ ap (λ rs. string_bytes c.args.out.now ++ join_of 44 (map (λ rule. told_rule_json c.args.patches (told_rule rule)) rs)) (take_all c.loop-at.at c.args.rules.now c.loop-at-test.false)

@@ -1,8 +1,8 @@
 use Rattle.std.proofs.Common.{◌≡◌, ◌++◌, map, string_bytes, take}
-use Rattle.crash_model.specs.Lists.{joined}
+use Rattle.crash_model.specs.Lists.{join_of}
 use Rattle.crash_model.specs.Needs.{told_rule_json}
 use Rattle.report_sections.specs.ToldRules.{told_rule}
 use Rattle.report_json.proofs.report.write_rules.Given as goal
 
 abbrev pub invariant-loop-at : goal.invariant-loop-at
-invariant-loop-at g l = string_bytes l.out ≡ string_bytes l.initial.out ++ joined 44 (map (λ rule. told_rule_json l.patches (told_rule rule)) (take l.at l.rules))
+invariant-loop-at g l = string_bytes l.out ≡ string_bytes l.initial.out ++ join_of 44 (map (λ rule. told_rule_json l.patches (told_rule rule)) (take l.at l.rules))

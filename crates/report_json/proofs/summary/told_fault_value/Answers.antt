@@ -6,7 +6,7 @@ use Rattle.serde_json.specs.View.{view}
 use Rattle.crash_model.specs.Report.{ReplayedBlock}
 use Rattle.crash_model.specs.Summary.{told_fault_json}
 use Rattle.report_sections.specs.Replay.{told_block, told_replay}
-use Rattle.report_sections.specs.Sections.{told}
+use Rattle.report_sections.specs.Sections.{section_of}
 use Rattle.report_json.specs.JsonReport.{IsWritten}
 use Rattle.report_json.specs.ToldFaults.{told_fault_data}
 use Rattle.report_json.proofs.ToldFaults.{object_text, is_written, both_ok}
@@ -19,7 +19,7 @@ returns-in-None g c =
     let none : told_replay first.replay ≡ None = ap told_replay c.in-None.is in
     IfOk-weaker c.plain_value.result
     (λ value. view value ≡ told_fault_data c.args.patches row.fault row.sets first.set first.writes.items None)
-    (λ value. IsWritten (view value) (told_fault_json c.args.patches (record { row = row; first = told first })))
+    (λ value. IsWritten (view value) (told_fault_json c.args.patches (record { row = row; first = section_of first })))
     (λ value is. subst (λ (replay : Option (List ReplayedBlock)). IsWritten (view value) (object_text c.args.patches row.fault row.sets first.set first.writes.items replay)) (sym none)
     (is_written c.args.patches row.fault row.sets first.set first.writes.items None (view value) tt is))
     c.plain_value.ensures
@@ -32,7 +32,7 @@ returns-in-Some g c =
     let some : told_replay first.replay ≡ Some blocks = ap told_replay c.in-Some.is ∙ ap (λ bs. Some (map told_block bs)) (sym c.deref.ensures.value) in
     both_ok c.explained_value.result (All (λ r. IsBytes r.bytes) blocks)
     (λ value. view value ≡ told_fault_data c.args.patches row.fault row.sets first.set first.writes.items (Some blocks))
-    (λ value. IsWritten (view value) (told_fault_json c.args.patches (record { row = row; first = told first })))
+    (λ value. IsWritten (view value) (told_fault_json c.args.patches (record { row = row; first = section_of first })))
     (λ are value is. subst (λ (replay : Option (List ReplayedBlock)). IsWritten (view value) (object_text c.args.patches row.fault row.sets first.set first.writes.items replay)) (sym some)
     (is_written c.args.patches row.fault row.sets first.set first.writes.items (Some blocks) (view value) are is))
     c.explained_value.ensures.bytes c.explained_value.ensures.value

@@ -1,7 +1,7 @@
 use Rattle.std.proofs.Common.{arith, subst, ap, ◌∙◌, ◌≡◌, ℕ, List, [], ◌∷◌, ◌++◌}
 use Rattle.board_rule.specs.declared.life.Life.{Life}
 use Rattle.seen_board.specs.Known.{Known}
-use Rattle.seen_board.specs.Clauses.{HasPlace, word_at, SeesOn, number, settled_as}
+use Rattle.seen_board.specs.Clauses.{HasPlace, word_at, SeesOn, number, verdict_life}
 use Rattle.test_board.proofs.Expanding.{place_on, expands_put, expands_over, expands_successor, expands_all}
 use Rattle.test_board.proofs.worker.expand.Goals as goal
 
@@ -47,5 +47,5 @@ pub returns-clause-settled : goal.returns-clause-settled
 returns-clause-settled g c = λ _. (
   c.in-Ok.good,
   rw (← c.at-word.ensures.word) c.in-Ok.ensures.good,
-  ap (λ (s : Known). s.learned) c.settle.ensures ∙ ap (λ (l : List (ℕ × Life)). l ++ (number c.args.place, settled_as c.in-Ok.good) ∷ []) (c.loop-k.invariant.learned ∙ ap (λ (s : Known). s.learned) c.at-word.ensures.same),
+  ap (λ (s : Known). s.learned) c.settle.ensures ∙ ap (λ (l : List (ℕ × Life)). l ++ (number c.args.place, verdict_life c.in-Ok.good) ∷ []) (c.loop-k.invariant.learned ∙ ap (λ (s : Known). s.learned) c.at-word.ensures.same),
 )

@@ -3,15 +3,15 @@ use Rattle.crash_model.specs.Disk.{overwrite}
 use Rattle.crash_model.specs.Lists.{each_below, some_below, first_below}
 use Rattle.crash_model.specs.Plan.{plan_of}
 use Rattle.crash_model.specs.Faults.{each_slot, each_entry, namers, entries_to, faults}
-use Rattle.crash_model.specs.Strict.{reached_in, is_reached, strict_faults}
+use Rattle.crash_model.specs.Strict.{reach_in, is_reached, strict_faults}
 use Rattle.std.proofs.Common.{[], ◌∷◌}
 use Rattle.std.specs.Prelude.{codes}
 use Rattle.std.specs.Fmt.{digits}
 use Rattle.crash_model.specs.Report.{fault_text}
 use Rattle.crash_model.specs.Whole.{text_report, json_report}
-use Rattle.crash_model.specs.declared.names.Op.TheVariants.{Create, Link, Unlink}
+use Rattle.crash_model.specs.declared.operations.Op.TheVariants.{Create, Link, Unlink}
 use Rattle.crash_model.specs.declared.steps.Act.TheVariants.{Do}
-use Rattle.crash_model.specs.declared.steps.Module.TheVariants.{Soft}
+use Rattle.crash_model.specs.declared.modules.Module.TheVariants.{Soft}
 use Rattle.worked_example_laws.specs.Examples.{root}
 use Rattle.worked_example_laws.specs.Spelled.{settings_of, strict_settings_of}
 use Rattle.std.proofs.Common.{true}
@@ -19,7 +19,7 @@ use Rattle.worked_example_laws.proofs.Answering.{reported}
 use Rattle.worked_example_laws.proofs.answers.a_file_that_loses_its_names_is_reported.Goals as goal
 
 pub returns-clause-strict : goal.returns-clause-strict
-unfolding overwrite each_below some_below first_below plan_of each_slot each_entry namers entries_to faults reached_in is_reached strict_faults fault_text text_report json_report digits
+unfolding overwrite each_below some_below first_below plan_of each_slot each_entry namers entries_to faults reach_in is_reached strict_faults fault_text text_report json_report digits
 returns-clause-strict c = reported (strict_settings_of Soft 16 0 4096 true) (Do (Create (root (codes "a"))) ∷ []) (Do (Link (root (codes "a")) (root (codes "b"))) ∷ Do (Unlink (root (codes "a"))) ∷ []) 8 (4 ∷ 5 ∷ 13 ∷ []) _ refl refl refl
 
 pub returns-clause-unasked : goal.returns-clause-unasked

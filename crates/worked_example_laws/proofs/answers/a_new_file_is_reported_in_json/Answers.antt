@@ -8,9 +8,9 @@ use Rattle.std.specs.Prelude.{codes}
 use Rattle.std.specs.Fmt.{digits}
 use Rattle.crash_model.specs.Report.{fault_text}
 use Rattle.crash_model.specs.Whole.{text_report, json_report}
-use Rattle.crash_model.specs.declared.names.Op.TheVariants.{Create}
+use Rattle.crash_model.specs.declared.operations.Op.TheVariants.{Create}
 use Rattle.crash_model.specs.declared.steps.Act.TheVariants.{Do}
-use Rattle.crash_model.specs.declared.steps.Module.TheVariants.{Async}
+use Rattle.crash_model.specs.declared.modules.Module.TheVariants.{Async}
 use Rattle.worked_example_laws.specs.Examples.{root}
 use Rattle.worked_example_laws.specs.Spelled.{settings_of}
 use Rattle.std.proofs.Common.{true}

@@ -7,7 +7,7 @@ use Rattle.std.proofs.Common.{[]}
 use Rattle.std.specs.Fmt.{digits}
 use Rattle.crash_model.specs.Report.{fault_text}
 use Rattle.crash_model.specs.Whole.{text_report, json_report}
-use Rattle.crash_model.specs.declared.steps.Module.TheVariants.{Async}
+use Rattle.crash_model.specs.declared.modules.Module.TheVariants.{Async}
 use Rattle.worked_example_laws.specs.Spelled.{settings_of}
 use Rattle.std.proofs.Common.{false}
 use Rattle.worked_example_laws.proofs.Answering.{reported}

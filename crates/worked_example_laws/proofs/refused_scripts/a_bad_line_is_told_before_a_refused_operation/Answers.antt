@@ -1,6 +1,6 @@
 use Rattle.std.proofs.Common.{refl, [], ◌∷◌}
 use Rattle.std.specs.Prelude.{codes}
-use Rattle.crash_model.specs.declared.names.Op.TheVariants.{Create}
+use Rattle.crash_model.specs.declared.operations.Op.TheVariants.{Create}
 use Rattle.crash_model.specs.declared.steps.Act.TheVariants.{Do}
 use Rattle.worked_example_laws.specs.Examples.{inside}
 use Rattle.worked_example_laws.specs.Spelled.{lines_of}

@@ -6,7 +6,7 @@ use Rattle.crash_model.specs.Faults.{each_slot, each_entry, namers, entries_to, 
 use Rattle.std.proofs.Common.{◌≡◌, take, drop, true}
 use Rattle.crash_model.specs.Patches.{deps_of}
 use Rattle.crash_model.specs.Rules.{rules_of}
-use Rattle.crash_model.specs.declared.steps.Module.TheVariants.{Meta}
+use Rattle.crash_model.specs.declared.modules.Module.TheVariants.{Meta}
 use Rattle.worked_example_laws.specs.Examples.{fresh_with_journal, written_file}
 use Rattle.worked_example_laws.specs.Computed.{graph_of, trace_of, closed_sets, none_fails}
 use Rattle.worked_example_laws.proofs.FailingSets.{all_clean_if, none_in_parts}

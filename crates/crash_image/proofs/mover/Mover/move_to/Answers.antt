@@ -2,7 +2,7 @@ use Rattle.std.proofs.Common.{ap, sym, ◌∙◌}
 use Rattle.crash_model.specs.Disk.{Disk}
 use Rattle.crash_model.specs.Patches.{image_of}
 use Rattle.crash_image.specs.Moves.{Applied}
-use Rattle.crash_image.proofs.Moved.{undone-shape}
+use Rattle.crash_image.proofs.Moved.{without_patches-shape}
 use Rattle.crash_image.proofs.Applied.{fits_image, fits_again, moved, moved_base}
 use Rattle.crash_image.proofs.mover.Mover.move_to.Goals as goal
 
@@ -12,7 +12,7 @@ undo-requires-clause-fits g c = fits_image c.self.inside.image c.self.inside.gra
 pub redo-requires-clause-fits : goal.redo-requires-clause-fits
 redo-requires-clause-fits g c =
     fits_again c.self.inside.image.blocks c.undo.new.image.blocks c.self.inside.graph.now
-    (sym (ap (λ (d : Disk). d.blocks) c.undo.ensures ∙ (undone-shape 0 c.self.inside.image c.self.inside.graph.now c.difference.result).blocks))
+    (sym (ap (λ (d : Disk). d.blocks) c.undo.ensures ∙ (without_patches-shape 0 c.self.inside.image c.self.inside.graph.now c.difference.result).blocks))
     (fits_image c.self.inside.image c.self.inside.graph.now c.self.inside.set c.self.invariant.over.fits)
 
 pub invariant_of-self : goal.invariant_of-self

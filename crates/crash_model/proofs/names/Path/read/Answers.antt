@@ -4,7 +4,7 @@ use Rattle.std.proofs.lemmas.List.Elements.{All-push}
 use Rattle.std.proofs.lemmas.Bool.Decides.{nat_tests}
 use Rattle.crash_model.specs.Names.{IsName}
 use Rattle.crash_model.specs.Script.{IsPathWord}
-use Rattle.crash_model.proofs.Paths.{path_has_first, path_goes_on, slashed-push, path_ends}
+use Rattle.crash_model.proofs.Paths.{path_has_first, path_goes_on, slash_text-push, path_ends}
 use Rattle.crash_model.proofs.names.Path.read.Goals as goal
 
 not_empty : (xs : List ℕ) → length xs ≢ 0 → xs ≢ []
@@ -42,7 +42,7 @@ loop-rest-preserved c =
     rw (through, last) (record {
       few = few;
       names = All-push IsName names c.in_ok-name.name kept.names first.is_name;
-      text = slashed-push names c.in_ok-name.name loop.rest.now c.args.text.now c.in_ok-name.behind.now kept.text first.whole;
+      text = slash_text-push names c.in_ok-name.name loop.rest.now c.args.text.now c.in_ok-name.behind.now kept.text first.whole;
       ends = first.ends;
     })
 

@@ -1,12 +1,12 @@
 use Rattle.std.proofs.Common.{◌≡◌, arith, sym, subst}
 use Rattle.std.proofs.lemmas.Grind.{common_steps}
-use Rattle.crash_model.specs.Disk.{Disk, IsGeometry, formatted}
+use Rattle.crash_model.specs.Disk.{Disk, IsGeometry, empty_disk}
 use Rattle.crash_model.specs.Sound.{IsSound, HasZeroJournal}
-use Rattle.disk_image.proofs.Formatted.{sound-formatted, zero-journal-formatted}
+use Rattle.disk_image.proofs.Formatted.{sound-empty_disk, zero-journal-empty_disk}
 use Rattle.disk_image.proofs.image.Image.formatted.Goals as goal
 
 pub returns-clause-sound : goal.returns-clause-sound
 returns-clause-sound g c =
     let good : IsGeometry c.args.blocks c.args.journal = record { least = omega arith; most = omega arith; room = omega arith } in
-    let made : c.put-3.new.self ≡ formatted c.args.blocks c.args.journal = grind (arith, common_steps) in
-    subst (λ (d : Disk). IsSound d × HasZeroJournal d) (sym made) (sound-formatted c.args.blocks c.args.journal good, zero-journal-formatted c.args.blocks c.args.journal good)
+    let made : c.put-3.new.self ≡ empty_disk c.args.blocks c.args.journal = grind (arith, common_steps) in
+    subst (λ (d : Disk). IsSound d × HasZeroJournal d) (sym made) (sound-empty_disk c.args.blocks c.args.journal good, zero-journal-empty_disk c.args.blocks c.args.journal good)

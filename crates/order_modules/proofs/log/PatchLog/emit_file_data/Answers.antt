@@ -2,7 +2,7 @@ use Rattle.std.proofs.Common.{◌≡◌, ◌∙◌, [], ◌∷◌, ℕ, List, tr
 use Rattle.crash_model.specs.declared.rules.Part.TheVariants as part
 use Rattle.crash_model.specs.Trace.{part_of}
 use Rattle.crash_model.specs.declared.plans.Change.{Change}
-use Rattle.crash_model.specs.declared.steps.Module.{Module}
+use Rattle.crash_model.specs.declared.modules.Module.{Module}
 use Rattle.std.specs.List.{filter}
 use Rattle.order_modules.specs.Labels.{origin_by}
 use Rattle.order_modules.specs.Log.{Log, Adds}

@@ -1,8 +1,8 @@
 use Rattle.std.proofs.Common.{◌≡◌, ◌∙◌, [], ◌∷◌, ℕ, List, true, false, not, Bool, sym, ap, subst, map, take, ◌+◌}
 use Rattle.crash_model.specs.declared.rules.Part.TheVariants as part
-use Rattle.crash_model.specs.Trace.{part_of, plain}
+use Rattle.crash_model.specs.Trace.{part_of, in_place_patch}
 use Rattle.crash_model.specs.declared.plans.Change.{Change}
-use Rattle.crash_model.specs.declared.steps.Module.{Module}
+use Rattle.crash_model.specs.declared.modules.Module.{Module}
 use Rattle.std.specs.List.{filter}
 use Rattle.order_modules.specs.Labels.{origin_by}
 use Rattle.order_modules.specs.Log.{Log, Adds}
@@ -19,13 +19,13 @@ pub emit-requires-clause-room : goal.emit-requires-clause-room
 emit-requires-clause-room g c =
     let x = c.change-item.result in
     let t : is_ahead c.args.self.now.kind x ≡ false = tested c.args.self.now.kind c.loop-change.self.kind c.module.result x false c.module.ensures c.loop-change.invariant.kind c.if-not-is_ahead.ensures in
-    chosen_space c.args.self.now c.loop-change.self (is_placed c.args.self.now.kind) (plain c.args.turn (origin_by c.args.origin)) c.args.changes.now c.loop-change.change-index x c.loop-change-test.true c.change-item.is c.loop-change.invariant (ap not t) c.requires.room
+    chosen_space c.args.self.now c.loop-change.self (is_placed c.args.self.now.kind) (in_place_patch c.args.turn (origin_by c.args.origin)) c.args.changes.now c.loop-change.change-index x c.loop-change-test.true c.change-item.is c.loop-change.invariant (ap not t) c.requires.room
 
 pub loop-change-preserved : goal.loop-change-preserved
 loop-change-preserved g c =
     let old = c.args.self.now in let now = c.loop-change.self in let x = c.change-item.result in
     let turn = c.args.turn in let origin = origin_by c.args.origin in let i = c.loop-change.change-index in
-    let p = is_placed c.args.self.now.kind in let f = plain c.args.turn (origin_by c.args.origin) in
+    let p = is_placed c.args.self.now.kind in let f = in_place_patch c.args.turn (origin_by c.args.origin) in
     let next : Log → Type 0 = λ log. Adds old log (map f (filter p (take (i + 1) c.args.changes.now))) in
     let same : is_ahead old.kind x ≡ c.is_ahead.result = tested old.kind now.kind c.module.result x c.is_ahead.result c.module.ensures c.loop-change.invariant.kind c.is_ahead.ensures in
     elim c.if-not-is_ahead.branch [

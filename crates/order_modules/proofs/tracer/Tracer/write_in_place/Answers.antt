@@ -1,21 +1,21 @@
 use Rattle.std.proofs.Common.{◌≡◌, ◌+◌, ◌≤◌, List, length, map, arith, refl, sym, ap, subst}
 use Rattle.std.specs.Prelude.{All, Ok}
 use Rattle.crash_model.specs.Disk.{IsDisk}
-use Rattle.crash_model.specs.Trace.{origin_at, plain, planned}
+use Rattle.crash_model.specs.Trace.{origin_at, in_place_patch, trace_of_plan}
 use Rattle.crash_model.specs.declared.plans.Change.{Change}
 use Rattle.inode_fs.specs.Inside.{LiesInside}
 use Rattle.order_modules.specs.Labels.{group_by}
 use Rattle.order_modules.specs.Log.{Adds}
 use Rattle.order_modules.specs.Tracer.{Trace, Moves, IsOrdered, names_by, trace_of}
-use Rattle.order_modules.specs.Transactions.{placed}
-use Rattle.order_modules.proofs.Planning.{trace_kept, not_journaled, moves_in_place, placed_all, applied-disk}
+use Rattle.order_modules.specs.Transactions.{changes_in_place}
+use Rattle.order_modules.proofs.Planning.{trace_kept, not_journaled, moves_in_place, placed_all, with_changes-disk}
 use Rattle.order_modules.proofs.tracer.Tracer.write_in_place.Goals as goal
 
 pub emit_in_place-requires-clause-room : goal.emit_in_place-requires-clause-room
 emit_in_place-requires-clause-room g c =
     let i = c.self.inside in
     let order = subst (λ (t : Trace). IsOrdered t.log.kind) (sym c.self.view_is) c.requires.order in
-    let all : length (placed i.log.kind c.as_slice.result.now) ≡ length c.as_slice.result.now = ap (λ (xs : List Change). length xs) (placed_all i.log.kind c.as_slice.result.now order) in
+    let all : length (changes_in_place i.log.kind c.as_slice.result.now) ≡ length c.as_slice.result.now = ap (λ (xs : List Change). length xs) (placed_all i.log.kind c.as_slice.result.now order) in
     let same : length c.as_slice.result.now ≡ length c.args.plan.now.items = ap (λ (xs : List Change). length xs) c.as_slice.ensures.value in
     let room : length i.log.emitted + c.len.result ≤ 124 = c.has_room.ensures.0 c.if-not-has_room.false in
     omega (arith, all, same, room, c.len.ensures.value)
@@ -25,7 +25,7 @@ invariant_of-self g c =
     let i = c.self.inside in
     let old : Trace = trace_of i.log i.disk i.turn i.next (group_by i.current) (names_by i.opened.items) (names_by i.ended.items) in
     let inside = subst (λ (t : Trace). All (LiesInside t.tracing.disk.blocks) c.args.plan.now.items) (sym c.self.view_is) c.requires.inside in
-    let is_disk : IsDisk c.apply.new.image = subst IsDisk (sym c.apply.ensures.changes) (applied-disk i.disk c.args.plan.now.items c.self.invariant.disk inside) in
+    let is_disk : IsDisk c.apply.new.image = subst IsDisk (sym c.apply.ensures.changes) (with_changes-disk i.disk c.args.plan.now.items c.self.invariant.disk inside) in
     trace_kept old c.self.invariant c.emit_in_place.new.self c.emit_in_place.ensures.kept c.apply.new.image is_disk c.apply.ensures.size.0 c.apply.ensures.size.1 i.turn i.next (omega arith)
     (omega (arith, c.self.invariant.to, c.apply.ensures.size.1)) c.self.invariant.counted
 
@@ -35,7 +35,7 @@ invariant_of-self-2 g c =
     let old : Trace = trace_of i.log i.disk i.turn i.next (group_by i.current) (names_by i.opened.items) (names_by i.ended.items) in
     let order = subst (λ (t : Trace). IsOrdered t.log.kind) (sym c.self.view_is) c.requires.order in
     let inside = subst (λ (t : Trace). All (LiesInside t.tracing.disk.blocks) c.args.plan.now.items) (sym c.self.view_is) c.requires.inside in
-    let is_disk : IsDisk c.apply.new.image = subst IsDisk (sym c.apply.ensures.changes) (applied-disk i.disk c.args.plan.now.items c.self.invariant.disk inside) in
+    let is_disk : IsDisk c.apply.new.image = subst IsDisk (sym c.apply.ensures.changes) (with_changes-disk i.disk c.args.plan.now.items c.self.invariant.disk inside) in
     trace_kept old c.self.invariant c.emit_in_place.new.self c.emit_in_place.ensures.kept c.apply.new.image is_disk c.apply.ensures.size.0 c.apply.ensures.size.1 (i.turn + 1) i.next (omega arith)
     (omega (arith, c.self.invariant.to, c.apply.ensures.size.1)) (λ j. absurd (not_journaled i.log.kind order j))
 
@@ -46,6 +46,6 @@ returns-clause-ok g c =
     let cs = c.args.plan.now.items in
     let order = subst (λ (t : Trace). IsOrdered t.log.kind) (sym c.self.view_is) c.requires.order in
     let room : length i.log.emitted + c.len.result ≤ 124 = c.has_room.ensures.0 c.if-not-has_room.false in
-    let adds = subst (λ (xs : List Change). Adds i.log c.emit_in_place.new.self (map (plain i.turn (origin_at c.args.line c.args.op.now (group_by i.current))) (placed i.log.kind xs))) c.as_slice.ensures.value c.in_ok-emit_in_place.ensures.ok in
-    subst (λ (t : Trace). Moves t (trace_of c.emit_in_place.new.self c.apply.new.image (i.turn + 1) i.next (group_by i.current) (names_by i.opened.items) (names_by i.ended.items)) (planned t.log.kind c.args.line c.args.op.now t.tracing (Ok cs))) c.self.view_is
+    let adds = subst (λ (xs : List Change). Adds i.log c.emit_in_place.new.self (map (in_place_patch i.turn (origin_at c.args.line c.args.op.now (group_by i.current))) (changes_in_place i.log.kind xs))) c.as_slice.ensures.value c.in_ok-emit_in_place.ensures.ok in
+    subst (λ (t : Trace). Moves t (trace_of c.emit_in_place.new.self c.apply.new.image (i.turn + 1) i.next (group_by i.current) (names_by i.opened.items) (names_by i.ended.items)) (trace_of_plan t.log.kind c.args.line c.args.op.now t.tracing (Ok cs))) c.self.view_is
     (moves_in_place old c.args.line c.args.op.now cs c.emit_in_place.new.self c.apply.new.image (i.turn + 1) i.next refl refl c.apply.ensures.changes order adds refl refl c.self.invariant.to (omega (arith, room, c.len.ensures.value)))

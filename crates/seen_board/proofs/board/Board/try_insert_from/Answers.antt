@@ -3,19 +3,19 @@ use Rattle.seen_board.proofs.AfterInserts.{returns_after, returns_successor, put
 use Rattle.seen_board.proofs.board.Board.try_insert_from.Goals as goal
 
 pub look_reading-requires-clause-before : goal.look_reading-requires-clause-before
-look_reading-requires-clause-before g c = let w = c.sought-sought.ensures.word in let q : c.sought-sought.result.shard ≡ c.args.word % 13 = c.sought-sought.ensures.sought.0 ∙ ap (λ (x : ℕ). x % 13) w in
-    rw (q, w) (still_lacks c.args.seat.now.seen c.find_sought.new.seat.seen (c.args.word % 13) c.args.word c.args.from (omega arith) c.find_sought.ensures.sees.1 c.requires.before)
+look_reading-requires-clause-before g c = let w = c.probe-probe.ensures.word in let q : c.probe-probe.result.shard ≡ c.args.word % 13 = c.probe-probe.ensures.probe.0 ∙ ap (λ (x : ℕ). x % 13) w in
+    rw (q, w) (still_lacks c.args.seat.now.seen c.find_probe.new.seat.seen (c.args.word % 13) c.args.word c.args.from (omega arith) c.find_probe.ensures.sees.1 c.requires.before)
 
 pub insert_writing-requires-clause-successor : goal.insert_writing-requires-clause-successor
 insert_writing-requires-clause-successor g c =
-    rw c.sought-sought.ensures.word (returns_successor (g.S.Space.successors c.args.self.now.space) c.args.seat.now c.look_reading.new.seat c.args.word (returns_after c.args.seat.now c.find_sought.new.seat c.look_reading.new.seat c.find_sought.ensures.sees c.look_reading.ensures.returns) c.requires.successor)
+    rw c.probe-probe.ensures.word (returns_successor (g.S.Space.successors c.args.self.now.space) c.args.seat.now c.look_reading.new.seat c.args.word (returns_after c.args.seat.now c.find_probe.new.seat c.look_reading.new.seat c.find_probe.ensures.sees c.look_reading.ensures.returns) c.requires.successor)
 
 pub returns-in-Taken : goal.returns-in-Taken
-returns-in-Taken g c = record { put = returns_after c.args.seat.now c.find_sought.new.seat c.look_reading.new.seat c.find_sought.ensures.sees c.look_reading.ensures.returns }
+returns-in-Taken g c = record { put = returns_after c.args.seat.now c.find_probe.new.seat c.look_reading.new.seat c.find_probe.ensures.sees c.look_reading.ensures.returns }
 
 pub returns-in-At : goal.returns-in-At
-returns-in-At g c = let w = c.sought-sought.ensures.word in let q : c.sought-sought.result.shard ≡ c.args.word % 13 = c.sought-sought.ensures.sought.0 ∙ ap (λ (x : ℕ). x % 13) w in
-    record { put = (returns_after c.args.seat.now c.find_sought.new.seat c.look_reading.new.seat c.find_sought.ensures.sees c.look_reading.ensures.returns, ((omega (arith, q), c.in-At.ensures.looked.0), c.in-At.ensures.looked.1 ∙ w, q)) }
+returns-in-At g c = let w = c.probe-probe.ensures.word in let q : c.probe-probe.result.shard ≡ c.args.word % 13 = c.probe-probe.ensures.probe.0 ∙ ap (λ (x : ℕ). x % 13) w in
+    record { put = (returns_after c.args.seat.now c.find_probe.new.seat c.look_reading.new.seat c.find_probe.ensures.sees c.look_reading.ensures.returns, ((omega (arith, q), c.in-At.ensures.looked.0), c.in-At.ensures.looked.1 ∙ w, q)) }
 
 pub returns-in-Absent : goal.returns-in-Absent
-returns-in-Absent g c = record { put = put_after c.args.seat.now c.look_reading.new.seat c.insert_writing.new.seat c.args.word c.insert_writing.result (returns_after c.args.seat.now c.find_sought.new.seat c.look_reading.new.seat c.find_sought.ensures.sees c.look_reading.ensures.returns) (rw c.sought-sought.ensures.word at c.insert_writing.ensures.put) }
+returns-in-Absent g c = record { put = put_after c.args.seat.now c.look_reading.new.seat c.insert_writing.new.seat c.args.word c.insert_writing.result (returns_after c.args.seat.now c.find_probe.new.seat c.look_reading.new.seat c.find_probe.ensures.sees c.look_reading.ensures.returns) (rw c.probe-probe.ensures.word at c.insert_writing.ensures.put) }

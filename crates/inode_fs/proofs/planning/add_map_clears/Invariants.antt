@@ -1,7 +1,7 @@
 use Rattle.std.proofs.Common.{◌≡◌, ◌≤◌, ◌+◌, ◌++◌, length}
 use Rattle.crash_model.specs.Lists.{some_below}
 use Rattle.crash_model.specs.Plan.{map_clear_at}
-use Rattle.inode_fs.proofs.plans.add_map_clears.Given as goal
+use Rattle.inode_fs.proofs.planning.add_map_clears.Given as goal
 
 abbrev pub invariant-loop-slot : goal.invariant-loop-slot
 invariant-loop-slot g l = record {

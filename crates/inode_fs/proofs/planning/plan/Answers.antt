@@ -4,8 +4,8 @@ use Rattle.inode_fs.proofs.Counts.{ok-both, same-fault, plan-count}
 use Rattle.inode_fs.proofs.Sounds.{plan-keeps}
 use Rattle.inode_fs.proofs.Means.{plan-means}
 use Rattle.inode_fs.proofs.Refused.{plan-refused}
-use Rattle.inode_fs.proofs.Lands.{plan-lands, all-inside, applied-journal}
-use Rattle.inode_fs.proofs.plans.plan.Goals as goal
+use Rattle.inode_fs.proofs.Lands.{plan-lands, all-inside, with_changes-journal}
+use Rattle.inode_fs.proofs.planning.plan.Goals as goal
 
 pub returns-clause-count : goal.returns-clause-count
 returns-clause-count g c =
@@ -25,7 +25,7 @@ returns-clause-journal g c =
     let d = c.args.image.now in
     let op = c.args.op.now in
     let disk : IsDisk d = c.blocks-blocks.ensures.disk in
-    ok-both c.changes_of.result _ c.changes_of.ensures.changes c.changes_of.ensures.name (λ plan is name. applied-journal d plan.items disk (plan-lands d op plan.items disk name is))
+    ok-both c.changes_of.result _ c.changes_of.ensures.changes c.changes_of.ensures.name (λ plan is name. with_changes-journal d plan.items disk (plan-lands d op plan.items disk name is))
 
 pub returns-clause-refused : goal.returns-clause-refused
 returns-clause-refused g c = λ sound fault.

@@ -3,14 +3,14 @@
 ghost use Rattle.std.specs.Prelude.{ℕ, List, ◌≡◌, ◌<◌, ◌≤◌, ◌↔◌, ◌+◌, ◌++◌, length, option_to_list, All, IfOk, MatchResult, Ok, Err, Some};
 ghost use Rattle.crash_model.specs.Names.{IsName};
 ghost use Rattle.crash_model.specs.Layout.{links_of};
-ghost use Rattle.crash_model.specs.Plan.{plan_of, relinked, free_entry, map_clear_at, map_clears, applied};
+ghost use Rattle.crash_model.specs.Plan.{plan_of, relink_plan, free_entry, map_clear_at, map_clears, with_changes};
 ghost use Rattle.crash_model.specs.declared.plans.Change.{Change};
 ghost use Rattle.crash_model.specs.Sound.{IsSound};
 ghost use Rattle.crash_model.specs.View.{view_of};
 ghost use Rattle.crash_model.specs.Meaning.{IsRefused, Means};
 ghost use Rattle.crash_model.specs.declared.refusals.FsFault.{FsFault};
 ghost use Rattle.inode_fs.specs.Inside.{LiesInside, HasSameJournal, GivesName};
-ghost use Rattle.crash_model.specs.declared.names.Op.TheVariants.{Create, Write, Link, Unlink, Rename, Mkdir, Rmdir};
+ghost use Rattle.crash_model.specs.declared.operations.Op.TheVariants.{Create, Write, Link, Unlink, Rename, Mkdir, Rmdir};
 
 use crate::changes::{
     DIRECTORY_MARK, FILE_MARK, entry_clear, entry_set, init_block, inode_free, inode_init,
@@ -20,7 +20,8 @@ use crate::look::{
     DIRECTORY, Entry, FILE, entry_named, find, free_block, free_inode, free_slot, has_entries, walk,
 };
 use arrayvec::ArrayVec;
-use crash_model::names::{Op, Path};
+use crash_model::names::Path;
+use crash_model::operations::Op;
 use crash_model::plans::{Plan, Role};
 use crash_model::refusals::FsFault;
 use disk_image::Image;
@@ -39,14 +40,15 @@ pub fn plan<A: Allocator + Copy>(image: &Image<A>, op: &Op) -> Result<Plan, FsFa
         plan_of image.now op.now ≡ Err fault) }
     ensures count { IfOk result (λ plan. (1 ≤ length plan.items) × (length plan.items ≤ 8)) }
     ensures inside { IfOk result (λ plan. All (LiesInside image.now.blocks) plan.items) }
-    ensures journal { IfOk result (λ plan. HasSameJournal image.now (applied image.now plan.items)) }
+    ensures journal { IfOk result (λ plan. HasSameJournal image.now (with_changes image.now plan.items)) }
     ensures name { IfOk result (λ _. GivesName op.now) }
     ensures refused { IsSound image.now → (fault : FsFault)
         → ((result ≡ Err fault) ↔ IsRefused image.now.blocks image.now.journal (view_of image.now) op.now fault) }
-    ensures sound { IsSound image.now → IfOk result (λ plan. IsSound (applied image.now plan.items)) }
+    ensures sound { IsSound image.now → IfOk result (λ plan. IsSound (with_changes image.now plan.items)) }
     ensures means { IsSound image.now
         → IfOk result (λ plan.
-        Means image.now.blocks image.now.journal (view_of image.now) (view_of (applied image.now plan.items)) op.now) }
+        Means image.now.blocks image.now.journal (view_of image.now)
+        (view_of (with_changes image.now plan.items)) op.now) }
 {
     // Tells the proof that the image has the size of a disk.
     let _blocks = image.blocks();
@@ -124,8 +126,8 @@ fn further_name<A: Allocator + Copy>(
     new: &Path,
 ) -> Result<FurtherName, FsFault>
     ensures found { MatchResult result
-        (λ r. (changes : ℕ → ℕ → ℕ → ℕ → List ℕ → List Change) → relinked image.now old.now new.now changes ≡ Ok (changes r.old.dir r.old.place r.old.target r.dir new.now.last))
-        (λ fault. (changes : ℕ → ℕ → ℕ → ℕ → List ℕ → List Change) → relinked image.now old.now new.now changes ≡ Err fault) }
+        (λ r. (changes : ℕ → ℕ → ℕ → ℕ → List ℕ → List Change) → relink_plan image.now old.now new.now changes ≡ Ok (changes r.old.dir r.old.place r.old.target r.dir new.now.last))
+        (λ fault. (changes : ℕ → ℕ → ℕ → ℕ → List ℕ → List Change) → relink_plan image.now old.now new.now changes ≡ Err fault) }
     ensures links { IfOk result (λ r. (r.links ≡ links_of image.now r.old.target) × (r.links < 8)) }
     ensures place { IfOk result (λ r. free_entry image.now r.dir ≡ Some r.place) }
     ensures within { IfOk result (λ r. (r.old.dir < 16) × (r.old.place < 10) × (r.old.target < 16) × (r.dir < 16)

@@ -1,0 +1,32 @@
+//! The step that each act of a script is.
+
+ghost use Rattle.std.specs.Prelude.{◌≡◌, ◌≢◌, ◌<◌, ◌^◌, Err, All, IfErr, OnOk};
+ghost use Rattle.crash_model.specs.Trace.{step as step_of};
+ghost use Rattle.crash_model.specs.declared.refusals.TraceFault.TheVariants as fault;
+ghost use Rattle.inode_fs.specs.Inside.{GivesName};
+ghost use Rattle.full_journal_laws.specs.Full.{ops_at};
+ghost use Rattle.order_modules.specs.Tracer.{Moves};
+
+use crate::tracer::Tracer;
+use crash_model::refusals::TraceFault;
+use crash_model::steps::{Act, Step};
+use std::alloc::Allocator;
+
+impl<'a, A: Allocator + Copy> Tracer<'a, A> {
+    /// Takes a step of the script.
+    pub fn step(&mut self, step: &'a Step) -> Result<(), TraceFault>
+        requires { self.old.tracing.turn < 2 ^ 63 }
+        ensures ok { OnOk result (Moves self.old self.new
+            (step_of self.old.log.kind self.old.tracing step.now.line step.now.act)) }
+        ensures names { OnOk result (All GivesName (ops_at step.now.act)) }
+        ensures refused { IfErr result (λ refusal. refusal ≢ fault.OutOfMemory
+            → step_of self.old.log.kind self.old.tracing step.now.line step.now.act ≡ Err refusal) }
+    {
+        match &step.act {
+            Act::Do(op) => self.operate(step.line, op),
+            Act::Group(name) => self.open(step.line, name),
+            Act::End => self.end(step.line),
+            Act::Depend(later, earlier) => self.depend(step.line, later, earlier),
+        }
+    }
+}
