@@ -14,7 +14,7 @@ use Rattle.board_rule.specs.Lives.{is_unsettled}
 use Rattle.board_rule.specs.Views.{Told, OnLives, OnPending, OnCount}
 use Rattle.board_rule.specs.Rule.{claims_on, open_lives, PendingOk, CountOk, IsBare, Kept}
 use Rattle.board_rule.specs.Changes.{with_given_up}
-use Rattle.board_rule.specs.Plays.{announced, repaid, ended, counted, stopped, overflowed}
+use Rattle.board_rule.specs.Plays.{Announces, Repays, Ends, CountsEntry, Stops, Overflows}
 use Rattle.board_rule.specs.declared.view.View.{View}
 use Rattle.board_rule.proofs.Sums.{total-set, term_le}
 use Rattle.board_rule.proofs.Lives.{in_range, claims_given_up, lives_stay}
@@ -44,7 +44,7 @@ module _ (t : Told) (good : ℕ → Type 0) (S : Type 0) where
 
   -- a writer with a claim adds 1 to pending, before it publishes
   pub announces : (n id : ℕ) (m : Me S View) (q k : ℕ) → t.limit ≤ 32768 → q < 13 → m.0.lives.claims ≡ 1 → m.0.lives.place ≡ place_of q k → m.0.rows.right ≡ writer → m.0.pending.announced ≡ 0
-      → Allows Rule n id m 0 (λ y. (y + 1) % 2 ^ 64) (announced (step n 0 1 0 none) m)
+      → Allows Rule n id m 0 (λ y. (y + 1) % 2 ^ 64) (Announces (step n 0 1 0 none) m)
   announces n id m q k small near has here writes none-yet s o wide me _ = let x = get_or s.words 0 0 in let p = record m.0.pending { announced = 1 } in let w : View = record m.0 { pending = p } in
       let few = adds_few s.words s.views o.locks (λ j v e. ((o.seats j v e).near, o.pending.by_writers j v e)) in let all = all_counts o.lives in let bound = lives_few s o in
       let under : x < 18446744073709551615 = omega (arith, o.pending.sum, o.pending.few, few, all, bound, small) in let up : (x + 1) % 2 ^ 64 ≡ x + 1 = omega (arith, under) in let y = (x + 1) % 2 ^ 64 in
@@ -62,7 +62,7 @@ module _ (t : Told) (good : ℕ → Type 0) (S : Type 0) where
       )
 
   -- after settling, 1 is subtracted
-  pub repays : (n id : ℕ) (m : Me S View) → m.0.pending.owed ≡ 1 → Allows Rule n id m 0 (λ y. (y + (2 ^ 64 - 1)) % 2 ^ 64) (repaid (step n 0 1 0 none) m)
+  pub repays : (n id : ℕ) (m : Me S View) → m.0.pending.owed ≡ 1 → Allows Rule n id m 0 (λ y. (y + (2 ^ 64 - 1)) % 2 ^ 64) (Repays (step n 0 1 0 none) m)
   repays n id m debt s o wide me under = let x = get_or s.words 0 0 in let p = record m.0.pending { owed = 0 } in let w : View = record m.0 { pending = p } in let y = (x + (2 ^ 64 - 1)) % 2 ^ 64 in
       let low : 1 ≤ x = omega (arith, o.pending.sum, term_le (λ v. v.pending.owed) s.views id m.0 me, debt) in let top : x < 18446744073709551616 = under in let down : y + 1 ≡ x = omega (arith, low, top) in
       let now : get_or (set s.words 0 y) 0 0 ≡ y = get_or-set_same s.words 0 y 0 (omega (arith, o.sized)) in let a = total-set (λ v. v.pending.announced) s.views id m.0 w me in (
@@ -78,7 +78,7 @@ module _ (t : Told) (good : ℕ → Type 0) (S : Type 0) where
       )
 
   -- a load of pending: where it finds 0, nothing is unsettled and nothing is on its way
-  pub ends : (n id : ℕ) (m : Me S View) → Allows Rule n id m 0 (λ y. y) (ended (step n 0 0 0 none) m)
+  pub ends : (n id : ℕ) (m : Me S View) → Allows Rule n id m 0 (λ y. y) (Ends (step n 0 0 0 none) m)
   ends n id m s o wide me _ = let x = get_or s.words 0 0 in let p = record m.0.pending { finished = 1 } in let w : View = record m.0 { pending = p } in let a = total-set (λ v. v.pending.announced) s.views id m.0 w me in
       let now : get_or (set s.words 0 x) 0 0 ≡ x = get_or-set_same s.words 0 x 0 (omega (arith, o.sized)) in
       dite (ℕ_discrete x 0)
@@ -96,7 +96,7 @@ module _ (t : Told) (good : ℕ → Type 0) (S : Type 0) where
       (λ ne. (m.0, keeps, tt, unmoved t good S s o 0 id m me, (refl, (λ e. absurd (ne e)), λ _. refl)))
 
   -- a published entry is counted: past the limit the seat knows that more words are reached
-  pub counts_it : (n id : ℕ) (m : Me S View) → t.limit ≤ 32768 → m.0.limit ≡ t.limit → m.0.count.uncounted ≡ 1 → Allows Rule n id m 1 (λ y. (y + 1) % 2 ^ 64) (counted (step n 1 1 0 none) m)
+  pub counts_it : (n id : ℕ) (m : Me S View) → t.limit ≤ 32768 → m.0.limit ≡ t.limit → m.0.count.uncounted ≡ 1 → Allows Rule n id m 1 (λ y. (y + 1) % 2 ^ 64) (CountsEntry (step n 1 1 0 none) m)
   counts_it n id m small told mine s o wide me _ = let x = get_or s.words 1 0 in let y = (x + 1) % 2 ^ 64 in
       let rows-few : total length o.rows ≤ 13 * t.limit = subst (λ (n : ℕ). total length o.rows ≤ n * t.limit) o.row.all (total_bound o.rows t.limit (λ q b. o.row.short q (omega (arith, b, o.row.all)))) in
       let more : x + 1 ≤ total length o.rows = omega (arith, o.counts.count, term_le (λ v. v.count.uncounted) s.views id m.0 me, mine) in let up : y ≡ x + 1 = omega (arith, more, rows-few, small) in
@@ -121,14 +121,14 @@ module _ (t : Told) (good : ℕ → Type 0) (S : Type 0) where
       (λ none-open _. (none-open, omega arith)) (λ f. let d = o.pending.done id m.0 me f in (d.0, omega (arith, a, d.1))))
       (count_turn t o.rows o.rows s.words (set s.words 2 1) s.views id m.0 w o.counts me (omega (arith, get_or-set_other s.words 2 1 1 0 (λ e. omega (arith, e)), same)) large)
 
-  pub stops : (n id : ℕ) (m : Me S View) → Allows Rule n id m 2 (λ _. 1) (λ _. stopped (step n 2 1 0 none) m 1)
+  pub stops : (n id : ℕ) (m : Me S View) → Allows Rule n id m 2 (λ _. 1) (λ _. Stops (step n 2 1 0 none) m 1)
   stops n id m s o wide me _ = (with_given_up m.0, keeps, tt, stop_turn s o id m m.0.count me refl (o.counts.over id m.0 me), refl)
 
   -- a full row, under its right, lacks a successor of a word that was seen
   pub overflows : (n id : ℕ) (m : Me S View) (x c k : ℕ) → m.0.rows.right ≡ writer → t.limit ≤ length (row_of m.0.rows.seen m.0.rows.held)
       → c < 13 → k < length (row_of m.0.rows.seen c) → Contains (t.next (get_or (row_of m.0.rows.seen c) k 0)) x
       → ((j : ℕ) → j < length (row_of m.0.rows.seen m.0.rows.held) → get_or (row_of m.0.rows.seen m.0.rows.held) j 0 ≢ x)
-      → Allows Rule n id m 2 (λ _. 1) (λ _. overflowed (step n 2 1 0 none) m 1)
+      → Allows Rule n id m 2 (λ _. 1) (λ _. Overflows (step n 2 1 0 none) m 1)
   overflows n id m x c k writes full near inside succ absent s o wide me _ = let ok = o.seats id m.0 me in let q = m.0.rows.held in let whole = ok.whole (omega (arith, writes)) in (
     record (with_given_up m.0) { count = record m.0.count { over = 1 } },
     keeps,

@@ -12,7 +12,7 @@ use Rattle.board_rule.specs.Lists.{row_of, StartsWith}
 use Rattle.board_rule.specs.Views.{Told}
 use Rattle.board_rule.specs.Rule.{IndexOk, Complete, Kept}
 use Rattle.board_rule.specs.Changes.{with_seen}
-use Rattle.board_rule.specs.Plays.{Scans, marked, scanned, filed}
+use Rattle.board_rule.specs.Plays.{Scans, ReadsMark, ScansIndex, Files}
 use Rattle.board_rule.specs.declared.view.View.{View}
 use Rattle.board_rule.proofs.Sums.{starts-refl, starts-length, take_beginning, take_starts, take_length, take_whole, rows_cases}
 use Rattle.board_rule.proofs.Locks.{alone, locks_stay}
@@ -34,7 +34,7 @@ module _ (t : Told) (good : ℕ → Type 0) (S : Type 0) where
       (o.index.stands q p k.near b))
 
   -- a load under the right of its shard
-  pub reads_mark : (n id : ℕ) (m : Me S View) (i : ℕ) → m.0.limit ≡ t.limit → 0 < m.0.rows.right → Allows Rule n id m i (λ y. y) (marked (step n i 0 0 none) m)
+  pub reads_mark : (n id : ℕ) (m : Me S View) (i : ℕ) → m.0.limit ≡ t.limit → 0 < m.0.rows.right → Allows Rule n id m i (λ y. y) (ReadsMark (step n i 0 0 none) m)
   reads_mark n id m i told right s o wide me _ = let k = o.seats id m.0 me in let q = m.0.rows.held in (
     m.0,
     keeps,
@@ -50,7 +50,7 @@ module _ (t : Told) (good : ℕ → Type 0) (S : Type 0) where
 
   -- a load with no right: the seat sees the row up to the place that the word names
   pub scans : (n id : ℕ) (m : Me S View) (i q j : ℕ) → i ≡ index_word t.limit q j → q < 13 → j < t.limit → m.0.limit ≡ t.limit
-      → Allows Rule n id m i (λ y. y) (scanned (step n i 0 0 none) m)
+      → Allows Rule n id m i (λ y. y) (ScansIndex (step n i 0 0 none) m)
   scans n id m i q j at near low told s o wide me _ = rw at (let k = o.seats id m.0 me in let row = row_of o.rows q in let seen = row_of m.0.rows.seen q in let a = index_word t.limit q j in let x = get_or s.words a 0 in let words' = set s.words a x in
       let named : x ≤ length row = o.index.places q j near low in let before = starts-length row seen (k.saw q near) in
       let more = take (max (length seen) x) row in let w = with_seen m.0 (set m.0.rows.seen q more) in
@@ -91,7 +91,7 @@ module _ (t : Told) (good : ℕ → Type 0) (S : Type 0) where
   -- the writer puts its place into the index, at the first zero among its word's index words
   pub files : (n id : ℕ) (m : Me S View) (i q k0 u0 j x new : ℕ) → m.0.rows.held ≡ q → get_or (row_of m.0.rows.seen q) k0 0 ≡ x → j ≡ slot t.limit x u0 → i ≡ index_word t.limit q j → new ≡ k0 + 1 → m.0.rows.right ≡ writer → m.0.rows.unfiled ≡ k0 + 1 → k0 < length (row_of m.0.rows.seen q)
       → ((u : ℕ) → u < u0 → get_or m.0.rows.marks (slot t.limit x u) 0 ≢ 0) → get_or m.0.rows.marks j 0 ≡ 0
-      → Allows Rule n id m i (λ _. new) (λ _. filed (step n i new 0 none) m new)
+      → Allows Rule n id m i (λ _. new) (λ _. Files (step n i new 0 none) m new)
   files n id m i q k0 u0 j x new held at-x at-j at is writes owes inside full empty s o wide me _ = let k = o.seats id m.0 me in let some-right : 0 < m.0.rows.right = omega (arith, writes) in let near : q < 13 = omega (arith, held, k.near) in
       let whole : row_of m.0.rows.seen q ≡ row_of o.rows q = subst (λ (y : ℕ). row_of m.0.rows.seen y ≡ row_of o.rows y) held (k.whole some-right) in
       let same : x ≡ get_or (row_of o.rows q) k0 0 = sym at-x ∙ ap (λ (r : List ℕ). get_or r k0 0) whole in let low : j < t.limit = omega (arith, at-j, slot_lt t.limit x u0 o.wide) in let a = index_word t.limit q j in

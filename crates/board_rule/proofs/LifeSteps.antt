@@ -15,7 +15,7 @@ use Rattle.board_rule.specs.Views.{Told, OnLives}
 use Rattle.board_rule.specs.Rule.{times_among, claims_at, claims_on, IsBare, Kept}
 use Rattle.board_rule.specs.Changes.{with_learned, with_claim}
 use Rattle.board_rule.specs.Plays as Plays
-use Rattle.board_rule.specs.Plays.{claimed}
+use Rattle.board_rule.specs.Plays.{Claims}
 use Rattle.board_rule.specs.declared.life.Life.{Life}
 use Rattle.board_rule.specs.declared.life.Life.TheVariants.{Waiting, Claimed, Clean, Broken}
 use Rattle.board_rule.specs.declared.view.View.{View}
@@ -61,7 +61,7 @@ module _ (t : Told) (good : ℕ → Type 0) (S : Type 0) where
 
   -- the claim of a place that the seat has seen: either way the seat learns that it is not waiting any more
   pub claims_it : (n id : ℕ) (m : Me S View) (i q k : ℕ) → i ≡ life_word t.limit q k → q < 13 → k < length (row_of m.0.rows.seen q) → m.0.limit ≡ t.limit → m.0.lives.claims ≡ 0
-      → Allows Rule n id m i (λ y. either (eqb y 0) 1 y) (claimed (step n i 0 1 none) m)
+      → Allows Rule n id m i (λ y. either (eqb y 0) 1 y) (Claims (step n i 0 1 none) m)
   claims_it n id m i q k at near seen told none-yet s o wide me _ = rw at (let j = life_word t.limit q k in let ok = o.seats id m.0 me in let place = place_of q k in let x = get_or s.words j 0 in
       let inside : k < length (row_of o.rows q) = omega (arith, seen, starts-length (row_of o.rows q) (row_of m.0.rows.seen q) (ok.saw q near)) in
       let in_lives : k < length (row_of o.lives q) = omega (arith, inside, o.life.even q near) in let w = with_claim m.0 place Claimed in let missed = with_learned m.0 place Claimed in
@@ -69,7 +69,7 @@ module _ (t : Told) (good : ℕ → Type 0) (S : Type 0) where
       let here : (v : View) → (p b : ℕ) → j ≡ life_word m.0.limit p b → p < 13 → (place_of p b ≡ place) = λ v p b e h. omega (arith, e, told, h, near) in
       let never_again : (p b : ℕ) → j ≡ life_word m.0.limit p b → p < 13 → get_or (row_of o.lives q) k 0 ≡ 0 → Contains m.0.lives.given_up (place_of p b) → ⊥ = λ p b e h was gave.
       omega (arith, was, given_up_life s o id q k m.0 near me (among place m.0.lives.given_up (subst (Contains m.0.lives.given_up) (here m.0 p b e h) gave))) in
-      exchanged x 0 1 (λ y. (v : View) × (a : Act S) × Valid s.homes m.1 a × Rule (stepped s j y id m.1 v a) × claimed (step n j 0 1 none) m x (v, carried_after m.1 a))
+      exchanged x 0 1 (λ y. (v : View) × (a : Act S) × Valid s.homes m.1 a × Rule (stepped s j y id m.1 v a) × Claims (step n j 0 1 none) m x (v, carried_after m.1 a))
       (λ hit. let was : get_or (row_of o.lives q) k 0 ≡ 0 = sym is ∙ hit in (
         w,
         keeps,
@@ -99,7 +99,7 @@ module _ (t : Told) (good : ℕ → Type 0) (S : Type 0) where
   pub settles : (n id : ℕ) (m : Me S View) (i q k x : ℕ) (is_good : Bool) → i ≡ life_word t.limit q k → q < 13 → k < length (row_of m.0.rows.seen q) → m.0.lives.claims ≡ 1 → m.0.lives.place ≡ place_of q k → x ≡ verdict_of is_good
       → (IsTrue is_good ↔ good (get_or (row_of m.0.rows.seen q) k 0))
       → ((y : ℕ) → Contains (t.next (get_or (row_of m.0.rows.seen q) k 0)) y → Has m.0.rows.seen y)
-      → Allows Rule n id m i (λ _. x) (λ _. Plays.settled (step n i x 0 none) m x)
+      → Allows Rule n id m i (λ _. x) (λ _. Plays.Settles (step n i x 0 none) m x)
   settles n id m i q k x is_good at near seen has here verdict right all s o wide me _ = rw at (let ok = o.seats id m.0 me in let l = record m.0.lives { claims = 0; learned = m.0.lives.learned ++ (m.0.lives.place, life_of x) ∷ [] } in let w : View = record m.0 { lives = l } in
       let inside : k < length (row_of o.rows q) = omega (arith, seen, starts-length (row_of o.rows q) (row_of m.0.rows.seen q) (ok.saw q near)) in
       let was = claimed_life s o id q k m.0 near me has here in let same = starts-at (row_of o.rows q) (row_of m.0.rows.seen q) k (ok.saw q near) seen in

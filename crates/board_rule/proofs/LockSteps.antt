@@ -10,7 +10,7 @@ use Rattle.board_rule.specs.Lists.{row_of, StartsWith, first_values}
 use Rattle.board_rule.specs.Views.{Told, OnRows}
 use Rattle.board_rule.specs.Rule.{weight, Stands, SeatOk, Kept}
 use Rattle.board_rule.specs.Changes.{with_right, without_right}
-use Rattle.board_rule.specs.Plays.{Takes, peeked, placed, taken, left, measured}
+use Rattle.board_rule.specs.Plays.{Takes, Peeks, IsAtShard, TakesRight, Leaves, Measures}
 use Rattle.board_rule.specs.declared.view.View.{View}
 use Rattle.board_rule.proofs.Sums.{term_le, starts-refl, rows_cases}
 use Rattle.board_rule.proofs.Locks.{weight_here, weight_else, weight_idle, locks_turn}
@@ -34,14 +34,14 @@ module _ (t : Told) (good : ℕ → Type 0) (S : Type 0) where
   abbrev Rule : State S View → Type 0
   Rule = Kept t good
 
-  pub peeks : (n id : ℕ) (m : Me S View) (i : ℕ) → Allows Rule n id m i (λ y. y) (peeked (step n i 0 0 none) m)
+  pub peeks : (n id : ℕ) (m : Me S View) (i : ℕ) → Allows Rule n id m i (λ y. y) (Peeks (step n i 0 0 none) m)
   peeks n id m i s o wide me _ = (m.0, keeps, tt, unmoved t good S s o i id m me, refl)
 
-  pub places : (n id : ℕ) (m : Me S View) (i : ℕ) → Allows Rule n id m i (λ y. y) (placed (step n i 0 0 none) m)
+  pub places : (n id : ℕ) (m : Me S View) (i : ℕ) → Allows Rule n id m i (λ y. y) (IsAtShard (step n i 0 0 none) m)
   places n id m i s o wide me _ = (m.0, keeps, tt, unmoved t good S s o i id m me, (refl, (o.seats id m.0 me).near))
 
   -- under a right
-  pub measures : (n id : ℕ) (m : Me S View) (i : ℕ) → m.0.limit ≡ t.limit → 0 < m.0.rows.right → Allows Rule n id m i (λ y. y) (measured (step n i 0 0 none) m)
+  pub measures : (n id : ℕ) (m : Me S View) (i : ℕ) → m.0.limit ≡ t.limit → 0 < m.0.rows.right → Allows Rule n id m i (λ y. y) (Measures (step n i 0 0 none) m)
   measures n id m i told right s o wide me _ = let k = o.seats id m.0 me in (
     m.0,
     keeps,
@@ -91,9 +91,9 @@ module _ (t : Told) (good : ℕ → Type 0) (S : Type 0) where
 
   -- an exchange of a lock word that brings a right
   takes : (right n id : ℕ) (m : Me S View) (i q old new : ℕ) → i ≡ lock_word q → q < 13 → m.0.limit ≡ t.limit → m.0.rows.right ≡ 0 → m.0.pending.announced ≡ 0 → new ≤ writer → old + right ≤ new
-      → Allows Rule n id m i (λ y. either (eqb y old) new y) (taken right (step n i old new none) m)
+      → Allows Rule n id m i (λ y. either (eqb y old) new y) (TakesRight right (step n i old new none) m)
   takes right n id m i q old new at near told none-yet none-on-way top gain s o wide me _ = rw at (let j = lock_word q in let row = row_of o.rows q in let marks = marks_of s.words q in let w = with_right m.0 q row marks right in let k = o.seats id m.0 me in
-      exchanged (get_or s.words j 0) old new (λ y. (v : View) × (a : Act S) × Valid s.homes m.1 a × Rule (stepped s j y id m.1 v a) × taken right (step n j old new none) m (get_or s.words j 0) (v, carried_after m.1 a))
+      exchanged (get_or s.words j 0) old new (λ y. (v : View) × (a : Act S) × Valid s.homes m.1 a × Rule (stepped s j y id m.1 v a) × TakesRight right (step n j old new none) m (get_or s.words j 0) (v, carried_after m.1 a))
       (λ hit. (
         w,
         keeps,
@@ -104,11 +104,11 @@ module _ (t : Told) (good : ℕ → Type 0) (S : Type 0) where
       (λ miss. (m.0, keeps, tt, unmoved t good S s o j id m me, (refl, (λ e. absurd (miss e)), λ _. refl))))
 
   pub enters : (n id : ℕ) (m : Me S View) (i q old new : ℕ) → i ≡ lock_word q → q < 13 → m.0.limit ≡ t.limit → m.0.rows.right ≡ 0 → m.0.pending.announced ≡ 0 → new ≡ old + 1 → new < writer
-      → Allows Rule n id m i (λ y. either (eqb y old) new y) (taken 1 (step n i old new none) m)
+      → Allows Rule n id m i (λ y. either (eqb y old) new y) (TakesRight 1 (step n i old new none) m)
   enters n id m i q old new at near told none-yet none-on-way more under = takes 1 n id m i q old new at near told none-yet none-on-way (omega (arith, under)) (omega (arith, more))
 
   pub seizes : (n id : ℕ) (m : Me S View) (i q : ℕ) → i ≡ lock_word q → q < 13 → m.0.limit ≡ t.limit → m.0.rows.right ≡ 0 → m.0.pending.announced ≡ 0
-      → Allows Rule n id m i (λ y. either (eqb y 0) writer y) (taken writer (step n i 0 writer none) m)
+      → Allows Rule n id m i (λ y. either (eqb y 0) writer y) (TakesRight writer (step n i 0 writer none) m)
   seizes n id m i q at near told none-yet none-on-way = takes writer n id m i q 0 writer at near told none-yet none-on-way (omega arith) (omega arith)
 
   -- it owes nothing to the index, or its word's index words are full
@@ -127,7 +127,7 @@ module _ (t : Told) (good : ℕ → Type 0) (S : Type 0) where
 
   -- a reader subtracts itself
   pub leaves : (n id : ℕ) (m : Me S View) (i : ℕ) → i ≡ lock_word m.0.rows.held → m.0.limit ≡ t.limit → m.0.rows.right ≡ 1 → m.0.pending.announced ≡ 0 → m.0.rows.unfiled ≡ 0
-      → Allows Rule n id m i (λ y. (y + (2 ^ 64 - 1)) % 2 ^ 64) (left (step n i 1 0 none) m)
+      → Allows Rule n id m i (λ y. (y + (2 ^ 64 - 1)) % 2 ^ 64) (Leaves (step n i 1 0 none) m)
   leaves n id m i at told reads none-on-way none-unfiled s o wide me under = rw at (let q = m.0.rows.held in let k = o.seats id m.0 me in let x = get_or s.words (lock_word q) 0 in
       let low : 1 ≤ x = omega (arith, reads, (o.locks q k.near).0, weight_here m.0, term_le (weight q) s.views id m.0 me) in let top : x < 18446744073709551616 = ap_bound i (lock_word q) s.words at under in
       let down : (x + (2 ^ 64 - 1)) % 2 ^ 64 + 1 ≡ x = omega (arith, low, top) in
@@ -135,6 +135,6 @@ module _ (t : Told) (good : ℕ → Type 0) (S : Type 0) where
 
   -- a writer stores 0
   pub gives : (n id : ℕ) (m : Me S View) (i : ℕ) → i ≡ lock_word m.0.rows.held → m.0.limit ≡ t.limit → m.0.rows.right ≡ writer → m.0.pending.announced ≡ 0 → Paid m.0
-      → Allows Rule n id m i (λ _. 0) (λ _. left (step n i 0 0 none) m 0)
+      → Allows Rule n id m i (λ _. 0) (λ _. Leaves (step n i 0 0 none) m 0)
   gives n id m i at told writes none-on-way paid s o wide me _ = rw at (let k = o.seats id m.0 me in
       (without_right m.0, keeps, tt, drops s o id 0 m me told none-on-way (omega arith) (omega (arith, writes, (o.locks m.0.rows.held k.near).1)) paid, refl))

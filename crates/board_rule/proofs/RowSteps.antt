@@ -15,7 +15,7 @@ use Rattle.board_rule.specs.Lives.{is_unsettled, is_settled}
 use Rattle.board_rule.specs.Views.{Told, OnRows}
 use Rattle.board_rule.specs.Rule.{weight, Behind, SeatOk, Kept}
 use Rattle.board_rule.specs.Changes.{with_entry}
-use Rattle.board_rule.specs.Plays.{low_read, high_read, low_laid, high_laid, publishes}
+use Rattle.board_rule.specs.Plays.{ReadsLow, ReadsHigh, LaysLow, LaysHigh, Publishes}
 use Rattle.board_rule.specs.declared.view.View.{View}
 use Rattle.board_rule.proofs.Sums.{total_set_or, term_le, starts-refl, starts-length, starts-at, rows_cases, seats_turn}
 use Rattle.board_rule.proofs.Locks.{alone, locks_stay}
@@ -41,7 +41,7 @@ module _ (t : Told) (good : ℕ → Type 0) (S : Type 0) where
       (omega (arith, b, starts-length (row_of o.rows q) (row_of m.0.rows.seen q) saw), starts-at (row_of o.rows q) (row_of m.0.rows.seen q) k saw b)
 
   -- the two loads of an entry. The first tells what holds of each word that is reached
-  pub glances_low : (holds : ℕ → Type 0) (n id : ℕ) (m : Me S View) (i : ℕ) → ((x : ℕ) → IsReached t.next t.origin x → holds x) → Allows Rule n id m i (λ y. y) (low_read holds (step n i 0 0 none) m)
+  pub glances_low : (holds : ℕ → Type 0) (n id : ℕ) (m : Me S View) (i : ℕ) → ((x : ℕ) → IsReached t.next t.origin x → holds x) → Allows Rule n id m i (λ y. y) (ReadsLow holds (step n i 0 0 none) m)
   glances_low holds n id m i each s o wide me _ = (
     m.0,
     keeps,
@@ -54,7 +54,7 @@ module _ (t : Told) (good : ℕ → Type 0) (S : Type 0) where
     ),
   )
 
-  pub glances_high : (n id : ℕ) (m : Me S View) (i : ℕ) → m.0.limit ≡ t.limit → Allows Rule n id m i (λ y. y) (high_read (step n i 0 0 none) m)
+  pub glances_high : (n id : ℕ) (m : Me S View) (i : ℕ) → m.0.limit ≡ t.limit → Allows Rule n id m i (λ y. y) (ReadsHigh (step n i 0 0 none) m)
   glances_high n id m i told s o wide me _ = (
     m.0,
     keeps,
@@ -98,7 +98,7 @@ module _ (t : Told) (good : ℕ → Type 0) (S : Type 0) where
 
   -- the low half of a word
   pub lays_low : (n id : ℕ) (m : Me S View) (i x : ℕ) → i ≡ low_word m.0.rows.held (length (row_of m.0.rows.seen m.0.rows.held)) → m.0.rows.right ≡ writer → length (row_of m.0.rows.seen m.0.rows.held) < t.limit
-      → Allows Rule n id m i (λ _. x) (λ _. low_laid (step n i x 0 none) m x)
+      → Allows Rule n id m i (λ _. x) (λ _. LaysLow (step n i x 0 none) m x)
   lays_low n id m i x at writes room s o wide me _ = let q = m.0.rows.held in let k = o.seats id m.0 me in let row = row_of o.rows q in let whole = k.whole (omega (arith, writes)) in
       let here : i ≡ low_word q (length row) = at ∙ ap (λ (r : List ℕ). low_word q (length r)) whole in let w : View = record m.0 { rows = record m.0.rows { low = x ∷ [] } } in
       let short : length row < t.limit = subst (λ (r : List ℕ). length r < t.limit) whole room in (
@@ -114,7 +114,7 @@ module _ (t : Told) (good : ℕ → Type 0) (S : Type 0) where
 
   -- the high half of a word
   pub lays_high : (n id : ℕ) (m : Me S View) (i x : ℕ) → i ≡ high_word t.limit m.0.rows.held (length (row_of m.0.rows.seen m.0.rows.held)) → m.0.rows.right ≡ writer → length (row_of m.0.rows.seen m.0.rows.held) < t.limit
-      → Allows Rule n id m i (λ _. x) (λ _. high_laid (step n i x 0 none) m x)
+      → Allows Rule n id m i (λ _. x) (λ _. LaysHigh (step n i x 0 none) m x)
   lays_high n id m i x at writes room s o wide me _ = let q = m.0.rows.held in let k = o.seats id m.0 me in let row = row_of o.rows q in let whole = k.whole (omega (arith, writes)) in
       let here : i ≡ high_word t.limit q (length row) = at ∙ ap (λ (r : List ℕ). high_word t.limit q (length r)) whole in let w : View = record m.0 { rows = record m.0.rows { high = x ∷ [] } } in
       let short : length row < t.limit = subst (λ (r : List ℕ). length r < t.limit) whole room in (
@@ -147,7 +147,7 @@ module _ (t : Told) (good : ℕ → Type 0) (S : Type 0) where
       → new ≡ length (row_of m.0.rows.seen m.0.rows.held) + 1 → x % 13 ≡ m.0.rows.held
       → c < 13 → k < length (row_of m.0.rows.seen c) → Contains (t.next (get_or (row_of m.0.rows.seen c) k 0)) x
       → ((j : ℕ) → j < length (row_of m.0.rows.seen m.0.rows.held) → get_or (row_of m.0.rows.seen m.0.rows.held) j 0 ≢ x)
-      → Allows Rule n id m i (λ _. new) (λ _. publishes (step n i new 0 none) m new)
+      → Allows Rule n id m i (λ _. new) (λ _. Publishes (step n i new 0 none) m new)
   publishes_it n id m i x new c kc at low high none-unfiled one-announced count home c-near c-in succ absent s o wide me _ = let q = m.0.rows.held in let k = o.seats id m.0 me in let row = row_of o.rows q in let seen = row_of m.0.rows.seen q in
       let b = k.low (x % half) low in let d = k.high (x / half) high in
       let whole : seen ≡ row = k.whole (omega (arith, b.0)) in let r = row ++ x ∷ [] in let w = with_entry m.0 x in

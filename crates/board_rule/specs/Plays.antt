@@ -36,81 +36,81 @@ pub record Scans (v : View) (q named : ℕ) (w : View) : Type 0 where
   pub within : named ≤ v.limit
 
 module _ {S : Type 0} where
-  abbrev pub peeked : Step S → Me S View → ℕ → Me S View → Type 0
-  peeked st m r n = n ≡ m
+  abbrev pub Peeks : Step S → Me S View → ℕ → Me S View → Type 0
+  Peeks st m r n = n ≡ m
 
   -- a step that no seat takes
   abbrev pub never : Step S → Me S View → ℕ → Me S View → Type 0
   never st m r n = ⊥
 
   -- the seat is at one of the 13 shards
-  abbrev pub placed : Step S → Me S View → ℕ → Me S View → Type 0
-  placed st m r n = (n ≡ m) × (m.0.rows.held < 13)
+  abbrev pub IsAtShard : Step S → Me S View → ℕ → Me S View → Type 0
+  IsAtShard st m r n = (n ≡ m) × (m.0.rows.held < 13)
 
-  abbrev pub taken : ℕ → Step S → Me S View → ℕ → Me S View → Type 0
-  taken right st m r n = (n.1 ≡ m.1) × (r ≡ st.first → (q : ℕ) → st.word ≡ lock_word q → Takes m.0 right q n.0) × (r ≢ st.first → n.0 ≡ m.0)
+  abbrev pub TakesRight : ℕ → Step S → Me S View → ℕ → Me S View → Type 0
+  TakesRight right st m r n = (n.1 ≡ m.1) × (r ≡ st.first → (q : ℕ) → st.word ≡ lock_word q → Takes m.0 right q n.0) × (r ≢ st.first → n.0 ≡ m.0)
 
-  abbrev pub entered : Step S → Me S View → ℕ → Me S View → Type 0
-  entered = taken 1
+  abbrev pub Enters : Step S → Me S View → ℕ → Me S View → Type 0
+  Enters = TakesRight 1
 
-  abbrev pub seized : Step S → Me S View → ℕ → Me S View → Type 0
-  seized = taken writer
+  abbrev pub Seizes : Step S → Me S View → ℕ → Me S View → Type 0
+  Seizes = TakesRight writer
 
-  abbrev pub left : Step S → Me S View → ℕ → Me S View → Type 0
-  left st m r n = n ≡ (without_right m.0, m.1)
+  abbrev pub Leaves : Step S → Me S View → ℕ → Me S View → Type 0
+  Leaves st m r n = n ≡ (without_right m.0, m.1)
 
-  abbrev pub measured : Step S → Me S View → ℕ → Me S View → Type 0
-  measured st m r n = (n ≡ m) × ((q : ℕ) → st.word ≡ length_word q → m.0.rows.held ≡ q → (r ≡ length (row_of m.0.rows.seen q)) × (r ≤ m.0.limit))
+  abbrev pub Measures : Step S → Me S View → ℕ → Me S View → Type 0
+  Measures st m r n = (n ≡ m) × ((q : ℕ) → st.word ≡ length_word q → m.0.rows.held ≡ q → (r ≡ length (row_of m.0.rows.seen q)) × (r ≤ m.0.limit))
 
-  abbrev pub low_read : (ℕ → Type 0) → Step S → Me S View → ℕ → Me S View → Type 0
-  low_read reached st m r n = (n ≡ m) × ((q k : ℕ) → st.word ≡ low_word q k → q < 13 → k < length (row_of m.0.rows.seen q)
+  abbrev pub ReadsLow : (ℕ → Type 0) → Step S → Me S View → ℕ → Me S View → Type 0
+  ReadsLow reached st m r n = (n ≡ m) × ((q k : ℕ) → st.word ≡ low_word q k → q < 13 → k < length (row_of m.0.rows.seen q)
       → (r ≡ slice_index (row_of m.0.rows.seen q) k % half) × reached (slice_index (row_of m.0.rows.seen q) k))
 
-  abbrev pub high_read : Step S → Me S View → ℕ → Me S View → Type 0
-  high_read st m r n = (n ≡ m) × ((q k : ℕ) → st.word ≡ high_word m.0.limit q k → q < 13 → k < length (row_of m.0.rows.seen q) → r ≡ slice_index (row_of m.0.rows.seen q) k / half)
+  abbrev pub ReadsHigh : Step S → Me S View → ℕ → Me S View → Type 0
+  ReadsHigh st m r n = (n ≡ m) × ((q k : ℕ) → st.word ≡ high_word m.0.limit q k → q < 13 → k < length (row_of m.0.rows.seen q) → r ≡ slice_index (row_of m.0.rows.seen q) k / half)
 
-  abbrev pub low_laid : Step S → Me S View → ℕ → Me S View → Type 0
-  low_laid st m r n = n ≡ (record m.0 { rows = record m.0.rows { low = r ∷ [] } }, m.1)
+  abbrev pub LaysLow : Step S → Me S View → ℕ → Me S View → Type 0
+  LaysLow st m r n = n ≡ (record m.0 { rows = record m.0.rows { low = r ∷ [] } }, m.1)
 
-  abbrev pub high_laid : Step S → Me S View → ℕ → Me S View → Type 0
-  high_laid st m r n = n ≡ (record m.0 { rows = record m.0.rows { high = r ∷ [] } }, m.1)
+  abbrev pub LaysHigh : Step S → Me S View → ℕ → Me S View → Type 0
+  LaysHigh st m r n = n ≡ (record m.0 { rows = record m.0.rows { high = r ∷ [] } }, m.1)
 
-  abbrev pub publishes : Step S → Me S View → ℕ → Me S View → Type 0
-  publishes st m r n = (x : ℕ) → m.0.rows.low ≡ x % half ∷ [] → m.0.rows.high ≡ x / half ∷ [] → n ≡ (with_entry m.0 x, m.1)
+  abbrev pub Publishes : Step S → Me S View → ℕ → Me S View → Type 0
+  Publishes st m r n = (x : ℕ) → m.0.rows.low ≡ x % half ∷ [] → m.0.rows.high ≡ x / half ∷ [] → n ≡ (with_entry m.0 x, m.1)
 
   -- under a right, with and without a debt to the index
-  abbrev pub marked : Step S → Me S View → ℕ → Me S View → Type 0
-  marked st m r n = (n ≡ m) × ((j : ℕ) → st.word ≡ index_word m.0.limit m.0.rows.held j → j < m.0.limit → (r ≡ slice_index m.0.rows.marks j) × (r ≤ length (row_of m.0.rows.seen m.0.rows.held)))
+  abbrev pub ReadsMark : Step S → Me S View → ℕ → Me S View → Type 0
+  ReadsMark st m r n = (n ≡ m) × ((j : ℕ) → st.word ≡ index_word m.0.limit m.0.rows.held j → j < m.0.limit → (r ≡ slice_index m.0.rows.marks j) × (r ≤ length (row_of m.0.rows.seen m.0.rows.held)))
       × (m.0.rows.unfiled ≡ 0 → Complete m.0.limit (row_of m.0.rows.seen m.0.rows.held) m.0.rows.marks)
 
   -- with no right
-  abbrev pub scanned : Step S → Me S View → ℕ → Me S View → Type 0
-  scanned st m r n = (n.1 ≡ m.1) × ((q j : ℕ) → st.word ≡ index_word m.0.limit q j → q < 13 → j < m.0.limit → Scans m.0 q r n.0)
+  abbrev pub ScansIndex : Step S → Me S View → ℕ → Me S View → Type 0
+  ScansIndex st m r n = (n.1 ≡ m.1) × ((q j : ℕ) → st.word ≡ index_word m.0.limit q j → q < 13 → j < m.0.limit → Scans m.0 q r n.0)
 
-  abbrev pub filed : Step S → Me S View → ℕ → Me S View → Type 0
-  filed st m r n = (marks : List ℕ) × (n ≡ (record m.0 { rows = record m.0.rows { marks = marks; unfiled = 0 } }, m.1))
+  abbrev pub Files : Step S → Me S View → ℕ → Me S View → Type 0
+  Files st m r n = (marks : List ℕ) × (n ≡ (record m.0 { rows = record m.0.rows { marks = marks; unfiled = 0 } }, m.1))
 
-  abbrev pub claimed : Step S → Me S View → ℕ → Me S View → Type 0
-  claimed st m r n = (n.1 ≡ m.1) × ((q k : ℕ) → st.word ≡ life_word m.0.limit q k → q < 13 → (r ≡ 0 → (n.0 ≡ with_claim m.0 (place_of q k) Claimed) × (Contains m.0.lives.given_up (place_of q k) → ⊥)) × (r ≢ 0 → n.0 ≡ with_learned m.0 (place_of q k) Claimed))
+  abbrev pub Claims : Step S → Me S View → ℕ → Me S View → Type 0
+  Claims st m r n = (n.1 ≡ m.1) × ((q k : ℕ) → st.word ≡ life_word m.0.limit q k → q < 13 → (r ≡ 0 → (n.0 ≡ with_claim m.0 (place_of q k) Claimed) × (Contains m.0.lives.given_up (place_of q k) → ⊥)) × (r ≢ 0 → n.0 ≡ with_learned m.0 (place_of q k) Claimed))
 
-  abbrev pub settled : Step S → Me S View → ℕ → Me S View → Type 0
-  settled st m r n = n ≡ (record (with_learned (without_claim m.0) m.0.lives.place (life_of r)) { pending = record m.0.pending { owed = m.0.pending.owed + 1; verdicts = m.0.pending.verdicts + 1 } }, m.1)
+  abbrev pub Settles : Step S → Me S View → ℕ → Me S View → Type 0
+  Settles st m r n = n ≡ (record (with_learned (without_claim m.0) m.0.lives.place (life_of r)) { pending = record m.0.pending { owed = m.0.pending.owed + 1; verdicts = m.0.pending.verdicts + 1 } }, m.1)
 
-  abbrev pub announced : Step S → Me S View → ℕ → Me S View → Type 0
-  announced st m r n = n ≡ (record m.0 { pending = record m.0.pending { announced = 1 } }, m.1)
+  abbrev pub Announces : Step S → Me S View → ℕ → Me S View → Type 0
+  Announces st m r n = n ≡ (record m.0 { pending = record m.0.pending { announced = 1 } }, m.1)
 
-  abbrev pub repaid : Step S → Me S View → ℕ → Me S View → Type 0
-  repaid st m r n = n ≡ (record m.0 { pending = record m.0.pending { owed = 0 } }, m.1)
+  abbrev pub Repays : Step S → Me S View → ℕ → Me S View → Type 0
+  Repays st m r n = n ≡ (record m.0 { pending = record m.0.pending { owed = 0 } }, m.1)
 
-  abbrev pub ended : Step S → Me S View → ℕ → Me S View → Type 0
-  ended st m r n = (n.1 ≡ m.1) × (r ≡ 0 → n.0 ≡ record m.0 { pending = record m.0.pending { finished = 1 } }) × (r ≢ 0 → n.0 ≡ m.0)
+  abbrev pub Ends : Step S → Me S View → ℕ → Me S View → Type 0
+  Ends st m r n = (n.1 ≡ m.1) × (r ≡ 0 → n.0 ≡ record m.0 { pending = record m.0.pending { finished = 1 } }) × (r ≢ 0 → n.0 ≡ m.0)
 
-  abbrev pub counted : Step S → Me S View → ℕ → Me S View → Type 0
-  counted st m r n = (n.1 ≡ m.1) × (r < m.0.limit → n.0 ≡ record m.0 { count = record m.0.count { uncounted = 0 } }) × (m.0.limit ≤ r → n.0 ≡ record m.0 { count = record m.0.count { uncounted = 0; over = 1 } })
+  abbrev pub CountsEntry : Step S → Me S View → ℕ → Me S View → Type 0
+  CountsEntry st m r n = (n.1 ≡ m.1) × (r < m.0.limit → n.0 ≡ record m.0 { count = record m.0.count { uncounted = 0 } }) × (m.0.limit ≤ r → n.0 ≡ record m.0 { count = record m.0.count { uncounted = 0; over = 1 } })
 
-  abbrev pub stopped : Step S → Me S View → ℕ → Me S View → Type 0
-  stopped st m r n = n ≡ (with_given_up m.0, m.1)
+  abbrev pub Stops : Step S → Me S View → ℕ → Me S View → Type 0
+  Stops st m r n = n ≡ (with_given_up m.0, m.1)
 
   -- the stop of a seat that has found a full row
-  abbrev pub overflowed : Step S → Me S View → ℕ → Me S View → Type 0
-  overflowed st m r n = n ≡ (record (with_given_up m.0) { count = record m.0.count { over = 1 } }, m.1)
+  abbrev pub Overflows : Step S → Me S View → ℕ → Me S View → Type 0
+  Overflows st m r n = n ≡ (record (with_given_up m.0) { count = record m.0.count { over = 1 } }, m.1)

@@ -5,7 +5,7 @@ use lib.ListN.{get_elem?}
 use Rattle.std.proofs.lemmas.List.Elements.{All-set, All-append}
 use Rattle.crossbeam_deque.specs.Tasks.{Pushes, Takes, Pops, Admits, Forks, Merges, Learns}
 use Rattle.hands.specs.declared.account.Held.{Held}
-use Rattle.hands.specs.Accounts.{held, weigh, total, IsIdle, IsAccounted}
+use Rattle.hands.specs.Accounts.{account_of, weigh, total, IsIdle, IsAccounted}
 
 module _ {T : Type 0} where
   pub weigh-append : (h : T → ℕ) (xs ys : List T) → weigh h (xs ++ ys) ≡ weigh h xs + weigh h ys
@@ -29,7 +29,7 @@ module _ {T : Type 0} where
   tail-of : (P : Held T → Type 0) (u : Held T) (vs : List (Held T)) → All P (u ∷ vs) → All P vs
   tail-of P u vs all = λ k d lt. all (suc k) d (omega arith)
 
-  busy : (pushed taken : List T) (parts : ℕ) → 0 < parts → IsIdle (held pushed taken parts)
+  busy : (pushed taken : List T) (parts : ℕ) → 0 < parts → IsIdle (account_of pushed taken parts)
   busy pushed taken parts has none = absurd (omega (arith, has, none))
 
   moved : (port : ℕ) (v w : Held T) (items left : List T) (views : List (Held T)) → IsAccounted items views → get_elem? views port ≡ some v
@@ -47,34 +47,34 @@ module _ {T : Type 0} where
         omega (arith, s, t, b, e);
   }
 
-  pub begins : IsAccounted {T = T} [] (held [] [] 17 ∷ [])
+  pub begins : IsAccounted {T = T} [] (account_of [] [] 17 ∷ [])
   begins = record { parts = refl; idle = λ k d lt. one k d lt; balance = λ h. refl }
     where
-      one : (k : ℕ) (d : Held T) → k < 1 → IsIdle (get_or (held {T = T} [] [] 17 ∷ []) k d)
+      one : (k : ℕ) (d : Held T) → k < 1 → IsIdle (get_or (account_of {T = T} [] [] 17 ∷ []) k d)
       one zero d lt = λ none. (refl, refl)
       one (suc k) d lt = absurd (omega (arith, lt))
 
-  pub pushes : (port : ℕ) (v : Held T) (xs : List T) → 0 < v.parts → Pushes IsAccounted port v xs (λ w. w ≡ held (v.pushed ++ xs) v.taken v.parts)
+  pub pushes : (port : ℕ) (v : Held T) (xs : List T) → 0 < v.parts → Pushes IsAccounted port v xs (λ w. w ≡ account_of (v.pushed ++ xs) v.taken v.parts)
   pushes port v xs has items views old at =
-      let w = held (v.pushed ++ xs) v.taken v.parts in (
+      let w = account_of (v.pushed ++ xs) v.taken v.parts in (
         w,
         moved port v w items (items ++ xs) views old at refl (busy _ _ _ has)
             (λ h. omega (arith, weigh-append h v.pushed xs, weigh-append h items xs)),
         refl,
       )
 
-  pub takes : (port : ℕ) (v : Held T) → 0 < v.parts → Takes IsAccounted port v 1 (λ xs w. w ≡ held v.pushed (v.taken ++ xs) v.parts)
+  pub takes : (port : ℕ) (v : Held T) → 0 < v.parts → Takes IsAccounted port v 1 (λ xs w. w ≡ account_of v.pushed (v.taken ++ xs) v.parts)
   takes port v has xs items views _ _ old at =
-      let w = held v.pushed (v.taken ++ xs) v.parts in (
+      let w = account_of v.pushed (v.taken ++ xs) v.parts in (
         w,
         moved port v w (xs ++ items) items views old at refl (busy _ _ _ has)
             (λ h. omega (arith, weigh-append h v.taken xs, weigh-append h xs items)),
         refl,
       )
 
-  pub pops : (port : ℕ) (v : Held T) → 0 < v.parts → Pops IsAccounted port v (λ xs w. w ≡ held v.pushed (v.taken ++ xs) v.parts)
+  pub pops : (port : ℕ) (v : Held T) → 0 < v.parts → Pops IsAccounted port v (λ xs w. w ≡ account_of v.pushed (v.taken ++ xs) v.parts)
   pops port v has x items views old at =
-      let w = held v.pushed (v.taken ++ x ∷ []) v.parts in (
+      let w = account_of v.pushed (v.taken ++ x ∷ []) v.parts in (
         w,
         moved port v w (items ++ x ∷ []) items views old at refl (busy _ _ _ has)
             (λ h. omega (arith, weigh-append h v.taken (x ∷ []), weigh-append h items (x ∷ []))),
@@ -102,14 +102,14 @@ module _ {T : Type 0} where
       one w is zero d lt = is
       one w is (suc k) d lt = absurd (omega (arith, lt))
 
-  pub admits : Admits IsAccounted (held {T = T} [] [] 0)
-  admits items views old = with-new items views (held [] [] 0) (omega (arith, old.parts)) old.idle refl refl old.balance
+  pub admits : Admits IsAccounted (account_of {T = T} [] [] 0)
+  admits items views old = with-new items views (account_of [] [] 0) (omega (arith, old.parts)) old.idle refl refl old.balance
 
-  pub forks : (port : ℕ) (v : Held T) → 1 < v.parts → Forks IsAccounted port v (held v.pushed v.taken (v.parts - 1)) (held [] [] 1)
+  pub forks : (port : ℕ) (v : Held T) → 1 < v.parts → Forks IsAccounted port v (account_of v.pushed v.taken (v.parts - 1)) (account_of [] [] 1)
   forks port v has items views old at =
-      let left = held v.pushed v.taken (v.parts - 1) in
+      let left = account_of v.pushed v.taken (v.parts - 1) in
       let p = total-set (λ u. u.parts) views port v left at in
-      with-new items (set views port left) (held [] [] 1)
+      with-new items (set views port left) (account_of [] [] 1)
       (omega (arith, p, old.parts, has))
       (All-set IsIdle views port left (busy _ _ _ (omega (arith, has))) old.idle) refl refl
       (λ h.
@@ -119,21 +119,21 @@ module _ {T : Type 0} where
       omega (arith, s, t, b))
 
   pub merges : (port : ℕ) (v : Held T) (other : ℕ) (w : Held T) → 0 < v.parts
-      → Merges IsAccounted port v other w (held (v.pushed ++ w.pushed) (v.taken ++ w.taken) (v.parts + w.parts)) (held [] [] 0)
+      → Merges IsAccounted port v other w (account_of (v.pushed ++ w.pushed) (v.taken ++ w.taken) (v.parts + w.parts)) (account_of [] [] 0)
   merges port v other w has items views old at apart there =
-      let both = held (v.pushed ++ w.pushed) (v.taken ++ w.taken) (v.parts + w.parts) in
+      let both = account_of (v.pushed ++ w.pushed) (v.taken ++ w.taken) (v.parts + w.parts) in
       let mid = set views port both in
       record {
         parts =
             let s = total-set (λ u. u.parts) views port v both at in
-            let t = total-set (λ u. u.parts) mid other w (held [] [] 0) there in
+            let t = total-set (λ u. u.parts) mid other w (account_of [] [] 0) there in
             omega (arith, s, t, old.parts);
-        idle = All-set IsIdle mid other (held [] [] 0) (λ _. (refl, refl)) (All-set IsIdle views port both (busy _ _ _ (omega (arith, has))) old.idle);
+        idle = All-set IsIdle mid other (account_of [] [] 0) (λ _. (refl, refl)) (All-set IsIdle views port both (busy _ _ _ (omega (arith, has))) old.idle);
         balance = λ h.
             let s = total-set (λ u. weigh h u.pushed) views port v both at in
             let t = total-set (λ u. weigh h u.taken) views port v both at in
-            let p = total-set (λ u. weigh h u.pushed) mid other w (held [] [] 0) there in
-            let q = total-set (λ u. weigh h u.taken) mid other w (held [] [] 0) there in
+            let p = total-set (λ u. weigh h u.pushed) mid other w (account_of [] [] 0) there in
+            let q = total-set (λ u. weigh h u.taken) mid other w (account_of [] [] 0) there in
             let b = old.balance h in
             let c = weigh-append h v.pushed w.pushed in
             let d = weigh-append h v.taken w.taken in
@@ -179,7 +179,7 @@ module _ {T : Type 0} where
       omega (arith, p, q, b)
 
   -- a pass that held no pushed task came back
-  pub absorbed : (old new back : Held T) → new ≡ held (old.pushed ++ back.pushed) (old.taken ++ back.taken) (old.parts + back.parts) → back.pushed ≡ []
+  pub absorbed : (old new back : Held T) → new ≡ account_of (old.pushed ++ back.pushed) (old.taken ++ back.taken) (old.parts + back.parts) → back.pushed ≡ []
       → (new.pushed ≡ old.pushed) × (new.parts ≡ old.parts + back.parts) × ((h : T → ℕ) → weigh h new.taken ≡ weigh h old.taken + weigh h back.taken)
   absorbed old new back e none =
       let pushed : new.pushed ≡ old.pushed ++ back.pushed = ap (λ (v : Held T). v.pushed) e in

@@ -4,7 +4,7 @@ use Rattle.std.proofs.lemmas.List.{length-set, length-map, length-take-le, map_m
 use Rattle.std.proofs.lemmas.Bool.{cases_eq}
 use Rattle.std.proofs.lemmas.List.Edits.{map_over_more}
 use Rattle.std.proofs.lemmas.List.Elements.{All-set, All-map, All-same}
-use Rattle.hands.specs.Accounts.{held}
+use Rattle.hands.specs.Accounts.{account_of}
 use Rattle.hands.specs.Known.{Way, Known}
 use Rattle.hands.specs.Together.{way_homes, hand_homes, IsFreshWay, AreFreshWays, AreFresh}
 use Rattle.hands.specs.Steps.{with_one_less, new_way}
@@ -13,7 +13,7 @@ module _ {T A : Type 0} where
   -- the hands before `worker` have their ways, for which each deque has given a part
   pub record Made (workers worker : ℕ) (hands : List (Known T A)) : Type 0 where
     pub count : length hands ≡ workers
-    pub own : All (λ h. h.own ≡ held [] [] (17 - worker)) hands
+    pub own : All (λ h. h.own ≡ account_of [] [] (17 - worker)) hands
     pub ways : (k : ℕ) (d : Known T A) → k < worker → AreFreshWays (hand_homes hands) (get_or hands k d).ways
 
   homes-given : (hands : List (Known T A)) → hand_homes (map with_one_less hands) ≡ hand_homes hands
@@ -51,10 +51,10 @@ module _ {T A : Type 0} where
 
   -- ---- worker by worker
 
-  own-given : (worker : ℕ) (h : Known T A) → h.own ≡ held [] [] (17 - worker) → (with_one_less h).own ≡ held [] [] (17 - (worker + 1))
+  own-given : (worker : ℕ) (h : Known T A) → h.own ≡ account_of [] [] (17 - worker) → (with_one_less h).own ≡ account_of [] [] (17 - (worker + 1))
   own-given worker h e =
       let parts : 17 - worker - 1 ≡ 17 - (worker + 1) = omega arith in
-      ap (λ v. held v.pushed v.taken (v.parts - 1)) e ∙ ap (λ n. held [] [] n) parts
+      ap (λ v. account_of v.pushed v.taken (v.parts - 1)) e ∙ ap (λ n. account_of [] [] n) parts
 
   -- worker's hand gets the ways that all deques have given
   fresh-at : (worker : ℕ) (hands given : List (Known T A)) (after : Known T A) → worker < length given → given ≡ map with_one_less hands → AreFreshWays (hand_homes hands) after.ways
@@ -79,9 +79,9 @@ module _ {T A : Type 0} where
       → before ≡ get_or given worker before → after ≡ record before { ways = map new_way hands } → Made workers (worker + 1) (set given worker after)
   next workers worker hands given before after old lt gave at is =
       let counted : length given ≡ workers = ap length gave ∙ length-map hands with_one_less ∙ old.count in
-      let own : All (λ h. h.own ≡ held [] [] (17 - (worker + 1))) given =
-      All-same (λ h. h.own ≡ held [] [] (17 - (worker + 1))) given (map with_one_less hands) gave
-      (All-map (λ h. h.own ≡ held [] [] (17 - (worker + 1))) with_one_less hands (λ k d l. own-given worker (get_or hands k d) (old.own k d l))) in
+      let own : All (λ h. h.own ≡ account_of [] [] (17 - (worker + 1))) given =
+      All-same (λ h. h.own ≡ account_of [] [] (17 - (worker + 1))) given (map with_one_less hands) gave
+      (All-map (λ h. h.own ≡ account_of [] [] (17 - (worker + 1))) with_one_less hands (λ k d l. own-given worker (get_or hands k d) (old.own k d l))) in
       let here : AreFreshWays (hand_homes hands) after.ways = subst (λ (h : Known T A). AreFreshWays (hand_homes hands) h.ways) (sym is) (fresh-new hands) in
       let homes : hand_homes (set given worker after) ≡ hand_homes hands =
       map-set (λ h. h.home) given worker after
@@ -93,7 +93,7 @@ module _ {T A : Type 0} where
       ∙ homes-given hands in
       record {
         count = length-set given worker after ∙ counted;
-        own = All-set (λ h. h.own ≡ held [] [] (17 - (worker + 1))) given worker after
+        own = All-set (λ h. h.own ≡ account_of [] [] (17 - (worker + 1))) given worker after
             (ap (λ (h : Known T A). h.own) is ∙ ap (λ (h : Known T A). h.own) at ∙ own worker before (omega arith)) own;
         ways = λ k d l. subst (λ to. AreFreshWays to (get_or (set given worker after) k d).ways) (sym homes)
             (fresh-at worker hands given after (omega arith) gave here old.ways k d l);
@@ -106,7 +106,7 @@ module _ {T A : Type 0} where
         homes = hand_homes hands;
         count = count;
         own = refl;
-        each = λ k d l. (made.own k d l ∙ ap (λ n. held [] [] (17 - n)) (sym count), made.ways k d (omega (arith, made.count)));
+        each = λ k d l. (made.own k d l ∙ ap (λ n. account_of [] [] (17 - n)) (sym count), made.ways k d (omega (arith, made.count)));
       }
 
   pub ways-counted : (workers : ℕ) (hands : List (Known T A)) → Made workers workers hands → All (λ h. length h.ways ≡ workers) hands

@@ -3,8 +3,8 @@ use Rattle.std.specs.Prelude.{◌≡◌, ℕ, ◌+◌, List, [], ◌∷◌, All}
 use Rattle.hands.specs.declared.account.Held.{Held}
 
 module _ {T : Type 0} where
-  abbrev pub held : List T → List T → ℕ → Held T
-  held pushed taken parts = record { pushed = pushed; taken = taken; parts = parts }
+  abbrev pub account_of : List T → List T → ℕ → Held T
+  account_of pushed taken parts = record { pushed = pushed; taken = taken; parts = parts }
 
   -- the weights of some tasks in all; two lists with the same weights for every weighing have each task as often
   abbrev pub weigh : (T → ℕ) → List T → ℕ

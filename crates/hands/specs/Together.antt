@@ -1,7 +1,7 @@
 -- The hands of one call of `hands`: which deques they are of, what new ones hold, and what stays of them.
 use Rattle.std.specs.Prelude.{◌≡◌, ℕ, ◌-◌, ◌≤◌, List, [], length, map, All}
 use Rattle.atomic_blocks.specs.Lent.{RowsId}
-use Rattle.hands.specs.Accounts.{held}
+use Rattle.hands.specs.Accounts.{account_of}
 use Rattle.hands.specs.Known.{Way, Known}
 
 module _ {T A : Type 0} where
@@ -14,14 +14,14 @@ module _ {T A : Type 0} where
   -- ---- new
 
   abbrev pub IsFreshWay : Way T A → Type 0
-  IsFreshWay w = w.holds ≡ held [] [] 1
+  IsFreshWay w = w.holds ≡ account_of [] [] 1
 
   -- ways to these deques
   abbrev pub AreFreshWays : List (RowsId × A) → List (Way T A) → Type 0
   AreFreshWays homes ways = (way_homes ways ≡ homes) × All IsFreshWay ways
 
   abbrev pub IsFreshHand : List (RowsId × A) → Known T A → Type 0
-  IsFreshHand homes hand = (hand.own ≡ held [] [] (17 - length homes)) × AreFreshWays homes hand.ways
+  IsFreshHand homes hand = (hand.own ≡ account_of [] [] (17 - length homes)) × AreFreshWays homes hand.ways
 
   -- a hand for each deque, in order
   pub record AreFresh (workers : ℕ) (hands : List (Known T A)) : Type 0 where

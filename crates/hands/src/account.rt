@@ -16,13 +16,13 @@ pub struct Accounts;
 
 impl<T> Protocol<T, Held<T>> for Accounts {
     ghost use Rattle.std.specs.Prelude.{[]};
-    ghost use Rattle.hands.specs.Accounts.{held, IsAccounted};
+    ghost use Rattle.hands.specs.Accounts.{account_of, IsAccounted};
 
     ghost holds = { IsAccounted };
 
-    ghost first = { held [] [] 17 };
+    ghost first = { account_of [] [] 17 };
 
-    ghost guest = { held [] [] 0 };
+    ghost guest = { account_of [] [] 0 };
 }
 
 /// The tasks came.
@@ -30,9 +30,9 @@ pub struct Pushed;
 
 impl<T> Outcome<T, Held<T>> for Pushed {
     ghost use Rattle.std.specs.Prelude.{◌≡◌, ◌++◌};
-    ghost use Rattle.hands.specs.Accounts.{held};
+    ghost use Rattle.hands.specs.Accounts.{account_of};
 
-    ghost then = { λ v xs w. w ≡ held (v.pushed ++ xs) v.taken v.parts };
+    ghost then = { λ v xs w. w ≡ account_of (v.pushed ++ xs) v.taken v.parts };
 }
 
 /// The tasks left.
@@ -40,9 +40,9 @@ pub struct Taken;
 
 impl<T> Outcome<T, Held<T>> for Taken {
     ghost use Rattle.std.specs.Prelude.{◌≡◌, ◌++◌};
-    ghost use Rattle.hands.specs.Accounts.{held};
+    ghost use Rattle.hands.specs.Accounts.{account_of};
 
-    ghost then = { λ v xs w. w ≡ held v.pushed (v.taken ++ xs) v.parts };
+    ghost then = { λ v xs w. w ≡ account_of v.pushed (v.taken ++ xs) v.parts };
 }
 
 /// A new pass gets one part, and has pushed and taken nothing.
@@ -50,11 +50,11 @@ pub struct OnePart;
 
 impl<T> Split<Held<T>> for OnePart {
     ghost use Rattle.std.specs.Prelude.{◌-◌, []};
-    ghost use Rattle.hands.specs.Accounts.{held};
+    ghost use Rattle.hands.specs.Accounts.{account_of};
 
-    ghost left = { λ v. held v.pushed v.taken (v.parts - 1) };
+    ghost left = { λ v. account_of v.pushed v.taken (v.parts - 1) };
 
-    ghost right = { λ v. held [] [] 1 };
+    ghost right = { λ v. account_of [] [] 1 };
 }
 
 /// A pass is given up, and its parts and what it holds go to another.
@@ -62,11 +62,11 @@ pub struct Together;
 
 impl<T> Join<Held<T>> for Together {
     ghost use Rattle.std.specs.Prelude.{◌+◌, ◌++◌, []};
-    ghost use Rattle.hands.specs.Accounts.{held};
+    ghost use Rattle.hands.specs.Accounts.{account_of};
 
-    ghost both = { λ v w. held (v.pushed ++ w.pushed) (v.taken ++ w.taken) (v.parts + w.parts) };
+    ghost both = { λ v w. account_of (v.pushed ++ w.pushed) (v.taken ++ w.taken) (v.parts + w.parts) };
 
-    ghost spent = { held [] [] 0 };
+    ghost spent = { account_of [] [] 0 };
 }
 
 /// The one pass with all parts knows the balance.

@@ -83,8 +83,8 @@ at_rest_rested = record {
 
 module _ (deps homes : List ℕ) (set : ℕ) (earlier : AreEarlier deps) (closed : IsClosed deps set) where
   -- the ids that a write carries
-  abbrev pub carried : BlockWrite → List ℕ
-  carried w = ids_of (length deps) w.ids
+  abbrev pub ids_carried : BlockWrite → List ℕ
+  ids_carried w = ids_of (length deps) w.ids
 
   -- some ids of its block
   pub record IsOwn (w : BlockWrite) : Type 0 where
@@ -95,33 +95,33 @@ module _ (deps homes : List ℕ) (set : ℕ) (earlier : AreEarlier deps) (closed
   AreOwn [] = Unit {0}
   AreOwn (w ∷ ws) = IsOwn w × AreOwn ws
 
-  module _ (before rest : List ℕ) (w : BlockWrite) (own : IsOwn w) (whole : before ++ (carried w ++ rest) ≡ ids_of (length deps) set) (s : State) (rested : IsRested before s) where
-    up : AllPairs (λ x y. x < y) (before ++ (carried w ++ rest))
+  module _ (before rest : List ℕ) (w : BlockWrite) (own : IsOwn w) (whole : before ++ (ids_carried w ++ rest) ≡ ids_of (length deps) set) (s : State) (rested : IsRested before s) where
+    up : AllPairs (λ x y. x < y) (before ++ (ids_carried w ++ rest))
     up = subst (AllPairs (λ x y. x < y)) (sym whole) (ids_ascend (length deps) (has set))
 
-    mine : (id : ℕ) → Has w.ids id → Contains (carried w) id
+    mine : (id : ℕ) → Has w.ids id → Contains (ids_carried w) id
     mine id is = to_ids_of (length deps) w.ids id (own.own id is).0 is
 
-    in_whole : (id : ℕ) → Contains (carried w) id → Has set id
-    in_whole id is = (from_ids_of (length deps) set id (subst (λ xs. Contains xs id) whole (Contains-append_right before (carried w ++ rest) id (Contains-append_left (carried w) rest id is)))).1
+    in_whole : (id : ℕ) → Contains (ids_carried w) id → Has set id
+    in_whole id is = (from_ids_of (length deps) set id (subst (λ xs. Contains xs id) whole (Contains-append_right before (ids_carried w ++ rest) id (Contains-append_left (ids_carried w) rest id is)))).1
 
     begins : CanBegin deps homes s w.block w.ids
     begins = record {
       idle = rested.idle w.block;
       some = own.some;
       own = own.own;
-      new = λ id is done. let less : id < id = across (λ x y. x < y) before (carried w ++ rest) up id id (rested.to id done) (Contains-append_left (carried w) rest id (mine id is)) in omega arith;
+      new = λ id is done. let less : id < id = across (λ x y. x < y) before (ids_carried w ++ rest) up id id (rested.to id done) (Contains-append_left (ids_carried w) rest id (mine id is)) in omega arith;
       ready = λ q p is dep.
           let less : p < q = earlier q p dep in
           let member : Has set p = closed.whole q p (in_whole q (mine q is)) dep in
-          let there : Contains (before ++ (carried w ++ rest)) p = subst (λ xs. Contains xs p) (sym whole) (to_ids_of (length deps) set p (closed.known p member) member) in
-          elim (Contains-append_cases before (carried w ++ rest) p there) [
+          let there : Contains (before ++ (ids_carried w ++ rest)) p = subst (λ xs. Contains xs p) (sym whole) (to_ids_of (length deps) set p (closed.known p member) member) in
+          elim (Contains-append_cases before (ids_carried w ++ rest) p there) [
             | inl done ↦ inl (rested.from p done)
-            | inr later ↦ elim (Contains-append_cases (carried w) rest p later) [
+            | inr later ↦ elim (Contains-append_cases (ids_carried w) rest p later) [
               | inl here ↦ inr (from_ids_of (length deps) w.ids p here).1
               | inr after_it ↦
-                  let more : q < p = across (λ x y. x < y) (before ++ carried w) rest (subst (AllPairs (λ x y. x < y)) (sym (append_assoc before (carried w) rest)) up) q p
-                  (Contains-append_right before (carried w) q (mine q is)) after_it in
+                  let more : q < p = across (λ x y. x < y) (before ++ ids_carried w) rest (subst (AllPairs (λ x y. x < y)) (sym (append_assoc before (ids_carried w) rest)) up) q p
+                  (Contains-append_right before (ids_carried w) q (mine q is)) after_it in
                   absurd (omega arith)
             ]
           ];
@@ -133,21 +133,21 @@ module _ (deps homes : List ℕ) (set : ℕ) (earlier : AreEarlier deps) (closed
     ends : (after s (Begin w.block w.ids)).in_flight w.block ≢ 0
     ends none = own.some (sym flown ∙ none)
 
-    rests : IsRested (before ++ carried w) (after (after s (Begin w.block w.ids)) (End w.block))
+    rests : IsRested (before ++ ids_carried w) (after (after s (Begin w.block w.ids)) (End w.block))
     rests = record {
       idle = λ b. cleared (nat_eq b w.block) w.ids (s.in_flight b) (rested.idle b);
       to = λ id is. elim (in_or_cases s.committed ((after s (Begin w.block w.ids)).in_flight w.block) id is) [
-        | inl done ↦ Contains-append_left before (carried w) id (rested.to id done)
-        | inr new ↦ Contains-append_right before (carried w) id (mine id (subst (λ m. Has m id) flown new))
+        | inl done ↦ Contains-append_left before (ids_carried w) id (rested.to id done)
+        | inr new ↦ Contains-append_right before (ids_carried w) id (mine id (subst (λ m. Has m id) flown new))
       ];
-      from = λ id is. elim (Contains-append_cases before (carried w) id is) [
+      from = λ id is. elim (Contains-append_cases before (ids_carried w) id is) [
         | inl done ↦ in_or_left s.committed ((after s (Begin w.block w.ids)).in_flight w.block) id (rested.from id done)
         | inr new ↦ in_or_right s.committed ((after s (Begin w.block w.ids)).in_flight w.block) id (subst (λ m. Has m id) (sym flown) (from_ids_of (length deps) w.ids id new).1)
       ];
     }
 
   -- writes that carry the rest of the set, in ascending order, lead on to it
-  goes_on : (ws : List BlockWrite) (before : List ℕ) (s : State) → IsRested before s → AreOwn ws → before ++ flat_map carried ws ≡ ids_of (length deps) set
+  goes_on : (ws : List BlockWrite) (before : List ℕ) (s : State) → IsRested before s → AreOwn ws → before ++ flat_map ids_carried ws ≡ ids_of (length deps) set
       → IsRun deps homes s (events_of ws) × ((state_after s (events_of ws)).committed ≡ set)
   goes_on [] before s rested own whole = (
     tt,
@@ -156,11 +156,11 @@ module _ (deps homes : List ℕ) (set : ℕ) (earlier : AreEarlier deps) (closed
         (λ id is. rested.from id (subst (λ xs. Contains xs id) (sym whole ∙ append-nil before) (to_ids_of (length deps) set id (closed.known id is) is))),
   )
   goes_on (w ∷ ws) before s rested own whole =
-      let on = goes_on ws (before ++ carried w) (after (after s (Begin w.block w.ids)) (End w.block)) (rests before (flat_map carried ws) w own.0 whole s rested) own.1
-      (append_assoc before (carried w) (flat_map carried ws) ∙ whole) in
-      ((begins before (flat_map carried ws) w own.0 whole s rested, (ends before (flat_map carried ws) w own.0 whole s rested, on.0)), on.1)
+      let on = goes_on ws (before ++ ids_carried w) (after (after s (Begin w.block w.ids)) (End w.block)) (rests before (flat_map ids_carried ws) w own.0 whole s rested) own.1
+      (append_assoc before (ids_carried w) (flat_map ids_carried ws) ∙ whole) in
+      ((begins before (flat_map ids_carried ws) w own.0 whole s rested, (ends before (flat_map ids_carried ws) w own.0 whole s rested, on.0)), on.1)
 
-  pub lead : (ws : List BlockWrite) → AreOwn ws → flat_map carried ws ≡ ids_of (length deps) set → LeadTo deps homes (events_of ws) set
+  pub lead : (ws : List BlockWrite) → AreOwn ws → flat_map ids_carried ws ≡ ids_of (length deps) set → LeadTo deps homes (events_of ws) set
   lead ws own whole = let it = goes_on ws [] (at_rest 0) at_rest_rested own whole in record { run = it.0; leaves = it.1 }
 
   -- a write of its own for each id
@@ -181,7 +181,7 @@ module _ (deps homes : List ℕ) (set : ℕ) (earlier : AreEarlier deps) (closed
     alone_own ids (λ other is. below other (in_rest id ids other is)),
   )
 
-  alone_whole : (ids : List ℕ) → ((id : ℕ) → Contains ids id → id < length deps) → flat_map carried (map alone ids) ≡ ids
+  alone_whole : (ids : List ℕ) → ((id : ℕ) → Contains ids id → id < length deps) → flat_map ids_carried (map alone ids) ≡ ids
   unfolding alone
   alone_whole [] below = refl
   alone_whole (id ∷ ids) below = ap₂ (λ xs ys. xs ++ ys) (writes.ids_of_one (length deps) id (below id (in_front id ids))) (alone_whole ids (λ other is. below other (in_rest id ids other is)))

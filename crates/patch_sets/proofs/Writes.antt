@@ -53,8 +53,8 @@ ids_of_one n id inside = ids_with_top n 0 id inside (λ other is. absurd (none_i
 
 module _ (homes : List ℕ) where
   -- the ids that writes carry, one after another
-  abbrev pub carried : List BlockWrite → List ℕ
-  carried writes = flat_map (λ w. ids_of (length homes) w.ids) writes
+  abbrev pub ids_carried : List BlockWrite → List ℕ
+  ids_carried writes = flat_map (λ w. ids_of (length homes) w.ids) writes
 
   -- some ids of its block
   pub record IsOwn (w : BlockWrite) : Type 0 where
@@ -107,7 +107,7 @@ module _ (homes : List ℕ) where
   pub cut_from_runs : (set : ℕ) (ws : List BlockWrite) → AreRuns homes set ws → AreCut ws
   cut_from_runs set ws runs = cut_from_places ws runs.one_block runs.some runs.longest
 
-  pub runs_from_cut : (set : ℕ) (ws : List BlockWrite) → carried ws ≡ ids_of (length homes) set → AreCut ws → AreRuns homes set ws
+  pub runs_from_cut : (set : ℕ) (ws : List BlockWrite) → ids_carried ws ≡ ids_of (length homes) set → AreCut ws → AreRuns homes set ws
   runs_from_cut set ws in_order cut = record { in_order = in_order; one_block = own_at ws cut; some = some_at ws cut; longest = other_at ws cut }
 
   -- ---- one id more
@@ -128,12 +128,12 @@ module _ (homes : List ℕ) where
   own_last [] last cut = cut.0
   own_last (v ∷ front) last cut = own_last front last cut.2
 
-  carried_push : (front : List BlockWrite) (last : BlockWrite) → carried (front ++ last ∷ []) ≡ carried front ++ ids_of (length homes) last.ids
-  carried_push front last = flat_map-append (λ w. ids_of (length homes) w.ids) front (last ∷ []) ∙ ap (λ xs. carried front ++ xs) (append-nil (ids_of (length homes) last.ids))
+  carried_push : (front : List BlockWrite) (last : BlockWrite) → ids_carried (front ++ last ∷ []) ≡ ids_carried front ++ ids_of (length homes) last.ids
+  carried_push front last = flat_map-append (λ w. ids_of (length homes) w.ids) front (last ∷ []) ∙ ap (λ xs. ids_carried front ++ xs) (append-nil (ids_of (length homes) last.ids))
 
   -- the writes carry the ids of the set below k
   pub record AreCutTo (k set : ℕ) (writes : List BlockWrite) : Type 0 where
-    pub in_order : carried writes ≡ ids_of k set
+    pub in_order : ids_carried writes ≡ ids_of k set
     pub cut : AreCut writes
 
   pub cut_none : (set : ℕ) → AreCutTo 0 set []
@@ -165,11 +165,11 @@ module _ (homes : List ℕ) where
         let own = own_last front last so_far.cut in
         let below : (other : ℕ) → Has last.ids other → other < k = λ other has_it.
         (from_ids_of k set other (subst (λ xs. Contains xs other) (sym (carried_push front last) ∙ so_far.in_order)
-        (Contains-append_right (carried front) (ids_of (length homes) last.ids) other (to_ids_of (length homes) last.ids other (own.own other has_it).0 has_it)))).0 in
+        (Contains-append_right (ids_carried front) (ids_of (length homes) last.ids) other (to_ids_of (length homes) last.ids other (own.own other has_it).0 has_it)))).0 in
         record {
-          in_order = carried_push front more ∙ (ap (λ s. carried front ++ ids_of (length homes) s) ids
-              ∙ (ap (λ xs. carried front ++ xs) (ids_with_top (length homes) last.ids k inside below)
-              ∙ (sym (append_assoc (carried front) (ids_of (length homes) last.ids) (k ∷ []))
+          in_order = carried_push front more ∙ (ap (λ s. ids_carried front ++ ids_of (length homes) s) ids
+              ∙ (ap (λ xs. ids_carried front ++ xs) (ids_with_top (length homes) last.ids k inside below)
+              ∙ (sym (append_assoc (ids_carried front) (ids_of (length homes) last.ids) (k ∷ []))
               ∙ (ap (λ xs. xs ++ k ∷ []) (sym (carried_push front last) ∙ so_far.in_order) ∙ sym (ids_push k (has set) (has_true set k is))))));
           cut = cut_last front last more (sym block) so_far.cut record {
             own = λ id has_it. elim (in_with_cases last.ids k id (subst (λ s. Has s id) ids has_it)) [
@@ -190,38 +190,38 @@ module _ (homes : List ℕ) where
   block_of_first w x xs own e = (own.own x (from_ids_of (length homes) w.ids x (subst (λ ys. Contains ys x) (sym e) (in_front x xs))).1).1
 
   -- what follows a write does not begin with an id of its block
-  not_of_block : (block : ℕ) (ws : List BlockWrite) (y : ℕ) (ys : List ℕ) → IsOther block ws → AreCut ws → carried ws ≡ y ∷ ys → slice_index homes y ≡ block → ⊥
+  not_of_block : (block : ℕ) (ws : List BlockWrite) (y : ℕ) (ys : List ℕ) → IsOther block ws → AreCut ws → ids_carried ws ≡ y ∷ ys → slice_index homes y ≡ block → ⊥
   not_of_block block [] y ys other cut e at = cc
   not_of_block block (w ∷ ws) y ys other cut e at =
       let it = some_id (length homes) w.ids (small w cut.0) cut.0.some in
-      let begins : it.0 ∷ (it.1 ++ carried ws) ≡ y ∷ ys = ap (λ xs. xs ++ carried ws) (sym it.2) ∙ e in
+      let begins : it.0 ∷ (it.1 ++ ids_carried ws) ≡ y ∷ ys = ap (λ xs. xs ++ ids_carried ws) (sym it.2) ∙ e in
       let head : it.0 ≡ y = cc in
       other (sym at ∙ (ap (slice_index homes) (sym head) ∙ block_of_first w it.0 it.1 cut.0 it.2))
 
-  one_cut : (ws vs : List BlockWrite) → AreCut ws → AreCut vs → carried ws ≡ carried vs → ws ≡ vs
+  one_cut : (ws vs : List BlockWrite) → AreCut ws → AreCut vs → ids_carried ws ≡ ids_carried vs → ws ≡ vs
   one_cut [] [] cut_w cut_v e = refl
   one_cut [] (v ∷ vs) cut_w cut_v e =
       let it = some_id (length homes) v.ids (small v cut_v.0) cut_v.0.some in
-      let none : it.0 ∷ (it.1 ++ carried vs) ≡ [] = ap (λ xs. xs ++ carried vs) (sym it.2) ∙ sym e in cc
+      let none : it.0 ∷ (it.1 ++ ids_carried vs) ≡ [] = ap (λ xs. xs ++ ids_carried vs) (sym it.2) ∙ sym e in cc
   one_cut (w ∷ ws) [] cut_w cut_v e =
       let it = some_id (length homes) w.ids (small w cut_w.0) cut_w.0.some in
-      let none : it.0 ∷ (it.1 ++ carried ws) ≡ [] = ap (λ xs. xs ++ carried ws) (sym it.2) ∙ e in cc
+      let none : it.0 ∷ (it.1 ++ ids_carried ws) ≡ [] = ap (λ xs. xs ++ ids_carried ws) (sym it.2) ∙ e in cc
   one_cut (w ∷ ws) (v ∷ vs) cut_w cut_v e =
       let a = some_id (length homes) w.ids (small w cut_w.0) cut_w.0.some in
       let b = some_id (length homes) v.ids (small v cut_v.0) cut_v.0.some in
-      let heads : a.0 ∷ (a.1 ++ carried ws) ≡ b.0 ∷ (b.1 ++ carried vs) = ap (λ xs. xs ++ carried ws) (sym a.2) ∙ (e ∙ ap (λ xs. xs ++ carried vs) b.2) in
+      let heads : a.0 ∷ (a.1 ++ ids_carried ws) ≡ b.0 ∷ (b.1 ++ ids_carried vs) = ap (λ xs. xs ++ ids_carried ws) (sym a.2) ∙ (e ∙ ap (λ xs. xs ++ ids_carried vs) b.2) in
       let head : a.0 ≡ b.0 = cc in
       let block : w.block ≡ v.block = sym (block_of_first w a.0 a.1 cut_w.0 a.2) ∙ (ap (slice_index homes) head ∙ block_of_first v b.0 b.1 cut_v.0 b.2) in
-      elim (cuts_of (ids_of (length homes) w.ids) (carried ws) (ids_of (length homes) v.ids) (carried vs) e) [
+      elim (cuts_of (ids_of (length homes) w.ids) (ids_carried ws) (ids_of (length homes) v.ids) (ids_carried vs) e) [
         | same p q ↦
             let ids : w.ids ≡ v.ids = same_ids (length homes) w.ids v.ids (small w cut_w.0) (small v cut_v.0) p in
             ap₂ (λ x xs. x ∷ xs) (ap₂ (λ x y. let one : BlockWrite = record { block = x; ids = y } in one) block ids) (one_cut ws vs cut_w.2 cut_v.2 q)
         | longer y c p q ↦
             let here : Contains (ids_of (length homes) w.ids) y = subst (λ xs. Contains xs y) (sym p) (Contains-append_right (ids_of (length homes) v.ids) (y ∷ c) y (in_front y c)) in
-            absurd (not_of_block v.block vs y (c ++ carried ws) cut_v.1 cut_v.2 q ((cut_w.0.own y (from_ids_of (length homes) w.ids y here).1).1 ∙ block))
+            absurd (not_of_block v.block vs y (c ++ ids_carried ws) cut_v.1 cut_v.2 q ((cut_w.0.own y (from_ids_of (length homes) w.ids y here).1).1 ∙ block))
         | shorter y c p q ↦
             let here : Contains (ids_of (length homes) v.ids) y = subst (λ xs. Contains xs y) (sym p) (Contains-append_right (ids_of (length homes) w.ids) (y ∷ c) y (in_front y c)) in
-            absurd (not_of_block w.block ws y (c ++ carried vs) cut_w.1 cut_w.2 q ((cut_v.0.own y (from_ids_of (length homes) v.ids y here).1).1 ∙ sym block))
+            absurd (not_of_block w.block ws y (c ++ ids_carried vs) cut_w.1 cut_w.2 q ((cut_v.0.own y (from_ids_of (length homes) v.ids y here).1).1 ∙ sym block))
       ]
 
   pub one_runs : (set : ℕ) (ws vs : List BlockWrite) → AreRuns homes set ws → AreRuns homes set vs → ws ≡ vs

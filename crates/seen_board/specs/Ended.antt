@@ -69,7 +69,7 @@ pub record Accounts (origin : ℕ) (s : Known) (e : Ended) : Type 0 where
   -- an entry is claimed exactly where its claim is had or given up, and that by one call
   pub claimed : (q k : ℕ) → q < 13 → cond (s.place == place_of q k) s.claims 0 + times_among (place_of q k) s.given_up ≡ is_claimed (slice_index (row_of e.lives q) k)
   -- as many are settled as it has settled, and pending is the number of the others
-  pub settled : total (total settled) e.lives ≡ s.verdicts
+  pub settled : total (total is_settled) e.lives ≡ s.verdicts
   pub pending : e.pending + s.verdicts ≡ length s.added + 1
 
 -- the start waits, and pending and the count are 1

@@ -3,7 +3,7 @@ ghost use Rattle.std.specs.Prelude.{ℕ};
 ghost use Rattle.board_rule.specs.Rule.{Kept};
 ghost use Rattle.board_rule.specs.Changes.{first_view, with_half_share, fresh_seat};
 ghost use Rattle.board_rule.specs.Changes.{both_views, impossible_view, spent_view};
-ghost use Rattle.board_rule.specs.Plays.{peeked, never, placed, entered, seized, left, measured, low_read, high_read, low_laid, high_laid, publishes, marked, scanned, filed, claimed, settled, announced, repaid, ended, counted, stopped, overflowed};
+ghost use Rattle.board_rule.specs.Plays.{Peeks, never, IsAtShard, Enters, Seizes, Leaves, Measures, ReadsLow, ReadsHigh, LaysLow, LaysHigh, Publishes, ReadsMark, ScansIndex, Files, Claims, Settles, Announces, Repays, Ends, CountsEntry, Stops, Overflows};
 
 use atomic_table::{Join, Play, Split, TableRule};
 use board_rule::View;
@@ -46,7 +46,7 @@ impl EntryFact for Brand {
 pub struct Peek;
 
 impl Play<(), View> for Peek {
-    ghost then = { peeked };
+    ghost then = { Peeks };
 }
 
 /// A step that no seat takes.
@@ -59,31 +59,31 @@ impl Play<(), View> for Never {
 pub struct Placed;
 
 impl Play<(), View> for Placed {
-    ghost then = { placed };
+    ghost then = { IsAtShard };
 }
 
 pub struct Enter;
 
 impl Play<(), View> for Enter {
-    ghost then = { entered };
+    ghost then = { Enters };
 }
 
 pub struct Seize;
 
 impl Play<(), View> for Seize {
-    ghost then = { seized };
+    ghost then = { Seizes };
 }
 
 pub struct Leave;
 
 impl Play<(), View> for Leave {
-    ghost then = { left };
+    ghost then = { Leaves };
 }
 
 pub struct Measure;
 
 impl Play<(), View> for Measure {
-    ghost then = { measured };
+    ghost then = { Measures };
 }
 
 pub struct ReadLow<F> {
@@ -91,97 +91,97 @@ pub struct ReadLow<F> {
 }
 
 impl<F: EntryFact> Play<(), View> for ReadLow<F> {
-    ghost then = { low_read F.holds_of };
+    ghost then = { ReadsLow F.holds_of };
 }
 
 pub struct ReadHigh;
 
 impl Play<(), View> for ReadHigh {
-    ghost then = { high_read };
+    ghost then = { ReadsHigh };
 }
 
 pub struct LayLow;
 
 impl Play<(), View> for LayLow {
-    ghost then = { low_laid };
+    ghost then = { LaysLow };
 }
 
 pub struct LayHigh;
 
 impl Play<(), View> for LayHigh {
-    ghost then = { high_laid };
+    ghost then = { LaysHigh };
 }
 
 pub struct Publish;
 
 impl Play<(), View> for Publish {
-    ghost then = { publishes };
+    ghost then = { Publishes };
 }
 
 pub struct Mark;
 
 impl Play<(), View> for Mark {
-    ghost then = { marked };
+    ghost then = { ReadsMark };
 }
 
 pub struct Scan;
 
 impl Play<(), View> for Scan {
-    ghost then = { scanned };
+    ghost then = { ScansIndex };
 }
 
 pub struct File;
 
 impl Play<(), View> for File {
-    ghost then = { filed };
+    ghost then = { Files };
 }
 
 pub struct Claim;
 
 impl Play<(), View> for Claim {
-    ghost then = { claimed };
+    ghost then = { Claims };
 }
 
 pub struct Settle;
 
 impl Play<(), View> for Settle {
-    ghost then = { settled };
+    ghost then = { Settles };
 }
 
 pub struct Announce;
 
 impl Play<(), View> for Announce {
-    ghost then = { announced };
+    ghost then = { Announces };
 }
 
 pub struct Repay;
 
 impl Play<(), View> for Repay {
-    ghost then = { repaid };
+    ghost then = { Repays };
 }
 
 pub struct End;
 
 impl Play<(), View> for End {
-    ghost then = { ended };
+    ghost then = { Ends };
 }
 
 pub struct Count;
 
 impl Play<(), View> for Count {
-    ghost then = { counted };
+    ghost then = { CountsEntry };
 }
 
 pub struct Stop;
 
 impl Play<(), View> for Stop {
-    ghost then = { stopped };
+    ghost then = { Stops };
 }
 
 pub struct Overflow;
 
 impl Play<(), View> for Overflow {
-    ghost then = { overflowed };
+    ghost then = { Overflows };
 }
 
 pub struct Fresh;
