@@ -214,8 +214,11 @@ impl<A: Allocator + Copy> Graph<A> {
         ensures leads { IfOk result (λ writes. IsClosed (deps_of self.now) set
             → LeadTo (deps_of self.now) (homes_of self.now) (events_of writes.items) set) }
     {
-        let mut writes: Vec<BlockWrite, A> = Vec::new(*self.patches.allocator());
         let mut left = set & self.ids();
+        let mut writes: Vec<BlockWrite, A> = Vec::with_capacity(
+            *self.patches.allocator(),
+            left.count_ones() as usize,
+        )?;
         while let Some(id) = lowest(left) {
             let block = self.patches[id].block;
             let len = writes.len();

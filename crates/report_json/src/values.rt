@@ -100,7 +100,7 @@ pub(crate) fn hex_value(heap: Global, bytes: &[u8]) -> Result<Value, AllocError>
 fn faults_value(heap: Global, faults: &[Fault]) -> Result<Value, AllocError>
     ensures { IfOk result (λ value. view value ≡ faults_data faults.now) }
 {
-    let mut texts = Vec::new(heap);
+    let mut texts = Vec::with_capacity(heap, faults.len())?;
     for fault in faults {
         texts.push(Value::String(fault.to_string(heap)?))?;
     }
@@ -114,7 +114,7 @@ pub(crate) fn writes_value(
 ) -> Result<Value, AllocError>
     ensures { IfOk result (λ value. view value ≡ writes_data patches writes.now) }
 {
-    let mut values = Vec::new(heap);
+    let mut values = Vec::with_capacity(heap, writes.len())?;
     for write in writes {
         values.push(write_value(heap, patches, *write)?)?;
     }
@@ -133,7 +133,7 @@ fn write_value(heap: Global, patches: usize, write: BlockWrite) -> Result<Value,
 pub(crate) fn ids_value(heap: Global, patches: usize, set: u128) -> Result<Value, AllocError>
     ensures { IfOk result (λ value. view value ≡ ids_data patches set) }
 {
-    let mut ids = Vec::new(heap);
+    let mut ids = Vec::with_capacity(heap, set.count_ones() as usize)?;
     for id in Ids::below(set, patches) {
         ids.push(Value::from(id))?;
     }

@@ -15,7 +15,7 @@ use Rattle.patch_graph.proofs.graph.Graph.writes_to.Goals.{then-len-gt0+then-ind
 
 pub loop-id-init : goal.loop-id-init
 loop-id-init g c =
-    subst (λ (writes : List BlockWrite). IsRest (homes_of c.args.self.now) c.args.set (bit_and c.args.set c.ids.result) writes) (sym c.new-writes.ensures.items)
+    subst (λ (writes : List BlockWrite). IsRest (homes_of c.args.self.now) c.args.set (bit_and c.args.set c.ids.result) writes) (sym c.in_ok-writes.ensures.items)
     (rest_start c.args.self.now c.args.set c.ids.result c.ids.ensures)
 
 pub loop-id-preserved : goal.loop-id-preserved
