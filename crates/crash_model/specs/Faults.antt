@@ -1,5 +1,6 @@
 -- The six faults of an image, and their order.
 use Rattle.std.specs.Prelude.{◌≡◌, ℕ, List, [], ◌++◌, length, Bool, ◌&&◌, ◌||◌, ◌==◌, not, nat_lt, Option}
+use Rattle.crash_model.specs.DiskBytes.{file_kind, directory_kind, file_mark, directory_mark}
 use Rattle.crash_model.specs.Disk.{Disk, byte}
 use Rattle.crash_model.specs.Layout.{kind_of, links_of, pointer_of, map_of, is_live, is_data, is_entry, target_of, is_pointer}
 use Rattle.crash_model.specs.Lists.{each_below, some_below, when}
@@ -40,7 +41,7 @@ is_twice d block = nat_lt 1 (length (namers d block))
 
 -- the mark that is right for the block of an inode of a kind
 abbrev pub is_right_mark : ℕ → ℕ → Bool
-is_right_mark kind mark = (kind == 1 && mark == 0x46) || (kind == 2 && mark == 0x44)
+is_right_mark kind mark = (kind == file_kind && mark == file_mark) || (kind == directory_kind && mark == directory_mark)
 
 -- 3: a pointer, not wild, to a block that is not marked as the inode's
 abbrev pub is_unwritten : Disk → ℕ → ℕ → Bool

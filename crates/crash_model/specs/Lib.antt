@@ -2,6 +2,7 @@ pub mod Lists
 pub mod Names
 pub mod Refusals
 pub mod RefusalLine
+pub mod DiskBytes
 pub mod Disk
 pub mod Layout
 pub mod Faults

@@ -1,5 +1,6 @@
 -- What each operation changes, and when it is refused.
 use Rattle.std.specs.Prelude.{ℕ, ◌+◌, ◌-◌, ◌*◌, ◌/◌, ◌%◌, List, [], ◌∷◌, ◌++◌, length, replicate, Bool, ◌&&◌, ◌==◌, not, nat_le, nat_lt, if◌then◌else◌, Option, Some, None, is_some, is_none, unwrap_or, ok_or, option_map, option_to_list, Result, Ok, Err, bytes_eq}
+use Rattle.crash_model.specs.DiskBytes.{free_kind, file_kind, directory_kind, file_mark, directory_mark}
 use Rattle.crash_model.specs.Lists.{first_below, some_below, when}
 use Rattle.crash_model.specs.Disk.{Disk, with_bytes}
 use Rattle.crash_model.specs.Layout.{kind_of, links_of, pointer_of, map_of, is_live, is_data, counts, entry_of, is_entry, target_of, spelling_of, entry_offset}
@@ -34,7 +35,7 @@ inode_named d dir name = option_map (target_of d dir) (entry_named d dir name)
 -- the directory that a name leads to
 abbrev pub directory_of : Disk → Option ℕ → Result ℕ FsFault
 directory_of d None = Err NotFound
-directory_of d (Some inode) = if kind_of d inode == 2 then Ok inode else Err NotADirectory
+directory_of d (Some inode) = if kind_of d inode == directory_kind then Ok inode else Err NotADirectory
 
 -- the second answer, made of the first where that is Ok
 abbrev pub then_ok : {A B : Type 0} → Result A FsFault → (A → Result B FsFault) → Result B FsFault
@@ -57,7 +58,7 @@ at_entry d path plan = at_path d path (λ dir name. then_ok (ok_or (entry_named 
 -- ---- what is free
 
 abbrev pub has_no_kind : Disk → ℕ → Bool
-has_no_kind d i = kind_of d i == 0
+has_no_kind d i = kind_of d i == free_kind
 
 -- the lowest free inode, block, entry and slot
 abbrev pub free_inode : Disk → Option ℕ
@@ -142,7 +143,7 @@ abbrev pub relink_plan : Disk → Path → Path → (ℕ → ℕ → ℕ → ℕ
 relink_plan d old new changes =
     at_entry d old (λ old_dir k. at_path d new (λ dir name.
     let target = target_of d old_dir k in
-    unless ((is_some (entry_named d dir name), Exists) ∷ (not (kind_of d target == 1), NotAFile)
+    unless ((is_some (entry_named d dir name), Exists) ∷ (not (kind_of d target == file_kind), NotAFile)
     ∷ (is_full_dir d dir, DirectoryFull) ∷ (nat_le 8 (links_of d target), LinksFull) ∷ [])
     (changes old_dir k target dir name)))
 
@@ -151,20 +152,20 @@ plan_of d (Create path) =
     at_path d path (λ dir name.
     let inode = unwrap_or (free_inode d) 0 in
     unless ((is_some (entry_named d dir name), Exists) ∷ (is_none (free_inode d), NoInode) ∷ (is_full_dir d dir, DirectoryFull) ∷ [])
-    (inode_init inode 1 ∷ entry_set d dir (unwrap_or (free_entry d dir) 0) inode name ∷ []))
+    (inode_init inode file_kind ∷ entry_set d dir (unwrap_or (free_entry d dir) 0) inode name ∷ []))
 plan_of d (Write path) =
     at_entry d path (λ dir k.
     let target = target_of d dir k in
     let block = unwrap_or (free_block d) 0 in
-    unless ((not (kind_of d target == 1), NotAFile) ∷ (is_none (free_block d), NoBlock) ∷ (is_none (free_slot d target), FileFull) ∷ [])
-    (map_set block ∷ init_block InitFile block 0x46 target ∷ pointer_set target (unwrap_or (free_slot d target) 0) block ∷ []))
+    unless ((not (kind_of d target == file_kind), NotAFile) ∷ (is_none (free_block d), NoBlock) ∷ (is_none (free_slot d target), FileFull) ∷ [])
+    (map_set block ∷ init_block InitFile block file_mark target ∷ pointer_set target (unwrap_or (free_slot d target) 0) block ∷ []))
 plan_of d (Link old new) =
     relink_plan d old new (λ old_dir k target dir name.
     link_count LinkUp target (links_of d target + 1) ∷ entry_set d dir (unwrap_or (free_entry d dir) 0) target name ∷ [])
 plan_of d (Unlink path) =
     at_entry d path (λ dir k.
     let target = target_of d dir k in
-    unless ((not (kind_of d target == 1), NotAFile) ∷ [])
+    unless ((not (kind_of d target == file_kind), NotAFile) ∷ [])
     (entry_clear d dir k
     ∷ (if nat_lt 1 (links_of d target)
     then link_count LinkDown target (links_of d target - 1) ∷ []
@@ -179,12 +180,12 @@ plan_of d (Mkdir path) =
     let block = unwrap_or (free_block d) 0 in
     unless ((is_some (entry_named d dir name), Exists) ∷ (is_none (free_inode d), NoInode) ∷ (is_none (free_block d), NoBlock)
     ∷ (is_full_dir d dir, DirectoryFull) ∷ [])
-    (inode_init inode 2 ∷ map_set block ∷ init_block InitDir block 0x44 inode ∷ pointer_set inode 0 block
+    (inode_init inode directory_kind ∷ map_set block ∷ init_block InitDir block directory_mark inode ∷ pointer_set inode 0 block
     ∷ entry_set d dir (unwrap_or (free_entry d dir) 0) inode name ∷ []))
 plan_of d (Rmdir path) =
     at_entry d path (λ dir k.
     let target = target_of d dir k in
-    unless ((not (kind_of d target == 2), NotADirectory) ∷ (has_entries d target, NotEmpty) ∷ [])
+    unless ((not (kind_of d target == directory_kind), NotADirectory) ∷ (has_entries d target, NotEmpty) ∷ [])
     (entry_clear d dir k ∷ inode_free target ∷ option_to_list (map_clear_at d target 0)))
 
 -- the disk with a list of changes made, the first first

@@ -1,6 +1,7 @@
 -- What replay of the journal makes of a disk.
 use Rattle.std.specs.Prelude.{ℕ, zero, suc, ◌+◌, List, [], ◌∷◌, flat_map, take, drop, slice_index, Bool, true, ◌&&◌, ◌||◌, ◌==◌, nat_le, nat_lt, if◌then◌else◌, Option, None, unwrap_or, option_map, position}
 use Rattle.std.specs.List.{range_with_len, list_all}
+use Rattle.crash_model.specs.DiskBytes.{committed_mark, done_mark}
 use Rattle.crash_model.specs.Disk.{Disk, block_of}
 use Rattle.crash_model.specs.Layout.{is_data}
 
@@ -23,7 +24,7 @@ is_ascending (x ∷ y ∷ ys) = nat_lt x y && is_ascending (y ∷ ys)
 -- the bytes of block j make it a header for transaction t
 abbrev pub is_header : Disk → ℕ → ℕ → List ℕ → Bool
 is_header d j t row =
-    nat_lt j (4 + d.journal) && (slice_index row 0 == 0xC7 || slice_index row 0 == 0xC8) && slice_index row 1 == t
+    nat_lt j (4 + d.journal) && (slice_index row 0 == committed_mark || slice_index row 0 == done_mark) && slice_index row 1 == t
     && nat_le 1 (count_of row) && nat_le (count_of row) 8 && nat_le (j + count_of row) (3 + d.journal)
     && is_ascending (targets_of row) && list_all (is_target d) (targets_of row)
 
@@ -40,7 +41,7 @@ headers d = headers_from d.journal d 4 1
 -- where the header at block j, of these bytes, has a committed copy of a block
 abbrev pub copy_in : List ℕ → ℕ → ℕ → Option ℕ
 copy_in row j block =
-    if slice_index row 0 == 0xC7
+    if slice_index row 0 == committed_mark
     then option_map (λ m. j + 1 + m) (position (λ b. b == block) (targets_of row))
     else None
 

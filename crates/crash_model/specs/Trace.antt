@@ -1,6 +1,7 @@
 -- The patches of a script's steps, and which depends on which.
 use Rattle.std.specs.Prelude.{◌≡◌, ℕ, ◌+◌, ◌<◌, List, [], ◌∷◌, ◌++◌, length, map, filter, Bool, true, false, ◌&&◌, ◌||◌, ◌==◌, not, nat_lt, if◌then◌else◌, Option, Some, None, is_some, Result, Ok, Err, bytes_eq, ◌↔◌, slice_get, slice_index, IsTrue}
 use Rattle.std.specs.List.{range_with_len, list_any}
+use Rattle.crash_model.specs.DiskBytes.{committed_mark, done_mark}
 use Rattle.patch_sets.specs.Sets.{Has}
 use Rattle.patch_sets.specs.Closed.{AreEarlier}
 use Rattle.crash_model.specs.Disk.{Disk, block_of}
@@ -91,9 +92,9 @@ copies after turn j origin (b ∷ bs) = part_of turn origin Copy j 0 (block_of a
 abbrev pub journal_patches : Disk → ℕ → ℕ → Origin → List ℕ → List Change → List Emitted
 journal_patches after turn j origin targets changes =
     copies after turn (j + 1) origin targets
-    ++ (part_of turn origin Commit j 0 (0xC7 ∷ turn ∷ length targets ∷ targets)
+    ++ (part_of turn origin Commit j 0 (committed_mark ∷ turn ∷ length targets ∷ targets)
     ∷ (map (in_place_patch turn origin) changes
-    ++ (part_of turn origin Done j 0 (0xC8 ∷ []) ∷ [])))
+    ++ (part_of turn origin Done j 0 (done_mark ∷ []) ∷ [])))
 
 -- the operation with the file data that go ahead of it
 abbrev pub transaction : Disk → ℕ → ℕ → Origin → List Change → List Emitted

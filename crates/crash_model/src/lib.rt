@@ -5,6 +5,7 @@
 //! report and the answer. None of them is code; the crates above are proved to meet them.
 #![tactic(auto)]
 
+pub mod disk_bytes;
 pub mod fault;
 pub mod modules;
 pub mod names;

@@ -8,6 +8,7 @@ ghost use Rattle.crash_model.specs.Layout.{kind_of, links_of, pointer_of, map_of
 ghost use Rattle.crash_model.specs.Plan.{free_entry};
 
 use crate::image::Image;
+use crash_model::disk_bytes::{DIRECTORY, DIRECTORY_MARK, FREE};
 use std::alloc::Allocator;
 
 impl<A: Allocator + Copy> Image<A> {
@@ -40,7 +41,7 @@ impl<A: Allocator + Copy> Image<A> {
     pub fn is_live(&self, inode: u8) -> bool
         ensures { result ≡ is_live self.now inode }
     {
-        inode < 16 && self.kind(inode) != 0
+        inode < 16 && self.kind(inode) != FREE
     }
 
     /// Whether a number is that of a block of the data area, which begins behind the journal.
@@ -65,9 +66,9 @@ impl<A: Allocator + Copy> Image<A> {
         ensures { result ≡ counts self.now dir }
     {
         let block = self.pointer(dir, 0);
-        self.kind(dir) == 2
+        self.kind(dir) == DIRECTORY
             && self.is_data(block)
-            && self.byte(block as usize, 0) == 0x44
+            && self.byte(block as usize, 0) == DIRECTORY_MARK
             && self.byte(block as usize, 1) == dir
     }
 

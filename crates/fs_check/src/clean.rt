@@ -7,6 +7,7 @@ ghost use Rattle.crash_model.specs.Faults.{IsClean};
 ghost use Rattle.fs_check.specs.Passed.{HasCleanPointers, HasCleanEntries, HavePassed, slots_of, entries_of, is_marked, is_right_block};
 ghost use Rattle.fs_check.specs.Strict.{IsNamedBy, AreDirectories};
 
+use crash_model::disk_bytes::{DIRECTORY, DIRECTORY_MARK, FILE, FILE_MARK};
 use disk_image::Image;
 use std::alloc::Allocator;
 
@@ -68,8 +69,8 @@ pub(crate) fn is_marked<A: Allocator + Copy>(image: &Image<A>, inode: u8, block:
 {
     let mark = image.byte(block as usize, 0);
     let is_right_mark = match image.kind(inode) {
-        1 => mark == 0x46,
-        2 => mark == 0x44,
+        FILE => mark == FILE_MARK,
+        DIRECTORY => mark == DIRECTORY_MARK,
         _ => false,
     };
     is_right_mark && image.byte(block as usize, 1) == inode
@@ -100,7 +101,7 @@ pub(crate) fn clean_directories<A: Allocator + Copy>(image: &Image<A>) -> Option
     let mut named = [0; 16];
     let mut inodes = 0;
     for dir in 0..16u8 {
-        if image.kind(dir) == 2 {
+        if image.kind(dir) == DIRECTORY {
             inodes = with_inode(inodes, dir);
             if image.counts(dir) {
                 named[dir as usize] = clean_directory(image, dir, &mut entries)?;

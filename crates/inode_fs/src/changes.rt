@@ -10,12 +10,6 @@ use crash_model::plans::{Change, Role};
 use disk_image::Image;
 use std::alloc::Allocator;
 
-/// Byte 0 of a file's block.
-pub const FILE_MARK: u8 = 0x46;
-
-/// Byte 0 of a directory's block.
-pub const DIRECTORY_MARK: u8 = 0x44;
-
 fn add_all(bytes: &mut ArrayVec<u8, 128>, more: &[u8])
     requires { length bytes.old.items + length more.now ≤ 128 }
     ensures { bytes.new.items ≡ bytes.old.items ++ more.now }

@@ -8,19 +8,11 @@ ghost use Rattle.crash_model.specs.Plan.{is_named, entry_named, inode_named, dir
 ghost use Rattle.crash_model.specs.declared.plans.Change.{Change};
 ghost use Rattle.crash_model.specs.declared.refusals.FsFault.{FsFault};
 
+use crash_model::disk_bytes::{DIRECTORY, FREE};
 use crash_model::names::{Name, Path};
 use crash_model::refusals::FsFault;
 use disk_image::Image;
 use std::alloc::Allocator;
-
-/// The kind of an inode that is in no use.
-pub const FREE: u8 = 0;
-
-/// The kind of a file.
-pub const FILE: u8 = 1;
-
-/// The kind of a directory.
-pub const DIRECTORY: u8 = 2;
 
 /// Whether an entry of a directory that counts is spelled so and leads to a live inode.
 fn is_spelled<A: Allocator + Copy>(image: &Image<A>, dir: u8, k: u8, spelled: &[u8]) -> bool

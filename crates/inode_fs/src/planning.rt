@@ -13,13 +13,12 @@ ghost use Rattle.inode_fs.specs.Inside.{LiesInside, HasSameJournal, GivesName};
 ghost use Rattle.crash_model.specs.declared.operations.Op.TheVariants.{Create, Write, Link, Unlink, Rename, Mkdir, Rmdir};
 
 use crate::changes::{
-    DIRECTORY_MARK, FILE_MARK, entry_clear, entry_set, init_block, inode_free, inode_init,
-    link_count, map_clear, map_set, pointer_set,
+    entry_clear, entry_set, init_block, inode_free, inode_init, link_count, map_clear, map_set,
+    pointer_set,
 };
-use crate::look::{
-    DIRECTORY, Entry, FILE, entry_named, find, free_block, free_inode, free_slot, has_entries, walk,
-};
+use crate::look::{Entry, entry_named, find, free_block, free_inode, free_slot, has_entries, walk};
 use arrayvec::ArrayVec;
+use crash_model::disk_bytes::{DIRECTORY, DIRECTORY_MARK, FILE, FILE_MARK};
 use crash_model::names::Path;
 use crash_model::operations::Op;
 use crash_model::plans::{Plan, Role};

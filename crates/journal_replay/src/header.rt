@@ -7,14 +7,9 @@ ghost use Rattle.crash_model.specs.Replay.{is_ascending, is_header, is_target};
 ghost use Rattle.journal_replay.specs.Header.{IsHeaderAt};
 
 use arrayvec::ArrayVec;
+use crash_model::disk_bytes::{COMMITTED, DONE};
 use disk_image::Image;
 use std::alloc::Allocator;
-
-/// The first byte of a header whose transaction is committed and may not be in place yet.
-const COMMITTED: u8 = 0xC7;
-
-/// The first byte of a header whose transaction is in place.
-const DONE: u8 = 0xC8;
 
 /// The header of a transaction.
 #[derive(Drop)]

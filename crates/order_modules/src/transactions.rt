@@ -2,6 +2,7 @@
 
 ghost use Rattle.std.specs.Prelude.{◌≡◌, ℕ, ◌+◌, ◌<◌, ◌≤◌, ◌==◌, [], ◌∷◌, ◌++◌, length, map, IsTrue, OnOk};
 ghost use Rattle.std.specs.List.{All, list_any, filter, range_with_len};
+ghost use Rattle.crash_model.specs.DiskBytes.{committed_mark, done_mark};
 ghost use Rattle.crash_model.specs.Trace.{in_place_patch, part_of, copies};
 ghost use Rattle.crash_model.specs.declared.rules.Part.TheVariants as part;
 ghost use Rattle.inode_fs.specs.Inside.{LiesInside};
@@ -13,17 +14,12 @@ ghost use Rattle.order_modules.specs.Transactions.{targets_of, transaction_of};
 use crate::labels::{Label, Origin};
 use crate::log::PatchLog;
 use arrayvec::ArrayVec;
+use crash_model::disk_bytes::{COMMITTED, DONE};
 use crash_model::modules::Module;
 use crash_model::plans::{Change, Role};
 use crash_model::rules::Part;
 use disk_image::Image;
 use std::alloc::{AllocError, Allocator};
-
-/// The first byte of the header of a committed transaction.
-const COMMITTED: u8 = 0xC7;
-
-/// The first byte of a header whose transaction is in place.
-const DONE: u8 = 0xC8;
 
 /// Whether a change is file data, which the metadata journal writes ahead of the transaction.
 pub fn is_ahead(module: Module, change: &Change) -> bool
@@ -158,7 +154,7 @@ impl<'a, A: Allocator + Copy> PatchLog<'a, A> {
         requires room { length self.old.emitted < 124 }
         ensures ok { OnOk result (Adds self.old self.new
             (part_of turn (origin_by origin.entry) part.Commit header 0
-            (0xC7 ∷ turn ∷ length targets.now ∷ targets.now) ∷ [])) }
+            (committed_mark ∷ turn ∷ length targets.now ∷ targets.now) ∷ [])) }
         ensures kept { Keeps self.old self.new }
     {
         let mut bytes: ArrayVec<u8, 128> = ArrayVec::new();
@@ -207,7 +203,7 @@ impl<'a, A: Allocator + Copy> PatchLog<'a, A> {
         requires block { header < self.old.base.blocks }
         requires room { length self.old.emitted < 124 }
         ensures ok { OnOk result (Adds self.old self.new
-            (part_of turn (origin_by origin.entry) part.Done header 0 (0xC8 ∷ []) ∷ [])) }
+            (part_of turn (origin_by origin.entry) part.Done header 0 (done_mark ∷ []) ∷ [])) }
         ensures kept { Keeps self.old self.new }
     {
         let label = Label {

@@ -2,6 +2,7 @@
 -- every trace; a worked example then only computes.
 use Rattle.std.specs.Prelude.{◌≡◌, ℕ, zero, suc, ◌+◌, ◌*◌, ◌/◌, ◌%◌, List, [], ◌∷◌, ◌++◌, length, map, filter, Bool, true, false, not, ◌==◌, ◌&&◌, ◌||◌, nat_lt, nat_le, if◌then◌else◌, Option, Some, None, Result, Ok, Err, slice_get, slice_index, slice_range, bit_and, bytes_eq, flat_map, ◌^◌}
 use Rattle.std.specs.List.{list_any, list_all}
+use Rattle.crash_model.specs.DiskBytes.{directory_kind}
 use Rattle.state_space.specs.Counts.{HoldsOf}
 use Rattle.patch_sets.specs.Sets.{has, with_id, ids_of, AreAllInOrder}
 use Rattle.patch_sets.specs.Closed.{IsClosed}
@@ -177,7 +178,7 @@ has_no_entries d = all_below 16 (λ dir. all_below 10 (λ k. not (is_entry d dir
 
 -- no inode is live but the root's, which is a directory with one link
 abbrev pub has_root_alone : Disk → Bool
-has_root_alone d = all_below 16 (λ i. not (is_live d i) || i == 0) && (kind_of d 0 == 2 && links_of d 0 == 1)
+has_root_alone d = all_below 16 (λ i. not (is_live d i) || i == 0) && (kind_of d 0 == directory_kind && links_of d 0 == 1)
 
 -- the root has its block alone
 abbrev pub has_root_block : Disk → Bool
