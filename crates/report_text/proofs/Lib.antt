@@ -3,3 +3,4 @@ pub mod JoinedParts
 pub mod Told
 pub mod Reports
 pub mod RuleLines
+pub mod Runs

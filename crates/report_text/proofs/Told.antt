@@ -1,9 +1,8 @@
 -- Text of lists, one item after another.
-use Rattle.std.proofs.Common.{◌≡◌, ℕ, ◌+◌, ◌<◌, List, [], ◌∷◌, ◌++◌, length, get_or, map, take, codes, decimal, sym, ap, ◌∙◌, append_assoc}
+use Rattle.std.proofs.Common.{◌≡◌, ℕ, ◌+◌, ◌<◌, List, [], ◌∷◌, ◌++◌, length, get_or, map, take, sym, ap, ◌∙◌, append_assoc}
 use Rattle.std.specs.List.{flat_map}
 use Rattle.std.proofs.lemmas.List.{take_more, append-nil, map-append}
 use Rattle.std.proofs.lemmas.List.Concat.{flat_map-append}
-use Rattle.crash_model.specs.Report.{numbers}
 
 flat_map-push : {X : Type 0} (f : X → List ℕ) (xs : List X) (x : X) → flat_map f (xs ++ x ∷ []) ≡ flat_map f xs ++ f x
 flat_map-push f xs x = flat_map-append f xs (x ∷ []) ∙ ap (λ (t : List ℕ). flat_map f xs ++ t) (append-nil (f x))
@@ -19,16 +18,3 @@ pub mapped_told : {X Y : Type 0} (f : Y → List ℕ) (g : X → Y) (xs : List X
 mapped_told {X = X} f g xs i d before all after within told more =
     more ∙ (ap (λ (t : List ℕ). t ++ f (g (get_or xs i d))) told ∙ (append_assoc before (flat_map f (map g (take i xs))) (f (g (get_or xs i d)))
     ∙ ap (λ (t : List ℕ). before ++ t) (sym (ap (λ (ys : List X). flat_map f (map g ys)) (take_more xs i d within) ∙ (ap (flat_map f) (map-append g (take i xs) (get_or xs i d ∷ [])) ∙ flat_map-push f (map g (take i xs)) (g (get_or xs i d)))))))
-
--- one id more is told
-pub id_told : (left rest : List ℕ) (id : ℕ) (all spaced after whole : List ℕ) → all ++ numbers left ≡ whole → left ≡ id ∷ rest → spaced ≡ all ++ codes " " → after ≡ spaced ++ decimal id → after ++ numbers rest ≡ whole
-id_told left rest id all spaced after whole told first space digits =
-    ap (λ (t : List ℕ). t ++ numbers rest) (digits ∙ ap (λ (t : List ℕ). t ++ decimal id) space)
-    ∙ (regroup all (codes " ") (decimal id) (numbers rest) ∙ (ap (λ (ids : List ℕ). all ++ numbers ids) (sym first) ∙ told))
-  where
-    regroup : (a b c d : List ℕ) → a ++ b ++ c ++ d ≡ a ++ (b ++ c ++ d)
-    regroup a b c d = simp append_assoc
-
--- all ids are told
-pub all_told : (left all whole : List ℕ) → all ++ numbers left ≡ whole → left ≡ [] → all ≡ whole
-all_told left all whole told none = sym (append-nil all) ∙ (ap (λ (ids : List ℕ). all ++ numbers ids) (sym none) ∙ told)

@@ -1,3 +1,4 @@
+pub mod Ids
 pub mod PartTexts
 pub mod Patches
 pub mod TextReport

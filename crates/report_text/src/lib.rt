@@ -2,6 +2,7 @@
 #![tactic(auto)]
 
 mod head;
+mod ids;
 mod lines;
 mod parts;
 mod patches;

@@ -7,6 +7,7 @@ ghost use Rattle.crash_model.specs.Report.{line, numbers, write_text, replayed_t
 ghost use Rattle.report_sections.specs.Replay.{told_block};
 ghost use Rattle.report_sections.specs.Sections.{section_of};
 
+use crate::ids::ids_between;
 use crash_model::fault::Fault;
 use itoa::Buffer;
 use patch_sets::iter::Ids;
@@ -115,15 +116,20 @@ fn write_write<A: Allocator>(
     Ok(())
 }
 
-/// The ids of the set, ascending, each behind a space.
+/// The ids of the set, ascending, each behind a space. A run of consecutive ids is written at once.
 fn write_ids<A: Allocator>(out: &mut String<A>, patches: usize, set: u128) -> Result<(), AllocError>
     ensures { OnOk result (string_bytes out.new ≡ string_bytes out.old ++ numbers (ids_of patches set)) }
 {
+    let mut from = 0;
+    let mut end = 0;
     for id in Ids::below(set, patches) {
-        out.push_str(" ")?;
-        write_number(out, id)?;
+        if id != end {
+            out.push_str(ids_between(from, end))?;
+            from = id;
+        }
+        end = id + 1;
     }
-    Ok(())
+    out.push_str(ids_between(from, end))
 }
 
 /// A number in decimal.
