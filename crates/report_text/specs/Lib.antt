@@ -1,3 +1,4 @@
+pub mod Cache
 pub mod Ids
 pub mod PartTexts
 pub mod Patches

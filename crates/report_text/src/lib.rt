@@ -1,6 +1,7 @@
 //! Reports as text.
 #![tactic(auto)]
 
+mod cache;
 mod head;
 mod ids;
 mod lines;
