@@ -1,5 +1,5 @@
 pub mod Cache
-pub mod Ids
+pub mod Numbers
 pub mod PartTexts
 pub mod Patches
 pub mod TextReport

@@ -3,8 +3,8 @@
 
 mod cache;
 mod head;
-mod ids;
 mod lines;
+mod numbers;
 mod parts;
 mod patches;
 pub mod report;

@@ -1,6 +1,6 @@
 //! The lines of a report.
 
-ghost use Rattle.std.specs.Prelude.{◌≡◌, ◌++◌, decimal, string_bytes, OnOk, flat_map, map};
+ghost use Rattle.std.specs.Prelude.{◌≡◌, ◌++◌, codes, decimal, string_bytes, OnOk, flat_map, map};
 ghost use Rattle.hex.specs.Hex.{encode_lower};
 ghost use Rattle.patch_sets.specs.Sets.{ids_of};
 ghost use Rattle.crash_model.specs.Report.{numbers, write_text, replayed_text, crash_text, section_text};
@@ -9,9 +9,8 @@ ghost use Rattle.report_sections.specs.Sections.{section_of};
 ghost use Rattle.report_text.specs.Cache.{fault_line};
 
 use crate::cache::LineCache;
-use crate::ids::ids_between;
+use crate::numbers::numbers_between;
 use crash_model::fault::Fault;
-use itoa::Buffer;
 use patch_sets::iter::Ids;
 use patch_sets::write::BlockWrite;
 use report_sections::{ReplayedBlock, Section};
@@ -74,8 +73,8 @@ fn write_replayed<A: Allocator + Copy>(
 ) -> Result<(), AllocError>
     ensures { OnOk result (string_bytes out.new ≡ string_bytes out.old ++ replayed_text (told_block replayed.now)) }
 {
-    out.push_str("replay block ")?;
-    write_number(out, usize::from(replayed.block))?;
+    out.push_str("replay block")?;
+    write_block(out, replayed.block)?;
     out.push_str(": ")?;
     write_hex(out, replayed.bytes.as_slice())?;
     out.push_str("\n")?;
@@ -115,8 +114,8 @@ pub(crate) fn write_write<A: Allocator>(
 ) -> Result<(), AllocError>
     ensures { OnOk result (string_bytes out.new ≡ string_bytes out.old ++ write_text patches write) }
 {
-    out.push_str("write block ")?;
-    write_number(out, usize::from(write.block))?;
+    out.push_str("write block")?;
+    write_block(out, write.block)?;
     out.push_str(":")?;
     write_ids(out, patches, write.ids)?;
     out.push_str("\n")?;
@@ -131,20 +130,20 @@ fn write_ids<A: Allocator>(out: &mut String<A>, patches: usize, set: u128) -> Re
     let mut end = from;
     for id in Ids::below(set, patches) {
         if id != end {
-            out.push_str(ids_between(from, end))?;
+            out.push_str(numbers_between(from, end))?;
             from = id;
         }
         end = id + 1;
     }
-    out.push_str(ids_between(from, end))
+    out.push_str(numbers_between(from, end))
 }
 
-/// A number in decimal.
-fn write_number<A: Allocator>(out: &mut String<A>, number: usize) -> Result<(), AllocError>
-    ensures { OnOk result (string_bytes out.new ≡ string_bytes out.old ++ decimal number) }
+/// The number of a block, behind a space.
+fn write_block<A: Allocator>(out: &mut String<A>, block: u8) -> Result<(), AllocError>
+    ensures { OnOk result (string_bytes out.new ≡ string_bytes out.old ++ (codes " " ++ decimal block)) }
 {
-    let mut digits = Buffer::new();
-    out.push_str(digits.format(number))?;
+    let block = usize::from(block);
+    out.push_str(numbers_between(block, block + 1))?;
     Ok(())
 }
 
