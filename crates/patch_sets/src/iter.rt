@@ -2,7 +2,7 @@
 ghost use Rattle.std.specs.Prelude.{◌≡◌};
 ghost use Rattle.patch_sets.specs.Sets.{ids_of};
 
-use crate::ends::{lowest, without};
+use crate::ends::{lowest, without_lowest};
 
 /// The ids of a set that are still to come, in ascending order. It takes a step for each id, however far apart they
 /// are.
@@ -40,7 +40,7 @@ impl Iterator for Ids {
         match lowest(self.left) {
             None => None,
             Some(id) => {
-                self.left = without(self.left, id);
+                self.left = without_lowest(self.left);
                 Some(id)
             }
         }
