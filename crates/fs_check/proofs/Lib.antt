@@ -4,4 +4,5 @@ pub mod Slots
 pub mod Entries
 pub mod Halves
 pub mod Found
+pub mod Counted
 pub mod Reaching

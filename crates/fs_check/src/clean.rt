@@ -53,7 +53,7 @@ fn has_clean_slots<A: Allocator + Copy>(image: &Image<A>, inode: u8, named: &mut
 }
 
 /// Whether a block is one of the data area, in use, and marked as an inode's.
-fn is_right_block<A: Allocator + Copy>(image: &Image<A>, inode: u8, block: u8) -> bool
+pub(crate) fn is_right_block<A: Allocator + Copy>(image: &Image<A>, inode: u8, block: u8) -> bool
     requires { inode < 16 }
     ensures value { result ≡ is_right_block image.now inode block }
     ensures within { IsTrue result → block < 128 }

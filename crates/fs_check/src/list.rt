@@ -1,14 +1,15 @@
 //! The faults of an image, in order.
 
-ghost use Rattle.std.specs.Prelude.{◌≡◌, ℕ, ◌<◌, ◌++◌, ◌==◌, length, slice_index, IfOk, OnOk, option_to_list};
-ghost use Rattle.std.specs.List.{All, count_by, filter_map};
+ghost use Rattle.std.specs.Prelude.{◌≡◌, ℕ, ◌<◌, ◌++◌, length, IfOk, OnOk, option_to_list};
+ghost use Rattle.std.specs.List.{All, filter_map};
 ghost use Rattle.crash_model.specs.Lists.{some_below};
 ghost use Rattle.crash_model.specs.Faults.{faults};
 ghost use Rattle.crash_model.specs.Strict.{faults_under};
-ghost use Rattle.fs_check.specs.References.{all_pointers, all_entries, fault_of, twice_at, low_links_at};
+ghost use Rattle.fs_check.specs.Tally.{IsTally};
+ghost use Rattle.fs_check.specs.References.{named_at, led_at, fault_of, twice_at, low_links_at};
 
 use crate::clean::is_marked;
-use crate::references::{self, Reference, count_targets};
+use crate::references::{Pointer, push_dangling, read_pointers};
 use crate::strict::push_strict;
 use crash_model::fault::Fault;
 use disk_image::Image;
@@ -21,15 +22,15 @@ use std::alloc::{AllocError, Allocator};
 pub fn faults<A: Allocator + Copy>(alloc: A, image: &Image<A>) -> Result<Vec<Fault, A>, AllocError>
     ensures { IfOk result (λ found. found.items ≡ faults image.now) }
 {
-    let pointers = references::pointers(image);
-    let entries = references::entries(image);
+    let pointers = read_pointers(image);
     let mut found = Vec::new(alloc);
-    push_found(&mut found, image, Test::Dangles, entries.as_slice())?;
-    push_twice(&mut found, image, pointers.as_slice())?;
-    push_found(&mut found, image, Test::IsUnwritten, pointers.as_slice())?;
-    push_low_links(&mut found, image, entries.as_slice())?;
-    push_found(&mut found, image, Test::IsMarkedFree, pointers.as_slice())?;
-    push_found(&mut found, image, Test::IsWild, pointers.as_slice())?;
+    let led = push_dangling(&mut found, image)?;
+    push_twice(&mut found, image, &pointers.named)?;
+    let wrong = pointers.wrong.as_slice();
+    push_wrong(&mut found, image, Test::IsUnwritten, wrong)?;
+    push_low_links(&mut found, image, &led)?;
+    push_wrong(&mut found, image, Test::IsMarkedFree, wrong)?;
+    push_wrong(&mut found, image, Test::IsWild, wrong)?;
     Ok(found)
 }
 
@@ -49,60 +50,33 @@ pub fn faults_under<A: Allocator + Copy>(
     Ok(found)
 }
 
-/// What is tested of one reference alone.
+/// What is tested of one pointer alone.
 #[derive(Clone, Copy)]
 enum Test {
-    /// Whether an entry names no live inode.
-    Dangles,
-    /// Whether a pointer names a block of the data area that is not marked as the inode's.
+    /// Whether it names a block of the data area that is not marked as the inode's.
     IsUnwritten,
-    /// Whether a pointer names a block of the data area that the allocation map has as free.
+    /// Whether it names a block of the data area that the allocation map has as free.
     IsMarkedFree,
-    /// Whether a pointer names no block of the data area.
+    /// Whether it names no block of the data area.
     IsWild,
 }
 
-/// The fault that a test finds of a reference.
-fn fault_of<A: Allocator + Copy>(
-    image: &Image<A>,
-    test: Test,
-    reference: Reference,
-) -> Option<Fault>
-    requires { reference.holder < 16 }
-    ensures { result ≡ fault_of image.now test reference }
+/// The fault that a test finds of a pointer.
+fn fault_of<A: Allocator + Copy>(image: &Image<A>, test: Test, pointer: Pointer) -> Option<Fault>
+    requires { pointer.inode < 16 }
+    ensures { result ≡ fault_of image.now test pointer }
 {
-    let Reference {
-        holder,
-        place,
-        target,
-    } = reference;
+    let Pointer { inode, slot, block } = pointer;
     match test {
-        Test::Dangles => (!image.is_live(target)).then_some(Fault::Dangling {
-            dir: holder,
-            entry: place,
-            inode: target,
-        }),
         Test::IsUnwritten => {
-            let is_found = image.is_data(target) && !is_marked(image, holder, target);
-            is_found.then_some(Fault::Unwritten {
-                inode: holder,
-                slot: place,
-                block: target,
-            })
+            let is_found = image.is_data(block) && !is_marked(image, inode, block);
+            is_found.then_some(Fault::Unwritten { inode, slot, block })
         }
         Test::IsMarkedFree => {
-            let is_found = image.is_data(target) && image.map(target) == 0;
-            is_found.then_some(Fault::MarkedFree {
-                inode: holder,
-                slot: place,
-                block: target,
-            })
+            let is_found = image.is_data(block) && image.map(block) == 0;
+            is_found.then_some(Fault::MarkedFree { inode, slot, block })
         }
-        Test::IsWild => (!image.is_data(target)).then_some(Fault::Wild {
-            inode: holder,
-            slot: place,
-            block: target,
-        }),
+        Test::IsWild => (!image.is_data(block)).then_some(Fault::Wild { inode, slot, block }),
     }
 }
 
@@ -119,28 +93,20 @@ pub(crate) fn push_some<A: Allocator + Copy>(
     Ok(())
 }
 
-/// Adds the faults that a test finds, in the order of the references.
-fn push_found<A: Allocator + Copy>(
+/// Adds the faults that a test finds, in the order of the pointers.
+fn push_wrong<A: Allocator + Copy>(
     found: &mut Vec<Fault, A>,
     image: &Image<A>,
     test: Test,
-    references: &[Reference],
+    pointers: &[Pointer],
 ) -> Result<(), AllocError>
-    requires { All (λ reference. reference.holder < 16) references.now }
-    ensures { OnOk result (found.new.items ≡ found.old.items ++ filter_map (fault_of image.now test) references.now) }
+    requires { All (λ pointer. pointer.inode < 16) pointers.now }
+    ensures { OnOk result (found.new.items ≡ found.old.items ++ filter_map (fault_of image.now test) pointers.now) }
 {
-    for reference in references {
-        push_some(found, fault_of(image, test, *reference))?;
+    for pointer in pointers {
+        push_some(found, fault_of(image, test, *pointer))?;
     }
     Ok(())
-}
-
-/// A block as a fault, if two pointers name it.
-fn twice_at<A: Allocator + Copy>(image: &Image<A>, named: &[u8; 256], block: u8) -> Option<Fault>
-    requires { slice_index named.now block ≡ count_by (λ pointer. pointer.target == block) (all_pointers image.now) }
-    ensures { result ≡ twice_at image.now block }
-{
-    (image.is_data(block) && named[block as usize] > 1).then_some(Fault::Twice { block })
 }
 
 /// Adds the blocks that are used twice, by number.
@@ -148,40 +114,17 @@ fn twice_at<A: Allocator + Copy>(image: &Image<A>, named: &[u8; 256], block: u8)
 fn push_twice<A: Allocator + Copy>(
     found: &mut Vec<Fault, A>,
     image: &Image<A>,
-    pointers: &[Reference],
+    named: &[u8; 128],
 ) -> Result<(), AllocError>
-    requires few { length pointers.now < 256 }
-    requires pointers { pointers.now ≡ all_pointers image.now }
+    requires { IsTally 4 (named_at image.now) 16 0 named.now }
     ensures { OnOk result (found.new.items ≡ found.old.items ++ some_below image.now.blocks (twice_at image.now)) }
 {
-    let named = count_targets(pointers);
     for block in 0..image.blocks() as u8 {
-        push_some(found, twice_at(image, &named, block))?;
+        if named[block as usize] > 1 {
+            found.push(Fault::Twice { block })?;
+        }
     }
     Ok(())
-}
-
-/// An inode as a fault, if more entries lead to it than it has links.
-fn low_links_at<A: Allocator + Copy>(
-    image: &Image<A>,
-    entries: &[u8; 256],
-    inode: u8,
-) -> Option<Fault>
-    requires inode { inode < 16 }
-    requires entries { slice_index entries.now inode
-        ≡ count_by (λ entry. entry.target == inode) (all_entries image.now) }
-    ensures { result ≡ low_links_at image.now inode }
-{
-    if !image.is_live(inode) {
-        return None;
-    }
-    let entries = entries[inode as usize];
-    let links = image.links(inode);
-    (links < entries).then_some(Fault::LowLinks {
-        inode,
-        entries,
-        links,
-    })
 }
 
 /// Adds the low link counts, by inode.
@@ -189,15 +132,21 @@ fn low_links_at<A: Allocator + Copy>(
 fn push_low_links<A: Allocator + Copy>(
     found: &mut Vec<Fault, A>,
     image: &Image<A>,
-    entries: &[Reference],
+    led: &[u8; 16],
 ) -> Result<(), AllocError>
-    requires few { length entries.now < 256 }
-    requires entries { entries.now ≡ all_entries image.now }
+    requires { IsTally 10 (led_at image.now) 16 0 led.now }
     ensures { OnOk result (found.new.items ≡ found.old.items ++ some_below 16 (low_links_at image.now)) }
 {
-    let counts = count_targets(entries);
     for inode in 0..16u8 {
-        push_some(found, low_links_at(image, &counts, inode))?;
+        let entries = led[inode as usize];
+        let links = image.links(inode);
+        if links < entries {
+            found.push(Fault::LowLinks {
+                inode,
+                entries,
+                links,
+            })?;
+        }
     }
     Ok(())
 }

@@ -1,112 +1,138 @@
-//! What the pointers and the entries of an image name.
+//! What the pointers of an image name, and where its entries lead.
 
-ghost use Rattle.std.specs.Prelude.{◌≡◌, ℕ, ◌+◌, ◌*◌, ◌++◌, ◌<◌, ◌≤◌, ◌==◌, length, slice_index, IsTrue};
-ghost use Rattle.std.specs.List.{count_by};
+ghost use Rattle.std.specs.Prelude.{◌≡◌, ◌≢◌, ◌+◌, ◌*◌, ◌++◌, ◌<◌, ◌≤◌, IsTrue, OnOk, IfOk};
 ghost use Rattle.arrayvec.specs.ArrayVec.{array_vec_len};
-ghost use Rattle.crash_model.specs.Layout.{is_live, counts};
+ghost use Rattle.crash_model.specs.Layout.{is_live, counts, pointer_of};
 ghost use Rattle.crash_model.specs.Lists.{some_below};
-ghost use Rattle.fs_check.specs.References.{pointer_at, all_pointers, entry_at, all_entries};
+ghost use Rattle.fs_check.specs.Tally.{IsTally};
+ghost use Rattle.fs_check.specs.References.{wrong_at, wrong_pointers, named_at, dangling_at, dangling_entries, led_at};
 
+use crate::clean::is_right_block;
 use arrayvec::ArrayVec;
+use crash_model::fault::Fault;
 use disk_image::Image;
-use std::alloc::Allocator;
+use std::alloc::{AllocError, Allocator};
 
-/// A pointer that is not 0, or an entry in use: where it stands and what it names.
+/// A pointer that is not 0: where it stands, and the block that it names.
 #[derive(Clone, Copy, Default, Drop)]
-pub(crate) struct Reference {
-    /// The inode whose pointer it is, or the directory whose entry.
-    pub holder: u8,
-    /// The pointer's slot, or the entry's place.
-    pub place: u8,
-    /// The block, or the inode.
-    pub target: u8,
+pub(crate) struct Pointer {
+    pub inode: u8,
+    pub slot: u8,
+    pub block: u8,
 }
 
-/// The pointers of the live inodes, by inode and slot.
+/// What the pointers of the live inodes name.
+#[derive(Drop)]
+pub(crate) struct Pointers {
+    /// Those that have a fault of their own, by inode and slot.
+    pub wrong: ArrayVec<Pointer, 64>,
+    /// How many name each block of the data area.
+    pub named: [u8; 128],
+}
+
+/// Reads the pointers of the live inodes.
 #[tactic(auto, using(crash_model::specs::Lists::each_below_steps), unfolding(crash_model::specs::Faults::each_slot))]
-pub(crate) fn pointers<A: Allocator + Copy>(image: &Image<A>) -> ArrayVec<Reference, 64>
-    ensures { result.items ≡ all_pointers image.now }
+pub(crate) fn read_pointers<A: Allocator + Copy>(image: &Image<A>) -> Pointers
+    ensures wrong { result.wrong.items ≡ wrong_pointers image.now }
+    ensures named { IsTally 4 (named_at image.now) 16 0 result.named }
 {
-    let mut found = ArrayVec::new();
+    let mut wrong = ArrayVec::new();
+    let mut named = [0; 128];
     for inode in 0..16u8 {
         if image.is_live(inode) {
-            push_pointers(&mut found, image, inode);
+            read_slots(image, inode, &mut wrong, &mut named);
         }
     }
-    found
+    Pointers { wrong, named }
 }
 
-/// Adds the pointers of one inode.
-fn push_pointers<A: Allocator + Copy>(
-    found: &mut ArrayVec<Reference, 64>,
+/// Reads the pointers of one inode.
+fn read_slots<A: Allocator + Copy>(
     image: &Image<A>,
     inode: u8,
+    wrong: &mut ArrayVec<Pointer, 64>,
+    named: &mut [u8; 128],
 )
     requires inode { inode < 16 }
     requires live { IsTrue (is_live image.now inode) }
-    requires room { array_vec_len found.old ≤ 4 * inode }
-    ensures items { found.new.items ≡ found.old.items ++ some_below 4 (pointer_at image.now inode) }
-    ensures room { array_vec_len found.new ≤ 4 * (inode + 1) }
+    requires room { array_vec_len wrong.old ≤ 4 * inode }
+    requires named { IsTally 4 (named_at image.now) inode 0 named.old }
+    ensures wrong { wrong.new.items ≡ wrong.old.items ++ some_below 4 (wrong_at image.now inode) }
+    ensures room { array_vec_len wrong.new ≤ 4 * (inode + 1) }
+    ensures named { IsTally 4 (named_at image.now) (inode + 1) 0 named.new }
 {
     for slot in 0..4u8 {
         let block = image.pointer(inode, slot);
         if block != 0 {
-            found.push(Reference {
-                holder: inode,
-                place: slot,
-                target: block,
-            });
+            let pointer = Pointer { inode, slot, block };
+            count_pointer(image, pointer, named);
+            if !is_right_block(image, inode, block) {
+                wrong.push(pointer);
+            }
         }
     }
 }
 
-/// The entries in use of the directories that count, by directory and place.
-#[tactic(auto, using(crash_model::specs::Lists::each_below_steps), unfolding(crash_model::specs::Faults::each_entry))]
-pub(crate) fn entries<A: Allocator + Copy>(image: &Image<A>) -> ArrayVec<Reference, 160>
-    ensures { result.items ≡ all_entries image.now }
+/// Counts one more pointer.
+fn count_pointer<A: Allocator + Copy>(image: &Image<A>, pointer: Pointer, named: &mut [u8; 128])
+    requires inode { pointer.inode < 16 }
+    requires live { IsTrue (is_live image.now pointer.inode) }
+    requires slot { pointer.slot < 4 }
+    requires some { pointer.block ≢ 0 }
+    requires block { pointer_of image.now pointer.inode pointer.slot ≡ pointer.block }
+    requires named { IsTally 4 (named_at image.now) pointer.inode pointer.slot named.old }
+    ensures { IsTally 4 (named_at image.now) pointer.inode (pointer.slot + 1) named.new }
 {
-    let mut found = ArrayVec::new();
+    if image.is_data(pointer.block) {
+        named[pointer.block as usize] += 1;
+    }
+}
+
+/// Adds the entries that lead to no live inode, by directory and place; how many entries lead to each live inode.
+#[tactic(auto, using(crash_model::specs::Lists::each_below_steps, std::proofs::lemmas::Grind::common_steps), unfolding(crash_model::specs::Faults::each_entry))]
+pub(crate) fn push_dangling<A: Allocator + Copy>(
+    found: &mut Vec<Fault, A>,
+    image: &Image<A>,
+) -> Result<[u8; 16], AllocError>
+    ensures found { OnOk result (found.new.items ≡ found.old.items ++ dangling_entries image.now) }
+    ensures led { IfOk result (IsTally 10 (led_at image.now) 16 0) }
+{
+    let mut led = [0; 16];
     for dir in 0..16u8 {
         if image.counts(dir) {
-            push_entries(&mut found, image, dir);
+            push_dangling_of(found, image, dir, &mut led)?;
         }
     }
-    found
+    Ok(led)
 }
 
-/// Adds the entries of one directory.
-fn push_entries<A: Allocator + Copy>(
-    found: &mut ArrayVec<Reference, 160>,
+/// The same of one directory's entries.
+fn push_dangling_of<A: Allocator + Copy>(
+    found: &mut Vec<Fault, A>,
     image: &Image<A>,
     dir: u8,
-)
+    led: &mut [u8; 16],
+) -> Result<(), AllocError>
     requires dir { dir < 16 }
     requires counts { IsTrue (counts image.now dir) }
-    requires room { array_vec_len found.old ≤ 10 * dir }
-    ensures items { found.new.items ≡ found.old.items ++ some_below 10 (entry_at image.now dir) }
-    ensures room { array_vec_len found.new ≤ 10 * (dir + 1) }
+    requires led { IsTally 10 (led_at image.now) dir 0 led.old }
+    ensures found { OnOk result (found.new.items ≡ found.old.items ++ some_below 10 (dangling_at image.now dir)) }
+    ensures led { OnOk result (IsTally 10 (led_at image.now) (dir + 1) 0 led.new) }
 {
     for k in 0..10u8 {
         let entry = image.entry(dir, k);
         if entry != 0 {
-            found.push(Reference {
-                holder: dir,
-                place: k,
-                target: entry - 1,
-            });
+            let inode = entry - 1;
+            if image.is_live(inode) {
+                led[inode as usize] += 1;
+            } else {
+                found.push(Fault::Dangling {
+                    dir,
+                    entry: k,
+                    inode,
+                })?;
+            }
         }
     }
-}
-
-/// How many of the references name each number.
-pub(crate) fn count_targets(references: &[Reference]) -> [u8; 256]
-    requires { length references.now < 256 }
-    ensures { (target : ℕ) → target < 256
-        → slice_index result target ≡ count_by (λ reference. reference.target == target) references.now }
-{
-    let mut counts = [0; 256];
-    for reference in references {
-        counts[reference.target as usize] += 1;
-    }
-    counts
+    Ok(())
 }

@@ -1,0 +1,34 @@
+use Rattle.std.proofs.Common.{[], ℕ, length, arith, sym, ap, ◌∙◌}
+use Rattle.crash_model.specs.Lists.{some_below, each_below-zero}
+use Rattle.fs_check.specs.References.{wrong_at, named_at}
+use Rattle.fs_check.proofs.Counting.{tally-start}
+use Rattle.fs_check.proofs.Found.{row_pushed, row_passed, wrong-dead}
+use Rattle.fs_check.proofs.Counted.{named-dead}
+use Rattle.fs_check.proofs.references.read_pointers.Goals as goal
+use Rattle.fs_check.proofs.references.read_pointers.Goals.{then-is_live, else-is_live}
+
+pub loop-inode-init : goal.loop-inode-init
+loop-inode-init g c = record {
+  wrong = c.new-wrong.ensures ∙ sym (each_below-zero _);
+  room = omega (arith, ap length c.new-wrong.ensures);
+  named = tally-start 4 (named_at c.args.image.now) 128;
+}
+
+pub loop-inode-preserved : goal.loop-inode-preserved
+loop-inode-preserved g c =
+    let d = c.args.image.now in
+    let inode = c.loop-inode.inode in
+    let all = c.loop-inode.invariant in
+    let rows = λ (inode : ℕ). some_below 4 (wrong_at d inode) in
+    elim c.if-is_live.branch [
+      | then-is_live w ↦ rw (w.wrong-is, w.named-is) (record {
+        wrong = row_pushed rows inode [] c.loop-inode.wrong.items _ w.read_slots.ensures.wrong all.wrong;
+        room = w.read_slots.ensures.room;
+        named = w.read_slots.ensures.named;
+      })
+      | else-is_live w ↦ rw (w.wrong-is, w.named-is) (record {
+        wrong = row_passed rows inode [] c.loop-inode.wrong.items (wrong-dead d inode (sym c.is_live.ensures ∙ w.if-is_live.false)) all.wrong;
+        room = omega (arith, all.room);
+        named = named-dead d inode c.loop-inode.named (sym c.is_live.ensures ∙ w.if-is_live.false) all.named;
+      })
+    ]
