@@ -13,7 +13,7 @@ use crate::puts::{redo, undo};
 use disk_image::Image;
 use journal_replay::replay;
 use patch_graph::Graph;
-use patch_sets::ends::{difference, lowest, without};
+use patch_sets::ends::{difference, lowest, without_lowest};
 use patch_sets::set::with;
 use std::alloc::Allocator;
 use std::marker::Model;
@@ -113,7 +113,7 @@ fn add_blocks<A: Allocator + Copy>(graph: &Graph<A>, set: u128, blocks: u128) ->
     let mut left = set;
     while let Some(id) = lowest(left) {
         all = with(all, usize::from(graph.patch(id).block));
-        left = without(left, id);
+        left = without_lowest(left);
     }
     all
 }

@@ -8,7 +8,7 @@ ghost use Rattle.crash_image.specs.Moves.{without_set};
 
 use disk_image::Image;
 use patch_graph::Graph;
-use patch_sets::ends::{highest, lowest, without};
+use patch_sets::ends::{highest, lowest, without, without_lowest};
 use std::alloc::Allocator;
 
 /// Puts the new bytes of a set's patches in ascending order of their ids.
@@ -25,7 +25,7 @@ pub fn redo<A: Allocator + Copy>(image: &mut Image<A>, graph: &Graph<A>, set: u1
             usize::from(patch.offset),
             &patch.new,
         );
-        left = without(left, id);
+        left = without_lowest(left);
     }
 }
 

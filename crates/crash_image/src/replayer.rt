@@ -11,7 +11,7 @@ use crate::mover::Mover;
 use disk_image::Image;
 use journal_replay::replay;
 use patch_graph::Graph;
-use patch_sets::ends::{lowest, without};
+use patch_sets::ends::{lowest, without_lowest};
 use std::alloc::Allocator;
 use std::marker::Model;
 
@@ -90,6 +90,6 @@ fn copy_blocks<A: Allocator + Copy>(into: &mut Image<A>, from: &Image<A>, blocks
         if block < count {
             into.put(block, 0, from.block(block));
         }
-        left = without(left, block);
+        left = without_lowest(left);
     }
 }

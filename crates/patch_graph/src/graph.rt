@@ -11,7 +11,7 @@ ghost use Rattle.patch_graph.specs.Graph.{IsAt, IsPatch, IsGraph, AddsOverlaps, 
 
 use crate::fault::GraphFault;
 use crash_model::patches::Patch;
-use patch_sets::ends::{difference, lowest, without};
+use patch_sets::ends::{difference, lowest, without, without_lowest};
 use patch_sets::set::{has, is_below, is_subset, with};
 use patch_sets::write::BlockWrite;
 use std::alloc::{AllocError, Allocator};
@@ -231,7 +231,7 @@ impl<A: Allocator + Copy> Graph<A> {
                     ids: with(0, id),
                 })?;
             }
-            left = without(left, id);
+            left = without_lowest(left);
         }
         Ok(writes)
     }

@@ -12,9 +12,9 @@ loop-id-preserved g c =
     let is = c.with-all.ensures ∙ ap (λ (b : ℕ). with_id c.loop-id.all b) c.from.ensures in
     record {
       old = subset_with c.args.blocks c.loop-id.all c.with-all.result c.from.result c.with-all.ensures c.loop-id.invariant.old;
-      more = one_added c.args.graph.now c.args.set c.loop-id.left c.without-left.result c.loop-id.all c.with-all.result c.in-Some.id c.patch.result.now
-          c.patch.ensures.at c.without-left.ensures.others is c.loop-id.invariant.more;
-      known = still_below (length c.args.graph.now) c.loop-id.left c.in-Some.id c.without-left.result c.without-left.ensures.others c.loop-id.invariant.known;
+      more = one_added c.args.graph.now c.args.set c.loop-id.left c.without_lowest-left.result c.loop-id.all c.with-all.result c.in-Some.id c.patch.result.now
+          c.patch.ensures.at (c.without_lowest-left.ensures.others c.in-Some.id c.in-Some.ensures.found) is c.loop-id.invariant.more;
+      known = still_below (length c.args.graph.now) c.loop-id.left c.in-Some.id c.without_lowest-left.result (c.without_lowest-left.ensures.others c.in-Some.id c.in-Some.ensures.found) c.loop-id.invariant.known;
     }
 
 pub returns-clause-more : goal.returns-clause-more

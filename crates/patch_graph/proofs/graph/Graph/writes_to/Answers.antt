@@ -34,7 +34,7 @@ loop-id-preserved g c =
     let home : slice_index homes id ≡ x.block = home_read patches id x inside (subst (λ (xs : List Patch). x ≡ get_or xs id x) c.self.view_is c.index.ensures) in
     let so_far : AreCutTo homes id members writes = cut_to_lowest homes members c.loop-id.left writes c.loop-id.invariant id low in
     let long : c.len-len.result ≡ length writes = omega (arith, c.len-len.ensures, c.loop-id.writes.ok.0) in
-    rest_next homes members c.loop-id.left writes c.loop-id.invariant id low c.without-left.result c.if-len-gt0.writes.items c.without-left.ensures.others (elim c.if-len-gt0.branch [
+    rest_next homes members c.loop-id.left writes c.loop-id.invariant id low c.without_lowest-left.result c.if-len-gt0.writes.items (c.without_lowest-left.ensures.others c.in-Some.id c.in-Some.ensures.found) (elim c.if-len-gt0.branch [
       | then-len-gt0+then-index-block w ↦
           let i = c.len-len.result - 1 in
           let at : i + 1 ≡ length writes = omega (arith, long, w.if-len-gt0.true) in
