@@ -1,4 +1,5 @@
-pub mod Ids
+pub mod Cache
+pub mod Numbers
 pub mod PartTexts
 pub mod Patches
 pub mod TextReport

@@ -1,9 +1,10 @@
 //! Reports as text.
 #![tactic(auto)]
 
+mod cache;
 mod head;
-mod ids;
 mod lines;
+mod numbers;
 mod parts;
 mod patches;
 pub mod report;

@@ -1,47 +1,51 @@
 //! The lines of a report.
 
-ghost use Rattle.std.specs.Prelude.{◌≡◌, ◌++◌, ℕ, codes, decimal, string_bytes, OnOk, flat_map, map};
+ghost use Rattle.std.specs.Prelude.{◌≡◌, ◌++◌, codes, decimal, string_bytes, OnOk, flat_map, map};
 ghost use Rattle.hex.specs.Hex.{encode_lower};
 ghost use Rattle.patch_sets.specs.Sets.{ids_of};
-ghost use Rattle.crash_model.specs.Report.{line, numbers, write_text, replayed_text, crash_text, section_text, fault_text};
+ghost use Rattle.crash_model.specs.Report.{numbers, write_text, replayed_text, crash_text, section_text};
 ghost use Rattle.report_sections.specs.Replay.{told_block};
 ghost use Rattle.report_sections.specs.Sections.{section_of};
+ghost use Rattle.report_text.specs.Cache.{fault_line};
 
-use crate::ids::ids_between;
+use crate::cache::LineCache;
+use crate::numbers::numbers_between;
 use crash_model::fault::Fault;
-use itoa::Buffer;
 use patch_sets::iter::Ids;
 use patch_sets::write::BlockWrite;
 use report_sections::{ReplayedBlock, Section};
 use std::alloc::{AllocError, Allocator};
 
-/// The lines of a failing set: those of the crash, and one for each fault. The graph has `patches` patches.
+/// The lines of a failing set: those of the crash, and one for each fault.
 pub(crate) fn write_section<A: Allocator + Copy, B: Allocator>(
     out: &mut String<A>,
-    patches: usize,
+    lines: &mut LineCache,
     section: &Section<B>,
 ) -> Result<(), AllocError>
-    ensures { OnOk result (string_bytes out.new
-        ≡ string_bytes out.old ++ section_text patches (section_of section.now)) }
+    ensures text { OnOk result (string_bytes out.new
+        ≡ string_bytes out.old ++ section_text lines.old (section_of section.now)) }
+    ensures kept { lines.new ≡ lines.old }
 {
-    write_crash(out, patches, section)?;
-    write_faults(out, &section.faults)?;
+    write_crash(out, lines, section)?;
+    write_faults(out, lines, &section.faults)?;
     Ok(())
 }
 
 /// The lines of a crash: its set, a line for each block write that leads to it, and one for each block that replay
-/// changes, where that is told. The graph has `patches` patches.
+/// changes, where that is told.
 pub(crate) fn write_crash<A: Allocator + Copy, B: Allocator>(
     out: &mut String<A>,
-    patches: usize,
+    lines: &mut LineCache,
     section: &Section<B>,
 ) -> Result<(), AllocError>
-    ensures { OnOk result (string_bytes out.new ≡ string_bytes out.old ++ crash_text patches (section_of section.now)) }
+    ensures text { OnOk result (string_bytes out.new
+        ≡ string_bytes out.old ++ crash_text lines.old (section_of section.now)) }
+    ensures kept { lines.new ≡ lines.old }
 {
     out.push_str("set")?;
-    write_ids(out, patches, section.set)?;
+    write_ids(out, lines.patches(), section.set)?;
     out.push_str("\n")?;
-    write_writes(out, patches, &section.writes)?;
+    write_writes(out, lines, &section.writes)?;
     if let Some(replay) = &section.replay {
         write_replay(out, replay)?;
     }
@@ -69,8 +73,8 @@ fn write_replayed<A: Allocator + Copy>(
 ) -> Result<(), AllocError>
     ensures { OnOk result (string_bytes out.new ≡ string_bytes out.old ++ replayed_text (told_block replayed.now)) }
 {
-    out.push_str("replay block ")?;
-    write_number(out, usize::from(replayed.block))?;
+    out.push_str("replay block")?;
+    write_block(out, replayed.block)?;
     out.push_str(": ")?;
     write_hex(out, replayed.bytes.as_slice())?;
     out.push_str("\n")?;
@@ -87,29 +91,31 @@ fn write_hex<A: Allocator + Copy>(out: &mut String<A>, bytes: &[u8]) -> Result<(
 }
 
 /// A line for each block write.
-fn write_writes<A: Allocator>(
+fn write_writes<A: Allocator + Copy>(
     out: &mut String<A>,
-    patches: usize,
+    lines: &mut LineCache,
     writes: &[BlockWrite],
 ) -> Result<(), AllocError>
-    ensures { OnOk result (string_bytes out.new ≡ string_bytes out.old ++ flat_map (write_text patches) writes.now) }
+    ensures text { OnOk result (string_bytes out.new
+        ≡ string_bytes out.old ++ flat_map (write_text lines.old) writes.now) }
+    ensures kept { lines.new ≡ lines.old }
 {
     for write in writes {
-        write_write(out, patches, *write)?;
+        lines.push_write(out, *write)?;
     }
     Ok(())
 }
 
 /// The line of a block write: its block and the ids of its patches.
-fn write_write<A: Allocator>(
+pub(crate) fn write_write<A: Allocator>(
     out: &mut String<A>,
     patches: usize,
     write: BlockWrite,
 ) -> Result<(), AllocError>
     ensures { OnOk result (string_bytes out.new ≡ string_bytes out.old ++ write_text patches write) }
 {
-    out.push_str("write block ")?;
-    write_number(out, usize::from(write.block))?;
+    out.push_str("write block")?;
+    write_block(out, write.block)?;
     out.push_str(":")?;
     write_ids(out, patches, write.ids)?;
     out.push_str("\n")?;
@@ -120,34 +126,45 @@ fn write_write<A: Allocator>(
 fn write_ids<A: Allocator>(out: &mut String<A>, patches: usize, set: u128) -> Result<(), AllocError>
     ensures { OnOk result (string_bytes out.new ≡ string_bytes out.old ++ numbers (ids_of patches set)) }
 {
-    let mut from = 0;
-    let mut end = 0;
+    let mut from = set.trailing_zeros() as usize;
+    let mut end = from;
     for id in Ids::below(set, patches) {
         if id != end {
-            out.push_str(ids_between(from, end))?;
+            out.push_str(numbers_between(from, end))?;
             from = id;
         }
         end = id + 1;
     }
-    out.push_str(ids_between(from, end))
+    out.push_str(numbers_between(from, end))
 }
 
-/// A number in decimal.
-fn write_number<A: Allocator>(out: &mut String<A>, number: usize) -> Result<(), AllocError>
-    ensures { OnOk result (string_bytes out.new ≡ string_bytes out.old ++ decimal number) }
+/// The number of a block, behind a space.
+fn write_block<A: Allocator>(out: &mut String<A>, block: u8) -> Result<(), AllocError>
+    ensures { OnOk result (string_bytes out.new ≡ string_bytes out.old ++ (codes " " ++ decimal block)) }
 {
-    let mut digits = Buffer::new();
-    out.push_str(digits.format(number))?;
+    let block = usize::from(block);
+    out.push_str(numbers_between(block, block + 1))?;
     Ok(())
 }
 
 /// A line for each fault.
-fn write_faults<A: Allocator>(out: &mut String<A>, faults: &[Fault]) -> Result<(), AllocError>
-    ensures { OnOk result (string_bytes out.new ≡ string_bytes out.old ++ flat_map (λ f. line (codes "fault " ++ fault_text f)) faults.now) }
+fn write_faults<A: Allocator + Copy>(
+    out: &mut String<A>,
+    lines: &mut LineCache,
+    faults: &[Fault],
+) -> Result<(), AllocError>
+    ensures text { OnOk result (string_bytes out.new ≡ string_bytes out.old ++ flat_map fault_line faults.now) }
+    ensures kept { lines.new ≡ lines.old }
 {
     for fault in faults {
-        let fault = *fault;
-        write!(out, "fault {fault}\n")?;
+        lines.push_fault(out, *fault)?;
     }
     Ok(())
+}
+
+/// The line of a fault.
+pub(crate) fn write_fault<A: Allocator>(out: &mut String<A>, fault: Fault) -> Result<(), AllocError>
+    ensures { OnOk result (string_bytes out.new ≡ string_bytes out.old ++ fault_line fault) }
+{
+    write!(out, "fault {fault}\n")
 }

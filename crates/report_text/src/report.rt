@@ -6,6 +6,7 @@ ghost use Rattle.crash_model.specs.Whole.{Body as WholeBody, text_report};
 ghost use Rattle.report_sections.specs.Bodies.{CanTell, TellsBody, AreKnown, whole_of};
 ghost use Rattle.report_text.specs.TextReport.{WritesSections, WritesFaults};
 
+use crate::cache::LineCache;
 use crate::head::write_head;
 use crate::lines::write_section;
 use crate::parts::write_together;
@@ -69,11 +70,11 @@ pub(crate) fn write_sections<A: Allocator + Copy>(
         report.now.traced.now.patches sets.now (string_bytes out.old) (string_bytes out.new)) }
 {
     let graph = report.traced.graph();
-    let patches = graph.len();
+    let mut lines = LineCache::new(graph.len());
     let mut maker = SectionMaker::new(alloc, report.base, graph, report.detail)?;
     for set in sets {
         let section = maker.section(*set)?;
-        write_section(out, patches, &section)?;
+        write_section(out, &mut lines, &section)?;
     }
     Ok(())
 }
@@ -91,11 +92,11 @@ fn write_faults<A: Allocator + Copy>(
         report.now.traced.now.patches rows.now (string_bytes out.old) (string_bytes out.new)) }
 {
     let graph = report.traced.graph();
-    let patches = graph.len();
+    let mut lines = LineCache::new(graph.len());
     let mut maker = SectionMaker::new(alloc, report.base, graph, report.detail)?;
     for row in rows {
         let section = maker.section(row.first)?;
-        write_told_fault(out, patches, row, &section)?;
+        write_told_fault(out, &mut lines, row, &section)?;
     }
     Ok(())
 }

@@ -19,7 +19,7 @@ loop-id-preserved g c =
     elim c.if-id-end.branch [
       | then-id-end+in_ok-push_str w ↦
           run_started before.from before.end c.in-Some.id c.if-id-end.from (string_bytes before.out) (string_bytes c.if-id-end.out) _ _ _ before.invariant first below w.from-is
-          (ap (λ s. string_bytes s) w.out-is ∙ (w.in_ok-push_str.ensures.bytes ∙ ap (λ (t : List ℕ). string_bytes before.out ++ t) w.ids_between.ensures))
+          (ap (λ s. string_bytes s) w.out-is ∙ (w.in_ok-push_str.ensures.bytes ∙ ap (λ (t : List ℕ). string_bytes before.out ++ t) w.numbers_between.ensures))
       | else-id-end w ↦
           run_longer before.from before.end c.in-Some.id c.if-id-end.from (string_bytes before.out) (string_bytes c.if-id-end.out) _ _ _ before.invariant first below w.if-id-end.false w.from-is
           (ap (λ s. string_bytes s) w.out-is)
