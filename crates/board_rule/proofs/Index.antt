@@ -56,7 +56,7 @@ index_stay limit rows words words' views i v w wide o me same debt = record {
 }
 
 -- the writer stores its place + 1 at the first zero of its word's window
-pub index_mark : (limit : ℕ) (rows : List (List ℕ)) (words : List ℕ) (views : List View) (i : ℕ) (v w : View) (q k0 t0 : ℕ) → 0 < limit → length words ≡ 29 + 52 * limit → IndexOk limit rows words views → get_elem? views i ≡ some v
+pub index_mark : (limit : ℕ) (rows : List (List ℕ)) (words : List ℕ) (views : List View) (i : ℕ) (v w : View) (q k0 t0 : ℕ) → 0 < limit → length words ≡ 216 + 52 * limit → IndexOk limit rows words views → get_elem? views i ≡ some v
     → q < 13 → k0 < length (row_of rows q) → v.rows.held ≡ q → v.rows.unfiled ≡ k0 + 1
     → ((u : ℕ) → u < t0 → get_or words (index_word limit q (slot limit (get_or (row_of rows q) k0 0) u)) 0 ≢ 0) → get_or words (index_word limit q (slot limit (get_or (row_of rows q) k0 0) t0)) 0 ≡ 0
     → IndexOk limit rows (set words (index_word limit q (slot limit (get_or (row_of rows q) k0 0) t0)) (k0 + 1)) (set views i w)

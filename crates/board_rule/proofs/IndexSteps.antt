@@ -98,7 +98,7 @@ module _ (t : Told) (good : ℕ → Type 0) (S : Type 0) where
       let marks : (c : ℕ) → c < t.limit → get_or s.words (index_word t.limit q c) 0 ≡ get_or m.0.rows.marks c 0 = λ c b. ap (λ (y : ℕ). get_or s.words (index_word t.limit y c) 0) (sym held) ∙ k.marks some-right c b in
       rw at (rw is (let words' = set s.words a (k0 + 1) in let now = set m.0.rows.marks j (k0 + 1) in let w : View = record m.0 { rows = record m.0.rows { marks = now; unfiled = 0 } } in
       let else : (p c : ℕ) → p < 13 → (p ≡ q → c ≢ j) → get_or words' (index_word t.limit p c) 0 ≡ get_or s.words (index_word t.limit p c) 0 = λ p c h ne. get_or-set_other s.words a (index_word t.limit p c) (k0 + 1) 0 (λ e. ne (omega (arith, e, h, near)) (omega (arith, e, h, near))) in
-      let far : (b : ℕ) → b < 29 + 26 * t.limit → get_or words' b 0 ≡ get_or s.words b 0 = λ b h. get_or-set_other s.words a b (k0 + 1) 0 (λ e. omega (arith, e, h)) in
+      let far : (b : ℕ) → b < 216 + 26 * t.limit → get_or words' b 0 ≡ get_or s.words b 0 = λ b h. get_or-set_other s.words a b (k0 + 1) 0 (λ e. omega (arith, e, h)) in
       let halves : (p c : ℕ) → p < 13 → c < t.limit → Halves t.limit s.words words' p c = λ p c h b. (far (low_word p c) (omega (arith, h, b)), far (high_word t.limit p c) (omega (arith, h, b))) in
       let here : get_or words' a 0 ≡ k0 + 1 = get_or-set_same s.words a (k0 + 1) 0 (omega (arith, o.sized, low, near)) in (
         w,

@@ -65,7 +65,7 @@ module _ (t : Told) (good : ℕ → Type 0) (S : Type 0) where
       → Stands t.limit (λ j. get_or s.words (index_word t.limit p j) 0) (get_or (row_of o.rows p) k 0) k ⊎ ((r.held ≡ p) × (r.right ≡ writer) × (r.unfiled ≡ k + 1)))
       → SeatOk t.limit o.rows (set s.words (lock_word q) n) r → Rule (stepped s (lock_word q) n id m.1 (record m.0 { rows = r }) keeps)
   lock_turn s o id q n m r near me same writers top gain less debt ok = let i = lock_word q in let words' = set s.words i n in let w : View = record m.0 { rows = r } in
-      let far : (b : ℕ) → 16 ≤ b → get_or words' b 0 ≡ get_or s.words b 0 = λ b h. get_or-set_other s.words i b n 0 (λ e. omega (arith, e, h, near)) in
+      let far : (b : ℕ) → 112 ≤ b → get_or words' b 0 ≡ get_or s.words b 0 = λ b h. get_or-set_other s.words i b n 0 (λ e. omega (arith, e, h, near)) in
       rows_turn t good S s o id i n m r (omega arith) (λ a lo hi e. omega (arith, e, lo, near)) me same writers
       (locks_turn s.words s.views id q n m.0 w near (omega (arith, o.sized)) o.locks me top gain less)
       (rows_stay t o.rows s.words words' o.row (λ p h. far (length_word p) (omega arith)) (λ p k h b. (far (low_word p k) (omega arith), far (high_word t.limit p k) (omega arith))))

@@ -30,7 +30,7 @@ pub locks_stay : (words words' : List ℕ) (views : List View) (i : ℕ) (v w : 
 locks_stay words words' views i v w l me same less q h = (omega (arith, total-set (weight q) views i v w me, l q h, same q h, less q), omega (arith, l q h, same q h))
 
 -- a step on the lock of shard q
-pub locks_turn : (words : List ℕ) (views : List View) (i q n : ℕ) (v w : View) → q < 13 → 29 ≤ length words → LocksOk words views → get_elem? views i ≡ some v
+pub locks_turn : (words : List ℕ) (views : List View) (i q n : ℕ) (v w : View) → q < 13 → 216 ≤ length words → LocksOk words views → get_elem? views i ≡ some v
     → n ≤ writer → get_or words (lock_word q) 0 + weight q w ≤ n + weight q v → ((p : ℕ) → p ≢ q → weight p w ≤ weight p v) → LocksOk (set words (lock_word q) n) (set views i w)
 locks_turn words views i q n v w near long l me top gain less p h = dite (ℕ_discrete p q)
     (λ e. subst (λ (x : ℕ). (total (weight x) (set views i w) ≤ get_or (set words (lock_word q) n) (lock_word x) 0) × (get_or (set words (lock_word q) n) (lock_word x) 0 ≤ writer)) (sym e)

@@ -70,7 +70,7 @@ module _ (t : Told) (good : ℕ → Type 0) (S : Type 0) where
   -- a writer stores a half of a word behind the row, at the word i
   lays : (s : State S View) (o : Rule s) (id i x : ℕ) (m : Me S View) (r : OnRows) → get_elem? s.views id ≡ some m.0 → m.0.rows.right ≡ writer
       → r.seen ≡ m.0.rows.seen → r.held ≡ m.0.rows.held → r.right ≡ m.0.rows.right → r.marks ≡ m.0.rows.marks → r.unfiled ≡ m.0.rows.unfiled → r.added ≡ m.0.rows.added
-      → 29 ≤ i → i < 29 + 26 * t.limit
+      → 216 ≤ i → i < 216 + 26 * t.limit
       → ((p j : ℕ) → p < 13 → j < t.limit → (p ≡ m.0.rows.held → j < length (row_of o.rows m.0.rows.held)) → (low_word p j ≢ i) × (high_word t.limit p j ≢ i))
       → Behind t.limit (row_of o.rows r.held) r.right (set s.words i x) r.low (low_word r.held (length (row_of o.rows r.held)))
       → Behind t.limit (row_of o.rows r.held) r.right (set s.words i x) r.high (high_word t.limit r.held (length (row_of o.rows r.held)))
@@ -78,7 +78,7 @@ module _ (t : Told) (good : ℕ → Type 0) (S : Type 0) where
   lays s o id i x m r me writes seen held right marks unfiled added lo hi away low high = let q = m.0.rows.held in let k = o.seats id m.0 me in let row = row_of o.rows q in let words' = set s.words i x in let w : View = record m.0 { rows = r } in
       let halves : (p j : ℕ) → p < 13 → j < t.limit → (p ≡ q → j < length row) → Halves t.limit s.words words' p j = λ p j h b c. let d = away p j h b c in (get_or-set_other s.words i (low_word p j) x 0 d.0, get_or-set_other s.words i (high_word t.limit p j) x 0 d.1) in
       let indexes : (p j : ℕ) → p < 13 → get_or words' (index_word t.limit p j) 0 ≡ get_or s.words (index_word t.limit p j) 0 = λ p j h. get_or-set_other s.words i (index_word t.limit p j) x 0 (λ e. omega (arith, e, hi)) in
-      let mid : (b : ℕ) → b < 29 → get_or words' b 0 ≡ get_or s.words b 0 = λ b h. get_or-set_other s.words i b x 0 (λ e. omega (arith, e, h, lo)) in
+      let mid : (b : ℕ) → b < 216 → get_or words' b 0 ≡ get_or s.words b 0 = λ b h. get_or-set_other s.words i b x 0 (λ e. omega (arith, e, h, lo)) in
       rows_turn t good S s o id i x m r (omega (arith, lo)) (λ a l h e. omega (arith, e, l, hi)) me added (omega (arith, right, o.pending.by_writers id m.0 me))
       (locks_stay s.words words' s.views id m.0 w o.locks me (λ p h. mid (lock_word p) (omega (arith, h))) (λ p. lighter p m.0 w held right))
       (rows_stay t o.rows s.words words' o.row (λ p h. mid (length_word p) (omega (arith, h))) (λ p j h b. halves p j h (omega (arith, b, o.row.short p h)) (λ e. subst (λ (y : ℕ). j < length (row_of o.rows y)) e b)))
@@ -157,7 +157,7 @@ module _ (t : Told) (good : ℕ → Type 0) (S : Type 0) where
       let j = length_word q in let y = length row + 1 in let words' = set s.words j y in
       let some-announced : 1 ≤ total (λ v. v.pending.announced) s.views = omega (arith, term_le (λ v. v.pending.announced) s.views id m.0 me, one-announced) in
       let more : total length (set o.rows q r) ≡ total length o.rows + 1 = omega (arith, total_set_or length o.rows q r [] (omega (arith, o.row.all, k.near)), length-append row (x ∷ [])) in
-      let far : (a : ℕ) → 29 ≤ a → get_or words' a 0 ≡ get_or s.words a 0 = λ a h. get_or-set_other s.words j a y 0 (λ e. omega (arith, e, h, k.near)) in (
+      let far : (a : ℕ) → 216 ≤ a → get_or words' a 0 ≡ get_or s.words a 0 = λ a h. get_or-set_other s.words j a y 0 (λ e. omega (arith, e, h, k.near)) in (
         w,
         keeps,
         tt,

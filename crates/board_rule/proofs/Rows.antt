@@ -51,12 +51,12 @@ pub seat_stay : (limit : ℕ) (rows : List (List ℕ)) (words words' : List ℕ)
 seat_stay limit rows words words' u o halves marks = seat_other limit rows rows words words' 13 u o (λ e. absurd (omega (arith, e, o.near))) (λ p h. starts-refl (row_of rows p)) (λ p ne. refl) (λ p k h ne b. halves p k h b) (λ p j h ne b. marks p j h b)
 
 -- the row of shard q grows by a word that it lacks, both halves of which lie behind it
-pub rows_grow : (t : Told) (rows : List (List ℕ)) (words : List ℕ) (q x : ℕ) → q < 13 → 29 ≤ length words → RowsOk t rows words → length (row_of rows q) < t.limit
+pub rows_grow : (t : Told) (rows : List (List ℕ)) (words : List ℕ) (q x : ℕ) → q < 13 → 216 ≤ length words → RowsOk t rows words → length (row_of rows q) < t.limit
     → get_or words (low_word q (length (row_of rows q))) 0 ≡ x % half → get_or words (high_word t.limit q (length (row_of rows q))) 0 ≡ x / half → x % 13 ≡ q → IsReached t.next t.origin x → ((k : ℕ) → k < length (row_of rows q) → get_or (row_of rows q) k 0 ≢ x)
     → RowsOk t (set rows q (row_of rows q ++ x ∷ [])) (set words (length_word q) (length (row_of rows q) + 1))
 rows_grow t rows words q x near long o room low high home right absent = let row = row_of rows q in let new = row ++ x ∷ [] in let more : length new ≡ length row + 1 = length-append row (x ∷ []) in
     let words' = set words (length_word q) (length row + 1) in
-    let same : (a : ℕ) → 29 ≤ a → get_or words' a 0 ≡ get_or words a 0 = λ a h. get_or-set_other words (length_word q) a (length row + 1) 0 (λ e. omega (arith, e, h, near)) in record {
+    let same : (a : ℕ) → 216 ≤ a → get_or words' a 0 ≡ get_or words a 0 = λ a h. get_or-set_other words (length_word q) a (length row + 1) 0 (λ e. omega (arith, e, h, near)) in record {
       all = length-set rows q new ∙ o.all;
       short = rows_cases rows q new (λ p r. length r ≤ t.limit) o.all near (omega (arith, more)) (λ p h ne. o.short p h);
       stored = rows_cases rows q new (λ p r. get_or words' (length_word p) 0 ≡ length r) o.all near (get_or-set_same words (length_word q) (length row + 1) 0 (omega arith) ∙ sym more)

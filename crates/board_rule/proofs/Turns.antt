@@ -28,7 +28,7 @@ module _ (t : Told) (good : ℕ → Type 0) (S : Type 0) where
       subst Rule same o
 
   -- a step on a lock, an entry behind the row or the index
-  pub rows_turn : (s : State S View) (o : Rule s) (id i n : ℕ) (m : Me S View) (r : OnRows) → 3 ≤ i → ((a : ℕ) → 29 + 26 * t.limit ≤ a → a < 29 + 39 * t.limit → a ≢ i) → get_elem? s.views id ≡ some m.0
+  pub rows_turn : (s : State S View) (o : Rule s) (id i n : ℕ) (m : Me S View) (r : OnRows) → 3 ≤ i → ((a : ℕ) → 216 + 26 * t.limit ≤ a → a < 216 + 39 * t.limit → a ≢ i) → get_elem? s.views id ≡ some m.0
       → r.added ≡ m.0.rows.added → m.0.pending.announced * writer ≤ r.right
       → LocksOk (set s.words i n) (set s.views id (record m.0 { rows = r })) → RowsOk t o.rows (set s.words i n)
       → SeatOk t.limit o.rows (set s.words i n) r → ((j : ℕ) (u : View) → j ≢ id → get_elem? s.views j ≡ some u → SeatOk t.limit o.rows (set s.words i n) u.rows)
@@ -54,14 +54,14 @@ module _ (t : Told) (good : ℕ → Type 0) (S : Type 0) where
 
   -- a step on a counter or on a life
   pub rest_turn : (s : State S View) (o : Rule s) (id i n : ℕ) (m : Me S View) (l : OnLives) (p : OnPending) (c : OnCount) (lives' : List (List ℕ))
-      → ((a : ℕ) → 3 ≤ a → a < 29 + 26 * t.limit → a ≢ i) → ((a : ℕ) → 29 + 39 * t.limit ≤ a → a ≢ i) → get_elem? s.views id ≡ some m.0
+      → ((a : ℕ) → 3 ≤ a → a < 216 + 26 * t.limit → a ≢ i) → ((a : ℕ) → 216 + 39 * t.limit ≤ a → a ≢ i) → get_elem? s.views id ≡ some m.0
       → (m.0.limit ≡ 0 → IsBare m.0 → IsBare (record m.0 { lives = l; pending = p; count = c }))
       → LivesOk t good o.rows lives' (set s.words i n) (set s.views id (record m.0 { lives = l; pending = p; count = c }))
       → PendingOk lives' (set s.words i n) (set s.views id (record m.0 { lives = l; pending = p; count = c }))
       → CountOk t o.rows (set s.words i n) (set s.views id (record m.0 { lives = l; pending = p; count = c }))
       → Rule (stepped s i n id m.1 (record m.0 { lives = l; pending = p; count = c }) keeps)
   rest_turn s o id i n m l p c lives' below above me bare life pending counts = let w : View = record m.0 { lives = l; pending = p; count = c } in let words' = set s.words i n in
-      let early : (a : ℕ) → 3 ≤ a → a < 29 + 26 * t.limit → get_or words' a 0 ≡ get_or s.words a 0 = λ a x y. get_or-set_other s.words i a n 0 (below a x y) in
+      let early : (a : ℕ) → 3 ≤ a → a < 216 + 26 * t.limit → get_or words' a 0 ≡ get_or s.words a 0 = λ a x y. get_or-set_other s.words i a n 0 (below a x y) in
       let halves : (q k : ℕ) → q < 13 → k < t.limit → Halves t.limit s.words words' q k = λ q k h b. (early (low_word q k) (omega arith) (omega (arith, h, b)), early (high_word t.limit q k) (omega arith) (omega (arith, h, b))) in
       let marks : (q j : ℕ) → q < 13 → j < t.limit → get_or words' (index_word t.limit q j) 0 ≡ get_or s.words (index_word t.limit q j) 0 = λ q j h b. get_or-set_other s.words i (index_word t.limit q j) n 0 (above (index_word t.limit q j) (omega arith)) in record {
         rows = o.rows;

@@ -1,5 +1,5 @@
 -- Where the words of a board lie in its table.
--- Word 0 is pending, word 1 the count, word 2 the stop. Then come 13 locks and 13 lengths of rows, and four blocks of 13 * limit words: the low halves of the entries, their high halves, their lives, and the index. In a block the shards take turns, so that each address is linear in the place.
+-- Word 0 is pending, word 1 the count, word 2 the stop. From word 8 on come 13 locks and 13 lengths of rows, each of them 8 words behind the one before, so that no two stand in one line of a cache; then four blocks of 13 * limit words: the low halves of the entries, their high halves, their lives, and the index. In a block the shards take turns, so that each address is linear in the place.
 use Rattle.std.specs.Prelude.{ℕ, ◌+◌, ◌*◌, ◌/◌, ◌%◌, cond, nat_lt}
 
 -- a lock's word while a seat has the write right: 2 ^ 32
@@ -11,27 +11,27 @@ abbrev pub half : ℕ
 half = 18446744073709551616
 
 abbrev pub lock_word : ℕ → ℕ
-lock_word q = 3 + q
+lock_word q = 8 + 8 * q
 
 abbrev pub length_word : ℕ → ℕ
-length_word q = 16 + q
+length_word q = 112 + 8 * q
 
 -- of the entry at place k of shard q, the low 64 bits
 abbrev pub low_word : ℕ → ℕ → ℕ
-low_word q k = 29 + 13 * k + q
+low_word q k = 216 + 13 * k + q
 
 -- and the high 64 bits
 abbrev pub high_word : ℕ → ℕ → ℕ → ℕ
-high_word limit q k = 29 + 13 * limit + 13 * k + q
+high_word limit q k = 216 + 13 * limit + 13 * k + q
 
 abbrev pub life_word : ℕ → ℕ → ℕ → ℕ
-life_word limit q k = 29 + 26 * limit + 13 * k + q
+life_word limit q k = 216 + 26 * limit + 13 * k + q
 
 abbrev pub index_word : ℕ → ℕ → ℕ → ℕ
-index_word limit q j = 29 + 39 * limit + 13 * j + q
+index_word limit q j = 216 + 39 * limit + 13 * j + q
 
 abbrev pub size_for : ℕ → ℕ
-size_for limit = 29 + 52 * limit
+size_for limit = 216 + 52 * limit
 
 -- one number for the place k of shard q
 abbrev pub place_of : ℕ → ℕ → ℕ

@@ -55,7 +55,7 @@ module _ (limit : ℕ) (words : List ℕ) where
       ap life_of (sym (found words i x f) ∙ ap (λ (a : ℕ). get_or words a 0) at ∙ sym (ap (λ (l : List ℕ). get_or l k 0) (listed_at (λ p. first_values (λ k. get_or words (life_word limit p k) 0) (get_or words (length_word p) 0)) 13 q [] h)
       ∙ listed_at (λ k. get_or words (life_word limit q k) 0) (get_or words (length_word q) 0) k 0 inside)) ∙ ap (λ (t : Ended). life_of_entry t q k) e
 
-  pub place_fits : (z : Ended) (q k : ℕ) → end_of limit words ≡ z → IsReadable limit words → q < 13 → k < length (row_of z.rows q) → (k < limit) × (limit ≤ 32768) × (length words ≡ 29 + 52 * limit)
+  pub place_fits : (z : Ended) (q k : ℕ) → end_of limit words ≡ z → IsReadable limit words → q < 13 → k < length (row_of z.rows q) → (k < limit) × (limit ≤ 32768) × (length words ≡ 216 + 52 * limit)
   place_fits z q k e r h b = (omega (arith, b, ap (λ (x : Ended). length (row_of x.rows q)) e, row_length q h, r.short q h), r.small, r.sized)
 
 -- a life that is none of the first three is the last

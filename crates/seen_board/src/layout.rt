@@ -16,11 +16,15 @@ pub(crate) const COUNT: usize = 1;
 /// Whether the workers are to stop.
 pub(crate) const STOP: usize = 2;
 
-const LOCKS: usize = 3;
+/// How many words apart the locks and the lengths stand: a line of a cache, so that who takes one leaves the others
+/// where they are.
+const APART: usize = 8;
 
-const LENGTHS: usize = LOCKS + SHARDS;
+const LOCKS: usize = APART;
 
-const BLOCKS: usize = LENGTHS + SHARDS;
+const LENGTHS: usize = LOCKS + APART * SHARDS;
+
+const BLOCKS: usize = LENGTHS + APART * SHARDS;
 
 /// The shard of a word: its remainder by the number of shards.
 pub fn shard_of(word: u128) -> u8
@@ -50,7 +54,7 @@ impl Layout {
         requires shard { shard < 13 }
         ensures { result ≡ lock_word shard }
     {
-        LOCKS + shard as usize
+        LOCKS + APART * shard as usize
     }
 
     /// The length of a shard's row.
@@ -58,7 +62,7 @@ impl Layout {
         requires shard { shard < 13 }
         ensures { result ≡ length_word shard }
     {
-        LENGTHS + shard as usize
+        LENGTHS + APART * shard as usize
     }
 
     /// The low half of the entry at a place.
