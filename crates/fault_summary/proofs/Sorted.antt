@@ -1,5 +1,5 @@
 -- Rows in the order of their faults.
-use Rattle.std.proofs.Common.{◌≡◌, ◌≢◌, ℕ, zero, suc, Bool, false, nat_eq, List, [], ◌∷◌, map, get_or, arith, refl, sym, ap, ◌∙◌, Decides, IsPermutation, IsSortedByKey}
+use Rattle.std.proofs.Common.{◌≡◌, ◌≢◌, ℕ, Bool, false, nat_eq, List, map, get_or, arith, refl, sym, ap, ◌∙◌, Decides, IsPermutation, IsSortedByKey}
 use mathlib.Core.Bool.{true≢false}
 use Rattle.std.specs.List.{AllPairs}
 use Rattle.std.specs.Ordering.{nat_cmp, is_lt, is_eq, ordering_reverse}
@@ -12,36 +12,9 @@ use Rattle.std.proofs.lemmas.Map.Keys.{IsDistinct-IsPermutation}
 use Rattle.std.proofs.lemmas.Map.Made.{AllPairs-from_IsDistinct, IsDistinct-from_AllPairs}
 use Rattle.crash_model.specs.Summary.{numbers_of, IsFaultBefore, IsRow, AreRows}
 use Rattle.crash_model.specs.declared.fault.Fault.{Fault}
-use Rattle.crash_model.specs.declared.fault.Fault.TheVariants.{Dangling, Twice, Unwritten, LowLinks, MarkedFree, Wild, Lost, NoBlock}
 use Rattle.crash_model.specs.declared.fault.FaultRow.{FaultRow}
+use Rattle.crash_model.proofs.FaultNumbers.{same_fault}
 use Rattle.fault_summary.specs.Summed.{fault_of, TellsOnce, AreSummed}
-
--- ---- a fault is known by its numbers
-
-fault_with : List ℕ → Fault
-fault_with (suc zero ∷ d ∷ k ∷ i ∷ []) = Dangling d k i
-fault_with (suc (suc (suc zero)) ∷ i ∷ s ∷ b ∷ []) = Unwritten i s b
-fault_with (suc (suc (suc (suc zero))) ∷ i ∷ e ∷ l ∷ []) = LowLinks i e l
-fault_with (suc (suc (suc (suc (suc zero)))) ∷ i ∷ s ∷ b ∷ []) = MarkedFree i s b
-fault_with (suc (suc (suc (suc (suc (suc zero))))) ∷ i ∷ s ∷ b ∷ []) = Wild i s b
-fault_with (suc (suc (suc (suc (suc (suc (suc zero)))))) ∷ i ∷ _) = Lost i
-fault_with (suc (suc (suc (suc (suc (suc (suc (suc zero))))))) ∷ i ∷ _) = NoBlock i
-fault_with (n ∷ b ∷ _) = Twice b
-fault_with _ = Twice 0
-
-back : (f : Fault) → fault_with (numbers_of f) ≡ f
-unfolding fault_with
-back (Dangling d k i) = refl
-back (Twice b) = refl
-back (Unwritten i s b) = refl
-back (LowLinks i e l) = refl
-back (MarkedFree i s b) = refl
-back (Wild i s b) = refl
-back (Lost i) = refl
-back (NoBlock i) = refl
-
-same_fault : (f g : Fault) → numbers_of f ≡ numbers_of g → f ≡ g
-same_fault f g same = sym (back f) ∙ (ap fault_with same ∙ back g)
 
 abbrev is_fault : Fault → Fault → Bool
 is_fault f g = pointwise nat_eq (numbers_of f) (numbers_of g)

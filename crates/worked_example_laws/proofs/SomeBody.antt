@@ -29,7 +29,6 @@ use Rattle.crash_model.specs.Summary.{numbers_of, IsFaultBefore, HasFault, IsFir
 use Rattle.crash_model.specs.Trace.{Tracing}
 use Rattle.crash_model.specs.Whole.{Body, Sets, Faults, Rules}
 use Rattle.crash_model.specs.declared.fault.Fault.{Fault}
-use Rattle.crash_model.specs.declared.fault.Fault.TheVariants.{Dangling, Twice, Unwritten, LowLinks, MarkedFree, Wild, Lost, NoBlock}
 use Rattle.crash_model.specs.declared.fault.FaultRow.{FaultRow}
 use Rattle.crash_model.specs.declared.patches.Patch.{Patch}
 use Rattle.crash_model.specs.declared.rules.Rule.{Rule}
@@ -37,6 +36,7 @@ use Rattle.crash_model.specs.declared.settings.Detail.{Detail}
 use Rattle.crash_model.specs.declared.settings.Settings.{Settings}
 use Rattle.crash_model.specs.declared.settings.ReportBy.{ReportBy}
 use Rattle.crash_model.specs.declared.settings.ReportBy.TheVariants.{BySet, ByFault, ByRule}
+use Rattle.crash_model.proofs.FaultNumbers.{same_fault}
 use Rattle.crash_model.proofs.Leading.{failing_closed, sections_lead}
 use Rattle.worked_example_laws.specs.Computed.{closed_sets, failing_under, fails_under, graph_of}
 use Rattle.worked_example_laws.proofs.ClosedSets.{closed_are_all, apart_filter, from_filter, to_filter}
@@ -63,31 +63,6 @@ some_failing kept base patches before =
     )
 
 -- ---- faults in order
-
-fault_with : List ℕ → Fault
-fault_with (suc zero ∷ d ∷ k ∷ i ∷ []) = Dangling d k i
-fault_with (suc (suc (suc zero)) ∷ i ∷ s ∷ b ∷ []) = Unwritten i s b
-fault_with (suc (suc (suc (suc zero))) ∷ i ∷ e ∷ l ∷ []) = LowLinks i e l
-fault_with (suc (suc (suc (suc (suc zero)))) ∷ i ∷ s ∷ b ∷ []) = MarkedFree i s b
-fault_with (suc (suc (suc (suc (suc (suc zero))))) ∷ i ∷ s ∷ b ∷ []) = Wild i s b
-fault_with (suc (suc (suc (suc (suc (suc (suc zero)))))) ∷ i ∷ _) = Lost i
-fault_with (suc (suc (suc (suc (suc (suc (suc (suc zero))))))) ∷ i ∷ _) = NoBlock i
-fault_with (n ∷ b ∷ _) = Twice b
-fault_with _ = Twice 0
-
-back : (f : Fault) → fault_with (numbers_of f) ≡ f
-unfolding fault_with
-back (Dangling d k i) = refl
-back (Twice b) = refl
-back (Unwritten i s b) = refl
-back (LowLinks i e l) = refl
-back (MarkedFree i s b) = refl
-back (Wild i s b) = refl
-back (Lost i) = refl
-back (NoBlock i) = refl
-
-same_fault : (f g : Fault) → numbers_of f ≡ numbers_of g → f ≡ g
-same_fault f g same = sym (back f) ∙ (ap fault_with same ∙ back g)
 
 compare : (f g : Fault) → IsFaultBefore f g ⊎ ((f ≡ g) ⊎ IsFaultBefore g f)
 compare f g = by (slice_cmp nat_cmp (numbers_of f) (numbers_of g)) refl
