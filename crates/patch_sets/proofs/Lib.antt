@@ -2,6 +2,7 @@ pub mod Bits
 pub mod Canonical
 pub mod DistinctWords
 pub mod Ids
+pub mod LeadingRuns
 pub mod LowestHighest
 pub mod Lists
 pub mod Runs

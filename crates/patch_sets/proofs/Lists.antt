@@ -1,8 +1,10 @@
 -- Lists in a strict order.
-use Rattle.std.proofs.Common.{◌≡◌, ℕ, zero, suc, ◌+◌, ◌<◌, List, [], ◌∷◌, ◌++◌, length, get_or, arith, refl, sym, subst, ap, ap₂, ◌∙◌, inl, inr, length-append}
+use Rattle.std.proofs.Common.{◌≡◌, ℕ, zero, suc, ◌+◌, ◌-◌, ◌<◌, List, [], ◌∷◌, ◌++◌, length, get_or, arith, refl, sym, subst, ap, ap₂, ◌∙◌, inl, inr, length-append}
 use Rattle.std.specs.Prelude.{◌⊎◌}
 use Rattle.std.specs.List.{AllPairs, Contains}
+use Rattle.std.proofs.lemmas.Bool.{cases_lt}
 use Rattle.std.proofs.lemmas.List.{get_or_append_left, get_or-append_right, get_or_default}
+use Rattle.std.proofs.Math.Seq as seq
 use Rattle.std.proofs.lemmas.List.Quantifiers.{all_pairs_push}
 use Rattle.std.proofs.lemmas.List.Elements.{Contains-get_or}
 
@@ -68,6 +70,23 @@ one_ascending = one_order (λ x y. x < y) (λ a b c p q. omega arith) (λ a p. o
 -- an ascending list and a larger number
 pub ascends_push : (xs : List ℕ) (y : ℕ) → AllPairs (λ a b. a < b) xs → ((x : ℕ) → Contains xs x → x < y) → AllPairs (λ a b. a < b) (xs ++ y ∷ [])
 ascends_push xs y up below = all_pairs_push (λ a b. a < b) xs y up (λ k d within. below (get_or xs k d) (Contains-get_or xs k d within))
+
+-- what holds of each pair of either part, and across, holds of each pair
+pub pairs_append : (R : ℕ → ℕ → Type 0) (xs ys : List ℕ) → AllPairs R xs → AllPairs R ys → ((x y : ℕ) → Contains xs x → Contains ys y → R x y) → AllPairs R (xs ++ ys)
+pairs_append R xs ys px py across i j d lt inside = elim (cases_lt j (length xs)) [
+  | inl low ↦
+      subst (λ x. R x (get_or (xs ++ ys) j d)) (sym (get_or_append_left xs ys d i (omega arith)))
+      (subst (R (get_or xs i d)) (sym (get_or_append_left xs ys d j low)) (px i j d lt low))
+  | inr high ↦
+      let long = length-append xs ys in
+      let far : j - length xs < length ys = omega (arith, long, inside) in
+      subst (R (get_or (xs ++ ys) i d)) (sym (seq.get_or-append_right xs ys j d high))
+      (elim (cases_lt i (length xs)) [
+        | inl low ↦ subst (λ x. R x (get_or ys (j - length xs) d)) (sym (get_or_append_left xs ys d i low))
+            (across (get_or xs i d) (get_or ys (j - length xs) d) (Contains-get_or xs i d low) (Contains-get_or ys (j - length xs) d far))
+        | inr up ↦ subst (λ x. R x (get_or ys (j - length xs) d)) (sym (seq.get_or-append_right xs ys i d up)) (py (i - length xs) (j - length xs) d (omega arith) far)
+      ])
+]
 
 -- ---- two ways to cut one list
 

@@ -6,7 +6,7 @@ use Rattle.std.specs.Prelude.{bit_and}
 use Rattle.std.specs.Int.{bit_at, bit_not, w128}
 use Rattle.std.specs.Int.Count.{count_leading_zeros, count_trailing_zeros}
 use Rattle.std.proofs.lemmas.Nat.{shr_split, mod_below, leading_top, and_le_l}
-use Rattle.std.proofs.lemmas.Nat.Bits.{bit_at_and, bit_at_not, bit_at-lt, bit_at_clear_same, bit_at_clear_other, bit_at_lowest, bit_at-suc, bit_at-trailing_zeros}
+use Rattle.std.proofs.lemmas.Nat.Bits.{bit_at_and, bit_at_not, bit_at-lt, bit_at_clear_same, bit_at_clear_other, bit_at_lowest, bit_at-suc, bit_at-zero, bit_at-trailing_zeros}
 use Rattle.std.proofs.Math.Nat.{lt_of_not-le}
 use Rattle.std.proofs.Math.Pow.{pow_pos}
 use Rattle.patch_sets.specs.Sets.{Has}
@@ -59,10 +59,11 @@ without_id set id known small = record {
     rest_small : bit_and set (bit_not w128 (1 * 2 ^ id % 2 ^ 128)) < 2 ^ 128
     rest_small = let below = and_le_l set (bit_not w128 (1 * 2 ^ id % 2 ^ 128)) in omega (arith, below)
 
--- one less: the lowest 1 is gone, and what stands above it stays
-record LacksLowest (id n : ℕ) : Type 0 where
-  gone : bit_at (n - 1) id ≡ 0
-  above : (q : ℕ) → id < q → bit_at (n - 1) q ≡ bit_at n q
+-- one less: the lowest 1 is gone, each 0 below it is a 1, and what stands above it stays
+pub record LacksLowest (id n : ℕ) : Type 0 where
+  pub gone : bit_at (n - 1) id ≡ 0
+  pub below : (q : ℕ) → q < id → bit_at (n - 1) q ≡ 1
+  pub above : (q : ℕ) → id < q → bit_at (n - 1) q ≡ bit_at n q
 
 -- from the half of a number
 half_above : (n q half : ℕ) → (n - 1) / 2 ≡ half → bit_at half q ≡ bit_at (n / 2) q → bit_at (n - 1) (suc q) ≡ bit_at n (suc q)
@@ -71,6 +72,7 @@ half_above n q half at same = bit_at-suc (n - 1) q ∙ (ap (λ (m : ℕ). bit_at
 odd_lacks : (n : ℕ) → n % 2 ≡ 1 → LacksLowest 0 n
 odd_lacks n odd = record {
   gone = let after = bit_at_lowest (n - 1) in omega (arith, after, odd);
+  below = λ q low. absurd (omega (arith, low));
   above = above;
 }
   where
@@ -78,14 +80,19 @@ odd_lacks n odd = record {
     above zero high = absurd (omega (arith, high))
     above (suc q) high = half_above n q (n / 2) (omega (arith, odd)) refl
 
-even_lacks : (n id : ℕ) → n % 2 ≡ 0 → LacksLowest id (n / 2) → LacksLowest (suc id) n
-even_lacks n id even rest = record {
+even_lacks : (n id : ℕ) → n ≢ 0 → n % 2 ≡ 0 → LacksLowest id (n / 2) → LacksLowest (suc id) n
+even_lacks n id some even rest = record {
   gone = bit_at-suc (n - 1) id ∙ (ap (λ (m : ℕ). bit_at m id) half ∙ rest.gone);
+  below = below;
   above = above;
 }
   where
     half : (n - 1) / 2 ≡ n / 2 - 1
     half = omega (arith, even)
+
+    below : (q : ℕ) → q < suc id → bit_at (n - 1) q ≡ 1
+    below zero low = let after = bit_at_lowest (n - 1) in omega (arith, after, even, some)
+    below (suc q) low = bit_at-suc (n - 1) q ∙ (ap (λ (m : ℕ). bit_at m q) half ∙ rest.below q (omega (arith, low)))
 
     above : (q : ℕ) → suc id < q → bit_at (n - 1) q ≡ bit_at n q
     above zero high = absurd (omega (arith, high))
@@ -94,8 +101,17 @@ even_lacks n id even rest = record {
 lacks_lowest : (id n : ℕ) → bit_at n id ≡ 1 → ((i : ℕ) → i < id → bit_at n i ≡ 0) → LacksLowest id n
 lacks_lowest zero n is none = odd_lacks n (sym (bit_at_lowest n) ∙ is)
 lacks_lowest (suc id) n is none =
-    even_lacks n id (sym (bit_at_lowest n) ∙ none 0 (omega arith))
+    even_lacks n id (λ e. let no = bit_at-zero (suc id) in absurd (omega (arith, no, subst (λ (m : ℕ). bit_at m (suc id) ≡ 1) e is)))
+    (sym (bit_at_lowest n) ∙ none 0 (omega arith))
     (lacks_lowest id (n / 2) (sym (bit_at-suc n id) ∙ is) (λ i low. sym (bit_at-suc n i) ∙ none (suc i) (omega (arith, low))))
+
+-- a bit that is not 1
+pub zero_bit : (set i : ℕ) → (Has set i → ⊥) → bit_at set i ≡ 0
+zero_bit set i out = let few = bit_at-lt set i in dite (ℕ_discrete (bit_at set i) 1) (λ is. absurd (out is)) (λ other. omega (arith, few, other))
+
+-- a set as a number, less one
+pub one_less : (set id : ℕ) → IsLowest set id → LacksLowest id set
+one_less set id lowest = lacks_lowest id set lowest.inside (λ i low. zero_bit set i (λ is. let near = lowest.least i is in omega (arith, near, low)))
 
 -- `set & (set - 1)`
 pub without_lowest_id : (set id : ℕ) → IsLowest set id → IsWithout set id (bit_and set (set - 1))
@@ -109,11 +125,8 @@ without_lowest_id set id lowest = record {
   );
 }
   where
-    none : (i : ℕ) → i < id → bit_at set i ≡ 0
-    none i low = let few = bit_at-lt set i in dite (ℕ_discrete (bit_at set i) 1) (λ is. absurd (let near = lowest.least i is in omega (arith, near, low))) (λ no. omega (arith, few, no))
-
     bits : LacksLowest id set
-    bits = lacks_lowest id set lowest.inside none
+    bits = one_less set id lowest
 
 pub smaller_without : (set id rest : ℕ) → rest ≤ set → IsWithout set id rest → Has set id → rest < set
 smaller_without set id rest within less is =

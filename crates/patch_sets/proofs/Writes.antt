@@ -128,7 +128,7 @@ module _ (homes : List ℕ) where
   own_last [] last cut = cut.0
   own_last (v ∷ front) last cut = own_last front last cut.2
 
-  carried_push : (front : List BlockWrite) (last : BlockWrite) → ids_carried (front ++ last ∷ []) ≡ ids_carried front ++ ids_of (length homes) last.ids
+  pub carried_push : (front : List BlockWrite) (last : BlockWrite) → ids_carried (front ++ last ∷ []) ≡ ids_carried front ++ ids_of (length homes) last.ids
   carried_push front last = flat_map-append (λ w. ids_of (length homes) w.ids) front (last ∷ []) ∙ ap (λ xs. ids_carried front ++ xs) (append-nil (ids_of (length homes) last.ids))
 
   -- the writes carry the ids of the set below k

@@ -5,3 +5,4 @@ pub mod Writes
 pub mod Ends
 pub mod Explored
 pub mod Iter
+pub mod Leading

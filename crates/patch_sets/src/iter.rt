@@ -3,6 +3,7 @@ ghost use Rattle.std.specs.Prelude.{◌≡◌};
 ghost use Rattle.patch_sets.specs.Sets.{ids_of};
 
 use crate::ends::{lowest, without_lowest};
+use crate::leading::below;
 
 /// The ids of a set that are still to come, in ascending order. It takes a step for each id, however far apart they
 /// are.
@@ -21,7 +22,7 @@ impl Ids {
         ensures { ids_left result ≡ ids_of n set }
     {
         Ids {
-            left: if n < 128 { set % (1 << n) } else { set },
+            left: below(set, n),
         }
     }
 }

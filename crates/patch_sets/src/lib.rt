@@ -8,6 +8,7 @@ pub mod ends;
 pub mod explored;
 pub mod iter;
 pub mod laws;
+pub mod leading;
 pub mod order;
 pub mod set;
 pub mod write;

@@ -11,25 +11,10 @@ use Rattle.std.proofs.Math.Nat.{lt_of_not-le}
 use Rattle.state_space.specs.Counts.{IsListOf, HoldsOf, Outnumbers}
 use Rattle.patch_sets.specs.Closed.{IsClosed}
 use Rattle.patch_sets.proofs.Bits.{eq_or_not}
+use Rattle.patch_sets.proofs.Lists.{pairs_append}
 use Rattle.set_sweep.specs.Sweeps.{IsAscendingListOf, IsClosedIn, AreSwept, IsSweep}
 
 -- ---- lists in ascending order
-
-pub pairs_append : (R : ℕ → ℕ → Type 0) (xs ys : List ℕ) → AllPairs R xs → AllPairs R ys → ((x y : ℕ) → Contains xs x → Contains ys y → R x y) → AllPairs R (xs ++ ys)
-pairs_append R xs ys px py across i j d lt inside = elim (cases_lt j (length xs)) [
-  | inl low ↦
-      subst (λ x. R x (get_or (xs ++ ys) j d)) (sym (get_or_append_left xs ys d i (omega arith)))
-      (subst (R (get_or xs i d)) (sym (get_or_append_left xs ys d j low)) (px i j d lt low))
-  | inr high ↦
-      let long = length-append xs ys in
-      let far : j - length xs < length ys = omega (arith, long, inside) in
-      subst (R (get_or (xs ++ ys) i d)) (sym (get_or-append_right xs ys j d high))
-      (elim (cases_lt i (length xs)) [
-        | inl low ↦ subst (λ x. R x (get_or ys (j - length xs) d)) (sym (get_or_append_left xs ys d i low))
-            (across (get_or xs i d) (get_or ys (j - length xs) d) (Contains-get_or xs i d low) (Contains-get_or ys (j - length xs) d far))
-        | inr up ↦ subst (λ x. R x (get_or ys (j - length xs) d)) (sym (get_or-append_right xs ys i d up)) (py (i - length xs) (j - length xs) d (omega arith) far)
-      ])
-]
 
 -- the list of another fact that holds of the same words
 list_like : (P Q : ℕ → Type 0) → ((w : ℕ) → P w → Q w) → ((w : ℕ) → Q w → P w) → (xs : List ℕ) → IsAscendingListOf P xs → IsAscendingListOf Q xs

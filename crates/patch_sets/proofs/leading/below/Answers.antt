@@ -1,5 +1,5 @@
 use Rattle.patch_sets.proofs.Stepped.{left_below, left_whole}
-use Rattle.patch_sets.proofs.iter.Ids.below.Goals as goal
+use Rattle.patch_sets.proofs.leading.below.Goals as goal
 
 pub returns-then-n-lt128 : goal.returns-then-n-lt128
 returns-then-n-lt128 c = left_below c.args.set c.args.n c.if-n-lt128.true
