@@ -1,6 +1,6 @@
 pub mod Apart
 pub mod Fronts
-pub mod LastWrite
+pub mod Homes
 pub mod Patches
 pub mod Rest
 pub mod Steps

@@ -1,75 +1,154 @@
 -- The ids of a set that are still to be written, while its writes are cut.
-use Rattle.std.proofs.Common.{◌≡◌, ◌≢◌, ℕ, zero, suc, ◌+◌, ◌-◌, ◌<◌, ◌≤◌, List, [], length, bit_and, arith, subst}
-use Rattle.std.specs.Prelude.{◌↔◌}
-use Rattle.std.proofs.lemmas.List.{length-map}
-use Rattle.patch_sets.specs.Sets.{Has}
-use Rattle.patch_sets.specs.Ends.{IsLowest, IsWithout}
+use Rattle.std.proofs.Common.{◌≡◌, ◌≢◌, ℕ, ◌<◌, ◌≤◌, List, [], ◌∷◌, ◌++◌, length, get_or, bit_and, arith, refl, sym, subst, ap, ◌∙◌, inl, inr, length-append, append_assoc, append-nil}
+use mathlib.Core.Logic.{dite}
+use native.Mathlib.Decide.{ℕ_discrete}
+use Rattle.std.specs.Prelude.{◌↔◌, ◌⊎◌, slice_index}
+use Rattle.std.specs.Int.{bit_at}
+use Rattle.std.specs.List.{Contains}
+use Rattle.std.proofs.lemmas.List.{length-map, get_or_push}
+use Rattle.std.proofs.lemmas.List.Elements.{Contains-append_cases, Contains-append_left, Contains-append_right}
+use Rattle.std.proofs.lemmas.Nat.{and_le_r}
+use Rattle.std.proofs.Math.Nat.{lt_of_not-le}
+use Rattle.patch_sets.specs.Sets.{Has, has, ids_of}
+use Rattle.patch_sets.specs.Ends.{IsLowest, IsDifference}
+use Rattle.patch_sets.specs.Leading.{ComesBefore}
 use Rattle.patch_sets.specs.declared.write.BlockWrite.{BlockWrite}
-use Rattle.patch_sets.proofs.Bits.{none_in_empty}
-use Rattle.patch_sets.proofs.Writes.{AreCutTo, cut_none, cut_skip}
+use Rattle.patch_sets.proofs.Bits.{eq_or_not, none_in_empty, and_from_subset}
+use Rattle.patch_sets.proofs.Ids.{from_ids_of, to_ids_of, ids_ascend}
+use Rattle.patch_sets.proofs.Lists.{one_ascending, pairs_append}
+use Rattle.patch_sets.proofs.Stepped.{ids_none}
+use Rattle.patch_sets.proofs.Writes.{AreCut, IsOwn, ids_carried, carried_push, cut_push}
 use Rattle.crash_model.specs.declared.patches.Patch.{Patch}
 use Rattle.crash_model.specs.Patches.{homes_of}
 use Rattle.patch_graph.proofs.Fronts.{in_and, from_and}
 
--- the writes carry the set's ids below a number, and those from there on are left
+-- The writes carry the set's first ids, and those that are left come behind. The last write is of another block than the
+-- first id that is left.
 pub record IsRest (homes : List ℕ) (set left : ℕ) (writes : List BlockWrite) : Type 0 where
-  pub from : ℕ
-  pub within : from ≤ length homes
-  pub cut : AreCutTo homes from set writes
-  pub rest : (q : ℕ) → Has left q ↔ (Has set q × (from ≤ q) × (q < length homes))
+  pub in_order : ids_carried homes writes ++ ids_of (length homes) left ≡ ids_of (length homes) set
+  pub cut : AreCut homes writes
+  pub known : (id : ℕ) → Has left id → id < length homes
+  pub apart : (front : List BlockWrite) (last : BlockWrite) (id : ℕ) → writes ≡ front ++ last ∷ [] → IsLowest left id → last.block ≢ slice_index homes id
 
-skip : (homes : List ℕ) (set from gap : ℕ) (writes : List BlockWrite) → ((q : ℕ) → from ≤ q → q < from + gap → Has set q → ⊥) → AreCutTo homes from set writes → AreCutTo homes (from + gap) set writes
-skip homes set from zero writes none cut = let same : from ≡ from + zero = omega arith in subst (λ n. AreCutTo homes n set writes) same cut
-skip homes set from (suc gap) writes none cut =
-    let next : (from + gap) + 1 ≡ from + suc gap = omega arith in
-    subst (λ n. AreCutTo homes n set writes) next
-    (cut_skip homes (from + gap) set writes (none (from + gap) (omega arith) (omega arith)) (skip homes set from gap writes (λ q low high. none q low (omega (arith, high))) cut))
+-- the ids of a set in two parts, one before the other
+ids_split : (n set first rest : ℕ) → ((q : ℕ) → Has set q → Has first q ⊎ Has rest q) → ((q : ℕ) → Has first q → Has set q) → ((q : ℕ) → Has rest q → Has set q)
+    → ((x y : ℕ) → Has first x → Has rest y → x < y) → ids_of n set ≡ ids_of n first ++ ids_of n rest
+ids_split n set first rest cases early late before = one_ascending (ids_of n set) (ids_of n first ++ ids_of n rest)
+    (ids_ascend n (has set))
+    (pairs_append (λ x y. x < y) (ids_of n first) (ids_of n rest) (ids_ascend n (has first)) (ids_ascend n (has rest))
+    (λ x y a b. before x y (from_ids_of n first x a).1 (from_ids_of n rest y b).1))
+    (λ z is. let it = from_ids_of n set z is in elim (cases z it.1) [
+      | inl a ↦ Contains-append_left (ids_of n first) (ids_of n rest) z (to_ids_of n first z it.0 a)
+      | inr b ↦ Contains-append_right (ids_of n first) (ids_of n rest) z (to_ids_of n rest z it.0 b)
+    ])
+    (λ z is. elim (Contains-append_cases (ids_of n first) (ids_of n rest) z is) [
+      | inl a ↦ let it = from_ids_of n first z a in to_ids_of n set z it.0 (early z it.1)
+      | inr b ↦ let it = from_ids_of n rest z b in to_ids_of n set z it.0 (late z it.1)
+    ])
 
-none_between : (homes : List ℕ) (set from to : ℕ) (writes : List BlockWrite) → from ≤ to → ((q : ℕ) → from ≤ q → q < to → Has set q → ⊥) → AreCutTo homes from set writes → AreCutTo homes to set writes
-none_between homes set from to writes le none cut =
-    let whole : from + (to - from) ≡ to = omega (arith, le) in
-    subst (λ n. AreCutTo homes n set writes) whole (skip homes set from (to - from) writes (λ q low high. none q low (omega (arith, high, whole))) cut)
+-- what ends a list
+last_same : (ws front : List BlockWrite) (w v : BlockWrite) → ws ++ w ∷ [] ≡ front ++ v ∷ [] → w ≡ v
+last_same ws front w v e =
+    let long : length front ≡ length ws = omega (arith, ap length e, length-append ws (w ∷ []), length-append front (v ∷ [])) in
+    sym (get_or_push ws w w (length ws) refl) ∙ (ap (λ (xs : List BlockWrite). get_or xs (length ws) w) e ∙ get_or_push front v w (length ws) long)
 
 pub rest_start : (patches : List Patch) (set ids : ℕ) → ((id : ℕ) → Has ids id ↔ (id < length patches)) → IsRest (homes_of patches) set (bit_and set ids) []
-rest_start patches set ids all =
-    let long : length (homes_of patches) ≡ length patches = length-map patches (λ p. p.block) in
-    record {
-      from = 0;
-      within = omega arith;
-      cut = cut_none (homes_of patches) set;
-      rest = λ q. (
-        λ is. let both = from_and set ids q is in let low = (all q).0 both.1 in (both.0, omega arith, omega (arith, low, long)),
-        λ it. in_and set ids q it.0 ((all q).1 (omega (arith, it.2, long))),
-      );
-    }
+rest_start patches set ids all = record {
+  in_order = one_ascending (ids_of n (bit_and set ids)) (ids_of n set) (ids_ascend n (has (bit_and set ids))) (ids_ascend n (has set))
+      (λ z is. let it = from_ids_of n (bit_and set ids) z is in to_ids_of n set z it.0 (from_and set ids z it.1).0)
+      (λ z is. let it = from_ids_of n set z is in to_ids_of n (bit_and set ids) z it.0 (in_and set ids z it.1 ((all z).1 (omega (arith, long, it.0)))));
+  cut = tt;
+  known = λ id is. let low = (all id).0 (from_and set ids id is).1 in omega (arith, long, low);
+  apart = λ front last id e low. absurd (let count = ap length e in omega (arith, count, length-append front (last ∷ [])));
+}
+  where
+    n : ℕ
+    n = length (homes_of patches)
 
-module _ (homes : List ℕ) (set left : ℕ) (writes : List BlockWrite) (so_far : IsRest homes set left writes) where
-  module _ (id : ℕ) (low : IsLowest left id) where
-    pub lowest_inside : Has set id × (id < length homes)
-    lowest_inside = let it = (so_far.rest id).0 low.inside in (it.0, it.2)
+    long : length (homes_of patches) ≡ length patches
+    long = length-map patches (λ p. p.block)
 
-    pub cut_to_lowest : AreCutTo homes id set writes
-    cut_to_lowest = let it = (so_far.rest id).0 low.inside in
-        none_between homes set so_far.from id writes it.1 (λ q from below is. let least = low.least q ((so_far.rest q).1 (is, from, omega (arith, below, it.2))) in omega (arith, least, below)) so_far.cut
+pub rest_none : (homes : List ℕ) (set left : ℕ) (writes : List BlockWrite) → IsRest homes set left writes → left ≡ 0 → ids_carried homes writes ≡ ids_of (length homes) set
+rest_none homes set left writes so_far none =
+    let nothing : ids_of (length homes) left ≡ [] = ids_none (length homes) left (λ q below is. none_in_empty q (subst (λ s. Has s q) none is)) in
+    sym (append-nil (ids_carried homes writes)) ∙ (ap (λ (xs : List ℕ). ids_carried homes writes ++ xs) (sym nothing) ∙ so_far.in_order)
 
-    pub rest_next : (others : ℕ) (more : List BlockWrite) → IsWithout left id others → AreCutTo homes (id + 1) set more → IsRest homes set others more
-    rest_next others more without cut = let it = (so_far.rest id).0 low.inside in record {
-      from = id + 1;
-      within = omega (arith, it.2);
-      cut = cut;
-      rest = λ q. (
-        λ is.
-            let ne : q ≢ id = λ e. without.gone (subst (Has others) e is) in
-            let old = (without.others q ne).0 is in
-            let was = (so_far.rest q).0 old in
-            let least = low.least q old in
-            (was.0, omega (arith, ne, least), was.2),
-        λ now.
-            let ne : q ≢ id = λ e. omega (arith, e, now.1) in
-            (without.others q ne).1 ((so_far.rest q).1 (now.0, omega (arith, it.1, now.1), now.2)),
-      );
-    }
+-- ---- a run more: the ids that are left before the first of another block
 
-  pub rest_none : left ≡ 0 → AreCutTo homes (length homes) set writes
-  rest_none none = none_between homes set so_far.from (length homes) writes so_far.within
-      (λ q from below is. none_in_empty q (subst (λ s. Has s q) none ((so_far.rest q).1 (is, from, below)))) so_far.cut
+module _ (homes : List ℕ) (set left : ℕ) (writes : List BlockWrite) (so_far : IsRest homes set left writes) (few : length homes ≤ 128) (id : ℕ) (low : IsLowest left id)
+    (mask others ahead rest : ℕ) (of_block : (q : ℕ) → Has mask q ↔ ((q < length homes) × (slice_index homes q ≡ slice_index homes id))) (are_others : IsDifference left mask others)
+    (are_ahead : (q : ℕ) → Has ahead q ↔ ((q < 128) × ComesBefore others q)) (is_rest : IsDifference left ahead rest) where
+  from_others : (q : ℕ) → Has others q → Has left q × (slice_index homes q ≢ slice_index homes id)
+  from_others q is = let it = (are_others.exactly q).0 is in (it.0, λ e. it.1 ((of_block q).1 (so_far.known q it.0, e)))
+
+  to_others : (q : ℕ) → Has left q → slice_index homes q ≢ slice_index homes id → Has others q
+  to_others q is other = (are_others.exactly q).1 (is, λ member. other ((of_block q).0 member).1)
+
+  within_words : (q : ℕ) → Has left q → q < 128
+  within_words q is = let inside = so_far.known q is in omega (arith, inside, few)
+
+  run_has_first : Has (bit_and left ahead) id
+  run_has_first = in_and left ahead id low.inside ((are_ahead id).1 (
+    within_words id low.inside,
+    λ other is.
+        let it = from_others other is in
+        let least = low.least other it.0 in
+        let ne : other ≢ id = λ e. it.1 (ap (slice_index homes) e) in
+        omega (arith, least, ne),
+  ))
+
+  run_of_block : (q : ℕ) → Has (bit_and left ahead) q → (q < length homes) × (slice_index homes q ≡ slice_index homes id)
+  run_of_block q is =
+      let it = from_and left ahead q is in (
+        so_far.known q it.0,
+        elim (eq_or_not (slice_index homes q) (slice_index homes id)) [
+          | inl e ↦ e
+          | inr ne ↦ absurd (let again = ((are_ahead q).0 it.1).1 q (to_others q it.0 ne) in omega (arith, again))
+        ],
+      )
+
+  run_or_rest : (q : ℕ) → Has left q → Has (bit_and left ahead) q ⊎ Has rest q
+  run_or_rest q is = dite (ℕ_discrete (bit_at ahead q) 1) (λ early. inl (in_and left ahead q is early)) (λ late. inr ((is_rest.exactly q).1 (is, late)))
+
+  run_before_rest : (x y : ℕ) → Has (bit_and left ahead) x → Has rest y → x < y
+  run_before_rest x y is later =
+      let early = (are_ahead x).0 (from_and left ahead x is).1 in
+      let late = (is_rest.exactly y).0 later in
+      lt_of_not-le (λ le. late.1 ((are_ahead y).1 (within_words y late.0, λ other member. let less = early.1 other member in omega (arith, less, le))))
+
+  left_split : ids_of (length homes) left ≡ ids_of (length homes) (bit_and left ahead) ++ ids_of (length homes) rest
+  left_split = ids_split (length homes) left (bit_and left ahead) rest run_or_rest (λ q is. (from_and left ahead q is).0) (λ q is. ((is_rest.exactly q).0 is).0) run_before_rest
+
+  -- the first of the rest is of another block
+  rest_apart : (q : ℕ) → IsLowest rest q → slice_index homes id ≢ slice_index homes q
+  rest_apart q first same =
+      let it = (is_rest.exactly q).0 first.inside in
+      it.1 ((are_ahead q).1 (
+        within_words q it.0,
+        λ other is.
+            let from = from_others other is in
+            let ne : other ≢ q = λ e. from.1 (ap (slice_index homes) e ∙ sym same) in
+            let past : Has ahead other → ⊥ = λ early. (let again = ((are_ahead other).0 early).1 other is in omega (arith, again)) in
+            let least = first.least other ((is_rest.exactly other).1 (from.0, past)) in
+            omega (arith, least, ne),
+      ))
+
+  pub rest_next : (w : BlockWrite) → w.block ≡ slice_index homes id → w.ids ≡ bit_and left ahead → IsRest homes set rest (writes ++ w ∷ [])
+  rest_next w home ids = record {
+    in_order = ap (λ (xs : List ℕ). xs ++ ids_of (length homes) rest) (carried_push homes writes w ∙ ap (λ (s : ℕ). ids_carried homes writes ++ ids_of (length homes) s) ids)
+        ∙ (append_assoc (ids_carried homes writes) (ids_of (length homes) (bit_and left ahead)) (ids_of (length homes) rest)
+        ∙ (ap (λ (xs : List ℕ). ids_carried homes writes ++ xs) (sym left_split) ∙ so_far.in_order));
+    cut = cut_push homes writes w so_far.cut (λ front last e same. so_far.apart front last id e low (same ∙ home)) record {
+      own = λ q is. let it = run_of_block q (subst (λ s. Has s q) ids is) in (it.0, it.1 ∙ sym home);
+      some = λ empty. none_in_empty id (subst (λ s. Has s id) (sym ids ∙ empty) run_has_first);
+    };
+    known = λ q is. so_far.known q ((is_rest.exactly q).0 is).0;
+    apart = λ front last q e first same. rest_apart q first (sym home ∙ (ap (λ (v : BlockWrite). v.block) (last_same writes front w last e) ∙ same));
+  }
+
+  pub rest_smaller : rest < left
+  rest_smaller =
+      let part : bit_and rest left ≡ rest = and_from_subset rest left (λ q is. ((is_rest.exactly q).0 is).0) in
+      let less = and_le_r rest left in
+      let other : rest ≢ left = λ e. ((is_rest.exactly id).0 (subst (λ s. Has s id) (sym e) low.inside)).1 (from_and left ahead id run_has_first).1 in
+      omega (arith, part, less, other)

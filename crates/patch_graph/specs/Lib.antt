@@ -1,2 +1,3 @@
 pub mod Apart
 pub mod Graph
+pub mod Homes

@@ -11,7 +11,8 @@ ghost use Rattle.patch_graph.specs.Graph.{IsAt, IsPatch, IsGraph, AddsOverlaps, 
 
 use crate::fault::GraphFault;
 use crash_model::patches::Patch;
-use patch_sets::ends::{difference, lowest, without, without_lowest};
+use patch_sets::ends::{difference, lowest, without};
+use patch_sets::leading::below_lowest;
 use patch_sets::set::{has, is_below, is_subset, with};
 use patch_sets::write::BlockWrite;
 use std::alloc::{AllocError, Allocator};
@@ -19,6 +20,10 @@ use std::marker::Model;
 
 /// How many patches a graph can have.
 pub const MAX_PATCHES: usize = 124;
+
+/// For how many block writes of a set room is taken at first. An allocator gives a kilobyte at once, and more than that
+/// slowly.
+const SOME_WRITES: u32 = 32;
 
 /// Patches in the order in which they were added, of which each depends on earlier ones, and on each earlier
 /// one that it overlaps.
@@ -29,6 +34,8 @@ pub struct Graph<A: Allocator + Copy> {
     patches: Vec<Patch, A>,
     /// For each id those that do not stand on it, so that the ready ids of a closed set come one by one.
     apart: [u128; MAX_PATCHES],
+    /// For each block the ids of its patches, so that a run of them comes at once.
+    at_block: [u128; 256],
 }
 
 impl<A: Allocator + Copy> Model for Graph<A> {
@@ -37,13 +44,15 @@ impl<A: Allocator + Copy> Model for Graph<A> {
 
     ghost Value = { List Patch };
 
-    ghost use Rattle.crash_model.specs.Patches.{deps_of};
+    ghost use Rattle.crash_model.specs.Patches.{deps_of, homes_of};
     ghost use Rattle.patch_graph.specs.Apart.{AreApart};
+    ghost use Rattle.patch_graph.specs.Homes.{AreAtBlocks};
     ghost use Rattle.patch_graph.specs.Graph.{IsGraph};
 
     ghost view = { λ g. g.patches.items };
 
-    ghost invariant = { λ g. IsGraph g.patches.items × AreApart (deps_of g.patches.items) g.apart };
+    ghost invariant = { λ g. IsGraph g.patches.items × AreApart (deps_of g.patches.items) g.apart
+        × AreAtBlocks (homes_of g.patches.items) g.at_block };
 }
 
 impl<A: Allocator + Copy> Graph<A> {
@@ -54,6 +63,7 @@ impl<A: Allocator + Copy> Graph<A> {
         Graph {
             patches: Vec::new(alloc),
             apart: [u128::MAX; MAX_PATCHES],
+            at_block: [0; 256],
         }
     }
 
@@ -74,9 +84,10 @@ impl<A: Allocator + Copy> Graph<A> {
         }
         patch.deps |= overlapped_by(&patch, &self.patches);
         let id = self.patches.len();
-        let deps = patch.deps;
+        let (deps, block) = (patch.deps, usize::from(patch.block));
         self.patches.push(patch)?;
         take_out(&mut self.apart, id, deps);
+        self.at_block[block] = with(self.at_block[block], id);
         Ok(())
     }
 
@@ -217,21 +228,17 @@ impl<A: Allocator + Copy> Graph<A> {
         let mut left = set & self.ids();
         let mut writes: Vec<BlockWrite, A> = Vec::with_capacity(
             *self.patches.allocator(),
-            left.count_ones() as usize,
+            left.count_ones().min(SOME_WRITES) as usize,
         )?;
         while let Some(id) = lowest(left) {
             let block = self.patches[id].block;
-            let len = writes.len();
-            if len > 0 && writes[len - 1].block == block {
-                let last = &mut writes[len - 1];
-                last.ids = with(last.ids, id);
-            } else {
-                writes.push(BlockWrite {
-                    block,
-                    ids: with(0, id),
-                })?;
-            }
-            left = without_lowest(left);
+            let others = difference(left, self.at_block[usize::from(block)]);
+            let ahead = below_lowest(others);
+            writes.push(BlockWrite {
+                block,
+                ids: left & ahead,
+            })?;
+            left = difference(left, ahead);
         }
         Ok(writes)
     }

@@ -1,4 +1,4 @@
-use Rattle.std.proofs.Common.{◌≡◌, ℕ, ◌<◌, List, [], ◌∷◌, ◌++◌, length, bit_or, arith, sym, subst, ap, ◌∙◌, inl, inr, refl}
+use Rattle.std.proofs.Common.{◌≡◌, ℕ, ◌<◌, List, [], ◌∷◌, ◌++◌, length, set, bit_or, arith, sym, subst, ap, ◌∙◌, inl, inr, refl}
 use Rattle.std.specs.Prelude.{◌↔◌, ◌⊎◌}
 use Rattle.std.proofs.lemmas.List.{length-map, map_push}
 use Rattle.std.proofs.lemmas.Option.{slice_get_within}
@@ -6,9 +6,11 @@ use Rattle.patch_sets.specs.Sets.{Has}
 use Rattle.patch_sets.proofs.Bits.{in_or_cases, in_or_left, in_or_right}
 use Rattle.crash_model.specs.declared.patches.Patch.{Patch}
 use Rattle.patch_graph.specs.Graph.{IsGraph, IsPatch, OverlapsAt, AddsOverlaps}
-use Rattle.crash_model.specs.Patches.{deps_of}
+use Rattle.crash_model.specs.Patches.{deps_of, homes_of}
 use Rattle.patch_graph.specs.Apart.{AreApart, AddsId}
+use Rattle.patch_graph.specs.Homes.{AreAtBlocks}
 use Rattle.patch_graph.proofs.Apart.{apart_push}
+use Rattle.patch_graph.proofs.Homes.{patch_push}
 use Rattle.patch_graph.proofs.Patches.{graph_push}
 use Rattle.patch_graph.proofs.graph.Graph.push.Goals as goal
 
@@ -57,6 +59,9 @@ invariant_of-self-2 g c =
       subst IsGraph (sym c.in_ok-push.ensures.items) (keeps patches c.args.patch c.overlapped_by.result exact c.self.invariant.0 room c.requires.whole earlier),
       subst (λ (xs : List Patch). AreApart (deps_of xs) c.take_out.new.apart) (sym c.in_ok-push.ensures.items)
           (subst (λ (ds : List ℕ). AreApart ds c.take_out.new.apart) (sym (map_push (λ x. x.deps) patches added)) more),
+      subst (λ (xs : List Patch). AreAtBlocks (homes_of xs) (set c.self.inside.at_block c.from-block.result c.with.result)) (sym c.in_ok-push.ensures.items)
+          (patch_push patches added c.self.inside.at_block c.from-block.result c.len-id.result c.with.result c.self.invariant.2
+          (sym c.from-block.ensures) (omega (arith, c.from-block.ensures)) (omega (arith, c.len-id.ensures, c.self.inside.patches.ok.0)) c.with.ensures),
     )
 
 pub returns-clause-ok : goal.returns-clause-ok
