@@ -11,7 +11,7 @@ fault_line fault = line (codes "fault " ++ fault_text fault)
 -- each line is that of its block write, of so many patches
 abbrev pub AreWriteLines : ℕ → List (Option WriteLine) → Type 0
 AreWriteLines patches lines =
-    (length lines ≡ 256) × ((at : ℕ) → (known : WriteLine) → slice_get lines at ≡ Some (Some known) → known.text.bytes ≡ write_text patches known.write)
+    (length lines ≡ 1032) × ((at : ℕ) → (known : WriteLine) → slice_get lines at ≡ Some (Some known) → known.text.bytes ≡ write_text patches known.write)
 
 -- each line is that of its fault
 abbrev pub AreFaultLines : List (Option FaultLine) → Type 0

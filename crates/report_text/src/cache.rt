@@ -11,8 +11,11 @@ use patch_sets::write::BlockWrite;
 use std::alloc::{AllocError, Allocator};
 use std::marker::Model;
 
-/// How many lines are kept of each kind.
-const SLOTS: usize = 256;
+/// How many lines of block writes are kept: of each lowest id, and of none, those of eight numbers of ids.
+const WRITE_SLOTS: usize = 8 * 129;
+
+/// How many lines of faults are kept.
+const FAULT_SLOTS: usize = 256;
 
 /// The longest line that is kept, in bytes.
 const LONGEST: usize = 64;
@@ -37,8 +40,8 @@ struct FaultLine {
 #[derive(Drop)]
 pub(crate) struct LineCache {
     patches: usize,
-    writes: [Option<WriteLine>; SLOTS],
-    faults: [Option<FaultLine>; SLOTS],
+    writes: [Option<WriteLine>; WRITE_SLOTS],
+    faults: [Option<FaultLine>; FAULT_SLOTS],
 }
 
 impl Model for LineCache {
@@ -59,8 +62,8 @@ impl LineCache {
     {
         LineCache {
             patches,
-            writes: [None; SLOTS],
-            faults: [None; SLOTS],
+            writes: [None; WRITE_SLOTS],
+            faults: [None; FAULT_SLOTS],
         }
     }
 
@@ -72,8 +75,6 @@ impl LineCache {
     }
 
     /// Adds the line of a block write to a text.
-    ///
-    /// Those of one patch come again and again. Of several there are too many for one to be met soon again.
     pub fn push_write<A: Allocator + Copy>(
         &mut self,
         out: &mut String<A>,
@@ -82,13 +83,10 @@ impl LineCache {
         ensures text { OnOk result (string_bytes out.new ≡ string_bytes out.old ++ write_text self.old write) }
         ensures kept { self.new ≡ self.old }
     {
-        if write.ids.count_ones() > 1 {
-            return write_write(out, self.patches, write);
-        }
         if let Some(line) = self.known_write(write) {
             return out.push_str(line);
         }
-        let mut line = String::new(*out.allocator());
+        let mut line = String::with_capacity(*out.allocator(), LONGEST)?;
         write_write(&mut line, self.patches, write)?;
         self.keep_write(write, line.as_str());
         out.push_str(line.as_str())
@@ -106,7 +104,7 @@ impl LineCache {
         if let Some(line) = self.known_fault(fault) {
             return out.push_str(line);
         }
-        let mut line = String::new(*out.allocator());
+        let mut line = String::with_capacity(*out.allocator(), LONGEST)?;
         write_fault(&mut line, fault)?;
         self.keep_fault(fault, line.as_str());
         out.push_str(line.as_str())
@@ -153,16 +151,18 @@ impl LineCache {
     }
 }
 
-/// The place of a block write's line: its lowest id.
+/// The place of a block write's line, by its lowest id and the number of its ids.
 fn slot_of_write(write: BlockWrite) -> usize
-    ensures { result < SLOTS }
+    ensures { result < WRITE_SLOTS }
 {
-    write.ids.trailing_zeros() as usize
+    let lowest = write.ids.trailing_zeros() as usize;
+    let number = write.ids.count_ones() as usize;
+    8 * lowest + number % 8
 }
 
 /// The place of a fault's line.
 fn slot_of_fault(fault: Fault) -> usize
-    ensures { result < SLOTS }
+    ensures { result < FAULT_SLOTS }
 {
     let (kind, holder, place, target) = match fault {
         Fault::Dangling { dir, entry, inode } => (1, dir, entry, inode),

@@ -11,7 +11,7 @@ ghost use Rattle.report_text.specs.Cache.{fault_line};
 use crate::cache::LineCache;
 use crate::numbers::numbers_between;
 use crash_model::fault::Fault;
-use patch_sets::iter::Ids;
+use patch_sets::leading::{below, first_run};
 use patch_sets::write::BlockWrite;
 use report_sections::{ReplayedBlock, Section};
 use std::alloc::{AllocError, Allocator};
@@ -126,16 +126,12 @@ pub(crate) fn write_write<A: Allocator>(
 fn write_ids<A: Allocator>(out: &mut String<A>, patches: usize, set: u128) -> Result<(), AllocError>
     ensures { OnOk result (string_bytes out.new ≡ string_bytes out.old ++ numbers (ids_of patches set)) }
 {
-    let mut from = set.trailing_zeros() as usize;
-    let mut end = from;
-    for id in Ids::below(set, patches) {
-        if id != end {
-            out.push_str(numbers_between(from, end))?;
-            from = id;
-        }
-        end = id + 1;
+    let mut left = below(set, patches);
+    while let Some(run) = first_run(left) {
+        out.push_str(numbers_between(run.from, run.end))?;
+        left = run.rest;
     }
-    out.push_str(numbers_between(from, end))
+    Ok(())
 }
 
 /// The number of a block, behind a space.

@@ -12,13 +12,13 @@ same_everywhere n at x y is =
     sym (get_or-replicate n at x x (subst (λ (m : ℕ). at < m) (length-replicate n x) within))
     ∙ get_or_from_slice_get (replicate n x) at y x is
 
-kept_nowhere : (X : Type 0) → let none : Option X = None in (length (replicate 256 none) ≡ 256) × ((at : ℕ) → (known : X) → slice_get (replicate 256 none) at ≡ Some (Some known) → ⊥)
-kept_nowhere X =
+kept_nowhere : (X : Type 0) (n : ℕ) → let none : Option X = None in (length (replicate n none) ≡ n) × ((at : ℕ) → (known : X) → slice_get (replicate n none) at ≡ Some (Some known) → ⊥)
+kept_nowhere X n =
     let none : Option X = None in
-    (length-replicate 256 none, λ at known is. none-some known (same_everywhere 256 at none (Some known) is))
+    (length-replicate n none, λ at known is. none-some known (same_everywhere n at none (Some known) is))
 
 pub invariant_of-result : goal.invariant_of-result
 invariant_of-result c = (
-  ((kept_nowhere WriteLine).0, λ at known is. absurd ((kept_nowhere WriteLine).1 at known is)),
-  ((kept_nowhere FaultLine).0, λ at known is. absurd ((kept_nowhere FaultLine).1 at known is)),
+  ((kept_nowhere WriteLine 1032).0, λ at known is. absurd ((kept_nowhere WriteLine 1032).1 at known is)),
+  ((kept_nowhere FaultLine 256).0, λ at known is. absurd ((kept_nowhere FaultLine 256).1 at known is)),
 )
