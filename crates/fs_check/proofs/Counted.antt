@@ -1,11 +1,11 @@
 -- How many pointers name each block, and how many entries lead to each live inode.
-use Rattle.std.proofs.Common.{◌≡◌, ◌≢◌, ℕ, ◌+◌, ◌-◌, ◌<◌, ◌≤◌, ◌*◌, inl, inr, List, length, get_or, set, Bool, true, false, ◌&&◌, ◌==◌, nat_lt, Option, Some, None, arith, refl, sym, ap, ◌∙◌}
+use Rattle.std.proofs.Common.{◌≡◌, ◌≢◌, ℕ, ◌+◌, ◌<◌, ◌≤◌, ◌*◌, inl, inr, List, [], length, get_or, set, Bool, true, false, ◌&&◌, Some, None, arith, refl, sym, ap, ◌∙◌}
 use Rattle.std.proofs.lemmas.Bool.{false≢true, cases_Bool, cases_eq, eq-eqb, ne_eqb, lt-ltb, le-ltb, and_right}
-use Rattle.crash_model.specs.Lists.{when, some_below-zero}
+use Rattle.crash_model.specs.Lists.{when, some_below, some_below-zero}
 use Rattle.crash_model.proofs.EachBelow.{each_below-none, some_below-none}
 use Rattle.crash_model.specs.Disk.{Disk}
 use Rattle.crash_model.specs.Layout.{is_live, is_data, links_of, pointer_of, is_pointer, counts, entry_of, is_entry, target_of}
-use Rattle.crash_model.specs.Faults.{is_tame, is_twice, has_low_links, each_slot, each_entry, entries_to, namers, leads_to}
+use Rattle.crash_model.specs.Faults.{is_tame, each_slot, each_entry, entries_to, namers, leads_to}
 use Rattle.crash_model.specs.declared.fault.Fault.TheVariants.{Twice, LowLinks}
 use Rattle.fs_check.specs.Tally.{count_before, IsTally}
 use Rattle.fs_check.specs.References.{named_at, led_at, twice_at, low_links_at}
@@ -47,6 +47,11 @@ twice-many d block named within tally many = rw (lt-ltb 1 (length (namers d bloc
 
 pub twice-few : (d : Disk) (block : ℕ) (named : List ℕ) → block < length named → IsTally 4 (named_at d) 16 0 named → get_or named block 0 ≤ 1 → twice_at d block ≡ None
 twice-few d block named within tally few = rw (le-ltb 1 (length (namers d block)) (rw (← named-all d block, ← tally block within) few)) refl
+
+-- where each count is small no block is told
+pub twice-never : (d : Disk) (named : List ℕ) → d.blocks ≤ length named → IsTally 4 (named_at d) 16 0 named → ((at : ℕ) → at < d.blocks → get_or named at 0 ≤ 1)
+    → some_below d.blocks (twice_at d) ≡ []
+twice-never d named most tally few = some_below-none d.blocks (twice_at d) (λ block below. twice-few d block named (omega (arith, most)) tally (few block below))
 
 -- ---- entries
 

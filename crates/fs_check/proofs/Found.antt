@@ -1,5 +1,5 @@
 -- The lists of wrong pointers and of faults: one element more, and what tests make of them.
-use Rattle.std.proofs.Common.{◌≡◌, ◌≢◌, ℕ, zero, suc, ◌+◌, ◌<◌, List, [], ◌∷◌, ◌++◌, length, Bool, true, false, ◌&&◌, ◌||◌, ◌==◌, not, nat_lt, take, get_or, Option, Some, None, arith, refl, sym, ap, ◌∙◌, append_assoc, ◌-◌}
+use Rattle.std.proofs.Common.{◌≡◌, ◌≢◌, ℕ, zero, suc, ◌+◌, ◌<◌, List, [], ◌∷◌, ◌++◌, length, Bool, true, false, ◌&&◌, ◌==◌, not, take, get_or, Option, Some, None, arith, refl, ap, ◌∙◌, append_assoc, ◌-◌}
 use Rattle.std.proofs.lemmas.Bool.{eq-eqb, ne_eqb, and_right}
 use Rattle.std.proofs.lemmas.List.{append-nil, take_more}
 use Rattle.std.proofs.lemmas.List.Elements.{All-nil, All-cons, All-append, filter_map-append}
@@ -8,7 +8,7 @@ use Rattle.std.specs.List.{All, cons_option, filter_map}
 use Rattle.crash_model.specs.Lists.{each_below, some_below, when, each_below-step, some_below-step}
 use Rattle.crash_model.proofs.EachBelow.{some_below-none}
 use Rattle.crash_model.specs.Disk.{Disk}
-use Rattle.crash_model.specs.Layout.{map_of, pointer_of, counts, entry_of, is_live, is_data, is_entry, target_of, is_pointer}
+use Rattle.crash_model.specs.Layout.{map_of, pointer_of, counts, entry_of, is_live, is_data, is_entry, is_pointer}
 use Rattle.crash_model.specs.Faults.{each_slot, is_unwritten, is_marked_free, is_wild, faults}
 use Rattle.crash_model.specs.declared.fault.Fault.{Fault}
 use Rattle.crash_model.specs.declared.fault.Fault.TheVariants.{Dangling, Unwritten, MarkedFree, Wild}

@@ -1,6 +1,6 @@
 //! The faults of an image, in order.
 
-ghost use Rattle.std.specs.Prelude.{◌≡◌, ℕ, ◌<◌, ◌++◌, length, IfOk, OnOk, option_to_list};
+ghost use Rattle.std.specs.Prelude.{◌≡◌, ℕ, ◌<◌, ◌≤◌, ◌++◌, slice_index, IfOk, OnOk, option_to_list};
 ghost use Rattle.std.specs.List.{All, filter_map};
 ghost use Rattle.crash_model.specs.Lists.{some_below};
 ghost use Rattle.crash_model.specs.Faults.{faults};
@@ -11,6 +11,7 @@ ghost use Rattle.fs_check.specs.References.{named_at, led_at, fault_of, twice_at
 use crate::clean::is_marked;
 use crate::references::{Pointer, push_dangling, read_pointers};
 use crate::strict::push_strict;
+use arrayvec::ArrayVec;
 use crash_model::fault::Fault;
 use disk_image::Image;
 use std::alloc::{AllocError, Allocator};
@@ -22,11 +23,13 @@ use std::alloc::{AllocError, Allocator};
 pub fn faults<A: Allocator + Copy>(alloc: A, image: &Image<A>) -> Result<Vec<Fault, A>, AllocError>
     ensures { IfOk result (λ found. found.items ≡ faults image.now) }
 {
-    let pointers = read_pointers(image);
+    let mut wrong = ArrayVec::new();
+    let mut named = [0; 128];
+    read_pointers(image, &mut wrong, &mut named);
     let mut found = Vec::new(alloc);
     let led = push_dangling(&mut found, image)?;
-    push_twice(&mut found, image, &pointers.named)?;
-    let wrong = pointers.wrong.as_slice();
+    push_twice(&mut found, image, &named)?;
+    let wrong = wrong.as_slice();
     push_wrong(&mut found, image, Test::IsUnwritten, wrong)?;
     push_low_links(&mut found, image, &led)?;
     push_wrong(&mut found, image, Test::IsMarkedFree, wrong)?;
@@ -119,12 +122,29 @@ fn push_twice<A: Allocator + Copy>(
     requires { IsTally 4 (named_at image.now) 16 0 named.now }
     ensures { OnOk result (found.new.items ≡ found.old.items ++ some_below image.now.blocks (twice_at image.now)) }
 {
-    for block in 0..image.blocks() as u8 {
+    let blocks = image.blocks() as u8;
+    if most(named) < 2 {
+        return Ok(());
+    }
+    for block in 0..blocks {
         if named[block as usize] > 1 {
             found.push(Fault::Twice { block })?;
         }
     }
     Ok(())
+}
+
+/// The largest of some counts.
+fn most(counts: &[u8; 128]) -> u8
+    ensures { (at : ℕ) → at < 128 → slice_index counts.now at ≤ result }
+{
+    let mut most = 0;
+    for count in counts {
+        if *count > most {
+            most = *count;
+        }
+    }
+    most
 }
 
 /// Adds the low link counts, by inode.

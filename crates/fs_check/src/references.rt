@@ -1,6 +1,6 @@
 //! What the pointers of an image name, and where its entries lead.
 
-ghost use Rattle.std.specs.Prelude.{◌≡◌, ◌≢◌, ◌+◌, ◌*◌, ◌++◌, ◌<◌, ◌≤◌, IsTrue, OnOk, IfOk};
+ghost use Rattle.std.specs.Prelude.{◌≡◌, ◌≢◌, [], replicate, ◌+◌, ◌*◌, ◌++◌, ◌<◌, ◌≤◌, IsTrue, OnOk, IfOk};
 ghost use Rattle.arrayvec.specs.ArrayVec.{array_vec_len};
 ghost use Rattle.crash_model.specs.Layout.{is_live, counts, pointer_of};
 ghost use Rattle.crash_model.specs.Lists.{some_below};
@@ -21,29 +21,24 @@ pub(crate) struct Pointer {
     pub block: u8,
 }
 
-/// What the pointers of the live inodes name.
-#[derive(Drop)]
-pub(crate) struct Pointers {
-    /// Those that have a fault of their own, by inode and slot.
-    pub wrong: ArrayVec<Pointer, 64>,
-    /// How many name each block of the data area.
-    pub named: [u8; 128],
-}
-
-/// Reads the pointers of the live inodes.
-#[tactic(auto, using(crash_model::specs::Lists::each_below_steps), unfolding(crash_model::specs::Faults::each_slot))]
-pub(crate) fn read_pointers<A: Allocator + Copy>(image: &Image<A>) -> Pointers
-    ensures wrong { result.wrong.items ≡ wrong_pointers image.now }
-    ensures named { IsTally 4 (named_at image.now) 16 0 result.named }
+/// Adds the pointers of the live inodes that have a fault of their own, by inode and slot, and counts how many pointers
+/// name each block of the data area.
+#[tactic(auto, unfolding(crash_model::specs::Faults::each_slot))]
+pub(crate) fn read_pointers<A: Allocator + Copy>(
+    image: &Image<A>,
+    wrong: &mut ArrayVec<Pointer, 64>,
+    named: &mut [u8; 128],
+)
+    requires none { wrong.old.items ≡ [] }
+    requires zero { named.old ≡ replicate 128 0 }
+    ensures wrong { wrong.new.items ≡ wrong_pointers image.now }
+    ensures named { IsTally 4 (named_at image.now) 16 0 named.new }
 {
-    let mut wrong = ArrayVec::new();
-    let mut named = [0; 128];
     for inode in 0..16u8 {
         if image.is_live(inode) {
-            read_slots(image, inode, &mut wrong, &mut named);
+            read_slots(image, inode, wrong, named);
         }
     }
-    Pointers { wrong, named }
 }
 
 /// Reads the pointers of one inode.
@@ -89,7 +84,7 @@ fn count_pointer<A: Allocator + Copy>(image: &Image<A>, pointer: Pointer, named:
 }
 
 /// Adds the entries that lead to no live inode, by directory and place; how many entries lead to each live inode.
-#[tactic(auto, using(crash_model::specs::Lists::each_below_steps, std::proofs::lemmas::Grind::common_steps), unfolding(crash_model::specs::Faults::each_entry))]
+#[tactic(auto, unfolding(crash_model::specs::Faults::each_entry))]
 pub(crate) fn push_dangling<A: Allocator + Copy>(
     found: &mut Vec<Fault, A>,
     image: &Image<A>,
@@ -119,8 +114,9 @@ fn push_dangling_of<A: Allocator + Copy>(
     ensures found { OnOk result (found.new.items ≡ found.old.items ++ some_below 10 (dangling_at image.now dir)) }
     ensures led { OnOk result (IsTally 10 (led_at image.now) (dir + 1) 0 led.new) }
 {
+    let block = image.pointer(dir, 0);
     for k in 0..10u8 {
-        let entry = image.entry(dir, k);
+        let entry = image.byte(block as usize, 8 + 12 * k as usize);
         if entry != 0 {
             let inode = entry - 1;
             if image.is_live(inode) {

@@ -8,22 +8,22 @@ use Rattle.fs_check.proofs.list.faults.Goals as goal
 
 pub push_wrong-requires : goal.push_wrong-requires
 push_wrong-requires g c =
-    subst (λ (ps : List Pointer). All (λ (p : Pointer). p.inode < 16) ps) (sym (c.as_slice-wrong.ensures.value ∙ c.read_pointers-pointers.ensures.wrong)) (wrong-held c.args.image.now)
+    subst (λ (ps : List Pointer). All (λ (p : Pointer). p.inode < 16) ps) (sym (c.as_slice-wrong.ensures.value ∙ c.read_pointers.ensures.wrong)) (wrong-held c.args.image.now)
 
 pub push_wrong-requires-2 : goal.push_wrong-requires-2
 push_wrong-requires-2 g c =
-    subst (λ (ps : List Pointer). All (λ (p : Pointer). p.inode < 16) ps) (sym (c.as_slice-wrong.ensures.value ∙ c.read_pointers-pointers.ensures.wrong)) (wrong-held c.args.image.now)
+    subst (λ (ps : List Pointer). All (λ (p : Pointer). p.inode < 16) ps) (sym (c.as_slice-wrong.ensures.value ∙ c.read_pointers.ensures.wrong)) (wrong-held c.args.image.now)
 
 pub push_wrong-requires-3 : goal.push_wrong-requires-3
 push_wrong-requires-3 g c =
-    subst (λ (ps : List Pointer). All (λ (p : Pointer). p.inode < 16) ps) (sym (c.as_slice-wrong.ensures.value ∙ c.read_pointers-pointers.ensures.wrong)) (wrong-held c.args.image.now)
+    subst (λ (ps : List Pointer). All (λ (p : Pointer). p.inode < 16) ps) (sym (c.as_slice-wrong.ensures.value ∙ c.read_pointers.ensures.wrong)) (wrong-held c.args.image.now)
 
 pub returns : goal.returns
 returns g c =
     let d = c.args.image.now in
-    let pointers = c.read_pointers-pointers.result.wrong.items in
+    let pointers = c.read_pointers.new.wrong.items in
     let slice = c.as_slice-wrong.ensures.value in
-    let same = c.read_pointers-pointers.ensures.wrong in
+    let same = c.read_pointers.ensures.wrong in
     six_lists d c.new-found.result.items c.push_dangling.new.found.items c.push_twice.new.found.items c.push_wrong.new.found.items
     c.push_low_links.new.found.items c.push_wrong-2.new.found.items c.push_wrong-3.new.found.items
     c.new-found.ensures.items

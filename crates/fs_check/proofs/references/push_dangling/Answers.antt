@@ -1,4 +1,4 @@
-use Rattle.std.proofs.Common.{ℕ, arith, sym, ◌∙◌, refl}
+use Rattle.std.proofs.Common.{ℕ, sym, ◌∙◌, refl}
 use Rattle.std.proofs.lemmas.List.{append-nil}
 use Rattle.crash_model.specs.Lists.{some_below, each_below-zero}
 use Rattle.fs_check.specs.References.{dangling_at, led_at}

@@ -1,6 +1,6 @@
-use Rattle.std.proofs.Common.{◌≡◌, ◌-◌, ◌<◌, ℕ, length, arith, refl, sym, ap, ◌∙◌}
+use Rattle.std.proofs.Common.{◌+◌, ◌*◌, ◌-◌, ◌<◌, ℕ, length, arith, refl, sym, ap, ◌∙◌}
 use Rattle.std.proofs.lemmas.List.{append-nil, length-set}
-use Rattle.crash_model.specs.Layout.{entry_of}
+use Rattle.crash_model.specs.Disk.{byte}
 use Rattle.crash_model.specs.Lists.{some_below-zero}
 use Rattle.crash_model.specs.declared.fault.Fault.TheVariants.{Dangling}
 use Rattle.fs_check.specs.References.{dangling_at, led_at}
@@ -16,7 +16,7 @@ loop-k-init g c = record { found = rw (some_below-zero, append-nil) refl; size =
 
 pub overflow_add-led : goal.overflow_add-led
 overflow_add-led g c =
-    let inode : ℕ = c.entry-entry.result - 1 in
+    let inode : ℕ = c.byte-entry.result - 1 in
     let within : inode < length c.loop-k.led = omega (arith, live-below c.args.image.now inode (sym c.is_live.ensures ∙ c.if-is_live.true), c.loop-k.invariant.size) in
     omega (arith, led-most c.args.image.now c.args.dir c.loop-k.k inode c.loop-k.led within c.loop-k.invariant.led)
 
@@ -25,11 +25,12 @@ loop-k-preserved g c =
     let d = c.args.image.now in
     let dir = c.args.dir in
     let k = c.loop-k.k in
-    let entry = c.entry-entry.result in
+    let entry = c.byte-entry.result in
+    let here = c.byte-entry.ensures ∙ ap (λ (b : ℕ). byte d b (8 + 12 * k)) c.pointer-block.ensures in
     let led = c.loop-k.led in
     let old = c.args.found.now.items in
     let before = c.loop-k.found.items in
-    let is = sym c.entry-entry.ensures in
+    let is = sym here in
     let leads = ap (λ (e : ℕ). e - 1) is in
     let all = c.loop-k.invariant in
     elim c.if-entry-ne0.branch [
@@ -38,7 +39,7 @@ loop-k-preserved g c =
           rw (w.found-is, w.led-is) (record {
             found = passed_over (dangling_at d dir) k old before (dangling-led d dir k entry is live) all.found;
             size = length-set led (entry - 1) _ ∙ all.size;
-            led = led-live d dir led k (entry - 1) _ c.requires.counts (λ e. w.if-entry-ne0.true (c.entry-entry.ensures ∙ e)) leads live
+            led = led-live d dir led k (entry - 1) _ c.requires.counts (λ e. w.if-entry-ne0.true (here ∙ e)) leads live
                 (omega (arith, live-below d (entry - 1) live, all.size)) refl all.led;
           })
       | then-entry-ne0+else-is_live+in_ok-push w ↦

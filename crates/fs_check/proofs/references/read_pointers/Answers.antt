@@ -9,9 +9,9 @@ use Rattle.fs_check.proofs.references.read_pointers.Goals.{then-is_live, else-is
 
 pub loop-inode-init : goal.loop-inode-init
 loop-inode-init g c = record {
-  wrong = c.new-wrong.ensures ∙ sym (each_below-zero _);
-  room = omega (arith, ap length c.new-wrong.ensures);
-  named = tally-start 4 (named_at c.args.image.now) 128;
+  wrong = c.requires.none ∙ sym (each_below-zero _);
+  room = omega (arith, ap length c.requires.none);
+  named = rw c.requires.zero (tally-start 4 (named_at c.args.image.now) 128);
 }
 
 pub loop-inode-preserved : goal.loop-inode-preserved
