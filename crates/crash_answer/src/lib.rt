@@ -157,11 +157,13 @@ where
 {
     let (settings, workers) = (&call.settings, call.workers);
     match call.script {
-        Some(name) => {
-            let file = File::open(rt, name).map_err(open_fault)?;
-            let mut file = Counted::new(file);
-            serve(rt, heap, alloc, &mut file, sink, settings, workers, gate)
-        }
+        Some(name) => match File::open(rt, name) {
+            Ok(file) => {
+                let mut file = Counted::new(file);
+                serve(rt, heap, alloc, &mut file, sink, settings, workers, gate)
+            }
+            Err(error) => Err(open_fault(error)),
+        },
         None => serve(rt, heap, alloc, source, sink, settings, workers, gate),
     }
 }

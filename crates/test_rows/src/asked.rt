@@ -11,14 +11,14 @@ use std::thread::Threads;
 
 /// What the program gave.
 #[derive(Drop)]
-struct Answered {
-    status: u8,
-    out: Vec<u8>,
-    err: Vec<u8>,
+pub struct Answered {
+    pub status: u8,
+    pub out: Vec<u8>,
+    pub err: Vec<u8>,
 }
 
 /// The program's answer to these words and this script. Several words may stand in one text, apart by blanks.
-fn ask<R: Files + AllocGlobal + Threads + Wait + Sync>(
+pub fn ask<R: Files + AllocGlobal + Threads + Wait + Sync>(
     rt: &R,
     texts: &[&str],
     script: &[u8],
@@ -55,39 +55,6 @@ pub fn exactly<R: Files + Abort + AllocGlobal + Threads + Wait + Sync>(
     Ok(())
 }
 
-/// A module, more words, a script, and how many patches it has and how many sets a crash can leave.
-pub type CleanRow<'a> = (&'a str, &'a str, &'a str, usize, usize);
-
-/// The program reports each row's numbers, and that no set fails.
-pub fn each_clean<R: Files + Abort + AllocGlobal + Threads + Wait + Sync>(
-    rt: &R,
-    rows: &[CleanRow<'_>],
-) -> Result<(), Fail> {
-    for (module, more, script, patches, closed) in rows {
-        let report = format!(in rt.alloc();
-            "module {module}\npatches {patches}\nclosed {closed}\nfailing 0\n"
-        )?;
-        let words = ["--module", *module, *more];
-        exactly(rt, &words, script.as_bytes(), 0, report.as_str(), "")?;
-    }
-    Ok(())
-}
-
-/// The program reports, and its report begins so.
-pub fn begins<R: Files + Abort + AllocGlobal + Threads + Wait + Sync>(
-    rt: &R,
-    words: &[&str],
-    script: &[u8],
-    status: u8,
-    head: &str,
-) -> Result<(), Fail> {
-    let got = ask(rt, words, script)?;
-    assert_eq!(rt; got.status, status);
-    assert!(rt; got.out.starts_with(head.as_bytes()));
-    assert!(rt; got.err.is_empty());
-    Ok(())
-}
-
 /// Who explores, with how many workers.
 pub const EXPLORED: [&str; 8] = [
     "--explorer board --workers 1",
@@ -110,20 +77,6 @@ pub fn all_report<R: Files + Abort + AllocGlobal + Threads + Wait + Sync>(
 ) -> Result<(), Fail> {
     for explored in EXPLORED {
         exactly(rt, &[words, explored], script, status, report, "")?;
-    }
-    Ok(())
-}
-
-/// Each explorer with every number of workers begins its report so.
-pub fn all_begin<R: Files + Abort + AllocGlobal + Threads + Wait + Sync>(
-    rt: &R,
-    words: &str,
-    script: &[u8],
-    status: u8,
-    head: &str,
-) -> Result<(), Fail> {
-    for explored in EXPLORED {
-        begins(rt, &[words, explored], script, status, head)?;
     }
     Ok(())
 }
@@ -189,18 +142,49 @@ pub fn has_digest<R: Files + Abort + AllocGlobal + Threads + Wait + Sync>(
     words: &[&str],
     script: &[u8],
     status: u8,
-    digest: &str,
+    wanted: &str,
 ) -> Result<(), Fail> {
     let got = ask(rt, words, script)?;
     assert_eq!(rt; got.status, status);
     assert!(rt; got.err.is_empty());
-    let told = hex::encode(rt.alloc(), Sha1::digest(&got.out))?;
-    assert_eq!(rt; told.as_str(), digest);
+    let told = digest(rt, &got.out)?;
+    assert_eq!(rt; told.as_str(), wanted);
     Ok(())
 }
 
+/// What is added to the words for each line of the digests of eight reports.
+const TOLD: [&str; 4] = ["", "--summary", "--explain", "--needs"];
+
+/// Each explorer gives the reports whose digests stand in these four lines, of the text and of the JSON: plain, and
+/// with `--summary`, `--explain` and `--needs`.
+pub fn reports<R: Files + Abort + AllocGlobal + Threads + Wait + Sync>(
+    rt: &R,
+    words: &str,
+    script: &[u8],
+    status: u8,
+    digests: &str,
+) -> Result<(), Fail> {
+    assert_eq!(rt; digests.lines().count(), TOLD.len());
+    for explorer in ["--explorer board", "--explorer sweep"] {
+        let mut lines = digests.lines();
+        for told in TOLD {
+            let line = lines.next().ok_or("no digests")?;
+            let (text, json) = line.split_once(" ").ok_or("no digest of JSON")?;
+            let words = [words, explorer, told, "--json"];
+            has_digest(rt, &words[..3], script, status, text)?;
+            has_digest(rt, &words, script, status, json)?;
+        }
+    }
+    Ok(())
+}
+
+/// The SHA-1 digest, as text.
+pub fn digest<R: AllocGlobal>(rt: &R, bytes: &[u8]) -> Result<String, Fail> {
+    Ok(hex::encode(rt.alloc(), Sha1::digest(bytes))?)
+}
+
 /// Do the wanted bytes stand in these, one behind the other?
-fn stands_in(bytes: &[u8], wanted: &[u8]) -> bool {
+pub fn stands_in(bytes: &[u8], wanted: &[u8]) -> bool {
     for window in bytes.windows(wanted.len().max(1)) {
         if window == wanted {
             return true;

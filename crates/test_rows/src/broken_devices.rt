@@ -3,6 +3,7 @@
 ghost use Rattle.std.specs.Prelude.{Some, None};
 
 use crate::asked::{exactly, refused};
+use crate::tables::each_row;
 use crash_answer::answer;
 use crash_model::modules::Module;
 use crash_model::refusals::RunFault;
@@ -231,17 +232,6 @@ fn long_scripts_are_refused_by_their_lines(rt: HostRuntime) -> Result<(), Fail> 
 }
 
 #[test]
-fn a_script_that_is_not_there_cannot_be_read(rt: HostRuntime) -> Result<(), Fail> {
-    refused(
-        &rt,
-        &["no/such/script"],
-        b"",
-        "crashmap: 50 cannot read the script\n",
-    )?;
-    refused(&rt, &["."], b"", "crashmap: 50 cannot read the script\n")
-}
-
-#[test]
 fn a_refusal_that_cannot_be_printed_keeps_its_status(rt: HostRuntime) -> Result<(), Fail> {
     let heap = rt.alloc();
     let mut out = Vec::new(heap);
@@ -349,4 +339,22 @@ fn help_is_printed_as_a_report_is(rt: HostRuntime) -> Result<(), Fail> {
         "module async\npatches 0\nclosed 1\nfailing 0\n",
         "",
     )
+}
+
+/// What each row asks, and what it is told.
+const ROWS: &str = r#"
+# a script that is not there cannot be read
+$ no/such/script
+= exactly 2
+crashmap: 50 cannot read the script
+
+# a script that is not there cannot be read
+$ .
+= exactly 2
+crashmap: 50 cannot read the script
+"#;
+
+#[test]
+fn each_row_is_told(rt: HostRuntime) -> Result<(), Fail> {
+    each_row(&rt, ROWS)
 }

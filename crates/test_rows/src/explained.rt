@@ -1,7 +1,8 @@
 //! What `--explain` tells of the patches and of replay.
 
-use crate::asked::{begins, exactly, has_digest, shows};
-use crate::scripts::{CREATE, DIRECTORY_REUSED, REUSE, WRITE};
+use crate::asked::{exactly, has_digest, shows};
+use crate::scripts::{CREATE, DIRECTORY_REUSED, WRITE};
+use crate::tables::each_row;
 use std::test::Fail;
 
 /// The application orders a write behind the create.
@@ -32,26 +33,6 @@ fn filled<R: AllocGlobal>(rt: &R, text: &str) -> Result<String, Fail> {
 }
 
 #[test]
-fn the_patches_of_a_create_have_their_line_part_and_place(rt: HostRuntime) -> Result<(), Fail> {
-    exactly(
-        &rt,
-        &["--module async --explain"],
-        CREATE,
-        1,
-        "module async\n\
-         patches 2\n\
-         closed 4\n\
-         failing 1\n\
-         patch 0 line 2 create /a: InodeInit block 2 offset 16 length 16\n\
-         patch 1 line 2 create /a: EntrySet block 4 offset 8 length 12\n\
-         set 1\n\
-         write block 4: 1\n\
-         fault 1 dangling entry: directory 0 entry 0 inode 1\n",
-        "",
-    )
-}
-
-#[test]
 fn json_has_the_base_and_the_bytes_of_each_patch(rt: HostRuntime) -> Result<(), Fail> {
     exactly(
         &rt,
@@ -71,36 +52,6 @@ fn json_has_the_base_and_the_bytes_of_each_patch(rt: HostRuntime) -> Result<(), 
          \"undo\":\"000000000000000000000000\"}]}\n",
         )?
         .as_str(),
-        "",
-    )
-}
-
-#[test]
-fn a_dependency_has_all_its_reasons(rt: HostRuntime) -> Result<(), Fail> {
-    exactly(
-        &rt,
-        &["--explain"],
-        GROUPS,
-        0,
-        "module soft\n\
-         patches 5\n\
-         closed 6\n\
-         failing 0\n\
-         patch 0 line 3 create /a: InodeInit block 2 offset 16 length 16\n\
-         patch 1 line 3 create /a: EntrySet block 4 offset 8 length 12\n\
-         after 0: EntrySet:InodeInit\n\
-         patch 2 line 7 write /a: MapSet block 1 offset 5 length 1\n\
-         after 0: group\n\
-         after 1: group\n\
-         patch 3 line 7 write /a: InitFile block 5 offset 0 length 128\n\
-         after 0: group\n\
-         after 1: group\n\
-         after 2: InitFile:MapSet\n\
-         patch 4 line 7 write /a: Ptr block 2 offset 20 length 1\n\
-         after 0: overlap, group\n\
-         after 1: group\n\
-         after 2: Ptr:MapSet\n\
-         after 3: Ptr:InitFile\n",
         "",
     )
 }
@@ -132,31 +83,6 @@ fn json_has_all_reasons_of_a_dependency(rt: HostRuntime) -> Result<(), Fail> {
         )?
         .as_str(),
         "",
-    )
-}
-
-#[test]
-fn transactions_have_copies_a_commit_changes_in_place_and_a_done_mark(
-    rt: HostRuntime,
-) -> Result<(), Fail> {
-    begins(
-        &rt,
-        &["--module meta --blocks 24 --journal 12 --explain"],
-        DIRECTORY_REUSED,
-        1,
-        "module meta\n\
-         patches 21\n\
-         closed 629\n\
-         failing 48\n\
-         patch 0 line 5 unlink /d/x: Copy block 5 offset 0 length 128\n\
-         patch 1 line 5 unlink /d/x: Copy block 6 offset 0 length 128\n\
-         patch 2 line 5 unlink /d/x: Commit block 4 offset 0 length 5\n\
-         after 0: Commit:Copy\n\
-         after 1: Commit:Copy\n\
-         patch 3 line 5 unlink /d/x: EntryClear block 17 offset 8 length 12\n\
-         after 2: InPlace:Commit\n\
-         patch 4 line 5 unlink /d/x: InodeFree block 2 offset 32 length 16\n\
-         after 2: InPlace:Commit\n",
     )
 }
 
@@ -217,24 +143,6 @@ fn replay_tells_the_blocks_that_it_changes(rt: HostRuntime) -> Result<(), Fail> 
 }
 
 #[test]
-fn a_whole_report_with_patches_and_replay(rt: HostRuntime) -> Result<(), Fail> {
-    has_digest(
-        &rt,
-        &["--module meta --blocks 24 --journal 12 --explain"],
-        DIRECTORY_REUSED,
-        1,
-        "9149a1cd401415aba7e7f4018958b5d7586ae76a",
-    )?;
-    has_digest(
-        &rt,
-        &["--module meta --blocks 24 --journal 12 --explain --json"],
-        DIRECTORY_REUSED,
-        1,
-        "a837d8ddb89ebf08c8ec6db4a3548618a6aadbd9",
-    )
-}
-
-#[test]
 fn each_ordering_tells_what_its_patches_are(rt: HostRuntime) -> Result<(), Fail> {
     for (module, status, text, json) in [
         (
@@ -274,93 +182,188 @@ fn each_ordering_tells_what_its_patches_are(rt: HostRuntime) -> Result<(), Fail>
     Ok(())
 }
 
-#[test]
-fn explained_faults_and_rules(rt: HostRuntime) -> Result<(), Fail> {
-    exactly(
-        &rt,
-        &["--module async --explain --summary"],
-        WRITE,
-        1,
-        "module async\n\
-         patches 5\n\
-         closed 24\n\
-         failing 10\n\
-         patch 0 line 2 create /a: InodeInit block 2 offset 16 length 16\n\
-         patch 1 line 2 create /a: EntrySet block 4 offset 8 length 12\n\
-         patch 2 line 3 write /a: MapSet block 1 offset 5 length 1\n\
-         patch 3 line 3 write /a: InitFile block 5 offset 0 length 128\n\
-         patch 4 line 3 write /a: Ptr block 2 offset 20 length 1\n\
-         after 0: overlap\n\
-         fault 1 dangling entry: directory 0 entry 0 inode 1\n\
-         sets 4\n\
-         set 1\n\
-         write block 4: 1\n\
-         fault 3 unwritten pointer: inode 1 slot 0 block 5\n\
-         sets 4\n\
-         set 0 4\n\
-         write block 2: 0 4\n\
-         fault 5 used block marked free: inode 1 slot 0 block 5\n\
-         sets 4\n\
-         set 0 4\n\
-         write block 2: 0 4\n",
-        "",
-    )?;
-    exactly(
-        &rt,
-        &["--explain --needs"],
-        CREATE,
-        0,
-        "module soft\n\
-         patches 2\n\
-         closed 3\n\
-         failing 0\n\
-         patch 0 line 2 create /a: InodeInit block 2 offset 16 length 16\n\
-         patch 1 line 2 create /a: EntrySet block 4 offset 8 length 12\n\
-         after 0: EntrySet:InodeInit\n\
-         rule EntrySet:InodeInit pairs 1 closed 4 failing 1\n\
-         set 1\n\
-         write block 4: 1\n\
-         fault 1 dangling entry: directory 0 entry 0 inode 1\n\
-         rule EntrySet:LinkUp pairs 0\n\
-         rule EntrySet:Ptr pairs 0\n\
-         rule InitFile:MapSet pairs 0\n\
-         rule InitDir:MapSet pairs 0\n\
-         rule Ptr:InitFile pairs 0\n\
-         rule Ptr:InitDir pairs 0\n\
-         rule Ptr:MapSet pairs 0\n\
-         rule LinkDown:EntryClear pairs 0\n\
-         rule InodeFree:EntryClear pairs 0\n\
-         rule MapClear:InodeFree pairs 0\n\
-         rule EntryClear:EntrySet pairs 0\n",
-        "",
-    )
-}
+/// What each row asks, and what it is told.
+const ROWS: &str = r#"
+# the patches of a create have their line part and place
+$ --module async --explain
+start
+create /a
+= exactly 1
+module async
+patches 2
+closed 4
+failing 1
+patch 0 line 2 create /a: InodeInit block 2 offset 16 length 16
+patch 1 line 2 create /a: EntrySet block 4 offset 8 length 12
+set 1
+write block 4: 1
+fault 1 dangling entry: directory 0 entry 0 inode 1
+
+# a dependency has all its reasons
+$ --explain
+start
+group A
+create /a
+end
+depend B A
+group B
+write /a
+= exactly 0
+module soft
+patches 5
+closed 6
+failing 0
+patch 0 line 3 create /a: InodeInit block 2 offset 16 length 16
+patch 1 line 3 create /a: EntrySet block 4 offset 8 length 12
+after 0: EntrySet:InodeInit
+patch 2 line 7 write /a: MapSet block 1 offset 5 length 1
+after 0: group
+after 1: group
+patch 3 line 7 write /a: InitFile block 5 offset 0 length 128
+after 0: group
+after 1: group
+after 2: InitFile:MapSet
+patch 4 line 7 write /a: Ptr block 2 offset 20 length 1
+after 0: overlap, group
+after 1: group
+after 2: Ptr:MapSet
+after 3: Ptr:InitFile
+
+# transactions have copies a commit changes in place and a done mark
+$ --module meta --blocks 24 --journal 12 --explain
+mkdir /d
+create /d/x
+create /f
+start
+unlink /d/x
+rmdir /d
+write /f
+= begins 1
+module meta
+patches 21
+closed 629
+failing 48
+patch 0 line 5 unlink /d/x: Copy block 5 offset 0 length 128
+patch 1 line 5 unlink /d/x: Copy block 6 offset 0 length 128
+patch 2 line 5 unlink /d/x: Commit block 4 offset 0 length 5
+after 0: Commit:Copy
+after 1: Commit:Copy
+patch 3 line 5 unlink /d/x: EntryClear block 17 offset 8 length 12
+after 2: InPlace:Commit
+patch 4 line 5 unlink /d/x: InodeFree block 2 offset 32 length 16
+after 2: InPlace:Commit
+
+# a whole report with patches and replay
+$ --module meta --blocks 24 --journal 12 --explain
+mkdir /d
+create /d/x
+create /f
+start
+unlink /d/x
+rmdir /d
+write /f
+= digest 1
+9149a1cd401415aba7e7f4018958b5d7586ae76a
+
+# a whole report with patches and replay
+$ --module meta --blocks 24 --journal 12 --explain --json
+mkdir /d
+create /d/x
+create /f
+start
+unlink /d/x
+rmdir /d
+write /f
+= digest 1
+a837d8ddb89ebf08c8ec6db4a3548618a6aadbd9
+
+# explained faults and rules
+$ --module async --explain --summary
+start
+create /a
+write /a
+= exactly 1
+module async
+patches 5
+closed 24
+failing 10
+patch 0 line 2 create /a: InodeInit block 2 offset 16 length 16
+patch 1 line 2 create /a: EntrySet block 4 offset 8 length 12
+patch 2 line 3 write /a: MapSet block 1 offset 5 length 1
+patch 3 line 3 write /a: InitFile block 5 offset 0 length 128
+patch 4 line 3 write /a: Ptr block 2 offset 20 length 1
+after 0: overlap
+fault 1 dangling entry: directory 0 entry 0 inode 1
+sets 4
+set 1
+write block 4: 1
+fault 3 unwritten pointer: inode 1 slot 0 block 5
+sets 4
+set 0 4
+write block 2: 0 4
+fault 5 used block marked free: inode 1 slot 0 block 5
+sets 4
+set 0 4
+write block 2: 0 4
+
+# explained faults and rules
+$ --explain --needs
+start
+create /a
+= exactly 0
+module soft
+patches 2
+closed 3
+failing 0
+patch 0 line 2 create /a: InodeInit block 2 offset 16 length 16
+patch 1 line 2 create /a: EntrySet block 4 offset 8 length 12
+after 0: EntrySet:InodeInit
+rule EntrySet:InodeInit pairs 1 closed 4 failing 1
+set 1
+write block 4: 1
+fault 1 dangling entry: directory 0 entry 0 inode 1
+rule EntrySet:LinkUp pairs 0
+rule EntrySet:Ptr pairs 0
+rule InitFile:MapSet pairs 0
+rule InitDir:MapSet pairs 0
+rule Ptr:InitFile pairs 0
+rule Ptr:InitDir pairs 0
+rule Ptr:MapSet pairs 0
+rule LinkDown:EntryClear pairs 0
+rule InodeFree:EntryClear pairs 0
+rule MapClear:InodeFree pairs 0
+rule EntryClear:EntrySet pairs 0
+
+# explained with rules taken out and put in
+$ --without InitFile:MapSet --with InitFile:previous-MapClear --explain
+create /a
+write /a
+create /b
+start
+unlink /a
+write /b
+= exactly 0
+module soft
+without InitFile:MapSet
+with InitFile:previous-MapClear
+patches 6
+closed 8
+failing 0
+patch 0 line 5 unlink /a: EntryClear block 4 offset 8 length 12
+patch 1 line 5 unlink /a: InodeFree block 2 offset 16 length 16
+after 0: InodeFree:EntryClear
+patch 2 line 5 unlink /a: MapClear block 1 offset 5 length 1
+after 1: MapClear:InodeFree
+patch 3 line 6 write /b: MapSet block 1 offset 5 length 1
+after 2: overlap
+patch 4 line 6 write /b: InitFile block 5 offset 0 length 128
+after 2: InitFile:previous-MapClear
+patch 5 line 6 write /b: Ptr block 2 offset 36 length 1
+after 3: Ptr:MapSet
+after 4: Ptr:InitFile
+"#;
 
 #[test]
-fn explained_with_rules_taken_out_and_put_in(rt: HostRuntime) -> Result<(), Fail> {
-    exactly(
-        &rt,
-        &["--without InitFile:MapSet --with InitFile:previous-MapClear --explain"],
-        REUSE,
-        0,
-        "module soft\n\
-         without InitFile:MapSet\n\
-         with InitFile:previous-MapClear\n\
-         patches 6\n\
-         closed 8\n\
-         failing 0\n\
-         patch 0 line 5 unlink /a: EntryClear block 4 offset 8 length 12\n\
-         patch 1 line 5 unlink /a: InodeFree block 2 offset 16 length 16\n\
-         after 0: InodeFree:EntryClear\n\
-         patch 2 line 5 unlink /a: MapClear block 1 offset 5 length 1\n\
-         after 1: MapClear:InodeFree\n\
-         patch 3 line 6 write /b: MapSet block 1 offset 5 length 1\n\
-         after 2: overlap\n\
-         patch 4 line 6 write /b: InitFile block 5 offset 0 length 128\n\
-         after 2: InitFile:previous-MapClear\n\
-         patch 5 line 6 write /b: Ptr block 2 offset 36 length 1\n\
-         after 3: Ptr:MapSet\n\
-         after 4: Ptr:InitFile\n",
-        "",
-    )
+fn each_row_is_told(rt: HostRuntime) -> Result<(), Fail> {
+    each_row(&rt, ROWS)
 }

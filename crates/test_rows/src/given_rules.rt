@@ -1,22 +1,9 @@
 //! Orderings of one's own, on the command line.
 
 use crate::asked::{exactly, is_a_fault};
-use crate::scripts::{CREATE, DIRECTORY_REUSED};
+use crate::scripts::CREATE;
+use crate::tables::each_row;
 use std::test::Fail;
-
-#[test]
-fn file_data_that_wait_for_the_done_before_are_never_covered_by_an_old_copy(
-    rt: HostRuntime,
-) -> Result<(), Fail> {
-    exactly(
-        &rt,
-        &["--module=meta --blocks=24 --journal=12 --with FileData:previous-Done"],
-        DIRECTORY_REUSED,
-        0,
-        "module meta\nwith FileData:previous-Done\npatches 21\nclosed 461\nfailing 0\n",
-        "",
-    )
-}
 
 #[test]
 fn rules_taken_out_stand_in_the_order_of_the_list_and_those_put_in_as_given(
@@ -33,12 +20,6 @@ fn rules_taken_out_stand_in_the_order_of_the_list_and_those_put_in_as_given(
         "{\"closed\":3,\"failing\":[],\"module\":\"soft\",\"patches\":2,\"with\":[\"Ptr:previous-Ptr\",\"Done:Done\"],\"without\":[\"EntrySet:Ptr\",\"Ptr:MapSet\"]}\n",
         "",
     )
-}
-
-#[test]
-fn a_rule_that_the_list_has_is_told_nowhere(rt: HostRuntime) -> Result<(), Fail> {
-    let report = "module soft\npatches 2\nclosed 3\nfailing 0\n";
-    exactly(&rt, &["--with EntrySet:InodeInit"], CREATE, 0, report, "")
 }
 
 #[test]
@@ -85,4 +66,38 @@ fn a_word_that_is_no_rule_is_a_fault(rt: HostRuntime) -> Result<(), Fail> {
         is_a_fault(&rt, &["--without", word], word)?;
     }
     is_a_fault(&rt, &["--with"], "--with")
+}
+
+/// What each row asks, and what it is told.
+const ROWS: &str = r#"
+# file data that wait for the done before are never covered by an old copy
+$ --module=meta --blocks=24 --journal=12 --with FileData:previous-Done
+mkdir /d
+create /d/x
+create /f
+start
+unlink /d/x
+rmdir /d
+write /f
+= exactly 0
+module meta
+with FileData:previous-Done
+patches 21
+closed 461
+failing 0
+
+# a rule that the list has is told nowhere
+$ --with EntrySet:InodeInit
+start
+create /a
+= exactly 0
+module soft
+patches 2
+closed 3
+failing 0
+"#;
+
+#[test]
+fn each_row_is_told(rt: HostRuntime) -> Result<(), Fail> {
+    each_row(&rt, ROWS)
 }

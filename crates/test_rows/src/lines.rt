@@ -1,17 +1,8 @@
 //! Scripts: which lines are read, and which are refused.
 
 use crate::asked::{each_refused, exactly, refused};
+use crate::tables::each_row;
 use std::test::Fail;
-
-#[test]
-fn the_script_is_read_before_it_is_run(rt: HostRuntime) -> Result<(), Fail> {
-    refused(
-        &rt,
-        &["--module async"],
-        b"start\ncreate /x/y\ncrate /a\n",
-        "crashmap: line 3: 41 bad line\n",
-    )
-}
 
 #[test]
 fn a_script_has_a_start_line(rt: HostRuntime) -> Result<(), Fail> {
@@ -22,26 +13,6 @@ fn a_script_has_a_start_line(rt: HostRuntime) -> Result<(), Fail> {
             ("create /a\n", "crashmap: line 2: 43 no start line\n"),
             ("", "crashmap: line 1: 43 no start line\n"),
             ("create /a", "crashmap: line 2: 43 no start line\n"),
-        ],
-    )
-}
-
-#[test]
-fn a_path_is_one_to_four_names(rt: HostRuntime) -> Result<(), Fail> {
-    each_refused(
-        &rt,
-        &["--module async"],
-        &[
-            ("start\nmkdir /\n", "crashmap: line 2: 42 bad path\n"),
-            (
-                "start\nmkdir /a/b/c/d/e\n",
-                "crashmap: line 2: 42 bad path\n",
-            ),
-            ("create /A\n", "crashmap: line 1: 42 bad path\n"),
-            ("create //a\n", "crashmap: line 1: 42 bad path\n"),
-            ("create /a/\n", "crashmap: line 1: 42 bad path\n"),
-            ("create /abcdefghijk\n", "crashmap: line 1: 42 bad path\n"),
-            ("link a /b\n", "crashmap: line 1: 42 bad path\n"),
         ],
     )
 }
@@ -107,16 +78,6 @@ fn a_last_line_may_go_without_its_line_feed(rt: HostRuntime) -> Result<(), Fail>
 }
 
 #[test]
-fn there_is_one_start_line(rt: HostRuntime) -> Result<(), Fail> {
-    refused(
-        &rt,
-        &["--module async"],
-        b"start\nstart\n",
-        "crashmap: line 2: 41 bad line\n",
-    )
-}
-
-#[test]
 fn comments_and_empty_lines_are_counted(rt: HostRuntime) -> Result<(), Fail> {
     refused(
         &rt,
@@ -132,4 +93,71 @@ fn comments_and_empty_lines_are_counted(rt: HostRuntime) -> Result<(), Fail> {
         "module async\npatches 0\nclosed 1\nfailing 0\n",
         "",
     )
+}
+
+/// What each row asks, and what it is told.
+const ROWS: &str = r#"
+# the script is read before it is run
+$ --module async
+start
+create /x/y
+crate /a
+= exactly 2
+crashmap: line 3: 41 bad line
+
+# a path is one to four names
+$ --module async
+start
+mkdir /
+= exactly 2
+crashmap: line 2: 42 bad path
+
+# a path is one to four names
+$ --module async
+start
+mkdir /a/b/c/d/e
+= exactly 2
+crashmap: line 2: 42 bad path
+
+# a path is one to four names
+$ --module async
+create /A
+= exactly 2
+crashmap: line 1: 42 bad path
+
+# a path is one to four names
+$ --module async
+create //a
+= exactly 2
+crashmap: line 1: 42 bad path
+
+# a path is one to four names
+$ --module async
+create /a/
+= exactly 2
+crashmap: line 1: 42 bad path
+
+# a path is one to four names
+$ --module async
+create /abcdefghijk
+= exactly 2
+crashmap: line 1: 42 bad path
+
+# a path is one to four names
+$ --module async
+link a /b
+= exactly 2
+crashmap: line 1: 42 bad path
+
+# there is one start line
+$ --module async
+start
+start
+= exactly 2
+crashmap: line 2: 41 bad line
+"#;
+
+#[test]
+fn each_row_is_told(rt: HostRuntime) -> Result<(), Fail> {
+    each_row(&rt, ROWS)
 }

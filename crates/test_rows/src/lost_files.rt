@@ -1,279 +1,11 @@
 //! Files that a strict checker finds lost where two operations follow each other.
 
-use crate::asked::{all_begin, all_report, shows};
+use crate::asked::{all_report, shows};
+use crate::tables::each_row;
 use std::test::Fail;
-
-/// A file gets another name by hand.
-const LINK_AND_UNLINK: &[u8] = b"create /a\nstart\nlink /a /b\nunlink /a\n";
 
 /// A file moves into a new directory.
 const MOVED_IN: &[u8] = b"create /a\nstart\nmkdir /d\nrename /a /d/a\n";
-
-/// A file moves out of a directory that goes.
-const MOVED_OUT: &[u8] = b"mkdir /d\ncreate /d/a\nstart\nrename /d/a /a\nrmdir /d\n";
-
-#[test]
-fn soft_updates_lose_a_file_between_link_and_unlink(rt: HostRuntime) -> Result<(), Fail> {
-    all_report(
-        &rt,
-        "--strict --json",
-        LINK_AND_UNLINK,
-        1,
-        "{\"closed\":8,\"failing\":[{\"faults\":[\"7 lost inode: inode 1\"],\"set\":[2],\
-         \"writes\":[{\"block\":4,\"patches\":[2]}]},{\"faults\":[\"7 lost inode: inode 1\"],\"set\":[0,2],\
-         \"writes\":[{\"block\":2,\"patches\":[0]},{\"block\":4,\"patches\":[2]}]},\
-         {\"faults\":[\"7 lost inode: inode 1\"],\"set\":[0,2,3],\"writes\":[{\"block\":2,\"patches\":[0]},\
-         {\"block\":4,\"patches\":[2]},{\"block\":2,\"patches\":[3]}]}],\"module\":\"soft\",\"patches\":4,\
-         \"strict\":true}\n",
-    )?;
-    all_report(
-        &rt,
-        "--json",
-        LINK_AND_UNLINK,
-        0,
-        "{\"closed\":8,\"failing\":[],\"module\":\"soft\",\"patches\":4}\n",
-    )
-}
-
-#[test]
-fn a_rule_or_groups_keep_the_file_between_link_and_unlink(rt: HostRuntime) -> Result<(), Fail> {
-    all_report(
-        &rt,
-        "--strict --with EntryClear:previous-EntrySet",
-        LINK_AND_UNLINK,
-        0,
-        "module soft\n\
-         with EntryClear:previous-EntrySet\n\
-         strict\n\
-         patches 4\n\
-         closed 5\n\
-         failing 0\n",
-    )?;
-    all_report(
-        &rt,
-        "--strict",
-        b"create /a\nstart\ngroup A\nlink /a /b\nend\ndepend B A\ngroup B\nunlink /a\n",
-        0,
-        "module soft\n\
-         strict\n\
-         patches 4\n\
-         closed 5\n\
-         failing 0\n",
-    )
-}
-
-#[test]
-fn journals_keep_the_file_between_link_and_unlink(rt: HostRuntime) -> Result<(), Fail> {
-    all_report(
-        &rt,
-        "--module meta --journal 6 --strict",
-        LINK_AND_UNLINK,
-        0,
-        "module meta\n\
-         strict\n\
-         patches 12\n\
-         closed 53\n\
-         failing 0\n",
-    )?;
-    all_report(
-        &rt,
-        "--module full --journal 6 --strict",
-        LINK_AND_UNLINK,
-        0,
-        "module full\n\
-         strict\n\
-         patches 12\n\
-         closed 53\n\
-         failing 0\n",
-    )
-}
-
-#[test]
-fn a_journal_whose_commits_are_out_of_order_loses_the_file(rt: HostRuntime) -> Result<(), Fail> {
-    all_report(
-        &rt,
-        "--module meta --journal 6 --strict --without Commit:previous-Commit",
-        LINK_AND_UNLINK,
-        1,
-        "module meta\n\
-         without Commit:previous-Commit\n\
-         strict\n\
-         patches 12\n\
-         closed 61\n\
-         failing 4\n\
-         set 6 7 8 9\n\
-         write block 8: 6\n\
-         write block 9: 7\n\
-         write block 7: 8\n\
-         write block 10: 9\n\
-         fault 7 lost inode: inode 1\n\
-         set 0 6 7 8 9\n\
-         write block 5: 0\n\
-         write block 8: 6\n\
-         write block 9: 7\n\
-         write block 7: 8\n\
-         write block 10: 9\n\
-         fault 7 lost inode: inode 1\n\
-         set 1 6 7 8 9\n\
-         write block 6: 1\n\
-         write block 8: 6\n\
-         write block 9: 7\n\
-         write block 7: 8\n\
-         write block 10: 9\n\
-         fault 7 lost inode: inode 1\n\
-         set 0 1 6 7 8 9\n\
-         write block 5: 0\n\
-         write block 6: 1\n\
-         write block 8: 6\n\
-         write block 9: 7\n\
-         write block 7: 8\n\
-         write block 10: 9\n\
-         fault 7 lost inode: inode 1\n",
-    )?;
-    all_report(
-        &rt,
-        "--module meta --journal 6 --without Commit:previous-Commit",
-        LINK_AND_UNLINK,
-        0,
-        "module meta\n\
-         without Commit:previous-Commit\n\
-         patches 12\n\
-         closed 61\n\
-         failing 0\n",
-    )
-}
-
-#[test]
-fn a_full_journal_whose_commits_are_out_of_order_loses_the_file(
-    rt: HostRuntime,
-) -> Result<(), Fail> {
-    all_begin(
-        &rt,
-        "--module full --journal 6 --strict --without Commit:previous-Commit",
-        LINK_AND_UNLINK,
-        1,
-        "module full\n\
-         without Commit:previous-Commit\n\
-         strict\n\
-         patches 12\n\
-         closed 61\n\
-         failing 4\n\
-         set 6 7 8 9\n\
-         write block 8: 6\n\
-         write block 9: 7\n\
-         write block 7: 8\n\
-         write block 10: 9\n\
-         fault 7 lost inode: inode 1\n",
-    )?;
-    all_report(
-        &rt,
-        "--module full --journal 6 --without Commit:previous-Commit",
-        LINK_AND_UNLINK,
-        0,
-        "module full\n\
-         without Commit:previous-Commit\n\
-         patches 12\n\
-         closed 61\n\
-         failing 0\n",
-    )
-}
-
-#[test]
-fn soft_updates_lose_a_file_that_moves_into_a_new_directory(rt: HostRuntime) -> Result<(), Fail> {
-    all_begin(
-        &rt,
-        "--strict",
-        MOVED_IN,
-        1,
-        "module soft\n\
-         strict\n\
-         patches 9\n\
-         closed 28\n\
-         failing 6\n\
-         set 1 2 5 6 7\n\
-         write block 1: 1\n\
-         write block 5: 2\n\
-         write block 2: 5\n\
-         write block 5: 6\n\
-         write block 4: 7\n\
-         fault 7 lost inode: inode 1\n",
-    )?;
-    all_report(
-        &rt,
-        "",
-        MOVED_IN,
-        0,
-        "module soft\n\
-         patches 9\n\
-         closed 28\n\
-         failing 0\n",
-    )?;
-    all_report(
-        &rt,
-        "--strict --with EntryClear:previous-EntrySet",
-        MOVED_IN,
-        0,
-        "module soft\n\
-         with EntryClear:previous-EntrySet\n\
-         strict\n\
-         patches 9\n\
-         closed 22\n\
-         failing 0\n",
-    )?;
-    all_report(
-        &rt,
-        "--strict",
-        b"create /a\nstart\ngroup A\nmkdir /d\nend\ndepend B A\ngroup B\nrename /a /d/a\n",
-        0,
-        "module soft\n\
-         strict\n\
-         patches 9\n\
-         closed 12\n\
-         failing 0\n",
-    )
-}
-
-#[test]
-fn soft_updates_lose_a_file_that_moves_out_of_a_directory_that_goes(
-    rt: HostRuntime,
-) -> Result<(), Fail> {
-    all_begin(
-        &rt,
-        "--strict",
-        MOVED_OUT,
-        1,
-        "module soft\n\
-         strict\n\
-         patches 7\n\
-         closed 20\n\
-         failing 6\n\
-         set 4\n\
-         write block 4: 4\n\
-         fault 7 lost inode: inode 2\n",
-    )?;
-    all_report(
-        &rt,
-        "",
-        MOVED_OUT,
-        0,
-        "module soft\n\
-         patches 7\n\
-         closed 20\n\
-         failing 0\n",
-    )?;
-    all_report(
-        &rt,
-        "--strict --with EntryClear:previous-EntrySet",
-        MOVED_OUT,
-        0,
-        "module soft\n\
-         with EntryClear:previous-EntrySet\n\
-         strict\n\
-         patches 7\n\
-         closed 14\n\
-         failing 0\n",
-    )
-}
 
 /// What can go wrong where a file moves into a new directory without an order.
 const FAULTS: &str = "module async\n\
@@ -330,4 +62,286 @@ fn the_two_faults_stand_behind_the_others(rt: HostRuntime) -> Result<(), Fail> {
          fault 8 directory without a block: inode 2\n\
          set ",
     )
+}
+
+/// What each row asks, and what it is told.
+const ROWS: &str = r#"
+# soft updates lose a file between link and unlink
+$ --strict --json
+create /a
+start
+link /a /b
+unlink /a
+= each 1
+{"closed":8,"failing":[{"faults":["7 lost inode: inode 1"],"set":[2],"writes":[{"block":4,"patches":[2]}]},
+ {"faults":["7 lost inode: inode 1"],"set":[0,2],"writes":[{"block":2,"patches":[0]},{"block":4,"patches":[2]}]},
+ {"faults":["7 lost inode: inode 1"],"set":[0,2,3],"writes":[{"block":2,"patches":[0]},{"block":4,"patches":[2]},
+ {"block":2,"patches":[3]}]}],"module":"soft","patches":4,"strict":true}
+
+# soft updates lose a file between link and unlink
+$ --json
+create /a
+start
+link /a /b
+unlink /a
+= each 0
+{"closed":8,"failing":[],"module":"soft","patches":4}
+
+# a rule or groups keep the file between link and unlink
+$ --strict --with EntryClear:previous-EntrySet
+create /a
+start
+link /a /b
+unlink /a
+= each 0
+module soft
+with EntryClear:previous-EntrySet
+strict
+patches 4
+closed 5
+failing 0
+
+# a rule or groups keep the file between link and unlink
+$ --strict
+create /a
+start
+group A
+link /a /b
+end
+depend B A
+group B
+unlink /a
+= each 0
+module soft
+strict
+patches 4
+closed 5
+failing 0
+
+# journals keep the file between link and unlink
+$ --module meta --journal 6 --strict
+create /a
+start
+link /a /b
+unlink /a
+= each 0
+module meta
+strict
+patches 12
+closed 53
+failing 0
+
+# journals keep the file between link and unlink
+$ --module full --journal 6 --strict
+create /a
+start
+link /a /b
+unlink /a
+= each 0
+module full
+strict
+patches 12
+closed 53
+failing 0
+
+# a journal whose commits are out of order loses the file
+$ --module meta --journal 6 --strict --without Commit:previous-Commit
+create /a
+start
+link /a /b
+unlink /a
+= each 1
+module meta
+without Commit:previous-Commit
+strict
+patches 12
+closed 61
+failing 4
+set 6 7 8 9
+write block 8: 6
+write block 9: 7
+write block 7: 8
+write block 10: 9
+fault 7 lost inode: inode 1
+set 0 6 7 8 9
+write block 5: 0
+write block 8: 6
+write block 9: 7
+write block 7: 8
+write block 10: 9
+fault 7 lost inode: inode 1
+set 1 6 7 8 9
+write block 6: 1
+write block 8: 6
+write block 9: 7
+write block 7: 8
+write block 10: 9
+fault 7 lost inode: inode 1
+set 0 1 6 7 8 9
+write block 5: 0
+write block 6: 1
+write block 8: 6
+write block 9: 7
+write block 7: 8
+write block 10: 9
+fault 7 lost inode: inode 1
+
+# a journal whose commits are out of order loses the file
+$ --module meta --journal 6 --without Commit:previous-Commit
+create /a
+start
+link /a /b
+unlink /a
+= each 0
+module meta
+without Commit:previous-Commit
+patches 12
+closed 61
+failing 0
+
+# a full journal whose commits are out of order loses the file
+$ --module full --journal 6 --strict --without Commit:previous-Commit
+create /a
+start
+link /a /b
+unlink /a
+= each-begins 1
+module full
+without Commit:previous-Commit
+strict
+patches 12
+closed 61
+failing 4
+set 6 7 8 9
+write block 8: 6
+write block 9: 7
+write block 7: 8
+write block 10: 9
+fault 7 lost inode: inode 1
+
+# a full journal whose commits are out of order loses the file
+$ --module full --journal 6 --without Commit:previous-Commit
+create /a
+start
+link /a /b
+unlink /a
+= each 0
+module full
+without Commit:previous-Commit
+patches 12
+closed 61
+failing 0
+
+# soft updates lose a file that moves into a new directory
+$ --strict
+create /a
+start
+mkdir /d
+rename /a /d/a
+= each-begins 1
+module soft
+strict
+patches 9
+closed 28
+failing 6
+set 1 2 5 6 7
+write block 1: 1
+write block 5: 2
+write block 2: 5
+write block 5: 6
+write block 4: 7
+fault 7 lost inode: inode 1
+
+# soft updates lose a file that moves into a new directory
+$
+create /a
+start
+mkdir /d
+rename /a /d/a
+= each 0
+module soft
+patches 9
+closed 28
+failing 0
+
+# soft updates lose a file that moves into a new directory
+$ --strict --with EntryClear:previous-EntrySet
+create /a
+start
+mkdir /d
+rename /a /d/a
+= each 0
+module soft
+with EntryClear:previous-EntrySet
+strict
+patches 9
+closed 22
+failing 0
+
+# soft updates lose a file that moves into a new directory
+$ --strict
+create /a
+start
+group A
+mkdir /d
+end
+depend B A
+group B
+rename /a /d/a
+= each 0
+module soft
+strict
+patches 9
+closed 12
+failing 0
+
+# soft updates lose a file that moves out of a directory that goes
+$ --strict
+mkdir /d
+create /d/a
+start
+rename /d/a /a
+rmdir /d
+= each-begins 1
+module soft
+strict
+patches 7
+closed 20
+failing 6
+set 4
+write block 4: 4
+fault 7 lost inode: inode 2
+
+# soft updates lose a file that moves out of a directory that goes
+$
+mkdir /d
+create /d/a
+start
+rename /d/a /a
+rmdir /d
+= each 0
+module soft
+patches 7
+closed 20
+failing 0
+
+# soft updates lose a file that moves out of a directory that goes
+$ --strict --with EntryClear:previous-EntrySet
+mkdir /d
+create /d/a
+start
+rename /d/a /a
+rmdir /d
+= each 0
+module soft
+with EntryClear:previous-EntrySet
+strict
+patches 7
+closed 14
+failing 0
+"#;
+
+#[test]
+fn each_row_is_told(rt: HostRuntime) -> Result<(), Fail> {
+    each_row(&rt, ROWS)
 }

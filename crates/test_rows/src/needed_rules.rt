@@ -1,130 +1,9 @@
 //! What `--needs` tells: for each rule of the ordering what a crash can leave without it.
 
 use crate::asked::{exactly, has_digest, shows};
-use crate::scripts::{CREATE, DIRECTORY_REUSED, REUSE, WRITE};
+use crate::scripts::DIRECTORY_REUSED;
+use crate::tables::each_row;
 use std::test::Fail;
-
-/// Each rule of soft updates has a pair.
-const ALL_RULES: &[u8] = b"start\nmkdir /d\ncreate /a\nwrite /a\nrename /a /d/b\nunlink /d/b\n";
-
-#[test]
-fn each_rule_of_soft_updates_has_its_own_crash_or_none(rt: HostRuntime) -> Result<(), Fail> {
-    exactly(
-        &rt,
-        &["--needs"],
-        REUSE,
-        0,
-        "module soft\n\
-         patches 6\n\
-         closed 7\n\
-         failing 0\n\
-         rule EntrySet:InodeInit pairs 0\n\
-         rule EntrySet:LinkUp pairs 0\n\
-         rule EntrySet:Ptr pairs 0\n\
-         rule InitFile:MapSet pairs 1 closed 11 failing 2\n\
-         set 4\n\
-         write block 5: 4\n\
-         fault 3 unwritten pointer: inode 1 slot 0 block 5\n\
-         rule InitDir:MapSet pairs 0\n\
-         rule Ptr:InitFile pairs 1 closed 8 failing 1\n\
-         set 0 1 2 3 5\n\
-         write block 4: 0\n\
-         write block 2: 1\n\
-         write block 1: 2 3\n\
-         write block 2: 5\n\
-         fault 3 unwritten pointer: inode 2 slot 0 block 5\n\
-         rule Ptr:InitDir pairs 0\n\
-         rule Ptr:MapSet pairs 1 closed 7 failing 0\n\
-         rule LinkDown:EntryClear pairs 0\n\
-         rule InodeFree:EntryClear pairs 1 closed 12 failing 5\n\
-         set 1\n\
-         write block 2: 1\n\
-         fault 1 dangling entry: directory 0 entry 0 inode 1\n\
-         rule MapClear:InodeFree pairs 1 closed 15 failing 6\n\
-         set 2\n\
-         write block 1: 2\n\
-         fault 5 used block marked free: inode 1 slot 0 block 5\n\
-         rule EntryClear:EntrySet pairs 0\n",
-        "",
-    )
-}
-
-#[test]
-fn twelve_rules_with_pairs(rt: HostRuntime) -> Result<(), Fail> {
-    exactly(
-        &rt,
-        &["--needs"],
-        ALL_RULES,
-        0,
-        "module soft\n\
-         patches 17\n\
-         closed 288\n\
-         failing 0\n\
-         rule EntrySet:InodeInit pairs 2 closed 312 failing 24\n\
-         set 6\n\
-         write block 4: 6\n\
-         fault 1 dangling entry: directory 0 entry 1 inode 2\n\
-         rule EntrySet:LinkUp pairs 1 closed 408 failing 14\n\
-         set 0 1 2 3 11\n\
-         write block 2: 0\n\
-         write block 1: 1\n\
-         write block 5: 2\n\
-         write block 2: 3\n\
-         write block 5: 11\n\
-         fault 1 dangling entry: directory 1 entry 0 inode 2\n\
-         rule EntrySet:Ptr pairs 1 closed 379 failing 0\n\
-         rule InitFile:MapSet pairs 1 closed 360 failing 0\n\
-         rule InitDir:MapSet pairs 1 closed 394 failing 0\n\
-         rule Ptr:InitFile pairs 1 closed 360 failing 64\n\
-         set 5 7 9\n\
-         write block 2: 5\n\
-         write block 1: 7\n\
-         write block 2: 9\n\
-         fault 3 unwritten pointer: inode 2 slot 0 block 6\n\
-         rule Ptr:InitDir pairs 1 closed 326 failing 38\n\
-         set 0 1 3\n\
-         write block 2: 0\n\
-         write block 1: 1\n\
-         write block 2: 3\n\
-         fault 3 unwritten pointer: inode 1 slot 0 block 5\n\
-         rule Ptr:MapSet pairs 2 closed 288 failing 0\n\
-         rule LinkDown:EntryClear pairs 1 closed 432 failing 16\n\
-         set 0 1 2 3 5 6 10 11 13\n\
-         write block 2: 0\n\
-         write block 1: 1\n\
-         write block 5: 2\n\
-         write block 2: 3 5\n\
-         write block 4: 6\n\
-         write block 2: 10\n\
-         write block 5: 11\n\
-         write block 2: 13\n\
-         fault 4 low link count: inode 2 entries 2 links 1\n\
-         rule InodeFree:EntryClear pairs 1 closed 296 failing 4\n\
-         set 0 1 2 3 5 6 7 8 9 10 11 12 13 15\n\
-         write block 2: 0\n\
-         write block 1: 1\n\
-         write block 5: 2\n\
-         write block 2: 3 5\n\
-         write block 4: 6\n\
-         write block 1: 7\n\
-         write block 6: 8\n\
-         write block 2: 9 10\n\
-         write block 5: 11\n\
-         write block 4: 12\n\
-         write block 2: 13 15\n\
-         fault 1 dangling entry: directory 1 entry 0 inode 2\n\
-         rule MapClear:InodeFree pairs 1 closed 496 failing 64\n\
-         set 5 7 8 9 16\n\
-         write block 2: 5\n\
-         write block 1: 7\n\
-         write block 6: 8\n\
-         write block 2: 9\n\
-         write block 1: 16\n\
-         fault 5 used block marked free: inode 2 slot 0 block 6\n\
-         rule EntryClear:EntrySet pairs 1 closed 384 failing 0\n",
-        "",
-    )
-}
 
 /// What a metadata journal's rules are needed for where a directory's block becomes file data.
 const NEEDS: &str = "module meta\n\
@@ -232,133 +111,230 @@ fn without_a_rule_there_can_be_too_many_sets(rt: HostRuntime) -> Result<(), Fail
     )
 }
 
-#[test]
-fn rules_in_json(rt: HostRuntime) -> Result<(), Fail> {
-    exactly(
-        &rt,
-        &["--needs --limit 11 --json"],
-        WRITE,
-        0,
-        "{\"closed\":11,\"failing\":0,\"module\":\"soft\",\"patches\":5,\"rules\":[{\"pairs\":1,\
-         \"rule\":\"EntrySet:InodeInit\",\"too_many\":true},{\"pairs\":0,\"rule\":\"EntrySet:LinkUp\"},\
-         {\"pairs\":0,\"rule\":\"EntrySet:Ptr\"},{\"pairs\":1,\"rule\":\"InitFile:MapSet\",\
-         \"too_many\":true},{\"pairs\":0,\"rule\":\"InitDir:MapSet\"},{\"pairs\":1,\"rule\":\"Ptr:InitFile\",\
-         \"too_many\":true},{\"pairs\":0,\"rule\":\"Ptr:InitDir\"},{\"closed\":11,\"failing\":0,\"pairs\":1,\
-         \"rule\":\"Ptr:MapSet\"},{\"pairs\":0,\"rule\":\"LinkDown:EntryClear\"},{\"pairs\":0,\
-         \"rule\":\"InodeFree:EntryClear\"},{\"pairs\":0,\"rule\":\"MapClear:InodeFree\"},{\"pairs\":0,\
-         \"rule\":\"EntryClear:EntrySet\"}]}\n",
-        "",
-    )?;
-    exactly(
-        &rt,
-        &["--needs --json"],
-        REUSE,
-        0,
-        "{\"closed\":7,\"failing\":0,\"module\":\"soft\",\"patches\":6,\"rules\":[{\"pairs\":0,\
-         \"rule\":\"EntrySet:InodeInit\"},{\"pairs\":0,\"rule\":\"EntrySet:LinkUp\"},{\"pairs\":0,\
-         \"rule\":\"EntrySet:Ptr\"},{\"closed\":11,\"failing\":2,\
-         \"first\":{\"faults\":[\"3 unwritten pointer: inode 1 slot 0 block 5\"],\"set\":[4],\
-         \"writes\":[{\"block\":5,\"patches\":[4]}]},\"pairs\":1,\"rule\":\"InitFile:MapSet\"},{\"pairs\":0,\
-         \"rule\":\"InitDir:MapSet\"},{\"closed\":8,\"failing\":1,\
-         \"first\":{\"faults\":[\"3 unwritten pointer: inode 2 slot 0 block 5\"],\"set\":[0,1,2,3,5],\
-         \"writes\":[{\"block\":4,\"patches\":[0]},{\"block\":2,\"patches\":[1]},{\"block\":1,\"patches\":[2,\
-         3]},{\"block\":2,\"patches\":[5]}]},\"pairs\":1,\"rule\":\"Ptr:InitFile\"},{\"pairs\":0,\
-         \"rule\":\"Ptr:InitDir\"},{\"closed\":7,\"failing\":0,\"pairs\":1,\"rule\":\"Ptr:MapSet\"},\
-         {\"pairs\":0,\"rule\":\"LinkDown:EntryClear\"},{\"closed\":12,\"failing\":5,\
-         \"first\":{\"faults\":[\"1 dangling entry: directory 0 entry 0 inode 1\"],\"set\":[1],\
-         \"writes\":[{\"block\":2,\"patches\":[1]}]},\"pairs\":1,\"rule\":\"InodeFree:EntryClear\"},\
-         {\"closed\":15,\"failing\":6,\
-         \"first\":{\"faults\":[\"5 used block marked free: inode 1 slot 0 block 5\"],\"set\":[2],\
-         \"writes\":[{\"block\":1,\"patches\":[2]}]},\"pairs\":1,\"rule\":\"MapClear:InodeFree\"},\
-         {\"pairs\":0,\"rule\":\"EntryClear:EntrySet\"}]}\n",
-        "",
-    )
-}
+/// What each row asks, and what it is told.
+const ROWS: &str = r#"
+# each rule of soft updates has its own crash or none
+$ --needs
+create /a
+write /a
+create /b
+start
+unlink /a
+write /b
+= exactly 0
+module soft
+patches 6
+closed 7
+failing 0
+rule EntrySet:InodeInit pairs 0
+rule EntrySet:LinkUp pairs 0
+rule EntrySet:Ptr pairs 0
+rule InitFile:MapSet pairs 1 closed 11 failing 2
+set 4
+write block 5: 4
+fault 3 unwritten pointer: inode 1 slot 0 block 5
+rule InitDir:MapSet pairs 0
+rule Ptr:InitFile pairs 1 closed 8 failing 1
+set 0 1 2 3 5
+write block 4: 0
+write block 2: 1
+write block 1: 2 3
+write block 2: 5
+fault 3 unwritten pointer: inode 2 slot 0 block 5
+rule Ptr:InitDir pairs 0
+rule Ptr:MapSet pairs 1 closed 7 failing 0
+rule LinkDown:EntryClear pairs 0
+rule InodeFree:EntryClear pairs 1 closed 12 failing 5
+set 1
+write block 2: 1
+fault 1 dangling entry: directory 0 entry 0 inode 1
+rule MapClear:InodeFree pairs 1 closed 15 failing 6
+set 2
+write block 1: 2
+fault 5 used block marked free: inode 1 slot 0 block 5
+rule EntryClear:EntrySet pairs 0
+
+# twelve rules with pairs
+$ --needs
+start
+mkdir /d
+create /a
+write /a
+rename /a /d/b
+unlink /d/b
+= exactly 0
+module soft
+patches 17
+closed 288
+failing 0
+rule EntrySet:InodeInit pairs 2 closed 312 failing 24
+set 6
+write block 4: 6
+fault 1 dangling entry: directory 0 entry 1 inode 2
+rule EntrySet:LinkUp pairs 1 closed 408 failing 14
+set 0 1 2 3 11
+write block 2: 0
+write block 1: 1
+write block 5: 2
+write block 2: 3
+write block 5: 11
+fault 1 dangling entry: directory 1 entry 0 inode 2
+rule EntrySet:Ptr pairs 1 closed 379 failing 0
+rule InitFile:MapSet pairs 1 closed 360 failing 0
+rule InitDir:MapSet pairs 1 closed 394 failing 0
+rule Ptr:InitFile pairs 1 closed 360 failing 64
+set 5 7 9
+write block 2: 5
+write block 1: 7
+write block 2: 9
+fault 3 unwritten pointer: inode 2 slot 0 block 6
+rule Ptr:InitDir pairs 1 closed 326 failing 38
+set 0 1 3
+write block 2: 0
+write block 1: 1
+write block 2: 3
+fault 3 unwritten pointer: inode 1 slot 0 block 5
+rule Ptr:MapSet pairs 2 closed 288 failing 0
+rule LinkDown:EntryClear pairs 1 closed 432 failing 16
+set 0 1 2 3 5 6 10 11 13
+write block 2: 0
+write block 1: 1
+write block 5: 2
+write block 2: 3 5
+write block 4: 6
+write block 2: 10
+write block 5: 11
+write block 2: 13
+fault 4 low link count: inode 2 entries 2 links 1
+rule InodeFree:EntryClear pairs 1 closed 296 failing 4
+set 0 1 2 3 5 6 7 8 9 10 11 12 13 15
+write block 2: 0
+write block 1: 1
+write block 5: 2
+write block 2: 3 5
+write block 4: 6
+write block 1: 7
+write block 6: 8
+write block 2: 9 10
+write block 5: 11
+write block 4: 12
+write block 2: 13 15
+fault 1 dangling entry: directory 1 entry 0 inode 2
+rule MapClear:InodeFree pairs 1 closed 496 failing 64
+set 5 7 8 9 16
+write block 2: 5
+write block 1: 7
+write block 6: 8
+write block 2: 9
+write block 1: 16
+fault 5 used block marked free: inode 2 slot 0 block 6
+rule EntryClear:EntrySet pairs 1 closed 384 failing 0
+
+# rules in json
+$ --needs --limit 11 --json
+start
+create /a
+write /a
+= exactly 0
+{"closed":11,"failing":0,"module":"soft","patches":5,"rules":[{"pairs":1,"rule":"EntrySet:InodeInit",
+ "too_many":true},{"pairs":0,"rule":"EntrySet:LinkUp"},{"pairs":0,"rule":"EntrySet:Ptr"},{"pairs":1,
+ "rule":"InitFile:MapSet","too_many":true},{"pairs":0,"rule":"InitDir:MapSet"},{"pairs":1,"rule":"Ptr:InitFile",
+ "too_many":true},{"pairs":0,"rule":"Ptr:InitDir"},{"closed":11,"failing":0,"pairs":1,"rule":"Ptr:MapSet"},
+ {"pairs":0,"rule":"LinkDown:EntryClear"},{"pairs":0,"rule":"InodeFree:EntryClear"},{"pairs":0,
+ "rule":"MapClear:InodeFree"},{"pairs":0,"rule":"EntryClear:EntrySet"}]}
+
+# rules in json
+$ --needs --json
+create /a
+write /a
+create /b
+start
+unlink /a
+write /b
+= exactly 0
+{"closed":7,"failing":0,"module":"soft","patches":6,"rules":[{"pairs":0,"rule":"EntrySet:InodeInit"},{"pairs":0,
+ "rule":"EntrySet:LinkUp"},{"pairs":0,"rule":"EntrySet:Ptr"},{"closed":11,"failing":2,"first":{"faults":[
+ "3 unwritten pointer: inode 1 slot 0 block 5"],"set":[4],"writes":[{"block":5,"patches":[4]}]},"pairs":1,
+ "rule":"InitFile:MapSet"},{"pairs":0,"rule":"InitDir:MapSet"},{"closed":8,"failing":1,"first":{"faults":[
+ "3 unwritten pointer: inode 2 slot 0 block 5"],"set":[0,1,2,3,5],"writes":[{"block":4,"patches":[0]},{"block":2,
+ "patches":[1]},{"block":1,"patches":[2,3]},{"block":2,"patches":[5]}]},"pairs":1,"rule":"Ptr:InitFile"},{"pairs":0,
+ "rule":"Ptr:InitDir"},{"closed":7,"failing":0,"pairs":1,"rule":"Ptr:MapSet"},{"pairs":0,
+ "rule":"LinkDown:EntryClear"},{"closed":12,"failing":5,"first":{"faults":[
+ "1 dangling entry: directory 0 entry 0 inode 1"],"set":[1],"writes":[{"block":2,"patches":[1]}]},"pairs":1,
+ "rule":"InodeFree:EntryClear"},{"closed":15,"failing":6,"first":{"faults":[
+ "5 used block marked free: inode 1 slot 0 block 5"],"set":[2],"writes":[{"block":1,"patches":[2]}]},"pairs":1,
+ "rule":"MapClear:InodeFree"},{"pairs":0,"rule":"EntryClear:EntrySet"}]}
+
+# the ordering itself can have too many sets
+$ --needs --limit 10
+start
+create /a
+write /a
+= exactly 2
+crashmap: 30 too many closed sets
+
+# an ordering without rules needs none
+$ --module async --needs --json
+start
+= exactly 0
+{"closed":1,"failing":0,"module":"async","patches":0,"rules":[]}
+
+# an ordering without rules needs none
+$ --module async --needs
+start
+create /a
+= exactly 1
+module async
+patches 2
+closed 4
+failing 1
+
+# rules that were put in are told of too
+$ --module async --with Ptr:MapSet --with EntrySet:InodeInit --needs
+start
+create /a
+write /a
+= exactly 1
+module async
+with Ptr:MapSet
+with EntrySet:InodeInit
+patches 5
+closed 16
+failing 2
+rule Ptr:MapSet pairs 1 closed 20 failing 6
+set 0 4
+write block 2: 0 4
+fault 3 unwritten pointer: inode 1 slot 0 block 5
+fault 5 used block marked free: inode 1 slot 0 block 5
+rule EntrySet:InodeInit pairs 1 closed 20 failing 6
+set 1
+write block 4: 1
+fault 1 dangling entry: directory 0 entry 0 inode 1
+
+# rules that were taken out are not told of
+$ --without EntrySet:InodeInit --needs
+start
+create /a
+= exactly 1
+module soft
+without EntrySet:InodeInit
+patches 2
+closed 4
+failing 1
+rule EntrySet:LinkUp pairs 0
+rule EntrySet:Ptr pairs 0
+rule InitFile:MapSet pairs 0
+rule InitDir:MapSet pairs 0
+rule Ptr:InitFile pairs 0
+rule Ptr:InitDir pairs 0
+rule Ptr:MapSet pairs 0
+rule LinkDown:EntryClear pairs 0
+rule InodeFree:EntryClear pairs 0
+rule MapClear:InodeFree pairs 0
+rule EntryClear:EntrySet pairs 0
+"#;
 
 #[test]
-fn the_ordering_itself_can_have_too_many_sets(rt: HostRuntime) -> Result<(), Fail> {
-    exactly(
-        &rt,
-        &["--needs --limit 10"],
-        WRITE,
-        2,
-        "",
-        "crashmap: 30 too many closed sets\n",
-    )
-}
-
-#[test]
-fn an_ordering_without_rules_needs_none(rt: HostRuntime) -> Result<(), Fail> {
-    exactly(
-        &rt,
-        &["--module async --needs --json"],
-        b"start\n",
-        0,
-        "{\"closed\":1,\"failing\":0,\"module\":\"async\",\"patches\":0,\"rules\":[]}\n",
-        "",
-    )?;
-    exactly(
-        &rt,
-        &["--module async --needs"],
-        CREATE,
-        1,
-        "module async\n\
-         patches 2\n\
-         closed 4\n\
-         failing 1\n",
-        "",
-    )
-}
-
-#[test]
-fn rules_that_were_put_in_are_told_of_too(rt: HostRuntime) -> Result<(), Fail> {
-    exactly(
-        &rt,
-        &["--module async --with Ptr:MapSet --with EntrySet:InodeInit --needs"],
-        WRITE,
-        1,
-        "module async\n\
-         with Ptr:MapSet\n\
-         with EntrySet:InodeInit\n\
-         patches 5\n\
-         closed 16\n\
-         failing 2\n\
-         rule Ptr:MapSet pairs 1 closed 20 failing 6\n\
-         set 0 4\n\
-         write block 2: 0 4\n\
-         fault 3 unwritten pointer: inode 1 slot 0 block 5\n\
-         fault 5 used block marked free: inode 1 slot 0 block 5\n\
-         rule EntrySet:InodeInit pairs 1 closed 20 failing 6\n\
-         set 1\n\
-         write block 4: 1\n\
-         fault 1 dangling entry: directory 0 entry 0 inode 1\n",
-        "",
-    )
-}
-
-#[test]
-fn rules_that_were_taken_out_are_not_told_of(rt: HostRuntime) -> Result<(), Fail> {
-    exactly(
-        &rt,
-        &["--without EntrySet:InodeInit --needs"],
-        CREATE,
-        1,
-        "module soft\n\
-         without EntrySet:InodeInit\n\
-         patches 2\n\
-         closed 4\n\
-         failing 1\n\
-         rule EntrySet:LinkUp pairs 0\n\
-         rule EntrySet:Ptr pairs 0\n\
-         rule InitFile:MapSet pairs 0\n\
-         rule InitDir:MapSet pairs 0\n\
-         rule Ptr:InitFile pairs 0\n\
-         rule Ptr:InitDir pairs 0\n\
-         rule Ptr:MapSet pairs 0\n\
-         rule LinkDown:EntryClear pairs 0\n\
-         rule InodeFree:EntryClear pairs 0\n\
-         rule MapClear:InodeFree pairs 0\n\
-         rule EntryClear:EntrySet pairs 0\n",
-        "",
-    )
+fn each_row_is_told(rt: HostRuntime) -> Result<(), Fail> {
+    each_row(&rt, ROWS)
 }

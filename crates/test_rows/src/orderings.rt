@@ -1,198 +1,9 @@
 //! What each ordering leaves open.
 
-use crate::asked::{begins, each_clean, each_refused, exactly, refused};
+use crate::asked::{exactly, refused};
+use crate::tables::each_row;
 use std::test::Fail;
 use test_support::asked::{HALF_LINKS, SOFT_LINKS};
-
-#[test]
-fn soft_updates_keep_these_scripts_safe(rt: HostRuntime) -> Result<(), Fail> {
-    each_clean(
-        &rt,
-        &[
-            ("soft", "", "start\ncreate /a\n", 2, 3),
-            ("soft", "", "start\ncreate /a\nwrite /a\n", 5, 11),
-            ("soft", "", "create /a\nstart\nrename /a /b\n", 4, 5),
-            (
-                "soft",
-                "",
-                "create /a\nwrite /a\ncreate /b\nstart\nunlink /a\nwrite /b\n",
-                6,
-                7,
-            ),
-        ],
-    )?;
-    let report = "module soft\npatches 2\nclosed 3\nfailing 0\n";
-    exactly(&rt, &[], b"start\ncreate /a\n", 0, report, "")
-}
-
-#[test]
-fn a_metadata_journal_logs_a_create(rt: HostRuntime) -> Result<(), Fail> {
-    each_clean(
-        &rt,
-        &[
-            ("meta", "--journal 6", "start\ncreate /a\n", 6, 9),
-            (
-                "meta",
-                "--journal 6",
-                "start\ncreate /a\nwrite /a\n",
-                13,
-                73,
-            ),
-        ],
-    )?;
-    refused(
-        &rt,
-        &["--module meta --journal 2"],
-        b"start\ncreate /a\n",
-        "crashmap: line 2: 20 journal full\n",
-    )?;
-    refused(
-        &rt,
-        &["--module meta"],
-        b"start\ncreate /a\n",
-        "crashmap: line 2: 20 journal full\n",
-    )?;
-    refused(
-        &rt,
-        &["--module meta --journal 5"],
-        b"start\ncreate /a\nwrite /a\n",
-        "crashmap: line 3: 20 journal full\n",
-    )
-}
-
-#[test]
-fn replay_of_a_metadata_journal_can_undo_reused_data(rt: HostRuntime) -> Result<(), Fail> {
-    begins(
-        &rt,
-        &["--module meta --blocks 24 --journal 12"],
-        b"mkdir /d\ncreate /d/x\ncreate /f\nstart\nunlink /d/x\nrmdir /d\nwrite /f\n",
-        1,
-        "module meta\npatches 21\nclosed 629\nfailing 48\nset 0 1 2 3 6 7 8 9 14 15 16 17\n\
-          write block 5: 0\nwrite block 6: 1\nwrite block 4: 2\nwrite block 17: 3\n\
-          write block 8: 6\nwrite block 9: 7\nwrite block 10: 8\nwrite block 7: 9\n\
-          write block 17: 14\nwrite block 12: 15\nwrite block 13: 16\nwrite block 11: 17\n\
-          fault 3 unwritten pointer: inode 3 slot 0 block 17\n",
-    )
-}
-
-/// A directory's block is used again for file data: replay of the metadata journal can put the directory back over it,
-/// and under the full journal it can't.
-#[test]
-fn a_full_journal_is_safe_where_a_metadata_journal_is_not(rt: HostRuntime) -> Result<(), Fail> {
-    let script = b"mkdir /d\ncreate /d/x\ncreate /f\nstart\nunlink /d/x\nrmdir /d\nwrite /f\n";
-    begins(
-        &rt,
-        &["--module meta --blocks 24 --journal 12"],
-        script,
-        1,
-        "module meta\npatches 21\nclosed 629\nfailing 48\n",
-    )?;
-    exactly(
-        &rt,
-        &["--module full --blocks 24 --journal 12"],
-        script,
-        0,
-        "module full\npatches 22\nclosed 1105\nfailing 0\n",
-        "",
-    )
-}
-
-#[test]
-fn a_full_journal_leaves_nothing_torn(rt: HostRuntime) -> Result<(), Fail> {
-    each_clean(
-        &rt,
-        &[
-            ("full", "--journal 6", "start\ncreate /a\n", 6, 9),
-            (
-                "full",
-                "--journal 7",
-                "start\ncreate /a\nwrite /a\n",
-                14,
-                105,
-            ),
-        ],
-    )?;
-    refused(
-        &rt,
-        &["--module full --journal 6"],
-        b"start\ncreate /a\nwrite /a\n",
-        "crashmap: line 3: 20 journal full\n",
-    )?;
-    exactly(
-        &rt,
-        &["--module full --blocks 24 --journal 12"],
-        b"mkdir /d\ncreate /d/x\ncreate /f\nstart\nunlink /d/x\nrmdir /d\nwrite /f\n",
-        0,
-        "module full\npatches 22\nclosed 1105\nfailing 0\n",
-        "",
-    )?;
-    refused(
-        &rt,
-        &["--module full --blocks 24 --journal 12 --limit 1104"],
-        b"mkdir /d\ncreate /d/x\ncreate /f\nstart\nunlink /d/x\nrmdir /d\nwrite /f\n",
-        "crashmap: 30 too many closed sets\n",
-    )
-}
-
-#[test]
-fn groups_order_what_they_hold(rt: HostRuntime) -> Result<(), Fail> {
-    exactly(
-        &rt,
-        &["--module async"],
-        b"start\ngroup A\ncreate /a\nend\ndepend B A\ngroup B\ncreate /b\nend\n",
-        1,
-        "module async\npatches 4\nclosed 7\nfailing 2\nset 1\nwrite block 4: 1\n\
-          fault 1 dangling entry: directory 0 entry 0 inode 1\nset 0 1 3\nwrite block 2: 0\n\
-          write block 4: 1 3\nfault 1 dangling entry: directory 0 entry 1 inode 2\n",
-        "",
-    )
-}
-
-#[test]
-fn an_empty_group_orders_nothing(rt: HostRuntime) -> Result<(), Fail> {
-    exactly(
-        &rt,
-        &["--module async"],
-        b"start\ngroup A\nend\ndepend B A\ngroup B\ncreate /b\n",
-        1,
-        "module async\npatches 2\nclosed 4\nfailing 1\nset 1\nwrite block 4: 1\n\
-          fault 1 dangling entry: directory 0 entry 0 inode 1\n",
-        "",
-    )
-}
-
-#[test]
-fn groups_have_rules(rt: HostRuntime) -> Result<(), Fail> {
-    each_refused(
-        &rt,
-        &["--module async"],
-        &[
-            (
-                "start\ngroup A\ncreate /a\ndepend B A\n",
-                "crashmap: line 4: 21 group fault\n",
-            ),
-            ("group A\nstart\n", "crashmap: line 1: 21 group fault\n"),
-            ("start\ndepend B A\n", "crashmap: line 2: 21 group fault\n"),
-            (
-                "start\ngroup A\nend\ndepend B A\ngroup B\ncreate /b\ndepend B A\n",
-                "crashmap: line 7: 21 group fault\n",
-            ),
-            (
-                "start\ngroup A\ngroup B\n",
-                "crashmap: line 3: 21 group fault\n",
-            ),
-            (
-                "start\ngroup A\nend\ngroup A\n",
-                "crashmap: line 4: 21 group fault\n",
-            ),
-            ("start\nend\n", "crashmap: line 2: 21 group fault\n"),
-            (
-                "start\ngroup A\nend\ndepend A A\n",
-                "crashmap: line 4: 21 group fault\n",
-            ),
-        ],
-    )
-}
 
 #[test]
 fn a_graph_has_at_most_124_patches(rt: HostRuntime) -> Result<(), Fail> {
@@ -221,4 +32,334 @@ fn a_graph_has_at_most_124_patches(rt: HostRuntime) -> Result<(), Fail> {
         script.as_slice(),
         "crashmap: line 65: 2 too many patches\n",
     )
+}
+
+/// What each row asks, and what it is told.
+const ROWS: &str = r#"
+# soft updates keep these scripts safe
+$ --module soft
+start
+create /a
+= exactly 0
+module soft
+patches 2
+closed 3
+failing 0
+
+# soft updates keep these scripts safe
+$ --module soft
+start
+create /a
+write /a
+= exactly 0
+module soft
+patches 5
+closed 11
+failing 0
+
+# soft updates keep these scripts safe
+$ --module soft
+create /a
+start
+rename /a /b
+= exactly 0
+module soft
+patches 4
+closed 5
+failing 0
+
+# soft updates keep these scripts safe
+$ --module soft
+create /a
+write /a
+create /b
+start
+unlink /a
+write /b
+= exactly 0
+module soft
+patches 6
+closed 7
+failing 0
+
+# soft updates keep these scripts safe
+$
+start
+create /a
+= exactly 0
+module soft
+patches 2
+closed 3
+failing 0
+
+# a metadata journal logs a create
+$ --module meta --journal 6
+start
+create /a
+= exactly 0
+module meta
+patches 6
+closed 9
+failing 0
+
+# a metadata journal logs a create
+$ --module meta --journal 6
+start
+create /a
+write /a
+= exactly 0
+module meta
+patches 13
+closed 73
+failing 0
+
+# a metadata journal logs a create
+$ --module meta --journal 2
+start
+create /a
+= exactly 2
+crashmap: line 2: 20 journal full
+
+# a metadata journal logs a create
+$ --module meta
+start
+create /a
+= exactly 2
+crashmap: line 2: 20 journal full
+
+# a metadata journal logs a create
+$ --module meta --journal 5
+start
+create /a
+write /a
+= exactly 2
+crashmap: line 3: 20 journal full
+
+# replay of a metadata journal can undo reused data
+$ --module meta --blocks 24 --journal 12
+mkdir /d
+create /d/x
+create /f
+start
+unlink /d/x
+rmdir /d
+write /f
+= begins 1
+module meta
+patches 21
+closed 629
+failing 48
+set 0 1 2 3 6 7 8 9 14 15 16 17
+write block 5: 0
+write block 6: 1
+write block 4: 2
+write block 17: 3
+write block 8: 6
+write block 9: 7
+write block 10: 8
+write block 7: 9
+write block 17: 14
+write block 12: 15
+write block 13: 16
+write block 11: 17
+fault 3 unwritten pointer: inode 3 slot 0 block 17
+
+# a full journal is safe where a metadata journal is not
+$ --module meta --blocks 24 --journal 12
+mkdir /d
+create /d/x
+create /f
+start
+unlink /d/x
+rmdir /d
+write /f
+= begins 1
+module meta
+patches 21
+closed 629
+failing 48
+
+# a full journal is safe where a metadata journal is not
+$ --module full --blocks 24 --journal 12
+mkdir /d
+create /d/x
+create /f
+start
+unlink /d/x
+rmdir /d
+write /f
+= exactly 0
+module full
+patches 22
+closed 1105
+failing 0
+
+# a full journal leaves nothing torn
+$ --module full --journal 6
+start
+create /a
+= exactly 0
+module full
+patches 6
+closed 9
+failing 0
+
+# a full journal leaves nothing torn
+$ --module full --journal 7
+start
+create /a
+write /a
+= exactly 0
+module full
+patches 14
+closed 105
+failing 0
+
+# a full journal leaves nothing torn
+$ --module full --journal 6
+start
+create /a
+write /a
+= exactly 2
+crashmap: line 3: 20 journal full
+
+# a full journal leaves nothing torn
+$ --module full --blocks 24 --journal 12
+mkdir /d
+create /d/x
+create /f
+start
+unlink /d/x
+rmdir /d
+write /f
+= exactly 0
+module full
+patches 22
+closed 1105
+failing 0
+
+# a full journal leaves nothing torn
+$ --module full --blocks 24 --journal 12 --limit 1104
+mkdir /d
+create /d/x
+create /f
+start
+unlink /d/x
+rmdir /d
+write /f
+= exactly 2
+crashmap: 30 too many closed sets
+
+# groups order what they hold
+$ --module async
+start
+group A
+create /a
+end
+depend B A
+group B
+create /b
+end
+= exactly 1
+module async
+patches 4
+closed 7
+failing 2
+set 1
+write block 4: 1
+fault 1 dangling entry: directory 0 entry 0 inode 1
+set 0 1 3
+write block 2: 0
+write block 4: 1 3
+fault 1 dangling entry: directory 0 entry 1 inode 2
+
+# an empty group orders nothing
+$ --module async
+start
+group A
+end
+depend B A
+group B
+create /b
+= exactly 1
+module async
+patches 2
+closed 4
+failing 1
+set 1
+write block 4: 1
+fault 1 dangling entry: directory 0 entry 0 inode 1
+
+# groups have rules
+$ --module async
+start
+group A
+create /a
+depend B A
+= exactly 2
+crashmap: line 4: 21 group fault
+
+# groups have rules
+$ --module async
+group A
+start
+= exactly 2
+crashmap: line 1: 21 group fault
+
+# groups have rules
+$ --module async
+start
+depend B A
+= exactly 2
+crashmap: line 2: 21 group fault
+
+# groups have rules
+$ --module async
+start
+group A
+end
+depend B A
+group B
+create /b
+depend B A
+= exactly 2
+crashmap: line 7: 21 group fault
+
+# groups have rules
+$ --module async
+start
+group A
+group B
+= exactly 2
+crashmap: line 3: 21 group fault
+
+# groups have rules
+$ --module async
+start
+group A
+end
+group A
+= exactly 2
+crashmap: line 4: 21 group fault
+
+# groups have rules
+$ --module async
+start
+end
+= exactly 2
+crashmap: line 2: 21 group fault
+
+# groups have rules
+$ --module async
+start
+group A
+end
+depend A A
+= exactly 2
+crashmap: line 4: 21 group fault
+"#;
+
+#[test]
+fn each_row_is_told(rt: HostRuntime) -> Result<(), Fail> {
+    each_row(&rt, ROWS)
 }

@@ -1,212 +1,349 @@
 //! Operations, geometries and limits that are refused.
 
-use crate::asked::{each_clean, each_refused, exactly, refused};
-use crate::scripts::{WRITE, WRITE_REPORT};
+use crate::tables::each_row;
 use std::test::Fail;
 
-#[test]
-fn a_path_is_walked_name_by_name(rt: HostRuntime) -> Result<(), Fail> {
-    each_refused(
-        &rt,
-        &["--module async"],
-        &[
-            ("start\ncreate /x/y\n", "crashmap: line 2: 10 not found\n"),
-            (
-                "start\ncreate /a\ncreate /a/b\n",
-                "crashmap: line 3: 11 not a directory\n",
-            ),
-        ],
-    )
-}
+/// What each row asks, and what it is told.
+const ROWS: &str = r#"
+# a path is walked name by name
+$ --module async
+start
+create /x/y
+= exactly 2
+crashmap: line 2: 10 not found
+
+# a path is walked name by name
+$ --module async
+start
+create /a
+create /a/b
+= exactly 2
+crashmap: line 3: 11 not a directory
+
+# a name is taken once
+$ --module async
+start
+create /a
+link /a /a
+= exactly 2
+crashmap: line 3: 12 exists
+
+# a name is taken once
+$ --module async
+start
+create /a
+create /a
+= exactly 2
+crashmap: line 3: 12 exists
+
+# a name is taken once
+$ --module async
+start
+mkdir /a
+mkdir /a
+= exactly 2
+crashmap: line 3: 12 exists
+
+# a directory is no file
+$ --module async
+start
+mkdir /d
+write /d
+= exactly 2
+crashmap: line 3: 13 not a file
+
+# a directory is no file
+$ --module async
+start
+mkdir /d
+unlink /d
+= exactly 2
+crashmap: line 3: 13 not a file
+
+# a directory is no file
+$ --module async
+start
+mkdir /d
+link /d /e
+= exactly 2
+crashmap: line 3: 13 not a file
+
+# a directory is no file
+$ --module async
+start
+create /a
+rmdir /a
+= exactly 2
+crashmap: line 3: 11 not a directory
+
+# a directory goes only empty
+$ --module async
+mkdir /d
+create /d/x
+start
+rmdir /d
+= exactly 2
+crashmap: line 4: 14 not empty
+
+# inodes run out
+$ --module async
+mkdir /d
+create /d/0
+create /d/1
+create /d/2
+create /d/3
+create /d/4
+create /d/5
+create /d/6
+create /d/7
+create /d/8
+create /d/9
+create /a
+create /b
+create /c
+create /e
+start
+create /f
+= exactly 2
+crashmap: line 17: 15 no free inode
+
+# inodes run out
+$ --module async
+mkdir /d
+create /d/0
+create /d/1
+create /d/2
+create /d/3
+create /d/4
+create /d/5
+create /d/6
+create /d/7
+create /d/8
+create /d/9
+create /a
+create /b
+create /c
+create /e
+start
+mkdir /f
+= exactly 2
+crashmap: line 17: 15 no free inode
+
+# blocks run out
+$ --module async --journal 10
+create /a
+write /a
+start
+write /a
+= exactly 2
+crashmap: line 4: 16 no free block
+
+# a directory has ten entries
+$ --module async
+mkdir /d
+create /d/0
+create /d/1
+create /d/2
+create /d/3
+create /d/4
+create /d/5
+create /d/6
+create /d/7
+create /d/8
+create /d/9
+start
+create /d/z
+= exactly 2
+crashmap: line 13: 17 directory full
+
+# a file has four blocks
+$ --module async
+create /a
+write /a
+write /a
+write /a
+write /a
+start
+write /a
+= exactly 2
+crashmap: line 7: 18 file full
+
+# a file has eight links
+$ --module async
+create /a
+link /a /b
+link /a /c
+link /a /d
+link /a /e
+link /a /f
+link /a /g
+link /a /h
+start
+link /a /i
+= exactly 2
+crashmap: line 10: 19 too many links
+
+# a file has eight links
+$ --module async
+create /a
+link /a /b
+link /a /c
+link /a /d
+link /a /e
+link /a /f
+link /a /g
+link /a /h
+start
+rename /a /i
+= exactly 2
+crashmap: line 10: 19 too many links
+
+# a geometry leaves room for data
+$ --module async --journal 11
+start
+= exactly 2
+crashmap: 1 bad geometry
+
+# a geometry leaves room for data
+$ --module async --journal 10
+start
+= exactly 0
+module async
+patches 0
+closed 1
+failing 0
+
+# a geometry leaves room for data
+$ --module async --blocks 128 --journal 122
+start
+= exactly 0
+module async
+patches 0
+closed 1
+failing 0
+
+# closed sets may be as many as the limit
+$ --module async --limit 24
+start
+create /a
+write /a
+= exactly 1
+module async
+patches 5
+closed 24
+failing 10
+set 1
+write block 4: 1
+fault 1 dangling entry: directory 0 entry 0 inode 1
+set 1 2
+write block 4: 1
+write block 1: 2
+fault 1 dangling entry: directory 0 entry 0 inode 1
+set 1 3
+write block 4: 1
+write block 5: 3
+fault 1 dangling entry: directory 0 entry 0 inode 1
+set 0 4
+write block 2: 0 4
+fault 3 unwritten pointer: inode 1 slot 0 block 5
+fault 5 used block marked free: inode 1 slot 0 block 5
+set 1 2 3
+write block 4: 1
+write block 1: 2
+write block 5: 3
+fault 1 dangling entry: directory 0 entry 0 inode 1
+set 0 1 4
+write block 2: 0
+write block 4: 1
+write block 2: 4
+fault 3 unwritten pointer: inode 1 slot 0 block 5
+fault 5 used block marked free: inode 1 slot 0 block 5
+set 0 2 4
+write block 2: 0
+write block 1: 2
+write block 2: 4
+fault 3 unwritten pointer: inode 1 slot 0 block 5
+set 0 3 4
+write block 2: 0
+write block 5: 3
+write block 2: 4
+fault 5 used block marked free: inode 1 slot 0 block 5
+set 0 1 2 4
+write block 2: 0
+write block 4: 1
+write block 1: 2
+write block 2: 4
+fault 3 unwritten pointer: inode 1 slot 0 block 5
+set 0 1 3 4
+write block 2: 0
+write block 4: 1
+write block 5: 3
+write block 2: 4
+fault 5 used block marked free: inode 1 slot 0 block 5
+
+# closed sets may be as many as the limit
+$ --module async --limit 23
+start
+create /a
+write /a
+= exactly 2
+crashmap: 30 too many closed sets
+
+# closed sets may be as many as the limit
+$ --module async --limit 1
+start
+create /a
+= exactly 2
+crashmap: 30 too many closed sets
+
+# closed sets may be as many as the limit
+$ --module async --limit 16
+start
+create /a
+create /b
+= exactly 1
+module async
+patches 4
+closed 16
+failing 7
+set 1
+write block 4: 1
+fault 1 dangling entry: directory 0 entry 0 inode 1
+set 3
+write block 4: 3
+fault 1 dangling entry: directory 0 entry 1 inode 2
+set 1 2
+write block 4: 1
+write block 2: 2
+fault 1 dangling entry: directory 0 entry 0 inode 1
+set 0 3
+write block 2: 0
+write block 4: 3
+fault 1 dangling entry: directory 0 entry 1 inode 2
+set 1 3
+write block 4: 1 3
+fault 1 dangling entry: directory 0 entry 0 inode 1
+fault 1 dangling entry: directory 0 entry 1 inode 2
+set 0 1 3
+write block 2: 0
+write block 4: 1 3
+fault 1 dangling entry: directory 0 entry 1 inode 2
+set 1 2 3
+write block 4: 1
+write block 2: 2
+write block 4: 3
+fault 1 dangling entry: directory 0 entry 0 inode 1
+
+# closed sets may be as many as the limit
+$ --module async --limit 15
+start
+create /a
+create /b
+= exactly 2
+crashmap: 30 too many closed sets
+"#;
 
 #[test]
-fn a_name_is_taken_once(rt: HostRuntime) -> Result<(), Fail> {
-    each_refused(
-        &rt,
-        &["--module async"],
-        &[
-            (
-                "start\ncreate /a\nlink /a /a\n",
-                "crashmap: line 3: 12 exists\n",
-            ),
-            (
-                "start\ncreate /a\ncreate /a\n",
-                "crashmap: line 3: 12 exists\n",
-            ),
-            (
-                "start\nmkdir /a\nmkdir /a\n",
-                "crashmap: line 3: 12 exists\n",
-            ),
-        ],
-    )
-}
-
-#[test]
-fn a_directory_is_no_file(rt: HostRuntime) -> Result<(), Fail> {
-    each_refused(
-        &rt,
-        &["--module async"],
-        &[
-            (
-                "start\nmkdir /d\nwrite /d\n",
-                "crashmap: line 3: 13 not a file\n",
-            ),
-            (
-                "start\nmkdir /d\nunlink /d\n",
-                "crashmap: line 3: 13 not a file\n",
-            ),
-            (
-                "start\nmkdir /d\nlink /d /e\n",
-                "crashmap: line 3: 13 not a file\n",
-            ),
-            (
-                "start\ncreate /a\nrmdir /a\n",
-                "crashmap: line 3: 11 not a directory\n",
-            ),
-        ],
-    )
-}
-
-#[test]
-fn a_directory_goes_only_empty(rt: HostRuntime) -> Result<(), Fail> {
-    refused(
-        &rt,
-        &["--module async"],
-        b"mkdir /d\ncreate /d/x\nstart\nrmdir /d\n",
-        "crashmap: line 4: 14 not empty\n",
-    )
-}
-
-#[test]
-fn inodes_run_out(rt: HostRuntime) -> Result<(), Fail> {
-    refused(
-        &rt,
-        &["--module async"],
-        b"mkdir /d\ncreate /d/0\ncreate /d/1\ncreate /d/2\ncreate /d/3\ncreate /d/4\ncreate /d/5\n\
-          create /d/6\ncreate /d/7\ncreate /d/8\ncreate /d/9\ncreate /a\ncreate /b\ncreate /c\n\
-          create /e\nstart\ncreate /f\n",
-        "crashmap: line 17: 15 no free inode\n",
-    )?;
-    refused(
-        &rt,
-        &["--module async"],
-        b"mkdir /d\ncreate /d/0\ncreate /d/1\ncreate /d/2\ncreate /d/3\ncreate /d/4\ncreate /d/5\n\
-          create /d/6\ncreate /d/7\ncreate /d/8\ncreate /d/9\ncreate /a\ncreate /b\ncreate /c\n\
-          create /e\nstart\nmkdir /f\n",
-        "crashmap: line 17: 15 no free inode\n",
-    )
-}
-
-#[test]
-fn blocks_run_out(rt: HostRuntime) -> Result<(), Fail> {
-    refused(
-        &rt,
-        &["--module async --journal 10"],
-        b"create /a\nwrite /a\nstart\nwrite /a\n",
-        "crashmap: line 4: 16 no free block\n",
-    )
-}
-
-#[test]
-fn a_directory_has_ten_entries(rt: HostRuntime) -> Result<(), Fail> {
-    refused(
-        &rt,
-        &["--module async"],
-        b"mkdir /d\ncreate /d/0\ncreate /d/1\ncreate /d/2\ncreate /d/3\ncreate /d/4\ncreate /d/5\n\
-          create /d/6\ncreate /d/7\ncreate /d/8\ncreate /d/9\nstart\ncreate /d/z\n",
-        "crashmap: line 13: 17 directory full\n",
-    )
-}
-
-#[test]
-fn a_file_has_four_blocks(rt: HostRuntime) -> Result<(), Fail> {
-    refused(
-        &rt,
-        &["--module async"],
-        b"create /a\nwrite /a\nwrite /a\nwrite /a\nwrite /a\nstart\nwrite /a\n",
-        "crashmap: line 7: 18 file full\n",
-    )
-}
-
-#[test]
-fn a_file_has_eight_links(rt: HostRuntime) -> Result<(), Fail> {
-    refused(
-        &rt,
-        &["--module async"],
-        b"create /a\nlink /a /b\nlink /a /c\nlink /a /d\nlink /a /e\nlink /a /f\nlink /a /g\n\
-          link /a /h\nstart\nlink /a /i\n",
-        "crashmap: line 10: 19 too many links\n",
-    )?;
-    refused(
-        &rt,
-        &["--module async"],
-        b"create /a\nlink /a /b\nlink /a /c\nlink /a /d\nlink /a /e\nlink /a /f\nlink /a /g\n\
-          link /a /h\nstart\nrename /a /i\n",
-        "crashmap: line 10: 19 too many links\n",
-    )
-}
-
-#[test]
-fn a_geometry_leaves_room_for_data(rt: HostRuntime) -> Result<(), Fail> {
-    refused(
-        &rt,
-        &["--module async --journal 11"],
-        b"start\n",
-        "crashmap: 1 bad geometry\n",
-    )?;
-    each_clean(
-        &rt,
-        &[
-            ("async", "--journal 10", "start\n", 0, 1),
-            ("async", "--blocks 128 --journal 122", "start\n", 0, 1),
-        ],
-    )
-}
-
-#[test]
-fn closed_sets_may_be_as_many_as_the_limit(rt: HostRuntime) -> Result<(), Fail> {
-    exactly(
-        &rt,
-        &["--module async --limit 24"],
-        WRITE,
-        1,
-        WRITE_REPORT,
-        "",
-    )?;
-    refused(
-        &rt,
-        &["--module async --limit 23"],
-        b"start\ncreate /a\nwrite /a\n",
-        "crashmap: 30 too many closed sets\n",
-    )?;
-    refused(
-        &rt,
-        &["--module async --limit 1"],
-        b"start\ncreate /a\n",
-        "crashmap: 30 too many closed sets\n",
-    )?;
-    exactly(
-        &rt,
-        &["--module async --limit 16"],
-        b"start\ncreate /a\ncreate /b\n",
-        1,
-        "module async\npatches 4\nclosed 16\nfailing 7\nset 1\nwrite block 4: 1\n\
-          fault 1 dangling entry: directory 0 entry 0 inode 1\nset 3\nwrite block 4: 3\n\
-          fault 1 dangling entry: directory 0 entry 1 inode 2\nset 1 2\nwrite block 4: 1\n\
-          write block 2: 2\nfault 1 dangling entry: directory 0 entry 0 inode 1\nset 0 3\n\
-          write block 2: 0\nwrite block 4: 3\n\
-          fault 1 dangling entry: directory 0 entry 1 inode 2\nset 1 3\nwrite block 4: 1 3\n\
-          fault 1 dangling entry: directory 0 entry 0 inode 1\n\
-          fault 1 dangling entry: directory 0 entry 1 inode 2\nset 0 1 3\nwrite block 2: 0\n\
-          write block 4: 1 3\nfault 1 dangling entry: directory 0 entry 1 inode 2\nset 1 2 3\n\
-          write block 4: 1\nwrite block 2: 2\nwrite block 4: 3\n\
-          fault 1 dangling entry: directory 0 entry 0 inode 1\n",
-        "",
-    )?;
-    refused(
-        &rt,
-        &["--module async --limit 15"],
-        b"start\ncreate /a\ncreate /b\n",
-        "crashmap: 30 too many closed sets\n",
-    )
+fn each_row_is_told(rt: HostRuntime) -> Result<(), Fail> {
+    each_row(&rt, ROWS)
 }

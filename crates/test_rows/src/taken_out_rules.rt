@@ -2,304 +2,9 @@
 
 use crate::asked::{exactly, has_digest, is_a_fault, is_taken};
 use crate::rule_texts::SOFT;
-use crate::scripts::{CREATE, REUSE};
+use crate::scripts::REUSE;
+use crate::tables::each_row;
 use std::test::Fail;
-
-/// A file is created and gets a second name.
-const LINK: &[u8] = b"start\ncreate /a\nlink /a /b\n";
-
-/// A file is created in a directory and gets a second name outside it.
-const LINK_OUT: &[u8] = b"mkdir /a\nstart\ncreate /a/a\nlink /a/a /b\n";
-
-/// A file gets its first block.
-const FIRST_BLOCK: &[u8] = b"create /a\nstart\nwrite /a\n";
-
-#[test]
-fn the_full_journal_needs_no_rule_on_file_data(rt: HostRuntime) -> Result<(), Fail> {
-    exactly(
-        &rt,
-        &["--module full --journal 6 --without FileData:previous-Commit"],
-        CREATE,
-        0,
-        "module full\n\
-         without FileData:previous-Commit\n\
-         patches 6\n\
-         closed 9\n\
-         failing 0\n",
-        "",
-    )?;
-    exactly(
-        &rt,
-        &["--module full --journal 6 --without Commit:FileData"],
-        CREATE,
-        0,
-        "module full\n\
-         without Commit:FileData\n\
-         patches 6\n\
-         closed 9\n\
-         failing 0\n",
-        "",
-    )
-}
-
-#[test]
-fn a_commit_before_its_copies_replays_what_the_journal_held(rt: HostRuntime) -> Result<(), Fail> {
-    exactly(
-        &rt,
-        &["--module full --journal 6 --without Commit:Copy"],
-        CREATE,
-        1,
-        "module full\n\
-         without Commit:Copy\n\
-         patches 6\n\
-         closed 24\n\
-         failing 4\n\
-         set 0 2\n\
-         write block 5: 0\n\
-         write block 4: 2\n\
-         fault 3 unwritten pointer: inode 0 slot 0 block 10\n\
-         set 0 2 3\n\
-         write block 5: 0\n\
-         write block 4: 2\n\
-         write block 2: 3\n\
-         fault 3 unwritten pointer: inode 0 slot 0 block 10\n\
-         set 0 2 4\n\
-         write block 5: 0\n\
-         write block 4: 2\n\
-         write block 10: 4\n\
-         fault 3 unwritten pointer: inode 0 slot 0 block 10\n\
-         set 0 2 3 4\n\
-         write block 5: 0\n\
-         write block 4: 2\n\
-         write block 2: 3\n\
-         write block 10: 4\n\
-         fault 3 unwritten pointer: inode 0 slot 0 block 10\n",
-        "",
-    )
-}
-
-#[test]
-fn commits_out_of_order_leave_changes_in_place_alone(rt: HostRuntime) -> Result<(), Fail> {
-    exactly(
-        &rt,
-        &["--module full --journal 6"],
-        LINK,
-        0,
-        "module full\n\
-         patches 12\n\
-         closed 53\n\
-         failing 0\n",
-        "",
-    )?;
-    exactly(
-        &rt,
-        &["--module full --journal 6 --without Commit:previous-Commit"],
-        LINK,
-        1,
-        "module full\n\
-         without Commit:previous-Commit\n\
-         patches 12\n\
-         closed 61\n\
-         failing 4\n\
-         set 6 7 8 10\n\
-         write block 8: 6\n\
-         write block 9: 7\n\
-         write block 7: 8\n\
-         write block 10: 10\n\
-         fault 1 dangling entry: directory 0 entry 1 inode 1\n\
-         set 0 6 7 8 10\n\
-         write block 5: 0\n\
-         write block 8: 6\n\
-         write block 9: 7\n\
-         write block 7: 8\n\
-         write block 10: 10\n\
-         fault 1 dangling entry: directory 0 entry 1 inode 1\n\
-         set 1 6 7 8 10\n\
-         write block 6: 1\n\
-         write block 8: 6\n\
-         write block 9: 7\n\
-         write block 7: 8\n\
-         write block 10: 10\n\
-         fault 1 dangling entry: directory 0 entry 1 inode 1\n\
-         set 0 1 6 7 8 10\n\
-         write block 5: 0\n\
-         write block 6: 1\n\
-         write block 8: 6\n\
-         write block 9: 7\n\
-         write block 7: 8\n\
-         write block 10: 10\n\
-         fault 1 dangling entry: directory 0 entry 1 inode 1\n",
-        "",
-    )
-}
-
-#[test]
-fn changes_in_place_before_the_commit_break_write_ahead(rt: HostRuntime) -> Result<(), Fail> {
-    exactly(
-        &rt,
-        &["--module full --journal 6 --without InPlace:Commit"],
-        CREATE,
-        1,
-        "module full\n\
-         without InPlace:Commit\n\
-         patches 6\n\
-         closed 21\n\
-         failing 4\n\
-         set 4\n\
-         write block 10: 4\n\
-         fault 1 dangling entry: directory 0 entry 0 inode 1\n\
-         set 0 4\n\
-         write block 5: 0\n\
-         write block 10: 4\n\
-         fault 1 dangling entry: directory 0 entry 0 inode 1\n\
-         set 1 4\n\
-         write block 6: 1\n\
-         write block 10: 4\n\
-         fault 1 dangling entry: directory 0 entry 0 inode 1\n\
-         set 0 1 4\n\
-         write block 5: 0\n\
-         write block 6: 1\n\
-         write block 10: 4\n\
-         fault 1 dangling entry: directory 0 entry 0 inode 1\n",
-        "",
-    )
-}
-
-#[test]
-fn a_transaction_that_is_done_before_its_changes_is_lost(rt: HostRuntime) -> Result<(), Fail> {
-    exactly(
-        &rt,
-        &["--module full --journal 6 --without Done:InPlace"],
-        CREATE,
-        1,
-        "module full\n\
-         without Done:InPlace\n\
-         patches 6\n\
-         closed 12\n\
-         failing 1\n\
-         set 0 1 2 4 5\n\
-         write block 5: 0\n\
-         write block 6: 1\n\
-         write block 4: 2\n\
-         write block 10: 4\n\
-         write block 4: 5\n\
-         fault 1 dangling entry: directory 0 entry 0 inode 1\n",
-        "",
-    )
-}
-
-#[test]
-fn a_later_transaction_done_before_an_earlier_one_is_replayed_over(
-    rt: HostRuntime,
-) -> Result<(), Fail> {
-    exactly(
-        &rt,
-        &["--module full --journal 6"],
-        LINK_OUT,
-        0,
-        "module full\n\
-         patches 12\n\
-         closed 53\n\
-         failing 0\n",
-        "",
-    )?;
-    exactly(
-        &rt,
-        &["--module full --journal 6 --without Done:previous-Done"],
-        LINK_OUT,
-        1,
-        "module full\n\
-         without Done:previous-Done\n\
-         patches 12\n\
-         closed 55\n\
-         failing 2\n\
-         set 0 1 2 3 6 7 8 9 10 11\n\
-         write block 5: 0\n\
-         write block 6: 1\n\
-         write block 4: 2\n\
-         write block 2: 3\n\
-         write block 8: 6\n\
-         write block 9: 7\n\
-         write block 7: 8\n\
-         write block 2: 9\n\
-         write block 10: 10\n\
-         write block 7: 11\n\
-         fault 4 low link count: inode 2 entries 2 links 1\n\
-         set 0 1 2 3 4 6 7 8 9 10 11\n\
-         write block 5: 0\n\
-         write block 6: 1\n\
-         write block 4: 2\n\
-         write block 2: 3\n\
-         write block 11: 4\n\
-         write block 8: 6\n\
-         write block 9: 7\n\
-         write block 7: 8\n\
-         write block 2: 9\n\
-         write block 10: 10\n\
-         write block 7: 11\n\
-         fault 4 low link count: inode 2 entries 2 links 1\n",
-        "",
-    )
-}
-
-#[test]
-fn a_commit_before_its_file_data_shows_stale_data(rt: HostRuntime) -> Result<(), Fail> {
-    exactly(
-        &rt,
-        &["--module meta --journal 3"],
-        FIRST_BLOCK,
-        0,
-        "module meta\n\
-         patches 7\n\
-         closed 13\n\
-         failing 0\n",
-        "",
-    )?;
-    exactly(
-        &rt,
-        &["--module meta --journal 3 --without Commit:FileData"],
-        FIRST_BLOCK,
-        1,
-        "module meta\n\
-         without Commit:FileData\n\
-         patches 7\n\
-         closed 18\n\
-         failing 5\n\
-         set 1 2 3\n\
-         write block 5: 1\n\
-         write block 6: 2\n\
-         write block 4: 3\n\
-         fault 3 unwritten pointer: inode 1 slot 0 block 8\n\
-         set 1 2 3 4\n\
-         write block 5: 1\n\
-         write block 6: 2\n\
-         write block 4: 3\n\
-         write block 1: 4\n\
-         fault 3 unwritten pointer: inode 1 slot 0 block 8\n\
-         set 1 2 3 5\n\
-         write block 5: 1\n\
-         write block 6: 2\n\
-         write block 4: 3\n\
-         write block 2: 5\n\
-         fault 3 unwritten pointer: inode 1 slot 0 block 8\n\
-         set 1 2 3 4 5\n\
-         write block 5: 1\n\
-         write block 6: 2\n\
-         write block 4: 3\n\
-         write block 1: 4\n\
-         write block 2: 5\n\
-         fault 3 unwritten pointer: inode 1 slot 0 block 8\n\
-         set 1 2 3 4 5 6\n\
-         write block 5: 1\n\
-         write block 6: 2\n\
-         write block 4: 3\n\
-         write block 1: 4\n\
-         write block 2: 5\n\
-         write block 4: 6\n\
-         fault 3 unwritten pointer: inode 1 slot 0 block 8\n",
-        "",
-    )
-}
 
 /// These words, and then each rule of soft updates behind an option.
 fn with_each_rule<R: AllocGlobal>(
@@ -388,4 +93,266 @@ fn sixteen_rules_are_put_in_and_no_more(rt: HostRuntime) -> Result<(), Fail> {
     words.push("--with")?;
     words.push("Ptr:Ptr")?;
     is_a_fault(&rt, words.as_slice(), "Ptr:Ptr")
+}
+
+/// What each row asks, and what it is told.
+const ROWS: &str = r#"
+# the full journal needs no rule on file data
+$ --module full --journal 6 --without FileData:previous-Commit
+start
+create /a
+= exactly 0
+module full
+without FileData:previous-Commit
+patches 6
+closed 9
+failing 0
+
+# the full journal needs no rule on file data
+$ --module full --journal 6 --without Commit:FileData
+start
+create /a
+= exactly 0
+module full
+without Commit:FileData
+patches 6
+closed 9
+failing 0
+
+# a commit before its copies replays what the journal held
+$ --module full --journal 6 --without Commit:Copy
+start
+create /a
+= exactly 1
+module full
+without Commit:Copy
+patches 6
+closed 24
+failing 4
+set 0 2
+write block 5: 0
+write block 4: 2
+fault 3 unwritten pointer: inode 0 slot 0 block 10
+set 0 2 3
+write block 5: 0
+write block 4: 2
+write block 2: 3
+fault 3 unwritten pointer: inode 0 slot 0 block 10
+set 0 2 4
+write block 5: 0
+write block 4: 2
+write block 10: 4
+fault 3 unwritten pointer: inode 0 slot 0 block 10
+set 0 2 3 4
+write block 5: 0
+write block 4: 2
+write block 2: 3
+write block 10: 4
+fault 3 unwritten pointer: inode 0 slot 0 block 10
+
+# commits out of order leave changes in place alone
+$ --module full --journal 6
+start
+create /a
+link /a /b
+= exactly 0
+module full
+patches 12
+closed 53
+failing 0
+
+# commits out of order leave changes in place alone
+$ --module full --journal 6 --without Commit:previous-Commit
+start
+create /a
+link /a /b
+= exactly 1
+module full
+without Commit:previous-Commit
+patches 12
+closed 61
+failing 4
+set 6 7 8 10
+write block 8: 6
+write block 9: 7
+write block 7: 8
+write block 10: 10
+fault 1 dangling entry: directory 0 entry 1 inode 1
+set 0 6 7 8 10
+write block 5: 0
+write block 8: 6
+write block 9: 7
+write block 7: 8
+write block 10: 10
+fault 1 dangling entry: directory 0 entry 1 inode 1
+set 1 6 7 8 10
+write block 6: 1
+write block 8: 6
+write block 9: 7
+write block 7: 8
+write block 10: 10
+fault 1 dangling entry: directory 0 entry 1 inode 1
+set 0 1 6 7 8 10
+write block 5: 0
+write block 6: 1
+write block 8: 6
+write block 9: 7
+write block 7: 8
+write block 10: 10
+fault 1 dangling entry: directory 0 entry 1 inode 1
+
+# changes in place before the commit break write ahead
+$ --module full --journal 6 --without InPlace:Commit
+start
+create /a
+= exactly 1
+module full
+without InPlace:Commit
+patches 6
+closed 21
+failing 4
+set 4
+write block 10: 4
+fault 1 dangling entry: directory 0 entry 0 inode 1
+set 0 4
+write block 5: 0
+write block 10: 4
+fault 1 dangling entry: directory 0 entry 0 inode 1
+set 1 4
+write block 6: 1
+write block 10: 4
+fault 1 dangling entry: directory 0 entry 0 inode 1
+set 0 1 4
+write block 5: 0
+write block 6: 1
+write block 10: 4
+fault 1 dangling entry: directory 0 entry 0 inode 1
+
+# a transaction that is done before its changes is lost
+$ --module full --journal 6 --without Done:InPlace
+start
+create /a
+= exactly 1
+module full
+without Done:InPlace
+patches 6
+closed 12
+failing 1
+set 0 1 2 4 5
+write block 5: 0
+write block 6: 1
+write block 4: 2
+write block 10: 4
+write block 4: 5
+fault 1 dangling entry: directory 0 entry 0 inode 1
+
+# a later transaction done before an earlier one is replayed over
+$ --module full --journal 6
+mkdir /a
+start
+create /a/a
+link /a/a /b
+= exactly 0
+module full
+patches 12
+closed 53
+failing 0
+
+# a later transaction done before an earlier one is replayed over
+$ --module full --journal 6 --without Done:previous-Done
+mkdir /a
+start
+create /a/a
+link /a/a /b
+= exactly 1
+module full
+without Done:previous-Done
+patches 12
+closed 55
+failing 2
+set 0 1 2 3 6 7 8 9 10 11
+write block 5: 0
+write block 6: 1
+write block 4: 2
+write block 2: 3
+write block 8: 6
+write block 9: 7
+write block 7: 8
+write block 2: 9
+write block 10: 10
+write block 7: 11
+fault 4 low link count: inode 2 entries 2 links 1
+set 0 1 2 3 4 6 7 8 9 10 11
+write block 5: 0
+write block 6: 1
+write block 4: 2
+write block 2: 3
+write block 11: 4
+write block 8: 6
+write block 9: 7
+write block 7: 8
+write block 2: 9
+write block 10: 10
+write block 7: 11
+fault 4 low link count: inode 2 entries 2 links 1
+
+# a commit before its file data shows stale data
+$ --module meta --journal 3
+create /a
+start
+write /a
+= exactly 0
+module meta
+patches 7
+closed 13
+failing 0
+
+# a commit before its file data shows stale data
+$ --module meta --journal 3 --without Commit:FileData
+create /a
+start
+write /a
+= exactly 1
+module meta
+without Commit:FileData
+patches 7
+closed 18
+failing 5
+set 1 2 3
+write block 5: 1
+write block 6: 2
+write block 4: 3
+fault 3 unwritten pointer: inode 1 slot 0 block 8
+set 1 2 3 4
+write block 5: 1
+write block 6: 2
+write block 4: 3
+write block 1: 4
+fault 3 unwritten pointer: inode 1 slot 0 block 8
+set 1 2 3 5
+write block 5: 1
+write block 6: 2
+write block 4: 3
+write block 2: 5
+fault 3 unwritten pointer: inode 1 slot 0 block 8
+set 1 2 3 4 5
+write block 5: 1
+write block 6: 2
+write block 4: 3
+write block 1: 4
+write block 2: 5
+fault 3 unwritten pointer: inode 1 slot 0 block 8
+set 1 2 3 4 5 6
+write block 5: 1
+write block 6: 2
+write block 4: 3
+write block 1: 4
+write block 2: 5
+write block 4: 6
+fault 3 unwritten pointer: inode 1 slot 0 block 8
+"#;
+
+#[test]
+fn each_row_is_told(rt: HostRuntime) -> Result<(), Fail> {
+    each_row(&rt, ROWS)
 }

@@ -1,6 +1,6 @@
 //! Words of the command line that ask for no run.
 
-use crate::asked::exactly;
+use crate::tables::each_row;
 use crash_answer::refuse_words;
 use std::io::{Error, ErrorKind};
 use std::test::Fail;
@@ -21,8 +21,20 @@ fn words_for_which_memory_is_refused_are_out_of_memory(rt: HostRuntime) {
     assert!(rt; err.as_slice() == line.as_bytes());
 }
 
+/// What each row asks, and what it is told.
+const ROWS: &str = r#"
+# the version is printed
+$ --version
+= exactly 0
+crashmap 1.0.0
+
+# the version is printed
+$ -V
+= exactly 0
+crashmap 1.0.0
+"#;
+
 #[test]
-fn the_version_is_printed(rt: HostRuntime) -> Result<(), Fail> {
-    exactly(&rt, &["--version"], b"", 0, "crashmap 1.0.0\n", "")?;
-    exactly(&rt, &["-V"], b"", 0, "crashmap 1.0.0\n", "")
+fn each_row_is_told(rt: HostRuntime) -> Result<(), Fail> {
+    each_row(&rt, ROWS)
 }
