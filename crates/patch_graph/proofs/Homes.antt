@@ -1,6 +1,6 @@
 -- The ids of each block's patches, while a graph grows.
-use Rattle.std.proofs.Common.{◌≡◌, ◌≢◌, ℕ, suc, ◌+◌, ◌<◌, List, [], ◌∷◌, ◌++◌, length, get_or, set, replicate, length-set, get_or-set_same, get_or-set_other, arith, refl, sym, subst, ap, ◌∙◌, inl, inr, length-append}
-use Rattle.std.specs.Prelude.{◌↔◌, ◌⊎◌, slice_index}
+use Rattle.std.proofs.Common.{◌≡◌, ◌≢◌, ℕ, suc, ◌<◌, List, [], ◌∷◌, ◌++◌, length, set, replicate, length-set, get_or-set_same, get_or-set_other, arith, refl, sym, subst, ap, ◌∙◌, inl, inr, length-append}
+use Rattle.std.specs.Prelude.{◌↔◌, slice_index}
 use Rattle.std.proofs.lemmas.List.{get_or_append_left, get_or_push, get_or-replicate, length-map, map_push}
 use Rattle.patch_sets.specs.Sets.{Has, with_id}
 use Rattle.patch_sets.proofs.Bits.{eq_or_not, none_in_empty, in_with_same, in_with_old, in_with_cases}

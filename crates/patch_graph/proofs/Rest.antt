@@ -4,7 +4,6 @@ use mathlib.Core.Logic.{dite}
 use native.Mathlib.Decide.{ℕ_discrete}
 use Rattle.std.specs.Prelude.{◌↔◌, ◌⊎◌, slice_index}
 use Rattle.std.specs.Int.{bit_at}
-use Rattle.std.specs.List.{Contains}
 use Rattle.std.proofs.lemmas.List.{length-map, get_or_push}
 use Rattle.std.proofs.lemmas.List.Elements.{Contains-append_cases, Contains-append_left, Contains-append_right}
 use Rattle.std.proofs.lemmas.Nat.{and_le_r}
@@ -17,7 +16,7 @@ use Rattle.patch_sets.proofs.Bits.{eq_or_not, none_in_empty, and_from_subset}
 use Rattle.patch_sets.proofs.Ids.{from_ids_of, to_ids_of, ids_ascend}
 use Rattle.patch_sets.proofs.Lists.{one_ascending, pairs_append}
 use Rattle.patch_sets.proofs.Stepped.{ids_none}
-use Rattle.patch_sets.proofs.Writes.{AreCut, IsOwn, ids_carried, carried_push, cut_push}
+use Rattle.patch_sets.proofs.Writes.{AreCut, ids_carried, carried_push, cut_push}
 use Rattle.crash_model.specs.declared.patches.Patch.{Patch}
 use Rattle.crash_model.specs.Patches.{homes_of}
 use Rattle.patch_graph.proofs.Fronts.{in_and, from_and}

@@ -1,5 +1,5 @@
 -- Ids one after another.
-use Rattle.std.specs.Prelude.{◌≡◌, ℕ, ◌-◌, ◌<◌, ◌≤◌, List, ◌++◌}
+use Rattle.std.specs.Prelude.{◌≡◌, ℕ, ◌-◌, ◌<◌, ◌≤◌, ◌++◌}
 use Rattle.std.specs.List.{range_with_len}
 use Rattle.patch_sets.specs.Sets.{Has, ids_of}
 use Rattle.patch_sets.specs.Iter.{most_ids}

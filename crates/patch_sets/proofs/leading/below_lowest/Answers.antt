@@ -1,4 +1,4 @@
-use Rattle.std.proofs.Common.{◌≡◌, ◌≢◌, ◌+◌, ◌-◌, ◌%◌, ◌^◌, ◌<◌, arith}
+use Rattle.std.proofs.Common.{arith}
 use Rattle.patch_sets.proofs.LeadingRuns.{below_ids}
 use Rattle.patch_sets.proofs.leading.below_lowest.Goals as goal
 

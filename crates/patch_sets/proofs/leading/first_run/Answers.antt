@@ -1,4 +1,4 @@
-use Rattle.std.proofs.Common.{◌≡◌, ◌-◌, ◌^◌, ◌<◌, arith}
+use Rattle.std.proofs.Common.{arith}
 use Rattle.patch_sets.proofs.LeadingRuns.{are_gaps, end_of, is_run}
 use Rattle.patch_sets.proofs.LowestHighest.{lowest_id}
 use Rattle.patch_sets.proofs.leading.first_run.Goals as goal
