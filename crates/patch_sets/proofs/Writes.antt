@@ -124,7 +124,7 @@ module _ (homes : List ℕ) where
   cut_last (v ∷ []) last more block cut own = (cut.0, (λ e. cut.1 (e ∙ sym block)), (own, tt, tt))
   cut_last (v ∷ u ∷ us) last more block cut own = (cut.0, cut.1, cut_last (u ∷ us) last more block cut.2 own)
 
-  own_last : (front : List BlockWrite) (last : BlockWrite) → AreCut (front ++ last ∷ []) → IsOwn last
+  pub own_last : (front : List BlockWrite) (last : BlockWrite) → AreCut (front ++ last ∷ []) → IsOwn last
   own_last [] last cut = cut.0
   own_last (v ∷ front) last cut = own_last front last cut.2
 
@@ -186,7 +186,7 @@ module _ (homes : List ℕ) where
   small w own id is = (own.own id is).0
 
   -- the block of writes that begin with an id
-  block_of_first : (w : BlockWrite) (x : ℕ) (xs : List ℕ) → IsOwn w → ids_of (length homes) w.ids ≡ x ∷ xs → slice_index homes x ≡ w.block
+  pub block_of_first : (w : BlockWrite) (x : ℕ) (xs : List ℕ) → IsOwn w → ids_of (length homes) w.ids ≡ x ∷ xs → slice_index homes x ≡ w.block
   block_of_first w x xs own e = (own.own x (from_ids_of (length homes) w.ids x (subst (λ ys. Contains ys x) (sym e) (in_front x xs))).1).1
 
   -- what follows a write does not begin with an id of its block
