@@ -1,6 +1,8 @@
+pub mod Ahead
 pub mod Apart
 pub mod Fronts
 pub mod Homes
+pub mod Leads
 pub mod Patches
 pub mod Rest
 pub mod Steps

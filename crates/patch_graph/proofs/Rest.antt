@@ -1,24 +1,19 @@
 -- The ids of a set that are still to be written, while its writes are cut.
 use Rattle.std.proofs.Common.{◌≡◌, ◌≢◌, ℕ, ◌<◌, ◌≤◌, List, [], ◌∷◌, ◌++◌, length, get_or, bit_and, arith, refl, sym, subst, ap, ◌∙◌, inl, inr, length-append, append_assoc, append-nil}
-use mathlib.Core.Logic.{dite}
-use native.Mathlib.Decide.{ℕ_discrete}
-use Rattle.std.specs.Prelude.{◌↔◌, ◌⊎◌, slice_index}
-use Rattle.std.specs.Int.{bit_at}
+use Rattle.std.specs.Prelude.{◌↔◌, slice_index}
 use Rattle.std.proofs.lemmas.List.{length-map, get_or_push}
-use Rattle.std.proofs.lemmas.List.Elements.{Contains-append_cases, Contains-append_left, Contains-append_right}
-use Rattle.std.proofs.lemmas.Nat.{and_le_r}
-use Rattle.std.proofs.Math.Nat.{lt_of_not-le}
 use Rattle.patch_sets.specs.Sets.{Has, has, ids_of}
 use Rattle.patch_sets.specs.Ends.{IsLowest, IsDifference}
 use Rattle.patch_sets.specs.Leading.{ComesBefore}
 use Rattle.patch_sets.specs.declared.write.BlockWrite.{BlockWrite}
-use Rattle.patch_sets.proofs.Bits.{eq_or_not, none_in_empty, and_from_subset}
+use Rattle.patch_sets.proofs.Bits.{eq_or_not, none_in_empty}
 use Rattle.patch_sets.proofs.Ids.{from_ids_of, to_ids_of, ids_ascend}
-use Rattle.patch_sets.proofs.Lists.{one_ascending, pairs_append}
+use Rattle.patch_sets.proofs.Lists.{one_ascending}
 use Rattle.patch_sets.proofs.Stepped.{ids_none}
 use Rattle.patch_sets.proofs.Writes.{AreCut, ids_carried, carried_push, cut_push}
 use Rattle.crash_model.specs.declared.patches.Patch.{Patch}
 use Rattle.crash_model.specs.Patches.{homes_of}
+use Rattle.patch_graph.proofs.Ahead.{is_ahead, not_other, rest_begins, ahead_split, rest_less}
 use Rattle.patch_graph.proofs.Fronts.{in_and, from_and}
 
 -- The writes carry the set's first ids, and those that are left come behind. The last write is of another block than the
@@ -28,22 +23,6 @@ pub record IsRest (homes : List ℕ) (set left : ℕ) (writes : List BlockWrite)
   pub cut : AreCut homes writes
   pub known : (id : ℕ) → Has left id → id < length homes
   pub apart : (front : List BlockWrite) (last : BlockWrite) (id : ℕ) → writes ≡ front ++ last ∷ [] → IsLowest left id → last.block ≢ slice_index homes id
-
--- the ids of a set in two parts, one before the other
-ids_split : (n set first rest : ℕ) → ((q : ℕ) → Has set q → Has first q ⊎ Has rest q) → ((q : ℕ) → Has first q → Has set q) → ((q : ℕ) → Has rest q → Has set q)
-    → ((x y : ℕ) → Has first x → Has rest y → x < y) → ids_of n set ≡ ids_of n first ++ ids_of n rest
-ids_split n set first rest cases early late before = one_ascending (ids_of n set) (ids_of n first ++ ids_of n rest)
-    (ids_ascend n (has set))
-    (pairs_append (λ x y. x < y) (ids_of n first) (ids_of n rest) (ids_ascend n (has first)) (ids_ascend n (has rest))
-    (λ x y a b. before x y (from_ids_of n first x a).1 (from_ids_of n rest y b).1))
-    (λ z is. let it = from_ids_of n set z is in elim (cases z it.1) [
-      | inl a ↦ Contains-append_left (ids_of n first) (ids_of n rest) z (to_ids_of n first z it.0 a)
-      | inr b ↦ Contains-append_right (ids_of n first) (ids_of n rest) z (to_ids_of n rest z it.0 b)
-    ])
-    (λ z is. elim (Contains-append_cases (ids_of n first) (ids_of n rest) z is) [
-      | inl a ↦ let it = from_ids_of n first z a in to_ids_of n set z it.0 (early z it.1)
-      | inr b ↦ let it = from_ids_of n rest z b in to_ids_of n set z it.0 (late z it.1)
-    ])
 
 -- what ends a list
 last_same : (ws front : List BlockWrite) (w v : BlockWrite) → ws ++ w ∷ [] ≡ front ++ v ∷ [] → w ≡ v
@@ -87,14 +66,11 @@ module _ (homes : List ℕ) (set left : ℕ) (writes : List BlockWrite) (so_far 
   within_words q is = let inside = so_far.known q is in omega (arith, inside, few)
 
   run_has_first : Has (bit_and left ahead) id
-  run_has_first = in_and left ahead id low.inside ((are_ahead id).1 (
-    within_words id low.inside,
-    λ other is.
-        let it = from_others other is in
-        let least = low.least other it.0 in
-        let ne : other ≢ id = λ e. it.1 (ap (slice_index homes) e) in
-        omega (arith, least, ne),
-  ))
+  run_has_first = is_ahead left others ahead rest within_words are_ahead is_rest id low.inside (λ other is.
+      let it = from_others other is in
+      let least = low.least other it.0 in
+      let ne : other ≢ id = λ e. it.1 (ap (slice_index homes) e) in
+      omega (arith, least, ne))
 
   run_of_block : (q : ℕ) → Has (bit_and left ahead) q → (q < length homes) × (slice_index homes q ≡ slice_index homes id)
   run_of_block q is =
@@ -102,41 +78,19 @@ module _ (homes : List ℕ) (set left : ℕ) (writes : List BlockWrite) (so_far 
         so_far.known q it.0,
         elim (eq_or_not (slice_index homes q) (slice_index homes id)) [
           | inl e ↦ e
-          | inr ne ↦ absurd (let again = ((are_ahead q).0 it.1).1 q (to_others q it.0 ne) in omega (arith, again))
+          | inr ne ↦ absurd (not_other left others ahead rest within_words are_ahead is_rest q is (to_others q it.0 ne))
         ],
       )
 
-  run_or_rest : (q : ℕ) → Has left q → Has (bit_and left ahead) q ⊎ Has rest q
-  run_or_rest q is = dite (ℕ_discrete (bit_at ahead q) 1) (λ early. inl (in_and left ahead q is early)) (λ late. inr ((is_rest.exactly q).1 (is, late)))
-
-  run_before_rest : (x y : ℕ) → Has (bit_and left ahead) x → Has rest y → x < y
-  run_before_rest x y is later =
-      let early = (are_ahead x).0 (from_and left ahead x is).1 in
-      let late = (is_rest.exactly y).0 later in
-      lt_of_not-le (λ le. late.1 ((are_ahead y).1 (within_words y late.0, λ other member. let less = early.1 other member in omega (arith, less, le))))
-
-  left_split : ids_of (length homes) left ≡ ids_of (length homes) (bit_and left ahead) ++ ids_of (length homes) rest
-  left_split = ids_split (length homes) left (bit_and left ahead) rest run_or_rest (λ q is. (from_and left ahead q is).0) (λ q is. ((is_rest.exactly q).0 is).0) run_before_rest
-
   -- the first of the rest is of another block
   rest_apart : (q : ℕ) → IsLowest rest q → slice_index homes id ≢ slice_index homes q
-  rest_apart q first same =
-      let it = (is_rest.exactly q).0 first.inside in
-      it.1 ((are_ahead q).1 (
-        within_words q it.0,
-        λ other is.
-            let from = from_others other is in
-            let ne : other ≢ q = λ e. from.1 (ap (slice_index homes) e ∙ sym same) in
-            let past : Has ahead other → ⊥ = λ early. (let again = ((are_ahead other).0 early).1 other is in omega (arith, again)) in
-            let least = first.least other ((is_rest.exactly other).1 (from.0, past)) in
-            omega (arith, least, ne),
-      ))
+  rest_apart q first same = (from_others q (rest_begins left others ahead rest within_words are_ahead is_rest (λ o is. (from_others o is).0) q first)).1 (sym same)
 
   pub rest_next : (w : BlockWrite) → w.block ≡ slice_index homes id → w.ids ≡ bit_and left ahead → IsRest homes set rest (writes ++ w ∷ [])
   rest_next w home ids = record {
     in_order = ap (λ (xs : List ℕ). xs ++ ids_of (length homes) rest) (carried_push homes writes w ∙ ap (λ (s : ℕ). ids_carried homes writes ++ ids_of (length homes) s) ids)
         ∙ (append_assoc (ids_carried homes writes) (ids_of (length homes) (bit_and left ahead)) (ids_of (length homes) rest)
-        ∙ (ap (λ (xs : List ℕ). ids_carried homes writes ++ xs) (sym left_split) ∙ so_far.in_order));
+        ∙ (ap (λ (xs : List ℕ). ids_carried homes writes ++ xs) (sym (ahead_split left others ahead rest within_words are_ahead is_rest (length homes))) ∙ so_far.in_order));
     cut = cut_push homes writes w so_far.cut (λ front last e same. so_far.apart front last id e low (same ∙ home)) record {
       own = λ q is. let it = run_of_block q (subst (λ s. Has s q) ids is) in (it.0, it.1 ∙ sym home);
       some = λ empty. none_in_empty id (subst (λ s. Has s id) (sym ids ∙ empty) run_has_first);
@@ -146,8 +100,4 @@ module _ (homes : List ℕ) (set left : ℕ) (writes : List BlockWrite) (so_far 
   }
 
   pub rest_smaller : rest < left
-  rest_smaller =
-      let part : bit_and rest left ≡ rest = and_from_subset rest left (λ q is. ((is_rest.exactly q).0 is).0) in
-      let less = and_le_r rest left in
-      let other : rest ≢ left = λ e. ((is_rest.exactly id).0 (subst (λ s. Has s id) (sym e) low.inside)).1 (from_and left ahead id run_has_first).1 in
-      omega (arith, part, less, other)
+  rest_smaller = rest_less left others ahead rest within_words are_ahead is_rest id run_has_first

@@ -1,3 +1,4 @@
 pub mod Apart
 pub mod Graph
 pub mod Homes
+pub mod Leads

@@ -1,4 +1,4 @@
-ghost use Rattle.std.specs.Prelude.{◌≡◌, ℕ, ◌<◌, ◌≤◌, ◌↔◌, [], ◌∷◌, ◌++◌, length, slice_index, IsTrue, IfOk, OnOk, OnErr, IsErrOf};
+ghost use Rattle.std.specs.Prelude.{◌≡◌, ℕ, ◌<◌, ◌≤◌, ◌↔◌, [], ◌∷◌, ◌++◌, length, slice_index, IsTrue, IfOk, OnOk, OnErr, IsErrOf, MatchOption};
 ghost use Rattle.std.specs.List.{All};
 ghost use Rattle.patch_sets.specs.Sets.{Has, IsSubset};
 ghost use Rattle.patch_sets.specs.Closed.{IsClosed, IsReady, successors_of};
@@ -7,12 +7,13 @@ ghost use Rattle.patch_sets.specs.Writes.{AreRuns, events_of};
 ghost use Rattle.crash_model.specs.declared.patches.Patch.{Patch};
 ghost use Rattle.crash_model.specs.Patches.{deps_of, homes_of};
 ghost use Rattle.patch_graph.specs.Apart.{AddsId};
+ghost use Rattle.patch_graph.specs.Leads.{IsLead};
 ghost use Rattle.patch_graph.specs.Graph.{IsAt, IsPatch, IsGraph, AddsOverlaps, Overlaps, OverlapsAt};
 
 use crate::fault::GraphFault;
 use crash_model::patches::Patch;
-use patch_sets::ends::{difference, lowest, without};
-use patch_sets::leading::below_lowest;
+use patch_sets::ends::{difference, highest, lowest, without};
+use patch_sets::leading::{below, below_lowest};
 use patch_sets::set::{has, is_below, is_subset, with};
 use patch_sets::write::BlockWrite;
 use std::alloc::{AllocError, Allocator};
@@ -21,9 +22,19 @@ use std::marker::Model;
 /// How many patches a graph can have.
 pub const MAX_PATCHES: usize = 124;
 
+/// The block writes of a set are told apart for so many ids at a time, by [`Graph::leading_writes`].
+const STRIDE: usize = 8;
+
 /// For how many block writes of a set room is taken at first. An allocator gives a kilobyte at once, and more than that
 /// slowly.
 const SOME_WRITES: u32 = 32;
+
+/// Some ids of a set whose block writes come first, and the others.
+#[derive(Clone, Copy, Debug)]
+pub struct Lead {
+    pub ids: u128,
+    pub rest: u128,
+}
 
 /// Patches in the order in which they were added, of which each depends on earlier ones, and on each earlier
 /// one that it overlaps.
@@ -242,6 +253,33 @@ impl<A: Allocator + Copy> Graph<A> {
         }
         Ok(writes)
     }
+
+    /// Some ids that a set begins with, cut where a block write ends, so that the writes to the set are theirs and then
+    /// those of the rest. None where the set has no id.
+    ///
+    /// Sets of one graph have few such beginnings, and each of them many.
+    pub fn leading_writes(&self, set: u128) -> Option<Lead>
+        requires { (id : ℕ) → Has set id → id < length self.now }
+        ensures { MatchOption result (set ≡ 0) (λ lead. IsLead (homes_of self.now) set lead) }
+    {
+        let early = below(set, next_stop(lowest(set)?));
+        let last = highest(early)?;
+        let block = self.patch(last).block;
+        let others = difference(difference(set, early), self.at_block[usize::from(block)]);
+        let before = below_lowest(others);
+        Some(Lead {
+            ids: set & before,
+            rest: difference(set, before),
+        })
+    }
+}
+
+/// Where the ids end that are told apart together with this one.
+fn next_stop(id: usize) -> usize
+    requires { id < 128 }
+    ensures { id < result }
+{
+    id - id % STRIDE + STRIDE
 }
 
 /// Whether the patches are of one block and their ranges share a byte.

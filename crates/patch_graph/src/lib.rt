@@ -10,5 +10,5 @@ pub mod graph;
 
 pub use crash_model::patches::Patch;
 pub use fault::GraphFault;
-pub use graph::{Graph, MAX_PATCHES, overlaps};
+pub use graph::{Graph, Lead, MAX_PATCHES, overlaps};
 pub use patch_sets::write::BlockWrite;
