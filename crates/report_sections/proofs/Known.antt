@@ -1,5 +1,5 @@
 -- The first sets of faults' rows have ids of patches.
-use Rattle.std.proofs.Common.{◌≡◌, ℕ, ◌<◌, List, length, get_or, map, subst, arith}
+use Rattle.std.proofs.Common.{ℕ, ◌<◌, List, length, get_or, map, subst, arith}
 use Rattle.std.proofs.Math.ListN.{get_or-map}
 use Rattle.std.proofs.lemmas.List.{length-map}
 use Rattle.patch_sets.specs.Sets.{Has}

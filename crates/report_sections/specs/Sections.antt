@@ -10,6 +10,7 @@ use Rattle.crash_model.specs.Strict.{faults_under}
 use Rattle.crash_model.specs.declared.patches.Patch.{Patch}
 use Rattle.crash_model.specs.declared.settings.Detail.{Detail}
 use Rattle.report_sections.specs.Replay.{told_replay}
+use Rattle.report_sections.specs.declared.section.Outcome.{Outcome}
 use Rattle.report_sections.specs.declared.section.Section.{Section}
 
 -- a section as the report's definition sees it
@@ -21,3 +22,8 @@ pub record IsSection {A : Type 0} (detail : Detail) (base : Disk) (patches : Lis
   pub runs : AreRuns (homes_of patches) set s.writes.items
   pub replay : told_replay s.replay ≡ replay_of detail.explain (image_of base patches set)
   pub faults : s.faults.items ≡ faults_under detail.kept (image_after_replay (image_of base patches set))
+
+-- what replay changes, and the faults of the image after it
+pub record IsOutcome {A : Type 0} (detail : Detail) (base : Disk) (patches : List Patch) (set : ℕ) (o : Outcome A) : Type 0 where
+  pub replay : told_replay o.replay ≡ replay_of detail.explain (image_of base patches set)
+  pub faults : o.faults.items ≡ faults_under detail.kept (image_after_replay (image_of base patches set))

@@ -25,6 +25,13 @@ pub struct Section<A: Allocator> {
     pub faults: Vec<Fault, A>,
 }
 
+/// What a crash comes to: what replay changes where that is explained, and the faults of the replayed image.
+#[derive(Drop)]
+pub struct Outcome<A: Allocator> {
+    pub replay: Option<Vec<ReplayedBlock, A>>,
+    pub faults: Vec<Fault, A>,
+}
+
 /// What the sections of a report are made in: one image, which is made that of a set for each section.
 ///
 /// Contracts see the base and the patches, and how much is told of a set.
@@ -48,7 +55,7 @@ impl<'a, A: Allocator + Copy> Model for SectionMaker<'a, A> {
 }
 
 impl<'a, A: Allocator + Copy> SectionMaker<'a, A> {
-    ghost use Rattle.report_sections.specs.Sections.{IsSection};
+    ghost use Rattle.report_sections.specs.Sections.{IsSection, IsOutcome};
 
     /// Makes sections of sets of the graph, whose patches change blocks of the base, each as `detail` asks.
     ///
@@ -77,11 +84,25 @@ impl<'a, A: Allocator + Copy> SectionMaker<'a, A> {
         ensures told { IfOk result (IsSection self.old.detail self.old.base self.old.patches set) }
         ensures kept { self.new ≡ self.old }
     {
-        rebuild(&mut self.image, self.base, self.graph, set);
-        let replay = replay_and_tell(self.alloc, &mut self.image, self.detail.explain)?;
+        let writes = self.graph.writes_to(set)?;
+        let Outcome { replay, faults } = self.outcome(set)?;
         Ok(Section {
             set,
-            writes: self.graph.writes_to(set)?,
+            writes,
+            replay,
+            faults,
+        })
+    }
+
+    /// What a crash that leaves a set of the graph's ids comes to. It fails only when out of memory.
+    pub fn outcome(&mut self, set: u128) -> Result<Outcome<A>, AllocError>
+        requires known { (id : ℕ) → Has set id → id < length self.old.patches }
+        ensures told { IfOk result (IsOutcome self.old.detail self.old.base self.old.patches set) }
+        ensures kept { self.new ≡ self.old }
+    {
+        rebuild(&mut self.image, self.base, self.graph, set);
+        let replay = replay_and_tell(self.alloc, &mut self.image, self.detail.explain)?;
+        Ok(Outcome {
             replay,
             faults: faults_under(self.alloc, &self.image, self.detail.kept)?,
         })
