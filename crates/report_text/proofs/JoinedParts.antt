@@ -11,25 +11,38 @@ use Rattle.crash_model.specs.declared.settings.Detail.{Detail}
 use Rattle.report_sections.proofs.Joined.{sections_join, before_parts, part_more, all_parts}
 use Rattle.report_text.specs.TextReport.{WritesSections}
 
-module _ (detail : Detail) (base : Disk) (patches : List Patch) (sets : List ℕ) (size : ℕ) where
+module _ (detail : Detail) (base : Disk) (patches : List Patch) where
   abbrev form : Section → List ℕ
   form = section_text (length patches)
 
-  -- before the first part
-  pub parts_none : (text : List ℕ) → WritesSections detail base patches (take (0 * size) sets) text text
-  parts_none text =
-      before_parts sets size (λ (xs : List ℕ). WritesSections detail base patches xs text text) record { sections = []; are = refl; whole = sym (append-nil text) }
+  -- no sections
+  pub sections_none : (text : List ℕ) → WritesSections detail base patches [] text text
+  sections_none text = record { sections = []; are = refl; whole = sym (append-nil text) }
 
-  -- one part more
-  pub parts_more : (n : ℕ) (head text part after : List ℕ) → WritesSections detail base patches (take (n * size) sets) head text → WritesSections detail base patches (slice_chunk sets size n) [] part → after ≡ text ++ part → WritesSections detail base patches (take ((n + 1) * size) sets) head after
-  parts_more n head text part after so_far one more =
-      part_more sets size (λ (xs : List ℕ). WritesSections detail base patches xs head after) n record {
-        sections = so_far.sections ++ one.sections;
-        are = sections_join detail base patches (take (n * size) sets) (slice_chunk sets size n) so_far.sections one.sections so_far.are one.are;
-        whole = more ∙ (ap (λ (t : List ℕ). t ++ part) so_far.whole ∙ (append_assoc head (flat_map form so_far.sections) part
-            ∙ ap (λ (t : List ℕ). head ++ t) (ap (λ (t : List ℕ). flat_map form so_far.sections ++ t) one.whole ∙ sym (flat_map-append form so_far.sections one.sections))));
-      }
+  -- sections behind sections
+  pub sections_after : (sets more : List ℕ) (head text after : List ℕ) → WritesSections detail base patches sets head text → WritesSections detail base patches more text after → WritesSections detail base patches (sets ++ more) head after
+  sections_after sets more head text after first others = record {
+    sections = first.sections ++ others.sections;
+    are = sections_join detail base patches sets more first.sections others.sections first.are others.are;
+    whole = others.whole ∙ (ap (λ (t : List ℕ). t ++ flat_map form others.sections) first.whole ∙ (append_assoc head (flat_map form first.sections) (flat_map form others.sections)
+        ∙ ap (λ (t : List ℕ). head ++ t) (sym (flat_map-append form first.sections others.sections))));
+  }
 
-  -- all parts
-  pub parts_all : (count n : ℕ) (head text : List ℕ) → 0 < size → count ≡ length sets / size + min 1 (length sets % size) → count ≤ n → n ≤ count → WritesSections detail base patches (take (n * size) sets) head text → WritesSections detail base patches sets head text
-  parts_all count n head text = all_parts sets size (λ (xs : List ℕ). WritesSections detail base patches xs head text) count n
+  -- the same where the others stand in a text of their own
+  sections_added : (sets : List ℕ) (text part after : List ℕ) → WritesSections detail base patches sets [] part → after ≡ text ++ part → WritesSections detail base patches sets text after
+  sections_added sets text part after own more = record { sections = own.sections; are = own.are; whole = more ∙ ap (λ (t : List ℕ). text ++ t) own.whole }
+
+  module _ (sets : List ℕ) (size : ℕ) where
+    -- before the first part
+    pub parts_none : (text : List ℕ) → WritesSections detail base patches (take (0 * size) sets) text text
+    parts_none text = before_parts sets size (λ (xs : List ℕ). WritesSections detail base patches xs text text) (sections_none text)
+
+    -- one part more
+    pub parts_more : (n : ℕ) (head text part after : List ℕ) → WritesSections detail base patches (take (n * size) sets) head text → WritesSections detail base patches (slice_chunk sets size n) [] part → after ≡ text ++ part → WritesSections detail base patches (take ((n + 1) * size) sets) head after
+    parts_more n head text part after so_far one more =
+        part_more sets size (λ (xs : List ℕ). WritesSections detail base patches xs head after) n
+        (sections_after (take (n * size) sets) (slice_chunk sets size n) head text after so_far (sections_added (slice_chunk sets size n) text part after one more))
+
+    -- all parts
+    pub parts_all : (count n : ℕ) (head text : List ℕ) → 0 < size → count ≡ length sets / size + min 1 (length sets % size) → count ≤ n → n ≤ count → WritesSections detail base patches (take (n * size) sets) head text → WritesSections detail base patches sets head text
+    parts_all count n head text = all_parts sets size (λ (xs : List ℕ). WritesSections detail base patches xs head text) count n

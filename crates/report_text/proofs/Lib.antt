@@ -4,3 +4,5 @@ pub mod Told
 pub mod Reports
 pub mod RuleLines
 pub mod Runs
+pub mod WriteLines
+pub mod EmptyTables

@@ -1,10 +1,15 @@
 -- Reports, one set or fault after another.
-use Rattle.std.proofs.Common.{◌≡◌, ℕ, ◌+◌, ◌<◌, List, [], ◌∷◌, ◌++◌, length, get_or, take, Bool, true, false, Some, sym, ap, ◌∙◌, append_assoc}
+use Rattle.std.proofs.Common.{◌≡◌, ℕ, ◌+◌, ◌<◌, List, [], ◌∷◌, ◌++◌, length, get_or, take, codes, Bool, true, false, Some, refl, sym, subst, ap, ap₂, ◌∙◌, append_assoc}
 use Rattle.std.specs.List.{flat_map}
-use Rattle.std.proofs.lemmas.List.{append-nil}
+use Rattle.std.proofs.lemmas.List.{append-nil, take_more}
 use Rattle.std.proofs.lemmas.List.Concat.{flat_map-append}
+use Rattle.patch_sets.specs.Sets.{ids_of}
 use Rattle.crash_model.specs.Disk.{Disk}
-use Rattle.crash_model.specs.Report.{Section, section_text}
+use Rattle.crash_model.specs.Patches.{image_of}
+use Rattle.crash_model.specs.Replay.{image_after_replay}
+use Rattle.crash_model.specs.Report as report
+use Rattle.crash_model.specs.Report.{line, numbers, replay_of, replay_text, section_text, write_text}
+use Rattle.crash_model.specs.Strict.{faults_under}
 use Rattle.crash_model.specs.Explain.{explanation_text}
 use Rattle.crash_model.specs.Lists.{when}
 use Rattle.crash_model.specs.Summary.{ToldFault, told_fault_text}
@@ -15,10 +20,13 @@ use Rattle.crash_model.specs.declared.settings.Detail.{Detail}
 use Rattle.report_sections.specs.Bodies.{explanation_by, whole_of}
 use Rattle.report_sections.specs.declared.report.Report.{Report}
 use Rattle.report_sections.specs.declared.section.Section as code
-use Rattle.report_sections.specs.Sections.{section_of, IsSection}
+use Rattle.report_sections.specs.declared.section.Outcome.{Outcome}
+use Rattle.report_sections.specs.Replay.{told_replay}
+use Rattle.report_sections.specs.Sections.{section_of, IsSection, IsOutcome}
 use Rattle.report_sections.proofs.Joined.{rows_more, firsts_more}
-use Rattle.report_sections.proofs.Pushed.{sections_more}
-use Rattle.report_text.specs.TextReport.{WritesSections, WritesFaults}
+use Rattle.report_text.specs.Cache.{fault_line}
+use Rattle.report_text.specs.TextReport.{WritesSections, WritesFaults, WritesRuns}
+use Rattle.report_text.proofs.JoinedParts.{sections_after}
 
 -- one item's text more
 item_more : {X : Type 0} (form : X → List ℕ) (items : List X) (item : X) (head text after : List ℕ) → text ≡ head ++ flat_map form items → after ≡ text ++ form item → after ≡ head ++ flat_map form (items ++ item ∷ [])
@@ -26,13 +34,37 @@ item_more form items item head text after so_far more =
     more ∙ (ap (λ (t : List ℕ). t ++ form item) so_far ∙ (append_assoc head (flat_map form items) (form item)
     ∙ ap (λ (t : List ℕ). head ++ t) (sym (flat_map-append form items (item ∷ []) ∙ ap (λ (t : List ℕ). flat_map form items ++ t) (append-nil (form item))))))
 
-pub section_more : {A : Type 0} (detail : Detail) (base : Disk) (patches : List Patch) (sets : List ℕ) (i n : ℕ) (head text after : List ℕ) (s : code.Section A) → i < length sets → n ≡ length patches → WritesSections detail base patches (take i sets) head text → IsSection detail base patches (get_or sets i 0) s → after ≡ text ++ section_text n (section_of s) → WritesSections detail base patches (take (i + 1) sets) head after
-section_more detail base patches sets i n head text after s within number so_far is more = record {
-  sections = so_far.sections ++ section_of s ∷ [];
-  are = sections_more detail base patches sets i so_far.sections s within so_far.are is;
-  whole = item_more (section_text (length patches)) so_far.sections (section_of s) head text after so_far.whole
-      (more ∙ ap (λ (k : ℕ). text ++ section_text k (section_of s)) number);
+-- the lines of a set more
+pub section_more : (detail : Detail) (base : Disk) (patches : List Patch) (sets : List ℕ) (i : ℕ) (head text after : List ℕ) → i < length sets → WritesSections detail base patches (take i sets) head text
+    → WritesSections detail base patches (get_or sets i 0 ∷ []) text after → WritesSections detail base patches (take (i + 1) sets) head after
+section_more detail base patches sets i head text after within so_far one =
+    subst (λ (xs : List ℕ). WritesSections detail base patches xs head after) (sym (take_more sets i 0 within))
+    (sections_after detail base patches (take i sets) (get_or sets i 0 ∷ []) head text after so_far one)
+
+-- the lines of one set, written part by part
+pub section_one : {A : Type 0} (detail : Detail) (base : Disk) (patches : List Patch) (set n : ℕ) (o : Outcome A) (old first second third new : List ℕ) → n ≡ length patches → IsOutcome detail base patches set o
+    → first ≡ old ++ line (codes "set" ++ numbers (ids_of n set)) → WritesRuns patches set first second → third ≡ second ++ replay_text (told_replay o.replay) → new ≡ third ++ flat_map fault_line o.faults.items
+    → WritesSections detail base patches (set ∷ []) old new
+section_one detail base patches set n o old first second third new number is heads runs replays ends = record {
+  sections = section ∷ [];
+  are = (runs.writes, [], runs.runs, refl, refl);
+  whole = ends ∙ (ap (λ (t : List ℕ). t ++ flat_map fault_line o.faults.items) (replays ∙ ap (λ (t : List ℕ). t ++ replay_text (told_replay o.replay)) (runs.whole ∙ ap (λ (t : List ℕ). t ++ flat_map (write_text (length patches)) runs.writes) heads))
+      ∙ (ap (λ (k : ℕ). old ++ line (codes "set" ++ numbers (ids_of k set)) ++ flat_map (write_text (length patches)) runs.writes ++ replay_text (told_replay o.replay) ++ flat_map fault_line o.faults.items) number
+      ∙ (pieces old (line (codes "set" ++ numbers (ids_of (length patches) set))) (flat_map (write_text (length patches)) runs.writes) (replay_text (told_replay o.replay)) (flat_map fault_line o.faults.items)
+      ∙ ap (λ (s : report.Section). old ++ flat_map (section_text (length patches)) (s ∷ [])) (sym same))));
 }
+  where
+    section : report.Section
+    section = record { set = set; writes = runs.writes; replay = replay_of detail.explain (image_of base patches set); found = faults_under detail.kept (image_after_replay (image_of base patches set)) }
+
+    told : report.Section
+    told = record { set = set; writes = runs.writes; replay = told_replay o.replay; found = o.faults.items }
+
+    same : section ≡ told
+    same = ap₂ (λ r f. let s : report.Section = record { set = set; writes = runs.writes; replay = r; found = f } in s) (sym is.replay) (sym is.faults)
+
+    pieces : (a b c d e : List ℕ) → a ++ b ++ c ++ d ++ e ≡ a ++ ((b ++ c ++ d ++ e) ++ [])
+    pieces a b c d e = simp (append_assoc, append-nil)
 
 pub fault_more : {A : Type 0} (detail : Detail) (base : Disk) (patches : List Patch) (rows : List FaultRow) (i n : ℕ) (d : FaultRow) (head text after : List ℕ) (s : code.Section A) → i < length rows → n ≡ length patches → WritesFaults detail base patches (take i rows) head text → IsSection detail base patches (get_or rows i d).first s → after ≡ text ++ told_fault_text n (record { row = get_or rows i d; first = section_of s }) → WritesFaults detail base patches (take (i + 1) rows) head after
 fault_more detail base patches rows i n d head text after s within number so_far is more = record {

@@ -1,183 +1,120 @@
-//! Lines that come again: a report has few different block writes and faults, and each of them in many sections.
+//! Lines that come again: a report has few different beginnings of block writes and few different faults, and each of
+//! them in many sections.
 
-ghost use Rattle.std.specs.Prelude.{◌≡◌, ◌<◌, ◌++◌, string_bytes, IfSome, OnOk};
-ghost use Rattle.crash_model.specs.Report.{write_text};
+ghost use Rattle.std.specs.Prelude.{◌≡◌, ℕ, ◌<◌, ◌++◌, [], length, flat_map, string_bytes, IfOk, OnOk};
+ghost use Rattle.patch_sets.specs.Sets.{Has};
 ghost use Rattle.report_text.specs.Cache.{fault_line};
+ghost use Rattle.report_text.specs.TextReport.{WritesRuns};
 
-use crate::lines::{write_fault, write_write};
-use arrayvec::ArrayString;
+use crate::lines::{write_fault, write_writes};
+use crate::tables::{KnownFaults, KnownWrites, LONGEST_FAULT, LONGEST_WRITES};
 use crash_model::fault::Fault;
-use patch_sets::write::BlockWrite;
+use patch_graph::Graph;
 use std::alloc::{AllocError, Allocator};
 use std::marker::Model;
 
-/// How many lines of block writes are kept: of each lowest id, and of none, those of eight numbers of ids.
-const WRITE_SLOTS: usize = 8 * 129;
-
-/// How many lines of faults are kept.
-const FAULT_SLOTS: usize = 256;
-
-/// The longest line that is kept, in bytes.
-const LONGEST: usize = 64;
-
-/// A block write and its line.
-#[derive(Clone, Copy, Drop)]
-struct WriteLine {
-    write: BlockWrite,
-    text: ArrayString<LONGEST>,
-}
-
-/// A fault and its line.
-#[derive(Clone, Copy, Drop)]
-struct FaultLine {
-    fault: Fault,
-    text: ArrayString<LONGEST>,
-}
-
-/// The lines of block writes and of faults that were written last, so that one that comes again is copied.
+/// The lines of block writes and of faults that were written last, so that those that come again are copied.
 ///
-/// Contracts see the number of patches of which the block writes tell. A line that is too long is not kept.
+/// Contracts see the patches of which the block writes tell.
 #[derive(Drop)]
-pub(crate) struct LineCache {
-    patches: usize,
-    writes: [Option<WriteLine>; WRITE_SLOTS],
-    faults: [Option<FaultLine>; FAULT_SLOTS],
+pub(crate) struct LineCache<'a, A: Allocator + Copy> {
+    graph: &'a Graph<A>,
+    writes: KnownWrites,
+    faults: KnownFaults,
 }
 
-impl Model for LineCache {
-    ghost use Rattle.std.specs.Prelude.{ℕ};
+impl<'a, A: Allocator + Copy> Model for LineCache<'a, A> {
+    ghost use Rattle.std.specs.Prelude.{List};
+    ghost use Rattle.crash_model.specs.declared.patches.Patch.{Patch};
     ghost use Rattle.report_text.specs.Cache.{AreWriteLines, AreFaultLines};
 
-    ghost Value = { ℕ };
+    ghost Value = { List Patch };
 
-    ghost view = { λ c. c.patches };
+    ghost view = { λ c. c.graph.now };
 
-    ghost invariant = { λ c. AreWriteLines c.patches c.writes × AreFaultLines c.faults };
+    ghost invariant = { λ c. AreWriteLines c.graph.now c.writes.lines × AreFaultLines c.faults.lines };
 }
 
-impl LineCache {
-    /// No line yet, for the block writes of a graph with so many patches.
-    pub fn new(patches: usize) -> LineCache
-        ensures { result ≡ patches }
+impl<'a, A: Allocator + Copy> LineCache<'a, A> {
+    /// No line yet, for the block writes of a graph.
+    pub fn new(graph: &'a Graph<A>) -> LineCache<'a, A>
+        ensures { result ≡ graph.now }
     {
         LineCache {
-            patches,
-            writes: [None; WRITE_SLOTS],
-            faults: [None; FAULT_SLOTS],
+            graph,
+            writes: KnownWrites::new(),
+            faults: KnownFaults::new(),
         }
     }
 
     /// The number of patches.
     pub fn patches(&self) -> usize
-        ensures { result ≡ self.now }
+        ensures { result ≡ length self.now }
     {
-        self.patches
+        self.graph.len()
     }
 
-    /// Adds the line of a block write to a text.
-    pub fn push_write<A: Allocator + Copy>(
-        &mut self,
-        out: &mut String<A>,
-        write: BlockWrite,
-    ) -> Result<(), AllocError>
-        ensures text { OnOk result (string_bytes out.new ≡ string_bytes out.old ++ write_text self.old write) }
+    /// Adds a line for each block write that leads to a set of the graph's ids.
+    pub fn push_writes(&mut self, out: &mut String<A>, set: u128) -> Result<(), AllocError>
+        requires { (id : ℕ) → Has set id → id < length self.old }
+        ensures text { OnOk result (WritesRuns self.old set (string_bytes out.old) (string_bytes out.new)) }
         ensures kept { self.new ≡ self.old }
     {
-        if let Some(line) = self.known_write(write) {
-            return out.push_str(line);
+        let mut left = set;
+        while let Some(lead) = self.graph.leading_writes(left) {
+            self.push_lead(out, lead.ids)?;
+            left = lead.rest;
         }
-        let mut line = String::with_capacity(*out.allocator(), LONGEST)?;
-        write_write(&mut line, self.patches, write)?;
-        self.keep_write(write, line.as_str());
-        out.push_str(line.as_str())
+        Ok(())
     }
 
-    /// Adds the line of a fault to a text.
-    pub fn push_fault<A: Allocator + Copy>(
-        &mut self,
-        out: &mut String<A>,
-        fault: Fault,
-    ) -> Result<(), AllocError>
+    /// Adds a line for each block write that leads to ids that come again.
+    fn push_lead(&mut self, out: &mut String<A>, ids: u128) -> Result<(), AllocError>
+        ensures text { OnOk result (WritesRuns self.old ids (string_bytes out.old) (string_bytes out.new)) }
+        ensures kept { self.new ≡ self.old }
+    {
+        if let Some(lines) = self.writes.get(ids) {
+            out.push_str(lines)?;
+            return Ok(());
+        }
+        let lines = self.lines_to(*out.allocator(), ids)?;
+        self.writes.keep(ids, lines.as_str());
+        out.push_str(lines.as_str())?;
+        Ok(())
+    }
+
+    /// A line for each block write that leads to the ids.
+    fn lines_to(&self, alloc: A, ids: u128) -> Result<String<A>, AllocError>
+        ensures { IfOk result (λ lines. WritesRuns self.now ids [] (string_bytes lines)) }
+    {
+        let writes = self.graph.writes_to(ids)?;
+        let mut lines = String::with_capacity(alloc, LONGEST_WRITES)?;
+        write_writes(&mut lines, self.patches(), &writes)?;
+        Ok(lines)
+    }
+
+    /// Adds a line for each fault.
+    pub fn push_faults(&mut self, out: &mut String<A>, faults: &[Fault]) -> Result<(), AllocError>
+        ensures text { OnOk result (string_bytes out.new ≡ string_bytes out.old ++ flat_map fault_line faults.now) }
+        ensures kept { self.new ≡ self.old }
+    {
+        for fault in faults {
+            self.push_fault(out, *fault)?;
+        }
+        Ok(())
+    }
+
+    /// Adds the line of a fault.
+    fn push_fault(&mut self, out: &mut String<A>, fault: Fault) -> Result<(), AllocError>
         ensures text { OnOk result (string_bytes out.new ≡ string_bytes out.old ++ fault_line fault) }
         ensures kept { self.new ≡ self.old }
     {
-        if let Some(line) = self.known_fault(fault) {
+        if let Some(line) = self.faults.get(fault) {
             return out.push_str(line);
         }
-        let mut line = String::with_capacity(*out.allocator(), LONGEST)?;
+        let mut line = String::with_capacity(*out.allocator(), LONGEST_FAULT)?;
         write_fault(&mut line, fault)?;
-        self.keep_fault(fault, line.as_str());
+        self.faults.keep(fault, line.as_str());
         out.push_str(line.as_str())
     }
-
-    /// The line of a block write, where it is kept.
-    fn known_write(&self, write: BlockWrite) -> Option<&str>
-        ensures { IfSome result (λ line. line.now ≡ write_text self.now write) }
-    {
-        match &self.writes[slot_of_write(write)] {
-            Some(known) if known.write == write => Some(known.text.as_str()),
-            _ => None,
-        }
-    }
-
-    /// Keeps the line of a block write.
-    fn keep_write(&mut self, write: BlockWrite, line: &str)
-        requires { line.now ≡ write_text self.old write }
-        ensures { self.new ≡ self.old }
-    {
-        if let Ok(text) = ArrayString::from(line) {
-            self.writes[slot_of_write(write)] = Some(WriteLine { write, text });
-        }
-    }
-
-    /// The line of a fault, where it is kept.
-    fn known_fault(&self, fault: Fault) -> Option<&str>
-        ensures { IfSome result (λ line. line.now ≡ fault_line fault) }
-    {
-        match &self.faults[slot_of_fault(fault)] {
-            Some(known) if known.fault == fault => Some(known.text.as_str()),
-            _ => None,
-        }
-    }
-
-    /// Keeps the line of a fault.
-    fn keep_fault(&mut self, fault: Fault, line: &str)
-        requires { line.now ≡ fault_line fault }
-        ensures { self.new ≡ self.old }
-    {
-        if let Ok(text) = ArrayString::from(line) {
-            self.faults[slot_of_fault(fault)] = Some(FaultLine { fault, text });
-        }
-    }
-}
-
-/// The place of a block write's line, by its lowest id and the number of its ids.
-fn slot_of_write(write: BlockWrite) -> usize
-    ensures { result < WRITE_SLOTS }
-{
-    let lowest = write.ids.trailing_zeros() as usize;
-    let number = write.ids.count_ones() as usize;
-    8 * lowest + number % 8
-}
-
-/// The place of a fault's line.
-fn slot_of_fault(fault: Fault) -> usize
-    ensures { result < FAULT_SLOTS }
-{
-    let (kind, holder, place, target) = match fault {
-        Fault::Dangling { dir, entry, inode } => (1, dir, entry, inode),
-        Fault::Twice { block } => (2, 0, 0, block),
-        Fault::Unwritten { inode, slot, block } => (3, inode, slot, block),
-        Fault::LowLinks {
-            inode,
-            entries,
-            links,
-        } => (4, inode, entries, links),
-        Fault::MarkedFree { inode, slot, block } => (5, inode, slot, block),
-        Fault::Wild { inode, slot, block } => (6, inode, slot, block),
-        Fault::Lost { inode } => (7, inode, 0, 0),
-        Fault::NoBlock { inode } => (8, inode, 0, 0),
-    };
-    let mixed: u8 = kind ^ holder.rotate_left(3) ^ place.rotate_left(6) ^ target.rotate_left(5);
-    usize::from(mixed)
 }

@@ -10,5 +10,6 @@ mod patches;
 pub mod report;
 mod rules;
 mod summary;
+mod tables;
 
 pub use report::report_text;

@@ -3,12 +3,11 @@
 ghost use Rattle.std.specs.Prelude.{◌≡◌, ◌++◌, codes, decimal, string_bytes, OnOk, flat_map, map};
 ghost use Rattle.hex.specs.Hex.{encode_lower};
 ghost use Rattle.patch_sets.specs.Sets.{ids_of};
-ghost use Rattle.crash_model.specs.Report.{numbers, write_text, replayed_text, crash_text, section_text};
-ghost use Rattle.report_sections.specs.Replay.{told_block};
+ghost use Rattle.crash_model.specs.Report.{line, numbers, write_text, replayed_text, replay_text, crash_text, section_text};
+ghost use Rattle.report_sections.specs.Replay.{told_block, told_replay};
 ghost use Rattle.report_sections.specs.Sections.{section_of};
 ghost use Rattle.report_text.specs.Cache.{fault_line};
 
-use crate::cache::LineCache;
 use crate::numbers::numbers_between;
 use crash_model::fault::Fault;
 use patch_sets::leading::{below, first_run};
@@ -16,18 +15,17 @@ use patch_sets::write::BlockWrite;
 use report_sections::{ReplayedBlock, Section};
 use std::alloc::{AllocError, Allocator};
 
-/// The lines of a failing set: those of the crash, and one for each fault.
+/// The lines of a failing set: those of the crash, and one for each fault. The graph has `patches` patches.
 pub(crate) fn write_section<A: Allocator + Copy, B: Allocator>(
     out: &mut String<A>,
-    lines: &mut LineCache,
+    patches: usize,
     section: &Section<B>,
 ) -> Result<(), AllocError>
-    ensures text { OnOk result (string_bytes out.new
-        ≡ string_bytes out.old ++ section_text lines.old (section_of section.now)) }
-    ensures kept { lines.new ≡ lines.old }
+    ensures { OnOk result (string_bytes out.new
+        ≡ string_bytes out.old ++ section_text patches (section_of section.now)) }
 {
-    write_crash(out, lines, section)?;
-    write_faults(out, lines, &section.faults)?;
+    write_crash(out, patches, section)?;
+    write_faults(out, &section.faults)?;
     Ok(())
 }
 
@@ -35,25 +33,49 @@ pub(crate) fn write_section<A: Allocator + Copy, B: Allocator>(
 /// changes, where that is told.
 pub(crate) fn write_crash<A: Allocator + Copy, B: Allocator>(
     out: &mut String<A>,
-    lines: &mut LineCache,
+    patches: usize,
     section: &Section<B>,
 ) -> Result<(), AllocError>
-    ensures text { OnOk result (string_bytes out.new
-        ≡ string_bytes out.old ++ crash_text lines.old (section_of section.now)) }
-    ensures kept { lines.new ≡ lines.old }
+    ensures { OnOk result (string_bytes out.new
+        ≡ string_bytes out.old ++ crash_text patches (section_of section.now)) }
+{
+    write_set(out, patches, section.set)?;
+    write_writes(out, patches, &section.writes)?;
+    write_replay(out, &section.replay)?;
+    Ok(())
+}
+
+/// The line of a set.
+pub(crate) fn write_set<A: Allocator + Copy>(
+    out: &mut String<A>,
+    patches: usize,
+    set: u128,
+) -> Result<(), AllocError>
+    ensures { OnOk result (string_bytes out.new
+        ≡ string_bytes out.old ++ line (codes "set" ++ numbers (ids_of patches set))) }
 {
     out.push_str("set")?;
-    write_ids(out, lines.patches(), section.set)?;
+    write_ids(out, patches, set)?;
     out.push_str("\n")?;
-    write_writes(out, lines, &section.writes)?;
-    if let Some(replay) = &section.replay {
-        write_replay(out, replay)?;
+    Ok(())
+}
+
+/// A line for each block that replay changes, where that is told.
+pub(crate) fn write_replay<A: Allocator + Copy, B: Allocator>(
+    out: &mut String<A>,
+    replay: &Option<Vec<ReplayedBlock, B>>,
+) -> Result<(), AllocError>
+    ensures { OnOk result (string_bytes out.new
+        ≡ string_bytes out.old ++ replay_text (told_replay replay.now)) }
+{
+    if let Some(replay) = replay {
+        write_replayed_blocks(out, replay)?;
     }
     Ok(())
 }
 
 /// A line for each block that replay changes.
-fn write_replay<A: Allocator + Copy>(
+fn write_replayed_blocks<A: Allocator + Copy>(
     out: &mut String<A>,
     replay: &[ReplayedBlock],
 ) -> Result<(), AllocError>
@@ -91,23 +113,22 @@ fn write_hex<A: Allocator + Copy>(out: &mut String<A>, bytes: &[u8]) -> Result<(
 }
 
 /// A line for each block write.
-fn write_writes<A: Allocator + Copy>(
+pub(crate) fn write_writes<A: Allocator>(
     out: &mut String<A>,
-    lines: &mut LineCache,
+    patches: usize,
     writes: &[BlockWrite],
 ) -> Result<(), AllocError>
-    ensures text { OnOk result (string_bytes out.new
-        ≡ string_bytes out.old ++ flat_map (write_text lines.old) writes.now) }
-    ensures kept { lines.new ≡ lines.old }
+    ensures { OnOk result (string_bytes out.new
+        ≡ string_bytes out.old ++ flat_map (write_text patches) writes.now) }
 {
     for write in writes {
-        lines.push_write(out, *write)?;
+        write_write(out, patches, *write)?;
     }
     Ok(())
 }
 
 /// The line of a block write: its block and the ids of its patches.
-pub(crate) fn write_write<A: Allocator>(
+fn write_write<A: Allocator>(
     out: &mut String<A>,
     patches: usize,
     write: BlockWrite,
@@ -144,16 +165,11 @@ fn write_block<A: Allocator>(out: &mut String<A>, block: u8) -> Result<(), Alloc
 }
 
 /// A line for each fault.
-fn write_faults<A: Allocator + Copy>(
-    out: &mut String<A>,
-    lines: &mut LineCache,
-    faults: &[Fault],
-) -> Result<(), AllocError>
-    ensures text { OnOk result (string_bytes out.new ≡ string_bytes out.old ++ flat_map fault_line faults.now) }
-    ensures kept { lines.new ≡ lines.old }
+fn write_faults<A: Allocator>(out: &mut String<A>, faults: &[Fault]) -> Result<(), AllocError>
+    ensures { OnOk result (string_bytes out.new ≡ string_bytes out.old ++ flat_map fault_line faults.now) }
 {
     for fault in faults {
-        lines.push_fault(out, *fault)?;
+        write_fault(out, *fault)?;
     }
     Ok(())
 }

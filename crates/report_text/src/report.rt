@@ -1,6 +1,7 @@
 //! Whole reports.
 
-ghost use Rattle.std.specs.Prelude.{◌≡◌, ◌<◌, map, string_bytes, IfOk, OnOk};
+ghost use Rattle.std.specs.Prelude.{◌≡◌, ℕ, ◌<◌, [], ◌∷◌, length, map, string_bytes, IfOk, OnOk};
+ghost use Rattle.patch_sets.specs.Sets.{Has};
 ghost use Rattle.std.specs.List.{All};
 ghost use Rattle.crash_model.specs.Whole.{Body as WholeBody, text_report};
 ghost use Rattle.report_sections.specs.Bodies.{CanTell, TellsBody, AreKnown, whole_of};
@@ -8,7 +9,7 @@ ghost use Rattle.report_text.specs.TextReport.{WritesSections, WritesFaults};
 
 use crate::cache::LineCache;
 use crate::head::write_head;
-use crate::lines::write_section;
+use crate::lines::{write_replay, write_set};
 use crate::parts::write_together;
 use crate::patches::write_patches;
 use crate::rules::write_rules;
@@ -70,12 +71,33 @@ pub(crate) fn write_sections<A: Allocator + Copy>(
         report.now.traced.now.patches sets.now (string_bytes out.old) (string_bytes out.new)) }
 {
     let graph = report.traced.graph();
-    let mut lines = LineCache::new(graph.len());
+    let mut lines = LineCache::new(graph);
     let mut maker = SectionMaker::new(alloc, report.base, graph, report.detail)?;
     for set in sets {
-        let section = maker.section(*set)?;
-        write_section(out, &mut lines, &section)?;
+        write_one(out, &mut lines, &mut maker, *set)?;
     }
+    Ok(())
+}
+
+/// The lines of one set.
+fn write_one<A: Allocator + Copy>(
+    out: &mut String<A>,
+    lines: &mut LineCache<'_, A>,
+    maker: &mut SectionMaker<'_, A>,
+    set: u128,
+) -> Result<(), AllocError>
+    requires same { maker.old.patches ≡ lines.old }
+    requires known { (id : ℕ) → Has set id → id < length lines.old }
+    ensures text { OnOk result (WritesSections maker.old.detail maker.old.base maker.old.patches (set ∷ [])
+        (string_bytes out.old) (string_bytes out.new)) }
+    ensures maker { maker.new ≡ maker.old }
+    ensures lines { lines.new ≡ lines.old }
+{
+    let outcome = maker.outcome(set)?;
+    write_set(out, lines.patches(), set)?;
+    lines.push_writes(out, set)?;
+    write_replay(out, &outcome.replay)?;
+    lines.push_faults(out, &outcome.faults)?;
     Ok(())
 }
 
@@ -92,11 +114,10 @@ fn write_faults<A: Allocator + Copy>(
         report.now.traced.now.patches rows.now (string_bytes out.old) (string_bytes out.new)) }
 {
     let graph = report.traced.graph();
-    let mut lines = LineCache::new(graph.len());
     let mut maker = SectionMaker::new(alloc, report.base, graph, report.detail)?;
     for row in rows {
         let section = maker.section(row.first)?;
-        write_told_fault(out, &mut lines, row, &section)?;
+        write_told_fault(out, graph.len(), row, &section)?;
     }
     Ok(())
 }

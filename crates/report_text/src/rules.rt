@@ -5,7 +5,6 @@ ghost use Rattle.crash_model.specs.Needs.{first_text, usage_text, told_rule_text
 ghost use Rattle.report_sections.specs.Sections.{section_of};
 ghost use Rattle.report_sections.specs.ToldRules.{usage_of, told_rule};
 
-use crate::cache::LineCache;
 use crate::lines::write_section;
 use report_sections::{RuleUsage, Section, ToldRule};
 use std::alloc::{AllocError, Allocator};
@@ -78,7 +77,7 @@ fn write_first<A: Allocator + Copy>(
         ≡ string_bytes out.old ++ first_text patches (option_map section_of first.now)) }
 {
     if let Some(section) = first {
-        write_section(out, &mut LineCache::new(patches), section)?;
+        write_section(out, patches, section)?;
     }
     Ok(())
 }

@@ -1,5 +1,3 @@
-use Rattle.std.proofs.Common.{◌∙◌, ap, string_bytes}
-use Rattle.hex.specs.Hex.{encode_lower}
 use Rattle.report_sections.proofs.Pieces.{five_pieces}
 use Rattle.report_text.proofs.lines.write_replayed.Goals as goal
 

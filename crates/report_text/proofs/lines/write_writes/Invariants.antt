@@ -4,7 +4,4 @@ use Rattle.crash_model.specs.Report.{write_text}
 use Rattle.report_text.proofs.lines.write_writes.Given as goal
 
 abbrev pub invariant-loop-write : goal.invariant-loop-write
-invariant-loop-write g l = record {
-  told : string_bytes l.out ≡ string_bytes l.initial.out ++ flat_map (write_text l.initial.lines) (take l.write-index l.writes);
-  same : l.lines ≡ l.initial.lines;
-}
+invariant-loop-write g l = string_bytes l.out ≡ string_bytes l.initial.out ++ flat_map (write_text l.patches) (take l.write-index l.writes)

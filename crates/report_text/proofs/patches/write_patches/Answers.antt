@@ -1,4 +1,4 @@
-use Rattle.std.proofs.Common.{string_bytes, sym, refl}
+use Rattle.std.proofs.Common.{string_bytes, refl}
 use Rattle.std.proofs.lemmas.List.{append-nil}
 use Rattle.crash_model.specs.Explain.{told_text}
 use Rattle.crash_model.specs.Lists.{some_below-zero}

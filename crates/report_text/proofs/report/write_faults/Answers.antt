@@ -18,11 +18,10 @@ pub loop-row-preserved : goal.loop-row-preserved
 loop-row-preserved g c =
     let kept : c.section.new.self ≡ c.loop-row.maker = cc in
     let report = c.args.report.now in
+    let number : c.len.result ≡ length report.traced.now.patches = cc in
     let rows = c.args.rows.now in
-    let same : c.write_told_fault.new.lines ≡ c.loop-row.lines = cc in
     let is = subst (λ (m : Reported). IsSection m.detail m.base m.patches (get_or rows c.loop-row.row-index no_row).first c.in_ok-section.section) c.loop-row.invariant.of_report c.in_ok-section.ensures.told in
     record {
-      told = fault_more report.detail report.base.now report.traced.now.patches rows c.loop-row.row-index c.loop-row.lines no_row _ _ _ c.in_ok-section.section c.loop-row-test.true c.loop-row.invariant.number c.loop-row.invariant.told is c.in_ok-write_told_fault.ensures.text;
+      told = fault_more report.detail report.base.now report.traced.now.patches rows c.loop-row.row-index c.len.result no_row _ _ _ c.in_ok-section.section c.loop-row-test.true number c.loop-row.invariant.told is c.in_ok-write_told_fault.ensures;
       of_report = kept ∙ c.loop-row.invariant.of_report;
-      number = same ∙ c.loop-row.invariant.number;
     }

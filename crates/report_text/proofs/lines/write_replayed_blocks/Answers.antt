@@ -2,7 +2,7 @@ use Rattle.std.proofs.Common.{string_bytes}
 use Rattle.crash_model.specs.Report.{replayed_text}
 use Rattle.report_sections.specs.Replay.{told_block}
 use Rattle.report_text.proofs.Told.{mapped_told}
-use Rattle.report_text.proofs.lines.write_replay.Goals as goal
+use Rattle.report_text.proofs.lines.write_replayed_blocks.Goals as goal
 
 pub loop-replayed-preserved : goal.loop-replayed-preserved
 loop-replayed-preserved g c =
