@@ -4,5 +4,6 @@ pub mod FailingSets
 pub mod Fronts
 pub mod ImageBytes
 pub mod Moved
+pub mod NoJournal
 pub mod PutSteps
 pub mod Differ

@@ -1,6 +1,6 @@
 //! The image of a set after replay, kept in step with the image before it.
 
-ghost use Rattle.std.specs.Prelude.{◌≡◌, ◌<◌};
+ghost use Rattle.std.specs.Prelude.{◌≡◌, ◌<◌, ◌≤◌};
 ghost use Rattle.std.specs.List.{All};
 ghost use Rattle.patch_sets.specs.Closed.{IsClosed};
 ghost use Rattle.crash_model.specs.Patches.{deps_of, image_of, AreUndo};
@@ -18,23 +18,26 @@ use std::marker::Model;
 /// The image after replay of a set that a crash can leave, which moves from set to set.
 ///
 /// A [`Mover`] brings the image before replay along. Of its blocks those alone are copied that a move or a replay
-/// wrote since the last set. Contracts see the base, the patches and the set. No call takes memory.
+/// wrote since the last set, and none where there is no journal. Contracts see the base, the patches and the set. No
+/// call takes memory.
 #[derive(Drop)]
 pub struct Replayer<'a, A: Allocator + Copy> {
     mover: Mover<'a, A>,
+    /// The image after replay, where there is a journal.
     after: Image<A>,
     /// The blocks in which the images before and after replay may differ.
     stale: u128,
 }
 
 impl<'a, A: Allocator + Copy> Model for Replayer<'a, A> {
+    ghost use Rattle.std.specs.Prelude.{◌≤◌};
     ghost use Rattle.crash_image.specs.Moves.{Applied, IsReplayed};
 
     ghost Value = { Applied };
 
     ghost view = { λ r. r.mover };
 
-    ghost invariant = { λ r. IsReplayed r.mover r.after r.stale };
+    ghost invariant = { λ r. 1 ≤ r.mover.base.journal → IsReplayed r.mover r.after r.stale };
 }
 
 impl<'a, A: Allocator + Copy> Replayer<'a, A> {
@@ -62,6 +65,10 @@ impl<'a, A: Allocator + Copy> Replayer<'a, A> {
         requires { IsClosed (deps_of self.old.patches) set }
         ensures { self.new ≡ record self.old { set = set } }
     {
+        if self.mover.image().journal() == 0 {
+            self.mover.move_to(set);
+            return;
+        }
         let stale = self.stale | self.mover.blocks_to(set);
         self.mover.move_to(set);
         copy_blocks(&mut self.after, self.mover.image(), stale);
@@ -72,7 +79,19 @@ impl<'a, A: Allocator + Copy> Replayer<'a, A> {
     pub fn image(&self) -> &Image<A>
         ensures { result.now ≡ image_after_replay (image_of self.now.base self.now.patches self.now.set) }
     {
-        &self.after
+        let before = self.mover.image();
+        if before.journal() == 0 {
+            before
+        } else {
+            &self.after
+        }
+    }
+
+    /// The image of the set before replay.
+    pub fn image_before(&self) -> &Image<A>
+        ensures { result.now ≡ image_of self.now.base self.now.patches self.now.set }
+    {
+        self.mover.image()
     }
 }
 

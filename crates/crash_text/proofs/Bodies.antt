@@ -25,7 +25,7 @@ use Rattle.crash_model.specs.declared.settings.Settings.{Settings}
 use Rattle.crash_model.specs.declared.settings.ReportBy.TheVariants.{BySet, ByFault, ByRule}
 use Rattle.crash_model.proofs.Leading.{failing_closed, closed_are_left, sections_lead}
 use Rattle.order_modules.specs.Traced.{TracedPatches}
-use Rattle.report_sections.specs.Bodies.{AreKnown, CanTell, TellsBody, sets_of, explanation_by}
+use Rattle.report_sections.specs.Bodies.{AreOnBase, AreClosed, CanTell, TellsBody, sets_of, explanation_by}
 use Rattle.report_sections.specs.declared.report.Body as code
 use Rattle.report_sections.specs.declared.report.Body.TheVariants as code_body
 use Rattle.report_sections.specs.declared.report.Report as code_report
@@ -55,10 +55,10 @@ IsTextOn settings kept base last patches total sets text =
 
 -- ---- a report's data, which are those of the findings
 
-pub can_tell : {A : Type 0} (r : code_report.Report A) (base : Disk) (t : TracedPatches) → r.base.now ≡ base → r.traced.now ≡ t → All (λ patch. patch.block < base.blocks) t.patches → AreKnown t.patches (sets_of r.body) → CanTell r
-can_tell r base t same_base same_trace fits known = record {
-  fits = subst (λ (d : Disk). All (λ patch. patch.block < d.blocks) r.traced.now.patches) (sym same_base) (subst (λ (u : TracedPatches). All (λ patch. patch.block < base.blocks) u.patches) (sym same_trace) fits);
-  known = subst (λ (u : TracedPatches). AreKnown u.patches (sets_of r.body)) (sym same_trace) known;
+pub can_tell : {A : Type 0} (r : code_report.Report A) (base : Disk) (t : TracedPatches) → r.base.now ≡ base → r.traced.now ≡ t → AreOnBase base t.patches → AreClosed t.patches (sets_of r.body) → CanTell r
+can_tell r base t same_base same_trace on_base closed = record {
+  on_base = subst (λ (d : Disk). AreOnBase d r.traced.now.patches) (sym same_base) (subst (λ (u : TracedPatches). AreOnBase base u.patches) (sym same_trace) on_base);
+  closed = subst (λ (u : TracedPatches). AreClosed u.patches (sets_of r.body)) (sym same_trace) closed;
 }
 
 -- the text of a report with these data
@@ -77,10 +77,9 @@ tells_of r settings detail base t closed failing chosen text same_settings same_
     (subst (λ (n : ℕ). Tells r.settings.now r.detail r.base.now r.traced.now r.closed n chosen text) same_failing
     (subst (λ b. Tells r.settings.now r.detail r.base.now r.traced.now r.closed r.failing b text) same_data told))))))
 
--- the first sets of faults have ids of patches
-pub rows-known : (kept : Option ℕ) (base : Disk) (patches : List Patch) (rows : List FaultRow) → AreRows (HasFault kept base patches) rows → AreKnown patches (map (λ row. row.first) rows)
-rows-known kept base patches rows are = All-map (λ (set : ℕ). (id : ℕ) → Has set id → id < length patches) (λ (row : FaultRow). row.first) rows
-    (λ k d within id has. let known = (are.each k d within).first.among.failing.closed.known id has in omega (arith, known, length-map patches (λ (p : Patch). p.deps)))
+-- a crash can leave the first sets of faults
+pub firsts_closed : (kept : Option ℕ) (base : Disk) (patches : List Patch) (rows : List FaultRow) → AreRows (HasFault kept base patches) rows → AreClosed patches (map (λ row. row.first) rows)
+firsts_closed kept base patches rows are = All-map (IsClosed (deps_of patches)) (λ (row : FaultRow). row.first) rows (λ k d within. (are.each k d within).first.among.failing.closed)
 
 -- ---- what it tells
 
@@ -128,14 +127,8 @@ module _ (settings : Settings) (kept : Option ℕ) (base : Disk) (t : TracedPatc
   told_faults total sets text body rows told by are_rows of_rows are same whole_text =
       text_on total sets text body (subst (IsBody settings kept base last t.patches sets) (sym same) (by, are_told, lead)) whole_text
     where
-      closed_row : (row : FaultRow) → IsRow (HasFault kept base t.patches) row → IsClosed (deps_of t.patches) row.first
-      closed_row row is_row = is_row.first.among.failing.closed
-
-      firsts_closed : All (IsClosed (deps_of t.patches)) (map (λ row. row.first) rows)
-      firsts_closed = All-map (IsClosed (deps_of t.patches)) (λ row. row.first) rows (λ k d within. closed_row (get_or rows k d) (are_rows.each k d within))
-
       leads : All (IsLed t.patches) (map (λ f. f.first) told)
-      leads = sections_lead base t.patches is.graph.earlier (detail_of settings kept) (map (λ row. row.first) rows) (map (λ f. f.first) told) firsts_closed are
+      leads = sections_lead base t.patches is.graph.earlier (detail_of settings kept) (map (λ row. row.first) rows) (map (λ f. f.first) told) (firsts_closed kept base t.patches rows are_rows) are
 
       same_firsts : map (λ row. row.first) rows ≡ map (λ f. f.row.first) told
       same_firsts = ap (map (λ (row : FaultRow). row.first)) (sym of_rows) ∙ map-map (λ (row : FaultRow). row.first) (λ (f : ToldFault). f.row) told

@@ -1,6 +1,5 @@
 -- What the report of a run tells.
-use Rattle.std.specs.Prelude.{◌≡◌, ◌⊎◌, ℕ, ◌<◌, List, Option, Ok, Err}
-use Rattle.std.specs.List.{All}
+use Rattle.std.specs.Prelude.{◌≡◌, ◌⊎◌, ℕ, List, Option, Ok, Err}
 use Rattle.crash_model.specs.Answer.{ordering_rules, IsReport}
 use Rattle.crash_model.specs.Disk.{Disk}
 use Rattle.crash_model.specs.Failing.{ExceedsLimit}
@@ -14,6 +13,7 @@ use Rattle.crash_model.specs.declared.refusals.TraceFault.{TraceFault}
 use Rattle.crash_model.specs.declared.settings.Settings.{Settings}
 use Rattle.crash_model.specs.declared.steps.Step.{Step}
 use Rattle.order_modules.specs.Traced.{TracedPatches}
+use Rattle.report_sections.specs.Bodies.{AreOnBase}
 use Rattle.crash_text.specs.Kept.{AreFound}
 use Rattle.crash_text.specs.declared.telling.Findings.{Findings}
 
@@ -24,9 +24,9 @@ pub record IsTraceOf (settings : Settings) (base : Disk) (t : TracedPatches) (la
   pub rules : t.rules ≡ ordering_rules settings
   pub graph : IsGraphOf (ordering_rules settings) base last t.patches
 
--- what is found of traced patches that change blocks of the base
+-- what is found of patches that were traced over the base
 pub record AreFindings {A : Type 0} (f : Findings A) : Type 0 where
-  pub fits : All (λ patch. patch.block < f.base.now.blocks) f.traced.patches
+  pub on_base : AreOnBase f.base.now f.traced.patches
   pub found : AreFound f.settings.now f.kept f.base.now f.traced.patches f.found
 
 -- the text is the report on what is found, whatever state traced these patches

@@ -1,7 +1,6 @@
 //! Which rules of the ordering a script needs: what a crash can leave without each of them.
 
-ghost use Rattle.std.specs.Prelude.{◌≡◌, ℕ, ◌<◌, ◌≤◌, List, map, option_map, string_bytes, IfOk};
-ghost use Rattle.std.specs.List.{All};
+ghost use Rattle.std.specs.Prelude.{◌≡◌, ℕ, ◌≤◌, List, map, option_map, string_bytes, IfOk};
 ghost use Rattle.patch_sets.specs.Closed.{AreEarlier, IsClosed};
 ghost use Rattle.patch_sets.specs.Sets.{AreAllInOrder};
 ghost use Rattle.crash_model.specs.Answer.{detail_of, ordering_rules};
@@ -11,6 +10,7 @@ ghost use Rattle.crash_model.specs.Patches.{deps_of};
 ghost use Rattle.crash_model.specs.Trace.{Tracing};
 ghost use Rattle.crash_model.specs.declared.settings.ReportBy.TheVariants.{ByRule};
 ghost use Rattle.fault_summary.specs.Prevented.{IsFirstPrevented};
+ghost use Rattle.report_sections.specs.Bodies.{AreOnBase};
 ghost use Rattle.report_sections.specs.Sections.{section_of};
 ghost use Rattle.report_sections.specs.ToldRules.{told_rule, usage_of};
 ghost use Rattle.crash_text.specs.Limits.{IsExplorable};
@@ -139,7 +139,7 @@ fn first_section<A: Allocator + Copy>(
     changed: &Graph<A>,
     set: Option<u128>,
 ) -> Result<Option<Section<A>>, AllocError>
-    requires fits { All (λ patch. patch.block < findings.now.base.now.blocks) changed.now }
+    requires on_base { AreOnBase findings.now.base.now changed.now }
     requires earlier { AreEarlier (deps_of changed.now) }
     requires first { IsFirstPrevented (IsFailingUnder findings.now.kept findings.now.base.now changed.now)
         (IsClosed (deps_of findings.now.traced.patches)) set }

@@ -14,5 +14,5 @@ mod strict;
 pub use clean::is_clean;
 pub use crash_model::fault::Fault;
 pub use laws::{clean_is_faultless, reached_inodes_are_the_least_set};
-pub use list::{faults, faults_under};
+pub use list::{faults, faults_under, list_faults_under};
 pub use strict::is_clean_under;

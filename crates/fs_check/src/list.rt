@@ -23,18 +23,27 @@ use std::alloc::{AllocError, Allocator};
 pub fn faults<A: Allocator + Copy>(alloc: A, image: &Image<A>) -> Result<Vec<Fault, A>, AllocError>
     ensures { IfOk result (λ found. found.items ≡ faults image.now) }
 {
+    let mut found = Vec::new(alloc);
+    list_faults(&mut found, image)?;
+    Ok(found)
+}
+
+/// Makes of a list the faults of an image.
+fn list_faults<A: Allocator + Copy>(found: &mut Vec<Fault, A>, image: &Image<A>) -> Result<(), AllocError>
+    ensures { OnOk result (found.new.items ≡ faults image.now) }
+{
     let mut wrong = ArrayVec::new();
     let mut named = [0; 128];
     read_pointers(image, &mut wrong, &mut named);
-    let mut found = Vec::new(alloc);
-    let led = push_dangling(&mut found, image)?;
-    push_twice(&mut found, image, &named)?;
+    found.clear();
+    let led = push_dangling(found, image)?;
+    push_twice(found, image, &named)?;
     let wrong = wrong.as_slice();
-    push_wrong(&mut found, image, Test::IsUnwritten, wrong)?;
-    push_low_links(&mut found, image, &led)?;
-    push_wrong(&mut found, image, Test::IsMarkedFree, wrong)?;
-    push_wrong(&mut found, image, Test::IsWild, wrong)?;
-    Ok(found)
+    push_wrong(found, image, Test::IsUnwritten, wrong)?;
+    push_low_links(found, image, &led)?;
+    push_wrong(found, image, Test::IsMarkedFree, wrong)?;
+    push_wrong(found, image, Test::IsWild, wrong)?;
+    Ok(())
 }
 
 /// The faults of an image where a script keeps a set of inodes, or where nothing is asked of that: those of [`faults`],
@@ -46,11 +55,26 @@ pub fn faults_under<A: Allocator + Copy>(
 ) -> Result<Vec<Fault, A>, AllocError>
     ensures { IfOk result (λ found. found.items ≡ faults_under kept image.now) }
 {
-    let mut found = faults(alloc, image)?;
-    if let Some(kept) = kept {
-        push_strict(&mut found, image, kept)?;
-    }
+    let mut found = Vec::new(alloc);
+    list_faults_under(&mut found, image, kept)?;
     Ok(found)
+}
+
+/// Makes of a list what [`faults_under`] gives, in the memory that it has where that is enough.
+///
+/// It fails only when out of memory; then the list has some of the faults.
+pub fn list_faults_under<A: Allocator + Copy>(
+    found: &mut Vec<Fault, A>,
+    image: &Image<A>,
+    kept: Option<u16>,
+) -> Result<(), AllocError>
+    ensures { OnOk result (found.new.items ≡ faults_under kept image.now) }
+{
+    list_faults(found, image)?;
+    if let Some(kept) = kept {
+        push_strict(found, image, kept)?;
+    }
+    Ok(())
 }
 
 /// What is tested of one pointer alone.

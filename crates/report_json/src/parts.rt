@@ -1,8 +1,7 @@
 //! Objects of sets that workers write side by side.
 
 ghost use Rattle.std.specs.Prelude.{◌≡◌, ◌<◌, ◌+◌, ◌/◌, ◌%◌, [], length, min, string_bytes, vec_len, IfOk, OnOk};
-ghost use Rattle.std.specs.List.{All};
-ghost use Rattle.report_sections.specs.Bodies.{AreKnown};
+ghost use Rattle.report_sections.specs.Bodies.{AreOnBase, AreClosed};
 ghost use Rattle.report_json.specs.JsonReport.{WritesSections};
 ghost use Rattle.report_json.specs.PartTexts.{ArePartTexts, AreFullParts};
 
@@ -29,8 +28,8 @@ pub(crate) fn write_together<R, A>(
 where
     R: Threads + Sync,
     A: Allocator + Copy + Send + Sync,
-    requires fits { All (λ patch. patch.block < report.now.base.now.blocks) report.now.traced.now.patches }
-    requires known { AreKnown report.now.traced.now.patches sets.now }
+    requires on_base { AreOnBase report.now.base.now report.now.traced.now.patches }
+    requires closed { AreClosed report.now.traced.now.patches sets.now }
     ensures { OnOk result (WritesSections report.now.detail report.now.base.now
         report.now.traced.now.patches sets.now (string_bytes out.old) (string_bytes out.new)) }
 {
@@ -63,8 +62,8 @@ where
     R: Threads + Sync,
     A: Allocator + Copy + Send + Sync,
     requires size { 0 < size }
-    requires fits { All (λ patch. patch.block < report.now.base.now.blocks) report.now.traced.now.patches }
-    requires known { AreKnown report.now.traced.now.patches sets.now }
+    requires on_base { AreOnBase report.now.base.now report.now.traced.now.patches }
+    requires closed { AreClosed report.now.traced.now.patches sets.now }
     ensures len { IfOk result (λ texts. vec_len texts ≡ length sets.now / size + min 1 (length sets.now % size)) }
     ensures each { IfOk result (λ texts.
         ArePartTexts report.now.detail report.now.base.now report.now.traced.now.patches sets.now size
@@ -77,8 +76,8 @@ where
         sets,
         size,
         &|_, part|
-            requires { All (λ patch. patch.block < report.now.base.now.blocks) report.now.traced.now.patches
-                × AreKnown report.now.traced.now.patches part.now }
+            requires { AreOnBase report.now.base.now report.now.traced.now.patches
+                × AreClosed report.now.traced.now.patches part.now }
         { part_text(heap, alloc, report, part) },
     )?;
     Ok(texts)
@@ -91,8 +90,8 @@ fn part_text<A: Allocator + Copy>(
     report: &Report<'_, '_, '_, '_, A>,
     sets: &[u128],
 ) -> Result<String, AllocError>
-    requires fits { All (λ patch. patch.block < report.now.base.now.blocks) report.now.traced.now.patches }
-    requires known { AreKnown report.now.traced.now.patches sets.now }
+    requires on_base { AreOnBase report.now.base.now report.now.traced.now.patches }
+    requires closed { AreClosed report.now.traced.now.patches sets.now }
     ensures { IfOk result (λ text.
         WritesSections report.now.detail report.now.base.now report.now.traced.now.patches sets.now []
         (string_bytes text)) }

@@ -1,9 +1,8 @@
 //! Whole reports.
 
 ghost use Rattle.std.specs.Prelude.{◌≡◌, ◌<◌, map, string_bytes, IfOk, OnOk};
-ghost use Rattle.std.specs.List.{All};
 ghost use Rattle.crash_model.specs.Whole.{Body as WholeBody, json_report};
-ghost use Rattle.report_sections.specs.Bodies.{CanTell, TellsBody, AreKnown, whole_of};
+ghost use Rattle.report_sections.specs.Bodies.{CanTell, TellsBody, AreOnBase, AreClosed, whole_of};
 ghost use Rattle.report_json.specs.JsonReport.{WritesEarly, WritesLate, WritesSections, WritesFaults, WritesRules};
 
 use crate::head::{write_module, write_rule_key, write_strict_key};
@@ -20,9 +19,9 @@ use std::thread::Threads;
 
 /// A report as JSON: one compact object, its keys in ascending order, and a line feed.
 ///
-/// The patches change blocks of the base, and sets have ids of patches. JSON takes its memory from `heap`, and
-/// sections take theirs from `alloc`; a section's is free again before the next is made. Up to so many workers write
-/// sections side by side. It fails only when out of memory.
+/// The patches change blocks of the base, and a crash can leave each of the sets. JSON takes its memory from `heap`,
+/// and sections take theirs from `alloc`; a section's is free again before the next is made. Up to so many workers
+/// write sections side by side. It fails only when out of memory.
 pub fn report_json<R, A>(
     rt: &R,
     heap: Global,
@@ -122,8 +121,8 @@ pub(crate) fn write_sections<A: Allocator + Copy>(
     report: &Report<'_, '_, '_, '_, A>,
     sets: &[u128],
 ) -> Result<(), AllocError>
-    requires fits { All (λ patch. patch.block < report.now.base.now.blocks) report.now.traced.now.patches }
-    requires known { AreKnown report.now.traced.now.patches sets.now }
+    requires on_base { AreOnBase report.now.base.now report.now.traced.now.patches }
+    requires closed { AreClosed report.now.traced.now.patches sets.now }
     ensures { OnOk result (WritesSections report.now.detail report.now.base.now
         report.now.traced.now.patches sets.now (string_bytes out.old) (string_bytes out.new)) }
 {
@@ -146,8 +145,8 @@ fn write_faults<A: Allocator + Copy>(
     report: &Report<'_, '_, '_, '_, A>,
     rows: &[FaultRow],
 ) -> Result<(), AllocError>
-    requires fits { All (λ patch. patch.block < report.now.base.now.blocks) report.now.traced.now.patches }
-    requires known { AreKnown report.now.traced.now.patches (map (λ row. row.first) rows.now) }
+    requires on_base { AreOnBase report.now.base.now report.now.traced.now.patches }
+    requires closed { AreClosed report.now.traced.now.patches (map (λ row. row.first) rows.now) }
     ensures { OnOk result (WritesFaults report.now.detail report.now.base.now
         report.now.traced.now.patches rows.now (string_bytes out.old) (string_bytes out.new)) }
 {

@@ -1,5 +1,4 @@
 pub mod Pieces
 pub mod Pushed
-pub mod Sizes
-pub mod Known
+pub mod Firsts
 pub mod Joined

@@ -1,9 +1,10 @@
 -- What a report's data tell.
 use Rattle.std.specs.Prelude.{◌≡◌, ℕ, ◌<◌, List, [], length, map}
 use Rattle.std.specs.List.{All}
-use Rattle.patch_sets.specs.Sets.{Has}
+use Rattle.patch_sets.specs.Closed.{IsClosed}
 use Rattle.crash_model.specs.Disk.{Disk}
 use Rattle.crash_model.specs.Lists.{when}
+use Rattle.crash_model.specs.Patches.{deps_of, AreUndo}
 use Rattle.crash_model.specs.Explain.{Explanation, blocks_of, told_patches}
 use Rattle.crash_model.specs.Report.{Section, AreSections}
 use Rattle.crash_model.specs.Summary.{ToldFault}
@@ -16,9 +17,14 @@ use Rattle.report_sections.specs.declared.report.Body.TheVariants.{Sets, Faults,
 use Rattle.report_sections.specs.declared.report.Report.{Report}
 use Rattle.report_sections.specs.ToldRules.{told_rule}
 
--- each id of the sets is a patch's
-abbrev pub AreKnown : List Patch → List ℕ → Type 0
-AreKnown patches sets = All (λ set. (id : ℕ) → Has set id → id < length patches) sets
+-- the patches change blocks of the base, and their undo data are the bytes that they replace there
+pub record AreOnBase (base : Disk) (patches : List Patch) : Type 0 where
+  pub fits : All (λ patch. patch.block < base.blocks) patches
+  pub undo : AreUndo base patches
+
+-- a crash can leave each of the sets
+abbrev pub AreClosed : List Patch → List ℕ → Type 0
+AreClosed patches sets = All (IsClosed (deps_of patches)) sets
 
 -- the sets of which sections are made
 abbrev pub sets_of : {A : Type 0} → Body A → List ℕ
@@ -26,10 +32,10 @@ sets_of (Sets sets) = sets.now
 sets_of (Faults rows) = map (λ row. row.first) rows.now
 sets_of (Rules rules) = []
 
--- the patches change blocks of the base, and those of the sets to tell of are among them
+-- what a report can tell of: patches of the base, and sets that a crash can leave
 pub record CanTell {A : Type 0} (report : Report A) : Type 0 where
-  pub fits : All (λ patch. patch.block < report.base.now.blocks) report.traced.now.patches
-  pub known : AreKnown report.traced.now.patches (sets_of report.body)
+  pub on_base : AreOnBase report.base.now report.traced.now.patches
+  pub closed : AreClosed report.traced.now.patches (sets_of report.body)
 
 -- the body as the definition sees it
 abbrev pub TellsBody : {A : Type 0} → Detail → Disk → List Patch → Body A → whole.Body → Type 0

@@ -1,6 +1,5 @@
 -- What sections are made of.
-use Rattle.std.specs.Prelude.{◌≡◌, ◌<◌, List}
-use Rattle.std.specs.List.{All}
+use Rattle.std.specs.Prelude.{List}
 use Rattle.crash_model.specs.Disk.{Disk}
 use Rattle.crash_model.specs.declared.patches.Patch.{Patch}
 use Rattle.crash_model.specs.declared.settings.Detail.{Detail}
@@ -10,8 +9,3 @@ pub record Reported : Type 0 where
   pub base : Disk
   pub patches : List Patch
   pub detail : Detail
-
--- the patches change blocks of the base, and the image has as many
-pub record IsMaker (base : Disk) (patches : List Patch) (image : Disk) : Type 0 where
-  pub fits : All (λ patch. patch.block < base.blocks) patches
-  pub size : image.blocks ≡ base.blocks

@@ -1,13 +1,13 @@
 //! What replay of a journal changes.
 
-ghost use Rattle.std.specs.Prelude.{◌≡◌, ◌<◌, IfOk, OnOk, map};
+ghost use Rattle.std.specs.Prelude.{◌≡◌, ◌<◌, IfOk, map};
 ghost use Rattle.crash_model.specs.Disk.{block_of};
-ghost use Rattle.crash_model.specs.Replay.{image_after_replay};
+ghost use Rattle.crash_model.specs.Patches.{image_of};
 ghost use Rattle.crash_model.specs.Report.{changed_blocks, replay_of};
 ghost use Rattle.report_sections.specs.Replay.{told_block, told_replay};
 
+use crash_image::Replayer;
 use disk_image::Image;
-use journal_replay::replay;
 use std::alloc::{AllocError, Allocator};
 
 /// A block that replay changes, with its bytes after replay.
@@ -17,24 +17,20 @@ pub struct ReplayedBlock {
     pub bytes: [u8; 128],
 }
 
-/// Replays the journal of an image; where `explain` is set, tells the blocks that this changes, ascending. It fails
-/// only when out of memory, and then too the image is replayed or as it was.
-pub(crate) fn replay_and_tell<A: Allocator + Copy>(
+/// The blocks that replay changes in the image of a set, ascending, where that is to be explained. It fails only when
+/// out of memory.
+pub(crate) fn changed_by_replay<A: Allocator + Copy>(
     alloc: A,
-    image: &mut Image<A>,
+    images: &Replayer<'_, A>,
     explain: bool,
 ) -> Result<Option<Vec<ReplayedBlock, A>>, AllocError>
-    ensures size { image.new.blocks ≡ image.old.blocks }
-    ensures replayed { OnOk result (image.new ≡ image_after_replay image.old) }
-    ensures told { IfOk result (λ replay. told_replay replay ≡ replay_of explain image.old) }
+    ensures { IfOk result (λ replay. told_replay replay
+        ≡ replay_of explain (image_of images.now.base images.now.patches images.now.set)) }
 {
     if !explain {
-        replay(image);
         return Ok(None);
     }
-    let before = image.try_copy()?;
-    replay(image);
-    let changed = changed_blocks(alloc, &before, image)?;
+    let changed = changed_blocks(alloc, images.image_before(), images.image())?;
     Ok(Some(changed))
 }
 

@@ -1,10 +1,10 @@
 //! Whole reports.
 
-ghost use Rattle.std.specs.Prelude.{◌≡◌, ℕ, ◌<◌, [], ◌∷◌, length, map, string_bytes, IfOk, OnOk};
-ghost use Rattle.patch_sets.specs.Sets.{Has};
-ghost use Rattle.std.specs.List.{All};
+ghost use Rattle.std.specs.Prelude.{◌≡◌, [], ◌∷◌, map, string_bytes, IfOk, OnOk};
+ghost use Rattle.patch_sets.specs.Closed.{IsClosed};
+ghost use Rattle.crash_model.specs.Patches.{deps_of};
 ghost use Rattle.crash_model.specs.Whole.{Body as WholeBody, text_report};
-ghost use Rattle.report_sections.specs.Bodies.{CanTell, TellsBody, AreKnown, whole_of};
+ghost use Rattle.report_sections.specs.Bodies.{CanTell, TellsBody, AreOnBase, AreClosed, whole_of};
 ghost use Rattle.report_text.specs.TextReport.{WritesSections, WritesFaults};
 
 use crate::cache::LineCache;
@@ -15,14 +15,14 @@ use crate::patches::write_patches;
 use crate::rules::write_rules;
 use crate::summary::write_told_fault;
 use crash_model::fault::FaultRow;
-use report_sections::{Body, Report, SectionMaker};
+use report_sections::{Body, Outcome, Report, SectionMaker};
 use std::alloc::{AllocError, Allocator};
 use std::thread::Threads;
 
 /// A report as text: the lines of the head, for each patch its lines where that is asked for, and the body's lines.
 ///
-/// The patches change blocks of the base, and sets have ids of patches. Up to so many workers write sections side by
-/// side. It fails only when out of memory.
+/// The patches change blocks of the base, and a crash can leave each of the sets. Up to so many workers write sections
+/// side by side. It fails only when out of memory.
 pub fn report_text<R, A>(
     rt: &R,
     alloc: A,
@@ -65,35 +65,37 @@ pub(crate) fn write_sections<A: Allocator + Copy>(
     report: &Report<'_, '_, '_, '_, A>,
     sets: &[u128],
 ) -> Result<(), AllocError>
-    requires fits { All (λ patch. patch.block < report.now.base.now.blocks) report.now.traced.now.patches }
-    requires known { AreKnown report.now.traced.now.patches sets.now }
+    requires on_base { AreOnBase report.now.base.now report.now.traced.now.patches }
+    requires closed { AreClosed report.now.traced.now.patches sets.now }
     ensures { OnOk result (WritesSections report.now.detail report.now.base.now
         report.now.traced.now.patches sets.now (string_bytes out.old) (string_bytes out.new)) }
 {
     let graph = report.traced.graph();
     let mut lines = LineCache::new(graph);
     let mut maker = SectionMaker::new(alloc, report.base, graph, report.detail)?;
+    let mut outcome = Outcome::new(alloc);
     for set in sets {
-        write_one(out, &mut lines, &mut maker, *set)?;
+        write_one(out, &mut lines, &mut maker, &mut outcome, *set)?;
     }
     Ok(())
 }
 
-/// The lines of one set.
+/// The lines of one set. What a crash comes to is told in `outcome`, whose memory serves one set after another.
 fn write_one<A: Allocator + Copy>(
     out: &mut String<A>,
     lines: &mut LineCache<'_, A>,
     maker: &mut SectionMaker<'_, A>,
+    outcome: &mut Outcome<A>,
     set: u128,
 ) -> Result<(), AllocError>
     requires same { maker.old.patches ≡ lines.old }
-    requires known { (id : ℕ) → Has set id → id < length lines.old }
+    requires closed { IsClosed (deps_of maker.old.patches) set }
     ensures text { OnOk result (WritesSections maker.old.detail maker.old.base maker.old.patches (set ∷ [])
         (string_bytes out.old) (string_bytes out.new)) }
     ensures maker { maker.new ≡ maker.old }
     ensures lines { lines.new ≡ lines.old }
 {
-    let outcome = maker.outcome(set)?;
+    maker.tell(set, outcome)?;
     write_set(out, lines.patches(), set)?;
     lines.push_writes(out, set)?;
     write_replay(out, &outcome.replay)?;
@@ -108,8 +110,8 @@ fn write_faults<A: Allocator + Copy>(
     report: &Report<'_, '_, '_, '_, A>,
     rows: &[FaultRow],
 ) -> Result<(), AllocError>
-    requires fits { All (λ patch. patch.block < report.now.base.now.blocks) report.now.traced.now.patches }
-    requires known { AreKnown report.now.traced.now.patches (map (λ row. row.first) rows.now) }
+    requires on_base { AreOnBase report.now.base.now report.now.traced.now.patches }
+    requires closed { AreClosed report.now.traced.now.patches (map (λ row. row.first) rows.now) }
     ensures { OnOk result (WritesFaults report.now.detail report.now.base.now
         report.now.traced.now.patches rows.now (string_bytes out.old) (string_bytes out.new)) }
 {

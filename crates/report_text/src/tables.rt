@@ -115,14 +115,17 @@ impl KnownFaults {
     }
 }
 
-/// The place of the lines that lead to ids: a multiplicative hash of both halves (Knuth, "The Art of Computer
-/// Programming", volume 3, section 6.4).
+/// The place of the lines that lead to ids: a multiplicative hash of each half, of which the highest bits depend on all
+/// others (Knuth, "The Art of Computer Programming", volume 3, section 6.4).
 fn slot_of_ids(ids: u128) -> usize
     ensures { result < WRITE_SLOTS }
 {
-    let halves = (ids % (1 << 64)) as u64 ^ (ids >> 64) as u64;
-    let mixed = halves.wrapping_mul(0x9E37_79B9_7F4A_7C15) >> 40;
-    mixed as usize % WRITE_SLOTS
+    let low = (ids % (1 << 64)) as u64;
+    let high = (ids >> 64) as u64;
+    let mixed = low
+        .wrapping_mul(0x9E37_79B9_7F4A_7C15)
+        .wrapping_add(high.wrapping_mul(0xC2B2_AE3D_27D4_EB4F));
+    (mixed >> 54) as usize % WRITE_SLOTS
 }
 
 /// The place of a fault's line.

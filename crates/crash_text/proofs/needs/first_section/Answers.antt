@@ -1,4 +1,4 @@
-use Rattle.std.proofs.Common.{ℕ, subst}
+use Rattle.std.proofs.Common.{ℕ, subst, sym}
 use Rattle.std.specs.Prelude.{Option}
 use Rattle.patch_sets.specs.Closed.{IsClosed}
 use Rattle.crash_model.specs.Answer.{detail_of}
@@ -30,3 +30,10 @@ returns g c = λ sets all.
     subst (λ (k : Detail). IsSection k f.base.now changed set section) c.detail.ensures
     (subst (λ (m : Reported). IsSection m.detail m.base m.patches set section) c.in_ok-maker.ensures c.in_ok-section.ensures.told) in
     some_new (detail_of f.settings.now f.kept) f.base.now patches changed sets set section c.requires.earlier first all is
+
+pub section-requires : goal.section-requires
+section-requires g c =
+    let f = c.args.findings.now in
+    let changed = c.args.changed.now in
+    let first : IsFirstOut (IsFailingUnder f.kept f.base.now changed) (IsClosed (deps_of f.traced.patches)) c.in-Some.set = subst (λ (o : Option ℕ). IsFirstPrevented (IsFailingUnder f.kept f.base.now changed) (IsClosed (deps_of f.traced.patches)) o) c.in-Some.is c.requires.first in
+    record { closed = subst (λ (m : Reported). IsClosed (deps_of m.patches) c.in-Some.set) (sym c.in_ok-maker.ensures) first.among.closed }

@@ -9,6 +9,12 @@ count_failing-requires-clause-undo g c = λ _ _.
     let s : Tracing = record (trace_start f.base.now) { emitted = f.traced.emitted; links = f.traced.links } in
     (c.in_ok-changed.ensures.graph s refl refl).undo
 
+pub first_section-requires-clause-on_base : goal.first_section-requires-clause-on_base
+first_section-requires-clause-on_base g c =
+    let f = c.args.findings.now in
+    let s : Tracing = record (trace_start f.base.now) { emitted = f.traced.emitted; links = f.traced.links } in
+    record { fits = c.in_ok-changed.ensures.fits; undo = (c.in_ok-changed.ensures.graph s refl refl).undo }
+
 pub returns-in-Ok : goal.returns-in-Ok
 returns-in-Ok g c = λ last emitted links.
     let counted = c.in-Ok.ensures.counted in

@@ -1,8 +1,9 @@
 use Rattle.std.proofs.Common.{◌≡◌, ℕ, ◌<◌, length, get_or, subst, sym, ◌∙◌}
-use Rattle.patch_sets.specs.Sets.{Has}
+use Rattle.patch_sets.specs.Closed.{IsClosed}
+use Rattle.crash_model.specs.Patches.{deps_of}
 use Rattle.report_sections.specs.Maker.{Reported}
 use Rattle.report_sections.specs.Sections.{IsSection}
-use Rattle.report_sections.proofs.Known.{no_row, first_known}
+use Rattle.report_sections.proofs.Firsts.{no_row, first_closed}
 use Rattle.report_json.proofs.Reports.{fault_more}
 use Rattle.report_json.proofs.report.write_faults.Goals as goal
 
@@ -10,8 +11,8 @@ pub section-requires : goal.section-requires
 section-requires g c =
     let rows = c.args.rows.now in
     record {
-      known = subst (λ (m : Reported). (id : ℕ) → Has (get_or rows c.loop-at.at no_row).first id → id < length m.patches) (sym c.loop-at.invariant.of_report)
-          (first_known c.args.report.now.traced.now.patches rows c.loop-at.at c.requires.known c.loop-at-test.true);
+      closed = subst (λ (m : Reported). IsClosed (deps_of m.patches) (get_or rows c.loop-at.at no_row).first) (sym c.loop-at.invariant.of_report)
+          (first_closed c.args.report.now.traced.now.patches rows c.loop-at.at c.requires.closed c.loop-at-test.true);
     }
 
 pub write_item-requires : goal.write_item-requires

@@ -1,8 +1,9 @@
 use Rattle.std.proofs.Common.{◌≡◌, ℕ, ◌<◌, length, get_or, subst, sym, ◌∙◌}
-use Rattle.patch_sets.specs.Sets.{Has}
+use Rattle.patch_sets.specs.Closed.{IsClosed}
+use Rattle.crash_model.specs.Patches.{deps_of}
 use Rattle.report_sections.specs.Maker.{Reported}
 use Rattle.report_sections.specs.Sections.{IsSection}
-use Rattle.report_sections.proofs.Known.{no_row, first_known}
+use Rattle.report_sections.proofs.Firsts.{no_row, first_closed}
 use Rattle.report_text.proofs.Reports.{fault_more}
 use Rattle.report_text.proofs.report.write_faults.Goals as goal
 
@@ -10,8 +11,8 @@ pub section-requires : goal.section-requires
 section-requires g c =
     let rows = c.args.rows.now in
     record {
-      known = subst (λ (m : Reported). (id : ℕ) → Has (get_or rows c.loop-row.row-index no_row).first id → id < length m.patches) (sym c.loop-row.invariant.of_report)
-          (first_known c.args.report.now.traced.now.patches rows c.loop-row.row-index c.requires.known c.loop-row-test.true);
+      closed = subst (λ (m : Reported). IsClosed (deps_of m.patches) (get_or rows c.loop-row.row-index no_row).first) (sym c.loop-row.invariant.of_report)
+          (first_closed c.args.report.now.traced.now.patches rows c.loop-row.row-index c.requires.closed c.loop-row-test.true);
     }
 
 pub loop-row-preserved : goal.loop-row-preserved

@@ -1,14 +1,14 @@
 use Rattle.std.proofs.Common.{string_bytes, sym, subst}
-use Rattle.report_sections.specs.Bodies.{AreKnown, sets_of}
-use Rattle.crash_text.proofs.Bodies.{can_tell, tells_of, by_fault, rows-known}
+use Rattle.report_sections.specs.Bodies.{AreClosed, sets_of}
+use Rattle.crash_text.proofs.Bodies.{can_tell, tells_of, by_fault, firsts_closed}
 use Rattle.crash_text.proofs.telling.Findings.by_fault.Goals as goal
 
 pub write_report-requires-clause-tell : goal.write_report-requires-clause-tell
 write_report-requires-clause-tell g c = λ _ _.
     let f = c.args.self.now in
     let r = c.report-report.ensures in
-    can_tell c.report-report.result f.base.now f.traced r.base r.traced c.requires.found.fits
-    (subst (λ b. AreKnown f.traced.patches (sets_of b)) (sym r.body) (rows-known f.kept f.base.now f.traced.patches c.args.rows.now c.requires.rows))
+    can_tell c.report-report.result f.base.now f.traced r.base r.traced c.requires.found.on_base
+    (subst (λ b. AreClosed f.traced.patches (sets_of b)) (sym r.body) (firsts_closed f.kept f.base.now f.traced.patches c.args.rows.now c.requires.rows))
 
 pub returns : goal.returns
 returns g c = λ last is.

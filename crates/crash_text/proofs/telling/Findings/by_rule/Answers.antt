@@ -1,7 +1,8 @@
-use Rattle.std.proofs.Common.{ℕ, ◌<◌, length, string_bytes, sym, subst}
+use Rattle.std.proofs.Common.{string_bytes, sym, subst}
 use Rattle.std.proofs.lemmas.List.Elements.{All-nil}
-use Rattle.patch_sets.specs.Sets.{Has}
-use Rattle.report_sections.specs.Bodies.{AreKnown, sets_of}
+use Rattle.patch_sets.specs.Closed.{IsClosed}
+use Rattle.crash_model.specs.Patches.{deps_of}
+use Rattle.report_sections.specs.Bodies.{AreClosed, sets_of}
 use Rattle.crash_text.proofs.Bodies.{can_tell, tells_of, by_rule}
 use Rattle.crash_text.proofs.telling.Findings.by_rule.Goals as goal
 
@@ -9,8 +10,8 @@ pub write_report-requires-clause-tell : goal.write_report-requires-clause-tell
 write_report-requires-clause-tell g c = λ _ _.
     let f = c.args.self.now in
     let r = c.report-report.ensures in
-    can_tell c.report-report.result f.base.now f.traced r.base r.traced c.requires.found.fits
-    (subst (λ b. AreKnown f.traced.patches (sets_of b)) (sym r.body) (All-nil (λ set. (id : ℕ) → Has set id → id < length f.traced.patches)))
+    can_tell c.report-report.result f.base.now f.traced r.base r.traced c.requires.found.on_base
+    (subst (λ b. AreClosed f.traced.patches (sets_of b)) (sym r.body) (All-nil (IsClosed (deps_of f.traced.patches))))
 
 pub returns : goal.returns
 returns g c = λ last is.

@@ -1,15 +1,15 @@
 use Rattle.std.proofs.Common.{string_bytes, sym, subst}
-use Rattle.report_sections.specs.Bodies.{AreKnown, sets_of}
+use Rattle.crash_model.proofs.Leading.{failing_closed}
+use Rattle.report_sections.specs.Bodies.{AreClosed, sets_of}
 use Rattle.crash_text.proofs.Bodies.{can_tell, tells_of, by_set}
-use Rattle.crash_text.proofs.Reporting.{failing-known}
 use Rattle.crash_text.proofs.telling.Findings.by_set.Goals as goal
 
 pub write_report-requires-clause-tell : goal.write_report-requires-clause-tell
 write_report-requires-clause-tell g c = λ _ _.
     let f = c.args.self.now in
     let r = c.report-report.ensures in
-    can_tell c.report-report.result f.base.now f.traced r.base r.traced c.requires.found.fits
-    (subst (λ b. AreKnown f.traced.patches (sets_of b)) (sym r.body) (failing-known _ _ _ _ c.requires.sets))
+    can_tell c.report-report.result f.base.now f.traced r.base r.traced c.requires.found.on_base
+    (subst (λ b. AreClosed f.traced.patches (sets_of b)) (sym r.body) (failing_closed f.kept f.base.now f.traced.patches c.args.sets.now c.requires.sets))
 
 pub returns : goal.returns
 returns g c = λ last is.

@@ -4,7 +4,7 @@ use Rattle.fs_check.specs.References.{wrong_pointers, fault_of}
 use Rattle.fs_check.specs.declared.references.Pointer.{Pointer}
 use Rattle.fs_check.specs.declared.list.Test.TheVariants.{IsUnwritten, IsMarkedFree, IsWild}
 use Rattle.fs_check.proofs.Found.{six_lists, in_slice, wrong-held}
-use Rattle.fs_check.proofs.list.faults.Goals as goal
+use Rattle.fs_check.proofs.list.list_faults.Goals as goal
 
 pub push_wrong-requires : goal.push_wrong-requires
 push_wrong-requires g c =
@@ -24,9 +24,9 @@ returns g c =
     let pointers = c.read_pointers.new.wrong.items in
     let slice = c.as_slice-wrong.ensures.value in
     let same = c.read_pointers.ensures.wrong in
-    six_lists d c.new-found.result.items c.push_dangling.new.found.items c.push_twice.new.found.items c.push_wrong.new.found.items
+    six_lists d c.clear.new.self.items c.push_dangling.new.found.items c.push_twice.new.found.items c.push_wrong.new.found.items
     c.push_low_links.new.found.items c.push_wrong-2.new.found.items c.push_wrong-3.new.found.items
-    c.new-found.ensures.items
+    c.clear.ensures.items
     c.in_ok-led.ensures.found
     c.in_ok-push_twice.ensures
     (in_slice (fault_of d IsUnwritten) c.as_slice-wrong.result.now pointers (wrong_pointers d) _ _ slice same c.in_ok-push_wrong.ensures)
