@@ -1,9 +1,13 @@
 //! Whole reports.
 
-ghost use Rattle.std.specs.Prelude.{◌≡◌, ◌<◌, map, string_bytes, IfOk, OnOk};
+ghost use Rattle.std.specs.Prelude.{◌≡◌, ◌++◌, map, string_bytes, IfOk, OnOk};
+ghost use Rattle.crash_model.specs.Report.{section_json};
+ghost use Rattle.crash_model.specs.Summary.{told_fault_json};
 ghost use Rattle.crash_model.specs.Whole.{Body as WholeBody, json_report};
 ghost use Rattle.report_sections.specs.Bodies.{CanTell, TellsBody, AreOnBase, AreClosed, whole_of};
-ghost use Rattle.report_json.specs.JsonReport.{WritesEarly, WritesLate, WritesSections, WritesFaults, WritesRules};
+ghost use Rattle.report_sections.specs.Sections.{section_of};
+ghost use Rattle.report_json.specs.JsonReport.{comma_before, WritesEarly, WritesLate};
+ghost use Rattle.report_json.specs.JsonReport.{WritesSections, WritesFaults, WritesRules};
 
 use crate::head::{write_module, write_rule_key, write_strict_key};
 use crate::items::write_item;
@@ -13,7 +17,7 @@ use crate::rules::told_rule_value;
 use crate::summary::told_fault_value;
 use crate::values::section_value;
 use crash_model::fault::FaultRow;
-use report_sections::{Body, Report, SectionMaker, ToldRule};
+use report_sections::{Body, Report, Section, SectionMaker, ToldRule};
 use std::alloc::{AllocError, Allocator, Global};
 use std::thread::Threads;
 
@@ -126,15 +130,29 @@ pub(crate) fn write_sections<A: Allocator + Copy>(
     ensures { OnOk result (WritesSections report.now.detail report.now.base.now
         report.now.traced.now.patches sets.now (string_bytes out.old) (string_bytes out.new)) }
 {
-    let heap = *out.allocator();
     let graph = report.traced.graph();
     let patches = graph.len();
     let mut maker = SectionMaker::new(alloc, report.base, graph, report.detail)?;
     for (at, set) in sets.iter().enumerate() {
         let section = maker.section(*set)?;
-        let value = section_value(heap, patches, &section)?;
-        write_item(out, at, &value)?;
+        write_section(out, at, patches, &section)?;
     }
+    Ok(())
+}
+
+/// The object of a set at this place of an array, with a comma before it where it is not the first.
+fn write_section<A: Allocator>(
+    out: &mut String,
+    at: usize,
+    patches: usize,
+    section: &Section<A>,
+) -> Result<(), AllocError>
+    ensures { OnOk result (string_bytes out.new
+        ≡ string_bytes out.old ++ comma_before at ++ section_json patches (section_of section.now)) }
+{
+    let heap = *out.allocator();
+    let value = section_value(heap, patches, section)?;
+    write_item(out, at, &value)?;
     Ok(())
 }
 
@@ -150,15 +168,30 @@ fn write_faults<A: Allocator + Copy>(
     ensures { OnOk result (WritesFaults report.now.detail report.now.base.now
         report.now.traced.now.patches rows.now (string_bytes out.old) (string_bytes out.new)) }
 {
-    let heap = *out.allocator();
     let graph = report.traced.graph();
     let patches = graph.len();
     let mut maker = SectionMaker::new(alloc, report.base, graph, report.detail)?;
     for (at, row) in rows.iter().enumerate() {
         let section = maker.section(row.first)?;
-        let value = told_fault_value(heap, patches, row, &section)?;
-        write_item(out, at, &value)?;
+        write_fault(out, at, patches, row, &section)?;
     }
+    Ok(())
+}
+
+/// The object of a fault at this place of an array, with a comma before it where it is not the first.
+fn write_fault<A: Allocator>(
+    out: &mut String,
+    at: usize,
+    patches: usize,
+    row: &FaultRow,
+    first: &Section<A>,
+) -> Result<(), AllocError>
+    ensures { OnOk result (string_bytes out.new ≡ string_bytes out.old ++ comma_before at
+        ++ told_fault_json patches (record { row = row.now; first = section_of first.now })) }
+{
+    let heap = *out.allocator();
+    let value = told_fault_value(heap, patches, row, first)?;
+    write_item(out, at, &value)?;
     Ok(())
 }
 

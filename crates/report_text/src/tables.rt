@@ -2,8 +2,7 @@
 
 ghost use Rattle.std.specs.Prelude.{◌≡◌, ◌<◌, [], IfSome, List};
 ghost use Rattle.crash_model.specs.declared.patches.Patch.{Patch};
-ghost use Rattle.report_text.specs.Cache.{fault_line, AreWriteLines, AreFaultLines};
-ghost use Rattle.report_text.specs.TextReport.{WritesRuns};
+ghost use Rattle.report_text.specs.Cache.{fault_line, AreWriteLines, AreFaultLines, AreTextsOf};
 
 use arrayvec::ArrayString;
 use crash_model::fault::Fault;
@@ -14,17 +13,21 @@ const WRITE_SLOTS: usize = 1024;
 /// How many lines of faults are kept.
 const FAULT_SLOTS: usize = 256;
 
+/// The longest text of ids that is kept, in bytes.
+pub(crate) const LONGEST_NUMBERS: usize = 64;
+
 /// The longest text of block writes that is kept, in bytes.
 pub(crate) const LONGEST_WRITES: usize = 128;
 
 /// The longest line of a fault that is kept, in bytes.
 pub(crate) const LONGEST_FAULT: usize = 64;
 
-/// Ids, and the lines of the block writes that lead to them.
+/// Ids, their numbers, and the lines of the block writes that lead to them.
 #[derive(Clone, Copy, Drop)]
-struct WriteLines {
+pub(crate) struct WriteLines {
     ids: u128,
-    text: ArrayString<LONGEST_WRITES>,
+    pub numbers: ArrayString<LONGEST_NUMBERS>,
+    pub lines: ArrayString<LONGEST_WRITES>,
 }
 
 /// A fault and its line.
@@ -34,7 +37,7 @@ struct FaultLine {
     text: ArrayString<LONGEST_FAULT>,
 }
 
-/// The lines of block writes that were written last, by the ids that they lead to.
+/// The numbers of ids and the lines of the block writes that lead to them, as they were written last, by the ids.
 ///
 /// A text that is too long is not kept.
 #[derive(Drop)]
@@ -52,24 +55,28 @@ impl KnownWrites {
         }
     }
 
-    /// The lines of the block writes that lead to the ids, where they are kept.
-    pub fn get(&self, ids: u128) -> Option<&str>
+    /// The texts of the ids, where they are kept.
+    pub fn get(&self, ids: u128) -> Option<&WriteLines>
         ensures { (patches : List Patch) → AreWriteLines patches self.now.lines
-            → IfSome result (λ lines. WritesRuns patches ids [] lines.now) }
+            → IfSome result (λ known. AreTextsOf patches ids known.now.numbers.bytes known.now.lines.bytes) }
     {
         match &self.lines[slot_of_ids(ids)] {
-            Some(known) if known.ids == ids => Some(known.text.as_str()),
+            Some(known) if known.ids == ids => Some(known),
             _ => None,
         }
     }
 
-    /// Keeps the lines of the block writes that lead to the ids.
-    pub fn keep(&mut self, ids: u128, lines: &str)
+    /// Keeps the texts of the ids.
+    pub fn keep(&mut self, ids: u128, numbers: &str, lines: &str)
         ensures { (patches : List Patch) → AreWriteLines patches self.old.lines
-            → WritesRuns patches ids [] lines.now → AreWriteLines patches self.new.lines }
+            → AreTextsOf patches ids numbers.now lines.now → AreWriteLines patches self.new.lines }
     {
-        if let Ok(text) = ArrayString::from(lines) {
-            self.lines[slot_of_ids(ids)] = Some(WriteLines { ids, text });
+        if let (Ok(numbers), Ok(lines)) = (ArrayString::from(numbers), ArrayString::from(lines)) {
+            self.lines[slot_of_ids(ids)] = Some(WriteLines {
+                ids,
+                numbers,
+                lines,
+            });
         }
     }
 }

@@ -1,4 +1,4 @@
-use Rattle.std.proofs.Common.{◌≡◌, ℕ, ◌<◌, length, get_or, subst, sym, ◌∙◌}
+use Rattle.std.proofs.Common.{◌≡◌, length, get_or, refl, subst, sym, ◌∙◌}
 use Rattle.patch_sets.specs.Closed.{IsClosed}
 use Rattle.crash_model.specs.Patches.{deps_of}
 use Rattle.report_sections.specs.Maker.{Reported}
@@ -15,9 +15,6 @@ section-requires g c =
           (first_closed c.args.report.now.traced.now.patches rows c.loop-at.at c.requires.closed c.loop-at-test.true);
     }
 
-pub write_item-requires : goal.write_item-requires
-write_item-requires g c = c.in_ok-value.ensures.plain
-
 pub loop-at-preserved : goal.loop-at-preserved
 loop-at-preserved g c =
     let kept : c.section.new.self ≡ c.loop-at.maker = cc in
@@ -26,6 +23,6 @@ loop-at-preserved g c =
     let number : c.len-patches.result ≡ length report.traced.now.patches = cc in
     let is = subst (λ (m : Reported). IsSection m.detail m.base m.patches (get_or rows c.loop-at.at no_row).first c.in_ok-section.section) c.loop-at.invariant.of_report c.in_ok-section.ensures.told in
     record {
-      told = fault_more report.detail report.base.now report.traced.now.patches rows c.loop-at.at c.len-patches.result no_row _ _ _ _ c.in_ok-section.section c.loop-at-test.true number c.loop-at.invariant.told is c.in_ok-value.ensures.whole c.in_ok-write_item.ensures;
+      told = fault_more report.detail report.base.now report.traced.now.patches rows c.loop-at.at c.len-patches.result no_row _ _ _ _ c.in_ok-section.section c.loop-at-test.true number c.loop-at.invariant.told is refl c.in_ok-write_fault.ensures;
       of_report = kept ∙ c.loop-at.invariant.of_report;
     }

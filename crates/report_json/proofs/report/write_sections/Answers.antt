@@ -1,11 +1,8 @@
-use Rattle.std.proofs.Common.{◌≡◌, length, get_or, subst, ◌∙◌}
+use Rattle.std.proofs.Common.{◌≡◌, length, get_or, refl, subst, ◌∙◌}
 use Rattle.report_sections.specs.Maker.{Reported}
 use Rattle.report_sections.specs.Sections.{IsSection}
 use Rattle.report_json.proofs.Reports.{section_more}
 use Rattle.report_json.proofs.report.write_sections.Goals as goal
-
-pub write_item-requires : goal.write_item-requires
-write_item-requires g c = c.in_ok-value.ensures.plain
 
 pub loop-at-preserved : goal.loop-at-preserved
 loop-at-preserved g c =
@@ -14,6 +11,6 @@ loop-at-preserved g c =
     let number : c.len-patches.result ≡ length report.traced.now.patches = cc in
     let is = subst (λ (m : Reported). IsSection m.detail m.base m.patches (get_or c.args.sets.now c.loop-at.at 0) c.in_ok-section.section) c.loop-at.invariant.of_report c.in_ok-section.ensures.told in
     record {
-      told = section_more report.detail report.base.now report.traced.now.patches c.args.sets.now c.loop-at.at c.len-patches.result _ _ _ _ c.in_ok-section.section c.loop-at-test.true number c.loop-at.invariant.told is c.in_ok-value.ensures.whole c.in_ok-write_item.ensures;
+      told = section_more report.detail report.base.now report.traced.now.patches c.args.sets.now c.loop-at.at c.len-patches.result _ _ _ _ c.in_ok-section.section c.loop-at-test.true number c.loop-at.invariant.told is refl c.in_ok-write_section.ensures;
       of_report = kept ∙ c.loop-at.invariant.of_report;
     }
