@@ -115,6 +115,11 @@ fn write_over(into: &mut [u8], at: usize, bytes: &[u8])
     requires { at + length bytes.now ≤ length into.old }
     ensures { into.new ≡ overwrite into.old at bytes.now }
 {
+    // Many patches are of one byte, for which a call to copy takes longer than the copy.
+    if bytes.len() == 1 {
+        into[at] = bytes[0];
+        return;
+    }
     into[at..at + bytes.len()].copy_from_slice(bytes);
 }
 

@@ -29,7 +29,10 @@ pub fn faults<A: Allocator + Copy>(alloc: A, image: &Image<A>) -> Result<Vec<Fau
 }
 
 /// Makes of a list the faults of an image.
-fn list_faults<A: Allocator + Copy>(found: &mut Vec<Fault, A>, image: &Image<A>) -> Result<(), AllocError>
+fn list_faults<A: Allocator + Copy>(
+    found: &mut Vec<Fault, A>,
+    image: &Image<A>,
+) -> Result<(), AllocError>
     ensures { OnOk result (found.new.items ≡ faults image.now) }
 {
     let mut wrong = ArrayVec::new();

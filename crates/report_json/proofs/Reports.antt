@@ -4,7 +4,7 @@ use Rattle.std.proofs.lemmas.List.{append-nil, map-append, length-map, take_more
 use Rattle.crash_model.specs.Lists.{join_of, when}
 use Rattle.crash_model.specs.Explain.{base_json, trace_json}
 use Rattle.crash_model.specs.Disk.{Disk}
-use Rattle.crash_model.specs.Report.{Section, module_text, section_json}
+use Rattle.crash_model.specs.Report.{module_text, section_json}
 use Rattle.crash_model.specs.Summary.{ToldFault, told_fault_json}
 use Rattle.crash_model.specs.Whole.{Body, told_with, told_without, rules_json, early_json, late_json, json_report}
 use Rattle.crash_model.specs.declared.fault.FaultRow.{FaultRow}

@@ -5,4 +5,4 @@ pub mod Reports
 pub mod RuleLines
 pub mod Runs
 pub mod WriteLines
-pub mod Entries
+pub mod EmptyTables

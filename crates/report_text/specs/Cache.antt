@@ -1,7 +1,6 @@
 -- Lines that were written before.
 use Rattle.std.specs.Prelude.{◌≡◌, ℕ, [], ◌++◌, List, length, codes, Option, Some, slice_get}
-use Rattle.patch_sets.specs.Sets.{ids_of}
-use Rattle.crash_model.specs.Report.{line, fault_text, numbers}
+use Rattle.crash_model.specs.Report.{line, fault_text}
 use Rattle.crash_model.specs.declared.fault.Fault.{Fault}
 use Rattle.crash_model.specs.declared.patches.Patch.{Patch}
 use Rattle.report_text.specs.TextReport.{WritesRuns}
@@ -11,16 +10,10 @@ use Rattle.report_text.specs.declared.tables.WriteLines.{WriteLines}
 abbrev pub fault_line : Fault → List ℕ
 fault_line fault = line (codes "fault " ++ fault_text fault)
 
--- one text has the numbers of ids, and the other the lines of the block writes that lead to them
-pub record AreTextsOf (patches : List Patch) (ids : ℕ) (text lines : List ℕ) : Type 0 where
-  pub numbers : text ≡ numbers (ids_of (length patches) ids)
-  pub runs : WritesRuns patches ids [] lines
-
--- each entry has the texts of its ids
+-- each text has the lines of the block writes that lead to its ids
 abbrev pub AreWriteLines : List Patch → List (Option WriteLines) → Type 0
 AreWriteLines patches lines =
-    (length lines ≡ 1024)
-    × ((at : ℕ) → (known : WriteLines) → slice_get lines at ≡ Some (Some known) → AreTextsOf patches known.ids known.numbers.bytes known.lines.bytes)
+    (length lines ≡ 1024) × ((at : ℕ) → (known : WriteLines) → slice_get lines at ≡ Some (Some known) → WritesRuns patches known.ids [] known.text.bytes)
 
 -- each line is that of its fault
 abbrev pub AreFaultLines : List (Option FaultLine) → Type 0

@@ -1,14 +1,13 @@
 //! Lines that come again: a report has few different beginnings of block writes and few different faults, and each of
 //! them in many sections.
 
-ghost use Rattle.std.specs.Prelude.{◌≡◌, ℕ, ◌<◌, ◌++◌, [], codes, length, flat_map, string_bytes, IfOk, OnOk};
-ghost use Rattle.patch_sets.specs.Sets.{Has, ids_of};
-ghost use Rattle.crash_model.specs.Report.{line, numbers};
+ghost use Rattle.std.specs.Prelude.{◌≡◌, ℕ, ◌<◌, ◌++◌, [], length, flat_map, string_bytes, IfOk, OnOk};
+ghost use Rattle.patch_sets.specs.Sets.{Has};
 ghost use Rattle.report_text.specs.Cache.{fault_line};
 ghost use Rattle.report_text.specs.TextReport.{WritesRuns};
 
-use crate::lines::{write_fault, write_ids, write_writes};
-use crate::tables::{KnownFaults, KnownWrites, LONGEST_FAULT, LONGEST_NUMBERS, LONGEST_WRITES};
+use crate::lines::{write_fault, write_writes};
+use crate::tables::{KnownFaults, KnownWrites, LONGEST_FAULT, LONGEST_WRITES};
 use crash_model::fault::Fault;
 use patch_graph::Graph;
 use std::alloc::{AllocError, Allocator};
@@ -55,83 +54,33 @@ impl<'a, A: Allocator + Copy> LineCache<'a, A> {
         self.graph.len()
     }
 
-    /// Adds the line of a set of the graph's ids, and one for each block write that leads to it. `lines` is what they
-    /// are made in: it loses what it had.
-    pub fn push_set(
-        &mut self,
-        out: &mut String<A>,
-        lines: &mut String<A>,
-        set: u128,
-    ) -> Result<(), AllocError>
+    /// Adds a line for each block write that leads to a set of the graph's ids.
+    pub fn push_writes(&mut self, out: &mut String<A>, set: u128) -> Result<(), AllocError>
         requires { (id : ℕ) → Has set id → id < length self.old }
-        ensures text { OnOk result (WritesRuns self.old set
-            (string_bytes out.old ++ line (codes "set" ++ numbers (ids_of (length self.old) set)))
-            (string_bytes out.new)) }
-        ensures kept { self.new ≡ self.old }
-    {
-        lines.clear();
-        out.push_str("set")?;
-        self.push_parts(out, lines, set)?;
-        out.push_str("\n")?;
-        out.push_str(lines.as_str())?;
-        Ok(())
-    }
-
-    /// Adds the numbers of a set of the graph's ids to one text, and the lines of the block writes that lead to it to
-    /// another.
-    fn push_parts(
-        &mut self,
-        out: &mut String<A>,
-        lines: &mut String<A>,
-        set: u128,
-    ) -> Result<(), AllocError>
-        requires { (id : ℕ) → Has set id → id < length self.old }
-        ensures ids { OnOk result (string_bytes out.new
-            ≡ string_bytes out.old ++ numbers (ids_of (length self.old) set)) }
-        ensures lines { OnOk result (WritesRuns self.old set (string_bytes lines.old) (string_bytes lines.new)) }
+        ensures text { OnOk result (WritesRuns self.old set (string_bytes out.old) (string_bytes out.new)) }
         ensures kept { self.new ≡ self.old }
     {
         let mut left = set;
         while let Some(lead) = self.graph.leading_writes(left) {
-            self.push_lead(out, lines, lead.ids)?;
+            self.push_lead(out, lead.ids)?;
             left = lead.rest;
         }
         Ok(())
     }
 
-    /// Adds the numbers of ids that come again, and the lines of the block writes that lead to them.
-    fn push_lead(
-        &mut self,
-        out: &mut String<A>,
-        lines: &mut String<A>,
-        ids: u128,
-    ) -> Result<(), AllocError>
-        ensures ids { OnOk result (string_bytes out.new
-            ≡ string_bytes out.old ++ numbers (ids_of (length self.old) ids)) }
-        ensures lines { OnOk result (WritesRuns self.old ids (string_bytes lines.old) (string_bytes lines.new)) }
+    /// Adds a line for each block write that leads to ids that come again.
+    fn push_lead(&mut self, out: &mut String<A>, ids: u128) -> Result<(), AllocError>
+        ensures text { OnOk result (WritesRuns self.old ids (string_bytes out.old) (string_bytes out.new)) }
         ensures kept { self.new ≡ self.old }
     {
-        if let Some(known) = self.writes.get(ids) {
-            out.push_str(known.numbers.as_str())?;
-            lines.push_str(known.lines.as_str())?;
+        if let Some(lines) = self.writes.get(ids) {
+            out.push_str(lines)?;
             return Ok(());
         }
-        let alloc = *out.allocator();
-        let numbers = self.numbers_of(alloc, ids)?;
-        let texts = self.lines_to(alloc, ids)?;
-        self.writes.keep(ids, numbers.as_str(), texts.as_str());
-        out.push_str(numbers.as_str())?;
-        lines.push_str(texts.as_str())?;
+        let lines = self.lines_to(*out.allocator(), ids)?;
+        self.writes.keep(ids, lines.as_str());
+        out.push_str(lines.as_str())?;
         Ok(())
-    }
-
-    /// The numbers of the ids.
-    fn numbers_of(&self, alloc: A, ids: u128) -> Result<String<A>, AllocError>
-        ensures { IfOk result (λ text. string_bytes text ≡ numbers (ids_of (length self.now) ids)) }
-    {
-        let mut text = String::with_capacity(alloc, LONGEST_NUMBERS)?;
-        write_ids(&mut text, self.patches(), ids)?;
-        Ok(text)
     }
 
     /// A line for each block write that leads to the ids.

@@ -46,7 +46,7 @@ pub(crate) fn write_crash<A: Allocator + Copy, B: Allocator>(
 }
 
 /// The line of a set.
-fn write_set<A: Allocator + Copy>(
+pub(crate) fn write_set<A: Allocator + Copy>(
     out: &mut String<A>,
     patches: usize,
     set: u128,
@@ -144,11 +144,7 @@ fn write_write<A: Allocator>(
 }
 
 /// The ids of the set, ascending, each behind a space. A run of consecutive ids is written at once.
-pub(crate) fn write_ids<A: Allocator>(
-    out: &mut String<A>,
-    patches: usize,
-    set: u128,
-) -> Result<(), AllocError>
+fn write_ids<A: Allocator>(out: &mut String<A>, patches: usize, set: u128) -> Result<(), AllocError>
     ensures { OnOk result (string_bytes out.new ≡ string_bytes out.old ++ numbers (ids_of patches set)) }
 {
     let mut left = below(set, patches);

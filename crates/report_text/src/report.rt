@@ -9,7 +9,7 @@ ghost use Rattle.report_text.specs.TextReport.{WritesSections, WritesFaults};
 
 use crate::cache::LineCache;
 use crate::head::write_head;
-use crate::lines::write_replay;
+use crate::lines::{write_replay, write_set};
 use crate::parts::write_together;
 use crate::patches::write_patches;
 use crate::rules::write_rules;
@@ -70,33 +70,25 @@ pub(crate) fn write_sections<A: Allocator + Copy>(
     ensures { OnOk result (WritesSections report.now.detail report.now.base.now
         report.now.traced.now.patches sets.now (string_bytes out.old) (string_bytes out.new)) }
 {
+    if sets.is_empty() {
+        return Ok(());
+    }
     let graph = report.traced.graph();
     let mut lines = LineCache::new(graph);
     let mut maker = SectionMaker::new(alloc, report.base, graph, report.detail)?;
-    let mut scratch = Scratch {
-        outcome: Outcome::new(alloc),
-        writes: String::new(alloc),
-    };
+    let mut outcome = Outcome::new(alloc);
     for set in sets {
-        write_one(out, &mut lines, &mut maker, &mut scratch, *set)?;
+        write_one(out, &mut lines, &mut maker, &mut outcome, *set)?;
     }
     Ok(())
 }
 
-/// What one set's lines are made of, in memory that serves one set after another: what a crash comes to, and the lines
-/// of the block writes.
-#[derive(Drop)]
-struct Scratch<A: Allocator> {
-    outcome: Outcome<A>,
-    writes: String<A>,
-}
-
-/// The lines of one set.
+/// The lines of one set. What a crash comes to is told in `outcome`, whose memory serves one set after another.
 fn write_one<A: Allocator + Copy>(
     out: &mut String<A>,
     lines: &mut LineCache<'_, A>,
     maker: &mut SectionMaker<'_, A>,
-    scratch: &mut Scratch<A>,
+    outcome: &mut Outcome<A>,
     set: u128,
 ) -> Result<(), AllocError>
     requires same { maker.old.patches ≡ lines.old }
@@ -106,10 +98,11 @@ fn write_one<A: Allocator + Copy>(
     ensures maker { maker.new ≡ maker.old }
     ensures lines { lines.new ≡ lines.old }
 {
-    maker.tell(set, &mut scratch.outcome)?;
-    lines.push_set(out, &mut scratch.writes, set)?;
-    write_replay(out, &scratch.outcome.replay)?;
-    lines.push_faults(out, &scratch.outcome.faults)?;
+    maker.tell(set, outcome)?;
+    write_set(out, lines.patches(), set)?;
+    lines.push_writes(out, set)?;
+    write_replay(out, &outcome.replay)?;
+    lines.push_faults(out, &outcome.faults)?;
     Ok(())
 }
 

@@ -2,7 +2,8 @@
 
 ghost use Rattle.std.specs.Prelude.{◌≡◌, ◌<◌, [], IfSome, List};
 ghost use Rattle.crash_model.specs.declared.patches.Patch.{Patch};
-ghost use Rattle.report_text.specs.Cache.{fault_line, AreWriteLines, AreFaultLines, AreTextsOf};
+ghost use Rattle.report_text.specs.Cache.{fault_line, AreWriteLines, AreFaultLines};
+ghost use Rattle.report_text.specs.TextReport.{WritesRuns};
 
 use arrayvec::ArrayString;
 use crash_model::fault::Fault;
@@ -13,21 +14,17 @@ const WRITE_SLOTS: usize = 1024;
 /// How many lines of faults are kept.
 const FAULT_SLOTS: usize = 256;
 
-/// The longest text of ids that is kept, in bytes.
-pub(crate) const LONGEST_NUMBERS: usize = 64;
-
 /// The longest text of block writes that is kept, in bytes.
 pub(crate) const LONGEST_WRITES: usize = 128;
 
 /// The longest line of a fault that is kept, in bytes.
 pub(crate) const LONGEST_FAULT: usize = 64;
 
-/// Ids, their numbers, and the lines of the block writes that lead to them.
+/// Ids, and the lines of the block writes that lead to them.
 #[derive(Clone, Copy, Drop)]
-pub(crate) struct WriteLines {
+struct WriteLines {
     ids: u128,
-    pub numbers: ArrayString<LONGEST_NUMBERS>,
-    pub lines: ArrayString<LONGEST_WRITES>,
+    text: ArrayString<LONGEST_WRITES>,
 }
 
 /// A fault and its line.
@@ -37,7 +34,7 @@ struct FaultLine {
     text: ArrayString<LONGEST_FAULT>,
 }
 
-/// The numbers of ids and the lines of the block writes that lead to them, as they were written last, by the ids.
+/// The lines of block writes that were written last, by the ids that they lead to.
 ///
 /// A text that is too long is not kept.
 #[derive(Drop)]
@@ -55,28 +52,24 @@ impl KnownWrites {
         }
     }
 
-    /// The texts of the ids, where they are kept.
-    pub fn get(&self, ids: u128) -> Option<&WriteLines>
+    /// The lines of the block writes that lead to the ids, where they are kept.
+    pub fn get(&self, ids: u128) -> Option<&str>
         ensures { (patches : List Patch) → AreWriteLines patches self.now.lines
-            → IfSome result (λ known. AreTextsOf patches ids known.now.numbers.bytes known.now.lines.bytes) }
+            → IfSome result (λ lines. WritesRuns patches ids [] lines.now) }
     {
         match &self.lines[slot_of_ids(ids)] {
-            Some(known) if known.ids == ids => Some(known),
+            Some(known) if known.ids == ids => Some(known.text.as_str()),
             _ => None,
         }
     }
 
-    /// Keeps the texts of the ids.
-    pub fn keep(&mut self, ids: u128, numbers: &str, lines: &str)
+    /// Keeps the lines of the block writes that lead to the ids.
+    pub fn keep(&mut self, ids: u128, lines: &str)
         ensures { (patches : List Patch) → AreWriteLines patches self.old.lines
-            → AreTextsOf patches ids numbers.now lines.now → AreWriteLines patches self.new.lines }
+            → WritesRuns patches ids [] lines.now → AreWriteLines patches self.new.lines }
     {
-        if let (Ok(numbers), Ok(lines)) = (ArrayString::from(numbers), ArrayString::from(lines)) {
-            self.lines[slot_of_ids(ids)] = Some(WriteLines {
-                ids,
-                numbers,
-                lines,
-            });
+        if let Ok(text) = ArrayString::from(lines) {
+            self.lines[slot_of_ids(ids)] = Some(WriteLines { ids, text });
         }
     }
 }

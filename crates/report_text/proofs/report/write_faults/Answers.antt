@@ -1,4 +1,4 @@
-use Rattle.std.proofs.Common.{◌≡◌, ℕ, ◌<◌, length, get_or, subst, sym, ◌∙◌}
+use Rattle.std.proofs.Common.{◌≡◌, length, get_or, subst, sym, ◌∙◌}
 use Rattle.patch_sets.specs.Closed.{IsClosed}
 use Rattle.crash_model.specs.Patches.{deps_of}
 use Rattle.report_sections.specs.Maker.{Reported}

@@ -1,5 +1,5 @@
 use Rattle.report_text.specs.declared.tables.WriteLines.{WriteLines}
-use Rattle.report_text.proofs.Entries.{kept_nowhere}
+use Rattle.report_text.proofs.EmptyTables.{kept_nowhere}
 use Rattle.report_text.proofs.tables.KnownWrites.new.Goals as goal
 
 pub returns : goal.returns
