@@ -4,8 +4,10 @@ use Rattle.serde_json.specs.Data.{Data, Members, boolean, string, object, member
 use Rattle.crash_model.specs.Needs.{RuleUsage, Unused, TooMany, Used, ToldRule}
 use Rattle.crash_model.specs.Report.{Section, section_json}
 use Rattle.crash_model.specs.Rules.{rule_text}
+use Rattle.crash_model.specs.declared.rules.Rule.{Rule}
 use Rattle.report_json.specs.JsonReport.{IsWritten}
 use Rattle.report_json.specs.Values.{number_data}
+use Rattle.report_json.specs.declared.rules.Numbers.{Numbers}
 
 -- the first section that a rule's usage tells, if it tells one
 abbrev pub first_section : RuleUsage → Option Section
@@ -36,3 +38,7 @@ usage_members rule (Used pairs w) first =
 -- what is told of a rule, with the value of the first section
 abbrev pub told_rule_data : ToldRule → Option Data → Data
 told_rule_data t first = object (usage_members (rule_text t.rule) t.usage first)
+
+-- what is told of a rule with these numbers, with the value of the first section
+abbrev pub used_data : Rule → Numbers → Option Data → Data
+used_data rule n first = told_rule_data (record { rule = rule; usage = Used n.pairs (record { closed = n.closed; failing = n.failing; first = None }) }) first
