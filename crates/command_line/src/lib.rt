@@ -2,7 +2,8 @@
 #![tactic(auto)]
 
 ghost use Rattle.std.specs.Prelude.{◌≡◌, IfOk};
-ghost use Rattle.command_line.specs.Given.{AreWrittenIn, AreLawful};
+ghost use Rattle.command_line.specs.Given.{AreWrittenIn, AreAllIn, AreNoneIn, AreLawful};
+ghost use Rattle.crash_model.specs.Rules.{rules_of};
 ghost use Rattle.command_line.specs.Ranges.{IsInRanges};
 
 mod arguments;
@@ -15,9 +16,11 @@ use crate::faults::WordFault;
 use crate::given_rules::{check_with, check_without, given_rules};
 use crate::values::{explorer_of, limit_under, module_of, number_of, report_by};
 use clap::error::ErrorKind;
-use clap::{ArgMatches, Error};
+use clap::{ArgMatches, Command, Error};
+use crash_model::modules::Module;
+use crash_model::rule_lists::RuleList;
 use crash_model::settings::Settings;
-use std::alloc::Global;
+use std::alloc::{AllocError, Global};
 
 /// What the words of a command line ask for.
 ///
@@ -40,14 +43,35 @@ pub fn settings_of<'a>(heap: Global, words: &'a [&'a str]) -> Result<Call<'a>, E
     ensures lawful { IfOk result (λ call. AreLawful call.settings) }
 {
     let mut command = command(heap)?;
+    call_by(heap, &mut command, words)
+}
+
+/// What the command reads in the words.
+fn call_by<'a>(
+    heap: Global,
+    command: &mut Command<'a>,
+    words: &'a [&'a str],
+) -> Result<Call<'a>, Error>
+    ensures ranges { IfOk result IsInRanges }
+    ensures without { IfOk result (λ call. AreWrittenIn words.now call.settings.without.items) }
+    ensures with { IfOk result (λ call. AreWrittenIn words.now call.settings.with.items) }
+    ensures lawful { IfOk result (λ call. AreLawful call.settings) }
+{
     let matches = command.try_get_matches_from_mut(words)?;
     match call_of(&matches, words) {
         Ok(call) => Ok(call),
-        Err(fault) => {
-            let message = format!(in heap; "{fault}")?;
-            Err(command.error(ErrorKind::ValueValidation, message.as_str())?)
-        }
+        Err(fault) => Err(refusal(heap, command, &fault)?),
     }
+}
+
+/// What is wrong with the value of an option, as an error of the command.
+fn refusal(
+    heap: Global,
+    command: &mut Command<'_>,
+    fault: &WordFault<'_>,
+) -> Result<Error, AllocError> {
+    let message = format!(in heap; "{fault}")?;
+    command.error(ErrorKind::ValueValidation, message.as_str())
 }
 
 /// What these matches of the words ask for.
@@ -58,10 +82,7 @@ fn call_of<'a>(matches: &ArgMatches<'a>, words: &[&str]) -> Result<Call<'a>, Wor
     ensures lawful { IfOk result (λ call. AreLawful call.settings) }
 {
     let module = module_of(matches);
-    let without = given_rules(matches, words, "without")?;
-    let with = given_rules(matches, words, "with")?;
-    check_without(without.as_slice(), module.rules())?;
-    check_with(with.as_slice(), without.as_slice())?;
+    let (without, with) = rules_for(matches, words, module)?;
     let explorer = explorer_of(matches);
     Ok(Call {
         script: matches.get_str("SCRIPT"),
@@ -80,4 +101,22 @@ fn call_of<'a>(matches: &ArgMatches<'a>, words: &[&str]) -> Result<Call<'a>, Wor
         },
         workers: number_of(matches, "workers", 1, 16),
     })
+}
+
+/// The rules to take out of the module's, and those to put in.
+fn rules_for<'a>(
+    matches: &ArgMatches<'a>,
+    words: &[&str],
+    ordering: Module,
+) -> Result<(RuleList, RuleList), WordFault<'a>>
+    ensures without { IfOk result (λ rules. AreWrittenIn words.now rules.0.items) }
+    ensures with { IfOk result (λ rules. AreWrittenIn words.now rules.1.items) }
+    ensures lawful { IfOk result (λ rules. AreAllIn (rules_of ordering) rules.0.items
+        × AreNoneIn rules.0.items rules.1.items) }
+{
+    let without = given_rules(matches, words, "without")?;
+    let with = given_rules(matches, words, "with")?;
+    check_without(without.as_slice(), ordering.rules())?;
+    check_with(with.as_slice(), without.as_slice())?;
+    Ok((without, with))
 }

@@ -64,12 +64,19 @@ module _ {T A : Type 0} where
   pub same-way : (hand : Known T A) (of : ℕ) (e way : Way T A) → of < length hand.ways → way ≡ get_or hand.ways of way → get_or hand.ways of e ≡ way
   same-way hand of e way within at = get_or_default hand.ways of e way within ∙ sym at
 
+  pub first-leads : (home : RowsId × A) (of : ℕ) (hand : Known T A) (rest hands : List (Known T A)) → hands ≡ hand ∷ rest → All (LeadsTo home of) hands → LeadsTo home of hand
+  first-leads home of hand rest hands step all = subst (All (LeadsTo home of)) step all 0 hand (omega arith)
+
   pub all-lead : (hands : List (Known T A)) (of : ℕ) (owner : Known T A) → AreTogether hands → of < length hands → owner ≡ get_or hands of owner → All (LeadsTo owner.home of) hands
   all-lead hands of owner old within at k d l =
       let count : length hands ≡ length old.homes = sym (length-map hands (λ h. h.home)) ∙ ap length old.own in
       let home : get_or old.homes of owner.home ≡ owner.home =
       ap (λ hs. get_or hs of owner.home) (sym old.own) ∙ get_or-map (λ h. h.home) hands of owner owner.home within ∙ sym (ap (λ (h : Known T A). h.home) at) in
       subst (λ to. LeadsTo to of (get_or hands k d)) home (leads old.homes of (get_or hands k d) owner.home (omega arith) (old.each k d l))
+
+  -- the owner's own way
+  pub owner-leads : (hands : List (Known T A)) (of : ℕ) (owner : Known T A) → AreTogether hands → of < length hands → owner ≡ get_or hands of owner → LeadsTo owner.home of owner
+  owner-leads hands of owner old within at = subst (LeadsTo owner.home of) (sym at) (all-lead hands of owner old within at of owner within)
 
   pub all-parts : (hands : List (Known T A)) (of : ℕ) (owner : Known T A) → AreTogether hands → of < length hands → owner ≡ get_or hands of owner → owner.own.parts + length hands ≡ 17
   all-parts hands of owner old within at =

@@ -1,5 +1,5 @@
 -- How hands are made, worker by worker.
-use Rattle.std.proofs.Common.{◌≡◌, ℕ, ◌+◌, ◌-◌, ◌<◌, List, [], ◌∷◌, ◌++◌, map, set, get_or, take, drop, length, All, refl, ap, sym, subst, ◌∙◌, arith, inl, inr}
+use Rattle.std.proofs.Common.{◌≡◌, ℕ, ◌+◌, ◌-◌, ◌<◌, ◌≤◌, List, [], ◌∷◌, ◌++◌, map, set, get_or, take, drop, length, All, refl, ap, sym, subst, ◌∙◌, arith, inl, inr}
 use Rattle.std.proofs.lemmas.List.{length-set, length-map, length-take-le, map_more, get_or-append_right, get_or-drop, map-set, set-get_or, get_or-map, get_or-set_same, get_or-set_other}
 use Rattle.std.proofs.lemmas.Bool.{cases_eq}
 use Rattle.std.proofs.lemmas.List.Edits.{map_over_more}
@@ -7,7 +7,7 @@ use Rattle.std.proofs.lemmas.List.Elements.{All-set, All-map, All-same}
 use Rattle.hands.specs.Accounts.{account_of}
 use Rattle.hands.specs.Known.{Way, Known}
 use Rattle.hands.specs.Together.{way_homes, hand_homes, IsFreshWay, AreFreshWays, AreFresh}
-use Rattle.hands.specs.Steps.{with_one_less, new_way}
+use Rattle.hands.specs.Steps.{IsBare, with_one_less, new_way}
 
 module _ {T A : Type 0} where
   -- the hands before `worker` have their ways, for which each deque has given a part
@@ -74,6 +74,12 @@ module _ {T A : Type 0} where
             ∙ get_or-map with_one_less hands k d d (omega arith) in
             subst Has (sym same) (old k d (omega arith))
       ]
+
+  pub begin : (workers : ℕ) (hands : List (Known T A)) → length hands ≡ workers → All IsBare hands → Made workers 0 hands
+  begin workers hands count bare = record { count = count; own = λ k d l. (bare k d l).0; ways = λ k d l. absurd (omega (arith, l)) }
+
+  pub parts-left : (workers worker : ℕ) (hands : List (Known T A)) → Made workers worker hands → worker < workers → workers ≤ 16 → All (λ h. 1 < h.own.parts) hands
+  parts-left workers worker hands made lt few k d l = omega (arith, ap (λ v. v.parts) (made.own k d l))
 
   pub next : (workers worker : ℕ) (hands given : List (Known T A)) (before after : Known T A) → Made workers worker hands → worker < workers → given ≡ map with_one_less hands
       → before ≡ get_or given worker before → after ≡ record before { ways = map new_way hands } → Made workers (worker + 1) (set given worker after)

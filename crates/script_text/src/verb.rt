@@ -29,18 +29,18 @@ impl Verb {
     pub(crate) fn read(word: &str) -> Option<Verb>
         ensures { MatchOption result (IsNoVerb word.now) (λ verb. word.now ≡ spelling verb) }
     {
-        match word.as_bytes() {
-            b"create" => Some(Verb::Create),
-            b"write" => Some(Verb::Write),
-            b"link" => Some(Verb::Link),
-            b"unlink" => Some(Verb::Unlink),
-            b"rename" => Some(Verb::Rename),
-            b"mkdir" => Some(Verb::Mkdir),
-            b"rmdir" => Some(Verb::Rmdir),
-            b"group" => Some(Verb::Group),
-            b"end" => Some(Verb::End),
-            b"depend" => Some(Verb::Depend),
-            b"start" => Some(Verb::Start),
+        match word {
+            "create" => Some(Verb::Create),
+            "write" => Some(Verb::Write),
+            "link" => Some(Verb::Link),
+            "unlink" => Some(Verb::Unlink),
+            "rename" => Some(Verb::Rename),
+            "mkdir" => Some(Verb::Mkdir),
+            "rmdir" => Some(Verb::Rmdir),
+            "group" => Some(Verb::Group),
+            "end" => Some(Verb::End),
+            "depend" => Some(Verb::Depend),
+            "start" => Some(Verb::Start),
             _ => None,
         }
     }

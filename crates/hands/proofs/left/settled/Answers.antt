@@ -1,17 +1,47 @@
-use Rattle.std.proofs.Common.{◌≡◌, ◌∙◌, suc, ◌∷◌, All, length, get_or, sum_by, ap, sym, subst, arith}
+use Rattle.std.proofs.Common.{◌≡◌, ◌∙◌, suc, ◌∷◌, ◌+◌, ◌<◌, All, length, get_or, sum_by, refl, ap, sym, subst, arith}
 use Rattle.std.proofs.lemmas.List.Sums.{sum_by-cons}
 use Rattle.std.proofs.lemmas.List.{nil_from_length}
-use Rattle.crossbeam_deque.specs.Handles.{worker_view, worker_deque}
+use Rattle.crossbeam_deque.specs.Handles.{worker_view, worker_deque, IsPassOf}
 use Rattle.hands.specs.Accounts.{weigh}
 use Rattle.hands.specs.Known.{Way, Known}
 use Rattle.hands.specs.Together.{IsWay}
 use Rattle.hands.specs.Left.{LeadsTo, weigh_taken}
 use Rattle.hands.proofs.Moves.{merges, learns, absorbed}
-use Rattle.hands.proofs.Kept.{same-way}
+use Rattle.hands.proofs.Kept.{same-way, first-leads}
 use Rattle.hands.proofs.left.settled.Goals as goal
+
+pub loop-hand-init : goal.loop-hand-init
+loop-hand-init g c =
+    let of = c.args.of in
+    let same = c.into_iter-hand-iterator.ensures.into_iter_gives.0 in
+    record {
+      home = refl;
+      ways = subst (All (LeadsTo (worker_deque c.args.deque) of)) (sym same) c.requires.ways;
+      part = c.requires.part;
+      parts = ap (λ hands. (worker_view c.args.deque).parts + length hands) same ∙ c.requires.parts;
+      pushed = refl;
+      taken = λ e weight. ap (λ hands. weigh weight (worker_view c.args.deque).taken + sum_by (weigh_taken weight of e) hands) same;
+    }
+
+pub swap_remove-requires : goal.swap_remove-requires
+swap_remove-requires g c =
+    let here = first-leads _ _ _ _ c.loop-hand.hand-iterator.rest.items c.in-Some.ensures.steps.0 c.loop-hand.invariant.ways in
+    let within = subst (λ (h : Known g.row.T.Denot g.row.A.Denot). c.args.of < length h.ways) (sym c.hand.view_is) here.0 in
+    omega (arith, within, c.hand.inside.reaches.ok.0)
+
+pub absorb-requires-clause-table : goal.absorb-requires-clause-table
+absorb-requires-clause-table g c =
+    let way = c.swap_remove.result in
+    let here = first-leads _ _ _ _ c.loop-hand.hand-iterator.rest.items c.in-Some.ensures.steps.0 c.loop-hand.invariant.ways in
+    let at = c.swap_remove.ensures.value ∙ ap (λ (h : Known g.row.T.Denot g.row.A.Denot). get_or h.ways c.args.of way) c.hand.view_is in
+    let home = ap (λ (w : Way g.row.T.Denot g.row.A.Denot). w.home) at ∙ (here.1 way).0 ∙ sym c.loop-hand.invariant.home in
+    subst (λ to. IsPassOf to c.into_pass.result) home c.into_pass.ensures.deque
 
 pub absorb-requires-clause-rule : goal.absorb-requires-clause-rule
 absorb-requires-clause-rule g c = merges _ _ _ _ c.loop-hand.invariant.part
+
+pub loop-hand-smaller : goal.loop-hand-smaller
+loop-hand-smaller g c = omega (arith, ap length c.in-Some.ensures.steps.0, c.loop-hand.hand-iterator.rest.ok.0, c.next.new.self.rest.ok.0)
 
 pub loop-hand-preserved : goal.loop-hand-preserved
 loop-hand-preserved g c =

@@ -1,4 +1,4 @@
-use Rattle.std.proofs.Common.{◌≡◌, ◌∙◌, All, length, get_or, ap, sym, subst, arith}
+use Rattle.std.proofs.Common.{◌≡◌, ◌∙◌, ◌<◌, All, length, get_or, ap, sym, subst, arith}
 use Rattle.std.proofs.lemmas.List.{get_or_default}
 use Rattle.std.proofs.lemmas.List.Edits.{length-remove}
 use Rattle.crossbeam_deque.specs.Handles.{worker_view, worker_deque, IsPassOf}
@@ -7,15 +7,22 @@ use Rattle.hands.specs.Known.{Way, Known}
 use Rattle.hands.specs.Together.{IsWay}
 use Rattle.hands.specs.Left.{LeadsTo, weigh_taken}
 use Rattle.hands.proofs.Moves.{merges, absorbed}
-use Rattle.hands.proofs.Kept.{same-way, all-lead, all-parts, All-removed, sum-removed}
+use Rattle.hands.proofs.Kept.{same-way, all-lead, owner-leads, all-parts, All-removed, sum-removed}
 use Rattle.hands.proofs.left.tasks_left.Goals as goal
+
+pub swap_remove-requires : goal.swap_remove-requires
+swap_remove-requires g c =
+    let of = c.args.of in
+    let here = owner-leads _ of c.remove.result c.requires.together c.requires.of c.remove.ensures.value in
+    let within = subst (λ (h : Known g.row.T.Denot g.row.A.Denot). of < length h.ways) (sym c.deque.view_is) here.0 in
+    omega (arith, within, c.deque.inside.reaches.ok.0)
 
 pub absorb-requires-clause-table : goal.absorb-requires-clause-table
 absorb-requires-clause-table g c =
     let owner = c.remove.result in
     let way = c.swap_remove.result in
     let of = c.args.of in
-    let here : LeadsTo owner.home of owner = subst (LeadsTo owner.home of) (sym c.remove.ensures.value) (all-lead c.args.hands.items of owner c.requires.together c.requires.of c.remove.ensures.value of owner c.requires.of) in
+    let here = owner-leads _ of owner c.requires.together c.requires.of c.remove.ensures.value in
     let at : way ≡ get_or owner.ways of way = c.swap_remove.ensures.value ∙ ap (λ (h : Known g.row.T.Denot g.row.A.Denot). get_or h.ways of way) c.deque.view_is in
     let home : way.home ≡ worker_deque c.deque.inside.deque =
     ap (λ (w : Way g.row.T.Denot g.row.A.Denot). w.home) at ∙ (here.1 way).0 ∙ sym (ap (λ (h : Known g.row.T.Denot g.row.A.Denot). h.home) c.deque.view_is) in
@@ -32,12 +39,15 @@ settled-requires-clause-ways g c =
     let home : owner.home ≡ worker_deque c.absorb.new.self = sym (c.absorb.ensures.same.0.0 ∙ ap (λ (h : Known g.row.T.Denot g.row.A.Denot). h.home) c.deque.view_is) in
     subst (λ to. All (LeadsTo to of) c.remove.new.self.items) home (All-removed (LeadsTo owner.home of) c.args.hands.items c.remove.new.self.items of c.remove.ensures.items all)
 
+pub settled-requires-clause-part : goal.settled-requires-clause-part
+settled-requires-clause-part g c = omega (arith, ap (λ v. v.parts) c.absorb.ensures.rule, c.deque.invariant)
+
 pub settled-requires-clause-parts : goal.settled-requires-clause-parts
 settled-requires-clause-parts g c =
     let owner = c.remove.result in
     let way = c.swap_remove.result in
     let of = c.args.of in
-    let here : LeadsTo owner.home of owner = subst (LeadsTo owner.home of) (sym c.remove.ensures.value) (all-lead c.args.hands.items of owner c.requires.together c.requires.of c.remove.ensures.value of owner c.requires.of) in
+    let here = owner-leads _ of owner c.requires.together c.requires.of c.remove.ensures.value in
     let at : way ≡ get_or owner.ways of way = c.swap_remove.ensures.value ∙ ap (λ (h : Known g.row.T.Denot g.row.A.Denot). get_or h.ways of way) c.deque.view_is in
     let is : IsWay way = subst IsWay (sym at) (here.1 way).1 in
     let parts = all-parts c.args.hands.items of owner c.requires.together c.requires.of c.remove.ensures.value in
@@ -60,7 +70,7 @@ returns g c =
     let way = c.swap_remove.result in
     let of = c.args.of in
     let hands = c.args.hands.items in
-    let here : LeadsTo owner.home of owner = subst (LeadsTo owner.home of) (sym c.remove.ensures.value) (all-lead hands of owner c.requires.together c.requires.of c.remove.ensures.value of owner c.requires.of) in
+    let here = owner-leads _ of owner c.requires.together c.requires.of c.remove.ensures.value in
     let at : way ≡ get_or owner.ways of way = c.swap_remove.ensures.value ∙ ap (λ (h : Known g.row.T.Denot g.row.A.Denot). get_or h.ways of way) c.deque.view_is in
     let is : IsWay way = subst IsWay (sym at) (here.1 way).1 in
     let holds = c.into_pass.ensures.holds in

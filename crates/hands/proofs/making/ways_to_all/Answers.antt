@@ -1,4 +1,5 @@
-use Rattle.std.proofs.Common.{◌∙◌, ◌<◌, length, arith}
+use Rattle.std.proofs.Common.{◌≡◌, ◌+◌, ◌<◌, length, map, take, sym, subst, arith}
+use Rattle.hands.specs.Steps.{new_way}
 use Rattle.hands.proofs.NewHands.{given-more, ways-more}
 use Rattle.hands.proofs.making.ways_to_all.Goals as goal
 
@@ -10,6 +11,7 @@ loop-at-preserved g c =
     let in' : c.loop-at.at < length old = omega (arith, c.loop-at-test.true, c.len-at-end.ensures, c.args.hands.now.ok.0) in
     let read = c.index_mut.ensures.value in
     record {
-      ways = c.in_ok-push.ensures.items ∙ ways-more old now c.loop-at.at _ c.loop-at.ways.items _ in' kept.given read kept.ways c.in_ok-way.ensures.way;
+      ways = subst (λ ways. ways ≡ map new_way (take (c.loop-at.at + 1) old)) (sym c.in_ok-push.ensures.items)
+          (ways-more old now c.loop-at.at _ c.loop-at.ways.items _ in' kept.given read kept.ways c.in_ok-way.ensures.way);
       given = given-more old now c.loop-at.at _ _ in' kept.given read c.in_ok-way.ensures.given;
     }
