@@ -62,10 +62,12 @@ fn what_to_run<'a>(heap: Global) -> Options<'a> {
         .action(ArgAction::Set)
         .display_order(0)
         .help("The script to read; standard input where it is left out");
-    let blocks = number(heap, "blocks", "N", 16, 128, "16")
+    let blocks = number(heap, "blocks", "N", 16, 128)
+        .default_value("16")
         .display_order(1)
         .help("Blocks of the disk, 16 to 128");
-    let journal = number(heap, "journal", "JL", 0, 122, "0")
+    let journal = number(heap, "journal", "JL", 0, 122)
+        .default_value("0")
         .display_order(2)
         .help("Blocks of the journal, 0 to N - 6");
     Ok(Vec::from_array(heap, [script, blocks, journal])?)
@@ -96,16 +98,18 @@ fn what_fails<'a>(heap: Global) -> Options<'a> {
 
 /// How many sets are explored, and by whom.
 fn how_far<'a>(heap: Global) -> Options<'a> {
-    let limit = number(heap, "limit", "L", 1, 1_000_000_000, "4096").help(
-        "Most closed sets to explore, 1 to 1000000000",
-    );
+    let limit = number(heap, "limit", "L", 1, 1_000_000_000)
+        .default_value("4096")
+        .help("Most closed sets to explore, 1 to 1000000000");
     let explorer = option(heap, "explorer", "E")
         .value_parser(EXPLORERS.as_slice())
         .default_value("auto")
         .help(
             "Who explores: a board that workers share, up to a limit of 32768, or a sweep that keeps no table",
         );
-    let workers = number(heap, "workers", "W", 1, 16, "1").help("Threads that explore, 1 to 16");
+    let workers = number(heap, "workers", "W", 1, 16)
+        .default_value("1")
+        .help("Threads that explore, 1 to 16");
     Ok(Vec::from_array(heap, [limit, explorer, workers])?)
 }
 
@@ -131,11 +135,8 @@ fn number<'a>(
     symbol: &'static str,
     from: i64,
     until: i64,
-    default: &'static str,
 ) -> Arg<'a> {
-    option(heap, name, symbol)
-        .value_parser(value_parser!(usize).range(from..=until))
-        .default_value(default)
+    option(heap, name, symbol).value_parser(value_parser!(usize).range(from..=until))
 }
 
 /// An option that takes a value, which help calls by the symbol.
