@@ -19,6 +19,8 @@ top=$(cd "$(dirname "${BASH_SOURCE[0]}")/.." && pwd)
 printf 'start\n' | "$top/crashmap" >/dev/null # builds it where it is not built
 (cd "$top/crates/bench_judge" && rt run <stdin >/dev/null 2>&1)
 program=$top/crates/crashmap/out/crashmap
+eval "$(grep '^tunables=' "$top/crashmap")" # each program takes memory as the launcher has it
+export GLIBC_TUNABLES=$tunables
 judge=$top/crates/bench_judge/out/bench_judge
 rival=${RIVAL:-}
 rounds=${ROUNDS:-15}

@@ -11,6 +11,8 @@ set -eu
 top=$(cd "$(dirname "${BASH_SOURCE[0]}")/.." && pwd)
 printf 'start\n' | "$top/crashmap" >/dev/null # builds it where it is not built
 program=$top/crates/crashmap/out/crashmap
+eval "$(grep '^tunables=' "$top/crashmap")" # each program takes memory as the launcher has it
+export GLIBC_TUNABLES=$tunables
 rival=${RIVAL:-}
 rounds=${ROUNDS:-15}
 export CRASHMAP_ENGINE=list

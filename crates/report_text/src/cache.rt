@@ -1,7 +1,7 @@
 //! Lines that come again: a report has few different beginnings of block writes and few different faults, and each of
 //! them in many sections.
 
-ghost use Rattle.std.specs.Prelude.{◌≡◌, ℕ, ◌<◌, ◌++◌, length, flat_map, string_bytes, OnOk};
+ghost use Rattle.std.specs.Prelude.{◌≡◌, ℕ, ◌<◌, ◌++◌, [], length, flat_map, string_bytes, IfOk, OnOk};
 ghost use Rattle.patch_sets.specs.Sets.{Has};
 ghost use Rattle.report_text.specs.Cache.{fault_line};
 ghost use Rattle.report_text.specs.TextReport.{WritesRuns};
@@ -12,9 +12,6 @@ use crash_model::fault::Fault;
 use patch_graph::Graph;
 use std::alloc::{AllocError, Allocator};
 use std::marker::Model;
-
-/// The text of more ids than these is too long to be kept, since most of them take three bytes.
-const MOST_IDS: u32 = 42;
 
 /// The lines of block writes and of faults that were written last, so that those that come again are copied.
 ///
@@ -80,23 +77,20 @@ impl<'a, A: Allocator + Copy> LineCache<'a, A> {
             out.push_str(lines)?;
             return Ok(());
         }
-        if ids.count_ones() > MOST_IDS {
-            return self.write_lines(out, ids);
-        }
-        let mut lines = String::with_capacity(*out.allocator(), LONGEST_WRITES)?;
-        self.write_lines(&mut lines, ids)?;
+        let lines = self.lines_to(*out.allocator(), ids)?;
         self.writes.keep(ids, lines.as_str());
         out.push_str(lines.as_str())?;
         Ok(())
     }
 
-    /// Adds a line for each block write that leads to the ids, without a look at what was written before.
-    fn write_lines(&self, out: &mut String<A>, ids: u128) -> Result<(), AllocError>
-        ensures { OnOk result (WritesRuns self.now ids (string_bytes out.old) (string_bytes out.new)) }
+    /// A line for each block write that leads to the ids.
+    fn lines_to(&self, alloc: A, ids: u128) -> Result<String<A>, AllocError>
+        ensures { IfOk result (λ lines. WritesRuns self.now ids [] (string_bytes lines)) }
     {
         let writes = self.graph.writes_to(ids)?;
-        write_writes(out, self.patches(), &writes)?;
-        Ok(())
+        let mut lines = String::with_capacity(alloc, LONGEST_WRITES)?;
+        write_writes(&mut lines, self.patches(), &writes)?;
+        Ok(lines)
     }
 
     /// Adds a line for each fault.
