@@ -19,8 +19,7 @@ top=$(cd "$(dirname "${BASH_SOURCE[0]}")/.." && pwd)
 printf 'start\n' | "$top/crashmap" >/dev/null # builds it where it is not built
 (cd "$top/crates/bench_judge" && rt run <stdin >/dev/null 2>&1)
 program=$top/crates/crashmap/out/crashmap
-eval "$(grep '^tunables=' "$top/crashmap")" # each program takes memory as the launcher has it
-export GLIBC_TUNABLES=$tunables
+eval "$(grep '^tunables=' "$top/crashmap")"
 judge=$top/crates/bench_judge/out/bench_judge
 rival=${RIVAL:-}
 rounds=${ROUNDS:-15}
@@ -29,6 +28,9 @@ prime=32749
 work=$(mktemp -d)
 trap 'rm -rf "$work"' EXIT
 echo start >"$work/nothing"
+
+# ours SCRIPT OPTION..: runs the program with memory as the launcher has it
+ours() { GLIBC_TUNABLES=$tunables "$program" "$@"; }
 
 # time_once NAME COMMAND..: keeps under that name how long the shortest run took, in microseconds
 declare -A best
@@ -45,11 +47,11 @@ time_once() {
 time_round() {
     local script=$1 workers
     shift
-    time_once start "$program" "$work/nothing" "$@" --limit 1 --workers 1
-    time_once open "$program" "$work/nothing" "$@" --limit "$limit" --workers 1
+    time_once start ours "$work/nothing" "$@" --limit 1 --workers 1
+    time_once open ours "$work/nothing" "$@" --limit "$limit" --workers 1
     for workers in 1 2 4; do
-        time_once "$workers" "$program" "$script" "$@" --limit "$limit" --workers "$workers"
-        time_once "$workers prime" "$program" "$script" "$@" --limit "$prime" --workers "$workers"
+        time_once "$workers" ours "$script" "$@" --limit "$limit" --workers "$workers"
+        time_once "$workers prime" ours "$script" "$@" --limit "$prime" --workers "$workers"
         if [ -n "$rival" ]; then
             time_once "$workers rival" "$rival" "$script" "$@" --limit "$limit" --workers "$workers"
         fi

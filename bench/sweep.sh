@@ -11,13 +11,15 @@ set -eu
 top=$(cd "$(dirname "${BASH_SOURCE[0]}")/.." && pwd)
 printf 'start\n' | "$top/crashmap" >/dev/null # builds it where it is not built
 program=$top/crates/crashmap/out/crashmap
-eval "$(grep '^tunables=' "$top/crashmap")" # each program takes memory as the launcher has it
-export GLIBC_TUNABLES=$tunables
+eval "$(grep '^tunables=' "$top/crashmap")"
 rival=${RIVAL:-}
 rounds=${ROUNDS:-15}
 export CRASHMAP_ENGINE=list
 work=$(mktemp -d)
 trap 'rm -rf "$work"' EXIT
+
+# ours SCRIPT OPTION..: runs the program with memory as the launcher has it
+ours() { GLIBC_TUNABLES=$tunables "$program" "$@"; }
 
 # time_once NAME COMMAND..: keeps under that name how long the shortest run took, in microseconds
 declare -A best
@@ -38,7 +40,7 @@ times() { printf '%d.%02d' $(($2 / $1)) $(($2 * 100 / $1 % 100)); }
 
 # hold SCRIPT OPTION..: the most memory that a run holds, in KiB, looked at a hundred times a second
 hold() {
-    "$program" "$@" >/dev/null &
+    GLIBC_TUNABLES=$tunables "$program" "$@" >/dev/null &
     local run=$! most=0 now
     while now=$(awk '/^VmHWM/ { print $2 }' "/proc/$run/status" 2>/dev/null) && [ -n "$now" ]; do
         most=$now
@@ -61,7 +63,7 @@ time_one() {
     load=$(cut -d' ' -f1 /proc/loadavg)
     for _ in $(seq "$turns"); do
         for workers in 1 4; do
-            time_once "$workers" "$program" "$script" "$@" --explorer sweep --workers "$workers"
+            time_once "$workers" ours "$script" "$@" --explorer sweep --workers "$workers"
             if [ -n "$rival" ]; then time_once "$workers rival" "$rival" "$script" "$@" --workers "$workers"; fi
         done
     done
