@@ -112,6 +112,30 @@ fn patch_object(
     ensures act { OnOk result (IsAct (Do (emitted_at (place patch.now.block patch.now.offset patch.now.new.items)
         label.now).origin.op)) }
 {
+    has_bytes(patch.new.as_slice());
+    has_bytes(patch.undo.as_slice());
+    label.origin.op.has_paths();
+    object_of(heap, after, label, patch)
+}
+
+/// Bytes are below 256. This reads them, and changes nothing.
+fn has_bytes(bytes: &[u8])
+    ensures { IsBytes bytes.now }
+{
+    let _length = bytes.len();
+}
+
+/// The object alone.
+fn object_of(
+    heap: Global,
+    after: Value,
+    label: &Label<'_>,
+    patch: &Patch,
+) -> Result<Value, AllocError>
+    ensures { IfOk result (λ value.
+        view value ≡ patch_data (view after) (emitted_at (place patch.now.block patch.now.offset patch.now.new.items)
+        label.now) patch.now.undo.items) }
+{
     json!(in heap; {
         "after": after,
         "block": patch.block,
