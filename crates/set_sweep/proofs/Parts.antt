@@ -1,6 +1,6 @@
 -- Parts of the closed sets, and the tallies of the parts put together.
 use Rattle.std.proofs.Common.{◌≡◌, ℕ, ◌+◌, ◌-◌, ◌*◌, ◌/◌, ◌%◌, ◌^◌, ◌<◌, ◌≤◌, List, [], ◌∷◌, ◌++◌, length, get_or, set, arith, length-append, refl, sym, subst, ap, ◌∙◌, inl, inr}
-use Rattle.std.specs.Prelude.{◌⊎◌, Option, Some, IfSome, bit_or}
+use Rattle.std.specs.Prelude.{◌⊎◌, Option, Some, None, IfSome, bit_or}
 use Rattle.std.proofs.lemmas.Bool.{cases_lt}
 use Rattle.std.proofs.lemmas.List.{get_or_append_left, get_or_push, get_or_past, get_or_default, get_or-set_same, get_or-set_other, length-set}
 use Rattle.std.proofs.lemmas.List.Elements.{All-push, All-nil, All-weaker}
@@ -198,6 +198,14 @@ module _ {T : Type 0} (tells : List ℕ → T → Type 0) (deps : List ℕ) (low
       let small = closed_small deps w closed in (omega arith, omega (arith, small, whole, same))
 
 -- ---- parts at their places
+
+pub placed_none : {T : Type 0} (tells : List ℕ → T → Type 0) (deps : List ℕ) (low : ℕ) (roots : List ℕ) (places : List (Option (Part T)))
+    → ArePlaced tells deps low roots places → ArePlaced tells deps low roots (places ++ None ∷ [])
+placed_none tells deps low roots places placed i d lt = elim (cases_lt i (length places)) [
+  | inl low' ↦ subst (λ o. IfSome o (λ p. IsPartSwept tells deps low (get_or roots i 0) p.total p.tally)) (sym (get_or_append_left places (None ∷ []) d i low')) (placed i d low')
+  | inr up ↦ subst (λ o. IfSome o (λ p. IsPartSwept tells deps low (get_or roots i 0) p.total p.tally))
+      (sym (get_or_push places None d i (omega (arith, lt, up, length-append places (None ∷ []))))) tt
+]
 
 pub placed_set : {T : Type 0} (tells : List ℕ → T → Type 0) (deps : List ℕ) (low : ℕ) (roots : List ℕ) (places : List (Option (Part T))) (at : ℕ) (part : Part T)
     → ArePlaced tells deps low roots places → at < length places → IsPartSwept tells deps low (get_or roots at 0) part.total part.tally → ArePlaced tells deps low roots (set places at (Some part))

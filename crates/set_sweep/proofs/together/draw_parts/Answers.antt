@@ -1,8 +1,30 @@
 use Rattle.std.proofs.Common.{◌<◌, length, arith, sym, subst}
 use Rattle.std.specs.List.{All}
-use Rattle.std.proofs.lemmas.List.Elements.{All-push}
+use Rattle.std.proofs.lemmas.List.Elements.{All-nil, All-push}
 use Rattle.set_sweep.specs.Sweeps.{IsDone}
 use Rattle.set_sweep.proofs.together.draw_parts.Goals as goal
+
+pub loop-init : goal.loop-init
+loop-init g c =
+    let deps = c.args.sweeper.now.deps.now in
+    let tells = g.V.Visitor.tells c.args.sweeper.now.visitor.now in
+    record {
+      own = c.requires.own;
+      done = subst (All (λ done. IsDone tells deps c.args.low c.args.roots.now done.at done.part.total done.part.tally)) (sym c.new-all.ensures.items)
+          (All-nil (λ done. IsDone tells deps c.args.low c.args.roots.now done.at done.part.total done.part.tally));
+    }
+
+pub sweep_part-requires-clause-known : goal.sweep_part-requires-clause-known
+sweep_part-requires-clause-known g c = c.requires.known
+
+pub sweep_part-requires-clause-root : goal.sweep_part-requires-clause-root
+sweep_part-requires-clause-root g c = c.requires.parts.each c.fetch_add-at.result 0 (omega (arith, c.if-at-roots.false))
+
+pub sweep_part-requires-clause-lawful : goal.sweep_part-requires-clause-lawful
+sweep_part-requires-clause-lawful g c = c.requires.lawful
+
+pub sweep_part-requires-clause-own : goal.sweep_part-requires-clause-own
+sweep_part-requires-clause-own g c = c.loop.invariant.own
 
 pub loop-preserved : goal.loop-preserved
 loop-preserved g c =
