@@ -3,7 +3,7 @@ ghost use Rattle.std.specs.Prelude.{◌≡◌, ◌<◌, ℕ, List};
 ghost use Rattle.seen_board.specs.Clauses.{IsOf};
 ghost use Rattle.explorers.specs.Met.{AreMet};
 
-use seen_board::{Board, BoardSeat, Place};
+use seen_board::{Board, BoardSeat, Place, shard_of};
 use state_space::Space;
 use std::alloc::{AllocError, Allocator};
 use std::collections::HashSet;
@@ -53,7 +53,7 @@ pub(crate) fn meet<S: Space, A: Allocator + Copy>(
     for at in met.counts[shard as usize]..seat.seen_in(shard) {
         let word = board.at(seat, Place { shard, at });
         // It is, as each entry stands in the shard of its number; `at` does not say so.
-        if word % 13 == u128::from(shard) {
+        if shard_of(word) == shard {
             met.words.insert(word)?;
         }
         met.counts[shard as usize] = at + 1;

@@ -30,7 +30,11 @@ const BLOCKS: usize = LENGTHS + APART * SHARDS;
 pub fn shard_of(word: u128) -> u8
     ensures { result ≡ word % 13 }
 {
-    (word % SHARDS as u128) as u8
+    match u64::try_from(word) {
+        // A remainder of 64 bits takes a fraction of the time.
+        Ok(short) => (short % SHARDS as u64) as u8,
+        Err(_) => (word % SHARDS as u128) as u8,
+    }
 }
 
 /// The table of a board whose rows have up to `limit` places. Behind the counters, the locks and the lengths come four
@@ -112,7 +116,10 @@ impl Layout {
         ensures slot { result ≡ slot self.now.limit word 0 }
         ensures below { result < self.now.limit }
     {
-        (word / SHARDS as u128 % self.limit as u128) as usize
+        match u64::try_from(word) {
+            Ok(short) => (short / SHARDS as u64 % self.limit as u64) as usize,
+            Err(_) => (word / SHARDS as u128 % self.limit as u128) as usize,
+        }
     }
 
     /// The t-th index word of a word, counted from 0. Behind the last word of the index comes word 0.
