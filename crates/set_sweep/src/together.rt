@@ -1,5 +1,5 @@
 //! The sweep of many workers.
-ghost use Rattle.std.specs.Prelude.{◌≡◌, ℕ, ◌<◌, ◌≤◌, ◌^◌, length, IfOk, IsErrOf};
+ghost use Rattle.std.specs.Prelude.{◌≡◌, ℕ, ◌<◌, ◌≤◌, ◌^◌, false, length, IfOk, IsErrOf};
 ghost use Rattle.std.specs.List.{All};
 ghost use Rattle.state_space.specs.Counts.{Outnumbers};
 ghost use Rattle.patch_sets.specs.Closed.{AreEarlier, IsClosed};
@@ -30,8 +30,8 @@ pub struct Swept<T> {
 /// Visits each closed set of a graph once, with 1 to 16 workers.
 ///
 /// For every number of workers and every schedule, an answer other than out of memory is the one that is defined
-/// without threads: the tally of all closed sets in ascending number, or that they are more than the limit. They are
-/// counted before any is visited. The watch is told as it goes on.
+/// without threads: the tally of all closed sets in ascending number, or that they are more than the limit. Where they
+/// may be more, they are counted before any is visited. The watch is told as it goes on.
 pub fn sweep_with<R, A, V, W>(
     rt: &R,
     alloc: A,
@@ -59,13 +59,15 @@ where
 {
     let closures = closures(deps);
     let parts = parts_of(alloc, deps, &closures, PARTS * workers)?;
-    let counter = Sweeper {
-        visitor: &Counting { watch },
-        deps,
-        closures: &closures,
-        limit,
-    };
-    sweep_all(rt, alloc, &counter, &parts, workers)?;
+    if may_outnumber(deps.len(), limit) {
+        let counter = Sweeper {
+            visitor: &Counting { watch },
+            deps,
+            closures: &closures,
+            limit,
+        };
+        sweep_all(rt, alloc, &counter, &parts, workers)?;
+    }
     let sweeper = Sweeper {
         visitor: &Watched { visitor, watch },
         deps,
@@ -73,6 +75,13 @@ where
         limit,
     };
     sweep_all(rt, alloc, &sweeper, &parts, workers)
+}
+
+/// Whether the closed sets of so many ids may be more than the limit. They are no more than all sets of the ids.
+fn may_outnumber(ids: usize, limit: usize) -> bool
+    ensures { result ≡ false → 2 ^ ids ≤ limit }
+{
+    ids >= 64 || limit < 1 << ids
 }
 
 /// Sweeps over all parts with many workers.
