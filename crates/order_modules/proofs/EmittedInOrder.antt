@@ -1,13 +1,10 @@
 -- Patches with their labels, one more at a time.
-use Rattle.std.proofs.Common.{◌≡◌, ℕ, zero, suc, ◌+◌, ◌<◌, ◌≤◌, List, [], ◌∷◌, ◌++◌, length, map, take, drop, get_or, Bool, true, false, cond, Some, arith, refl, sym, ◌∙◌, ap, add-one}
+use Rattle.std.proofs.Common.{◌≡◌, ℕ, zero, suc, ◌+◌, ◌<◌, ◌≤◌, List, [], ◌∷◌, ◌++◌, length, take, get_or, Some, arith, refl, sym, ◌∙◌, ap, add-one}
 use Rattle.std.specs.Prelude.{slice_get}
-use Rattle.std.specs.List.{filter}
-use Rattle.crash_model.specs.Needs.{pairs_of}
 use Rattle.crash_model.specs.Patches.{Place, place, places_of}
-use Rattle.crash_model.specs.Trace.{Emitted, applies}
+use Rattle.crash_model.specs.Trace.{Emitted}
 use Rattle.crash_model.specs.declared.patches.Patch.{Patch}
-use Rattle.crash_model.specs.declared.rules.Rule.{Rule}
-use Rattle.traced_patches.specs.Labels.{emitted_at, emitted_by, emitted_of}
+use Rattle.traced_patches.specs.Labels.{emitted_at, emitted_by}
 use Rattle.traced_patches.specs.declared.labels.Label.{Label}
 
 pub emitted_none : (ps : List Place) → emitted_by ps [] ≡ []
