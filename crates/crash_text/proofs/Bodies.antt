@@ -24,7 +24,7 @@ use Rattle.crash_model.specs.declared.settings.Detail.{Detail}
 use Rattle.crash_model.specs.declared.settings.Settings.{Settings}
 use Rattle.crash_model.specs.declared.settings.ReportBy.TheVariants.{BySet, ByFault, ByRule}
 use Rattle.crash_model.proofs.Leading.{failing_closed, closed_are_left, sections_lead}
-use Rattle.order_modules.specs.Traced.{TracedPatches}
+use Rattle.traced_patches.specs.Traced.{TracedPatches}
 use Rattle.report_sections.specs.Bodies.{AreOnBase, AreClosed, CanTell, TellsBody, sets_of, explanation_by}
 use Rattle.report_sections.specs.declared.report.Body as code
 use Rattle.report_sections.specs.declared.report.Body.TheVariants as code_body

@@ -22,6 +22,7 @@ use crate::telling::Findings;
 use crash_model::refusals::RunFault;
 use crash_model::rules::Rule;
 use explorers::Gate;
+use order_modules::graph_without;
 use patch_graph::Graph;
 use report_sections::{RuleUsage, Section, SectionMaker, ToldRule};
 use std::alloc::{AllocError, Allocator, Global};
@@ -112,7 +113,7 @@ where
         return Ok(RuleUsage::Unused);
     }
     let (graph, settings) = (findings.traced.graph(), findings.settings);
-    let changed = findings.traced.graph_without(alloc, findings.base, rule)?;
+    let changed = graph_without(&findings.traced, alloc, findings.base, rule)?;
     let crashes = Crashes {
         base: findings.base,
         graph: &changed,

@@ -17,7 +17,7 @@ use crate::finding::Found;
 use crash_model::fault::FaultRow;
 use crash_model::settings::{Detail, Settings};
 use disk_image::Image;
-use order_modules::Traced;
+use traced_patches::Traced;
 use report_json::report_json;
 use report_sections::{Body, Report, ToldRule};
 use report_text::report_text;

@@ -17,10 +17,10 @@ use Rattle.crash_model.specs.declared.patches.Patch.{Patch}
 use Rattle.crash_model.specs.declared.rules.Rule.{Rule}
 use Rattle.crash_model.specs.declared.modules.Module.{Module}
 use Rattle.patch_graph.specs.Graph.{Overlaps, OverlapsAt, AddsOverlaps}
-use Rattle.order_modules.specs.Labels.{emitted_at, emitted_of, emitted_by, group_by, links_by}
+use Rattle.traced_patches.specs.Labels.{emitted_at, emitted_of, emitted_by, group_by, links_by}
 use Rattle.order_modules.specs.Log.{Log, IsLog, WaitsAt, with_places}
-use Rattle.order_modules.specs.declared.labels.Label.{Label}
-use Rattle.order_modules.specs.declared.labels.Link.{Link}
+use Rattle.traced_patches.specs.declared.labels.Label.{Label}
+use Rattle.traced_patches.specs.declared.labels.Link.{Link}
 
 -- ---- lists with one element more
 

@@ -6,7 +6,7 @@ use Rattle.std.specs.List.{list_any}
 use Rattle.std.proofs.lemmas.List.{map_push}
 use Rattle.crash_model.specs.Trace.{refuse_if, is_among}
 use Rattle.crash_model.specs.declared.refusals.TraceFault.{TraceFault}
-use Rattle.order_modules.specs.Labels.{group_by}
+use Rattle.traced_patches.specs.Labels.{group_by}
 use Rattle.order_modules.specs.Tracer.{Trace, names_by}
 
 pub refused : {A : Type 0} (test : Bool) (f : TraceFault) (x : A) → test ≡ true → refuse_if test f x ≡ Err f

@@ -1,10 +1,7 @@
 pub mod Adding
-pub mod ByRules
+pub mod EmittedInOrder
 pub mod Emitting
 pub mod Grouping
 pub mod Planning
-pub mod Labelled
-pub mod ReasonTexts
 pub mod Steps
-pub mod Told
 pub mod Turning

@@ -7,8 +7,8 @@ use Rattle.crash_model.specs.Trace.{Emitted, trace_start, IsGraphOf, groups_depe
 use Rattle.crash_model.specs.declared.patches.Patch.{Patch}
 use Rattle.crash_model.specs.declared.rules.Rule.{Rule}
 use Rattle.crash_model.specs.declared.modules.Module.{Module}
-use Rattle.order_modules.specs.Labels.{emitted_of}
-use Rattle.order_modules.specs.declared.labels.Label.{Label}
+use Rattle.traced_patches.specs.Labels.{emitted_of}
+use Rattle.traced_patches.specs.declared.labels.Label.{Label}
 
 pub record Log : Type 0 where
   -- the disk before the patches, and with all of them

@@ -6,15 +6,12 @@
 #![tactic(auto)]
 
 mod base;
-mod by_rules;
 mod groups;
-mod labels;
 mod log;
-mod reasons;
 mod stepping;
-mod traced;
 mod tracer;
 mod transactions;
+mod without_rule;
 
 pub use base::build_base;
 pub use crash_model::modules::Module;
@@ -22,7 +19,6 @@ pub use crash_model::names::GroupName;
 pub use crash_model::orderings::Ordering;
 pub use crash_model::refusals::TraceFault;
 pub use crash_model::steps::{Act, Step};
-pub use labels::{Label, Origin};
-pub use reasons::{Reason, Reasons};
-pub use traced::Traced;
+pub use traced_patches::{Label, Origin, Reason, Reasons, Traced};
 pub use tracer::{trace, trace_under};
+pub use without_rule::graph_without;

@@ -5,11 +5,9 @@ ghost use Rattle.std.specs.List.{list_any};
 ghost use Rattle.patch_sets.specs.Sets.{Has};
 ghost use Rattle.crash_model.specs.Patches.{place};
 ghost use Rattle.crash_model.specs.Trace.{Emitted, is_same_group};
-ghost use Rattle.order_modules.specs.Labels.{emitted_at, group_by, links_by};
+ghost use Rattle.traced_patches.specs.Labels.{emitted_at, group_by, links_by};
 ghost use Rattle.order_modules.specs.Log.{Adds, IsLog, Keeps, WaitsAt};
 
-use crate::labels::{Label, Link, is_in_group, waits};
-use crate::traced::Traced;
 use arrayvec::ArrayVec;
 use crash_model::modules::Module;
 use crash_model::names::GroupName;
@@ -21,6 +19,7 @@ use patch_graph::{Graph, GraphFault, MAX_PATCHES};
 use patch_sets::set::with;
 use std::alloc::{AllocError, Allocator};
 use std::marker::Model;
+use traced_patches::{Label, Link, Traced, is_in_group, waits};
 
 /// The patches of the operations so far, over a base image.
 #[derive(Drop)]
@@ -35,7 +34,7 @@ pub struct PatchLog<'a, A: Allocator + Copy> {
 
 impl<'a, A: Allocator + Copy> Model for PatchLog<'a, A> {
     ghost use Rattle.order_modules.specs.Log.{Log, IsLog};
-    ghost use Rattle.order_modules.specs.Labels.{emitted_by, links_by};
+    ghost use Rattle.traced_patches.specs.Labels.{emitted_by, links_by};
     ghost use Rattle.crash_model.specs.Patches.{places_of};
     ghost use Rattle.std.specs.Prelude.{◌≡◌, length};
 

@@ -12,9 +12,7 @@ ghost use Rattle.inode_fs.specs.Inside.{LiesInside, GivesName};
 ghost use Rattle.full_journal_laws.specs.Full.{ops_of, IsFullSafe};
 ghost use Rattle.order_modules.specs.Tracer.{Moves, IsOrdered, IsJournaled};
 
-use crate::labels::Origin;
 use crate::log::PatchLog;
-use crate::traced::Traced;
 use crate::transactions::touched;
 use crash_model::modules::Module;
 use crash_model::names::GroupName;
@@ -28,6 +26,7 @@ use inode_fs::{apply, plan};
 use patch_graph::Graph;
 use std::alloc::{AllocError, Allocator};
 use std::marker::Model;
+use traced_patches::{Origin, Traced};
 
 /// The patches of the steps, over this image, under an ordering; or the first refused step.
 ///
@@ -105,7 +104,7 @@ pub(crate) struct Tracer<'a, A: Allocator + Copy> {
 
 impl<'a, A: Allocator + Copy> Model for Tracer<'a, A> {
     ghost use Rattle.order_modules.specs.Tracer.{Trace, IsTrace, names_by, trace_of};
-    ghost use Rattle.order_modules.specs.Labels.{group_by};
+    ghost use Rattle.traced_patches.specs.Labels.{group_by};
 
     ghost Value = { Trace };
 

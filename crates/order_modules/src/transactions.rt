@@ -6,12 +6,11 @@ ghost use Rattle.crash_model.specs.DiskBytes.{committed_mark, done_mark};
 ghost use Rattle.crash_model.specs.Trace.{in_place_patch, part_of, copies};
 ghost use Rattle.crash_model.specs.declared.rules.Part.TheVariants as part;
 ghost use Rattle.inode_fs.specs.Inside.{LiesInside};
-ghost use Rattle.order_modules.specs.Labels.{origin_by};
+ghost use Rattle.traced_patches.specs.Labels.{origin_by};
 ghost use Rattle.order_modules.specs.Log.{Adds, Keeps};
 ghost use Rattle.order_modules.specs.Transactions.{is_ahead, changes_ahead, changes_in_place, file_data};
 ghost use Rattle.order_modules.specs.Transactions.{targets_of, transaction_of};
 
-use crate::labels::{Label, Origin};
 use crate::log::PatchLog;
 use arrayvec::ArrayVec;
 use crash_model::disk_bytes::{COMMITTED, DONE};
@@ -20,6 +19,7 @@ use crash_model::plans::{Change, Role};
 use crash_model::rules::Part;
 use disk_image::Image;
 use std::alloc::{AllocError, Allocator};
+use traced_patches::{Label, Origin};
 
 /// Whether a change is file data, which the metadata journal writes ahead of the transaction.
 pub fn is_ahead(module: Module, change: &Change) -> bool

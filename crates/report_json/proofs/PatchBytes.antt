@@ -31,7 +31,7 @@ use Rattle.crash_model.specs.declared.rules.Scope.{Scope}
 use Rattle.crash_model.specs.declared.rules.Scope.TheVariants.{Same, Previous}
 use Rattle.crash_model.specs.declared.rules.Rule.{Rule}
 use Rattle.crash_model.specs.declared.steps.Act.TheVariants.{Do}
-use Rattle.order_modules.specs.Traced.{TracedPatches, told_at, dependency_at}
+use Rattle.traced_patches.specs.Traced.{TracedPatches, told_at, dependency_at}
 use Rattle.report_json.specs.JsonReport.{IsWritten}
 use Rattle.report_json.specs.Patches.{texts_data, dependency_data, dependencies_data, patch_data, told_data, IsPlainPatch}
 use Rattle.report_json.specs.Values.{hex_data}

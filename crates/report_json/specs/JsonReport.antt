@@ -14,7 +14,7 @@ use Rattle.crash_model.specs.declared.fault.FaultRow.{FaultRow}
 use Rattle.crash_model.specs.declared.patches.Patch.{Patch}
 use Rattle.crash_model.specs.declared.settings.Detail.{Detail}
 use Rattle.crash_model.specs.declared.modules.Module.{Module}
-use Rattle.order_modules.specs.Traced.{TracedPatches}
+use Rattle.traced_patches.specs.Traced.{TracedPatches}
 use Rattle.report_sections.specs.Bodies.{TellsBody}
 use Rattle.report_sections.specs.ToldRules.{told_rule}
 use Rattle.report_sections.specs.declared.report.Report.{Report}

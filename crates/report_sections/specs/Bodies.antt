@@ -11,7 +11,7 @@ use Rattle.crash_model.specs.Summary.{ToldFault}
 use Rattle.crash_model.specs.Whole as whole
 use Rattle.crash_model.specs.declared.patches.Patch.{Patch}
 use Rattle.crash_model.specs.declared.settings.Detail.{Detail}
-use Rattle.order_modules.specs.Traced.{TracedPatches}
+use Rattle.traced_patches.specs.Traced.{TracedPatches}
 use Rattle.report_sections.specs.declared.report.Body.{Body}
 use Rattle.report_sections.specs.declared.report.Body.TheVariants.{Sets, Faults, Rules}
 use Rattle.report_sections.specs.declared.report.Report.{Report}

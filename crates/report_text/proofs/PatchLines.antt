@@ -8,8 +8,8 @@ use Rattle.crash_model.specs.Explain.{Dependency, ToldPatch, told_text, dependen
 use Rattle.crash_model.specs.Lists.{some_below, some_below-step}
 use Rattle.crash_model.specs.Trace.{Emitted, depends}
 use Rattle.crash_model.specs.declared.patches.Patch.{Patch}
-use Rattle.order_modules.specs.Traced.{TracedPatches, told_at, dependency_at}
-use Rattle.order_modules.proofs.Told.{told_is, no_dependency, dependency_is}
+use Rattle.traced_patches.specs.Traced.{TracedPatches, told_at, dependency_at}
+use Rattle.traced_patches.proofs.Told.{told_is, no_dependency, dependency_is}
 use Rattle.report_text.specs.Patches.{patch_line, gap_before}
 
 -- what there is of one number more is told

@@ -4,13 +4,13 @@ ghost use Rattle.std.specs.Prelude.{◌≡◌, ◌++◌, ◌<◌, length, string
 ghost use Rattle.crash_model.specs.Explain.{told_patches, told_text, dependency_text, list_text};
 ghost use Rattle.crash_model.specs.Patches.{place};
 ghost use Rattle.crash_model.specs.Trace.{Emitted};
-ghost use Rattle.order_modules.specs.Labels.{emitted_at};
-ghost use Rattle.order_modules.specs.Reasons.{reason_text};
-ghost use Rattle.order_modules.specs.Traced.{told_at, dependency_at};
+ghost use Rattle.traced_patches.specs.Labels.{emitted_at};
+ghost use Rattle.traced_patches.specs.Reasons.{reason_text};
+ghost use Rattle.traced_patches.specs.Traced.{told_at, dependency_at};
 ghost use Rattle.report_text.specs.Patches.{patch_line, gap_before};
 
 use crash_model::patches::Patch;
-use order_modules::{Label, Reason, Traced};
+use traced_patches::{Label, Reason, Traced};
 use std::alloc::{AllocError, Allocator};
 
 /// The lines of each patch: what it is, and for each earlier patch that it depends on one that says why.

@@ -4,7 +4,7 @@ use Rattle.std.specs.List.{list_any}
 use Rattle.std.proofs.lemmas.Option.{slice_get_within, slice_get_read, get_or_from_slice_get}
 use Rattle.crash_model.specs.Trace.{groups_depend, applies}
 use Rattle.patch_graph.proofs.Steps.{Collects, collects_none, collects_one, collects_skip}
-use Rattle.order_modules.specs.Labels.{emitted_of, links_by}
+use Rattle.traced_patches.specs.Labels.{emitted_of, links_by}
 use Rattle.order_modules.specs.Log.{WaitsAt}
 use Rattle.order_modules.proofs.log.dependencies.Goals as goal
 use Rattle.order_modules.proofs.log.dependencies.Goals.{then-waits, else-waits}

@@ -1,4 +1,4 @@
-use Rattle.order_modules.specs.Labels.{links_by}
+use Rattle.traced_patches.specs.Labels.{links_by}
 use Rattle.order_modules.specs.Log.{WaitsAt}
 use Rattle.patch_graph.proofs.Steps.{Collects}
 use Rattle.order_modules.proofs.log.dependencies.Given as goal

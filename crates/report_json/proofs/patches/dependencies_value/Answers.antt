@@ -1,7 +1,7 @@
 use Rattle.std.proofs.Common.{map, refl}
 use Rattle.std.specs.Prelude.{option_map}
 use Rattle.crash_model.specs.Lists.{some_below-zero}
-use Rattle.order_modules.specs.Traced.{dependency_at}
+use Rattle.traced_patches.specs.Traced.{dependency_at}
 use Rattle.serde_json.specs.View.{view}
 use Rattle.report_json.specs.Patches.{dependency_data}
 use Rattle.report_json.proofs.Below.{data_more, view_listed}

@@ -2,7 +2,7 @@ use Rattle.std.proofs.Common.{◌≡◌, Some, map}
 use Rattle.std.specs.Prelude.{slice_get}
 use Rattle.crash_model.specs.Lists.{some_below}
 use Rattle.crash_model.specs.Trace.{Emitted}
-use Rattle.order_modules.specs.Traced.{dependency_at}
+use Rattle.traced_patches.specs.Traced.{dependency_at}
 use Rattle.serde_json.specs.View.{view}
 use Rattle.report_json.specs.Patches.{dependency_data}
 use Rattle.report_json.proofs.patches.dependencies_value.Given as goal

@@ -1,10 +1,10 @@
 use Rattle.std.proofs.Common.{◌≢◌, List, subst, sym, ◌≡◌, ◌∙◌, Some, ap, arith, length, map}
 use Rattle.std.proofs.lemmas.Bool.{eqb-true, eqb-false}
 use Rattle.std.specs.Prelude.{option_map}
-use Rattle.order_modules.specs.Reasons.{reason_text}
-use Rattle.order_modules.specs.declared.reasons.Reason.{Reason}
+use Rattle.traced_patches.specs.Reasons.{reason_text}
+use Rattle.traced_patches.specs.declared.reasons.Reason.{Reason}
 use Rattle.serde_json.specs.View.{view}
-use Rattle.order_modules.proofs.Told.{emitted_is, no_dependency, dependency_is}
+use Rattle.traced_patches.proofs.Told.{emitted_is, no_dependency, dependency_is}
 use Rattle.report_json.specs.Patches.{dependency_data}
 use Rattle.report_json.proofs.patches.dependency_value.Goals as goal
 

@@ -2,8 +2,8 @@ use Rattle.std.proofs.Common.{◌≡◌, List, Some, subst}
 use Rattle.std.specs.Prelude.{slice_get}
 use Rattle.crash_model.specs.Patches.{place}
 use Rattle.crash_model.specs.declared.patches.Patch.{Patch}
-use Rattle.order_modules.specs.Labels.{emitted_at}
-use Rattle.order_modules.proofs.Told.{told_is}
+use Rattle.traced_patches.specs.Labels.{emitted_at}
+use Rattle.traced_patches.proofs.Told.{told_is}
 use Rattle.serde_json.specs.View.{view}
 use Rattle.report_json.proofs.PatchBytes.{told_written}
 use Rattle.report_json.proofs.patches.patch_value.Goals as goal

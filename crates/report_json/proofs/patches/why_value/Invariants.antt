@@ -1,5 +1,5 @@
 use Rattle.std.proofs.Common.{◌≡◌, map, take}
-use Rattle.order_modules.specs.Reasons.{reason_text}
+use Rattle.traced_patches.specs.Reasons.{reason_text}
 use Rattle.serde_json.specs.Data.{string}
 use Rattle.serde_json.specs.View.{view}
 use Rattle.report_json.proofs.patches.why_value.Given as goal

@@ -1,7 +1,7 @@
 use Rattle.std.proofs.Common.{◌≢◌, ◌∙◌, sym, string_bytes, length, map, arith}
 use Rattle.std.proofs.lemmas.Bool.{eqb-true, eqb-false}
-use Rattle.order_modules.proofs.Told.{emitted_is}
-use Rattle.order_modules.specs.Reasons.{reason_text}
+use Rattle.traced_patches.proofs.Told.{emitted_is}
+use Rattle.traced_patches.specs.Reasons.{reason_text}
 use Rattle.report_text.proofs.PatchLines.{none_told, some_told}
 use Rattle.report_text.proofs.patches.write_dependency.Goals as goal
 

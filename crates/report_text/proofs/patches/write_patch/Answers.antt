@@ -6,8 +6,8 @@ use Rattle.crash_model.specs.Explain.{dependency_text}
 use Rattle.crash_model.specs.Lists.{some_below, some_below-zero}
 use Rattle.crash_model.specs.Patches.{place}
 use Rattle.crash_model.specs.declared.patches.Patch.{Patch}
-use Rattle.order_modules.specs.Labels.{emitted_at}
-use Rattle.order_modules.specs.Traced.{dependency_at}
+use Rattle.traced_patches.specs.Labels.{emitted_at}
+use Rattle.traced_patches.specs.Traced.{dependency_at}
 use Rattle.report_text.proofs.PatchLines.{below_told, patch_told}
 use Rattle.report_text.proofs.patches.write_patch.Goals as goal
 

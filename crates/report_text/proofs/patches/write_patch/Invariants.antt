@@ -4,7 +4,7 @@ use Rattle.std.specs.List.{flat_map}
 use Rattle.crash_model.specs.Explain.{dependency_text}
 use Rattle.crash_model.specs.Lists.{some_below}
 use Rattle.crash_model.specs.Trace.{Emitted}
-use Rattle.order_modules.specs.Traced.{dependency_at}
+use Rattle.traced_patches.specs.Traced.{dependency_at}
 use Rattle.report_text.proofs.patches.write_patch.Given as goal
 
 abbrev pub invariant-loop-earlier : goal.invariant-loop-earlier

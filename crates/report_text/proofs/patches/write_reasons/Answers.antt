@@ -1,5 +1,5 @@
 use Rattle.std.proofs.Common.{string_bytes}
-use Rattle.order_modules.specs.Reasons.{reason_text}
+use Rattle.traced_patches.specs.Reasons.{reason_text}
 use Rattle.report_text.proofs.PatchLines.{reason_told}
 use Rattle.report_text.proofs.patches.write_reasons.Goals as goal
 

@@ -2,9 +2,9 @@ use Rattle.std.proofs.Common.{◌≡◌, ◌<◌, ◌++◌, [], ◌∷◌, ℕ, 
 use Rattle.std.proofs.lemmas.Option.{slice_get_within}
 use Rattle.crash_model.specs.Patches.{place}
 use Rattle.crash_model.specs.declared.patches.Patch.{Patch}
-use Rattle.order_modules.specs.Labels.{links_by, emitted_at}
+use Rattle.traced_patches.specs.Labels.{links_by, emitted_at}
 use Rattle.order_modules.specs.Log.{Log}
-use Rattle.order_modules.specs.declared.labels.Label.{Label}
+use Rattle.traced_patches.specs.declared.labels.Label.{Label}
 use Rattle.order_modules.proofs.Emitting.{written_blocks, emit_fields, emitted_new, waits_read, undo_read, put_read}
 use Rattle.order_modules.proofs.log.PatchLog.emit.Goals as goal
 

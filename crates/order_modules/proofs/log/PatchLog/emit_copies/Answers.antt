@@ -1,5 +1,5 @@
 use Rattle.std.proofs.Common.{get_or, refl, arith}
-use Rattle.order_modules.specs.Labels.{origin_by}
+use Rattle.traced_patches.specs.Labels.{origin_by}
 use Rattle.order_modules.proofs.Adding.{copies_space, copies_next}
 use Rattle.order_modules.proofs.log.PatchLog.emit_copies.Goals as goal
 

@@ -1,6 +1,6 @@
 use Rattle.std.proofs.Common.{◌≡◌, ◌+◌, take}
 use Rattle.crash_model.specs.Trace.{copies}
-use Rattle.order_modules.specs.Labels.{origin_by}
+use Rattle.traced_patches.specs.Labels.{origin_by}
 use Rattle.order_modules.specs.Log.{Adds}
 use Rattle.order_modules.proofs.log.PatchLog.emit_copies.Given as goal
 

@@ -1,5 +1,5 @@
 use Rattle.std.proofs.Common.{map, take}
-use Rattle.order_modules.specs.Labels.{origin_by}
+use Rattle.traced_patches.specs.Labels.{origin_by}
 use Rattle.order_modules.specs.Log.{Adds}
 use Rattle.order_modules.specs.Transactions.{changes_ahead, file_data}
 use Rattle.order_modules.proofs.log.PatchLog.emit_file_data.Given as goal

@@ -4,7 +4,7 @@ use Rattle.crash_model.specs.Trace.{part_of, in_place_patch}
 use Rattle.crash_model.specs.declared.plans.Change.{Change}
 use Rattle.crash_model.specs.declared.modules.Module.{Module}
 use Rattle.std.specs.List.{filter}
-use Rattle.order_modules.specs.Labels.{origin_by}
+use Rattle.traced_patches.specs.Labels.{origin_by}
 use Rattle.order_modules.specs.Log.{Log, Adds}
 use Rattle.order_modules.specs.Transactions.{is_ahead, is_placed}
 use Rattle.order_modules.proofs.Adding.{adds-same, chosen_space, chosen_next, chosen_skip}

@@ -1,6 +1,6 @@
 use Rattle.std.proofs.Common.{map, take}
 use Rattle.crash_model.specs.Trace.{in_place_patch}
-use Rattle.order_modules.specs.Labels.{origin_by}
+use Rattle.traced_patches.specs.Labels.{origin_by}
 use Rattle.order_modules.specs.Log.{Adds}
 use Rattle.order_modules.specs.Transactions.{changes_in_place}
 use Rattle.order_modules.proofs.log.PatchLog.emit_in_place.Given as goal

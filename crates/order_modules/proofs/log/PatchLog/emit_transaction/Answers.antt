@@ -1,7 +1,7 @@
 use Rattle.std.proofs.Common.{◌≡◌, ◌+◌, ◌∷◌, [], length, ap, ◌∙◌, arith}
 use Rattle.crash_model.specs.Trace.{in_place_patch}
 use Rattle.crash_model.specs.declared.modules.Module.{Module}
-use Rattle.order_modules.specs.Labels.{origin_by}
+use Rattle.traced_patches.specs.Labels.{origin_by}
 use Rattle.order_modules.specs.Transactions.{changes_in_place, file_data, changes_ahead}
 use Rattle.order_modules.proofs.Adding.{transaction_room, adds-long, adds-map, adds-copies}
 use Rattle.order_modules.proofs.log.PatchLog.emit_transaction.Goals as goal

@@ -3,9 +3,9 @@ use Rattle.std.specs.List.{list_any}
 use Rattle.std.proofs.lemmas.List.{length-map}
 use Rattle.crash_model.specs.Patches.{place, places_of}
 use Rattle.crash_model.specs.Trace.{is_same_group}
-use Rattle.order_modules.specs.Labels.{group_by}
+use Rattle.traced_patches.specs.Labels.{group_by}
 use Rattle.order_modules.specs.Log.{Log}
-use Rattle.order_modules.specs.declared.labels.Label.{Label}
+use Rattle.traced_patches.specs.declared.labels.Label.{Label}
 use Rattle.order_modules.proofs.Emitting.{any_emitted}
 use Rattle.order_modules.proofs.log.PatchLog.has_patch_in.Goals as goal
 

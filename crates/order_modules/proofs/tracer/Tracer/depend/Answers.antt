@@ -3,7 +3,7 @@ use Rattle.std.specs.Prelude.{Ok, bytes_eq}
 use Rattle.std.specs.List.{list_any}
 use Rattle.crash_model.specs.Trace.{refuse_if, is_among, is_same_group}
 use Rattle.crash_model.specs.declared.refusals.TraceFault.TheVariants as fault
-use Rattle.order_modules.specs.Labels.{group_by}
+use Rattle.traced_patches.specs.Labels.{group_by}
 use Rattle.order_modules.specs.Log.{Log}
 use Rattle.order_modules.specs.Tracer.{Trace, Moves, names_by, trace_of}
 use Rattle.order_modules.proofs.Grouping.{refused, accepted, or_first, or_second, or_neither, among_read}

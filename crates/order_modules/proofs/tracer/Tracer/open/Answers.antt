@@ -2,7 +2,7 @@ use Rattle.std.proofs.Common.{◌≡◌, ℕ, List, [], ◌∷◌, ◌++◌, fal
 use Rattle.std.specs.Prelude.{Some, is_some, Ok}
 use Rattle.crash_model.specs.Trace.{refuse_if, is_among}
 use Rattle.crash_model.specs.declared.refusals.TraceFault.TheVariants as fault
-use Rattle.order_modules.specs.Labels.{group_by}
+use Rattle.traced_patches.specs.Labels.{group_by}
 use Rattle.order_modules.specs.Tracer.{Trace, Moves, names_by, trace_of}
 use Rattle.order_modules.proofs.Grouping.{refused, accepted, or_first, or_second, or_neither, some_group, among_read, names_push}
 use Rattle.order_modules.proofs.tracer.Tracer.open.Goals as goal

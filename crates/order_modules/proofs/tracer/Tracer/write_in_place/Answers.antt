@@ -4,7 +4,7 @@ use Rattle.crash_model.specs.Disk.{IsDisk}
 use Rattle.crash_model.specs.Trace.{origin_at, in_place_patch, trace_of_plan}
 use Rattle.crash_model.specs.declared.plans.Change.{Change}
 use Rattle.inode_fs.specs.Inside.{LiesInside}
-use Rattle.order_modules.specs.Labels.{group_by}
+use Rattle.traced_patches.specs.Labels.{group_by}
 use Rattle.order_modules.specs.Log.{Adds}
 use Rattle.order_modules.specs.Tracer.{Trace, Moves, IsOrdered, names_by, trace_of}
 use Rattle.order_modules.specs.Transactions.{changes_in_place}

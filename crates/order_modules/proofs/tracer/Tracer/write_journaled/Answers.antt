@@ -4,7 +4,7 @@ use Rattle.crash_model.specs.Disk.{IsDisk}
 use Rattle.crash_model.specs.Trace.{origin_at, trace_of_plan}
 use Rattle.crash_model.specs.declared.refusals.TraceFault.TheVariants as fault
 use Rattle.inode_fs.specs.Inside.{LiesInside}
-use Rattle.order_modules.specs.Labels.{group_by}
+use Rattle.traced_patches.specs.Labels.{group_by}
 use Rattle.order_modules.specs.Tracer.{Trace, Moves, IsJournaled, names_by, trace_of}
 use Rattle.order_modules.specs.Transactions.{targets_of}
 use Rattle.order_modules.proofs.Planning.{trace_kept, moves_journaled, with_changes-disk, refused_full, refused_many, past_room, targets_read, transaction_read, known_read}

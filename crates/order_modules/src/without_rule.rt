@@ -1,0 +1,87 @@
+//! The graph of the patches of a trace without one of its rules.
+
+ghost use Rattle.std.specs.Prelude.{◌≡◌, ◌<◌, [], ◌∷◌, ◌++◌, length, IfOk, OnOk, All};
+ghost use Rattle.crash_model.specs.Patches.{places_of};
+ghost use Rattle.crash_model.specs.Rules.{rules_in_first};
+ghost use Rattle.crash_model.specs.Trace.{Tracing, IsGraphOf};
+ghost use Rattle.order_modules.specs.Log.{Adds};
+ghost use Rattle.traced_patches.specs.Labels.{emitted_by, links_by};
+
+use crate::log::PatchLog;
+use arrayvec::ArrayVec;
+use crash_model::orderings::Ordering;
+use crash_model::rules::Rule;
+use disk_image::Image;
+use patch_graph::Graph;
+use std::alloc::{AllocError, Allocator};
+use traced_patches::{Label, Link, Traced};
+
+/// The graph of the same patches by the rules of the ordering without one of them. It fails only when out of
+/// memory.
+///
+/// `base` is the image that the traced steps began on, and the patches change blocks of it.
+pub fn graph_without<A: Allocator + Copy>(
+    traced: &Traced<'_, A>,
+    alloc: A,
+    base: &Image<A>,
+    rule: Rule,
+) -> Result<Graph<A>, AllocError>
+    requires { All (λ patch. patch.block < base.now.blocks) traced.now.patches }
+    ensures graph { IfOk result (λ graph. (s : Tracing) → s.emitted ≡ traced.now.emitted → s.links ≡ traced.now.links
+        → IsGraphOf (rules_in_first traced.now.rules (rule ∷ [])) base.now s graph) }
+    ensures fits { IfOk result (λ graph. All (λ patch. patch.block < base.now.blocks) graph) }
+{
+    let ordering = ordering_without(traced.ordering(), rule);
+    let mut log = PatchLog::new(alloc, base, &ordering)?;
+    link_all(&mut log, traced.links())?;
+    emit_all(&mut log, traced.graph(), traced.labels())?;
+    Ok(log.into_traced().into_graph())
+}
+
+/// The ordering without a rule.
+fn ordering_without(ordering: &Ordering, rule: Rule) -> Ordering
+    ensures { result.rules.items ≡ rules_in_first ordering.now.rules.items (rule ∷ []) }
+{
+    let mut rules = ArrayVec::new();
+    for other in ordering.rules.as_slice() {
+        if !other.same(rule) {
+            rules.push(*other);
+        }
+    }
+    Ordering {
+        module: ordering.module,
+        rules,
+    }
+}
+
+/// Links the groups of a log that has no patches.
+fn link_all<'a, A: Allocator + Copy>(
+    log: &mut PatchLog<'a, A>,
+    links: &[Link<'a>],
+) -> Result<(), AllocError>
+    requires { log.old.emitted ≡ [] }
+    ensures { OnOk result (log.new ≡ record log.old { links = log.old.links ++ links_by links.now }) }
+{
+    for link in links {
+        log.link(link.later, link.earlier)?;
+    }
+    Ok(())
+}
+
+/// Adds the patches of a graph, with these labels, to a log that has none.
+fn emit_all<'a, A: Allocator + Copy>(
+    log: &mut PatchLog<'a, A>,
+    graph: &Graph<A>,
+    labels: &[Label<'a>],
+) -> Result<(), AllocError>
+    requires labelled { length labels.now ≡ length graph.now }
+    requires fits { All (λ patch. patch.block < log.old.base.blocks) graph.now }
+    requires none { log.old.emitted ≡ [] }
+    ensures { OnOk result (Adds log.old log.new (emitted_by (places_of graph.now) labels.now)) }
+{
+    for id in 0..graph.len() {
+        let patch = graph.patch(id);
+        log.emit(labels[id], patch.block, patch.offset, patch.new.as_slice())?;
+    }
+    Ok(())
+}

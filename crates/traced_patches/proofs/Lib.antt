@@ -1,0 +1,4 @@
+pub mod Labelled
+pub mod ReasonTexts
+pub mod RulePairs
+pub mod Told

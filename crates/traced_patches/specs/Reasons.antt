@@ -1,0 +1,14 @@
+-- Why a patch depends on an earlier one.
+use Rattle.std.specs.Prelude.{ℕ, List, [], ◌∷◌, ◌++◌, Bool, if◌then◌else◌, codes}
+use Rattle.crash_model.specs.Rules.{rule_text}
+use Rattle.traced_patches.specs.declared.reasons.Reason.{Reason}
+use Rattle.traced_patches.specs.declared.reasons.Reason.TheVariants.{Overlap, Group, Rule}
+
+abbrev pub reason_text : Reason → List ℕ
+reason_text Overlap = codes "overlap"
+reason_text Group = codes "group"
+reason_text (Rule rule) = rule_text rule
+
+-- the reasons that are no rule
+abbrev pub first_reasons : Bool → Bool → List Reason
+first_reasons overlap group = (if overlap then Overlap ∷ [] else []) ++ (if group then Group ∷ [] else [])

@@ -1,0 +1,87 @@
+//! What a patch is of its operation, and which patches wait for which.
+
+ghost use Rattle.std.specs.Prelude.{◌≡◌, ◌||◌};
+ghost use Rattle.std.specs.List.{list_any};
+ghost use Rattle.crash_model.specs.Trace.{is_same_group, groups_depend, applies};
+ghost use Rattle.traced_patches.specs.Labels.{group_by, links_by, emitted_of};
+
+use crash_model::names::GroupName;
+use crash_model::operations::Op;
+use crash_model::rules::{Part, Rule};
+
+/// Where a patch comes from: its operation, the line that has it in the script, and the group that was open.
+#[derive(Clone, Copy)]
+pub struct Origin<'a> {
+    pub line: usize,
+    pub op: &'a Op,
+    pub group: Option<&'a GroupName>,
+}
+
+/// What a patch is: its part, the number of its operation, from 1, and where it comes from.
+#[derive(Clone, Copy)]
+pub struct Label<'a> {
+    pub part: Part,
+    pub turn: usize,
+    pub origin: Origin<'a>,
+}
+
+/// `depend`: the patches of the group `later` wait for those of the group `earlier`.
+#[derive(Clone, Copy)]
+pub struct Link<'a> {
+    pub later: &'a GroupName,
+    pub earlier: &'a GroupName,
+}
+
+/// Whether a patch waits for an earlier one, by the groups or by a rule.
+pub fn waits(rules: &[Rule], links: &[Link<'_>], later: &Label<'_>, earlier: &Label<'_>) -> bool
+    ensures { result
+        ≡ (groups_depend (links_by links.now) (emitted_of later.now) (emitted_of earlier.now) || list_any (λ rule.
+        applies rule (emitted_of later.now) (emitted_of earlier.now)) rules.now) }
+{
+    is_linked(links, later, earlier) || is_ordered(rules, later, earlier)
+}
+
+/// Whether some rule makes a patch wait for an earlier one.
+fn is_ordered(rules: &[Rule], later: &Label<'_>, earlier: &Label<'_>) -> bool
+    ensures { result ≡ list_any (λ rule. applies rule (emitted_of later.now) (emitted_of earlier.now)) rules.now }
+{
+    for rule in rules {
+        if applies(rule, later, earlier) {
+            return true;
+        }
+    }
+    false
+}
+
+/// Whether a rule makes a patch wait for an earlier one.
+pub fn applies(rule: &Rule, later: &Label<'_>, earlier: &Label<'_>) -> bool
+    ensures { result ≡ applies rule.now (emitted_of later.now) (emitted_of earlier.now) }
+{
+    rule.later.has(later.part)
+        && rule.earlier.has(earlier.part)
+        && rule.scope.has(later.turn, earlier.turn)
+}
+
+/// Whether a link makes a patch of the later label's group wait for one of the earlier label's.
+pub fn is_linked(links: &[Link<'_>], later: &Label<'_>, earlier: &Label<'_>) -> bool
+    ensures { result ≡ groups_depend (links_by links.now) (emitted_of later.now) (emitted_of earlier.now) }
+{
+    for link in links {
+        if is_in_group(later.origin.group, link.later)
+            && is_in_group(earlier.origin.group, link.earlier)
+        {
+            return true;
+        }
+    }
+    false
+}
+
+/// Whether the group that was open has this name.
+pub fn is_in_group(group: Option<&GroupName>, name: &GroupName) -> bool
+    ensures { result ≡ is_same_group (group_by group.entry) name.now }
+{
+    match group {
+        Some(group) => group.same(name),
+        None => false,
+    }
+}

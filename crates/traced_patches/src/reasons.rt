@@ -1,0 +1,70 @@
+//! Why a patch depends on an earlier one.
+
+ghost use Rattle.std.specs.Prelude.{◌≡◌, ◌==◌, not, map, length};
+ghost use Rattle.crash_model.specs.Explain.{reasons};
+ghost use Rattle.crash_model.specs.Trace.{Emitted, depends};
+ghost use Rattle.traced_patches.specs.Traced.{TracedPatches, AreReasons};
+ghost use Rattle.traced_patches.specs.Reasons.{reason_text};
+
+use arrayvec::ArrayVec;
+use crash_model::orderings::MAX_RULES;
+use crash_model::rules::Rule;
+use std::fmt;
+
+/// The reasons that there can be: an overlap, a link of groups, and each rule.
+const MAX_REASONS: usize = 30;
+
+/// Why a patch depends on an earlier one: they overlap, their groups are linked, or these rules apply to them.
+#[derive(Drop)]
+pub struct Reasons {
+    pub overlap: bool,
+    pub group: bool,
+    pub rules: ArrayVec<Rule, MAX_RULES>,
+}
+
+/// One reason.
+#[derive(Clone, Copy, Debug, PartialEq, Eq, Default)]
+pub enum Reason {
+    #[default]
+    Overlap,
+    Group,
+    Rule(Rule),
+}
+
+impl fmt::Display for Reason {
+    ghost use Rattle.std.specs.Prelude.{Some};
+    ghost use Rattle.traced_patches.specs.Reasons.{reason_text};
+
+    ghost output = { λ reason. Some (reason_text reason) };
+
+    fn fmt<W: fmt::Write>(&self, f: &mut fmt::Formatter<W>) -> fmt::Result {
+        match *self {
+            Reason::Overlap => write!(f, "overlap"),
+            Reason::Group => write!(f, "group"),
+            Reason::Rule(rule) => write!(f, "{rule}"),
+        }
+    }
+}
+
+impl Reasons {
+    /// The reasons one by one, in the order in which they are told. There is one exactly where the patch depends on
+    /// the earlier one.
+    pub fn list(&self) -> ArrayVec<Reason, MAX_REASONS>
+        ensures texts { (t : TracedPatches) (q p : Emitted) → AreReasons t q p self.now
+            → map reason_text result.items ≡ reasons t.rules t.links q p }
+        ensures some { (t : TracedPatches) (q p : Emitted) → AreReasons t q p self.now
+            → depends t.rules t.links q p ≡ not (length result.items == 0) }
+    {
+        let mut list = ArrayVec::new();
+        if self.overlap {
+            list.push(Reason::Overlap);
+        }
+        if self.group {
+            list.push(Reason::Group);
+        }
+        for rule in self.rules.as_slice() {
+            list.push(Reason::Rule(*rule));
+        }
+        list
+    }
+}
