@@ -1,4 +1,4 @@
-//! The failing sets of a graph of patches: those that a crash can leave and in whose image a fault stands after replay.
+//! The failing sets of a graph of patches: a crash can leave them, and in their images a fault stands after replay.
 //!
 //! [`find`] keeps as much of them as a report asks for, and [`count_failing`] no more than their number and the first
 //! that another graph prevents. By the settings the board of seen sets explores them, or the sweep, which keeps no
