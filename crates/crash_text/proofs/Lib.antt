@@ -2,4 +2,3 @@ pub mod Answering
 pub mod Needing
 pub mod Serving
 pub mod Bodies
-pub mod Firsts

@@ -14,7 +14,7 @@ use Rattle.crash_model.specs.declared.settings.Settings.{Settings}
 use Rattle.crash_model.specs.declared.steps.Step.{Step}
 use Rattle.traced_patches.specs.Traced.{TracedPatches}
 use Rattle.report_sections.specs.Bodies.{AreOnBase}
-use Rattle.crash_text.specs.Kept.{AreFound}
+use Rattle.crash_finding.specs.Kept.{AreFound}
 use Rattle.crash_text.specs.declared.telling.Findings.{Findings}
 
 -- traced patches, with the state in which tracing ended

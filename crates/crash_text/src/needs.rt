@@ -13,12 +13,11 @@ ghost use Rattle.fault_summary.specs.Prevented.{IsFirstPrevented};
 ghost use Rattle.report_sections.specs.Bodies.{AreOnBase};
 ghost use Rattle.report_sections.specs.Sections.{section_of};
 ghost use Rattle.report_sections.specs.ToldRules.{told_rule, usage_of};
-ghost use Rattle.crash_text.specs.Limits.{IsExplorable};
+ghost use Rattle.crash_finding.specs.Limits.{IsExplorable};
 ghost use Rattle.crash_text.specs.Telling.{AreFindings, IsReportOf, IsTraceOf};
 
-use crate::crashes::Crashes;
-use crate::finding::count_failing;
 use crate::telling::Findings;
+use crash_finding::{Crashes, count_failing};
 use crash_model::refusals::RunFault;
 use crash_model::rules::Rule;
 use explorers::Gate;

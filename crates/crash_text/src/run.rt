@@ -7,14 +7,13 @@ ghost use Rattle.crash_model.specs.Trace.{base_from};
 ghost use Rattle.crash_model.specs.declared.modules.Module.TheVariants.{Full};
 ghost use Rattle.crash_model.specs.Answer.{IsAnswer, Reported, Refused};
 ghost use Rattle.crash_text.specs.BaseRefusal.{IsBaseRefusal};
-ghost use Rattle.crash_text.specs.Limits.{IsExplorable};
+ghost use Rattle.crash_finding.specs.Limits.{IsExplorable};
 ghost use Rattle.crash_text.specs.Telling.{AreReported, AreRefused};
 
-use crate::crashes::Crashes;
-use crate::finding::{Kept, find};
 use crate::keeping::told_kept;
 use crate::needs::report_by_rule;
 use crate::telling::Findings;
+use crash_finding::{Crashes, Kept, find};
 use crash_model::refusals::RunFault;
 use crash_model::settings::Settings;
 use crash_model::steps::Step;

@@ -3,7 +3,7 @@
 ghost use Rattle.std.specs.Prelude.{◌≡◌, ℕ, ◌+◌, ◌-◌, ◌^◌, ◌<◌, ◌≤◌, List, length, IfOk, IfErr, OnErr, IfSome, IsErrOf, IsErrAnd};
 ghost use Rattle.std.specs.Io.KnownBytes.{Consumes, Keeps};
 ghost use Rattle.devices.specs.Counted.{IsReadFault};
-ghost use Rattle.crash_text.specs.Limits.{IsExplorable};
+ghost use Rattle.crash_finding.specs.Limits.{IsExplorable};
 ghost use Rattle.crash_text.specs.Served.{IsServed, IsCut, IsRefusedBy};
 
 use crate::run::run;

@@ -13,7 +13,7 @@ ghost use Rattle.report_sections.specs.Bodies.{CanTell, TellsBody, whole_of};
 ghost use Rattle.report_sections.specs.ToldRules.{told_rule};
 ghost use Rattle.crash_text.specs.Telling.{AreFindings, IsReportOf, IsTraceOf};
 
-use crate::finding::Found;
+use crash_finding::Found;
 use crash_model::fault::FaultRow;
 use crash_model::settings::{Detail, Settings};
 use disk_image::Image;

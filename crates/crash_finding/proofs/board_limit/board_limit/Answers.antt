@@ -1,7 +1,7 @@
 use Rattle.std.proofs.Common.{◌≡◌, true, false, arith, sym, subst, ◌∙◌, inl, inr}
 use Rattle.patch_sets.proofs.Bits.{eq_or_not}
-use Rattle.crash_text.specs.Primes.{IsPrime}
-use Rattle.crash_text.proofs.board_limit.board_limit.Goals as goal
+use Rattle.crash_finding.specs.Primes.{IsPrime}
+use Rattle.crash_finding.proofs.board_limit.board_limit.Goals as goal
 
 pub loop-size-preserved : goal.loop-size-preserved
 loop-size-preserved c = λ n from below. elim (eq_or_not n c.loop-size.size) [

@@ -3,7 +3,7 @@ use Rattle.std.proofs.lemmas.List.{get_or-map, length-map, take_more, take_all}
 use Rattle.std.proofs.lemmas.Option.{get_or_from_slice_get}
 use Rattle.patch_sets.specs.Closed.{AreEarlier}
 use Rattle.crash_model.specs.Patches.{deps_of}
-use Rattle.crash_text.proofs.dependencies.dependencies.Goals as goal
+use Rattle.crash_finding.proofs.dependencies.dependencies.Goals as goal
 
 pub loop-id-preserved : goal.loop-id-preserved
 loop-id-preserved g c =

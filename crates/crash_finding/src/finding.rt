@@ -12,8 +12,8 @@ ghost use Rattle.crash_model.specs.Patches.{AreUndo, deps_of};
 ghost use Rattle.crash_model.specs.Failing.{CountsClosed, ExceedsLimit};
 ghost use Rattle.crash_model.specs.declared.settings.ReportBy.TheVariants.{ByFault};
 ghost use Rattle.fault_summary.specs.Prevented.{IsFirstPrevented};
-ghost use Rattle.crash_text.specs.Kept.{AreFound, Fails, IsCountWith};
-ghost use Rattle.crash_text.specs.Limits.{IsExplorable};
+ghost use Rattle.crash_finding.specs.Kept.{AreFound, Fails, IsCountWith};
+ghost use Rattle.crash_finding.specs.Limits.{IsExplorable};
 
 use crate::by_sweep::{swept, swept_count, swept_faults};
 use crate::crashes::Crashes;
@@ -30,7 +30,7 @@ use std::thread::Threads;
 
 /// How many sets a crash can leave, how many of them fail, and what else is kept of them.
 #[derive(Drop)]
-pub(crate) struct Found<A: Allocator> {
+pub struct Found<A: Allocator> {
     pub closed: usize,
     pub failing: usize,
     pub kept: Kept<A>,
@@ -39,14 +39,18 @@ pub(crate) struct Found<A: Allocator> {
 /// What is kept of the sets that fail: all of them in canonical order, each of their faults once, or no more than
 /// their number.
 #[derive(Drop)]
-pub(crate) enum Kept<A: Allocator> {
+pub enum Kept<A: Allocator> {
     Sets(Vec<u128, A>),
     Faults(Vec<FaultRow, A>),
     Number,
 }
 
 /// What the report that the settings ask for needs.
-pub(crate) fn find<R, A, G>(
+///
+/// The workers are 1 to 16, and for each number of them and every schedule the same is found. The limit is one that
+/// the explorer of the settings can reach. It fails with `TooMany` only where a crash can leave more sets than the
+/// limit, and else only when out of memory. The gate is told how far it is.
+pub fn find<R, A, G>(
     rt: &R,
     alloc: A,
     crashes: &Crashes<'_, A>,
@@ -135,7 +139,11 @@ where
 
 /// How many sets a crash can leave, how many of them fail, and the first failing one that a crash cannot leave under
 /// another graph.
-pub(crate) fn count_failing<R, A, G>(
+///
+/// The workers are 1 to 16, and the limit is one that the explorer of the settings can reach. It fails with `TooMany`
+/// only where a crash can leave more sets than the limit, and else only when out of memory. The gate is told how far
+/// it is.
+pub fn count_failing<R, A, G>(
     rt: &R,
     alloc: A,
     crashes: &Crashes<'_, A>,

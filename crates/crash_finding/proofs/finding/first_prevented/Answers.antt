@@ -3,8 +3,8 @@ use Rattle.std.proofs.lemmas.List.{take_more, take_all}
 use Rattle.std.proofs.lemmas.List.Elements.{All-push, All-contains}
 use Rattle.patch_sets.specs.Closed.{IsClosed}
 use Rattle.crash_model.specs.Patches.{deps_of}
-use Rattle.crash_text.proofs.Firsts.{first_out}
-use Rattle.crash_text.proofs.finding.first_prevented.Goals as goal
+use Rattle.crash_finding.proofs.Firsts.{first_out}
+use Rattle.crash_finding.proofs.finding.first_prevented.Goals as goal
 
 pub loop-set-preserved : goal.loop-set-preserved
 loop-set-preserved g c =

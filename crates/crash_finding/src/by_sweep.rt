@@ -11,7 +11,7 @@ ghost use Rattle.crash_model.specs.Patches.{AreUndo, deps_of};
 ghost use Rattle.crash_model.specs.Failing.{CountsClosed, ExceedsLimit};
 ghost use Rattle.crash_model.specs.Summary.{HasFault, AreRows};
 ghost use Rattle.fault_summary.specs.Prevented.{IsFirstPrevented};
-ghost use Rattle.crash_text.specs.Kept.{Fails};
+ghost use Rattle.crash_finding.specs.Kept.{Fails};
 
 use crate::crashes::Crashes;
 use crate::dependencies::dependencies;

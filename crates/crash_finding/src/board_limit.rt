@@ -1,7 +1,7 @@
 //! How large a board is opened.
 
 ghost use Rattle.std.specs.Prelude.{◌≡◌, ℕ, ◌<◌, ◌≤◌, ◌⊎◌, ◌↔◌, IsTrue};
-ghost use Rattle.crash_text.specs.Primes.{IsPrime};
+ghost use Rattle.crash_finding.specs.Primes.{IsPrime};
 
 /// The limit of a board for so many sets, of which a run allows `limit`.
 ///

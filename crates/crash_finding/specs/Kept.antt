@@ -12,10 +12,10 @@ use Rattle.crash_model.specs.declared.settings.Settings.{Settings}
 use Rattle.crash_model.specs.declared.settings.ReportBy.TheVariants.{BySet, ByFault, ByRule}
 use Rattle.fault_summary.specs.Prevented.{IsFirstPrevented}
 use Rattle.fault_summary.specs.declared.count.FailingCount.{FailingCount}
-use Rattle.crash_text.specs.declared.crashes.Crashes.{Crashes}
-use Rattle.crash_text.specs.declared.finding.Found.{Found}
-use Rattle.crash_text.specs.declared.finding.Kept.{Kept}
-use Rattle.crash_text.specs.declared.finding.Kept.TheVariants.{Sets, Faults, Number}
+use Rattle.crash_finding.specs.declared.crashes.Crashes.{Crashes}
+use Rattle.crash_finding.specs.declared.finding.Found.{Found}
+use Rattle.crash_finding.specs.declared.finding.Kept.{Kept}
+use Rattle.crash_finding.specs.declared.finding.Kept.TheVariants.{Sets, Faults, Number}
 
 -- a crash can leave the set, and it fails
 abbrev pub Fails : {A : Type 0} → Crashes A → ℕ → Type 0

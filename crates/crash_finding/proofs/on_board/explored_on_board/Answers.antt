@@ -6,7 +6,7 @@ use Rattle.patch_sets.specs.Closed.{IsClosed}
 use Rattle.crash_model.specs.Patches.{deps_of}
 use Rattle.crash_model.specs.Failing.{CountsClosed, ExceedsLimit}
 use Rattle.crash_model.specs.Strict.{IsFailingUnder}
-use Rattle.crash_text.proofs.on_board.explored_on_board.Goals as goal
+use Rattle.crash_finding.proofs.on_board.explored_on_board.Goals as goal
 
 pub returns-in-Ok-clause-total : goal.returns-in-Ok-clause-total
 returns-in-Ok-clause-total g c =

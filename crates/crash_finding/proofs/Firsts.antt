@@ -1,5 +1,5 @@
 -- The first set of a list that a graph prevents.
-use Rattle.std.proofs.Common.{◌≡◌, ℕ, ◌<◌, List, length, get_or, take, All, arith, sym, subst, ap, ◌∙◌, length-take}
+use Rattle.std.proofs.Common.{ℕ, ◌<◌, List, length, get_or, take, All, arith, sym, subst, ap, ◌∙◌, length-take}
 use Rattle.std.specs.List.{AllPairs, Contains}
 use Rattle.std.proofs.lemmas.List.{get_or-take, get_or_default}
 use Rattle.std.proofs.lemmas.List.Elements.{Contains-get_or}

@@ -5,7 +5,7 @@ ghost use Rattle.std.specs.List.{All};
 ghost use Rattle.patch_sets.specs.Sets.{AreAllInOrder};
 ghost use Rattle.crash_model.specs.Patches.{AreUndo};
 ghost use Rattle.crash_model.specs.Failing.{CountsClosed, ExceedsLimit};
-ghost use Rattle.crash_text.specs.Kept.{Fails};
+ghost use Rattle.crash_finding.specs.Kept.{Fails};
 
 use crate::board_limit::board_limit;
 use crate::crashes::Crashes;
