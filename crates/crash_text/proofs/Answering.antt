@@ -1,9 +1,8 @@
 -- What the parts of a run find makes its answer.
-use Rattle.std.proofs.Common.{◌≡◌, ℕ, List, subst, sym, inl, inr}
+use Rattle.std.proofs.Common.{ℕ, List, subst, sym, inl, inr}
 use Rattle.crash_model.specs.Answer.{Refused, Reported, HasBase, IsAnswer, bad_geometry, bad_base, bad_trace, too_many, reported}
 use Rattle.crash_model.specs.Disk.{Disk}
 use Rattle.crash_model.specs.Script.{IsScript}
-use Rattle.crash_model.specs.declared.patches.Patch.{Patch}
 use Rattle.crash_model.specs.declared.refusals.RunFault.{RunFault}
 use Rattle.crash_model.specs.declared.settings.Settings.{Settings}
 use Rattle.crash_model.specs.declared.steps.Step.{Step}

@@ -1,11 +1,11 @@
 -- What the body of a run's report tells.
-use Rattle.std.proofs.Common.{◌≡◌, ℕ, ◌<◌, Bor, List, Option, ◌++◌, length, get_or, map, All, refl, sym, subst, ap, ◌∙◌, arith}
+use Rattle.std.proofs.Common.{◌≡◌, ℕ, Bor, List, Option, length, map, All, refl, sym, subst, ap, ◌∙◌, arith}
 use Rattle.std.proofs.Math.ListN.{get_or-map}
 use Rattle.std.proofs.lemmas.List.{length-map}
 use Rattle.std.proofs.lemmas.Simd.{map-map}
 use Rattle.std.proofs.lemmas.List.Elements.{All-map}
 use Rattle.patch_sets.specs.Closed.{IsClosed}
-use Rattle.patch_sets.specs.Sets.{Has, AreAllInOrder}
+use Rattle.patch_sets.specs.Sets.{AreAllInOrder}
 use Rattle.patch_sets.proofs.Canonical.{one_list}
 use Rattle.crash_model.specs.Answer.{detail_of, ordering_rules, IsBody, IsReport}
 use Rattle.crash_model.specs.Disk.{Disk}
@@ -15,7 +15,7 @@ use Rattle.crash_model.specs.Lists.{when}
 use Rattle.crash_model.specs.Needs.{ToldRule, AreToldRules}
 use Rattle.crash_model.specs.Patches.{deps_of}
 use Rattle.crash_model.specs.Report.{Section, AreSections, IsLed}
-use Rattle.crash_model.specs.Summary.{HasFault, IsRow, AreRows, ToldFault, AreToldFaults}
+use Rattle.crash_model.specs.Summary.{HasFault, AreRows, ToldFault, AreToldFaults}
 use Rattle.crash_model.specs.Trace.{Tracing}
 use Rattle.crash_model.specs.Whole.{Body, Sets, Faults, Rules, Report, report}
 use Rattle.crash_model.specs.declared.fault.FaultRow.{FaultRow}

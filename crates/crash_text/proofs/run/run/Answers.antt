@@ -1,6 +1,6 @@
 use Rattle.std.proofs.Common.{rules, ◌≡◌, ◌≢◌, Ok, Err, IfErr, ap, subst, sym}
 use Rattle.std.specs.Prelude.{string_bytes}
-use Rattle.crash_model.specs.Answer.{Refused, Reported, HasBase, IsAnswer, bad_script}
+use Rattle.crash_model.specs.Answer.{Refused, HasBase, IsAnswer, bad_script}
 use Rattle.crash_model.specs.Disk.{empty_disk}
 use Rattle.crash_model.specs.Refusals.{run_of_script}
 use Rattle.crash_model.specs.Trace.{base_from}
