@@ -17,12 +17,12 @@ use crate::finding::Found;
 use crash_model::fault::FaultRow;
 use crash_model::settings::{Detail, Settings};
 use disk_image::Image;
-use traced_patches::Traced;
 use report_json::report_json;
 use report_sections::{Body, Report, ToldRule};
 use report_text::report_text;
 use std::alloc::{AllocError, Allocator, Global};
 use std::thread::Threads;
+use traced_patches::Traced;
 
 /// What was found of the patches that were traced over a base, by the checker that is told of these kept inodes or of
 /// none.

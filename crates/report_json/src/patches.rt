@@ -21,9 +21,9 @@ use crate::values::hex_value;
 use crash_model::operations::Op;
 use crash_model::patches::Patch;
 use disk_image::Image;
-use traced_patches::{Label, Reason, Traced};
 use serde_json::{Value, json};
 use std::alloc::{AllocError, Allocator, Global};
+use traced_patches::{Label, Reason, Traced};
 
 /// The key `base` with the bytes of each block, and a comma behind it.
 pub(crate) fn write_base<A: Allocator + Copy>(

@@ -4,8 +4,8 @@ use crate::rules::ToldRule;
 use crash_model::fault::FaultRow;
 use crash_model::settings::{Detail, Settings};
 use disk_image::Image;
-use traced_patches::Traced;
 use std::alloc::Allocator;
+use traced_patches::Traced;
 
 /// What stands behind a report's head: the failing sets, each fault with its row, or what is told of each rule.
 #[derive(Clone, Copy)]

@@ -10,8 +10,8 @@ ghost use Rattle.traced_patches.specs.Traced.{told_at, dependency_at};
 ghost use Rattle.report_text.specs.Patches.{patch_line, gap_before};
 
 use crash_model::patches::Patch;
-use traced_patches::{Label, Reason, Traced};
 use std::alloc::{AllocError, Allocator};
+use traced_patches::{Label, Reason, Traced};
 
 /// The lines of each patch: what it is, and for each earlier patch that it depends on one that says why.
 pub(crate) fn write_patches<A: Allocator, B: Allocator + Copy>(
