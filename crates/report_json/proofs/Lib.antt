@@ -1,10 +1,5 @@
 pub mod Below
-pub mod Bytes
-pub mod RuleBytes
 pub mod Commas
-pub mod Ids
 pub mod JoinedParts
 pub mod PatchBytes
-pub mod Replays
 pub mod Reports
-pub mod ToldFaults

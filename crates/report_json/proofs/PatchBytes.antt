@@ -32,10 +32,10 @@ use Rattle.crash_model.specs.declared.rules.Scope.TheVariants.{Same, Previous}
 use Rattle.crash_model.specs.declared.rules.Rule.{Rule}
 use Rattle.crash_model.specs.declared.steps.Act.TheVariants.{Do}
 use Rattle.traced_patches.specs.Traced.{TracedPatches, told_at, dependency_at}
-use Rattle.report_json.specs.JsonReport.{IsWritten}
+use Rattle.json_values.specs.Written.{IsWritten}
 use Rattle.report_json.specs.Patches.{texts_data, dependency_data, dependencies_data, patch_data, told_data, IsPlainPatch}
-use Rattle.report_json.specs.Values.{hex_data}
-use Rattle.report_json.proofs.Bytes.{IsPlain, plain-append, string_bytes, array_bytes_of, hex_bytes, none_float}
+use Rattle.json_values.specs.Values.{hex_data}
+use Rattle.json_values.proofs.Bytes.{IsPlain, plain-append, string_bytes, array_bytes_of, hex_bytes, none_float}
 
 -- ---- words
 

@@ -1,9 +1,7 @@
 -- Reports as JSON.
-use Rattle.std.specs.Prelude.{◌≡◌, ℕ, zero, suc, List, [], ◌++◌, length, map, if◌then◌else◌, Bool, false, codes, decimal}
+use Rattle.std.specs.Prelude.{◌≡◌, ℕ, zero, suc, List, [], ◌++◌, length, map, if◌then◌else◌, Bool, codes, decimal}
 use Rattle.crash_model.specs.Lists.{join_of}
 use Rattle.crash_model.specs.Disk.{Disk}
-use Rattle.serde_json.specs.Data.{Data}
-use Rattle.serde_json.specs.Written.{compact_text, has_float}
 use Rattle.crash_model.specs.Explain.{blocks_of, hex_json, told_patches, told_json}
 use Rattle.crash_model.specs.Report.{Section, AreSections, json_array, module_text, section_json}
 use Rattle.crash_model.specs.Summary.{ToldFault, told_fault_json}
@@ -19,11 +17,6 @@ use Rattle.report_sections.specs.Bodies.{TellsBody}
 use Rattle.report_sections.specs.ToldRules.{told_rule}
 use Rattle.report_sections.specs.declared.report.Report.{Report}
 use Rattle.report_sections.specs.declared.rules.ToldRule.{ToldRule}
-
--- a value that is written so
-pub record IsWritten (value : Data) (text : List ℕ) : Type 0 where
-  pub whole : compact_text value ≡ text
-  pub plain : has_float value ≡ false
 
 -- the keys that explain: the base and the patches
 abbrev pub base_key : Disk → List ℕ

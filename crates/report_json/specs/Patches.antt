@@ -8,7 +8,7 @@ use Rattle.crash_model.specs.Rules.{part_text}
 use Rattle.crash_model.specs.Script.{IsAct}
 use Rattle.crash_model.specs.Trace.{Emitted}
 use Rattle.crash_model.specs.declared.steps.Act.TheVariants.{Do}
-use Rattle.report_json.specs.Values.{number_data, hex_data}
+use Rattle.json_values.specs.Values.{number_data, hex_data}
 
 abbrev pub texts_data : List (List ℕ) → Data
 texts_data texts = array (items_of (map string texts))

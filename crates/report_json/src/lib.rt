@@ -6,8 +6,5 @@ mod items;
 mod parts;
 mod patches;
 pub mod report;
-mod rules;
-mod summary;
-mod values;
 
 pub use report::report_json;

@@ -1,0 +1,4 @@
+pub mod RuleValues
+pub mod ToldFaults
+pub mod Values
+pub mod Written

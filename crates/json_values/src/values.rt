@@ -1,0 +1,141 @@
+//! JSON values of the parts of a section.
+
+ghost use Rattle.std.specs.Prelude.{◌≡◌, Some, None, map, IfOk, OnOk};
+ghost use Rattle.std.specs.List.{All};
+ghost use Rattle.crash_model.specs.Report.{section_json};
+ghost use Rattle.hex.specs.Hex.{IsBytes};
+ghost use Rattle.serde_json.specs.View.{view};
+ghost use Rattle.report_sections.specs.Replay.{told_block};
+ghost use Rattle.report_sections.specs.Sections.{section_of};
+ghost use Rattle.json_values.specs.Written.{IsWritten};
+ghost use Rattle.json_values.specs.Values.{set_data, ids_data, write_data, writes_data, faults_data, hex_data, replayed_data, replay_data};
+
+use crash_model::fault::Fault;
+use patch_sets::iter::Ids;
+use patch_sets::write::BlockWrite;
+use report_sections::{ReplayedBlock, Section};
+use serde_json::{Value, json};
+use std::alloc::{AllocError, Allocator, Global};
+
+/// A failing set of a graph with `patches` patches, as it was made a section. It fails only when out of memory.
+pub fn section_value<A: Allocator>(
+    heap: Global,
+    patches: usize,
+    section: &Section<A>,
+) -> Result<Value, AllocError>
+    ensures { IfOk result (λ value. IsWritten (view value) (section_json patches (section_of section.now))) }
+{
+    match &section.replay {
+        None => plain_section(heap, patches, section),
+        Some(replay) => explained_section(heap, patches, section, replay),
+    }
+}
+
+/// A failing set, without what replay changes.
+fn plain_section<A: Allocator>(
+    heap: Global,
+    patches: usize,
+    section: &Section<A>,
+) -> Result<Value, AllocError>
+    ensures { IfOk result (λ value.
+        view value ≡ set_data patches section.now.set section.now.writes.items section.now.faults.items None) }
+{
+    json!(in heap; {
+        "faults": faults_value(heap, &section.faults)?,
+        "set": ids_value(heap, patches, section.set)?,
+        "writes": writes_value(heap, patches, &section.writes)?
+    })
+}
+
+/// A failing set, with the blocks that replay changes.
+fn explained_section<A: Allocator>(
+    heap: Global,
+    patches: usize,
+    section: &Section<A>,
+    replay: &[ReplayedBlock],
+) -> Result<Value, AllocError>
+    ensures value { IfOk result (λ value.
+        view value ≡ set_data patches section.now.set section.now.writes.items section.now.faults.items
+        (Some (map told_block replay.now))) }
+    ensures bytes { OnOk result (All (λ r. IsBytes r.bytes) (map told_block replay.now)) }
+{
+    json!(in heap; {
+        "faults": faults_value(heap, &section.faults)?,
+        "replay": replay_value(heap, replay)?,
+        "set": ids_value(heap, patches, section.set)?,
+        "writes": writes_value(heap, patches, &section.writes)?
+    })
+}
+
+/// The blocks that replay changes.
+pub(crate) fn replay_value(heap: Global, replay: &[ReplayedBlock]) -> Result<Value, AllocError>
+    ensures value { IfOk result (λ value. view value ≡ replay_data (map told_block replay.now)) }
+    ensures bytes { OnOk result (All (λ r. IsBytes r.bytes) (map told_block replay.now)) }
+{
+    let mut blocks = Vec::new(heap);
+    for replayed in replay {
+        blocks.push(replayed_value(heap, replayed)?)?;
+    }
+    Ok(Value::Array(blocks))
+}
+
+/// A block that replay changes, and its bytes after replay.
+fn replayed_value(heap: Global, replayed: &ReplayedBlock) -> Result<Value, AllocError>
+    ensures value { IfOk result (λ value. view value ≡ replayed_data (told_block replayed.now)) }
+    ensures bytes { IsBytes replayed.now.bytes }
+{
+    let bytes = hex_value(heap, replayed.bytes.as_slice())?;
+    json!(in heap; {"block": replayed.block, "bytes": bytes})
+}
+
+/// Bytes as two hexadecimal digits each. It fails only when out of memory.
+pub fn hex_value(heap: Global, bytes: &[u8]) -> Result<Value, AllocError>
+    ensures value { IfOk result (λ value. view value ≡ hex_data bytes.now) }
+    ensures bytes { IsBytes bytes.now }
+{
+    Ok(Value::String(hex::encode(heap, bytes)?))
+}
+
+/// The texts of the faults.
+fn faults_value(heap: Global, faults: &[Fault]) -> Result<Value, AllocError>
+    ensures { IfOk result (λ value. view value ≡ faults_data faults.now) }
+{
+    let mut texts = Vec::with_capacity(heap, faults.len())?;
+    for fault in faults {
+        texts.push(Value::String(fault.to_string(heap)?))?;
+    }
+    Ok(Value::Array(texts))
+}
+
+pub(crate) fn writes_value(
+    heap: Global,
+    patches: usize,
+    writes: &[BlockWrite],
+) -> Result<Value, AllocError>
+    ensures { IfOk result (λ value. view value ≡ writes_data patches writes.now) }
+{
+    let mut values = Vec::with_capacity(heap, writes.len())?;
+    for write in writes {
+        values.push(write_value(heap, patches, *write)?)?;
+    }
+    Ok(Value::Array(values))
+}
+
+/// A block write: its block, and the ids of its patches.
+fn write_value(heap: Global, patches: usize, write: BlockWrite) -> Result<Value, AllocError>
+    ensures { IfOk result (λ value. view value ≡ write_data patches write) }
+{
+    let ids = ids_value(heap, patches, write.ids)?;
+    json!(in heap; {"block": write.block, "patches": ids})
+}
+
+/// The ids of the set, ascending.
+pub(crate) fn ids_value(heap: Global, patches: usize, set: u128) -> Result<Value, AllocError>
+    ensures { IfOk result (λ value. view value ≡ ids_data patches set) }
+{
+    let mut ids = Vec::with_capacity(heap, set.count_ones() as usize)?;
+    for id in Ids::below(set, patches) {
+        ids.push(Value::from(id))?;
+    }
+    Ok(Value::Array(ids))
+}
