@@ -6,7 +6,7 @@ ghost use Rattle.test_board.specs.Worker.{IsAt, IsIdle};
 
 use crate::traces::trace_of_asked;
 use crash_image::PatchSpace;
-use seen_board::{Board, BoardSeat, Got, Life, Place, Put};
+use seen_board::{Board, BoardSeat, Contents, Got, Life, Place, Put};
 use state_space::Space;
 use std::alloc::Global;
 use std::process::Abort;
@@ -20,6 +20,12 @@ const START: Place = Place { shard: 0, at: 0 };
 
 /// Where the set of patch 0, which is the word 1, comes to stand.
 const FIRST: Place = Place { shard: 1, at: 0 };
+
+/// Where the set of patch 1 comes to stand.
+const SECOND: Place = Place { shard: 2, at: 0 };
+
+/// Where the set of both patches comes to stand.
+const BOTH: Place = Place { shard: 3, at: 0 };
 
 /// Puts in the first successor of the empty set, which the seat has claimed.
 fn put_first<S: Space>(
@@ -46,12 +52,35 @@ fn find_first<S: Space>(rt: &impl Abort, board: &Board<S, Global>, space: &S, se
     ensures board { IsOf board.now seat.new × (seat.new.right ≡ 0) }
     ensures claim { HasClaim seat.new START × HasPlace seat.new.seen START }
 {
-    assert_eq!(rt; board.find(seat, 0), Some(START));
-    assert_eq!(rt; board.find(seat, 1), None);
+    assert!(rt; board.find(seat, 0) == Some(START));
+    assert!(rt; board.find(seat, 1) == None);
     assert!(rt; seat.has_seen(START));
     assert!(rt; put_first(rt, board, space, seat) == Put::New(FIRST));
-    assert_eq!(rt; board.find(seat, 1), Some(FIRST));
+    assert!(rt; board.find(seat, 1) == Some(FIRST));
     assert!(rt; seat.has_seen(START));
+}
+
+/// While another seat writes the shard of the set of patch 0, this one gets no right there.
+fn gets_no_right<S: Space>(rt: &impl Abort, board: &Board<S, Global>, seat: &mut BoardSeat)
+    requires board { IsOf board.now seat.old }
+    requires free { seat.old.right ≡ 0 }
+    ensures same { seat.new ≡ seat.old }
+{
+    assert!(rt; board.try_read(seat, FIRST.shard) == Got::Busy);
+    assert!(rt; board.try_write(seat, FIRST.shard) == Got::Busy);
+}
+
+/// The set of patch 0 is found and known, without a right.
+fn knows_first<S: Space>(rt: &impl Abort, board: &Board<S, Global>, space: &S, seat: &mut BoardSeat)
+    requires board { IsOf board.now seat.old × (board.now.space ≡ space.now) }
+    requires free { seat.old.right ≡ 0 }
+    requires claim { HasClaim seat.old START × HasPlace seat.old.seen START }
+    ensures board { IsOf board.now seat.new × (seat.new.right ≡ 0) }
+    ensures claim { HasClaim seat.new START }
+{
+    assert!(rt; board.find(seat, 1) == Some(FIRST));
+    assert!(rt; seat.has_seen(START));
+    assert!(rt; put_first(rt, board, space, seat) == Put::Known(FIRST));
 }
 
 /// While another seat writes the shard of the set of patch 0, this one gets no right there, and finds the set without
@@ -70,14 +99,24 @@ fn meet_a_writer<S: Space>(
 {
     let mut other = board.split(seat);
     assert!(rt; board.try_write(&mut other, FIRST.shard) == Got::Right);
-    assert!(rt; board.try_read(seat, FIRST.shard) == Got::Busy);
-    assert!(rt; board.try_write(seat, FIRST.shard) == Got::Busy);
-    assert_eq!(rt; board.find(seat, 1), Some(FIRST));
-    assert!(rt; seat.has_seen(START));
-    assert!(rt; put_first(rt, board, space, seat) == Put::Known(FIRST));
+    gets_no_right(rt, board, seat);
+    knows_first(rt, board, space, seat);
     board.give(&mut other, FIRST.shard);
     board.join(seat, other);
     assert!(rt; seat.has_seen(START));
+}
+
+/// Claims the empty set, and puts its first successor in.
+fn claim_start<S: Space>(rt: &impl Abort, board: &Board<S, Global>, space: &S, seat: &mut BoardSeat)
+    requires board { IsIdle board.now seat.old × (board.now.space ≡ space.now) }
+    requires seen { HasPlace seat.old.seen START }
+    ensures board { IsOf board.now seat.new × (seat.new.right ≡ 0) }
+    ensures claim { HasClaim seat.new START × HasPlace seat.new.seen START }
+{
+    assert!(rt; board.claim(seat, START));
+    find_first(rt, board, space, seat);
+    assert!(rt; put_first(rt, board, space, seat) == Put::Known(FIRST));
+    meet_a_writer(rt, board, space, seat);
 }
 
 /// Claims an entry before the end has come, expands it and settles it.
@@ -100,29 +139,57 @@ fn settle_entry<S: Space, R: Abort + Wait>(
     assert!(rt; matches!(expand(rt, board, space, scratch, seat, place), Ok(true)));
 }
 
+/// Settles the empty set, which the seat has claimed before the end has come, and then the other three.
+fn settle_four<S: Space, R: Abort + Wait>(
+    rt: &R,
+    board: &Board<S, Global>,
+    space: &S,
+    scratch: &mut S::Scratch,
+    seat: &mut BoardSeat,
+)
+    requires board { IsOf board.now seat.old × (board.now.space ≡ space.now) }
+    requires free { seat.old.right ≡ 0 }
+    requires claim { HasClaim seat.old START × HasPlace seat.old.seen START }
+    requires own { S.is_own space.now scratch.old }
+    ensures idle { IsIdle board.now seat.new }
+{
+    assert!(rt; !board.finished(seat));
+    assert!(rt; matches!(expand(rt, board, space, scratch, seat, START), Ok(true)));
+    settle_entry(rt, board, space, scratch, seat, FIRST);
+    settle_entry(rt, board, space, scratch, seat, SECOND);
+    settle_entry(rt, board, space, scratch, seat, BOTH);
+    assert!(rt; board.finished(seat));
+}
+
+/// Whether the set of patch 1 alone was found broken, and the set of both good.
+fn are_settled(contents: &Contents<Global>) -> bool {
+    contents.len(2) == 1
+        && contents.len(3) == 1
+        && contents.word(SECOND) == 2
+        && contents.word(BOTH) == 3
+        && contents.life(SECOND) == Life::Broken
+        && contents.life(BOTH) == Life::Clean
+}
+
+/// Explores a space of four sets, whose start is the empty set, with one seat.
+fn explores<S: Space, R: Abort + Wait + AllocGlobal>(
+    rt: &R,
+    space: &S,
+    scratch: &mut S::Scratch,
+) -> Result<(), Fail>
+    requires own { S.is_own space.now scratch.old }
+{
+    let (board, mut seat, _) = Board::open(rt.alloc(), space, 4)?;
+    assert!(rt; seat.has_seen(START));
+    claim_start(rt, &board, space, &mut seat);
+    settle_four(rt, &board, space, scratch, &mut seat);
+    assert!(rt; are_settled(&board.close(seat)));
+    Ok(())
+}
+
 #[test]
 fn the_end_comes_with_the_last_of_four_entries(rt: HostRuntime) -> Result<(), Fail> {
     let script = trace_of_asked(rt.alloc(), &CREATE)?;
     let space = PatchSpace::new(&script.base, &script.graph, None);
-    let mut scratch = space.scratch()?;
-    let (board, mut seat, _) = Board::open(rt.alloc(), &space, 4)?;
-    assert!(rt; board.claim(&mut seat, START));
-    find_first(&rt, &board, &space, &mut seat);
-    assert!(rt; put_first(&rt, &board, &space, &mut seat) == Put::Known(FIRST));
-    meet_a_writer(&rt, &board, &space, &mut seat);
-    assert!(rt; !board.finished(&mut seat));
-    let within = expand(&rt, &board, &space, &mut scratch, &mut seat, START);
-    assert!(rt; matches!(within, Ok(true)));
-    settle_entry(&rt, &board, &space, &mut scratch, &mut seat, FIRST);
-    let second = Place { shard: 2, at: 0 };
-    settle_entry(&rt, &board, &space, &mut scratch, &mut seat, second);
-    let both = Place { shard: 3, at: 0 };
-    settle_entry(&rt, &board, &space, &mut scratch, &mut seat, both);
-    assert!(rt; board.finished(&mut seat));
-    let contents = board.close(seat);
-    assert!(rt; contents.len(2) == 1 && contents.len(3) == 1);
-    assert_eq!(rt; (contents.word(second), contents.word(both)), (2, 3));
-    assert_eq!(rt; contents.life(second), Life::Broken);
-    assert_eq!(rt; contents.life(both), Life::Clean);
-    Ok(())
+    explores(&rt, &space, &mut space.scratch()?)
 }

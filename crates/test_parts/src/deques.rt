@@ -42,64 +42,74 @@ fn steal(hands: &mut Hands, at: usize, from: usize) -> Option<u8>
 fn first_is_stolen_and_last_is_popped(rt: HostRuntime) -> Result<(), Fail> {
     let mut hands: Hands = hands(rt.alloc(), 2)?;
     for task in 1..5u8 {
-        assert_eq!(rt; push(&mut hands, 0, task), Ok(()));
+        assert!(rt; push(&mut hands, 0, task) == Ok(()));
     }
-    assert_eq!(rt; steal(&mut hands, 1, 0), Some(1));
-    assert_eq!(rt; pop(&mut hands, 0), Some(4));
-    assert_eq!(rt; pop(&mut hands, 0), Some(3));
-    assert_eq!(rt; pop(&mut hands, 0), Some(2));
-    assert_eq!(rt; pop(&mut hands, 0), None);
-    assert_eq!(rt; steal(&mut hands, 1, 0), None);
+    let got = [
+        steal(&mut hands, 1, 0),
+        pop(&mut hands, 0),
+        pop(&mut hands, 0),
+        pop(&mut hands, 0),
+        pop(&mut hands, 0),
+        steal(&mut hands, 1, 0),
+    ];
+    assert!(rt; got == [Some(1), Some(4), Some(3), Some(2), None, None]);
     Ok(())
 }
 
 #[test]
 fn what_is_left_is_told_once_all_hands_are_back(rt: HostRuntime) -> Result<(), Fail> {
     let mut hands: Hands = hands(rt.alloc(), 2)?;
-    assert_eq!(rt; push(&mut hands, 0, 1), Ok(()));
-    assert_eq!(rt; push(&mut hands, 0, 2), Ok(()));
-    assert_eq!(rt; push(&mut hands, 0, 3), Ok(()));
-    assert_eq!(rt; push(&mut hands, 0, 4), Ok(()));
-    assert_eq!(rt; push(&mut hands, 1, 5), Ok(()));
-    assert_eq!(rt; steal(&mut hands, 1, 0), Some(1));
-    assert_eq!(rt; pop(&mut hands, 0), Some(4));
-    assert_eq!(rt; tasks_left(hands, 0), 2);
+    let pushed = [
+        push(&mut hands, 0, 1),
+        push(&mut hands, 0, 2),
+        push(&mut hands, 0, 3),
+        push(&mut hands, 0, 4),
+        push(&mut hands, 1, 5),
+    ];
+    let got = [steal(&mut hands, 1, 0), pop(&mut hands, 0)];
+    let left = tasks_left(hands, 0);
+    assert!(rt; pushed == [Ok(()); 5] && got == [Some(1), Some(4)] && left == 2);
     Ok(())
 }
 
 #[test]
 fn one_worker_alone(rt: HostRuntime) -> Result<(), Fail> {
     let mut hands: Hands = hands(rt.alloc(), 1)?;
-    assert_eq!(rt; hands.len(), 1);
-    assert_eq!(rt; push(&mut hands, 0, 7), Ok(()));
-    assert_eq!(rt; pop(&mut hands, 0), Some(7));
-    assert_eq!(rt; pop(&mut hands, 0), None);
+    assert!(rt; hands.len() == 1 && push(&mut hands, 0, 7) == Ok(()));
+    let got = [pop(&mut hands, 0), pop(&mut hands, 0)];
+    assert!(rt; got == [Some(7), None]);
     Ok(())
 }
 
 #[test]
 fn sixteen_workers_steal_from_the_first(rt: HostRuntime) -> Result<(), Fail> {
     let mut hands: Hands = hands(rt.alloc(), 16)?;
-    assert_eq!(rt; hands.len(), 16);
+    assert!(rt; hands.len() == 16);
     for task in 1..16u8 {
-        assert_eq!(rt; push(&mut hands, 0, task), Ok(()));
+        assert!(rt; push(&mut hands, 0, task) == Ok(()));
     }
     for thief in 1..16 {
-        assert_eq!(rt; steal(&mut hands, thief, 0), Some(thief as u8));
+        assert!(rt; steal(&mut hands, thief, 0) == Some(thief as u8));
     }
-    assert_eq!(rt; pop(&mut hands, 0), None);
+    assert!(rt; pop(&mut hands, 0) == None);
     Ok(())
+}
+
+/// How many of four hands are made in a heap of this size, unless it wants memory.
+fn made_in(alloc: Global, size: usize) -> Result<Option<usize>, Fail> {
+    let heap = LocalHeap::new(alloc, size)?;
+    let made: Result<Vec<Hand<u8, &LocalHeap>, &LocalHeap>, AllocError> = hands(&heap, 4);
+    match made {
+        Ok(hands) => Ok(Some(hands.len())),
+        Err(_) => Ok(None),
+    }
 }
 
 #[test]
 fn want_of_memory_is_told(rt: HostRuntime) -> Result<(), Fail> {
     for size in [32, 1024, 4096, 8192] {
-        let small = LocalHeap::new(rt.alloc(), size)?;
-        let refused: Result<Vec<Hand<u8, &LocalHeap>, &LocalHeap>, AllocError> = hands(&small, 4);
-        assert!(rt; refused.is_err());
+        assert!(rt; made_in(rt.alloc(), size)? == None);
     }
-    let large = LocalHeap::new(rt.alloc(), 1 << 20)?;
-    let made: Vec<Hand<u8, &LocalHeap>, &LocalHeap> = hands(&large, 4)?;
-    assert_eq!(rt; made.len(), 4);
+    assert!(rt; made_in(rt.alloc(), 1 << 20)? == Some(4));
     Ok(())
 }

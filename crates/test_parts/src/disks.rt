@@ -1,108 +1,154 @@
 //! The bytes of a formatted disk, and what is read of a disk.
 
+ghost use Rattle.std.specs.Prelude.{◌≡◌};
+
+use crate::moves::are_equal;
+use crate::texts::each_writes;
 use disk_image::{Image, ImageFault};
+use std::alloc::Global;
+use std::process::Abort;
 use std::test::Fail;
 
-/// The bytes of a formatted disk of 16 blocks with no journal.
-fn least_disk() -> [u8; 2048] {
-    let mut bytes = [0; 2048];
-    bytes[..3].copy_from_slice(&[0x53, 0x10, 0x00]);
-    bytes[128..133].copy_from_slice(&[1, 1, 1, 1, 1]);
-    bytes[256..264].copy_from_slice(&[2, 1, 0, 0, 4, 0, 0, 0]);
-    bytes[512..514].copy_from_slice(&[0x44, 0x00]);
-    bytes
+/// The first bytes of a block of a formatted disk of 16 blocks with no journal. Zeros follow.
+fn head_of(block: usize) -> &'static [u8] {
+    match block {
+        0 => &[0x53, 0x10, 0x00],
+        1 => &[1, 1, 1, 1, 1],
+        2 => &[2, 1, 0, 0, 4, 0, 0, 0],
+        4 => &[0x44, 0x00],
+        _ => &[],
+    }
+}
+
+/// Whether a block has these bytes and then zeros.
+fn has_head(block: &[u8], head: &[u8]) -> bool {
+    match block.strip_prefix(head) {
+        Some(rest) => block.len() == 128 && rest.iter().all(|b| *b == 0),
+        None => false,
+    }
+}
+
+/// Whether an image has the bytes of a formatted disk of 16 blocks with no journal.
+fn is_least_disk(image: &Image<Global>) -> bool {
+    for block in 0..16usize {
+        if block >= image.blocks() || !has_head(image.block(block), head_of(block)) {
+            return false;
+        }
+    }
+    image.blocks() == 16 && image.journal() == 0
 }
 
 #[test]
 fn formats_a_disk(rt: HostRuntime) -> Result<(), Fail> {
-    let image = Image::formatted(rt.alloc(), 16, 0)?;
-    assert_eq!(rt; (image.blocks(), image.journal()), (16, 0));
-    let bytes = least_disk();
-    for block in 0..16usize {
-        assert!(rt; block < image.blocks());
-        assert_eq!(rt;
-            image.block(block),
-            &bytes[128 * block..128 * block + 128],
-            "block {block}"
-        );
-    }
+    assert!(rt; is_least_disk(&Image::formatted(rt.alloc(), 16, 0)?));
     Ok(())
 }
+
+/// Whether a disk of so many blocks is made or not, as its geometry is good or not.
+fn is_made_if(is_good: bool, alloc: Global, blocks: usize, journal: usize) -> bool {
+    match Image::formatted(alloc, blocks, journal) {
+        Ok(_) => is_good,
+        Err(fault) => !is_good && fault == ImageFault::BadGeometry,
+    }
+}
+
+const GEOMETRIES: [(usize, usize, bool); 9] = [
+    (15, 0, false),
+    (16, 0, true),
+    (16, 10, true),
+    (16, 11, false),
+    (128, 122, true),
+    (128, 123, false),
+    (129, 0, false),
+    (0, 0, false),
+    (16, usize::MAX, false),
+];
+
+const FAULTS: [(ImageFault, &str); 2] = [
+    (ImageFault::BadGeometry, "1 bad geometry"),
+    (ImageFault::OutOfMemory, "99 out of memory"),
+];
 
 #[test]
 fn refuses_a_bad_geometry(rt: HostRuntime) -> Result<(), Fail> {
-    for (blocks, journal, is_good) in [
-        (15, 0, false),
-        (16, 0, true),
-        (16, 10, true),
-        (16, 11, false),
-        (128, 122, true),
-        (128, 123, false),
-        (129, 0, false),
-        (0, 0, false),
-        (16, usize::MAX, false),
-    ] {
-        let made = Image::formatted(rt.alloc(), blocks, journal);
-        match made {
-            Ok(_) => assert!(rt; is_good, "{blocks} {journal}"),
-            Err(fault) => {
-                assert!(rt; !is_good, "{blocks} {journal}");
-                assert_eq!(rt; fault, ImageFault::BadGeometry);
-            }
-        }
+    for (blocks, journal, is_good) in GEOMETRIES {
+        assert!(rt;
+            is_made_if(is_good, rt.alloc(), blocks, journal),
+            "{blocks} {journal}"
+        );
     }
-    assert_eq!(rt;
-        ImageFault::BadGeometry.to_string(rt.alloc())?.as_str(),
-        "1 bad geometry"
-    );
-    assert_eq!(rt;
-        ImageFault::OutOfMemory.to_string(rt.alloc())?.as_str(),
-        "99 out of memory"
-    );
-    Ok(())
+    each_writes(&rt, &FAULTS)
 }
 
-#[test]
-fn reads_what_was_put(rt: HostRuntime) -> Result<(), Fail> {
-    // The disk after `create /a` and `write /a`.
-    let mut image = Image::formatted(rt.alloc(), 16, 0)?;
-    let base = image.try_copy()?;
-    assert!(rt; image.blocks() == 16);
+/// Puts what `create /a` and `write /a` put.
+fn put_file(image: &mut Image<Global>)
+    ensures { image.new.blocks ≡ image.old.blocks }
+{
+    let _at_least_16 = image.blocks();
     image.put(2, 16, &[1, 1]);
     image.put(4, 8, &[2, 1, 0x61]);
     image.put(1, 5, &[1]);
     image.put(5, 0, &[0x46, 1]);
     image.put(2, 20, &[5]);
-    assert_eq!(rt;
-        (
-            image.kind(1),
-            image.links(1),
-            image.pointer(1, 0),
-            image.pointer(1, 1)
-        ),
-        (1, 1, 5, 0)
-    );
-    assert_eq!(rt;
-        (image.byte(5, 0), image.byte(5, 1), image.byte(5, 2)),
-        (0x46, 1, 0)
-    );
-    assert!(rt; image.is_live(1) && !image.is_live(2) && !image.is_live(16));
-    assert!(rt; image.is_data(4) && image.is_data(15) && !image.is_data(3) && !image.is_data(16));
-    assert_eq!(rt; (image.map(5), image.map(6)), (1, 0));
-    assert!(rt; image.counts(0) && !image.counts(1));
-    assert_eq!(rt; (image.entry(0, 0), image.entry(0, 1)), (2, 0));
-    assert!(rt; image.is_spelled(0, 0, &[1, 0x61, 0, 0, 0, 0, 0, 0, 0, 0, 0]));
-    assert!(rt; !image.is_spelled(0, 0, &[1, 0x62, 0, 0, 0, 0, 0, 0, 0, 0, 0]));
-    assert_eq!(rt; (image.free_entry(0), image.free_entry(1)), (Some(1), None));
+}
+
+fn has_inode(image: &Image<Global>) -> bool {
+    image.kind(1) == 1
+        && image.links(1) == 1
+        && image.pointer(1, 0) == 5
+        && image.pointer(1, 1) == 0
+        && image.is_live(1)
+        && !image.is_live(2)
+        && !image.is_live(16)
+}
+
+fn has_blocks(image: &Image<Global>) -> bool {
+    let _at_least_16 = image.blocks();
+    image.is_data(4)
+        && image.is_data(15)
+        && !image.is_data(3)
+        && !image.is_data(16)
+        && image.map(5) == 1
+        && image.map(6) == 0
+}
+
+fn has_entry(image: &Image<Global>) -> bool {
+    image.counts(0)
+        && !image.counts(1)
+        && image.entry(0, 0) == 2
+        && image.entry(0, 1) == 0
+        && image.is_spelled(0, 0, &[1, 0x61, 0, 0, 0, 0, 0, 0, 0, 0, 0])
+        && !image.is_spelled(0, 0, &[1, 0x62, 0, 0, 0, 0, 0, 0, 0, 0, 0])
+        && image.free_entry(0) == Some(1)
+        && image.free_entry(1) == None
+}
+
+/// Whether a block begins as that of the file.
+fn is_of_file(image: &Image<Global>, block: usize) -> bool {
+    block < image.blocks()
+        && image.byte(block, 0) == 0x46
+        && image.byte(block, 1) == 1
+        && image.byte(block, 2) == 0
+}
+
+/// The image has a file once that was put, and a copy of the file's block.
+fn put_and_read(rt: &impl Abort, image: &mut Image<Global>) {
+    assert!(rt; image.blocks() == 16);
+    put_file(image);
+    assert!(rt; has_inode(image));
+    assert!(rt; has_blocks(image) && is_of_file(image, 5));
+    assert!(rt; has_entry(image));
     image.copy_block(5, 6);
-    assert_eq!(rt;
-        (image.byte(6, 0), image.byte(6, 1), image.byte(6, 2)),
-        (0x46, 1, 0)
-    );
+    assert!(rt; is_of_file(image, 6));
+}
+
+#[test]
+fn reads_what_was_put(rt: HostRuntime) -> Result<(), Fail> {
+    let mut image = Image::formatted(rt.alloc(), 16, 0)?;
+    let base = image.try_copy()?;
+    put_and_read(&rt, &mut image);
+    assert!(rt; image.blocks() == base.blocks());
     image.copy_from(&base);
-    for block in 0..16usize {
-        assert!(rt; block < image.blocks() && block < base.blocks());
-        assert_eq!(rt; image.block(block), base.block(block), "block {block}");
-    }
+    assert!(rt; are_equal(&image, &base));
     Ok(())
 }

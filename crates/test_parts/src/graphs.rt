@@ -3,9 +3,11 @@
 ghost use Rattle.std.specs.Prelude.{◌≡◌, ◌+◌, ◌<◌, ◌≤◌};
 ghost use Rattle.patch_graph.specs.Graph.{IsPatch};
 
+use crate::texts::each_writes;
 use arrayvec::ArrayVec;
 use crash_model::patches::Patch;
 use patch_graph::{BlockWrite, Graph, GraphFault, MAX_PATCHES};
+use std::alloc::Global;
 use std::test::Fail;
 
 /// A patch of one byte.
@@ -27,30 +29,72 @@ fn one_byte(block: u8, offset: u8) -> Patch
     }
 }
 
-#[test]
-fn a_name_moves(rt: HostRuntime) -> Result<(), Fail> {
-    let mut graph = Graph::new(rt.alloc());
-    for (block, offset) in [(2, 17), (4, 20), (4, 8), (2, 17)] {
+/// Blocks and offsets of patches of which the last overlaps the first.
+const MOVED: [(u8, u8); 4] = [(2, 17), (4, 20), (4, 8), (2, 17)];
+
+fn moved(alloc: Global) -> Result<Graph<Global>, Fail> {
+    let mut graph = Graph::new(alloc);
+    for (block, offset) in MOVED {
         graph.push(one_byte(block, offset))?;
     }
-    assert_eq!(rt; graph.len(), 4);
-    assert_eq!(rt; graph.patch(3).deps, 0b0001);
-    assert!(rt; graph.fits(5) && !graph.fits(4));
-    assert!(rt; graph.is_closed(0b1011) && !graph.is_closed(0b1010) && !graph.is_closed(1 << 4));
-    assert_eq!(rt; graph.ready(0), 0b0111);
-    assert!(rt; graph.is_closed(0b0001));
-    assert_eq!(rt; graph.degree(0b0001), 3);
-    assert_eq!(rt; graph.next(0b0001, 2), 0b1001);
-    assert!(rt; !graph.is_closed(0b1000));
-    assert_eq!(rt; graph.ready_count(0b1000), 3);
-    assert_eq!(rt; graph.successor(0b1000, 0), 0b1001);
-    let wanted = [(2, 0b0001), (4, 0b0010), (2, 0b1000)].map(|(block, ids)| BlockWrite {
-        block,
-        ids,
-    });
-    assert_eq!(rt; graph.writes_to(0b1011)?.as_slice(), wanted.as_slice());
+    Ok(graph)
+}
+
+fn is_moved(graph: &Graph<Global>) -> bool {
+    graph.len() == 4 && graph.patch(3).deps == 0b0001 && graph.fits(5) && !graph.fits(4)
+}
+
+/// Whether these sets are closed, and those are not.
+fn are_closed(graph: &Graph<Global>) -> bool {
+    graph.is_closed(0b1011)
+        && !graph.is_closed(0b1010)
+        && !graph.is_closed(1 << 4)
+        && graph.is_closed(0b0001)
+        && !graph.is_closed(0b1000)
+}
+
+/// Whether the patches that are ready are the successors of sets.
+fn are_ready(graph: &Graph<Global>) -> bool {
+    graph.ready(0) == 0b0111
+        && graph.is_closed(0b0001)
+        && graph.degree(0b0001) == 3
+        && graph.next(0b0001, 2) == 0b1001
+        && graph.ready_count(0b1000) == 3
+        && graph.successor(0b1000, 0) == 0b1001
+}
+
+const WRITES: &[BlockWrite] = &[
+    BlockWrite {
+        block: 2,
+        ids: 0b0001,
+    },
+    BlockWrite {
+        block: 4,
+        ids: 0b0010,
+    },
+    BlockWrite {
+        block: 2,
+        ids: 0b1000,
+    },
+];
+
+#[test]
+fn a_name_moves(rt: HostRuntime) -> Result<(), Fail> {
+    let graph = moved(rt.alloc())?;
+    assert!(rt; is_moved(&graph) && are_closed(&graph) && are_ready(&graph));
+    assert!(rt; graph.writes_to(0b1011)?.as_slice() == WRITES);
     Ok(())
 }
+
+/// Whether a graph takes no patch more.
+fn is_full(graph: &mut Graph<Global>) -> bool {
+    matches!(graph.push(one_byte(6, 0)), Err(GraphFault::TooManyPatches))
+}
+
+const FAULTS: [(GraphFault, &str); 2] = [
+    (GraphFault::TooManyPatches, "2 too many patches"),
+    (GraphFault::OutOfMemory, "99 out of memory"),
+];
 
 #[test]
 fn as_many_patches_as_a_set_names(rt: HostRuntime) -> Result<(), Fail> {
@@ -58,14 +102,6 @@ fn as_many_patches_as_a_set_names(rt: HostRuntime) -> Result<(), Fail> {
     for id in 0..MAX_PATCHES {
         graph.push(one_byte(5, id as u8))?;
     }
-    let refused = graph.push(one_byte(6, 0));
-    assert!(rt; matches!(&refused, Err(GraphFault::TooManyPatches)));
-    assert_eq!(rt; graph.len(), MAX_PATCHES);
-    for (fault, text) in [
-        (GraphFault::TooManyPatches, "2 too many patches"),
-        (GraphFault::OutOfMemory, "99 out of memory"),
-    ] {
-        assert_eq!(rt; format!(in rt.alloc(); "{fault}")?.as_str(), text);
-    }
-    Ok(())
+    assert!(rt; is_full(&mut graph) && graph.len() == MAX_PATCHES);
+    each_writes(&rt, &FAULTS)
 }

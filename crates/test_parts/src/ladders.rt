@@ -2,11 +2,15 @@
 
 ghost use Rattle.std.specs.Prelude.{◌≡◌, ◌+◌, ◌≤◌, ◌<◌, ℕ, List, [], ◌∷◌, nat_lt, if◌then◌else◌};
 
+use crate::texts::each_writes;
 use explorers::{ExploreFault, Gate, OpenGate, explore};
 use state_space::Space;
 use std::alloc::{AllocError, Global};
+use std::process::Abort;
+use std::sync::Wait;
 use std::sync::atomic::{AtomicU64, Ordering};
 use std::test::Fail;
+use std::thread::Threads;
 use test_support::gates::Meeting;
 
 #[derive(Clone, Copy)]
@@ -82,6 +86,35 @@ fn in_canonical_order(alloc: Global, first: u128, last: u128) -> Result<Vec<u128
     Ok(words)
 }
 
+/// Whether so many workers find a ladder of so many words, which is the limit too, with these broken words.
+fn is_found<R: Threads + Wait + AllocGlobal + Sync>(
+    rt: &R,
+    ladder: &Ladder,
+    total: usize,
+    workers: usize,
+    broken: &[u128],
+) -> Result<bool, Fail>
+    requires total { (1 ≤ total) × (total ≤ 32768) }
+    requires workers { (1 ≤ workers) × (workers ≤ 16) }
+{
+    let found = explore(rt, rt.alloc(), ladder, total, workers, &OpenGate)?;
+    Ok(found.total == total && found.broken.as_slice() == broken)
+}
+
+/// Whether a ladder is refused that has more words than this limit.
+fn is_refused<R: Threads + Wait + AllocGlobal + Sync>(
+    rt: &R,
+    ladder: &Ladder,
+    limit: usize,
+    workers: usize,
+) -> bool
+    requires limit { (1 ≤ limit) × (limit ≤ 32768) }
+    requires workers { (1 ≤ workers) × (workers ≤ 16) }
+{
+    let refused = explore(rt, rt.alloc(), ladder, limit, workers, &OpenGate);
+    matches!(&refused, Err(ExploreFault::TooMany))
+}
+
 #[test]
 fn any_number_of_workers_finds_the_whole_ladder(rt: HostRuntime) -> Result<(), Fail> {
     let ladder = Ladder {
@@ -90,11 +123,8 @@ fn any_number_of_workers_finds_the_whole_ladder(rt: HostRuntime) -> Result<(), F
     };
     let broken = in_canonical_order(rt.alloc(), 151, 200)?;
     for workers in [1, 2, 8, 16] {
-        let found = explore(&rt, rt.alloc(), &ladder, 201, workers, &OpenGate)?;
-        assert_eq!(rt; found.total, 201);
-        assert_eq!(rt; found.broken.as_slice(), broken.as_slice());
-        let refused = explore(&rt, rt.alloc(), &ladder, 200, workers, &OpenGate);
-        assert!(rt; matches!(&refused, Err(ExploreFault::TooMany)));
+        assert!(rt; is_found(&rt, &ladder, 201, workers, &broken)?);
+        assert!(rt; is_refused(&rt, &ladder, 200, workers));
     }
     Ok(())
 }
@@ -106,23 +136,35 @@ fn a_small_ladder(rt: HostRuntime) -> Result<(), Fail> {
         good_to: 2,
     };
     for workers in [1, 2] {
-        let found = explore(&rt, rt.alloc(), &ladder, 6, workers, &OpenGate)?;
-        assert_eq!(rt; found.total, 6);
-        assert_eq!(rt; found.broken.as_slice(), [4, 3, 5].as_slice());
-        let refused = explore(&rt, rt.alloc(), &ladder, 5, workers, &OpenGate);
-        assert!(rt; matches!(&refused, Err(ExploreFault::TooMany)));
+        assert!(rt; is_found(&rt, &ladder, 6, workers, &[4, 3, 5])?);
+        assert!(rt; is_refused(&rt, &ladder, 5, workers));
     }
     Ok(())
 }
 
+const FAULTS: [(ExploreFault, &str); 2] = [
+    (ExploreFault::TooMany, "30 too many closed sets"),
+    (ExploreFault::OutOfMemory, "99 out of memory"),
+];
+
 #[test]
 fn faults_as_they_are_printed(rt: HostRuntime) -> Result<(), Fail> {
-    for (fault, text) in [
-        (ExploreFault::TooMany, "30 too many closed sets"),
-        (ExploreFault::OutOfMemory, "99 out of memory"),
-    ] {
-        assert_eq!(rt; format!(in rt.alloc(); "{fault}")?.as_str(), text);
-    }
+    each_writes(&rt, &FAULTS)
+}
+
+/// So many workers find the words of a ladder, and claim each of them once.
+fn claims_each_once<R: Threads + Wait + Abort + AllocGlobal + Sync>(
+    rt: &R,
+    ladder: &Ladder,
+    workers: usize,
+) -> Result<(), Fail>
+    requires workers { (1 ≤ workers) × (workers ≤ 16) }
+{
+    let counter = Counter {
+        claims: AtomicU64::new(0),
+    };
+    let total = explore(rt, rt.alloc(), ladder, 300, workers, &counter)?.total;
+    assert!(rt; total == 201 && counter.claims.load(Ordering::SeqCst) == 201);
     Ok(())
 }
 
@@ -133,12 +175,7 @@ fn each_word_is_claimed_once(rt: HostRuntime) -> Result<(), Fail> {
         good_to: 0,
     };
     for workers in [1, 8] {
-        let counter = Counter {
-            claims: AtomicU64::new(0),
-        };
-        let found = explore(&rt, rt.alloc(), &ladder, 300, workers, &counter)?;
-        assert_eq!(rt; found.total, 201);
-        assert_eq!(rt; counter.claims.load(Ordering::SeqCst), 201);
+        claims_each_once(&rt, &ladder, workers)?;
     }
     Ok(())
 }
@@ -150,8 +187,7 @@ fn two_workers_meet(rt: HostRuntime) -> Result<(), Fail> {
         good_to: 3,
     };
     let meeting = Meeting::new(2, 1 << 2);
-    let found = explore(&rt, rt.alloc(), &ladder, 4, 2, &meeting)?;
-    assert_eq!(rt; found.total, 4);
-    assert!(rt; meeting.was_held());
+    let total = explore(&rt, rt.alloc(), &ladder, 4, 2, &meeting)?.total;
+    assert!(rt; total == 4 && meeting.was_held());
     Ok(())
 }

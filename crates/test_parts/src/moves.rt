@@ -14,7 +14,7 @@ use std::test::Fail;
 use test_support::asked::{JOURNAL, REUSE, WRITE};
 
 /// Whether two images have the same bytes.
-fn are_equal(one: &Image<Global>, other: &Image<Global>) -> bool {
+pub fn are_equal(one: &Image<Global>, other: &Image<Global>) -> bool {
     if one.blocks() != other.blocks() {
         return false;
     }
@@ -65,17 +65,31 @@ fn moves_along(
     Ok(())
 }
 
+/// Moves to one set after another, and backwards.
+fn moves_to_and_fro(
+    rt: &impl Abort,
+    mover: &mut Mover<Global>,
+    script: &Trace,
+    sets: &mut [u128],
+) -> Result<(), Fail>
+    requires base { mover.old.base ≡ script.now.base }
+    requires graph { mover.old.patches ≡ script.now.graph }
+    requires fits { All (λ patch. patch.block < script.now.base.blocks) script.now.graph }
+{
+    moves_along(rt, mover, script, sets)?;
+    sets.reverse();
+    moves_along(rt, mover, script, sets)
+}
+
 /// Goes through all sets that a crash can leave, in order and then backwards; there are as many as `closed`.
 fn moves_through(rt: &impl Abort, alloc: Global, script: &Trace, closed: usize) -> Result<(), Fail>
     requires fits { All (λ patch. patch.block < script.now.base.blocks) script.now.graph }
     requires undo { AreUndo script.now.base script.now.graph }
 {
     let mut sets = closed_sets(alloc, &script.graph)?;
-    assert_eq!(rt; sets.len(), closed);
+    assert!(rt; sets.len() == closed);
     let mut mover = Mover::new(script.base.try_copy()?, &script.graph);
-    moves_along(rt, &mut mover, script, &sets)?;
-    sets.reverse();
-    moves_along(rt, &mut mover, script, &sets)
+    moves_to_and_fro(rt, &mut mover, script, &mut sets)
 }
 
 #[test]
@@ -90,8 +104,7 @@ fn undo_of_every_patch_gives_the_link_count_back(rt: HostRuntime) -> Result<(), 
     let mut mover = Mover::new(script.base.try_copy()?, &script.graph);
     moves_to(&rt, &mut mover, &script, 15)?;
     moves_to(&rt, &mut mover, &script, 0)?;
-    assert_eq!(rt; mover.set(), 0);
-    assert_eq!(rt; mover.image().byte(2, 17), 1);
+    assert!(rt; mover.set() == 0 && mover.image().byte(2, 17) == 1);
     Ok(())
 }
 

@@ -11,7 +11,7 @@ use state_space::Space;
 use std::alloc::Global;
 use std::process::Abort;
 use std::test::Fail;
-use test_support::asked::{JOURNAL, REUSE, WRITE};
+use test_support::asked::{Asked, JOURNAL, REUSE, WRITE};
 
 /// How many of the sets that a crash can leave are not good.
 fn count_failing(rt: &impl Abort, alloc: Global, script: &Trace) -> Result<usize, Fail>
@@ -30,12 +30,14 @@ fn count_failing(rt: &impl Abort, alloc: Global, script: &Trace) -> Result<usize
     Ok(failing)
 }
 
+/// The same of a script with its settings.
+fn count_asked<R: Abort + AllocGlobal>(rt: &R, asked: &Asked) -> Result<usize, Fail> {
+    count_failing(rt, rt.alloc(), &trace_of_asked(rt.alloc(), asked)?)
+}
+
 #[test]
 fn sets_that_fail_under_no_order(rt: HostRuntime) -> Result<(), Fail> {
-    let script = trace_of_asked(rt.alloc(), &WRITE)?;
-    assert_eq!(rt; count_failing(&rt, rt.alloc(), &script)?, 10);
-    let script = trace_of_asked(rt.alloc(), &REUSE)?;
-    assert_eq!(rt; count_failing(&rt, rt.alloc(), &script)?, 36);
+    assert!(rt; count_asked(&rt, &WRITE)? == 10 && count_asked(&rt, &REUSE)? == 36);
     Ok(())
 }
 
@@ -48,14 +50,13 @@ fn no_set_fails_under_soft_updates(rt: HostRuntime) -> Result<(), Fail> {
         0,
         Module::Soft,
     )?;
-    assert_eq!(rt; count_failing(&rt, rt.alloc(), &script)?, 0);
+    assert!(rt; count_failing(&rt, rt.alloc(), &script)? == 0);
     Ok(())
 }
 
 #[test]
 fn replay_over_a_block_that_is_used_again_fails(rt: HostRuntime) -> Result<(), Fail> {
-    let script = trace_of_asked(rt.alloc(), &JOURNAL)?;
-    assert_eq!(rt; count_failing(&rt, rt.alloc(), &script)?, 48);
+    assert!(rt; count_asked(&rt, &JOURNAL)? == 48);
     Ok(())
 }
 
@@ -64,8 +65,6 @@ fn four_patches_are_ready_at_the_start(rt: HostRuntime) -> Result<(), Fail> {
     let script = trace_of_asked(rt.alloc(), &WRITE)?;
     let space = PatchSpace::new(&script.base, &script.graph, None);
     let start = space.start();
-    assert_eq!(rt; start, 0);
-    assert_eq!(rt; space.degree(start), 4);
-    assert_eq!(rt; space.next(start, 3), 8);
+    assert!(rt; start == 0 && space.degree(start) == 4 && space.next(start, 3) == 8);
     Ok(())
 }

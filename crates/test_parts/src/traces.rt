@@ -5,6 +5,7 @@ ghost use Rattle.std.specs.List.{All};
 ghost use Rattle.crash_model.specs.Patches.{AreUndo};
 
 use crash_model::modules::Module;
+use crash_model::steps::Step;
 use disk_image::Image;
 use order_modules::{Ordering, build_base, trace};
 use patch_graph::Graph;
@@ -20,6 +21,32 @@ pub struct Trace {
     pub graph: Graph<Global>,
 }
 
+/// The image that steps make of a formatted disk.
+fn base_of(
+    alloc: Global,
+    steps: &[Step],
+    blocks: usize,
+    journal: usize,
+) -> Result<Image<Global>, Fail> {
+    let mut base = Image::formatted(alloc, blocks, journal)?;
+    build_base(&mut base, steps)?;
+    Ok(base)
+}
+
+/// The graph of steps under an ordering.
+fn graph_of(
+    alloc: Global,
+    base: &Image<Global>,
+    steps: &[Step],
+    order: Module,
+) -> Result<Graph<Global>, Fail>
+    ensures fits { IfOk result (λ graph. All (λ patch. patch.block < base.now.blocks) graph) }
+    ensures undo { IfOk result (λ graph. AreUndo base.now graph) }
+{
+    let ordering = Ordering::of(order);
+    Ok(trace(alloc, base, steps, &ordering)?.into_graph())
+}
+
 pub fn trace_of(
     alloc: Global,
     script: &[u8],
@@ -31,10 +58,8 @@ pub fn trace_of(
     ensures undo { IfOk result (λ t. AreUndo t.base t.graph) }
 {
     let script = read_script(alloc, script)?;
-    let mut base = Image::formatted(alloc, blocks, journal)?;
-    build_base(&mut base, &script.base)?;
-    let ordering = Ordering::of(order);
-    let graph = trace(alloc, &base, &script.traced, &ordering)?.into_graph();
+    let base = base_of(alloc, &script.base, blocks, journal)?;
+    let graph = graph_of(alloc, &base, &script.traced, order)?;
     Ok(Trace { base, graph })
 }
 
