@@ -5,5 +5,6 @@ pub mod AfterOpening
 pub mod AfterRights
 pub mod AfterScans
 pub mod Chains
+pub mod Digits
 pub mod Endings
 pub mod Slots

@@ -7,7 +7,7 @@ ghost use Rattle.seen_board.specs.Ended.{Ended, Accounts, IsOpening};
 
 use crate::answers::Place;
 use crate::entries::halves_of;
-use crate::layout::{COUNT, Layout, PENDING, SHARDS, shard_of};
+use crate::layout::{COUNT, Layout, PENDING, Probe, SHARDS};
 use crate::seat::BoardSeat;
 use crate::steps::{About, Order};
 use atomic_table::Table;
@@ -57,16 +57,16 @@ impl<S: Space, A: Allocator + Copy> Board<S, A> {
             × ((e : Ended) → Accounts (S.initial space.now) t.1 e → IsOpening (S.initial space.now) e)) }
     {
         let start = space.start();
-        let shard = shard_of(start);
         let (low, high) = halves_of(start);
         let layout = Layout { limit };
+        let Probe { shard, first, .. } = layout.probe(start);
         let mut words = vec![in alloc; 0u64; layout.size()]?;
         words[PENDING] = 1;
         words[COUNT] = 1;
         words[layout.length(shard)] = 1;
         words[layout.low(shard, 0)] = low;
         words[layout.high(shard, 0)] = high;
-        words[layout.mark(shard, layout.first_slot(start))] = 1;
+        words[layout.mark(shard, first)] = 1;
         let about = About {
             space: Snapshot::of(space),
             limit,

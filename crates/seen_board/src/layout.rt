@@ -4,6 +4,8 @@ ghost use Rattle.std.specs.Prelude.{◌≡◌, ◌%◌, ◌<◌, ◌≤◌};
 ghost use Rattle.board_rule.specs.Layout.{lock_word, length_word, low_word, high_word, life_word, index_word, size_for, slot, window};
 ghost use Rattle.seen_board.specs.Seats.{IsProbe};
 
+use crate::entries::halves_of;
+
 /// The number of shards of a board.
 pub const SHARDS: usize = 13;
 
@@ -30,11 +32,10 @@ const BLOCKS: usize = LENGTHS + APART * SHARDS;
 pub fn shard_of(word: u128) -> u8
     ensures { result ≡ word % 13 }
 {
-    match u64::try_from(word) {
-        // A remainder of 64 bits takes a fraction of the time.
-        Ok(short) => (short % SHARDS as u64) as u8,
-        Err(_) => (word % SHARDS as u128) as u8,
-    }
+    // 2^64 leaves 3, so that no word takes a division of 128 bits.
+    let (low, high) = halves_of(word);
+    let (low, high) = (low % SHARDS as u64, high % SHARDS as u64);
+    ((3 * high + low) % SHARDS as u64) as u8
 }
 
 /// The table of a board whose rows have up to `limit` places. Behind the counters, the locks and the lengths come four
@@ -110,15 +111,23 @@ impl Layout {
         if self.limit < 8 { self.limit } else { 8 }
     }
 
-    /// The first index word of a word.
-    pub fn first_slot(&self, word: u128) -> usize
-        requires limit { 0 < self.now.limit }
-        ensures slot { result ≡ slot self.now.limit word 0 }
-        ensures below { result < self.now.limit }
+    /// What is computed once of a word that is looked for.
+    pub fn probe(&self, word: u128) -> Probe
+        requires limit { (0 < self.now.limit) × (self.now.limit ≤ 32768) }
+        ensures word { result.word ≡ word }
+        ensures probe { IsProbe self.now.limit result }
     {
-        match u64::try_from(word) {
-            Ok(short) => (short / SHARDS as u64 % self.limit as u64) as usize,
-            Err(_) => (word / SHARDS as u128 % self.limit as u128) as usize,
+        // One long division tells both: of what it leaves, the shard is the last digit to base 13, and the index word
+        // the rest.
+        let places = SHARDS * self.limit;
+        let left = match u64::try_from(word) {
+            Ok(short) => (short % places as u64) as usize,
+            Err(_) => (word % places as u128) as usize,
+        };
+        Probe {
+            word,
+            shard: (left % SHARDS) as u8,
+            first: left / SHARDS,
         }
     }
 

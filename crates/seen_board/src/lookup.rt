@@ -7,7 +7,7 @@ ghost use Rattle.seen_board.specs.Seats.{SitsAt, IsSame, HasRightOf, IsProbe};
 
 use crate::answers::{Found, Place};
 use crate::board::Board;
-use crate::layout::{Probe, shard_of};
+use crate::layout::Probe;
 use crate::seat::BoardSeat;
 use crate::steps::{Mark, Scan};
 use atomic_table::Seat;
@@ -21,11 +21,7 @@ impl<S: Space, A: Allocator> Board<S, A> {
         ensures word { result.word ≡ word }
         ensures probe { IsProbe self.now.limit result }
     {
-        Probe {
-            word,
-            shard: shard_of(word),
-            first: self.layout.first_slot(word),
-        }
+        self.layout.probe(word)
     }
 
     /// What the index tells of a word, under a right of its shard and with nothing to file.
