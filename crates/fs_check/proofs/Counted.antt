@@ -1,8 +1,8 @@
 -- How many pointers name each block, and how many entries lead to each live inode.
 use Rattle.std.proofs.Common.{◌≡◌, ◌≢◌, ℕ, ◌+◌, ◌<◌, ◌≤◌, ◌*◌, inl, inr, List, [], length, get_or, set, Bool, true, false, ◌&&◌, Some, None, arith, refl, sym, ap, ◌∙◌}
 use Rattle.std.proofs.lemmas.Bool.{false≢true, cases_Bool, cases_eq, eq-eqb, ne_eqb, lt-ltb, le-ltb, and_right}
-use Rattle.crash_model.specs.Lists.{when, some_below, some_below-zero}
-use Rattle.crash_model.proofs.EachBelow.{each_below-none, some_below-none}
+use Rattle.crash_model.specs.Lists.{when, some_below}
+use Rattle.crash_model.proofs.EachBelow.{some_below-zero, each_below-none, some_below-none}
 use Rattle.crash_model.specs.Disk.{Disk}
 use Rattle.crash_model.specs.Layout.{is_live, is_data, links_of, pointer_of, is_pointer, counts, entry_of, is_entry, target_of}
 use Rattle.crash_model.specs.Faults.{is_tame, each_slot, each_entry, entries_to, namers, leads_to}

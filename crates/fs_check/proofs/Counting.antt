@@ -3,8 +3,8 @@ use Rattle.std.proofs.Common.{◌≡◌, ◌≢◌, ℕ, zero, suc, ◌+◌, ◌
 use Rattle.std.proofs.lemmas.Bool.{cases_eq}
 use Rattle.std.proofs.lemmas.List.{get_or-set_same, get_or-set_other, length-set, get_or-replicate, length-replicate}
 use Rattle.std.specs.Prelude.{option_to_list}
-use Rattle.crash_model.specs.Lists.{each_below, some_below, each_below-zero, each_below-step, some_below-zero, some_below-step}
-use Rattle.crash_model.proofs.EachBelow.{length-some_below}
+use Rattle.crash_model.specs.Lists.{each_below, some_below}
+use Rattle.crash_model.proofs.EachBelow.{each_below-zero, each_below-step, some_below-zero, some_below-step, length-some_below}
 use Rattle.fs_check.specs.Tally.{row_of, count_before, IsTally}
 
 -- ---- lengths

@@ -1,7 +1,7 @@
 -- The entries that the checker has passed.
 use Rattle.std.proofs.Common.{◌≡◌, ◌≢◌, ℕ, ◌+◌, ◌<◌, ◌≤◌, List, length, get_or, set, true, false, nat_lt, Some, None, arith, refl, sym, ap, ◌∙◌, subst}
 use Rattle.std.proofs.lemmas.Bool.{false≢true, eq-eqb, ne_eqb, lt-ltb, le-ltb, ltb-true, and_parts, and_right}
-use Rattle.crash_model.specs.Lists.{some_below-zero}
+use Rattle.crash_model.proofs.EachBelow.{some_below-zero}
 use Rattle.crash_model.specs.Disk.{Disk}
 use Rattle.crash_model.specs.Layout.{is_live, links_of, counts, entry_of, is_entry, target_of}
 use Rattle.crash_model.specs.Faults.{is_dangling, each_entry, entries_to, has_low_links}

@@ -5,8 +5,8 @@ use Rattle.std.proofs.lemmas.List.{append-nil, take_more}
 use Rattle.std.proofs.lemmas.List.Elements.{All-nil, All-cons, All-append, filter_map-append}
 use Rattle.std.specs.Prelude.{option_to_list}
 use Rattle.std.specs.List.{All, cons_option, filter_map}
-use Rattle.crash_model.specs.Lists.{each_below, some_below, when, each_below-step, some_below-step}
-use Rattle.crash_model.proofs.EachBelow.{some_below-none}
+use Rattle.crash_model.specs.Lists.{each_below, some_below, when}
+use Rattle.crash_model.proofs.EachBelow.{each_below-step, some_below-step, some_below-none}
 use Rattle.crash_model.specs.Disk.{Disk}
 use Rattle.crash_model.specs.Layout.{map_of, pointer_of, counts, entry_of, is_live, is_data, is_entry, is_pointer}
 use Rattle.crash_model.specs.Faults.{each_slot, is_unwritten, is_marked_free, is_wild, faults}

@@ -1,7 +1,7 @@
 -- The slots that the checker has passed.
 use Rattle.std.proofs.Common.{◌≡◌, ◌≢◌, ℕ, ◌+◌, ◌<◌, ◌≤◌, List, length, get_or, set, Bool, true, false, ◌&&◌, ◌||◌, ◌==◌, not, nat_lt, Some, None, arith, refl, sym, ap, ◌∙◌}
 use Rattle.std.proofs.lemmas.Bool.{false≢true, eq-eqb, ne_eqb, lt-ltb, le-ltb, ltb-true, and_parts, and_right}
-use Rattle.crash_model.specs.Lists.{some_below-zero}
+use Rattle.crash_model.proofs.EachBelow.{some_below-zero}
 use Rattle.crash_model.specs.Disk.{Disk}
 use Rattle.crash_model.specs.Layout.{is_live, is_data, map_of, pointer_of, is_pointer}
 use Rattle.crash_model.specs.Faults.{is_tame, is_unwritten, is_marked_free, is_wild, each_slot, namers}

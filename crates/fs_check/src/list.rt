@@ -140,7 +140,7 @@ fn push_wrong<A: Allocator + Copy>(
 }
 
 /// Adds the blocks that are used twice, by number.
-#[tactic(auto, using(crash_model::specs::Lists::each_below_steps, std::proofs::lemmas::Grind::common_steps))]
+#[tactic(auto, using(crash_model::proofs::EachBelow::each_below_steps, std::proofs::lemmas::Grind::common_steps))]
 fn push_twice<A: Allocator + Copy>(
     found: &mut Vec<Fault, A>,
     image: &Image<A>,
@@ -175,7 +175,7 @@ fn most(counts: &[u8; 128]) -> u8
 }
 
 /// Adds the low link counts, by inode.
-#[tactic(auto, using(crash_model::specs::Lists::each_below_steps, std::proofs::lemmas::Grind::common_steps))]
+#[tactic(auto, using(crash_model::proofs::EachBelow::each_below_steps, std::proofs::lemmas::Grind::common_steps))]
 fn push_low_links<A: Allocator + Copy>(
     found: &mut Vec<Fault, A>,
     image: &Image<A>,

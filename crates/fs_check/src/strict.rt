@@ -119,7 +119,7 @@ fn lost_at<A: Allocator + Copy>(
 }
 
 /// Adds the inodes that are lost, by number.
-#[tactic(auto, using(crash_model::specs::Lists::each_below_steps, std::proofs::lemmas::Grind::common_steps))]
+#[tactic(auto, using(crash_model::proofs::EachBelow::each_below_steps, std::proofs::lemmas::Grind::common_steps))]
 fn push_lost<A: Allocator + Copy>(
     found: &mut Vec<Fault, A>,
     image: &Image<A>,
@@ -148,7 +148,7 @@ fn bare_at<A: Allocator + Copy>(image: &Image<A>, reached: u128, inode: u8) -> O
 }
 
 /// Adds the directories without a block, by number.
-#[tactic(auto, using(crash_model::specs::Lists::each_below_steps, std::proofs::lemmas::Grind::common_steps))]
+#[tactic(auto, using(crash_model::proofs::EachBelow::each_below_steps, std::proofs::lemmas::Grind::common_steps))]
 fn push_bare<A: Allocator + Copy>(
     found: &mut Vec<Fault, A>,
     image: &Image<A>,

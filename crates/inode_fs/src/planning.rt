@@ -262,7 +262,7 @@ fn add_map_clear<A: Allocator + Copy>(image: &Image<A>, inode: u8, slot: u8, pla
 }
 
 /// Adds the freeing of all blocks of an inode, by ascending slot.
-#[tactic(auto, using(crash_model::specs::Lists::each_below_steps, std::proofs::lemmas::Grind::common_steps))]
+#[tactic(auto, using(crash_model::proofs::EachBelow::each_below_steps, std::proofs::lemmas::Grind::common_steps))]
 fn add_map_clears<A: Allocator + Copy>(image: &Image<A>, inode: u8, plan: &mut Plan)
     requires inode { inode < 16 }
     requires room { length plan.old.items + 4 ≤ 8 }

@@ -2,7 +2,8 @@
 use Rattle.std.proofs.Common.{◌≡◌, ℕ, ◌+◌, List, [], ◌∷◌, ◌++◌, length, map, Option, Some, None, refl, sym, ap, ◌∙◌, arith, length-append}
 use Rattle.std.specs.Prelude.{option_to_list, option_map}
 use Rattle.std.proofs.lemmas.List.{map-append, length-map}
-use Rattle.crash_model.specs.Lists.{join_of, some_below, some_below-step}
+use Rattle.crash_model.specs.Lists.{join_of, some_below}
+use Rattle.crash_model.proofs.EachBelow.{some_below-step}
 use Rattle.serde_json.specs.Data.{Data}
 use Rattle.report_json.specs.JsonReport.{comma_before}
 use Rattle.report_json.proofs.Commas.{item_more}

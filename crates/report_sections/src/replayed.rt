@@ -35,7 +35,7 @@ pub(crate) fn changed_by_replay<A: Allocator + Copy>(
 }
 
 /// The blocks in which an image differs from the one before, ascending, with their bytes after it.
-#[tactic(auto, using(crash_model::specs::Lists::each_below_steps, std::proofs::lemmas::Grind::common_steps))]
+#[tactic(auto, using(crash_model::proofs::EachBelow::each_below_steps, std::proofs::lemmas::Grind::common_steps))]
 fn changed_blocks<A: Allocator + Copy>(
     alloc: A,
     before: &Image<A>,

@@ -1,6 +1,7 @@
 use Rattle.std.proofs.Common.{ℕ, sym, ◌∙◌, refl}
 use Rattle.std.proofs.lemmas.List.{append-nil}
-use Rattle.crash_model.specs.Lists.{some_below, each_below-zero}
+use Rattle.crash_model.specs.Lists.{some_below}
+use Rattle.crash_model.proofs.EachBelow.{each_below-zero}
 use Rattle.fs_check.specs.References.{dangling_at, led_at}
 use Rattle.fs_check.proofs.Counting.{tally-start}
 use Rattle.fs_check.proofs.Found.{row_pushed, row_passed, dangling-uncounted}

@@ -1,5 +1,6 @@
 use Rattle.std.proofs.Common.{[], ℕ, length, arith, sym, ap, ◌∙◌}
-use Rattle.crash_model.specs.Lists.{some_below, each_below-zero}
+use Rattle.crash_model.specs.Lists.{some_below}
+use Rattle.crash_model.proofs.EachBelow.{each_below-zero}
 use Rattle.fs_check.specs.References.{wrong_at, named_at}
 use Rattle.fs_check.proofs.Counting.{tally-start}
 use Rattle.fs_check.proofs.Found.{row_pushed, row_passed, wrong-dead}

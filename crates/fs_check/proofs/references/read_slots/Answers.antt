@@ -1,6 +1,6 @@
 use Rattle.std.proofs.Common.{arith, refl, sym, ◌∙◌}
 use Rattle.std.proofs.lemmas.List.{append-nil}
-use Rattle.crash_model.specs.Lists.{some_below-zero}
+use Rattle.crash_model.proofs.EachBelow.{some_below-zero}
 use Rattle.fs_check.specs.References.{pointer, wrong_at, named_at}
 use Rattle.fs_check.proofs.Counting.{tally-row}
 use Rattle.fs_check.proofs.Found.{pushed, passed_over, wrong-here, wrong-right, wrong-none}

@@ -2,7 +2,7 @@ use Rattle.std.proofs.Common.{◌≡◌, ℕ, List, Bool, ◌&&◌, ◌∙◌, s
 use Rattle.std.specs.Prelude.{bytes_eq}
 use Rattle.crash_model.specs.Disk.{Disk}
 use Rattle.crash_model.specs.Layout.{is_entry, is_live, target_of, spelling_of}
-use Rattle.crash_model.specs.Lists.{first_below-none, first_below-lowest}
+use Rattle.crash_model.proofs.EachBelow.{first_below-none, first_below-lowest}
 use Rattle.crash_model.specs.Plan.{name_spelling, is_named}
 use Rattle.inode_fs.proofs.look.entry_named.Goals as goal
 

@@ -1,6 +1,6 @@
 use Rattle.std.proofs.Common.{sym, arith}
 use Rattle.std.proofs.lemmas.Grind.{common_steps}
-use Rattle.crash_model.specs.Lists.{first_below-none, first_below-lowest}
+use Rattle.crash_model.proofs.EachBelow.{first_below-none, first_below-lowest}
 use Rattle.crash_model.specs.Plan.{is_free_slot}
 use Rattle.inode_fs.proofs.look.free_slot.Goals as goal
 

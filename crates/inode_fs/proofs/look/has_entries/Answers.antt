@@ -1,7 +1,7 @@
 use Rattle.std.proofs.Common.{ap, sym, arith}
 use Rattle.std.specs.Prelude.{is_some}
 use Rattle.std.proofs.lemmas.Grind.{common_steps}
-use Rattle.crash_model.specs.Lists.{first_below-none, first_below-lowest}
+use Rattle.crash_model.proofs.EachBelow.{first_below-none, first_below-lowest}
 use Rattle.crash_model.specs.Layout.{is_entry}
 use Rattle.inode_fs.proofs.look.has_entries.Goals as goal
 

@@ -1,6 +1,6 @@
 use Rattle.std.proofs.Common.{map, refl}
 use Rattle.std.specs.Prelude.{option_map}
-use Rattle.crash_model.specs.Lists.{some_below-zero}
+use Rattle.crash_model.proofs.EachBelow.{some_below-zero}
 use Rattle.traced_patches.specs.Traced.{dependency_at}
 use Rattle.serde_json.specs.View.{view}
 use Rattle.report_json.specs.Patches.{dependency_data}

@@ -1,7 +1,7 @@
 use Rattle.std.proofs.Common.{string_bytes, refl}
 use Rattle.std.proofs.lemmas.List.{append-nil}
 use Rattle.crash_model.specs.Explain.{told_text}
-use Rattle.crash_model.specs.Lists.{some_below-zero}
+use Rattle.crash_model.proofs.EachBelow.{some_below-zero}
 use Rattle.traced_patches.specs.Traced.{told_at}
 use Rattle.report_text.proofs.PatchLines.{below_told}
 use Rattle.report_text.proofs.patches.write_patches.Goals as goal
