@@ -23,14 +23,16 @@ pub(crate) fn board_limit(sets: usize, limit: usize) -> usize
     limit
 }
 
-/// Whether a number is a prime.
+/// Whether a number is a prime. One that is none has a divisor up to its root.
 fn is_prime(n: usize) -> bool
     ensures { IsTrue result ↔ IsPrime n }
 {
-    for divisor in 2..n {
+    let mut divisor = 2;
+    while divisor <= n / divisor {
         if n % divisor == 0 {
             return false;
         }
+        divisor += 1;
     }
     1 < n
 }
