@@ -1,5 +1,9 @@
 -- How many sets can be explored, and by whom.
-use Rattle.std.specs.Prelude.{◌≡◌, ◌≤◌}
+use Rattle.std.specs.Prelude.{◌≡◌, ◌≢◌, ℕ, ◌≤◌, List}
+use Rattle.crash_model.specs.Failing.{ExceedsLimit}
+use Rattle.crash_model.specs.declared.patches.Patch.{Patch}
+use Rattle.crash_model.specs.declared.refusals.RunFault.{RunFault}
+use Rattle.crash_model.specs.declared.refusals.RunFault.TheVariants.{TooMany, OutOfMemory}
 use Rattle.crash_model.specs.declared.settings.Explorer.TheVariants.{Board}
 use Rattle.crash_model.specs.declared.settings.Settings.{Settings}
 
@@ -7,3 +11,7 @@ use Rattle.crash_model.specs.declared.settings.Settings.{Settings}
 abbrev pub IsExplorable : Settings → Type 0
 IsExplorable settings =
     (1 ≤ settings.limit) × (settings.limit ≤ 1000000000) × (settings.explorer ≡ Board → settings.limit ≤ 32768)
+
+-- unless it is out of memory, the one reason to refuse is that a crash can leave more sets than the limit
+abbrev pub SaysTooMany : List Patch → ℕ → RunFault → Type 0
+SaysTooMany patches limit fault = fault ≢ OutOfMemory → (fault ≡ TooMany) × ExceedsLimit patches limit

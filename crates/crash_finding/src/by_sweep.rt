@@ -1,20 +1,20 @@
 //! The sets that a crash can leave, swept over with no table of sets.
 //!
-//! Each function refuses where they are more than the limit. The patches change blocks of the base, and their undo
-//! data are the bytes that they replace there.
+//! Each function refuses where they are more than the limit.
 
-ghost use Rattle.std.specs.Prelude.{◌≡◌, ◌≢◌, ℕ, List, length, ◌<◌, ◌≤◌, IfOk, IfErr};
-ghost use Rattle.std.specs.List.{All};
+ghost use Rattle.std.specs.Prelude.{◌≡◌, ℕ, List, length, ◌≤◌, IfOk, IfErr};
 ghost use Rattle.patch_sets.specs.Closed.{IsClosed};
 ghost use Rattle.patch_sets.specs.Sets.{AreAllInOrder};
-ghost use Rattle.crash_model.specs.Patches.{AreUndo, deps_of};
-ghost use Rattle.crash_model.specs.Failing.{CountsClosed, ExceedsLimit};
+ghost use Rattle.crash_model.specs.Patches.{deps_of};
+ghost use Rattle.crash_model.specs.Failing.{CountsClosed};
 ghost use Rattle.crash_model.specs.Summary.{HasFault, AreRows};
 ghost use Rattle.fault_summary.specs.Prevented.{IsFirstPrevented};
 ghost use Rattle.crash_finding.specs.Kept.{Fails};
+ghost use Rattle.crash_finding.specs.Limits.{SaysTooMany};
 
 use crate::crashes::Crashes;
 use crate::dependencies::dependencies;
+use crate::finder::Finder;
 use crate::watching::GateWatch;
 use crash_image::PatchSpace;
 use crash_model::refusals::RunFault;
@@ -25,111 +25,77 @@ use fault_summary::{
 use patch_graph::Graph;
 use set_sweep::sweep;
 use std::alloc::Allocator;
+use std::sync::Wait;
 use std::thread::Threads;
 
-/// How many sets there are, and which of them fail, in canonical order. The memory that it takes grows with the
-/// failing sets alone.
-pub(crate) fn swept<R, A, G>(
-    rt: &R,
-    alloc: A,
-    crashes: &Crashes<'_, A>,
-    limit: usize,
-    workers: usize,
-    gate: &G,
-) -> Result<Explored<A>, RunFault>
+impl<R, A, G> Finder<'_, R, A, G>
 where
-    R: Threads + Sync,
+    R: Threads + Wait + Sync,
     A: Allocator + Copy + Send + Sync,
     G: Gate + Sync,
-    requires workers { (1 ≤ workers) × (workers ≤ 16) }
-    requires fits { All (λ patch. patch.block < crashes.now.base.now.blocks) crashes.now.graph.now }
-    requires undo { AreUndo crashes.now.base.now crashes.now.graph.now }
-    ensures total { IfOk result (λ found. CountsClosed crashes.now.graph.now found.total) }
-    ensures within { IfOk result (λ found. found.total ≤ limit) }
-    ensures failing { IfOk result (λ found. AreAllInOrder (Fails crashes.now) found.broken.items) }
-    ensures too_many { IfErr result (λ fault. (fault ≢ RunFault.OutOfMemory)
-        → (fault ≡ RunFault.TooMany) × ExceedsLimit crashes.now.graph.now limit) }
 {
-    let space = PatchSpace::new(crashes.base, crashes.graph, crashes.kept);
-    let deps = dependencies(crashes.graph);
-    let watch = GateWatch { gate };
-    match sweep(rt, alloc, &space, &deps, limit, workers, &watch) {
-        Ok(found) => Ok(found),
-        Err(ExploreFault::TooMany) => Err(RunFault::TooMany),
-        Err(ExploreFault::OutOfMemory) => Err(RunFault::OutOfMemory),
+    /// How many sets there are, and which of them fail, in canonical order. The memory that it takes grows with the
+    /// failing sets alone.
+    pub(crate) fn swept(&self, crashes: &Crashes<'_, A>) -> Result<Explored<A>, RunFault>
+        ensures total { IfOk result (λ found. CountsClosed crashes.now.graph.now found.total) }
+        ensures within { IfOk result (λ found. found.total ≤ self.now.settings.now.limit) }
+        ensures failing { IfOk result (λ found. AreAllInOrder (Fails crashes.now) found.broken.items) }
+        ensures too_many { IfErr result (SaysTooMany crashes.now.graph.now self.now.settings.now.limit) }
+    {
+        let space = PatchSpace::new(crashes.base, crashes.graph, crashes.kept);
+        let (deps, limit) = (dependencies(crashes.graph), self.settings.limit);
+        let watch = GateWatch { gate: self.gate };
+        match sweep(self.rt, self.alloc, &space, &deps, limit, self.workers, &watch) {
+            Ok(found) => Ok(found),
+            Err(ExploreFault::TooMany) => Err(RunFault::TooMany),
+            Err(ExploreFault::OutOfMemory) => Err(RunFault::OutOfMemory),
+        }
     }
-}
 
-/// How many sets there are, how many of them fail, and each fault once, in the order of faults. The memory that it
-/// takes grows with no number of sets.
-pub(crate) fn swept_faults<R, A, G>(
-    rt: &R,
-    alloc: A,
-    crashes: &Crashes<'_, A>,
-    limit: usize,
-    workers: usize,
-    gate: &G,
-) -> Result<SweptFaults<A>, RunFault>
-where
-    R: Threads + Sync,
-    A: Allocator + Copy + Send + Sync,
-    G: Gate + Sync,
-    requires workers { (1 ≤ workers) × (workers ≤ 16) }
-    requires fits { All (λ patch. patch.block < crashes.now.base.now.blocks) crashes.now.graph.now }
-    requires undo { AreUndo crashes.now.base.now crashes.now.graph.now }
-    ensures total { IfOk result (λ found. CountsClosed crashes.now.graph.now found.total) }
-    ensures within { IfOk result (λ found. found.total ≤ limit) }
-    ensures failing { IfOk result (λ found. (sets : List ℕ) × AreAllInOrder (Fails crashes.now) sets
-        × (found.failing ≡ length sets)) }
-    ensures rows { IfOk result (λ found.
-        AreRows (HasFault crashes.now.kept crashes.now.base.now crashes.now.graph.now) found.rows.items) }
-    ensures too_many { IfErr result (λ fault. (fault ≢ RunFault.OutOfMemory)
-        → (fault ≡ RunFault.TooMany) × ExceedsLimit crashes.now.graph.now limit) }
-{
-    let visitor = FaultVisitor::new(alloc, crashes.base, crashes.graph, crashes.kept);
-    let deps = dependencies(crashes.graph);
-    let watch = GateWatch { gate };
-    match sweep_faults(rt, &visitor, &deps, limit, workers, &watch) {
-        Ok(found) => Ok(found),
-        Err(ExploreFault::TooMany) => Err(RunFault::TooMany),
-        Err(ExploreFault::OutOfMemory) => Err(RunFault::OutOfMemory),
+    /// How many sets there are, how many of them fail, and each fault once, in the order of faults. The memory that it
+    /// takes grows with no number of sets.
+    pub(crate) fn swept_faults(&self, crashes: &Crashes<'_, A>) -> Result<SweptFaults<A>, RunFault>
+        ensures total { IfOk result (λ found. CountsClosed crashes.now.graph.now found.total) }
+        ensures within { IfOk result (λ found. found.total ≤ self.now.settings.now.limit) }
+        ensures failing { IfOk result (λ found. (sets : List ℕ) × AreAllInOrder (Fails crashes.now) sets
+            × (found.failing ≡ length sets)) }
+        ensures rows { IfOk result (λ found.
+            AreRows (HasFault crashes.now.kept crashes.now.base.now crashes.now.graph.now) found.rows.items) }
+        ensures too_many { IfErr result (SaysTooMany crashes.now.graph.now self.now.settings.now.limit) }
+    {
+        let visitor = FaultVisitor::new(self.alloc, crashes.base, crashes.graph, crashes.kept);
+        let (deps, limit) = (dependencies(crashes.graph), self.settings.limit);
+        let watch = GateWatch { gate: self.gate };
+        match sweep_faults(self.rt, &visitor, &deps, limit, self.workers, &watch) {
+            Ok(found) => Ok(found),
+            Err(ExploreFault::TooMany) => Err(RunFault::TooMany),
+            Err(ExploreFault::OutOfMemory) => Err(RunFault::OutOfMemory),
+        }
     }
-}
 
-/// How many sets there are, how many of them fail, and the first failing one that another graph prevents. The memory
-/// that it takes grows with no number of sets.
-pub(crate) fn swept_count<R, A, G>(
-    rt: &R,
-    alloc: A,
-    crashes: &Crashes<'_, A>,
-    other: &Graph<A>,
-    limit: usize,
-    workers: usize,
-    gate: &G,
-) -> Result<FailingCount, RunFault>
-where
-    R: Threads + Sync,
-    A: Allocator + Copy + Send + Sync,
-    G: Gate + Sync,
-    requires workers { (1 ≤ workers) × (workers ≤ 16) }
-    requires fits { All (λ patch. patch.block < crashes.now.base.now.blocks) crashes.now.graph.now }
-    requires undo { AreUndo crashes.now.base.now crashes.now.graph.now }
-    ensures total { IfOk result (λ found. CountsClosed crashes.now.graph.now found.total) }
-    ensures within { IfOk result (λ found. found.total ≤ limit) }
-    ensures failing { IfOk result (λ found. (sets : List ℕ) × AreAllInOrder (Fails crashes.now) sets
-        × (found.failing ≡ length sets)) }
-    ensures first { IfOk result (λ found.
-        IsFirstPrevented (Fails crashes.now) (IsClosed (deps_of other.now)) found.first) }
-    ensures too_many { IfErr result (λ fault. (fault ≢ RunFault.OutOfMemory)
-        → (fault ≡ RunFault.TooMany) × ExceedsLimit crashes.now.graph.now limit) }
-{
-    let space = PatchSpace::new(crashes.base, crashes.graph, crashes.kept);
-    let visitor = CountVisitor::new(alloc, space, other);
-    let deps = dependencies(crashes.graph);
-    let watch = GateWatch { gate };
-    match sweep_count(rt, &visitor, &deps, limit, workers, &watch) {
-        Ok(found) => Ok(found),
-        Err(ExploreFault::TooMany) => Err(RunFault::TooMany),
-        Err(ExploreFault::OutOfMemory) => Err(RunFault::OutOfMemory),
+    /// How many sets there are, how many of them fail, and the first failing one that another graph prevents. The
+    /// memory that it takes grows with no number of sets.
+    pub(crate) fn swept_count(
+        &self,
+        crashes: &Crashes<'_, A>,
+        other: &Graph<A>,
+    ) -> Result<FailingCount, RunFault>
+        ensures total { IfOk result (λ found. CountsClosed crashes.now.graph.now found.total) }
+        ensures within { IfOk result (λ found. found.total ≤ self.now.settings.now.limit) }
+        ensures failing { IfOk result (λ found. (sets : List ℕ) × AreAllInOrder (Fails crashes.now) sets
+            × (found.failing ≡ length sets)) }
+        ensures first { IfOk result (λ found.
+            IsFirstPrevented (Fails crashes.now) (IsClosed (deps_of other.now)) found.first) }
+        ensures too_many { IfErr result (SaysTooMany crashes.now.graph.now self.now.settings.now.limit) }
+    {
+        let space = PatchSpace::new(crashes.base, crashes.graph, crashes.kept);
+        let visitor = CountVisitor::new(self.alloc, space, other);
+        let (deps, limit) = (dependencies(crashes.graph), self.settings.limit);
+        let watch = GateWatch { gate: self.gate };
+        match sweep_count(self.rt, &visitor, &deps, limit, self.workers, &watch) {
+            Ok(found) => Ok(found),
+            Err(ExploreFault::TooMany) => Err(RunFault::TooMany),
+            Err(ExploreFault::OutOfMemory) => Err(RunFault::OutOfMemory),
+        }
     }
 }

@@ -1,26 +1,25 @@
 //! What is found of the sets that a crash can leave, as much of it as the report asks for.
 //!
 //! The board explores them, or the sweep, as the settings ask. Each function refuses where they are more than the
-//! limit of the settings. The patches change blocks of the base, and their undo data are the bytes that they replace
-//! there.
+//! limit of the settings.
 
-ghost use Rattle.std.specs.Prelude.{◌≡◌, ◌≢◌, ◌<◌, ◌≤◌, IfOk, IfErr, IsTrue};
-ghost use Rattle.std.specs.List.{All, AllPairs, Contains};
+ghost use Rattle.std.specs.Prelude.{◌≡◌, ◌≤◌, IfOk, IfErr, IsTrue};
+ghost use Rattle.std.specs.List.{AllPairs, Contains};
 ghost use Rattle.patch_sets.specs.Closed.{IsClosed};
 ghost use Rattle.patch_sets.specs.Sets.{AreAllInOrder, IsBefore};
-ghost use Rattle.crash_model.specs.Patches.{AreUndo, deps_of};
-ghost use Rattle.crash_model.specs.Failing.{CountsClosed, ExceedsLimit};
+ghost use Rattle.crash_model.specs.Patches.{deps_of};
+ghost use Rattle.crash_model.specs.Failing.{CountsClosed};
 ghost use Rattle.crash_model.specs.declared.settings.ReportBy.TheVariants.{ByFault};
 ghost use Rattle.fault_summary.specs.Prevented.{IsFirstPrevented};
 ghost use Rattle.crash_finding.specs.Kept.{AreFound, Fails, IsCountWith};
-ghost use Rattle.crash_finding.specs.Limits.{IsExplorable};
+ghost use Rattle.crash_finding.specs.Limits.{SaysTooMany};
 
-use crate::by_sweep::{swept, swept_count, swept_faults};
 use crate::crashes::Crashes;
-use crate::on_board::{MAX_BOARD, explored_on_board};
+use crate::finder::Finder;
+use crate::on_board::MAX_BOARD;
 use crash_model::fault::FaultRow;
 use crash_model::refusals::RunFault;
-use crash_model::settings::{Explorer, ReportBy, Settings};
+use crash_model::settings::{Explorer, ReportBy};
 use explorers::{Explored, Gate};
 use fault_summary::{FailingCount, fault_rows};
 use patch_graph::Graph;
@@ -45,179 +44,119 @@ pub enum Kept<A: Allocator> {
     Number,
 }
 
-/// What the report that the settings ask for needs.
-///
-/// The workers are 1 to 16, and for each number of them and every schedule the same is found. The limit is one that
-/// the explorer of the settings can reach. It fails with `TooMany` only where a crash can leave more sets than the
-/// limit, and else only when out of memory. The gate is told how far it is.
-pub fn find<R, A, G>(
-    rt: &R,
-    alloc: A,
-    crashes: &Crashes<'_, A>,
-    settings: &Settings,
-    workers: usize,
-    gate: &G,
-) -> Result<Found<A>, RunFault>
+impl<R, A, G> Finder<'_, R, A, G>
 where
     R: Threads + Wait + Sync,
     A: Allocator + Copy + Send + Sync,
     G: Gate + Sync,
-    requires limit { IsExplorable settings.now }
-    requires workers { (1 ≤ workers) × (workers ≤ 16) }
-    requires fits { All (λ patch. patch.block < crashes.now.base.now.blocks) crashes.now.graph.now }
-    requires undo { AreUndo crashes.now.base.now crashes.now.graph.now }
-    ensures found { IfOk result (AreFound settings.now crashes.now.kept crashes.now.base.now crashes.now.graph.now) }
-    ensures too_many { IfErr result (λ fault. (fault ≢ RunFault.OutOfMemory)
-        → (fault ≡ RunFault.TooMany) × ExceedsLimit crashes.now.graph.now settings.now.limit) }
 {
-    match settings.by {
-        ReportBy::BySet => {
-            let found = explored(rt, alloc, crashes, settings, workers, gate)?;
-            Ok(Found {
-                closed: found.total,
-                failing: found.broken.len(),
-                kept: Kept::Sets(found.broken),
-            })
-        }
-        ReportBy::ByFault => find_faults(rt, alloc, crashes, settings, workers, gate),
-        ReportBy::ByRule => {
-            let count = count_failing(rt, alloc, crashes, crashes.graph, settings, workers, gate)?;
-            Ok(Found {
-                closed: count.total,
-                failing: count.failing,
-                kept: Kept::Number,
-            })
+    /// What the report that the settings ask for needs.
+    ///
+    /// It fails with `TooMany` only where a crash can leave more sets than the limit, and else only when out of memory.
+    pub fn find(&self, crashes: &Crashes<'_, A>) -> Result<Found<A>, RunFault>
+        ensures found { IfOk result
+            (AreFound self.now.settings.now crashes.now.kept crashes.now.base.now crashes.now.graph.now) }
+        ensures too_many { IfErr result (SaysTooMany crashes.now.graph.now self.now.settings.now.limit) }
+    {
+        match self.settings.by {
+            ReportBy::BySet => {
+                let found = self.explored(crashes)?;
+                Ok(Found {
+                    closed: found.total,
+                    failing: found.broken.len(),
+                    kept: Kept::Sets(found.broken),
+                })
+            }
+            ReportBy::ByFault => self.find_faults(crashes),
+            ReportBy::ByRule => {
+                let count = self.count_failing(crashes, crashes.graph)?;
+                Ok(Found {
+                    closed: count.total,
+                    failing: count.failing,
+                    kept: Kept::Number,
+                })
+            }
         }
     }
-}
 
-/// The faults of the failing sets, for a report with each fault once.
-fn find_faults<R, A, G>(
-    rt: &R,
-    alloc: A,
-    crashes: &Crashes<'_, A>,
-    settings: &Settings,
-    workers: usize,
-    gate: &G,
-) -> Result<Found<A>, RunFault>
-where
-    R: Threads + Wait + Sync,
-    A: Allocator + Copy + Send + Sync,
-    G: Gate + Sync,
-    requires limit { IsExplorable settings.now }
-    requires by { settings.now.by ≡ ByFault }
-    requires workers { (1 ≤ workers) × (workers ≤ 16) }
-    requires fits { All (λ patch. patch.block < crashes.now.base.now.blocks) crashes.now.graph.now }
-    requires undo { AreUndo crashes.now.base.now crashes.now.graph.now }
-    ensures found { IfOk result (AreFound settings.now crashes.now.kept crashes.now.base.now crashes.now.graph.now) }
-    ensures too_many { IfErr result (λ fault. (fault ≢ RunFault.OutOfMemory)
-        → (fault ≡ RunFault.TooMany) × ExceedsLimit crashes.now.graph.now settings.now.limit) }
-{
-    let limit = settings.limit;
-    if sweeps(settings) {
-        let swept = swept_faults(rt, alloc, crashes, limit, workers, gate)?;
-        return Ok(Found {
-            closed: swept.total,
-            failing: swept.failing,
-            kept: Kept::Faults(swept.rows),
-        });
+    /// The faults of the failing sets, for a report with each fault once.
+    fn find_faults(&self, crashes: &Crashes<'_, A>) -> Result<Found<A>, RunFault>
+        requires by { self.now.settings.now.by ≡ ByFault }
+        ensures found { IfOk result
+            (AreFound self.now.settings.now crashes.now.kept crashes.now.base.now crashes.now.graph.now) }
+        ensures too_many { IfErr result (SaysTooMany crashes.now.graph.now self.now.settings.now.limit) }
+    {
+        if self.sweeps() {
+            let swept = self.swept_faults(crashes)?;
+            return Ok(Found {
+                closed: swept.total,
+                failing: swept.failing,
+                kept: Kept::Faults(swept.rows),
+            });
+        }
+        let found = self.explored_on_board(crashes)?;
+        let rows = fault_rows(
+            self.alloc,
+            crashes.base,
+            crashes.graph,
+            crashes.kept,
+            &found.broken,
+        )?;
+        Ok(Found {
+            closed: found.total,
+            failing: found.broken.len(),
+            kept: Kept::Faults(rows),
+        })
     }
-    let found = explored_on_board(rt, alloc, crashes, limit, workers, gate)?;
-    let rows = fault_rows(
-        alloc,
-        crashes.base,
-        crashes.graph,
-        crashes.kept,
-        &found.broken,
-    )?;
-    Ok(Found {
-        closed: found.total,
-        failing: found.broken.len(),
-        kept: Kept::Faults(rows),
-    })
-}
 
-/// How many sets a crash can leave, how many of them fail, and the first failing one that a crash cannot leave under
-/// another graph.
-///
-/// The workers are 1 to 16, and the limit is one that the explorer of the settings can reach. It fails with `TooMany`
-/// only where a crash can leave more sets than the limit, and else only when out of memory. The gate is told how far
-/// it is.
-pub fn count_failing<R, A, G>(
-    rt: &R,
-    alloc: A,
-    crashes: &Crashes<'_, A>,
-    other: &Graph<A>,
-    settings: &Settings,
-    workers: usize,
-    gate: &G,
-) -> Result<FailingCount, RunFault>
-where
-    R: Threads + Wait + Sync,
-    A: Allocator + Copy + Send + Sync,
-    G: Gate + Sync,
-    requires limit { IsExplorable settings.now }
-    requires workers { (1 ≤ workers) × (workers ≤ 16) }
-    requires fits { All (λ patch. patch.block < crashes.now.base.now.blocks) crashes.now.graph.now }
-    requires undo { AreUndo crashes.now.base.now crashes.now.graph.now }
-    ensures counted { IfOk result
-        (IsCountWith settings.now.limit crashes.now.kept crashes.now.base.now crashes.now.graph.now other.now) }
-    ensures too_many { IfErr result (λ fault. (fault ≢ RunFault.OutOfMemory)
-        → (fault ≡ RunFault.TooMany) × ExceedsLimit crashes.now.graph.now settings.now.limit) }
-{
-    let limit = settings.limit;
-    if sweeps(settings) {
-        let count = swept_count(rt, alloc, crashes, other, limit, workers, gate)?;
-        return Ok(count);
+    /// How many sets a crash can leave, how many of them fail, and the first failing one that a crash cannot leave
+    /// under another graph.
+    ///
+    /// It fails with `TooMany` only where a crash can leave more sets than the limit, and else only when out of memory.
+    pub fn count_failing(
+        &self,
+        crashes: &Crashes<'_, A>,
+        other: &Graph<A>,
+    ) -> Result<FailingCount, RunFault>
+        ensures counted { IfOk result (IsCountWith self.now.settings.now.limit crashes.now.kept crashes.now.base.now
+            crashes.now.graph.now other.now) }
+        ensures too_many { IfErr result (SaysTooMany crashes.now.graph.now self.now.settings.now.limit) }
+    {
+        if self.sweeps() {
+            let count = self.swept_count(crashes, other)?;
+            return Ok(count);
+        }
+        let found = self.explored_on_board(crashes)?;
+        Ok(FailingCount {
+            total: found.total,
+            failing: found.broken.len(),
+            first: first_prevented(other, &found.broken),
+        })
     }
-    let found = explored_on_board(rt, alloc, crashes, limit, workers, gate)?;
-    Ok(FailingCount {
-        total: found.total,
-        failing: found.broken.len(),
-        first: first_prevented(other, &found.broken),
-    })
-}
 
-/// All failing sets, in canonical order.
-fn explored<R, A, G>(
-    rt: &R,
-    alloc: A,
-    crashes: &Crashes<'_, A>,
-    settings: &Settings,
-    workers: usize,
-    gate: &G,
-) -> Result<Explored<A>, RunFault>
-where
-    R: Threads + Wait + Sync,
-    A: Allocator + Copy + Send + Sync,
-    G: Gate + Sync,
-    requires limit { IsExplorable settings.now }
-    requires workers { (1 ≤ workers) × (workers ≤ 16) }
-    requires fits { All (λ patch. patch.block < crashes.now.base.now.blocks) crashes.now.graph.now }
-    requires undo { AreUndo crashes.now.base.now crashes.now.graph.now }
-    ensures total { IfOk result (λ found. CountsClosed crashes.now.graph.now found.total) }
-    ensures within { IfOk result (λ found. found.total ≤ settings.now.limit) }
-    ensures failing { IfOk result (λ found. AreAllInOrder (Fails crashes.now) found.broken.items) }
-    ensures too_many { IfErr result (λ fault. (fault ≢ RunFault.OutOfMemory)
-        → (fault ≡ RunFault.TooMany) × ExceedsLimit crashes.now.graph.now settings.now.limit) }
-{
-    let limit = settings.limit;
-    if sweeps(settings) {
-        swept(rt, alloc, crashes, limit, workers, gate)
-    } else {
-        explored_on_board(rt, alloc, crashes, limit, workers, gate)
+    /// All failing sets, in canonical order.
+    fn explored(&self, crashes: &Crashes<'_, A>) -> Result<Explored<A>, RunFault>
+        ensures total { IfOk result (λ found. CountsClosed crashes.now.graph.now found.total) }
+        ensures within { IfOk result (λ found. found.total ≤ self.now.settings.now.limit) }
+        ensures failing { IfOk result (λ found. AreAllInOrder (Fails crashes.now) found.broken.items) }
+        ensures too_many { IfErr result (SaysTooMany crashes.now.graph.now self.now.settings.now.limit) }
+    {
+        if self.sweeps() {
+            self.swept(crashes)
+        } else {
+            self.explored_on_board(crashes)
+        }
     }
-}
 
-/// Whether the sweep explores. Otherwise a board can hold as many sets as the limit allows.
-fn sweeps(settings: &Settings) -> bool
-    requires { IsExplorable settings.now }
-    ensures { (¬ (IsTrue result)) → settings.now.limit ≤ 32768 }
-{
-    match settings.explorer {
-        Explorer::Auto => settings.limit > MAX_BOARD,
-        Explorer::Board => false,
-        Explorer::Sweep => true,
+    /// Whether the sweep explores. Otherwise a board can hold as many sets as the limit allows.
+    fn sweeps(&self) -> bool
+        ensures { (¬ (IsTrue result)) → self.now.settings.now.limit ≤ 32768 }
+    {
+        match self.settings.explorer {
+            Explorer::Auto => self.settings.limit > MAX_BOARD,
+            Explorer::Board => false,
+            Explorer::Sweep => true,
+        }
     }
 }
 

@@ -13,11 +13,10 @@ ghost use Rattle.fault_summary.specs.Prevented.{IsFirstPrevented};
 ghost use Rattle.report_sections.specs.Bodies.{AreOnBase};
 ghost use Rattle.report_sections.specs.Sections.{section_of};
 ghost use Rattle.report_sections.specs.ToldRules.{told_rule, usage_of};
-ghost use Rattle.crash_finding.specs.Limits.{IsExplorable};
 ghost use Rattle.crash_text.specs.Telling.{AreFindings, IsReportOf, IsTraceOf};
 
 use crate::telling::Findings;
-use crash_finding::{Crashes, count_failing};
+use crash_finding::{Crashes, Finder};
 use crash_model::refusals::RunFault;
 use crash_model::rules::Rule;
 use explorers::Gate;
@@ -30,25 +29,21 @@ use std::thread::Threads;
 
 /// The report on the rules of the ordering. It fails only when out of memory.
 pub(crate) fn report_by_rule<R, A, G>(
-    rt: &R,
+    finder: &Finder<'_, R, A, G>,
     heap: Global,
-    alloc: A,
     findings: &Findings<'_, '_, A>,
-    workers: usize,
-    gate: &G,
 ) -> Result<String<A>, AllocError>
 where
     R: Threads + Wait + Sync,
     A: Allocator + Copy + Send + Sync,
     G: Gate + Sync,
-    requires limit { IsExplorable findings.now.settings.now }
-    requires workers { (1 ≤ workers) × (workers ≤ 16) }
+    requires same { finder.now.settings.now ≡ findings.now.settings.now }
     requires found { AreFindings findings.now }
     requires by { findings.now.settings.now.by ≡ ByRule }
     ensures { IfOk result (λ text. IsReportOf findings.now (string_bytes text)) }
 {
-    let rules = needs(rt, alloc, findings, workers, gate)?;
-    let text = findings.by_rule(rt, heap, alloc, &rules, workers)?;
+    let rules = needs(finder, findings)?;
+    let text = findings.by_rule(finder.rt, heap, finder.alloc, &rules, finder.workers)?;
     Ok(text)
 }
 
@@ -57,18 +52,14 @@ where
 /// A rule that applies to no pair of patches is told as that; for each other rule the same patches are explored under
 /// the ordering without it, within the limit of the settings. It fails only when out of memory.
 fn needs<R, A, G>(
-    rt: &R,
-    alloc: A,
+    finder: &Finder<'_, R, A, G>,
     findings: &Findings<'_, '_, A>,
-    workers: usize,
-    gate: &G,
 ) -> Result<Vec<ToldRule<A>, A>, AllocError>
 where
     R: Threads + Wait + Sync,
     A: Allocator + Copy + Send + Sync,
     G: Gate + Sync,
-    requires limit { IsExplorable findings.now.settings.now }
-    requires workers { (1 ≤ workers) × (workers ≤ 16) }
+    requires same { finder.now.settings.now ≡ findings.now.settings.now }
     requires found { AreFindings findings.now }
     ensures { IfOk result (λ rules. (last : Tracing)
         → IsTraceOf findings.now.settings.now findings.now.base.now findings.now.traced last
@@ -76,10 +67,10 @@ where
         (ordering_rules findings.now.settings.now) findings.now.base.now last findings.now.traced.patches
         (ordering_rules findings.now.settings.now) (map told_rule rules.items)) }
 {
-    let mut rules = Vec::new(alloc);
+    let mut rules = Vec::new(finder.alloc);
     for rule in findings.traced.rules() {
         let rule = *rule;
-        let usage = usage(rt, alloc, findings, rule, workers, gate)?;
+        let usage = usage(finder, findings, rule)?;
         rules.push(ToldRule { rule, usage })?;
     }
     Ok(rules)
@@ -88,19 +79,15 @@ where
 /// How many pairs of patches a rule applies to, and what a crash can leave without it. It fails only when out of
 /// memory.
 fn usage<R, A, G>(
-    rt: &R,
-    alloc: A,
+    finder: &Finder<'_, R, A, G>,
     findings: &Findings<'_, '_, A>,
     rule: Rule,
-    workers: usize,
-    gate: &G,
 ) -> Result<RuleUsage<A>, AllocError>
 where
     R: Threads + Wait + Sync,
     A: Allocator + Copy + Send + Sync,
     G: Gate + Sync,
-    requires limit { IsExplorable findings.now.settings.now }
-    requires workers { (1 ≤ workers) × (workers ≤ 16) }
+    requires same { finder.now.settings.now ≡ findings.now.settings.now }
     requires found { AreFindings findings.now }
     ensures { IfOk result (λ usage. (last : Tracing) → last.emitted ≡ findings.now.traced.emitted
         → last.links ≡ findings.now.traced.links
@@ -111,14 +98,14 @@ where
     if pairs == 0 {
         return Ok(RuleUsage::Unused);
     }
-    let (graph, settings) = (findings.traced.graph(), findings.settings);
+    let alloc = finder.alloc;
     let changed = graph_without(&findings.traced, alloc, findings.base, rule)?;
     let crashes = Crashes {
         base: findings.base,
         graph: &changed,
         kept: findings.kept,
     };
-    match count_failing(rt, alloc, &crashes, graph, settings, workers, gate) {
+    match finder.count_failing(&crashes, findings.traced.graph()) {
         Ok(count) => Ok(RuleUsage::Used {
             pairs,
             closed: count.total,

@@ -13,7 +13,7 @@ ghost use Rattle.crash_text.specs.Telling.{AreReported, AreRefused};
 use crate::keeping::told_kept;
 use crate::needs::report_by_rule;
 use crate::telling::Findings;
-use crash_finding::{Crashes, Kept, find};
+use crash_finding::{Crashes, Finder, Kept};
 use crash_model::refusals::RunFault;
 use crash_model::settings::Settings;
 use crash_model::steps::Step;
@@ -63,35 +63,37 @@ where
     let script = read_script(alloc, script)?;
     let base = base_of(alloc, &script.base, settings)?;
     let steps = &script.traced;
-    let outcome = answer_steps(rt, heap, alloc, &base, steps, settings, workers, gate)?;
+    let finder = Finder {
+        rt,
+        alloc,
+        settings,
+        workers,
+        gate,
+    };
+    let outcome = answer_steps(&finder, heap, &base, steps)?;
     Ok(outcome)
 }
 
 /// Traces the steps over the base, explores what a crash can leave, and reports.
 fn answer_steps<R, A, G>(
-    rt: &R,
+    finder: &Finder<'_, R, A, G>,
     heap: Global,
-    alloc: A,
     base: &Image<A>,
     steps: &[Step],
-    settings: &Settings,
-    workers: usize,
-    gate: &G,
 ) -> Result<Outcome<A>, RunFault>
 where
     R: Threads + Wait + Sync,
     A: Allocator + Copy + Send + Sync,
     G: Gate + Sync,
-    requires limit { IsExplorable settings.now }
-    requires workers { (1 ≤ workers) × (workers ≤ 16) }
     requires sound { IsSound base.now × HasZeroJournal base.now }
     ensures reported { IfOk result (λ outcome.
-        AreReported settings.now base.now steps.now (string_bytes outcome.text) outcome.failing) }
+        AreReported finder.now.settings.now base.now steps.now (string_bytes outcome.text) outcome.failing) }
     ensures refused { IfErr result (λ fault. (fault ≢ RunFault.OutOfMemory)
-        → AreRefused settings.now base.now steps.now fault) }
-    ensures full { settings.now.module ≡ Full → settings.now.without.items ≡ []
+        → AreRefused finder.now.settings.now base.now steps.now fault) }
+    ensures full { finder.now.settings.now.module ≡ Full → finder.now.settings.now.without.items ≡ []
         → IfOk result (λ outcome. outcome.failing ≡ 0) }
 {
+    let (alloc, settings) = (finder.alloc, finder.settings);
     let ordering = settings.ordering();
     // For the proof: what every image keeps.
     let _blocks = base.blocks();
@@ -102,7 +104,7 @@ where
         graph: traced.graph(),
         kept,
     };
-    let found = find(rt, alloc, &crashes, settings, workers, gate)?;
+    let found = finder.find(&crashes)?;
     let findings = Findings {
         base,
         traced,
@@ -110,10 +112,11 @@ where
         kept,
         found,
     };
+    let (rt, workers) = (finder.rt, finder.workers);
     let text = match &findings.found.kept {
         Kept::Sets(sets) => findings.by_set(rt, heap, alloc, sets, workers)?,
         Kept::Faults(rows) => findings.by_fault(rt, heap, alloc, rows, workers)?,
-        Kept::Number => report_by_rule(rt, heap, alloc, &findings, workers, gate)?,
+        Kept::Number => report_by_rule(finder, heap, &findings)?,
     };
     Ok(Outcome {
         text,

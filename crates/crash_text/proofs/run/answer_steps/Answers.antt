@@ -13,7 +13,7 @@ use Rattle.crash_text.proofs.run.answer_steps.Goals as goal
 
 pub returns-clause-full : goal.returns-clause-full
 returns-clause-full g c = λ full none.
-    let settings = c.args.settings.now in
+    let settings = c.args.finder.now.settings.now in
     let base = c.args.base.now in
     let t = c.in_ok-traced.traced in
     let found = c.in_ok-found.ensures.found in

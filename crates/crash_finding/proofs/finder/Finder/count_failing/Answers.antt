@@ -6,7 +6,7 @@ use Rattle.crash_model.specs.Strict.{IsFailingUnder}
 use Rattle.crash_model.specs.Patches.{deps_of}
 use Rattle.fault_summary.specs.Prevented.{IsFirstPrevented}
 use Rattle.fault_summary.proofs.Prevented.{first_like}
-use Rattle.crash_finding.proofs.finding.count_failing.Goals as goal
+use Rattle.crash_finding.proofs.finder.Finder.count_failing.Goals as goal
 
 pub first_prevented-requires : goal.first_prevented-requires
 first_prevented-requires g c = subst (λ (ss : List ℕ). AllPairs IsBefore ss) (sym c.deref.ensures.value) c.in_ok-found.ensures.failing.ordered

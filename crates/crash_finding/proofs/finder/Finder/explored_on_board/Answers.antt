@@ -6,7 +6,7 @@ use Rattle.patch_sets.specs.Closed.{IsClosed}
 use Rattle.crash_model.specs.Patches.{deps_of}
 use Rattle.crash_model.specs.Failing.{CountsClosed, ExceedsLimit}
 use Rattle.crash_model.specs.Strict.{IsFailingUnder}
-use Rattle.crash_finding.proofs.on_board.explored_on_board.Goals as goal
+use Rattle.crash_finding.proofs.finder.Finder.explored_on_board.Goals as goal
 
 pub returns-in-Ok-clause-total : goal.returns-in-Ok-clause-total
 returns-in-Ok-clause-total g c =
@@ -25,7 +25,7 @@ returns-in-Err-TooMany-clause-too_many g c =
     let sets = c.in-Some.sets in
     let counted : CountsClosed patches sets =
     subst (λ deps. HoldsOf (IsClosed deps) sets) (c.deref.ensures.0 ∙ c.dependencies-deps.ensures.exact) c.in-Some.ensures.0 in
-    let more : ExceedsLimit patches c.board_limit.result =
-    subst (λ s. ExceedsLimit s.patches c.board_limit.result) c.new-space.ensures
-    (c.exploring_finds_the_failing_sets.ensures.too_many c.board_limit.result (c.in-Err-TooMany.ensures.too_many (search rules))) in
-    absurd (not_more (IsClosed (deps_of patches)) sets c.board_limit.result counted c.board_limit.ensures.enough more)
+    let more : ExceedsLimit patches c.board_limit-limit.result =
+    subst (λ s. ExceedsLimit s.patches c.board_limit-limit.result) c.new-space.ensures
+    (c.exploring_finds_the_failing_sets.ensures.too_many c.board_limit-limit.result (c.in-Err-TooMany.ensures.too_many (search rules))) in
+    absurd (not_more (IsClosed (deps_of patches)) sets c.board_limit-limit.result counted c.board_limit-limit.ensures.enough more)
