@@ -4,9 +4,11 @@
 # soft updates: ten files are created, and two of them written, which has 793,881, or five, which has 39,135,393.
 # Not part of the gate.
 #
-# What is timed takes turns in ROUNDS rounds (15; of the last script, which takes long, a fifth of them), and of each the
-# shortest run counts, so that all meet the machine alike. Where RIVAL names another program that takes the same arguments but
-# --explorer and --summary, it takes its turns too, and its time is told beside; CRASHMAP_ENGINE is 'list' for it.
+# What is timed takes turns in ROUNDS rounds (15; of the last script, which takes long, a fifth of them), so that all meet the
+# machine alike. The median run counts: a single busy processor may run a third faster than one of four, but does so in some
+# rounds only, so that the shortest runs of one worker and of four compare two machines. What they say is told beside. Where
+# RIVAL names another program that takes the same arguments but --explorer and --summary, it takes its turns too, and its time
+# is told as well; CRASHMAP_ENGINE is 'list' for it.
 set -eu
 top=$(cd "$(dirname "${BASH_SOURCE[0]}")/.." && pwd)
 printf 'start\n' | "$top/crashmap" >/dev/null # builds it where it is not built
@@ -21,16 +23,20 @@ trap 'rm -rf "$work"' EXIT
 # ours SCRIPT OPTION..: runs the program with memory as the launcher has it
 ours() { GLIBC_TUNABLES=$tunables "$program" "$@"; }
 
-# time_once NAME COMMAND..: keeps under that name how long the shortest run took, in microseconds
-declare -A best
+# time_once NAME COMMAND..: keeps under that name how long a run took, in microseconds
+declare -A spent
 time_once() {
-    local name=$1 before spent
+    local name=$1 before
     shift
     before=$(date +%s%N)
     "$@" >/dev/null 2>&1 || true
-    spent=$((($(date +%s%N) - before) / 1000))
-    if [ -z "${best[$name]:-}" ] || [ "$spent" -lt "${best[$name]}" ]; then best[$name]=$spent; fi
+    spent[$name]+="$((($(date +%s%N) - before) / 1000)) "
 }
+
+# ascending NAME: the times under that name; shortest NAME and median NAME: one of them
+ascending() { tr ' ' '\n' <<<"${spent[$1]% }" | sort -n; }
+shortest() { ascending "$1" | head -n 1; }
+median() { ascending "$1" | sed -n "$((($(wc -w <<<"${spent[$1]}") + 1) / 2))p"; }
 
 # closed_sets PROGRAM SCRIPT OPTION..: how many closed sets the program reports
 closed_sets() { "$@" | sed -n '/^closed /s///p' || true; }
@@ -54,7 +60,7 @@ hold() {
 time_one() {
     local name=$1 turns=$2 script=$work/$3 closed found workers load ours theirs beside
     shift 3
-    best=()
+    spent=()
     closed=$(closed_sets "$program" "$script" "$@" --explorer sweep)
     if [ -n "$rival" ]; then
         found=$(closed_sets "$rival" "$script" "$@")
@@ -70,15 +76,17 @@ time_one() {
     printf '%s: %d sets, %d rounds, load %s before and %s after\n' \
         "$name" "$closed" "$turns" "$load" "$(cut -d' ' -f1 /proc/loadavg)"
     for workers in 1 4; do
-        ours=${best[$workers]} beside=
+        ours=$(median "$workers") beside=
         if [ -n "$rival" ]; then
-            theirs=${best["$workers rival"]}
+            theirs=$(median "$workers rival")
             beside="; the rival $theirs us, $(times "$theirs" "$ours") times as fast"
+            beside+=" ($(times "$(shortest "$workers rival")" "$(shortest "$workers")") by the shortest runs)"
         fi
         printf '  %s workers: %d us, %d sets a second%s\n' "$workers" "$ours" $((closed * 1000000 / ours)) "$beside"
     done
-    printf '  four workers are %s times as fast as one; %d KiB held under --summary\n' \
-        "$(times "${best[4]}" "${best[1]}")" "$(hold "$script" "$@" --explorer sweep --summary --workers 4)"
+    printf '  four workers are %s times as fast as one (%s by the shortest runs); %d KiB held under --summary\n' \
+        "$(times "$(median 4)" "$(median 1)")" "$(times "$(shortest 4)" "$(shortest 1)")" \
+        "$(hold "$script" "$@" --explorer sweep --summary --workers 4)"
 }
 
 # creates WRITES: ten files are created, and so many of them written
