@@ -1,3 +1,5 @@
+//! A space of four words.
+
 ghost use Rattle.std.specs.Prelude.{◌≢◌, ℕ};
 ghost use Rattle.test_board.specs.Diamond.{diamond};
 

@@ -1,3 +1,5 @@
+//! A space whose first word leads to all others.
+
 ghost use Rattle.std.specs.Prelude.{ℕ, ◌<◌, [], cond, ◌==◌, length};
 
 use state_space::Space;

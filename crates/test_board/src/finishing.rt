@@ -1,11 +1,12 @@
-// Tests of the end of a board: who reads when that all is finished, what a stop leaves, and what `close` gives.
-ghost use Rattle.std.specs.Prelude.{◌≡◌, ◌≢◌, ◌+◌, ◌<◌, [], ◌∷◌, nat_lt, if◌then◌else◌};
-ghost use Rattle.seen_board.specs.Clauses.{IsOf};
+//! Tests of the end of a board: who reads when that all is finished, what a stop leaves, and what `close` gives.
+
+ghost use Rattle.std.specs.Prelude.{◌≡◌, ◌≢◌, ◌<◌};
+ghost use Rattle.seen_board.specs.Clauses.{IsOf, HasPlace, HasClaim, IsAtRest};
 ghost use Rattle.test_board.specs.Diamond.{diamond};
 ghost use Rattle.test_board.specs.Worker.{IsIdle};
 
-use crate::tests::put_after_start;
-use crate::{Diamond, expand, work};
+use crate::trials::{DiamondBoard, FIRST, START, put_after_start, waits_for};
+use crate::{Diamond, Ladder, expand, is_explored, work};
 use seen_board::{Board, BoardSeat, Contents, Life, Place, Put};
 use state_space::Space;
 use std::alloc::{AllocError, Global};
@@ -14,22 +15,9 @@ use std::sync::Wait;
 use std::sync::atomic::AtomicBool;
 use std::sync::atomic::Ordering::SeqCst;
 use std::test::Fail;
-use std::thread::{join, yield_now};
+use std::thread::join;
 
-const START: Place = Place { shard: 0, at: 0 };
-
-// Waits for a flag, for a bounded number of turns. `false` where it stays down.
-fn waits_for(flag: &AtomicBool) -> bool {
-    for _ in 0..10_000_000u32 {
-        if flag.load(SeqCst) {
-            return true;
-        }
-        yield_now();
-    }
-    false
-}
-
-// A diamond whose initial word is judged only once another thread lets it go on.
+/// A diamond whose initial word is judged only once another thread lets it go on.
 #[derive(Drop)]
 struct Paused {
     judging: AtomicBool,
@@ -78,108 +66,79 @@ impl Space for Paused {
     ghost successor_lawful = { λ _ _ _ _ _. tt };
 }
 
-// Fails unless the final board has the four words of the diamond, each with its verdict, and no others.
-fn expect_diamond(rt: &impl Abort, contents: &Contents<Global>) {
-    for shard in 0..13u8 {
-        if shard >= 4 {
-            assert_eq!(rt; contents.len(shard), 0);
-            continue;
-        }
-        assert_eq!(rt; contents.len(shard), 1);
-        let place = Place { shard, at: 0 };
-        assert_eq!(rt; contents.word(place), u128::from(shard));
-        let life = if shard == 2 {
-            Life::Broken
-        } else {
-            Life::Clean
-        };
-        assert_eq!(rt; contents.life(place), life);
-    }
-}
-
-// Claims an entry and expands it.
-fn settle_entry<R: Abort + Wait>(
-    rt: &R,
-    board: &Board<Diamond, Global>,
-    space: &Diamond,
-    seat: &mut BoardSeat,
-    place: Place,
-)
-    requires { IsIdle board.now seat.old × (board.now.space ≡ space.now) }
+/// Claims an entry and expands it, which settles it.
+fn settle_entry<R: Abort + Wait>(rt: &R, board: &DiamondBoard, seat: &mut BoardSeat, place: Place)
+    requires { IsIdle board.now seat.old }
     ensures { IsIdle board.now seat.new }
 {
     assert!(rt; seat.has_seen(place));
     assert!(rt; board.claim(seat, place));
-    assert!(rt; matches!(expand(rt, board, space, &mut (), seat, place), Ok(true)));
+    assert!(rt; matches!(expand(rt, board, &Diamond, &mut (), seat, place), Ok(true)));
 }
 
-// Fails unless neither seat reads that all is finished, and lets the first expand an entry.
-fn settle_unfinished<R: Abort + Wait>(
+/// One seat settles the four words, one after another, and before each of them neither reads that all is finished.
+fn settle_four<R: Abort + Wait>(
     rt: &R,
-    board: &Board<Diamond, Global>,
-    space: &Diamond,
+    board: &DiamondBoard,
     seat: &mut BoardSeat,
     other: &mut BoardSeat,
-    place: Place,
 )
-    requires seat { IsIdle board.now seat.old × (board.now.space ≡ space.now) }
+    requires seat { IsIdle board.now seat.old }
     requires other { IsIdle board.now other.old }
     ensures seat { IsIdle board.now seat.new }
     ensures other { IsIdle board.now other.new }
 {
-    assert!(rt; !board.finished(seat));
-    assert!(rt; !board.finished(other));
-    settle_entry(rt, board, space, seat, place);
+    for shard in 0..4u8 {
+        assert!(rt; !board.finished(seat));
+        assert!(rt; !board.finished(other));
+        settle_entry(rt, board, seat, Place { shard, at: 0 });
+    }
 }
 
 #[test]
 fn finished_comes_with_the_last_verdict(rt: HostRuntime) -> Result<(), Fail> {
     let (board, mut seat, _) = Board::open(rt.alloc(), &Diamond, 4)?;
     let mut other = board.split(&mut seat);
-    let (shared, space, handle) = (&board, &Diamond, &rt);
-    settle_unfinished(handle, shared, space, &mut seat, &mut other, START);
-    let (second, third, last) = (
-        Place { shard: 1, at: 0 },
-        Place { shard: 2, at: 0 },
-        Place { shard: 3, at: 0 },
-    );
-    settle_unfinished(handle, shared, space, &mut seat, &mut other, second);
-    settle_unfinished(handle, shared, space, &mut seat, &mut other, third);
-    settle_unfinished(handle, shared, space, &mut seat, &mut other, last);
+    settle_four(&rt, &board, &mut seat, &mut other);
     assert!(rt; board.finished(&mut other));
     assert!(rt; board.finished(&mut seat));
-    let contents = board.close(other);
-    expect_diamond(&rt, &contents);
+    assert!(rt; is_explored(&board.close(other)));
     Ok(())
+}
+
+/// Puts the word 1 in twice, while neither seat reads that all is finished. It is new once.
+fn put_twice(rt: &impl Abort, board: &DiamondBoard, seat: &mut BoardSeat, other: &mut BoardSeat)
+    requires seat { IsIdle board.now seat.old }
+    requires start { HasPlace seat.old.seen START }
+    requires other { IsIdle board.now other.old }
+    ensures seat { IsAtRest board.now seat.new }
+    ensures claim { HasClaim seat.new START × HasPlace seat.new.seen START }
+    ensures other { IsIdle board.now other.new }
+{
+    assert!(rt; board.claim(seat, START));
+    assert!(rt; !board.finished(other));
+    assert!(rt; put_after_start(rt, board, &Diamond, seat, 0) == Put::New(FIRST));
+    assert!(rt; !board.finished(other));
+    assert!(rt; put_after_start(rt, board, &Diamond, seat, 0) == Put::Known(FIRST));
+    assert!(rt; !board.finished(seat));
 }
 
 #[test]
 fn a_word_is_new_once_and_the_entry_settled_later(rt: HostRuntime) -> Result<(), Fail> {
     let (board, mut seat, _) = Board::open(rt.alloc(), &Diamond, 4)?;
     let mut other = board.split(&mut seat);
-    let place = Place { shard: 1, at: 0 };
-    assert!(rt; board.claim(&mut seat, START));
-    assert!(rt; !board.finished(&mut other));
-    assert!(rt; put_after_start(&rt, &board, &Diamond, &mut seat, 0) == Put::New(place));
-    assert!(rt; !board.finished(&mut other));
-    assert!(rt; put_after_start(&rt, &board, &Diamond, &mut seat, 0) == Put::Known(place));
-    assert!(rt; !board.finished(&mut seat));
-    assert!(rt;
-        matches!(
-            expand(&rt, &board, &Diamond, &mut (), &mut seat, START),
-            Ok(true)
-        )
-    );
+    put_twice(&rt, &board, &mut seat, &mut other);
+    let within = expand(&rt, &board, &Diamond, &mut (), &mut seat, START);
+    assert!(rt; matches!(within, Ok(true)));
     assert!(rt; !board.finished(&mut other));
     let mut seat = work(&rt, &board, &Diamond, seat);
     assert!(rt; board.finished(&mut other));
     assert!(rt; board.finished(&mut seat));
-    let contents = board.close(seat);
-    expect_diamond(&rt, &contents);
+    assert!(rt; is_explored(&board.close(seat)));
     Ok(())
 }
 
-// What a seat reads of the end while another judges its first entry, and whether it came in time. Then it works on.
+/// What a seat reads of the end while another judges its first entry, and whether it came in time. Then it works on.
 fn read_amid_judging<R: Wait>(
     rt: &R,
     board: &Board<Paused, Global>,
@@ -214,92 +173,76 @@ fn finished_is_false_amid_an_expansion(rt: HostRuntime) -> Result<(), Fail> {
     assert!(rt; board.finished(&mut other));
     assert!(rt; board.finished(&mut seat));
     board.join(&mut seat, other);
-    let contents = board.close(seat);
-    expect_diamond(&rt, &contents);
+    assert!(rt; is_explored(&board.close(seat)));
     Ok(())
+}
+
+/// Stops the board where a seat has claimed the first word. No seat can claim it then.
+fn stop_a_claim(rt: &impl Abort, board: &DiamondBoard, seat: &mut BoardSeat, other: &mut BoardSeat)
+    requires seat { IsIdle board.now seat.old }
+    requires other { IsIdle board.now other.old }
+    requires start { HasPlace seat.old.seen START × HasPlace other.old.seen START }
+    ensures seat { IsOf board.now seat.new }
+    ensures other { IsOf board.now other.new }
+{
+    assert!(rt; !board.stopped(other));
+    assert!(rt; board.claim(seat, START));
+    board.stop(seat);
+    assert!(rt; board.stopped(other));
+    assert!(rt; !board.claim(other, START));
+    assert!(rt; !board.claim(seat, START));
+}
+
+/// Whether the final board has the first word alone in its shard, claimed.
+fn is_claimed(contents: &Contents<Global>) -> bool {
+    contents.len(0) == 1 && contents.life(START) == Life::Claimed
 }
 
 #[test]
 fn a_stop_is_read_and_the_entry_stays_claimed(rt: HostRuntime) -> Result<(), Fail> {
     let (board, mut seat, _) = Board::open(rt.alloc(), &Diamond, 4)?;
     let mut other = board.split(&mut seat);
-    assert!(rt; !board.stopped(&mut other));
-    assert!(rt; board.claim(&mut seat, START));
-    board.stop(&mut seat);
-    assert!(rt; board.stopped(&mut other));
-    assert!(rt; !board.claim(&mut other, START));
-    assert!(rt; !board.claim(&mut seat, START));
+    stop_a_claim(&rt, &board, &mut seat, &mut other);
     assert!(rt; !board.finished(&mut other));
-    let contents = board.close(seat);
-    assert_eq!(rt; contents.len(0), 1);
-    assert_eq!(rt; contents.life(START), Life::Claimed);
+    assert!(rt; is_claimed(&board.close(seat)));
     Ok(())
 }
 
-// The words from 0 to 40, each of which leads to the next two. All are good.
-#[derive(Drop)]
-struct Ladder;
-
-impl Space for Ladder {
-    type Scratch = ();
-
-    ghost is_lawful = { λ _ _. Unit {0} };
-
-    ghost initial = { λ _. 0 };
-
-    ghost successors = { λ _ word. if nat_lt word 39 then (word + 1) ∷ (word + 2) ∷ [] else [] };
-
-    ghost is_good = { λ _ _. Unit {0} };
-
-    ghost is_own = { λ _ _. Unit {0} };
-
-    fn start(&self) -> u128 {
-        0
-    }
-
-    fn scratch(&self) -> Result<(), AllocError> {
-        Ok(())
-    }
-
-    fn degree(&self, word: u128) -> u32 {
-        if word < 39 { 2 } else { 0 }
-    }
-
-    fn next(&self, word: u128, k: u32) -> u128 {
-        if k == 0 { word + 1 } else { word + 2 }
-    }
-
-    fn judge(&self, _scratch: &mut (), _word: u128) -> Result<bool, AllocError> {
-        Ok(true)
-    }
-
-    ghost initial_lawful = { λ _. tt };
-
-    ghost successor_lawful = { λ _ _ _ _ _. tt };
-}
-
-// Ticks the words of a row off. Fails where one is no word of the shard or was ticked off before.
-fn tick_row(rt: &impl Abort, contents: &Contents<Global>, shard: u8, ticked: &mut [bool; 41])
+/// Ticks the words of a row off, each a bit of a number. Fails where one is no word of the shard, was ticked off before
+/// or is not clean.
+fn tick_row(rt: &impl Abort, contents: &Contents<Global>, shard: u8, mut ticked: u128) -> u128
     requires { shard < 13 }
 {
     let count = contents.len(shard);
     assert!(rt; count <= 41);
     for at in 0..count as u16 {
-        let place = Place { shard, at };
-        let word = contents.word(place);
-        assert!(rt; word < 41);
-        assert!(rt; word % 13 == u128::from(shard));
-        assert!(rt; !ticked[word as usize]);
-        ticked[word as usize] = true;
-        assert_eq!(rt; contents.life(place), Life::Clean);
+        let word = contents.word(Place { shard, at });
+        assert!(rt; word < 41 && word % 13 == u128::from(shard));
+        assert!(rt; ticked >> word & 1 == 0);
+        assert!(rt; contents.life(Place { shard, at }) == Life::Clean);
+        ticked |= 1 << word;
     }
+    ticked
+}
+
+/// Fails unless the final board has each word of the ladder once, and no others.
+fn tick_all(rt: &impl Abort, contents: &Contents<Global>) {
+    let mut ticked = 0;
+    for shard in 0..13u8 {
+        ticked = tick_row(rt, contents, shard, ticked);
+    }
+    assert!(rt; ticked == (1 << 41) - 1);
 }
 
 #[test]
 fn a_finished_board_has_each_word_once(rt: HostRuntime) -> Result<(), Fail> {
-    let (board, mut seat, _) = Board::open(rt.alloc(), &Ladder, 41)?;
+    let ladder = Ladder {
+        last: 40,
+        good_to: 40,
+    };
+    let (board, mut seat, _) = Board::open(rt.alloc(), &ladder, 41)?;
     let other = board.split(&mut seat);
-    let (shared, space, handle) = (&board, &Ladder, &rt);
+    let (shared, space, handle) = (&board, &ladder, &rt);
     let (mut seat, other) = join(
         &rt,
         move || work(handle, shared, space, seat),
@@ -307,11 +250,6 @@ fn a_finished_board_has_each_word_once(rt: HostRuntime) -> Result<(), Fail> {
     );
     board.join(&mut seat, other);
     assert!(rt; board.finished(&mut seat));
-    let contents = board.close(seat);
-    let mut ticked = [false; 41];
-    for shard in 0..13u8 {
-        tick_row(&rt, &contents, shard, &mut ticked);
-    }
-    assert!(rt; ticked == [true; 41]);
+    tick_all(&rt, &board.close(seat));
     Ok(())
 }

@@ -1,3 +1,5 @@
+//! A worker that expands what it claims.
+
 ghost use Rattle.std.specs.Prelude.{◌≡◌, ◌≢◌, ◌<◌, ◌⊎◌, true, false, length, slice_index, IfOk};
 ghost use Rattle.board_rule.specs.Rule.{IsWhole};
 ghost use Rattle.seen_board.specs.Clauses.{IsOf, SeesOn, HasClaim, HasPlace, word_at};
@@ -48,7 +50,7 @@ pub fn expand<S: Space, A: Allocator, R: Wait>(
     Ok(true)
 }
 
-// Expands the entry at a place if it is waiting. `false` where the board was outgrown.
+/// Expands the entry at a place if it is waiting. `false` where the board was outgrown.
 pub(crate) fn visit_place<S: Space, A: Allocator, R: Wait>(
     rt: &R,
     board: &Board<S, A>,

@@ -6,7 +6,7 @@ use crash_model::refusals::RunFault;
 use crash_text::run::{Outcome, run};
 use explorers::OpenGate;
 use sha1::Sha1;
-use std::alloc::Global;
+use std::alloc::{AllocError, Global};
 use std::process::Abort;
 use std::sync::Wait;
 use std::test::Fail;
@@ -17,8 +17,62 @@ use test_support::refusing::Refusing;
 /// The most closed sets that each of them may have.
 const LIMIT: usize = 4096;
 
-/// Whether the run reports, and then exactly so; else it is out of memory.
+/// What a run answers that takes its memory from what refuses it.
+type Answer<'m> = Result<Outcome<&'m Refusing<Global>>, RunFault>;
+
+/// Whether the outcome's text has this digest.
+fn has_digest(
+    heap: Global,
+    outcome: &Outcome<&Refusing<Global>>,
+    digest: &str,
+) -> Result<bool, AllocError> {
+    Ok(hex::encode(heap, Sha1::digest(outcome.text.as_bytes()))?.as_str() == digest)
+}
+
+/// Whether the run reported, and then exactly so; else it is out of memory.
+fn expect_report<R: Abort + AllocGlobal>(
+    rt: &R,
+    answer: &Answer<'_>,
+    digest: &str,
+) -> Result<bool, Fail> {
+    match answer {
+        Ok(outcome) => {
+            assert!(rt; has_digest(rt.alloc(), outcome, digest)?);
+            Ok(true)
+        }
+        Err(fault) => {
+            assert!(rt; *fault == RunFault::OutOfMemory);
+            Ok(false)
+        }
+    }
+}
+
+/// What is run, and must report in text or in JSON, or be refused for too low a limit.
+#[derive(Clone, Copy)]
+pub enum Trial<'a> {
+    Text(&'a Asked),
+    Json(&'a Asked),
+    TooMany,
+}
+
+/// Whether a run answers as it must; else it is out of memory.
 pub fn answers<R: Abort + AllocGlobal + Threads + Wait + Sync>(
+    rt: &R,
+    memory: &Refusing<Global>,
+    trial: Trial<'_>,
+    workers: usize,
+) -> Result<bool, Fail>
+    requires { (1 ≤ workers) × (workers ≤ 16) }
+{
+    match trial {
+        Trial::Text(asked) => reports(rt, memory, asked, false, workers),
+        Trial::Json(asked) => reports(rt, memory, asked, true, workers),
+        Trial::TooMany => Ok(refuses_too_many(rt, memory, workers)),
+    }
+}
+
+/// Whether the run reports, and then exactly so; else it is out of memory.
+fn reports<R: Abort + AllocGlobal + Threads + Wait + Sync>(
     rt: &R,
     memory: &Refusing<Global>,
     asked: &Asked,
@@ -30,54 +84,33 @@ pub fn answers<R: Abort + AllocGlobal + Threads + Wait + Sync>(
     let heap = rt.alloc();
     let settings = asked.settings(LIMIT, json);
     let script = asked.whole_script(heap)?;
-    match run(rt, heap, memory, &script, &settings, workers, &OpenGate) {
-        Ok(outcome) => {
-            expect_report(rt, heap, &outcome, asked.report(json))?;
-            Ok(true)
-        }
-        Err(fault) => {
-            assert_eq!(rt; fault, RunFault::OutOfMemory);
-            Ok(false)
-        }
-    }
-}
-
-fn expect_report(
-    rt: &impl Abort,
-    heap: Global,
-    outcome: &Outcome<&Refusing<Global>>,
-    expected: &str,
-) -> Result<(), Fail> {
-    let digest = hex::encode(heap, Sha1::digest(outcome.text.as_bytes()))?;
-    assert!(rt; digest.as_str() == expected);
-    Ok(())
+    let answer = run(rt, heap, memory, &script, &settings, workers, &OpenGate);
+    expect_report(rt, &answer, asked.report(json))
 }
 
 /// Whether a run with too low a limit is refused for that; else it is out of memory.
-pub fn refuses_too_many<R: Abort + AllocGlobal + Threads + Wait + Sync>(
+fn refuses_too_many<R: Abort + AllocGlobal + Threads + Wait + Sync>(
     rt: &R,
     memory: &Refusing<Global>,
     workers: usize,
-) -> Result<bool, Fail>
+) -> bool
     requires { (1 ≤ workers) × (workers ≤ 16) }
 {
     let settings = WRITE.settings(WRITE.closed - 1, false);
-    match run(
+    let script = WRITE.script;
+    let answer = run(
         rt,
         rt.alloc(),
         memory,
-        WRITE.script,
+        script,
         &settings,
         workers,
         &OpenGate,
-    ) {
-        Ok(_) => {
-            assert!(rt; false, "24 closed sets are more than 23");
-            Ok(false)
-        }
-        Err(fault) => {
-            assert!(rt; fault == RunFault::OutOfMemory || fault == RunFault::TooMany);
-            Ok(fault == RunFault::TooMany)
-        }
-    }
+    );
+    let too_many = matches!(&answer, Err(RunFault::TooMany));
+    assert!(rt;
+        too_many || matches!(&answer, Err(RunFault::OutOfMemory)),
+        "24 closed sets are more than 23"
+    );
+    too_many
 }

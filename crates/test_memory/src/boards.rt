@@ -1,34 +1,85 @@
 //! Calls of the board take no memory: after `open` every request is refused, and none is made.
 
-use seen_board::{Board, Got, Life, Place, Put};
+ghost use Rattle.std.specs.Prelude.{◌≡◌};
+ghost use Rattle.seen_board.specs.Clauses.{IsOf, HasPlace};
+ghost use Rattle.test_board.specs.Worker.{IsIdle};
+
+use seen_board::{Board, BoardSeat, Got, Place, Put};
 use state_space::Space;
+use std::alloc::Global;
+use std::process::Abort;
+use std::sync::Wait;
 use std::test::Fail;
-use test_board::{Diamond, put_successor, work};
+use test_board::{Diamond, is_explored, put_successor, work};
 use test_support::refusing::Refusing;
+
+/// A board in the memory of these tests.
+type Trial<'m> = Board<Diamond, &'m Refusing<Global>>;
 
 /// The place of the first word.
 const START: Place = Place { shard: 0, at: 0 };
 
-#[test]
-fn exploring_takes_none(rt: HostRuntime) -> Result<(), Fail> {
-    let memory = Refusing::new(rt.alloc());
-    let (board, mut seat, _) = Board::open(&memory, &Diamond, 4)?;
-    memory.gauge().refuse(1, u64::MAX);
+/// The place of its first successor.
+const NEXT: Place = Place { shard: 1, at: 0 };
+
+/// Explores the whole board with one seat, beside one that is split off before and joined after.
+fn explore<R: Abort + Wait>(rt: &R, board: &Trial<'_>, mut seat: BoardSeat) -> BoardSeat
+    requires { IsIdle board.now seat }
+    ensures { IsOf board.now result }
+{
     let other = board.split(&mut seat);
-    let mut seat = work(&rt, &board, &Diamond, seat);
+    let mut seat = work(rt, board, &Diamond, seat);
     board.join(&mut seat, other);
     assert!(rt; board.finished(&mut seat));
     assert!(rt; !board.stopped(&mut seat));
-    let contents = board.close(seat);
-    for word in 0..4u8 {
-        assert!(rt; contents.len(word) == 1);
-        let place = Place { shard: word, at: 0 };
-        assert_eq!(rt; contents.word(place), word as u128);
-        let life = if word == 2 { Life::Broken } else { Life::Clean };
-        assert!(rt; contents.life(place) == life);
-    }
-    assert_eq!(rt; memory.gauge().asked(), 0);
+    seat
+}
+
+#[test]
+fn exploring_takes_none(rt: HostRuntime) -> Result<(), Fail> {
+    let memory = Refusing::new(rt.alloc());
+    let (board, seat, _) = Board::open(&memory, &Diamond, 4)?;
+    memory.gauge().refuse(1, u64::MAX);
+    let seat = explore(&rt, &board, seat);
+    assert!(rt; is_explored(&board.close(seat)));
+    assert!(rt; memory.gauge().asked() == 0);
     Ok(())
+}
+
+/// A seat writes, and keeps the other out, and then reads the shard of the first word.
+fn take_rights<R: Abort + Wait>(
+    rt: &R,
+    board: &Trial<'_>,
+    seat: &mut BoardSeat,
+    other: &mut BoardSeat,
+)
+    requires seat { IsIdle board.now seat.old }
+    requires other { IsIdle board.now other.old }
+    ensures seat { IsIdle board.now seat.new }
+    ensures other { IsIdle board.now other.new }
+{
+    board.write(rt, seat, 0);
+    assert!(rt; board.try_read(other, 0) == Got::Busy);
+    board.give(seat, 0);
+    board.read(rt, seat, 0);
+    assert!(rt; board.see(seat, 0) == 1);
+    assert!(rt; board.look(seat, 0) == Some(START));
+    board.leave(seat, 0);
+}
+
+/// A seat claims the first word and puts its first successor in, which the other finds. Then it stops the other.
+fn claim_and_stop(rt: &impl Abort, board: &Trial<'_>, seat: &mut BoardSeat, other: &mut BoardSeat)
+    requires seat { IsIdle board.now seat.old }
+    requires other { IsOf board.now other.old }
+{
+    assert!(rt; seat.has_seen(START));
+    assert!(rt; board.claim(seat, START));
+    let word = board.at(seat, START);
+    assert!(rt; 0 < Diamond.degree(word));
+    assert!(rt; put_successor(board, &Diamond, seat, START, 0) == Put::New(NEXT));
+    assert!(rt; board.find(other, 1) == Some(NEXT));
+    board.stop(seat);
+    assert!(rt; board.stopped(other));
 }
 
 #[test]
@@ -37,22 +88,8 @@ fn rights_and_claims_take_none(rt: HostRuntime) -> Result<(), Fail> {
     let (board, mut seat, _) = Board::open(&memory, &Diamond, 4)?;
     memory.gauge().refuse(1, u64::MAX);
     let mut other = board.split(&mut seat);
-    board.write(&rt, &mut seat, 0);
-    assert!(rt; board.try_read(&mut other, 0) == Got::Busy);
-    board.give(&mut seat, 0);
-    board.read(&rt, &mut seat, 0);
-    assert_eq!(rt; board.see(&mut seat, 0), 1);
-    assert_eq!(rt; board.look(&mut seat, 0), Some(START));
-    board.leave(&mut seat, 0);
-    assert!(rt; seat.has_seen(START));
-    assert!(rt; board.claim(&mut seat, START));
-    let word = board.at(&mut seat, START);
-    assert!(rt; 0 < Diamond.degree(word));
-    let place = Place { shard: 1, at: 0 };
-    assert!(rt; put_successor(&board, &Diamond, &mut seat, START, 0) == Put::New(place));
-    assert_eq!(rt; board.find(&mut other, 1), Some(place));
-    board.stop(&mut seat);
-    assert!(rt; board.stopped(&mut other));
-    assert_eq!(rt; memory.gauge().asked(), 0);
+    take_rights(&rt, &board, &mut seat, &mut other);
+    claim_and_stop(&rt, &board, &mut seat, &mut other);
+    assert!(rt; memory.gauge().asked() == 0);
     Ok(())
 }

@@ -2,7 +2,7 @@
 
 ghost use Rattle.std.specs.Prelude.{◌≤◌};
 
-use crate::answers::{answers, refuses_too_many};
+use crate::answers::{Trial, answers};
 use std::alloc::Global;
 use std::process::Abort;
 use std::sync::Wait;
@@ -14,29 +14,31 @@ use test_support::refusing::Refusing;
 /// More requests than any run here makes.
 const MOST: u64 = 20_000;
 
-/// The answer to a run in which a request was refused or none, and to one after it in which none is.
-fn expect_answer(
-    rt: &impl Abort,
+/// Runs while requests are refused: with one worker the run is out of memory exactly where one was, with more only
+/// there, and the run after it reports. Tells whether one was refused.
+fn run_refused<R: Abort + AllocGlobal + Threads + Wait + Sync>(
+    rt: &R,
     memory: &Refusing<Global>,
-    answered: bool,
+    trial: Trial<'_>,
     workers: usize,
-) -> bool {
+) -> Result<bool, Fail>
+    requires { (1 ≤ workers) × (workers ≤ 16) }
+{
+    let answered = answers(rt, memory, trial, workers)?;
     let refused = memory.gauge().refused() > 0;
-    if workers == 1 {
-        assert_eq!(rt; answered, !refused);
-    } else {
-        assert!(rt; answered || refused);
-    }
     memory.gauge().refuse(1, 0);
-    refused
+    if workers == 1 {
+        assert!(rt; answered == !refused);
+    }
+    assert!(rt; answered || refused);
+    assert!(rt; !refused || answers(rt, memory, trial, workers)?);
+    Ok(refused)
 }
 
-/// Refuses each request of a run in turn, until there is none to refuse: with one worker the run is out of memory
-/// exactly where one was, with more only there, and the run after it reports.
+/// Refuses each request of a run in turn, alone or with all the rest, until there is none to refuse.
 fn refuse_each<R: Abort + AllocGlobal + Threads + Wait + Sync>(
     rt: &R,
-    asked: &Asked,
-    json: bool,
+    trial: Trial<'_>,
     workers: usize,
     rest: bool,
 ) -> Result<(), Fail>
@@ -44,15 +46,12 @@ fn refuse_each<R: Abort + AllocGlobal + Threads + Wait + Sync>(
 {
     let memory = Refusing::new(rt.alloc());
     for number in 1..MOST {
-        memory
-            .gauge()
-            .refuse(number, if rest { u64::MAX } else { number });
-        let answered = answers(rt, &memory, asked, json, workers)?;
-        if !expect_answer(rt, &memory, answered, workers) {
+        let last = if rest { u64::MAX } else { number };
+        memory.gauge().refuse(number, last);
+        if !run_refused(rt, &memory, trial, workers)? {
             assert!(rt; number > 1, "nothing was refused");
             return Ok(());
         }
-        assert!(rt; answers(rt, &memory, asked, json, workers)?);
     }
     assert!(rt; false, "a run makes more requests than that");
     Ok(())
@@ -66,8 +65,19 @@ fn refuse_in_both_forms<R: Abort + AllocGlobal + Threads + Wait + Sync>(
 ) -> Result<(), Fail>
     requires { (1 ≤ workers) × (workers ≤ 16) }
 {
-    refuse_each(rt, asked, false, workers, false)?;
-    refuse_each(rt, asked, true, workers, false)
+    refuse_each(rt, Trial::Text(asked), workers, false)?;
+    refuse_each(rt, Trial::Json(asked), workers, false)
+}
+
+/// All requests from one on.
+fn refuse_for_good<R: Abort + AllocGlobal + Threads + Wait + Sync>(
+    rt: &R,
+    workers: usize,
+) -> Result<(), Fail>
+    requires { (1 ≤ workers) × (workers ≤ 16) }
+{
+    refuse_each(rt, Trial::Text(&CREATE), workers, true)?;
+    refuse_each(rt, Trial::Text(&REUSE), workers, true)
 }
 
 #[test]
@@ -87,12 +97,12 @@ fn one_worker_links_to_and_fro(rt: HostRuntime) -> Result<(), Fail> {
 
 #[test]
 fn one_worker_behind_a_journal_in_text(rt: HostRuntime) -> Result<(), Fail> {
-    refuse_each(&rt, &JOURNAL, false, 1, false)
+    refuse_each(&rt, Trial::Text(&JOURNAL), 1, false)
 }
 
 #[test]
 fn one_worker_behind_a_journal_in_json(rt: HostRuntime) -> Result<(), Fail> {
-    refuse_each(&rt, &JOURNAL, true, 1, false)
+    refuse_each(&rt, Trial::Json(&JOURNAL), 1, false)
 }
 
 #[test]
@@ -102,8 +112,7 @@ fn one_worker_before_a_strict_checker(rt: HostRuntime) -> Result<(), Fail> {
 
 #[test]
 fn one_worker_loses_memory_for_good(rt: HostRuntime) -> Result<(), Fail> {
-    refuse_each(&rt, &CREATE, false, 1, true)?;
-    refuse_each(&rt, &REUSE, false, 1, true)
+    refuse_for_good(&rt, 1)
 }
 
 #[test]
@@ -123,12 +132,12 @@ fn two_workers_link_to_and_fro(rt: HostRuntime) -> Result<(), Fail> {
 
 #[test]
 fn two_workers_behind_a_journal_in_text(rt: HostRuntime) -> Result<(), Fail> {
-    refuse_each(&rt, &JOURNAL, false, 2, false)
+    refuse_each(&rt, Trial::Text(&JOURNAL), 2, false)
 }
 
 #[test]
 fn two_workers_behind_a_journal_in_json(rt: HostRuntime) -> Result<(), Fail> {
-    refuse_each(&rt, &JOURNAL, true, 2, false)
+    refuse_each(&rt, Trial::Json(&JOURNAL), 2, false)
 }
 
 #[test]
@@ -138,8 +147,7 @@ fn two_workers_before_a_strict_checker(rt: HostRuntime) -> Result<(), Fail> {
 
 #[test]
 fn two_workers_lose_memory_for_good(rt: HostRuntime) -> Result<(), Fail> {
-    refuse_each(&rt, &CREATE, false, 2, true)?;
-    refuse_each(&rt, &REUSE, false, 2, true)
+    refuse_for_good(&rt, 2)
 }
 
 #[test]
@@ -159,12 +167,12 @@ fn four_workers_link_to_and_fro(rt: HostRuntime) -> Result<(), Fail> {
 
 #[test]
 fn four_workers_behind_a_journal_in_text(rt: HostRuntime) -> Result<(), Fail> {
-    refuse_each(&rt, &JOURNAL, false, 4, false)
+    refuse_each(&rt, Trial::Text(&JOURNAL), 4, false)
 }
 
 #[test]
 fn four_workers_behind_a_journal_in_json(rt: HostRuntime) -> Result<(), Fail> {
-    refuse_each(&rt, &JOURNAL, true, 4, false)
+    refuse_each(&rt, Trial::Json(&JOURNAL), 4, false)
 }
 
 #[test]
@@ -174,34 +182,12 @@ fn four_workers_before_a_strict_checker(rt: HostRuntime) -> Result<(), Fail> {
 
 #[test]
 fn four_workers_lose_memory_for_good(rt: HostRuntime) -> Result<(), Fail> {
-    refuse_each(&rt, &CREATE, false, 4, true)?;
-    refuse_each(&rt, &REUSE, false, 4, true)
-}
-
-/// Refuses each request of a run with too low a limit in turn.
-fn refuse_each_of_too_many<R: Abort + AllocGlobal + Threads + Wait + Sync>(
-    rt: &R,
-    workers: usize,
-) -> Result<(), Fail>
-    requires { (1 ≤ workers) × (workers ≤ 16) }
-{
-    let memory = Refusing::new(rt.alloc());
-    for number in 1..MOST {
-        memory.gauge().refuse(number, number);
-        let answered = refuses_too_many(rt, &memory, workers)?;
-        if !expect_answer(rt, &memory, answered, workers) {
-            assert!(rt; number > 1, "nothing was refused");
-            return Ok(());
-        }
-        assert!(rt; refuses_too_many(rt, &memory, workers)?);
-    }
-    assert!(rt; false, "a run makes more requests than that");
-    Ok(())
+    refuse_for_good(&rt, 4)
 }
 
 #[test]
 fn too_many_sets_or_no_memory(rt: HostRuntime) -> Result<(), Fail> {
-    refuse_each_of_too_many(&rt, 1)?;
-    refuse_each_of_too_many(&rt, 2)?;
-    refuse_each_of_too_many(&rt, 4)
+    refuse_each(&rt, Trial::TooMany, 1, false)?;
+    refuse_each(&rt, Trial::TooMany, 2, false)?;
+    refuse_each(&rt, Trial::TooMany, 4, false)
 }

@@ -4,38 +4,27 @@ ghost use Rattle.std.specs.Prelude.{◌≡◌, ◌<◌, IfOk};
 ghost use Rattle.std.specs.List.{All};
 ghost use Rattle.crash_model.specs.Patches.{AreUndo};
 
-use crash_image::{Mover, PatchSpace};
+use crash_image::{Mover, PatchSpace, Scratch};
 use crash_model::modules::Module;
 use crash_model::names::{GroupName, Path};
 use crash_model::operations::Op;
+use crash_model::steps::Step;
 use disk_image::Image;
 use fs_check::is_clean;
 use inode_fs::{apply, plan};
 use journal_replay::replay;
-use order_modules::{Ordering, build_base, trace};
+use order_modules::build_base;
 use patch_graph::Graph;
 use script_text::read_script;
 use state_space::Space;
-use std::alloc::Global;
+use std::alloc::{AllocError, Global};
 use std::process::Abort;
 use std::test::Fail;
 use test_support::refusing::Refusing;
+use test_support::traces::{Trace, trace_of};
 
 /// The memory of these tests.
 type Memory<'m> = &'m Refusing<Global>;
-
-/// The first byte of a block.
-fn first_byte(rt: &impl Abort, image: &Image<Memory<'_>>, block: usize) -> u8 {
-    assert!(rt; block < image.blocks());
-    image.byte(block, 0)
-}
-
-/// The image before a script's start line, and the graph of the steps behind it.
-#[derive(Drop)]
-struct Trace<'m> {
-    base: Image<Memory<'m>>,
-    graph: Graph<Memory<'m>>,
-}
 
 /// A file is created and written: 24 closed sets, of which 10 fail.
 const WRITE: &[u8] = b"start\ncreate /a\nwrite /a\n";
@@ -44,16 +33,33 @@ const WRITE: &[u8] = b"start\ncreate /a\nwrite /a\n";
 const RENAME: &[u8] = b"create /a\nstart\nrename /a /b\n";
 
 /// A script without an order.
-fn trace_of<'m>(memory: Memory<'m>, script: &[u8]) -> Result<Trace<'m>, Fail>
+fn traced<'m>(memory: Memory<'m>, script: &[u8]) -> Result<Trace<Memory<'m>>, Fail>
     ensures fits { IfOk result (λ t. All (λ patch. patch.block < t.base.blocks) t.graph) }
     ensures undo { IfOk result (λ t. AreUndo t.base t.graph) }
 {
-    let script = read_script(memory, script)?;
-    let mut base = Image::formatted(memory, 16, 0)?;
-    build_base(&mut base, &script.base)?;
-    let ordering = Ordering::of(Module::Async);
-    let graph = trace(memory, &base, &script.traced, &ordering)?.into_graph();
-    Ok(Trace { base, graph })
+    trace_of(memory, script, 16, 0, Module::Async)
+}
+
+/// How many sets a crash can leave, and how many of them fail.
+fn count_failing<'s, 'm>(
+    space: &PatchSpace<'s, Memory<'m>>,
+    scratch: &mut Scratch<'s, Memory<'m>>,
+    graph: &Graph<Memory<'_>>,
+) -> Result<(u32, u32), AllocError>
+    requires graph { space.now.patches ≡ graph.now }
+    requires own { scratch.old ≡ space.now }
+{
+    let mut closed = 0u32;
+    let mut failing = 0u32;
+    for set in 0..1u128 << graph.len() {
+        if graph.is_closed(set) {
+            closed = closed.saturating_add(1);
+            if !space.judge(scratch, set)? {
+                failing = failing.saturating_add(1);
+            }
+        }
+    }
+    Ok((closed, failing))
 }
 
 /// How many sets a crash can leave, and how many of them fail by a checker that is told of these kept inodes or of
@@ -61,7 +67,7 @@ fn trace_of<'m>(memory: Memory<'m>, script: &[u8]) -> Result<Trace<'m>, Fail>
 fn count_judged(
     rt: &impl Abort,
     memory: Memory<'_>,
-    script: &Trace<'_>,
+    script: &Trace<Memory<'_>>,
     kept: Option<u16>,
 ) -> Result<(u32, u32), Fail>
     requires fits { All (λ patch. patch.block < script.now.base.blocks) script.now.graph }
@@ -70,75 +76,108 @@ fn count_judged(
     let space = PatchSpace::new(&script.base, &script.graph, kept);
     let mut scratch = space.scratch()?;
     memory.gauge().refuse(1, u64::MAX);
-    let mut closed = 0u32;
-    let mut failing = 0u32;
-    for set in 0..1u128 << script.graph.len() {
-        if script.graph.is_closed(set) {
-            closed = closed.saturating_add(1);
-            if !space.judge(&mut scratch, set)? {
-                failing = failing.saturating_add(1);
-            }
-        }
-    }
-    assert_eq!(rt; memory.gauge().asked(), 0);
-    Ok((closed, failing))
+    let counts = count_failing(&space, &mut scratch, &script.graph)?;
+    assert!(rt; memory.gauge().asked() == 0);
+    Ok(counts)
 }
 
 #[test]
 fn judging_takes_none(rt: HostRuntime) -> Result<(), Fail> {
     let memory = Refusing::new(rt.alloc());
-    let script = trace_of(&memory, WRITE)?;
-    assert_eq!(rt; count_judged(&rt, &memory, &script, None)?, (24, 10));
+    let script = traced(&memory, WRITE)?;
+    assert!(rt; count_judged(&rt, &memory, &script, None)? == (24, 10));
     Ok(())
 }
 
 #[test]
 fn judging_strictly_takes_none(rt: HostRuntime) -> Result<(), Fail> {
     let memory = Refusing::new(rt.alloc());
-    let script = trace_of(&memory, RENAME)?;
-    assert_eq!(rt; count_judged(&rt, &memory, &script, Some(3))?, (12, 5));
+    let script = traced(&memory, RENAME)?;
+    assert!(rt; count_judged(&rt, &memory, &script, Some(3))? == (12, 5));
     Ok(())
+}
+
+/// Whether the space of the file that is written starts with no patch, from where four sets can be reached.
+fn starts_with_four(space: &PatchSpace<'_, Memory<'_>>) -> bool {
+    let start = space.start();
+    start == 0 && space.degree(start) == 4 && space.next(start, 3) == 8
+}
+
+/// Whether these are the patches of the file that is written.
+fn has_five(graph: &Graph<Memory<'_>>) -> bool {
+    graph.len() == 5
+        && graph.ready(0) == 15
+        && graph.fits(16)
+        && !graph.fits(5)
+        && graph.patch(3).block == 5
 }
 
 #[test]
 fn walking_a_graph_takes_none(rt: HostRuntime) -> Result<(), Fail> {
     let memory = Refusing::new(rt.alloc());
-    let script = trace_of(&memory, WRITE)?;
+    let script = traced(&memory, WRITE)?;
     memory.gauge().refuse(1, u64::MAX);
     let space = PatchSpace::new(&script.base, &script.graph, None);
-    let start = space.start();
-    assert_eq!(rt; (start, space.degree(start)), (0, 4));
-    assert_eq!(rt; space.next(start, 3), 8);
-    assert_eq!(rt; script.graph.len(), 5);
-    assert_eq!(rt; script.graph.ready(0), 15);
-    assert!(rt; script.graph.fits(16) && !script.graph.fits(5));
-    assert_eq!(rt; script.graph.patch(3).block, 5);
+    assert!(rt; starts_with_four(&space) && has_five(&script.graph));
     assert!(rt; Graph::new(&memory).is_empty());
-    assert_eq!(rt; memory.gauge().asked(), 0);
+    assert!(rt; memory.gauge().asked() == 0);
     Ok(())
+}
+
+/// Whether a block begins with this byte.
+fn begins_with(image: &Image<Memory<'_>>, block: usize, byte: u8) -> bool {
+    block < image.blocks() && image.byte(block, 0) == byte
+}
+
+/// Moves to the set of all five patches and back, and replays the image of the former.
+fn move_to_and_fro<'m>(
+    rt: &impl Abort,
+    mover: &mut Mover<'_, Memory<'m>>,
+    graph: &Graph<Memory<'_>>,
+    into: &mut Image<Memory<'m>>,
+)
+    requires graph { mover.old.patches ≡ graph.now }
+    requires size { into.old.blocks ≡ mover.old.base.blocks }
+{
+    assert!(rt; graph.is_closed(31));
+    mover.move_to(31);
+    assert!(rt; mover.set() == 31 && begins_with(mover.image(), 5, 0x46));
+    mover.replayed(into);
+    assert!(rt; is_clean(into));
+    assert!(rt; graph.is_closed(0));
+    mover.move_to(0);
+    assert!(rt; begins_with(mover.image(), 5, 0));
 }
 
 #[test]
 fn moving_takes_none(rt: HostRuntime) -> Result<(), Fail> {
     let memory = Refusing::new(rt.alloc());
-    let script = trace_of(&memory, WRITE)?;
-    let base = script.base.try_copy()?;
+    let script = traced(&memory, WRITE)?;
     let mut into = script.base.try_copy()?;
+    let base = script.base.try_copy()?;
     memory.gauge().refuse(1, u64::MAX);
     let mut mover = Mover::new(base, &script.graph);
-    assert!(rt; script.graph.is_closed(31));
-    mover.move_to(31);
-    assert_eq!(rt;
-        (mover.set(), first_byte(&rt, mover.image(), 5)),
-        (31, 0x46)
-    );
-    mover.replayed(&mut into);
-    assert!(rt; is_clean(&into));
-    assert!(rt; script.graph.is_closed(0));
-    mover.move_to(0);
-    assert_eq!(rt; first_byte(&rt, mover.image(), 5), 0);
-    assert_eq!(rt; memory.gauge().asked(), 0);
+    move_to_and_fro(&rt, &mut mover, &script.graph, &mut into);
+    assert!(rt; memory.gauge().asked() == 0);
     Ok(())
+}
+
+/// Builds the base, and plans a write and makes its changes. Whether the image is clean then.
+fn write_file(image: &mut Image<Memory<'_>>, steps: &[Step]) -> Result<bool, Fail> {
+    build_base(image, steps)?;
+    let path = Path::read("/d/x").ok_or("no path")?;
+    let changes = plan(image, &Op::Write(path))?;
+    apply(image, &changes);
+    Ok(is_clean(image))
+}
+
+/// Puts a transaction into the journal that leaves the map zero, and replays it. Whether the map is zero then, and the
+/// image not clean.
+fn replay_a_zero_block(image: &mut Image<Memory<'_>>) -> bool {
+    let _at_least_16 = image.blocks();
+    image.put(4, 0, &[0xC7, 1, 1, 1]);
+    replay(image);
+    begins_with(image, 1, 0) && !is_clean(image)
 }
 
 #[test]
@@ -147,22 +186,9 @@ fn planning_and_replay_take_none(rt: HostRuntime) -> Result<(), Fail> {
     let script = read_script(&memory, b"mkdir /d\ncreate /d/x\nstart\n")?;
     let mut image = Image::formatted(&memory, 16, 6)?;
     memory.gauge().refuse(1, u64::MAX);
-    build_base(&mut image, &script.base)?;
-    let path = Path::read("/d/x").ok_or("no path")?;
-    let changes = plan(&image, &Op::Write(path))?;
-    apply(&mut image, &changes);
+    assert!(rt; write_file(&mut image, &script.base)?);
     assert!(rt; GroupName::read("A").is_some());
-    assert!(rt; is_clean(&image));
-    log_a_zero_block(&mut image);
-    replay(&mut image);
-    assert_eq!(rt; image.byte(1, 0), 0);
-    assert!(rt; !is_clean(&image));
-    assert_eq!(rt; memory.gauge().asked(), 0);
+    assert!(rt; replay_a_zero_block(&mut image));
+    assert!(rt; memory.gauge().asked() == 0);
     Ok(())
-}
-
-/// Puts a transaction into the journal that leaves the map zero.
-fn log_a_zero_block(image: &mut Image<Memory<'_>>) {
-    let _at_least_16 = image.blocks();
-    image.put(4, 0, &[0xC7, 1, 1, 1]);
 }

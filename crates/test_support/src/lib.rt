@@ -1,9 +1,11 @@
-//! What the test crates share: an allocator that refuses, seeded bytes, gates that hold workers, settings, and scripts
-//! with their reports.
+//! What the test crates share: an allocator that refuses, seeded bytes, gates that hold workers, settings, scripts with
+//! their reports, what scripts leave on a disk, and patches.
 #![tactic(auto)]
 
 pub mod asked;
 pub mod gates;
 pub mod noise;
+pub mod patches;
 pub mod refusing;
 pub mod settings;
+pub mod traces;
