@@ -3,6 +3,7 @@
 use command_line::settings_of;
 use crash_answer::answer;
 use sha1::Sha1;
+use std::alloc::{AllocError, Global};
 use std::process::Abort;
 use std::rt::Files;
 use std::sync::Wait;
@@ -17,41 +18,67 @@ pub struct Answered {
     pub err: Vec<u8>,
 }
 
+impl Answered {
+    /// Whether the program ended with this status, and wrote this report and this refusal alone.
+    pub fn is(&self, status: u8, report: &str, refusal: &str) -> bool {
+        self.status == status
+            && self.out.as_slice() == report.as_bytes()
+            && self.err.as_slice() == refusal.as_bytes()
+    }
+}
+
+/// The words that stand in these texts, apart by blanks.
+fn words_of<'a>(heap: Global, texts: &[&'a str]) -> Result<Vec<&'a str>, AllocError> {
+    let mut words = Vec::new(heap);
+    for text in texts {
+        add_words(&mut words, text)?;
+    }
+    Ok(words)
+}
+
+fn add_words<'a>(words: &mut Vec<&'a str>, text: &'a str) -> Result<(), AllocError> {
+    for word in text.split(' ') {
+        if !word.is_empty() {
+            words.push(word)?;
+        }
+    }
+    Ok(())
+}
+
+/// The program's answer to these words, each of which is one, and this script.
+fn answer_to<R: Files + AllocGlobal + Threads + Wait + Sync>(
+    rt: &R,
+    words: &[&str],
+    script: &[u8],
+) -> Answered {
+    let heap = rt.alloc();
+    let mut out = Vec::new(heap);
+    let mut err = Vec::new(heap);
+    let mut input = script;
+    let status = answer(rt, heap, heap, words, &mut input, &mut out, &mut err);
+    Answered { status, out, err }
+}
+
 /// The program's answer to these words and this script. Several words may stand in one text, apart by blanks.
 pub fn ask<R: Files + AllocGlobal + Threads + Wait + Sync>(
     rt: &R,
     texts: &[&str],
     script: &[u8],
 ) -> Result<Answered, Fail> {
-    let heap = rt.alloc();
-    let mut words = Vec::new(heap);
-    for text in texts {
-        for word in text.split(' ') {
-            if !word.is_empty() {
-                words.push(word)?;
-            }
-        }
-    }
-    let mut out = Vec::new(heap);
-    let mut err = Vec::new(heap);
-    let mut input = script;
-    let status = answer(rt, heap, heap, &words, &mut input, &mut out, &mut err);
-    Ok(Answered { status, out, err })
+    let words = words_of(rt.alloc(), texts)?;
+    Ok(answer_to(rt, &words, script))
 }
 
-/// The program's answer to these words and this script is exactly this.
+/// The program reports exactly this, with this status.
 pub fn exactly<R: Files + Abort + AllocGlobal + Threads + Wait + Sync>(
     rt: &R,
     words: &[&str],
     script: &[u8],
     status: u8,
     report: &str,
-    refusal: &str,
 ) -> Result<(), Fail> {
     let got = ask(rt, words, script)?;
-    assert_eq!(rt; got.status, status);
-    assert_eq!(rt; got.out.as_slice(), report.as_bytes());
-    assert_eq!(rt; got.err.as_slice(), refusal.as_bytes());
+    assert!(rt; got.is(status, report, ""));
     Ok(())
 }
 
@@ -67,20 +94,6 @@ pub const EXPLORED: [&str; 8] = [
     "--explorer sweep --workers 16",
 ];
 
-/// Each explorer with every number of workers reports exactly this.
-pub fn all_report<R: Files + Abort + AllocGlobal + Threads + Wait + Sync>(
-    rt: &R,
-    words: &str,
-    script: &[u8],
-    status: u8,
-    report: &str,
-) -> Result<(), Fail> {
-    for explored in EXPLORED {
-        exactly(rt, &[words, explored], script, status, report, "")?;
-    }
-    Ok(())
-}
-
 /// The program reports failing sets, and these lines stand in its report.
 pub fn shows<R: Files + Abort + AllocGlobal + Threads + Wait + Sync>(
     rt: &R,
@@ -89,8 +102,7 @@ pub fn shows<R: Files + Abort + AllocGlobal + Threads + Wait + Sync>(
     lines: &str,
 ) -> Result<(), Fail> {
     let got = ask(rt, words, script)?;
-    assert_eq!(rt; got.status, 1);
-    assert!(rt; stands_in(&got.out, lines.as_bytes()));
+    assert!(rt; got.status == 1 && stands_in(&got.out, lines.as_bytes()));
     Ok(())
 }
 
@@ -101,18 +113,8 @@ pub fn refused<R: Files + Abort + AllocGlobal + Threads + Wait + Sync>(
     script: &[u8],
     refusal: &str,
 ) -> Result<(), Fail> {
-    exactly(rt, words, script, 2, "", refusal)
-}
-
-/// The program refuses each row's script so, and writes no report.
-pub fn each_refused<R: Files + Abort + AllocGlobal + Threads + Wait + Sync>(
-    rt: &R,
-    words: &[&str],
-    rows: &[(&str, &str)],
-) -> Result<(), Fail> {
-    for (script, refusal) in rows {
-        refused(rt, words, script.as_bytes(), refusal)?;
-    }
+    let got = ask(rt, words, script)?;
+    assert!(rt; got.is(2, "", refusal));
     Ok(())
 }
 
@@ -122,16 +124,29 @@ pub fn is_taken<R: Abort + AllocGlobal>(rt: &R, words: &[&str]) -> Result<(), Fa
     Ok(())
 }
 
+/// What is told of a fault of the command line, where there is one, on standard error and with status 2.
+fn fault_of(heap: Global, words: &[&str]) -> Result<Option<String>, Fail> {
+    let Err(error) = settings_of(heap, words) else {
+        return Ok(None);
+    };
+    if !error.use_stderr() || error.exit_code() != 2 {
+        return Ok(None);
+    }
+    Ok(Some(format!(in heap; "{error}")?))
+}
+
 /// The words are a fault of the command line, told on standard error with status 2, and `named` stands in it.
 pub fn is_a_fault<R: Abort + AllocGlobal>(rt: &R, words: &[&str], named: &str) -> Result<(), Fail> {
-    let heap = rt.alloc();
-    match settings_of(heap, words) {
-        Ok(_) => assert!(rt; false, "words with {named} are taken"),
-        Err(error) => {
-            assert!(rt; error.use_stderr() && error.exit_code() == 2);
-            let told = format!(in heap; "{error}")?;
-            assert!(rt; told.as_str().starts_with("error: ") && told.as_str().contains(named));
-        }
+    let told = fault_of(rt.alloc(), words)?.ok_or("no fault")?;
+    let right = told.as_str().starts_with("error: ") && told.as_str().contains(named);
+    assert!(rt; right, "words with {named}");
+    Ok(())
+}
+
+/// The words of each row, apart by blanks, are a fault of the command line, and what stands beside them is in it.
+pub fn each_is_a_fault<R: Abort + AllocGlobal>(rt: &R, rows: &[(&str, &str)]) -> Result<(), Fail> {
+    for (words, named) in rows {
+        is_a_fault(rt, &words_of(rt.alloc(), &[*words])?, named)?;
     }
     Ok(())
 }
@@ -145,10 +160,9 @@ pub fn has_digest<R: Files + Abort + AllocGlobal + Threads + Wait + Sync>(
     wanted: &str,
 ) -> Result<(), Fail> {
     let got = ask(rt, words, script)?;
-    assert_eq!(rt; got.status, status);
-    assert!(rt; got.err.is_empty());
+    assert!(rt; got.status == status && got.err.is_empty());
     let told = digest(rt, &got.out)?;
-    assert_eq!(rt; told.as_str(), wanted);
+    assert!(rt; told.as_str() == wanted, "{wanted}");
     Ok(())
 }
 
@@ -164,7 +178,7 @@ pub fn reports<R: Files + Abort + AllocGlobal + Threads + Wait + Sync>(
     status: u8,
     digests: &str,
 ) -> Result<(), Fail> {
-    assert_eq!(rt; digests.lines().count(), TOLD.len());
+    assert!(rt; digests.lines().count() == TOLD.len());
     for explorer in ["--explorer board", "--explorer sweep"] {
         let mut lines = digests.lines();
         for told in TOLD {

@@ -1,8 +1,9 @@
 //! Scripts and reports on devices that fail.
 
-ghost use Rattle.std.specs.Prelude.{Some, None};
+ghost use Rattle.std.specs.Prelude.{◌≡◌, ◌-◌, ◌^◌, ◌<◌, Some, None};
 
-use crate::asked::{exactly, refused};
+use crate::asked::{ask, refused};
+use crate::scripts::CREATE;
 use crate::tables::each_row;
 use crash_answer::answer;
 use crash_model::modules::Module;
@@ -12,13 +13,16 @@ use devices::memory::Taken;
 use devices::sink::Sink;
 use devices::source::{DeviceFault, MAX_SCRIPT_BYTES, Source};
 use explorers::OpenGate;
-use std::alloc::Allocator;
+use std::alloc::{Allocator, Global};
+use std::process::Abort;
+use std::rt::Files;
+use std::sync::Wait;
 use std::test::Fail;
+use std::thread::Threads;
 use test_support::refusing::Refusing;
 use test_support::settings::plain_settings;
 
-const CREATE: &[u8] = b"start\ncreate /a\n";
-
+/// What is reported of the script that creates a file, where there is no order.
 const REPORT: &str = "module async\npatches 2\nclosed 4\nfailing 1\nset 1\nwrite block 4: 1\n\
       fault 1 dangling entry: directory 0 entry 0 inode 1\n";
 
@@ -29,6 +33,18 @@ struct Drip<'a> {
     reads: usize,
     fails_at: usize,
     failures: usize,
+}
+
+/// The script that creates a file, from a source that fails at this read.
+fn failing_at(fails_at: usize) -> Drip<'static>
+    ensures { result.failures ≡ 0 }
+{
+    Drip {
+        rest: CREATE.as_bytes(),
+        reads: 0,
+        fails_at,
+        failures: 0,
+    }
 }
 
 impl Source for Drip<'_> {
@@ -60,6 +76,18 @@ struct Narrow<A: Allocator> {
     failures: usize,
 }
 
+/// An empty sink that fails after so many bytes, or when it is to finish.
+fn empty_sink(heap: Global, fails_after: usize, fails_finish: bool) -> Narrow<Global>
+    ensures { result.failures ≡ 0 }
+{
+    Narrow {
+        bytes: Vec::new(heap),
+        fails_after,
+        fails_finish,
+        failures: 0,
+    }
+}
+
 impl<A: Allocator> Sink for Narrow<A> {
     ghost taken = { λ _. None };
 
@@ -82,267 +110,204 @@ impl<A: Allocator> Sink for Narrow<A> {
     }
 }
 
-#[test]
-fn bytes_come_and_go_one_by_one(rt: HostRuntime) -> Result<(), Fail> {
-    let heap = rt.alloc();
-    let mut source = Drip {
-        rest: CREATE,
-        reads: 0,
-        fails_at: 1000,
-        failures: 0,
-    };
-    let mut sink = Narrow {
-        bytes: Vec::new(heap),
-        fails_after: 1000,
-        fails_finish: false,
-        failures: 0,
-    };
-    assert!(rt;
-        serve(
-            &rt,
-            heap,
-            heap,
-            &mut source,
-            &mut sink,
-            &plain_settings(Module::Async),
-            1,
-            &OpenGate
-        ) == Ok(1)
-    );
-    assert!(rt; sink.bytes.as_slice() == REPORT.as_bytes());
-    Ok(())
-}
-
-#[test]
-fn a_failed_read_leaves_the_sink_empty(rt: HostRuntime) -> Result<(), Fail> {
-    let heap = rt.alloc();
-    for fails_at in 0..CREATE.len() + 1 {
-        let mut source = Drip {
-            rest: CREATE,
-            reads: 0,
-            fails_at,
-            failures: 0,
-        };
-        let mut sink = Taken {
-            bytes: Vec::new(heap),
-            failures: 0,
-        };
-        let got = serve(
-            &rt,
-            heap,
-            heap,
-            &mut source,
-            &mut sink,
-            &plain_settings(Module::Async),
-            1,
-            &OpenGate,
-        );
-        assert!(rt; got == Err(RunFault::CannotRead) && source.failures == 1);
-        assert!(rt; sink.bytes.is_empty());
-    }
-    Ok(())
-}
-
-#[test]
-fn a_failed_write_leaves_a_beginning(rt: HostRuntime) -> Result<(), Fail> {
-    let heap = rt.alloc();
-    let mut source = CREATE;
-    let mut sink = Narrow {
-        bytes: Vec::new(heap),
-        fails_after: 7,
-        fails_finish: false,
-        failures: 0,
-    };
-    let got = serve(
-        &rt,
-        heap,
-        heap,
-        &mut source,
-        &mut sink,
-        &plain_settings(Module::Async),
+/// What comes of a run between these devices, by one worker and without an order.
+fn served<R: AllocGlobal + Threads + Wait + Sync, S: Source, K: Sink>(
+    rt: &R,
+    source: &mut S,
+    sink: &mut K,
+) -> Result<usize, RunFault>
+    requires source { S.failures source.old < 2 ^ 64 - 1 }
+    requires sink { K.failures sink.old < 2 ^ 64 - 1 }
+{
+    let settings = plain_settings(Module::Async);
+    serve(
+        rt,
+        rt.alloc(),
+        rt.alloc(),
+        source,
+        sink,
+        &settings,
         1,
         &OpenGate,
-    );
-    assert!(rt; got == Err(RunFault::CannotWrite) && sink.failures == 1);
-    assert!(rt; sink.bytes.as_slice() == b"module ".as_slice());
-    Ok(())
-}
-
-#[test]
-fn a_failed_finish_leaves_the_whole_report(rt: HostRuntime) -> Result<(), Fail> {
-    let heap = rt.alloc();
-    let mut source = CREATE;
-    let mut sink = Narrow {
-        bytes: Vec::new(heap),
-        fails_after: 1000,
-        fails_finish: true,
-        failures: 0,
-    };
-    let got = serve(
-        &rt,
-        heap,
-        heap,
-        &mut source,
-        &mut sink,
-        &plain_settings(Module::Async),
-        1,
-        &OpenGate,
-    );
-    assert!(rt; got == Err(RunFault::CannotWrite) && sink.failures == 1);
-    assert!(rt; sink.bytes.as_slice() == REPORT.as_bytes());
-    Ok(())
-}
-
-#[test]
-fn a_script_has_a_greatest_length(rt: HostRuntime) -> Result<(), Fail> {
-    let heap = rt.alloc();
-    let mut script = Vec::from_elem(heap, b'\n', MAX_SCRIPT_BYTES)?;
-    refused(
-        &rt,
-        &[],
-        script.as_slice(),
-        "crashmap: line 1048577: 43 no start line\n",
-    )?;
-    script.push(b'\n')?;
-    refused(
-        &rt,
-        &[],
-        script.as_slice(),
-        "crashmap: 52 script too long\n",
     )
 }
 
 #[test]
-fn long_scripts_are_refused_by_their_lines(rt: HostRuntime) -> Result<(), Fail> {
-    let heap = rt.alloc();
-    let letters = Vec::from_elem(heap, b'a', 1_000_000)?;
-    refused(
+fn bytes_come_and_go_one_by_one(rt: HostRuntime) {
+    let mut source = failing_at(1000);
+    let mut sink = empty_sink(rt.alloc(), 1000, false);
+    assert!(rt; served(&rt, &mut source, &mut sink) == Ok(1));
+    assert!(rt; sink.bytes.as_slice() == REPORT.as_bytes());
+}
+
+/// A script that cannot be read at this read leaves the sink empty.
+fn expect_unread<R: Abort + AllocGlobal + Threads + Wait + Sync>(rt: &R, fails_at: usize) {
+    let mut source = failing_at(fails_at);
+    let mut sink = Taken {
+        bytes: Vec::new(rt.alloc()),
+        failures: 0,
+    };
+    let got = served(rt, &mut source, &mut sink);
+    assert!(rt; got == Err(RunFault::CannotRead) && source.failures == 1);
+    assert!(rt; sink.bytes.is_empty());
+}
+
+#[test]
+fn a_failed_read_leaves_the_sink_empty(rt: HostRuntime) {
+    for fails_at in 0..CREATE.len() + 1 {
+        expect_unread(&rt, fails_at);
+    }
+}
+
+/// A sink that fails once takes these bytes alone.
+fn expect_unwritten<R: Abort + AllocGlobal + Threads + Wait + Sync>(
+    rt: &R,
+    fails_after: usize,
+    fails_finish: bool,
+    taken: &str,
+) {
+    let mut source = CREATE.as_bytes();
+    let mut sink = empty_sink(rt.alloc(), fails_after, fails_finish);
+    let got = served(rt, &mut source, &mut sink);
+    assert!(rt; got == Err(RunFault::CannotWrite) && sink.failures == 1);
+    assert!(rt; sink.bytes.as_slice() == taken.as_bytes());
+}
+
+#[test]
+fn a_failed_write_leaves_a_beginning(rt: HostRuntime) {
+    expect_unwritten(&rt, 7, false, "module ");
+}
+
+#[test]
+fn a_failed_finish_leaves_the_whole_report(rt: HostRuntime) {
+    expect_unwritten(&rt, 1000, true, REPORT);
+}
+
+/// A script of one byte, so many times, is refused so.
+fn expect_refused<R: Files + Abort + AllocGlobal + Threads + Wait + Sync>(
+    rt: &R,
+    byte: u8,
+    length: usize,
+    refusal: &str,
+) -> Result<(), Fail> {
+    let script = Vec::from_elem(rt.alloc(), byte, length)?;
+    refused(rt, &[], script.as_slice(), refusal)
+}
+
+#[test]
+fn a_script_has_a_greatest_length(rt: HostRuntime) -> Result<(), Fail> {
+    let most = MAX_SCRIPT_BYTES;
+    expect_refused(
         &rt,
-        &[],
-        letters.as_slice(),
-        "crashmap: line 1: 41 bad line\n",
+        b'\n',
+        most,
+        "crashmap: line 1048577: 43 no start line\n",
     )?;
-    let feeds = Vec::from_elem(heap, b'\n', 100_000)?;
-    refused(
+    expect_refused(&rt, b'\n', most + 1, "crashmap: 52 script too long\n")
+}
+
+#[test]
+fn long_scripts_are_refused_by_their_lines(rt: HostRuntime) -> Result<(), Fail> {
+    expect_refused(&rt, b'a', 1_000_000, "crashmap: line 1: 41 bad line\n")?;
+    expect_refused(
         &rt,
-        &[],
-        feeds.as_slice(),
+        b'\n',
+        100_000,
         "crashmap: line 100001: 43 no start line\n",
     )
 }
 
 #[test]
-fn a_refusal_that_cannot_be_printed_keeps_its_status(rt: HostRuntime) -> Result<(), Fail> {
+fn a_refusal_that_cannot_be_printed_keeps_its_status(rt: HostRuntime) {
     let heap = rt.alloc();
     let mut out = Vec::new(heap);
     let mut nowhere: [u8; 0] = [];
     let mut err = nowhere.as_mut_slice();
     let mut input: &[u8] = b"";
-    assert_eq!(rt;
-        answer(&rt, heap, heap, &[], &mut input, &mut out, &mut err),
-        2
-    );
-    assert!(rt; out.is_empty());
-    Ok(())
+    let status = answer(&rt, heap, heap, &[], &mut input, &mut out, &mut err);
+    assert!(rt; status == 2 && out.is_empty());
 }
 
 #[test]
-fn a_report_that_cannot_be_written_is_told(rt: HostRuntime) -> Result<(), Fail> {
+fn a_report_that_cannot_be_written_is_told(rt: HostRuntime) {
     let heap = rt.alloc();
     let mut nowhere: [u8; 0] = [];
     let mut out = nowhere.as_mut_slice();
     let mut err = Vec::new(heap);
     let mut input: &[u8] = b"start\n";
-    assert_eq!(rt;
-        answer(&rt, heap, heap, &[], &mut input, &mut out, &mut err),
-        2
-    );
-    assert_eq!(rt;
-        err.as_slice(),
-        b"crashmap: 51 cannot write the report\n".as_slice()
-    );
-    Ok(())
+    let status = answer(&rt, heap, heap, &[], &mut input, &mut out, &mut err);
+    let line = "crashmap: 51 cannot write the report\n";
+    assert!(rt; status == 2 && err.as_slice() == line.as_bytes());
 }
 
 #[test]
-fn refused_memory_is_told(rt: HostRuntime) -> Result<(), Fail> {
+fn refused_memory_is_told(rt: HostRuntime) {
     let heap = rt.alloc();
     let memory = Refusing::new(heap);
     memory.gauge().refuse(1, u64::MAX);
     let mut out = Vec::new(heap);
     let mut err = Vec::new(heap);
-    let mut input: &[u8] = CREATE;
-    assert_eq!(rt;
-        answer(&rt, heap, &memory, &[], &mut input, &mut out, &mut err),
-        2
+    let mut input = CREATE.as_bytes();
+    let status = answer(&rt, heap, &memory, &[], &mut input, &mut out, &mut err);
+    let line = "crashmap: 99 out of memory\n";
+    assert!(rt; status == 2 && out.is_empty() && err.as_slice() == line.as_bytes());
+}
+
+/// These words are a fault, which is told, and no report is written.
+fn expect_no_report<R: Files + Abort + AllocGlobal + Threads + Wait + Sync>(
+    rt: &R,
+    words: &str,
+) -> Result<(), Fail> {
+    let got = ask(rt, &[words], b"start\n")?;
+    assert!(rt;
+        got.status == 2 && got.out.is_empty() && !got.err.is_empty(),
+        "{words}"
     );
-    assert!(rt; out.is_empty());
-    assert_eq!(rt; err.as_slice(), b"crashmap: 99 out of memory\n".as_slice());
     Ok(())
 }
 
+const FAULTY_WORDS: [&str; 7] = [
+    "--limit=0",
+    "--journal=123",
+    "--workers=17",
+    "--module=none",
+    "--with=Ptr",
+    "--without=Ptr:Ptr",
+    "--explorer=tree",
+];
+
 #[test]
 fn faults_of_the_command_line_write_no_report(rt: HostRuntime) -> Result<(), Fail> {
-    let heap = rt.alloc();
-    for word in [
-        "--limit=0",
-        "--journal=123",
-        "--workers=17",
-        "--module=none",
-        "--with=Ptr",
-        "--without=Ptr:Ptr",
-        "--explorer=tree",
-    ] {
-        let words = [word];
-        let mut out = Vec::new(heap);
-        let mut err = Vec::new(heap);
-        let mut input: &[u8] = b"start\n";
-        assert_eq!(rt;
-            answer(&rt, heap, heap, &words, &mut input, &mut out, &mut err),
-            2
-        );
-        assert!(rt; out.is_empty() && !err.is_empty());
+    for words in FAULTY_WORDS {
+        expect_no_report(&rt, words)?;
     }
     Ok(())
 }
 
 #[test]
 fn two_scripts_are_a_fault(rt: HostRuntime) -> Result<(), Fail> {
-    let heap = rt.alloc();
-    let mut out = Vec::new(heap);
-    let mut err = Vec::new(heap);
-    let mut input: &[u8] = b"start\n";
-    assert_eq!(rt;
-        answer(&rt, heap, heap, &["a", "b"], &mut input, &mut out, &mut err),
-        2
-    );
-    assert!(rt; out.is_empty() && !err.is_empty());
-    Ok(())
+    expect_no_report(&rt, "a b")
 }
 
 #[test]
 fn help_is_printed_as_a_report_is(rt: HostRuntime) -> Result<(), Fail> {
-    let heap = rt.alloc();
-    let mut out = Vec::new(heap);
-    let mut err = Vec::new(heap);
-    let mut input: &[u8] = b"";
-    assert_eq!(rt;
-        answer(&rt, heap, heap, &["--help"], &mut input, &mut out, &mut err),
-        0
-    );
-    assert!(rt; out.as_slice().starts_with(b"Explores every state") && err.is_empty());
-    exactly(
-        &rt,
-        &["--module", "async"],
-        b"start\n",
-        0,
-        "module async\npatches 0\nclosed 1\nfailing 0\n",
-        "",
-    )
+    let got = ask(&rt, &["--help"], b"")?;
+    assert!(rt; got.status == 0 && got.err.is_empty());
+    assert!(rt; got.out.as_slice().starts_with(b"Explores every state"));
+    Ok(())
 }
 
 /// What each row asks, and what it is told.
 const ROWS: &str = r#"
+# a report is printed
+$ --module async
+start
+= exactly 0
+module async
+patches 0
+closed 1
+failing 0
+
 # a script that is not there cannot be read
 $ no/such/script
 = exactly 2

@@ -1,77 +1,69 @@
 //! Files that a strict checker finds lost where two operations follow each other.
 
-use crate::asked::{all_report, shows};
+use crate::asked::shows;
+use crate::scripts::MOVED_IN;
 use crate::tables::each_row;
 use std::test::Fail;
 
-/// A file moves into a new directory.
-const MOVED_IN: &[u8] = b"create /a\nstart\nmkdir /d\nrename /a /d/a\n";
-
-/// What can go wrong where a file moves into a new directory without an order.
-const FAULTS: &str = "module async\n\
-     strict\n\
-     patches 9\n\
-     closed 216\n\
-     failing 169\n\
-     fault 1 dangling entry: directory 0 entry 1 inode 2\n\
-     sets 36\n\
-     set 4\n\
-     write block 4: 4\n\
-     fault 3 unwritten pointer: inode 2 slot 0 block 5\n\
-     sets 24\n\
-     set 0 3\n\
-     write block 2: 0 3\n\
-     fault 4 low link count: inode 1 entries 2 links 1\n\
-     sets 8\n\
-     set 0 2 3 6\n\
-     write block 2: 0\n\
-     write block 5: 2\n\
-     write block 2: 3\n\
-     write block 5: 6\n\
-     fault 5 used block marked free: inode 2 slot 0 block 5\n\
-     sets 36\n\
-     set 0 3\n\
-     write block 2: 0 3\n\
-     fault 7 lost inode: inode 1\n\
-     sets 102\n\
-     set 7\n\
-     write block 4: 7\n\
-     fault 8 directory without a block: inode 2\n\
-     sets 36\n\
-     set 0 4\n\
-     write block 2: 0\n\
-     write block 4: 4\n";
+/// A file is lost, and its directory has no block; the next set stands behind these two faults.
+const TWO_FAULTS: &str = "set 0 4 7\n\
+    write block 2: 0\n\
+    write block 4: 4 7\n\
+    fault 7 lost inode: inode 1\n\
+    fault 8 directory without a block: inode 2\n\
+    set ";
 
 #[test]
 fn the_two_faults_stand_behind_the_others(rt: HostRuntime) -> Result<(), Fail> {
-    all_report(
-        &rt,
-        "--module async --strict --summary",
-        MOVED_IN,
-        1,
-        FAULTS,
-    )?;
     shows(
         &rt,
         &["--module async --strict"],
-        MOVED_IN,
-        "set 0 4 7\n\
-         write block 2: 0\n\
-         write block 4: 4 7\n\
-         fault 7 lost inode: inode 1\n\
-         fault 8 directory without a block: inode 2\n\
-         set ",
+        MOVED_IN.as_bytes(),
+        TWO_FAULTS,
     )
 }
 
 /// What each row asks, and what it is told.
 const ROWS: &str = r#"
+# the two faults stand behind the others
+$ --module async --strict --summary < moved-in
+= each 1
+module async
+strict
+patches 9
+closed 216
+failing 169
+fault 1 dangling entry: directory 0 entry 1 inode 2
+sets 36
+set 4
+write block 4: 4
+fault 3 unwritten pointer: inode 2 slot 0 block 5
+sets 24
+set 0 3
+write block 2: 0 3
+fault 4 low link count: inode 1 entries 2 links 1
+sets 8
+set 0 2 3 6
+write block 2: 0
+write block 5: 2
+write block 2: 3
+write block 5: 6
+fault 5 used block marked free: inode 2 slot 0 block 5
+sets 36
+set 0 3
+write block 2: 0 3
+fault 7 lost inode: inode 1
+sets 102
+set 7
+write block 4: 7
+fault 8 directory without a block: inode 2
+sets 36
+set 0 4
+write block 2: 0
+write block 4: 4
+
 # soft updates lose a file between link and unlink
-$ --strict --json
-create /a
-start
-link /a /b
-unlink /a
+$ --strict --json < link-then-unlink
 = each 1
 {"closed":8,"failing":[{"faults":["7 lost inode: inode 1"],"set":[2],"writes":[{"block":4,"patches":[2]}]},
  {"faults":["7 lost inode: inode 1"],"set":[0,2],"writes":[{"block":2,"patches":[0]},{"block":4,"patches":[2]}]},
@@ -79,20 +71,12 @@ unlink /a
  {"block":2,"patches":[3]}]}],"module":"soft","patches":4,"strict":true}
 
 # soft updates lose a file between link and unlink
-$ --json
-create /a
-start
-link /a /b
-unlink /a
+$ --json < link-then-unlink
 = each 0
 {"closed":8,"failing":[],"module":"soft","patches":4}
 
 # a rule or groups keep the file between link and unlink
-$ --strict --with EntryClear:previous-EntrySet
-create /a
-start
-link /a /b
-unlink /a
+$ --strict --with EntryClear:previous-EntrySet < link-then-unlink
 = each 0
 module soft
 with EntryClear:previous-EntrySet
@@ -119,11 +103,7 @@ closed 5
 failing 0
 
 # journals keep the file between link and unlink
-$ --module meta --journal 6 --strict
-create /a
-start
-link /a /b
-unlink /a
+$ --module meta --journal 6 --strict < link-then-unlink
 = each 0
 module meta
 strict
@@ -132,11 +112,7 @@ closed 53
 failing 0
 
 # journals keep the file between link and unlink
-$ --module full --journal 6 --strict
-create /a
-start
-link /a /b
-unlink /a
+$ --module full --journal 6 --strict < link-then-unlink
 = each 0
 module full
 strict
@@ -145,11 +121,7 @@ closed 53
 failing 0
 
 # a journal whose commits are out of order loses the file
-$ --module meta --journal 6 --strict --without Commit:previous-Commit
-create /a
-start
-link /a /b
-unlink /a
+$ --module meta --journal 6 --strict --without Commit:previous-Commit < link-then-unlink
 = each 1
 module meta
 without Commit:previous-Commit
@@ -187,11 +159,7 @@ write block 10: 9
 fault 7 lost inode: inode 1
 
 # a journal whose commits are out of order loses the file
-$ --module meta --journal 6 --without Commit:previous-Commit
-create /a
-start
-link /a /b
-unlink /a
+$ --module meta --journal 6 --without Commit:previous-Commit < link-then-unlink
 = each 0
 module meta
 without Commit:previous-Commit
@@ -200,11 +168,7 @@ closed 61
 failing 0
 
 # a full journal whose commits are out of order loses the file
-$ --module full --journal 6 --strict --without Commit:previous-Commit
-create /a
-start
-link /a /b
-unlink /a
+$ --module full --journal 6 --strict --without Commit:previous-Commit < link-then-unlink
 = each-begins 1
 module full
 without Commit:previous-Commit
@@ -220,11 +184,7 @@ write block 10: 9
 fault 7 lost inode: inode 1
 
 # a full journal whose commits are out of order loses the file
-$ --module full --journal 6 --without Commit:previous-Commit
-create /a
-start
-link /a /b
-unlink /a
+$ --module full --journal 6 --without Commit:previous-Commit < link-then-unlink
 = each 0
 module full
 without Commit:previous-Commit
@@ -233,11 +193,7 @@ closed 61
 failing 0
 
 # soft updates lose a file that moves into a new directory
-$ --strict
-create /a
-start
-mkdir /d
-rename /a /d/a
+$ --strict < moved-in
 = each-begins 1
 module soft
 strict
@@ -253,11 +209,7 @@ write block 4: 7
 fault 7 lost inode: inode 1
 
 # soft updates lose a file that moves into a new directory
-$
-create /a
-start
-mkdir /d
-rename /a /d/a
+$ < moved-in
 = each 0
 module soft
 patches 9
@@ -265,11 +217,7 @@ closed 28
 failing 0
 
 # soft updates lose a file that moves into a new directory
-$ --strict --with EntryClear:previous-EntrySet
-create /a
-start
-mkdir /d
-rename /a /d/a
+$ --strict --with EntryClear:previous-EntrySet < moved-in
 = each 0
 module soft
 with EntryClear:previous-EntrySet
@@ -296,12 +244,7 @@ closed 12
 failing 0
 
 # soft updates lose a file that moves out of a directory that goes
-$ --strict
-mkdir /d
-create /d/a
-start
-rename /d/a /a
-rmdir /d
+$ --strict < moved-out
 = each-begins 1
 module soft
 strict
@@ -313,12 +256,7 @@ write block 4: 4
 fault 7 lost inode: inode 2
 
 # soft updates lose a file that moves out of a directory that goes
-$
-mkdir /d
-create /d/a
-start
-rename /d/a /a
-rmdir /d
+$ < moved-out
 = each 0
 module soft
 patches 7
@@ -326,12 +264,7 @@ closed 20
 failing 0
 
 # soft updates lose a file that moves out of a directory that goes
-$ --strict --with EntryClear:previous-EntrySet
-mkdir /d
-create /d/a
-start
-rename /d/a /a
-rmdir /d
+$ --strict --with EntryClear:previous-EntrySet < moved-out
 = each 0
 module soft
 with EntryClear:previous-EntrySet

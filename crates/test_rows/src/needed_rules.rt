@@ -1,6 +1,6 @@
 //! What `--needs` tells: for each rule of the ordering what a crash can leave without it.
 
-use crate::asked::{exactly, has_digest, shows};
+use crate::asked::exactly;
 use crate::scripts::DIRECTORY_REUSED;
 use crate::tables::each_row;
 use std::test::Fail;
@@ -80,47 +80,15 @@ fn every_number_of_workers_tells_the_same(rt: HostRuntime) -> Result<(), Fail> {
             "--module meta --blocks 24 --journal 12 --needs --limit 32768 --workers",
             workers,
         ];
-        exactly(&rt, &words, DIRECTORY_REUSED, 1, NEEDS, "")?;
+        exactly(&rt, &words, DIRECTORY_REUSED.as_bytes(), 1, NEEDS)?;
     }
     Ok(())
-}
-
-#[test]
-fn without_a_rule_there_can_be_too_many_sets(rt: HostRuntime) -> Result<(), Fail> {
-    let words = ["--module meta --blocks 24 --journal 12 --needs"];
-    shows(
-        &rt,
-        &words,
-        DIRECTORY_REUSED,
-        "rule Commit:Copy pairs 7 too many\n\
-         rule Commit:FileData pairs 1 closed 754 failing 173\n",
-    )?;
-    shows(
-        &rt,
-        &words,
-        DIRECTORY_REUSED,
-        "rule InPlace:Commit pairs 7 too many\n\
-         rule Done:InPlace pairs 7 closed 1152 failing 262\n",
-    )?;
-    has_digest(
-        &rt,
-        &words,
-        DIRECTORY_REUSED,
-        1,
-        "b0622e83939090a768a1fcf5454406fa85ff1541",
-    )
 }
 
 /// What each row asks, and what it is told.
 const ROWS: &str = r#"
 # each rule of soft updates has its own crash or none
-$ --needs
-create /a
-write /a
-create /b
-start
-unlink /a
-write /b
+$ --needs < block-reused
 = exactly 0
 module soft
 patches 6
@@ -230,6 +198,23 @@ write block 1: 16
 fault 5 used block marked free: inode 2 slot 0 block 6
 rule EntryClear:EntrySet pairs 1 closed 384 failing 0
 
+# without a rule there can be too many sets
+$ --module meta --blocks 24 --journal 12 --needs < directory-reused
+= shows 1
+rule Commit:Copy pairs 7 too many
+rule Commit:FileData pairs 1 closed 754 failing 173
+
+# without a rule there can be too many sets
+$ --module meta --blocks 24 --journal 12 --needs < directory-reused
+= shows 1
+rule InPlace:Commit pairs 7 too many
+rule Done:InPlace pairs 7 closed 1152 failing 262
+
+# without a rule there can be too many sets
+$ --module meta --blocks 24 --journal 12 --needs < directory-reused
+= digest 1
+b0622e83939090a768a1fcf5454406fa85ff1541
+
 # rules in json
 $ --needs --limit 11 --json
 start
@@ -244,13 +229,7 @@ write /a
  "rule":"MapClear:InodeFree"},{"pairs":0,"rule":"EntryClear:EntrySet"}]}
 
 # rules in json
-$ --needs --json
-create /a
-write /a
-create /b
-start
-unlink /a
-write /b
+$ --needs --json < block-reused
 = exactly 0
 {"closed":7,"failing":0,"module":"soft","patches":6,"rules":[{"pairs":0,"rule":"EntrySet:InodeInit"},{"pairs":0,
  "rule":"EntrySet:LinkUp"},{"pairs":0,"rule":"EntrySet:Ptr"},{"closed":11,"failing":2,"first":{"faults":[

@@ -2,35 +2,41 @@
 
 use crate::asked::{exactly, refused};
 use crate::tables::each_row;
+use std::alloc::{AllocError, Global};
 use std::test::Fail;
 use test_support::asked::{HALF_LINKS, SOFT_LINKS};
 
+/// As many patches as a graph can have, and a link.
+fn one_link_more(heap: Global) -> Result<Vec<u8>, AllocError> {
+    let mut script = SOFT_LINKS.whole_script(heap)?;
+    script.extend_from_slice(b"link /a /b\n")?;
+    Ok(script)
+}
+
 #[test]
 fn a_graph_has_at_most_124_patches(rt: HostRuntime) -> Result<(), Fail> {
-    let heap = rt.alloc();
+    let half = "module soft\npatches 62\nclosed 63\nfailing 0\n";
     exactly(
         &rt,
         &["--module soft"],
-        HALF_LINKS.whole_script(heap)?.as_slice(),
+        &HALF_LINKS.whole_script(rt.alloc())?,
         0,
-        "module soft\npatches 62\nclosed 63\nfailing 0\n",
-        "",
+        half,
     )?;
-    let mut script = SOFT_LINKS.whole_script(heap)?;
+    let most = "module soft\npatches 124\nclosed 125\nfailing 0\n";
     exactly(
         &rt,
         &["--module soft"],
-        script.as_slice(),
+        &SOFT_LINKS.whole_script(rt.alloc())?,
         0,
-        "module soft\npatches 124\nclosed 125\nfailing 0\n",
-        "",
+        most,
     )?;
-    script.extend_from_slice(b"link /a /b\n")?;
+    let refusal = "crashmap: line 65: 2 too many patches\n";
     refused(
         &rt,
         &["--module soft"],
-        script.as_slice(),
-        "crashmap: line 65: 2 too many patches\n",
+        &one_link_more(rt.alloc())?,
+        refusal,
     )
 }
 
@@ -69,13 +75,7 @@ closed 5
 failing 0
 
 # soft updates keep these scripts safe
-$ --module soft
-create /a
-write /a
-create /b
-start
-unlink /a
-write /b
+$ --module soft < block-reused
 = exactly 0
 module soft
 patches 6
@@ -136,14 +136,7 @@ write /a
 crashmap: line 3: 20 journal full
 
 # replay of a metadata journal can undo reused data
-$ --module meta --blocks 24 --journal 12
-mkdir /d
-create /d/x
-create /f
-start
-unlink /d/x
-rmdir /d
-write /f
+$ --module meta --blocks 24 --journal 12 < directory-reused
 = begins 1
 module meta
 patches 21
@@ -165,14 +158,7 @@ write block 11: 17
 fault 3 unwritten pointer: inode 3 slot 0 block 17
 
 # a full journal is safe where a metadata journal is not
-$ --module meta --blocks 24 --journal 12
-mkdir /d
-create /d/x
-create /f
-start
-unlink /d/x
-rmdir /d
-write /f
+$ --module meta --blocks 24 --journal 12 < directory-reused
 = begins 1
 module meta
 patches 21
@@ -180,14 +166,7 @@ closed 629
 failing 48
 
 # a full journal is safe where a metadata journal is not
-$ --module full --blocks 24 --journal 12
-mkdir /d
-create /d/x
-create /f
-start
-unlink /d/x
-rmdir /d
-write /f
+$ --module full --blocks 24 --journal 12 < directory-reused
 = exactly 0
 module full
 patches 22
@@ -224,14 +203,7 @@ write /a
 crashmap: line 3: 20 journal full
 
 # a full journal leaves nothing torn
-$ --module full --blocks 24 --journal 12
-mkdir /d
-create /d/x
-create /f
-start
-unlink /d/x
-rmdir /d
-write /f
+$ --module full --blocks 24 --journal 12 < directory-reused
 = exactly 0
 module full
 patches 22
@@ -239,14 +211,7 @@ closed 1105
 failing 0
 
 # a full journal leaves nothing torn
-$ --module full --blocks 24 --journal 12 --limit 1104
-mkdir /d
-create /d/x
-create /f
-start
-unlink /d/x
-rmdir /d
-write /f
+$ --module full --blocks 24 --journal 12 --limit 1104 < directory-reused
 = exactly 2
 crashmap: 30 too many closed sets
 

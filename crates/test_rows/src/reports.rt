@@ -206,13 +206,7 @@ write block 2: 3
 fault 4 low link count: inode 1 entries 2 links 1
 
 # a freed block can be used twice
-$ --module async
-create /a
-write /a
-create /b
-start
-unlink /a
-write /b
+$ --module async < block-reused
 = begins 1
 module async
 patches 6
@@ -223,13 +217,7 @@ write block 2: 1
 fault 1 dangling entry: directory 0 entry 0 inode 1
 
 # a freed block can be used twice
-$ --module async
-create /a
-write /a
-create /b
-start
-unlink /a
-write /b
+$ --module async < block-reused
 = shows 1
 set 5
 write block 2: 5

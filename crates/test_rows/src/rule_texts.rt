@@ -3,6 +3,7 @@
 use crash_model::modules::Module;
 use crash_model::orderings::Ordering;
 use crash_model::rules::Rule;
+use std::alloc::Global;
 use std::process::Abort;
 use std::test::Fail;
 
@@ -33,22 +34,27 @@ const JOURNAL: [&str; 7] = [
     "Done:previous-Done",
 ];
 
-#[test]
-fn the_rules_of_a_module_are_read_from_their_texts(rt: HostRuntime) -> Result<(), Fail> {
-    for (module, texts) in [
-        (Module::Async, [].as_slice()),
-        (Module::Soft, SOFT.as_slice()),
-        (Module::Meta, JOURNAL.as_slice()),
-        (Module::Full, JOURNAL.as_slice()),
-    ] {
-        let rules = module.rules();
-        assert_eq!(rt; rules.len(), texts.len());
-        for (rule, text) in rules.iter().zip(texts) {
-            assert!(rt; Rule::read(text) == Some(*rule), "{text}");
-            assert_eq!(rt; rule.to_string(rt.alloc())?.as_str(), *text);
-        }
+/// Whether the rule is read from this text, and written so.
+fn is_written(heap: Global, rule: Rule, text: &str) -> Result<bool, Fail> {
+    Ok(Rule::read(text) == Some(rule) && rule.to_string(heap)?.as_str() == text)
+}
+
+/// The rules of the module are written so.
+fn has_rules<R: Abort + AllocGlobal>(rt: &R, module: Module, texts: &[&str]) -> Result<(), Fail> {
+    let rules = module.rules();
+    assert!(rt; rules.len() == texts.len());
+    for (rule, text) in rules.iter().zip(texts) {
+        assert!(rt; is_written(rt.alloc(), *rule, text)?, "{text}");
     }
     Ok(())
+}
+
+#[test]
+fn the_rules_of_a_module_are_read_from_their_texts(rt: HostRuntime) -> Result<(), Fail> {
+    has_rules(&rt, Module::Async, &[])?;
+    has_rules(&rt, Module::Soft, &SOFT)?;
+    has_rules(&rt, Module::Meta, &JOURNAL)?;
+    has_rules(&rt, Module::Full, &JOURNAL)
 }
 
 #[test]

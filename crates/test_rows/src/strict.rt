@@ -1,18 +1,7 @@
 //! What a strict checker finds of each operation, where soft updates have all their rules and where one is taken out.
 
-use crate::asked::{EXPLORED, refused};
-use crate::scripts::CREATE;
 use crate::tables::each_row;
 use std::test::Fail;
-
-#[test]
-fn a_strict_checker_explores_no_more_sets(rt: HostRuntime) -> Result<(), Fail> {
-    for explored in EXPLORED {
-        let words = ["--strict --limit 2", explored];
-        refused(&rt, &words, CREATE, "crashmap: 30 too many closed sets\n")?;
-    }
-    Ok(())
-}
 
 /// What each row asks, and what it is told.
 const ROWS: &str = r#"
@@ -249,6 +238,13 @@ fault 4 low link count: inode 1 entries 2 links 1
 rule InodeFree:EntryClear pairs 0
 rule MapClear:InodeFree pairs 0
 rule EntryClear:EntrySet pairs 1 closed 61 failing 0
+
+# a strict checker explores no more sets
+$ --strict --limit 2
+start
+create /a
+= each 2
+crashmap: 30 too many closed sets
 
 # a report says that the checker is strict
 $ --strict --json

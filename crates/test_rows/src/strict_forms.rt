@@ -38,11 +38,7 @@ f8afae0e0d6aa0e9d126b78fdbfc3ce17bc53964 b9479ff39c6bc1db63b72e7a052b809610e885e
 b14541a673d07e2a1d2388d7a96a7f052a757565 fa4c021b09556f3ea7cbaa54f639ca3750a8130e
 
 # a link and an unlink
-$ --strict
-create /a
-start
-link /a /b
-unlink /a
+$ --strict < link-then-unlink
 = reports 1
 3169cd1cfbd8666bafb4b8c248f80b644e18a4ec 1d92c4609fb555a5ff4409f209cee74ecc9255eb
 4a9555ddcade43d828eea962c4f2d3e94f1fcd37 39f7b9093692652b94b0f275bb7505ed6a74f7db
@@ -53,11 +49,7 @@ unlink /a
 /// Directories and files that come or go.
 const DIRECTORIES: &str = r#"
 # a move into a new directory
-$ --strict
-create /a
-start
-mkdir /d
-rename /a /d/a
+$ --strict < moved-in
 = reports 1
 641849e8e9c6b85c50fe55e01590a288a593f557 af881d8ea24e4ccca7872fe46439751fa0a7bb7a
 f42120676db822f9d0d6abc9cbf521e5c86bf56a 072970e192bcd9aa05d9eb6eb7df14e0b6281d6a
@@ -65,11 +57,7 @@ f42120676db822f9d0d6abc9cbf521e5c86bf56a 072970e192bcd9aa05d9eb6eb7df14e0b6281d6
 9f20139f34d5ae7db3b86c9335e33f3af3bc93e7 3c367be6a57919e30f64ab68aa12a2dcd1e6c7f8
 
 # a move into a new directory without an order
-$ --module async --strict
-create /a
-start
-mkdir /d
-rename /a /d/a
+$ --module async --strict < moved-in
 = reports 1
 cddb8914ad0db271979fb04492d7ce0602a12fed 3c2cc8fd6962786a4af7a78ed2f3be0f9cc49609
 45b44fe4c2e1bbdccc44fcbf0373e967aae416ce 4bd8b62302c24986a1a3a8de97dea54a8b723c0a
@@ -77,12 +65,7 @@ cddb8914ad0db271979fb04492d7ce0602a12fed 3c2cc8fd6962786a4af7a78ed2f3be0f9cc4960
 7308d59a5d28a3ca2b746c65e146c6679794ab04 b463602c4afd91c37d9f2eaf9c68e090467b14be
 
 # a move out of a directory that goes
-$ --strict
-mkdir /d
-create /d/a
-start
-rename /d/a /a
-rmdir /d
+$ --strict < moved-out
 = reports 1
 7163272f9e25b9acfda646701022b0a3e89afff5 764848e2887e98968c808f9c5d8ed8b89e53a36d
 1b23b465f4371d5e4bab4008242b520bfd29a64f 5a290a42dd87240d6fcf86e6e2053784fcb6a946
@@ -117,11 +100,7 @@ create /b
 /// What a journal is replayed over.
 const JOURNALS: &str = r#"
 # a link and an unlink behind a metadata journal
-$ --module meta --journal 6 --strict
-create /a
-start
-link /a /b
-unlink /a
+$ --module meta --journal 6 --strict < link-then-unlink
 = reports 0
 6c9a93031f105a704a9f20964a9dcccbed48341a 637c490db746b9c32b5350ac4f7cb1f98e7fa4a2
 6c9a93031f105a704a9f20964a9dcccbed48341a 3854cbb13743798489e079847948bcced7fc6db3
@@ -129,14 +108,7 @@ unlink /a
 ee88aa525c139880a0a5cfa261e31ec985c2f0ef da86c05796f0ad534dc69f7af4b8ec86e4600f03
 
 # a directory block behind a metadata journal
-$ --module meta --blocks 24 --journal 12 --limit 32768 --strict
-mkdir /d
-create /d/x
-create /f
-start
-unlink /d/x
-rmdir /d
-write /f
+$ --module meta --blocks 24 --journal 12 --limit 32768 --strict < directory-reused
 = reports 1
 2a2500869c53d07550343c0813f5b776d4c67638 440ca178bedc8284fc2669c575867730bbe5ca06
 ff1b0e1d21d63124e09b59e6f30ca58797e868bf fb6c8c91c0ca58368eebe34e323197460668d64e
@@ -144,14 +116,7 @@ ff1b0e1d21d63124e09b59e6f30ca58797e868bf fb6c8c91c0ca58368eebe34e323197460668d64
 f734eaec83300e7888187390d91ee2389cfb0108 d6c55cba606e7d95b4dfc61fba7db123babad52c
 
 # a directory block behind a full journal
-$ --module full --blocks 24 --journal 12 --strict
-mkdir /d
-create /d/x
-create /f
-start
-unlink /d/x
-rmdir /d
-write /f
+$ --module full --blocks 24 --journal 12 --strict < directory-reused
 = reports 0
 bbacbcbb960ed24abf7cc6d1e1ecab32824df655 aac6e92bc6942ec06800f1ad5559965f939c2afd
 bbacbcbb960ed24abf7cc6d1e1ecab32824df655 e4db4a8b4ccbef705e67133294d99861c13bc37a

@@ -6,14 +6,7 @@ use std::test::Fail;
 /// What each row asks, and what it is told.
 const ROWS: &str = r#"
 # one fault of 48 failing sets is told once
-$ --module meta --blocks 24 --journal 12 --summary
-mkdir /d
-create /d/x
-create /f
-start
-unlink /d/x
-rmdir /d
-write /f
+$ --module meta --blocks 24 --journal 12 --summary < directory-reused
 = exactly 1
 module meta
 patches 21
@@ -85,13 +78,7 @@ closed 1
 failing 0
 
 # faults stand in the order of their numbers
-$ --module async --summary
-create /a
-write /a
-create /b
-start
-unlink /a
-write /b
+$ --module async --summary < block-reused
 = exactly 1
 module async
 patches 6
@@ -124,26 +111,12 @@ write block 1: 2
 write block 2: 5
 
 # a summary has what replay changed
-$ --module meta --blocks 24 --journal 12 --summary --explain
-mkdir /d
-create /d/x
-create /f
-start
-unlink /d/x
-rmdir /d
-write /f
+$ --module meta --blocks 24 --journal 12 --summary --explain < directory-reused
 = digest 1
 6eb4944dbb2dca6e66482e76f24186fe942670f8
 
 # a summary has what replay changed
-$ --module meta --blocks 24 --journal 12 --summary --explain --json
-mkdir /d
-create /d/x
-create /f
-start
-unlink /d/x
-rmdir /d
-write /f
+$ --module meta --blocks 24 --journal 12 --summary --explain --json < directory-reused
 = digest 1
 7872b7c2d4cdf58a81882dab10ae507e6d7b163f
 

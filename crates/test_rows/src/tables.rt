@@ -1,14 +1,17 @@
 //! Tables of rows, each a call of the program and what it answers.
 //!
-//! A row is written as `# NAME`, `$ WORDS`, the lines of the script, `= HOW STATUS` and the lines of the answer, and an
-//! empty line stands between two rows. The answer is the report, or for status 2 the refusal. A line of it that begins
-//! with a blank goes on with the line before.
+//! A row is written as `# NAME`, `$ WORDS`, the lines of the script, `= HOW STATUS` and the lines of the answer, and
+//! an empty line stands between two rows. In place of the lines of a script, `$ WORDS < NAME` names one of `scripts`.
+//!
+//! The answer is the report, or for status 2 the refusal. A line of it that begins with a blank goes on with the line
+//! before, and a `~` stands for the zeros that fill the digits before it up to those of a block.
 //!
 //! The answer is `exactly` these lines, or is so by `each` explorer with every number of workers. Or it `begins` with
-//! them, or does so by each (`each-begins`), or `shows` them somewhere. Or they are its SHA-1 `digest`, or the digests of
-//! eight `reports`.
+//! them, or does so by each (`each-begins`), or `shows` them somewhere. Or they are its SHA-1 `digest`, or the digests
+//! of eight `reports`.
 
 use crate::asked::{Answered, EXPLORED, ask, digest, reports, stands_in};
+use crate::scripts::named;
 use std::process::Abort;
 use std::rt::Files;
 use std::sync::Wait;
@@ -32,20 +35,30 @@ pub fn each_row<R: Files + Abort + AllocGlobal + Threads + Wait + Sync>(
 ) -> Result<(), Fail> {
     let mut empty = true;
     for text in table.split("\n# ").skip(1) {
-        let (row, lines) = read_row(text).ok_or("no row")?;
-        let told = joined(rt, lines)?;
-        is_told(rt, row, told.as_str())?;
+        is_so(rt, text)?;
         empty = false;
     }
     assert!(rt; !empty, "a table without a row");
     Ok(())
 }
 
+/// The program answers as the row of this text says.
+fn is_so<R: Files + Abort + AllocGlobal + Threads + Wait + Sync>(
+    rt: &R,
+    text: &str,
+) -> Result<(), Fail> {
+    let (row, lines) = read_row(text).ok_or("no row")?;
+    let told = filled(rt, joined(rt, lines)?.as_str())?;
+    is_told(rt, row, told.as_str())
+}
+
 /// The row of this text, and the lines of the answer.
 fn read_row(text: &str) -> Option<(Row<'_>, &str)> {
     let (name, rest) = text.split_once("\n$")?;
     let (words, rest) = rest.split_once("\n")?;
-    let (script, rest) = rest.split_once("= ")?;
+    let (lines, rest) = rest.split_once("= ")?;
+    let (words, name_of_script) = words.split_once(" < ").unwrap_or((words, ""));
+    let script = script_of(name_of_script, lines)?;
     let (how, lines) = rest.split_once("\n")?;
     let (how, status) = how.split_once(" ")?;
     let status = match status {
@@ -64,6 +77,14 @@ fn read_row(text: &str) -> Option<(Row<'_>, &str)> {
     Some((row, lines))
 }
 
+/// The script of this name, or where there is none, of these lines.
+fn script_of<'a>(name: &str, lines: &'a str) -> Option<&'a str> {
+    if name.is_empty() {
+        return Some(lines);
+    }
+    named(name)
+}
+
 /// The lines, of which those that begin with a blank go on with the line before.
 fn joined<R: AllocGlobal>(rt: &R, lines: &str) -> Result<String, Fail> {
     let mut told = String::new(rt.alloc());
@@ -71,6 +92,35 @@ fn joined<R: AllocGlobal>(rt: &R, lines: &str) -> Result<String, Fail> {
         told.push_str(piece)?;
     }
     Ok(told)
+}
+
+/// How many hexadecimal digits the bytes of a block have.
+const DIGITS: usize = 256;
+
+/// The text, in which each `~` stands for the zeros that fill the digits before it up to those of a block.
+fn filled<R: AllocGlobal>(rt: &R, text: &str) -> Result<String, Fail> {
+    let mut out = String::new(rt.alloc());
+    let mut digits: usize = 0;
+    for letter in text.chars() {
+        if letter == '~' {
+            add_zeros(&mut out, DIGITS.saturating_sub(digits))?;
+        } else {
+            out.push(letter)?;
+        }
+        digits = if letter.is_ascii_hexdigit() {
+            digits.saturating_add(1)
+        } else {
+            0
+        };
+    }
+    Ok(out)
+}
+
+fn add_zeros(out: &mut String, count: usize) -> Result<(), Fail> {
+    for _ in 0..count {
+        out.push('0')?;
+    }
+    Ok(())
 }
 
 /// The program answers as the row says.

@@ -2,64 +2,70 @@
 
 use crate::asked::{exactly, has_digest, is_a_fault, is_taken};
 use crate::rule_texts::SOFT;
-use crate::scripts::REUSE;
+use crate::scripts::BLOCK_REUSED;
 use crate::tables::each_row;
+use std::alloc::{AllocError, Global};
+use std::process::Abort;
+use std::rt::Files;
+use std::sync::Wait;
 use std::test::Fail;
+use std::thread::Threads;
 
-/// These words, and then each rule of soft updates behind an option.
-fn with_each_rule<R: AllocGlobal>(
-    rt: &R,
+/// These words, and then each of the rules behind an option.
+fn with_each(
+    heap: Global,
     words: &[&'static str],
     option: &'static str,
-) -> Result<Vec<&'static str>, Fail> {
-    let mut all = Vec::new(rt.alloc());
+    rules: &[&'static str],
+) -> Result<Vec<&'static str>, AllocError> {
+    let mut all = Vec::new(heap);
     all.extend_from_slice(words)?;
-    for rule in SOFT {
-        all.push(option)?;
-        all.push(rule)?;
+    for rule in rules {
+        all.extend_from_slice(&[option, *rule])?;
     }
     Ok(all)
 }
 
+/// What is reported where the rules of soft updates are put in.
+const SOFT_PUT_IN: &str = "module async\n\
+    with EntrySet:InodeInit\n\
+    with EntrySet:LinkUp\n\
+    with EntrySet:Ptr\n\
+    with InitFile:MapSet\n\
+    with InitDir:MapSet\n\
+    with Ptr:InitFile\n\
+    with Ptr:InitDir\n\
+    with Ptr:MapSet\n\
+    with LinkDown:EntryClear\n\
+    with InodeFree:EntryClear\n\
+    with MapClear:InodeFree\n\
+    with EntryClear:EntrySet\n\
+    patches 6\n\
+    closed 7\n\
+    failing 0\n";
+
 #[test]
 fn the_rules_of_soft_updates_make_soft_updates_of_no_ordering(rt: HostRuntime) -> Result<(), Fail> {
-    let words = with_each_rule(&rt, &["--module", "async"], "--with")?;
-    exactly(
-        &rt,
-        words.as_slice(),
-        REUSE,
-        0,
-        "module async\n\
-         with EntrySet:InodeInit\n\
-         with EntrySet:LinkUp\n\
-         with EntrySet:Ptr\n\
-         with InitFile:MapSet\n\
-         with InitDir:MapSet\n\
-         with Ptr:InitFile\n\
-         with Ptr:InitDir\n\
-         with Ptr:MapSet\n\
-         with LinkDown:EntryClear\n\
-         with InodeFree:EntryClear\n\
-         with MapClear:InodeFree\n\
-         with EntryClear:EntrySet\n\
-         patches 6\n\
-         closed 7\n\
-         failing 0\n",
-        "",
-    )
+    let words = with_each(rt.alloc(), &["--module", "async"], "--with", &SOFT)?;
+    exactly(&rt, &words, BLOCK_REUSED.as_bytes(), 0, SOFT_PUT_IN)
+}
+
+/// The rules are reported as taken out, in whichever order they are.
+fn is_no_ordering<R: Files + Abort + AllocGlobal + Threads + Wait + Sync>(
+    rt: &R,
+    rules: &[&'static str],
+) -> Result<(), Fail> {
+    let words = with_each(rt.alloc(), &[], "--without", rules)?;
+    let report = "aeca97e89a21ce584f4755318bc40fc6aa6b92a6";
+    has_digest(rt, &words, BLOCK_REUSED.as_bytes(), 1, report)
 }
 
 #[test]
 fn soft_updates_without_their_rules_are_no_ordering(rt: HostRuntime) -> Result<(), Fail> {
-    let report = "aeca97e89a21ce584f4755318bc40fc6aa6b92a6";
-    let words = with_each_rule(&rt, &[], "--without")?;
-    has_digest(&rt, words.as_slice(), REUSE, 1, report)?;
-    let mut words = Vec::new(rt.alloc());
-    for rule in SOFT.iter().rev() {
-        words.push("--without")?;
-        words.push(*rule)?;
-    }
-    has_digest(&rt, words.as_slice(), REUSE, 1, report)
+    is_no_ordering(&rt, &SOFT)?;
+    let mut backwards = SOFT;
+    backwards.reverse();
+    is_no_ordering(&rt, &backwards)
 }
 
 /// Sixteen rules, which is as many as there may be.
@@ -84,15 +90,10 @@ const SIXTEEN: [&str; 16] = [
 
 #[test]
 fn sixteen_rules_are_put_in_and_no_more(rt: HostRuntime) -> Result<(), Fail> {
-    let mut words = Vec::new(rt.alloc());
-    for rule in SIXTEEN {
-        words.push("--with")?;
-        words.push(rule)?;
-    }
-    is_taken(&rt, words.as_slice())?;
-    words.push("--with")?;
-    words.push("Ptr:Ptr")?;
-    is_a_fault(&rt, words.as_slice(), "Ptr:Ptr")
+    is_taken(&rt, &with_each(rt.alloc(), &[], "--with", &SIXTEEN)?)?;
+    let mut more = with_each(rt.alloc(), &[], "--with", &SIXTEEN)?;
+    more.extend_from_slice(&["--with", "Ptr:Ptr"])?;
+    is_a_fault(&rt, &more, "Ptr:Ptr")
 }
 
 /// What each row asks, and what it is told.
