@@ -77,12 +77,13 @@ fn read_row(text: &str) -> Option<(Row<'_>, &str)> {
     Some((row, lines))
 }
 
-/// The script of this name, or where there is none, of these lines.
+/// The script of this name, which has no lines beside it, or where there is no name, of these lines.
 fn script_of<'a>(name: &str, lines: &'a str) -> Option<&'a str> {
-    if name.is_empty() {
-        return Some(lines);
+    match (name, lines) {
+        ("", lines) => Some(lines),
+        (name, "") => named(name),
+        _ => None,
     }
-    named(name)
 }
 
 /// The lines, of which those that begin with a blank go on with the line before.
