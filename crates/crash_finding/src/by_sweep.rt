@@ -45,7 +45,15 @@ where
         let space = PatchSpace::new(crashes.base, crashes.graph, crashes.kept);
         let (deps, limit) = (dependencies(crashes.graph), self.settings.limit);
         let watch = GateWatch { gate: self.gate };
-        match sweep(self.rt, self.alloc, &space, &deps, limit, self.workers, &watch) {
+        match sweep(
+            self.rt,
+            self.alloc,
+            &space,
+            &deps,
+            limit,
+            self.workers,
+            &watch,
+        ) {
             Ok(found) => Ok(found),
             Err(ExploreFault::TooMany) => Err(RunFault::TooMany),
             Err(ExploreFault::OutOfMemory) => Err(RunFault::OutOfMemory),

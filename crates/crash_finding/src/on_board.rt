@@ -31,7 +31,10 @@ where
     ///
     /// The sets are counted first, so that the board is no larger than their number asks for. It refuses where they
     /// are more than the limit.
-    pub(crate) fn explored_on_board(&self, crashes: &Crashes<'_, A>) -> Result<Explored<A>, RunFault>
+    pub(crate) fn explored_on_board(
+        &self,
+        crashes: &Crashes<'_, A>,
+    ) -> Result<Explored<A>, RunFault>
         requires small { self.now.settings.now.limit ≤ 32768 }
         ensures total { IfOk result (λ found. CountsClosed crashes.now.graph.now found.total) }
         ensures within { IfOk result (λ found. found.total ≤ self.now.settings.now.limit) }
