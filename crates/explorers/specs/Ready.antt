@@ -19,7 +19,7 @@ pub record IsFree {S C A : Type 0} (b : Shown S) (s : S) (is_own : S → C → T
   pub of : IsOf b worker.seat
   pub free : worker.seat.right ≡ 0
   pub own : is_own s worker.scratch
-  pub met : AreMet worker.met.words.keys worker.met.counts worker.seat.seen
+  pub met : AreMet worker.met worker.seat.seen
 
 -- so it is between two turns, and has no claim
 pub record IsReady {S C A : Type 0} (b : Shown S) (s : S) (is_own : S → C → Type 0) (worker : Worker C A) : Type 0 where

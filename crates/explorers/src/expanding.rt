@@ -7,10 +7,9 @@ ghost use Rattle.explorers.specs.declared.exploration.Turn.TheVariants as turn;
 
 use crate::exploration::{Exploration, Turn};
 use crate::gate::Gate;
-use crate::met::meet;
 use crate::tasks::Task;
 use crate::worker::Worker;
-use seen_board::{Place, Put, shard_of};
+use seen_board::{Place, Put};
 use state_space::Space;
 use std::alloc::{AllocError, Allocator};
 use std::sync::Wait;
@@ -98,21 +97,20 @@ impl<S: Space, G: Gate, A: Allocator + Copy> Exploration<'_, S, G, A> {
         ensures within { IfOk result (λ t. t ≢ turn.Over → PutsIn word mine.old.seat mine.new.seat) }
         ensures over { IfOk result (λ t. t ≡ turn.Over → (mine.new.seat.claims ≡ 0) × (mine.new.seat.over ≡ 1)) }
     {
-        if mine.met.words.contains(&word) {
+        if mine.met.has(word) {
             return Ok(Turn::Within);
         }
-        let shard = shard_of(word);
-        let from = mine.met.counts[shard as usize];
-        match self.board.insert_from(rt, &mut mine.seat, from, word) {
-            Put::New(place) => {
-                if mine.tasks.push(Task { word, place }).is_err() {
-                    return Err(AllocError);
-                }
-            }
-            Put::Over => return Ok(Turn::Over),
-            _ => {}
+        let put = self.board.insert(rt, &mut mine.seat, word);
+        if let Put::Over = put {
+            return Ok(Turn::Over);
         }
-        meet(self.board, &mut mine.seat, &mut mine.met, shard)?;
-        Ok(Turn::Within)
+        mine.met.keep(word);
+        match put {
+            Put::New(place) => match mine.tasks.push(Task { word, place }) {
+                Ok(()) => Ok(Turn::Within),
+                Err(_) => Err(AllocError),
+            },
+            _ => Ok(Turn::Within),
+        }
     }
 }

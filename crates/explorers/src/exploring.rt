@@ -1,6 +1,7 @@
 //! Exploring with many workers.
 ghost use Rattle.std.specs.Prelude.{◌≡◌, ℕ, ◌<◌, ◌≤◌, length, IfOk, IsErrOf};
 ghost use Rattle.std.specs.List.{All};
+ghost use Rattle.board_rule.specs.Lists.{Has};
 ghost use Rattle.patch_sets.specs.Explored.{IsExplored, ReachExceeds};
 ghost use Rattle.explorers.specs.Ready.{IsIdle, IsReady};
 
@@ -18,6 +19,10 @@ use state_space::Space;
 use std::alloc::{AllocError, Allocator};
 use std::sync::Wait;
 use std::thread::Threads;
+
+/// How many words a worker keeps at most of those that it has met: 128 KB, which stay in its processor's cache. In a larger
+/// table more words are found, but looking for one costs what asking the board does.
+const MOST_MET: usize = 8192;
 
 /// Explores a space from its initial word, with 1 to 16 workers over one board.
 ///
@@ -83,7 +88,8 @@ fn first_hands<S: Space, A: Allocator + Copy>(
     }
 }
 
-/// A worker for each hand, with a seat that is split off. Worker 1, whose hand is the first, is the last.
+/// A worker for each hand, with a seat that is split off and has seen the initial word. Worker 1, whose hand is the first,
+/// is the last.
 fn new_workers<S: Space, A: Allocator + Copy>(
     alloc: A,
     board: &Board<S, A>,
@@ -93,6 +99,7 @@ fn new_workers<S: Space, A: Allocator + Copy>(
 ) -> Result<Vec<Worker<S::Scratch, A>, A>, AllocError>
     requires space { board.now.space ≡ space.now }
     requires idle { IsIdle board.now seat.old }
+    requires start { Has seat.old.seen (S.initial space.now) }
     requires few { length hands.items ≤ 16 }
     requires ways { All (λ hand. length hand.ways ≡ length hands.items) hands.items }
     ensures idle { IsIdle board.now seat.new }
@@ -106,8 +113,9 @@ fn new_workers<S: Space, A: Allocator + Copy>(
         let scratch = space.scratch()?;
         let seat = board.split(seat);
         let tasks = Tasks::new(hand, own, count);
-        let met = Met::new(alloc);
-        workers.push(Worker::new(own + 1, seat, scratch, tasks, met))?;
+        let met = Met::new(alloc, space.start(), board.limit().min(MOST_MET))?;
+        let worker = Worker::new(own + 1, seat, scratch, tasks, met);
+        workers.push(worker)?;
     }
     Ok(workers)
 }

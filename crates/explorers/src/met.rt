@@ -1,62 +1,72 @@
-//! The words that a worker has met on the board.
-ghost use Rattle.std.specs.Prelude.{◌≡◌, ◌<◌, ℕ, List};
-ghost use Rattle.seen_board.specs.Clauses.{IsOf};
-ghost use Rattle.explorers.specs.Met.{AreMet};
+//! Words that a worker has met on the board.
+ghost use Rattle.std.specs.Prelude.{◌≡◌, ◌⊎◌, ℕ, ◌<◌, ◌≤◌, true, length, IfOk};
+ghost use Rattle.std.specs.List.{All, Contains};
 
-use seen_board::{Board, BoardSeat, Place, shard_of};
-use state_space::Space;
 use std::alloc::{AllocError, Allocator};
-use std::collections::HashSet;
-use std::hash::{BuildHasherDefault, FoldHasher};
+use std::marker::Model;
 
-/// The words at the first places of each shard, as many as are counted.
+/// Words that a worker has met on the board, each at the one place of a table where it is looked for. A word that comes
+/// there takes the place of the one before.
 ///
-/// A successor that is among them is an entry, and another stands at none of those places, so that the board need not
-/// search them.
+/// A successor among them is an entry, so that it needs no step on the board. That a word is not among them says
+/// nothing. Contracts see the words.
 pub(crate) struct Met<A: Allocator> {
-    pub words: HashSet<u128, BuildHasherDefault<FoldHasher>, A>,
-    pub counts: [u16; 13],
+    words: Vec<u128, A>,
+}
+
+impl<A: Allocator> Model for Met<A> {
+    ghost use Rattle.std.specs.Prelude.{ℕ, List, ◌<◌, ◌≤◌, length};
+
+    ghost Value = { List ℕ };
+
+    ghost view = { λ m. m.words.items };
+
+    ghost invariant = { λ m. (0 < length m.words.items) × (length m.words.items ≤ 32768) };
 }
 
 impl<A: Allocator> Met<A> {
-    /// No words.
-    pub fn new(alloc: A) -> Met<A>
-        ensures { (seen : List (List ℕ)) → AreMet result.words.keys result.counts seen }
+    /// A table of so many places, each with a word that the worker has met. It fails only when out of memory.
+    pub fn new(alloc: A, word: u128, places: usize) -> Result<Met<A>, AllocError>
+        requires places { (0 < places) × (places ≤ 32768) }
+        ensures { IfOk result (All (λ met. met ≡ word)) }
     {
-        Met {
-            words: HashSet::new(alloc),
-            counts: [0; 13],
-        }
+        Ok(Met {
+            words: vec![in alloc; word; places]?,
+        })
+    }
+
+    /// Whether the word is among them.
+    pub fn has(&self, word: u128) -> bool
+        ensures { result ≡ true → Contains self.now word }
+    {
+        self.words[self.place(word)] == word
+    }
+
+    /// Puts a word at its place.
+    pub fn keep(&mut self, word: u128)
+        ensures { (met : ℕ) → Contains self.new met → (met ≡ word) ⊎ Contains self.old met }
+    {
+        let place = self.place(word);
+        self.words[place] = word;
+    }
+
+    /// The place of a word: a multiplicative hash of each half, of which the highest bits depend on all others (Knuth,
+    /// "The Art of Computer Programming", volume 3, section 6.4), as a part of the table.
+    fn place(&self, word: u128) -> usize
+        ensures { result < length self.now }
+    {
+        let low = (word % (1 << 64)) as u64;
+        let high = (word >> 64) as u64;
+        let mixed = low
+            .wrapping_mul(0x9E37_79B9_7F4A_7C15)
+            .wrapping_add(high.wrapping_mul(0xC2B2_AE3D_27D4_EB4F));
+        (((mixed >> 32) * self.words.len() as u64) >> 32) as usize
     }
 }
 
 impl<A: Allocator> Drop for Met<A> {
     fn drop(self) {
-        let Met { words, counts: _ } = self;
+        let Met { words } = self;
         drop(words);
     }
-}
-
-/// Meets the words at the places of a shard that the seat has seen since.
-pub(crate) fn meet<S: Space, A: Allocator + Copy>(
-    board: &Board<S, A>,
-    seat: &mut BoardSeat,
-    met: &mut Met<A>,
-    shard: u8,
-) -> Result<(), AllocError>
-    requires seat { IsOf board.now seat.old }
-    requires shard { shard < 13 }
-    requires met { AreMet met.old.words.keys met.old.counts seat.old.seen }
-    ensures same { seat.new ≡ seat.old }
-    ensures met { AreMet met.new.words.keys met.new.counts seat.old.seen }
-{
-    for at in met.counts[shard as usize]..seat.seen_in(shard) {
-        let word = board.at(seat, Place { shard, at });
-        // It is, as each entry stands in the shard of its number; `at` does not say so.
-        if shard_of(word) == shard {
-            met.words.insert(word)?;
-        }
-        met.counts[shard as usize] = at + 1;
-    }
-    Ok(())
 }

@@ -8,6 +8,5 @@ pub mod Lists
 pub mod Runs
 pub mod Stepped
 pub mod Successors
-pub mod WordSets
 pub mod Writes
 pub mod Parts

@@ -9,7 +9,7 @@ use Rattle.board_rule.specs.Plays.{IsIdle}
 use Rattle.board_rule.specs.declared.view.View.{View}
 use Rattle.board_rule.proofs.Sums.{starts-length, starts-at, last-here}
 use Rattle.seen_board.specs.Known.{Known, known_of, Counts}
-use Rattle.seen_board.specs.Clauses.{SeesOn, Sees, Gains, Names, Lacks, LacksBelow, number, with_given_up}
+use Rattle.seen_board.specs.Clauses.{SeesOn, Sees, Gains, Names, Lacks, number, with_given_up}
 use Rattle.seen_board.specs.Inserts.{Follows, IsSuccessor, Returns, PutOk, AddOk, Filed, Appends}
 use Rattle.seen_board.specs.declared.answers.Place.{Place}
 use Rattle.seen_board.specs.declared.answers.Put.{Put}
@@ -34,14 +34,6 @@ lacks_before seen rows q x near sees absent k h e = absent k (omega (arith, h, s
 -- the part of a row that was seen before lacks the word
 pub before_lacks : (seen rows : List (List ℕ)) (q x n : ℕ) → q < 13 → SeesOn seen rows → n ≡ length (row_of seen q) → Lacks (row_of seen q) x → (k : ℕ) → k < n → get_or (row_of rows q) k 0 ≢ x
 before_lacks seen rows q x n near sees is absent k h e = let b : k < length (row_of seen q) = omega (arith, h, is) in absent k b (sym (starts-at (row_of rows q) (row_of seen q) k (sees q near) b) ∙ e)
-
--- and goes on to
-pub still_lacks : (seen rows : List (List ℕ)) (q x n : ℕ) → q < 13 → SeesOn seen rows → LacksBelow n (row_of seen q) x → LacksBelow n (row_of rows q) x
-still_lacks seen rows q x n near sees (short, absent) = (omega (arith, short, starts-length (row_of rows q) (row_of seen q) (sees q near)), λ k h e. absent k h (sym (starts-at (row_of rows q) (row_of seen q) k (sees q near) (omega (arith, h, short))) ∙ e))
-
--- none does below the first place
-pub lacks_below_none : (row : List ℕ) (x : ℕ) → LacksBelow 0 row x
-lacks_below_none row x = (omega arith, λ k h. absurd (omega (arith, h)))
 
 pub follows_on : (next : ℕ → List ℕ) (seen rows : List (List ℕ)) (p x : ℕ) → SeesOn seen rows → Follows next seen p x → Follows next rows p x
 follows_on next seen rows p x sees f = let q = p % 13 in let s = sees q (omega arith) in

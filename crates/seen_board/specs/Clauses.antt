@@ -1,5 +1,5 @@
 -- What clauses say of seats and places.
-use Rattle.std.specs.Prelude.{◌≡◌, ◌≢◌, ◌⊎◌, ℕ, ◌+◌, ◌<◌, ◌≤◌, Bool, cond, List, [], ◌∷◌, ◌++◌, length, slice_index, replicate, ◌%◌, Contains}
+use Rattle.std.specs.Prelude.{◌≡◌, ◌≢◌, ◌⊎◌, ℕ, ◌+◌, ◌<◌, Bool, cond, List, [], ◌∷◌, ◌++◌, length, slice_index, replicate, ◌%◌, Contains}
 use Rattle.board_rule.specs.Layout.{writer, place_of}
 use Rattle.board_rule.specs.Changes.{either_one, both_shares}
 use Rattle.board_rule.specs.declared.life.Life.{Life}
@@ -55,10 +55,6 @@ Sees v w = (w ≡ record v { seen = w.seen }) × SeesOn v.seen w.seen
 -- the row lacks the word
 abbrev pub Lacks : List ℕ → ℕ → Type 0
 Lacks row word = (k : ℕ) → k < length row → slice_index row k ≢ word
-
--- none of the row's first n places has the word
-abbrev pub LacksBelow : ℕ → List ℕ → ℕ → Type 0
-LacksBelow n row word = (n ≤ length row) × ((k : ℕ) → k < n → slice_index row k ≢ word)
 
 -- the seat learned that the place has had this life
 abbrev pub with_met : Known → Place → Life → Known

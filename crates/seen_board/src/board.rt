@@ -77,4 +77,12 @@ impl<S: Space, A: Allocator + Copy> Board<S, A> {
         let place = Place { shard, at: 0 };
         Ok((Board { table, layout }, BoardSeat { seat, counts }, place))
     }
+
+    /// How many words the board takes, 1 to 32768.
+    pub fn limit(&self) -> usize
+        ensures limit { result ≡ self.now.limit }
+        ensures range { (0 < result) × (result ≤ 32768) }
+    {
+        self.layout.limit
+    }
 }

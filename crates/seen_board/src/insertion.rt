@@ -1,7 +1,7 @@
 //! Putting words in, each a successor of the one that the seat has claimed.
-ghost use Rattle.std.specs.Prelude.{◌≡◌, ◌%◌, ◌≤◌, length};
+ghost use Rattle.std.specs.Prelude.{◌≡◌, ◌≤◌, length};
 ghost use Rattle.board_rule.specs.Lists.{row_of};
-ghost use Rattle.seen_board.specs.Clauses.{IsOf, IsAtRest, Lacks, LacksBelow, Writes, with_given_up};
+ghost use Rattle.seen_board.specs.Clauses.{IsOf, IsAtRest, Lacks, Writes, with_given_up};
 ghost use Rattle.seen_board.specs.Inserts.{IsSuccessor, Returns, PutOk, LookedOk};
 ghost use Rattle.seen_board.specs.Seats.{IsProbe};
 
@@ -14,11 +14,10 @@ use state_space::Space;
 use std::alloc::Allocator;
 
 impl<S: Space, A: Allocator> Board<S, A> {
-    /// Looks a word up under the read right, which is given up again, where no place below `from` has it.
-    fn look_reading(&self, seat: &mut BoardSeat, from: u16, probe: Probe) -> Looked
+    /// Looks a word up under the read right, which is given up again.
+    fn look_reading(&self, seat: &mut BoardSeat, probe: Probe) -> Looked
         requires seat { IsAtRest self.now seat.old }
         requires probe { IsProbe self.now.limit probe }
-        requires before { LacksBelow from (row_of seat.old.seen probe.shard) probe.word }
         ensures returns { Returns seat.old seat.new }
         ensures looked { LookedOk (row_of seat.new.seen probe.shard) probe.word result }
     {
@@ -26,7 +25,7 @@ impl<S: Space, A: Allocator> Board<S, A> {
             Got::Busy => return Looked::Taken,
             Got::Right => {}
         }
-        let found = self.look_from(seat, from, probe);
+        let found = self.look_from(seat, 0, probe);
         self.leave(seat, probe.shard);
         match found {
             Some(at) => Looked::At(at),
@@ -84,23 +83,11 @@ impl<S: Space, A: Allocator> Board<S, A> {
         requires successor { IsSuccessor (S.successors self.now.space) seat.old word }
         ensures put { PutOk word seat.old seat.new result }
     {
-        self.try_insert_from(seat, 0, word)
-    }
-
-    /// Tries to put a word in, as `try_insert`, where no place below `from` of its shard has it, as far as the seat
-    /// has seen. Those places are not searched, which spares a caller that keeps the words which it has seen the
-    /// longest walks.
-    pub fn try_insert_from(&self, seat: &mut BoardSeat, from: u16, word: u128) -> Put
-        requires seat { IsAtRest self.now seat.old }
-        requires successor { IsSuccessor (S.successors self.now.space) seat.old word }
-        requires before { LacksBelow from (row_of seat.old.seen (word % 13)) word }
-        ensures put { PutOk word seat.old seat.new result }
-    {
         let probe = self.probe(word);
         if let Some(place) = self.find_probe(seat, probe) {
             return Put::Known(place);
         }
-        match self.look_reading(seat, from, probe) {
+        match self.look_reading(seat, probe) {
             Looked::Taken => Put::Busy,
             Looked::At(at) => Put::Known(Place {
                 shard: probe.shard,

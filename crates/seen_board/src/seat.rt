@@ -1,6 +1,5 @@
 //! The seat of a thread, and what it has seen.
-ghost use Rattle.std.specs.Prelude.{◌≡◌, ◌↔◌, ◌<◌, IsTrue, length};
-ghost use Rattle.board_rule.specs.Lists.{row_of};
+ghost use Rattle.std.specs.Prelude.{◌↔◌, IsTrue};
 ghost use Rattle.seen_board.specs.Clauses.{HasPlace};
 
 use crate::answers::Place;
@@ -34,13 +33,5 @@ impl BoardSeat {
         ensures { IsTrue result ↔ HasPlace self.now.seen place }
     {
         place.shard < 13 && place.at < self.counts[place.shard as usize]
-    }
-
-    /// How many places of a shard, which is below 13, the seat has seen. It takes no step.
-    pub fn seen_in(&self, shard: u8) -> u16
-        requires { shard < 13 }
-        ensures { result ≡ length (row_of self.now.seen shard) }
-    {
-        self.counts[shard as usize]
     }
 }

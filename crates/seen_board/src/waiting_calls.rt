@@ -1,8 +1,7 @@
 //! The calls that try until the answer is not Busy. That they return is not promised.
-ghost use Rattle.std.specs.Prelude.{◌≢◌, ◌<◌, ◌%◌};
+ghost use Rattle.std.specs.Prelude.{◌≢◌, ◌<◌};
 ghost use Rattle.board_rule.specs.Layout.{writer};
-ghost use Rattle.board_rule.specs.Lists.{row_of};
-ghost use Rattle.seen_board.specs.Clauses.{IsAtRest, Gains, LacksBelow};
+ghost use Rattle.seen_board.specs.Clauses.{IsAtRest, Gains};
 ghost use Rattle.seen_board.specs.Inserts.{IsSuccessor, PutOk};
 
 use crate::answers::{Got, Put};
@@ -49,19 +48,8 @@ impl<S: Space, A: Allocator> Board<S, A> {
         ensures put { PutOk word seat.old seat.new result }
         ensures done { result ≢ Put.Busy }
     {
-        self.insert_from(rt, seat, 0, word)
-    }
-
-    /// Puts a word in, as `try_insert_from`, and waits where a right is not had.
-    pub fn insert_from<R: Wait>(&self, rt: &R, seat: &mut BoardSeat, from: u16, word: u128) -> Put
-        requires seat { IsAtRest self.now seat.old }
-        requires successor { IsSuccessor (S.successors self.now.space) seat.old word }
-        requires before { LacksBelow from (row_of seat.old.seen (word % 13)) word }
-        ensures put { PutOk word seat.old seat.new result }
-        ensures done { result ≢ Put.Busy }
-    {
         for _ in rt.forever() {
-            match self.try_insert_from(seat, from, word) {
+            match self.try_insert(seat, word) {
                 Put::Busy => yield_now(),
                 put => return put,
             }

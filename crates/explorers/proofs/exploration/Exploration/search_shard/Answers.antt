@@ -15,7 +15,7 @@ loop-at-init g c =
           of = idle.0;
           free = idle.1;
           own = c.requires.ready.free.own;
-          met = met_on mine.met.words.keys mine.met.counts mine.seat.seen c.count_of-count.new.seat.seen c.count_of-count.ensures.sees c.requires.ready.free.met;
+          met = met_on mine.met mine.seat.seen c.count_of-count.new.seat.seen c.count_of-count.ensures.sees c.requires.ready.free.met;
         };
         unclaimed = idle.2;
       };

@@ -12,7 +12,7 @@ take-requires-in-Some-steal g c =
           of = idle.0;
           free = idle.1;
           own = c.requires.ready.free.own;
-          met = met_on mine.met.words.keys mine.met.counts c.stopped.new.seat.seen c.learn.new.seat.seen c.learn.ensures.sees (rw c.stopped.ensures c.requires.ready.free.met);
+          met = met_on mine.met c.stopped.new.seat.seen c.learn.new.seat.seen c.learn.ensures.sees (rw c.stopped.ensures c.requires.ready.free.met);
         };
         unclaimed = idle.2;
       };
