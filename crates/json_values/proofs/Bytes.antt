@@ -13,14 +13,16 @@ use Rattle.json.specs.Print.{escape, escape_byte}
 use Rattle.patch_sets.specs.Sets.{ids_of}
 use Rattle.patch_sets.specs.declared.write.BlockWrite.{BlockWrite}
 use Rattle.serde_json.specs.Data.{Data, string, array}
+use Rattle.serde_json.specs.Find.{get}
 use Rattle.serde_json.specs.View.{items_of}
 use Rattle.serde_json.specs.Written.{compact_text, items_text, has_float, items_have_float}
 use Rattle.crash_model.specs.Lists.{join_of}
 use Rattle.crash_model.specs.Report.{Section, ReplayedBlock, fault_text, json_string, json_array, ids_json, write_json, replayed_json, section_json}
 use Rattle.crash_model.specs.declared.fault.Fault.{Fault}
 use Rattle.crash_model.specs.declared.fault.Fault.TheVariants.{Dangling, Twice, Unwritten, LowLinks, MarkedFree, Wild, Lost, NoBlock}
+use Rattle.json_values.specs.Known.{TellsSection}
 use Rattle.json_values.specs.Written.{IsWritten}
-use Rattle.json_values.specs.Values.{number_data, ids_data, write_data, writes_data, fault_data, faults_data, hex_data, replayed_data, replay_data, section_data, AreReplayedBytes}
+use Rattle.json_values.specs.Values.{number_data, ids_data, write_data, writes_data, fault_data, faults_data, hex_data, replayed_data, replay_data, set_data, section_data, AreReplayedBytes}
 
 -- ---- text that needs no escapes
 
@@ -236,3 +238,13 @@ section_written patches set writes found replay value are is =
       whole = ap compact_text is ∙ section_bytes patches s are;
       plain = ap has_float is ∙ section_no_float patches s;
     }
+
+-- and has its block writes under their key
+pub section_told : (patches set : ℕ) (writes : List BlockWrite) (found : List Fault) (replay : Option (List ReplayedBlock)) (told value : Data) → AreReplayedBytes replay → told ≡ writes_data patches writes → value ≡ set_data patches set told found replay
+    → TellsSection patches (record { set = set; writes = writes; replay = replay; found = found }) value
+section_told patches set writes found None told value are of_writes is =
+    let whole = is ∙ ap (λ (d : Data). set_data patches set d found None) of_writes in
+    record { written = section_written patches set writes found None value are whole; writes = ap (get (codes "writes")) whole }
+section_told patches set writes found (Some replay) told value are of_writes is =
+    let whole = is ∙ ap (λ (d : Data). set_data patches set d found (Some replay)) of_writes in
+    record { written = section_written patches set writes found (Some replay) value are whole; writes = ap (get (codes "writes")) whole }

@@ -7,6 +7,7 @@ ghost use Rattle.hex.specs.Hex.{IsBytes};
 ghost use Rattle.serde_json.specs.View.{view};
 ghost use Rattle.report_sections.specs.Replay.{told_block};
 ghost use Rattle.report_sections.specs.Sections.{section_of};
+ghost use Rattle.json_values.specs.Known.{TellsSection};
 ghost use Rattle.json_values.specs.Written.{IsWritten};
 ghost use Rattle.json_values.specs.Values.{set_data, ids_data, write_data, writes_data, faults_data, hex_data, replayed_data, replay_data};
 
@@ -25,9 +26,23 @@ pub fn section_value<A: Allocator>(
 ) -> Result<Value, AllocError>
     ensures { IfOk result (λ value. IsWritten (view value) (section_json patches (section_of section.now))) }
 {
+    let writes = writes_value(heap, patches, &section.writes)?;
+    section_with(heap, patches, section, writes)
+}
+
+/// A failing set, with the value of its block writes.
+pub(crate) fn section_with<A: Allocator>(
+    heap: Global,
+    patches: usize,
+    section: &Section<A>,
+    writes: Value,
+) -> Result<Value, AllocError>
+    requires { view writes ≡ writes_data patches section.now.writes.items }
+    ensures { IfOk result (λ value. TellsSection patches (section_of section.now) (view value)) }
+{
     match &section.replay {
-        None => plain_section(heap, patches, section),
-        Some(replay) => explained_section(heap, patches, section, replay),
+        None => plain_section(heap, patches, section, writes),
+        Some(replay) => explained_section(heap, patches, section, replay, writes),
     }
 }
 
@@ -36,14 +51,15 @@ fn plain_section<A: Allocator>(
     heap: Global,
     patches: usize,
     section: &Section<A>,
+    writes: Value,
 ) -> Result<Value, AllocError>
     ensures { IfOk result (λ value.
-        view value ≡ set_data patches section.now.set section.now.writes.items section.now.faults.items None) }
+        view value ≡ set_data patches section.now.set (view writes) section.now.faults.items None) }
 {
     json!(in heap; {
         "faults": faults_value(heap, &section.faults)?,
         "set": ids_value(heap, patches, section.set)?,
-        "writes": writes_value(heap, patches, &section.writes)?
+        "writes": writes
     })
 }
 
@@ -53,9 +69,10 @@ fn explained_section<A: Allocator>(
     patches: usize,
     section: &Section<A>,
     replay: &[ReplayedBlock],
+    writes: Value,
 ) -> Result<Value, AllocError>
     ensures value { IfOk result (λ value.
-        view value ≡ set_data patches section.now.set section.now.writes.items section.now.faults.items
+        view value ≡ set_data patches section.now.set (view writes) section.now.faults.items
         (Some (map told_block replay.now))) }
     ensures bytes { OnOk result (All (λ r. IsBytes r.bytes) (map told_block replay.now)) }
 {
@@ -63,7 +80,7 @@ fn explained_section<A: Allocator>(
         "faults": faults_value(heap, &section.faults)?,
         "replay": replay_value(heap, replay)?,
         "set": ids_value(heap, patches, section.set)?,
-        "writes": writes_value(heap, patches, &section.writes)?
+        "writes": writes
     })
 }
 
@@ -122,7 +139,11 @@ pub(crate) fn writes_value(
 }
 
 /// A block write: its block, and the ids of its patches.
-fn write_value(heap: Global, patches: usize, write: BlockWrite) -> Result<Value, AllocError>
+pub(crate) fn write_value(
+    heap: Global,
+    patches: usize,
+    write: BlockWrite,
+) -> Result<Value, AllocError>
     ensures { IfOk result (λ value. view value ≡ write_data patches write) }
 {
     let ids = ids_value(heap, patches, write.ids)?;
