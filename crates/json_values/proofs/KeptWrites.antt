@@ -1,8 +1,8 @@
 -- The table of values, and the values that it is given back.
-use Rattle.std.proofs.Common.{◌≡◌, ℕ, suc, ◌<◌, Some, List, Vec, Global, [], ◌∷◌, ◌++◌, length, get_or, take, map, refl, sym, ap, ap₂, ◌∙◌, arith}
+use Rattle.std.proofs.Common.{◌≡◌, ℕ, suc, ◌<◌, Some, List, String, Vec, Global, string_bytes, [], ◌∷◌, ◌++◌, length, get_or, take, map, refl, sym, ap, ap₂, ◌∙◌, arith}
 use Rattle.std.proofs.lemmas.List.{map-append, length-append, length-map}
-use Rattle.serde_json.specs.Data.{Data, array}
-use Rattle.serde_json.specs.View.{view, items_of}
+use Rattle.serde_json.specs.Data.{Data, array, Members, object, member}
+use Rattle.serde_json.specs.View.{view, items_of, members_view}
 use Rattle.serde_json.specs.declared.value.Value.{Value, Array}
 use Rattle.serde_json.proofs.Views.{view-Array}
 
@@ -52,3 +52,17 @@ same_array values value ds is told =
     let whole : Some (array (items_of (map view values.items))) ≡ Some (array (items_of ds)) = sym (ap (λ (v : Value). Some (view v)) is ∙ ap Some (view-Array values)) ∙ told in
     let items : items_of (map view values.items) ≡ items_of ds = cc in
     same_items (map view values.items) ds items
+
+-- ---- the members of an object
+
+-- what stood first is gone
+pub first_and_rest : (key : String Global) (first : Value) (entries rest : List (String Global × Value)) (name : List ℕ) (value : Data) (behind : Members) → entries ≡ (key, first) ∷ rest
+    → object (members_view entries) ≡ object (member name value behind) → (view first ≡ value) × (members_view rest ≡ behind)
+first_and_rest key first entries rest name value behind are is =
+    let whole : object (member (string_bytes key) (view first) (members_view rest)) ≡ object (member name value behind) = sym (ap (λ (es : List (String Global × Value)). object (members_view es)) are) ∙ is in
+    let one : view first ≡ value = cc in
+    let more : members_view rest ≡ behind = cc in
+    (one, more)
+
+pub same_some : (d e : Data) → Some d ≡ Some e → d ≡ e
+same_some d e is = cc

@@ -6,7 +6,7 @@ mod rules;
 mod summary;
 mod values;
 
-pub use known::KnownWrites;
+pub use known::KnownValues;
 pub use rules::told_rule_value;
 pub use summary::told_fault_value;
 pub use values::{hex_value, section_value};

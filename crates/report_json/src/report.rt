@@ -14,7 +14,7 @@ use crate::items::{write_comma, write_item};
 use crate::parts::write_together;
 use crate::patches::{write_base, write_trace};
 use crash_model::fault::FaultRow;
-use json_values::{KnownWrites, told_fault_value, told_rule_value};
+use json_values::{KnownValues, told_fault_value, told_rule_value};
 use report_sections::{Body, Report, Section, SectionMaker, ToldRule};
 use std::alloc::{AllocError, Allocator, Global};
 use std::thread::Threads;
@@ -130,7 +130,7 @@ pub(crate) fn write_sections<A: Allocator + Copy>(
         report.now.traced.now.patches sets.now (string_bytes out.old) (string_bytes out.new)) }
 {
     let graph = report.traced.graph();
-    let mut known = KnownWrites::new(*out.allocator(), graph.len())?;
+    let mut known = KnownValues::new(*out.allocator(), graph.len())?;
     let mut maker = SectionMaker::new(alloc, report.base, graph, report.detail)?;
     for (at, set) in sets.iter().enumerate() {
         let section = maker.section(*set)?;
@@ -143,7 +143,7 @@ pub(crate) fn write_sections<A: Allocator + Copy>(
 fn write_section<A: Allocator>(
     out: &mut String,
     at: usize,
-    known: &mut KnownWrites,
+    known: &mut KnownValues,
     section: &Section<A>,
 ) -> Result<(), AllocError>
     ensures text { OnOk result (string_bytes out.new

@@ -15,24 +15,24 @@ use Rattle.json_values.proofs.values.section_with.Goals as goal
 pub returns-in-None : goal.returns-in-None
 returns-in-None g c =
     let s = c.args.section.now in
-    let writes = view c.args.writes in
+    let parts = c.args.parts in
     let none : told_replay s.replay ≡ None = ap told_replay c.in-None.is in
     IfOk-weaker c.plain_section.result
-    (λ value. view value ≡ set_data c.args.patches s.set writes s.faults.items None)
+    (λ value. view value ≡ set_data c.args.patches s.set (view parts.writes) (view parts.faults) None)
     (λ value. TellsSection c.args.patches (section_of s) (view value))
     (λ value is. subst (λ (replay : Option (List ReplayedBlock)). TellsSection c.args.patches (record { set = s.set; writes = s.writes.items; replay = replay; found = s.faults.items }) (view value)) (sym none)
-    (section_told c.args.patches s.set s.writes.items s.faults.items None writes (view value) tt c.requires is))
+    (section_told c.args.patches s.set s.writes.items s.faults.items None (view parts.writes) (view parts.faults) (view value) tt c.requires.writes c.requires.faults is))
     c.plain_section.ensures
 
 pub returns-in-Some : goal.returns-in-Some
 returns-in-Some g c =
     let s = c.args.section.now in
-    let writes = view c.args.writes in
+    let parts = c.args.parts in
     let blocks = map told_block c.deref.result.now in
     let some : told_replay s.replay ≡ Some blocks = ap told_replay c.in-Some.is ∙ ap (λ bs. Some (map told_block bs)) (sym c.deref.ensures.value) in
     both_ok c.explained_section.result (All (λ r. IsBytes r.bytes) blocks)
-    (λ value. view value ≡ set_data c.args.patches s.set writes s.faults.items (Some blocks))
+    (λ value. view value ≡ set_data c.args.patches s.set (view parts.writes) (view parts.faults) (Some blocks))
     (λ value. TellsSection c.args.patches (section_of s) (view value))
     (λ are value is. subst (λ (replay : Option (List ReplayedBlock)). TellsSection c.args.patches (record { set = s.set; writes = s.writes.items; replay = replay; found = s.faults.items }) (view value)) (sym some)
-    (section_told c.args.patches s.set s.writes.items s.faults.items (Some blocks) writes (view value) are c.requires is))
+    (section_told c.args.patches s.set s.writes.items s.faults.items (Some blocks) (view parts.writes) (view parts.faults) (view value) are c.requires.writes c.requires.faults is))
     c.explained_section.ensures.bytes c.explained_section.ensures.value

@@ -1,7 +1,7 @@
 use Rattle.std.proofs.Common.{◌≡◌, map, take}
 use Rattle.serde_json.specs.View.{view}
 use Rattle.json_values.specs.Values.{write_data}
-use Rattle.json_values.proofs.known.KnownWrites.writes_value.Given as goal
+use Rattle.json_values.proofs.known.KnownValues.writes_value.Given as goal
 
 abbrev pub invariant-loop-write : goal.invariant-loop-write
 invariant-loop-write l = record {
