@@ -1,3 +1,4 @@
+pub mod Known
 pub mod RuleValues
 pub mod ToldFaults
 pub mod Values

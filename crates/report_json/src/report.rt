@@ -10,11 +10,11 @@ ghost use Rattle.report_json.specs.JsonReport.{comma_before, WritesEarly, Writes
 ghost use Rattle.report_json.specs.JsonReport.{WritesSections, WritesFaults, WritesRules};
 
 use crate::head::{write_module, write_rule_key, write_strict_key};
-use crate::items::write_item;
+use crate::items::{write_comma, write_item};
 use crate::parts::write_together;
 use crate::patches::{write_base, write_trace};
 use crash_model::fault::FaultRow;
-use json_values::{section_value, told_fault_value, told_rule_value};
+use json_values::{KnownValues, told_fault_value, told_rule_value};
 use report_sections::{Body, Report, Section, SectionMaker, ToldRule};
 use std::alloc::{AllocError, Allocator, Global};
 use std::thread::Threads;
@@ -116,7 +116,8 @@ fn write_late<A: Allocator + Copy>(
     Ok(())
 }
 
-/// The objects of the sets, with a comma between two. Each is a value of its own, which is freed once it is written.
+/// The objects of the sets, with a comma between two. Each is a value of its own, which is freed once it is written,
+/// but for the values of its block writes, which serve the sets behind it.
 pub(crate) fn write_sections<A: Allocator + Copy>(
     out: &mut String,
     alloc: A,
@@ -129,11 +130,11 @@ pub(crate) fn write_sections<A: Allocator + Copy>(
         report.now.traced.now.patches sets.now (string_bytes out.old) (string_bytes out.new)) }
 {
     let graph = report.traced.graph();
-    let patches = graph.len();
+    let mut known = KnownValues::new(*out.allocator(), graph.len())?;
     let mut maker = SectionMaker::new(alloc, report.base, graph, report.detail)?;
     for (at, set) in sets.iter().enumerate() {
         let section = maker.section(*set)?;
-        write_section(out, at, patches, &section)?;
+        write_section(out, at, &mut known, &section)?;
     }
     Ok(())
 }
@@ -142,16 +143,15 @@ pub(crate) fn write_sections<A: Allocator + Copy>(
 fn write_section<A: Allocator>(
     out: &mut String,
     at: usize,
-    patches: usize,
+    known: &mut KnownValues,
     section: &Section<A>,
 ) -> Result<(), AllocError>
-    ensures { OnOk result (string_bytes out.new
-        ≡ string_bytes out.old ++ comma_before at ++ section_json patches (section_of section.now)) }
+    ensures text { OnOk result (string_bytes out.new
+        ≡ string_bytes out.old ++ comma_before at ++ section_json known.old (section_of section.now)) }
+    ensures kept { known.new ≡ known.old }
 {
-    let heap = *out.allocator();
-    let value = section_value(heap, patches, section)?;
-    write_item(out, at, &value)?;
-    Ok(())
+    write_comma(out, at)?;
+    known.push_section(out, section)
 }
 
 /// The objects of the faults, with a comma between two.

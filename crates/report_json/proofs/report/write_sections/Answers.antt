@@ -8,9 +8,10 @@ pub loop-at-preserved : goal.loop-at-preserved
 loop-at-preserved g c =
     let kept : c.section.new.self ≡ c.loop-at.maker = cc in
     let report = c.args.report.now in
-    let number : c.len-patches.result ≡ length report.traced.now.patches = cc in
+    let known : c.write_section.new.known ≡ c.loop-at.known = cc in
     let is = subst (λ (m : Reported). IsSection m.detail m.base m.patches (get_or c.args.sets.now c.loop-at.at 0) c.in_ok-section.section) c.loop-at.invariant.of_report c.in_ok-section.ensures.told in
     record {
-      told = section_more report.detail report.base.now report.traced.now.patches c.args.sets.now c.loop-at.at c.len-patches.result _ _ _ _ c.in_ok-section.section c.loop-at-test.true number c.loop-at.invariant.told is refl c.in_ok-write_section.ensures;
+      told = section_more report.detail report.base.now report.traced.now.patches c.args.sets.now c.loop-at.at c.loop-at.known _ _ _ _ c.in_ok-section.section c.loop-at-test.true c.loop-at.invariant.of_graph c.loop-at.invariant.told is refl c.in_ok-write_section.ensures.text;
       of_report = kept ∙ c.loop-at.invariant.of_report;
+      of_graph = known ∙ c.loop-at.invariant.of_graph;
     }

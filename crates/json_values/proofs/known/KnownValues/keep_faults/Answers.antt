@@ -1,0 +1,12 @@
+use Rattle.std.proofs.Common.{◌≡◌, ◌∙◌}
+use Rattle.json_values.specs.Values.{fault_data}
+use Rattle.json_values.proofs.KeptWrites.{popped_values}
+use Rattle.json_values.proofs.known.KnownValues.keep_faults.Goals as goal
+
+pub loop-value-preserved : goal.loop-value-preserved
+loop-value-preserved c =
+    let kept : c.keep_fault.new.self ≡ c.loop-value.self = c.keep_fault.ensures in
+    record {
+      are = popped_values fault_data c.loop-value.values.items c.pop.new.self.items c.in-Some-pop.value c.args.faults.now c.in-Some-pop.ensures.items c.loop-value.invariant.are;
+      kept = kept ∙ c.loop-value.invariant.kept;
+    }
