@@ -1,5 +1,5 @@
 -- Where a script keeps inodes, an image is clean exactly where none of the six faults holds and neither of the two others.
-use Rattle.std.proofs.Common.{◌≡◌, ℕ, [], ◌++◌}
+use Rattle.std.proofs.Common.{◌≡◌, ℕ, []}
 use Rattle.crash_model.specs.Disk.{Disk}
 use Rattle.crash_model.specs.Lists.{some_below, when}
 use Rattle.crash_model.specs.Faults.{IsClean, faults}

@@ -1,15 +1,14 @@
 -- The inodes that are reached are the least set with inode 0, where it is a directory, and with each live inode to which an
 -- entry of one of its directories leads.
-use Rattle.std.proofs.Common.{◌≡◌, ℕ, zero, suc, ◌+◌, ◌-◌, ◌<◌, ◌≤◌, ◌⊎◌, inl, inr, List, [], ◌∷◌, ◌++◌, length, Bool, true, false, cond, ◌&&◌, ◌||◌, ◌==◌, arith, refl, sym, subst, ap, ◌∙◌, length-append}
-use Rattle.std.specs.List.{list_any, range_with_len, Contains}
-use Rattle.std.proofs.lemmas.Bool.{false≢true, cases_Bool, cases_lt, and_parts, or_cases}
+use Rattle.std.proofs.Common.{◌≡◌, ℕ, zero, suc, ◌+◌, ◌-◌, ◌<◌, ◌≤◌, ◌⊎◌, inl, inr, List, [], ◌∷◌, length, Bool, true, false, cond, ◌&&◌, ◌||◌, ◌==◌, arith, refl, sym, subst, ap, length-append}
+use Rattle.std.specs.List.{list_any, Contains}
+use Rattle.std.proofs.lemmas.Bool.{false≢true, cases_lt, and_parts, or_cases}
 use Rattle.std.proofs.lemmas.Cmp.{nat_eq_equiv}
 use Rattle.std.proofs.lemmas.Map.Views.{list_any-from_Contains, Contains-from_any}
 use Rattle.patch_sets.specs.Sets.{ids_below}
 use Rattle.patch_sets.proofs.Ids.{eq_from_true, true_from_eq, from_ids, to_ids, ids_suc}
 use Rattle.crash_model.specs.Disk.{Disk}
 use Rattle.crash_model.specs.Layout.{kind_of, is_live}
-use Rattle.crash_model.specs.Faults.{leads_to}
 use Rattle.crash_model.specs.Strict.{is_in, is_named, reach_in, is_reached}
 
 -- ---- tests

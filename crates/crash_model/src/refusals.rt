@@ -8,11 +8,11 @@ ghost use Rattle.crash_model.specs.RefusalLine.{line_of};
 ghost use Rattle.crash_model.specs.Refusals.{trace_fault};
 
 use std::alloc::{AllocError, AllocFailed};
+use std::fmt;
 use thiserror::Error;
 
 /// Why an operation is refused on an image.
 #[derive(Clone, Copy, Debug, PartialEq, Eq, Error)]
-#[error("{}", self.at_line(0))]
 pub enum FsFault {
     NotFound,
     NotADirectory,
@@ -46,9 +46,14 @@ impl FsFault {
     }
 }
 
+impl fmt::Display for FsFault {
+    fn fmt<W: fmt::Write>(&self, f: &mut fmt::Formatter<W>) -> fmt::Result {
+        write!(f, "{}", self.at_line(0))
+    }
+}
+
 /// Why a step is refused, and its line, from 1; or out of memory.
-#[derive(Clone, Copy, Debug, PartialEq, Eq, Error)]
-#[error("{}", RunFault::from(*self))]
+#[derive(Clone, Copy, PartialEq, Eq, Error)]
 pub enum TraceFault {
     TooManyPatches { line: usize },
     NotFound { line: usize },
@@ -66,11 +71,22 @@ pub enum TraceFault {
     OutOfMemory,
 }
 
+impl fmt::Debug for TraceFault {
+    fn fmt<W: fmt::Write>(&self, f: &mut fmt::Formatter<W>) -> fmt::Result {
+        write!(f, "{:?}", RunFault::from(*self))
+    }
+}
+
+impl fmt::Display for TraceFault {
+    fn fmt<W: fmt::Write>(&self, f: &mut fmt::Formatter<W>) -> fmt::Result {
+        write!(f, "{}", RunFault::from(*self))
+    }
+}
+
 /// Why a script is refused, and the first refused line, from 1; or out of memory.
 ///
 /// A script without a start line is refused at the number of its lines plus 1.
 #[derive(Clone, Copy, Debug, PartialEq, Eq, Error)]
-#[error("{}", RunFault::from(*self))]
 pub enum ScriptFault {
     BadUtf8 { line: usize },
     BadLine { line: usize },
@@ -79,58 +95,70 @@ pub enum ScriptFault {
     OutOfMemory,
 }
 
+impl fmt::Display for ScriptFault {
+    fn fmt<W: fmt::Write>(&self, f: &mut fmt::Formatter<W>) -> fmt::Result {
+        write!(f, "{}", RunFault::from(*self))
+    }
+}
+
 /// Why a run is refused: a variant for each refusal of the product.
 #[derive(Clone, Copy, Debug, PartialEq, Eq, Error)]
 pub enum RunFault {
-    #[error("1 bad geometry")]
     BadGeometry,
-    #[error("2 too many patches")]
     TooManyPatches { line: usize },
-    #[error("10 not found")]
     NotFound { line: usize },
-    #[error("11 not a directory")]
     NotADirectory { line: usize },
-    #[error("12 exists")]
     Exists { line: usize },
-    #[error("13 not a file")]
     NotAFile { line: usize },
-    #[error("14 not empty")]
     NotEmpty { line: usize },
-    #[error("15 no free inode")]
     NoInode { line: usize },
-    #[error("16 no free block")]
     NoBlock { line: usize },
-    #[error("17 directory full")]
     DirectoryFull { line: usize },
-    #[error("18 file full")]
     FileFull { line: usize },
-    #[error("19 too many links")]
     LinksFull { line: usize },
-    #[error("20 journal full")]
     JournalFull { line: usize },
-    #[error("21 group fault")]
     GroupFault { line: usize },
-    #[error("30 too many closed sets")]
     TooMany,
-    #[error("40 not UTF-8")]
     BadUtf8 { line: usize },
-    #[error("41 bad line")]
     BadLine { line: usize },
-    #[error("42 bad path")]
     BadPath { line: usize },
-    #[error("43 no start line")]
     NoStart { line: usize },
-    #[error("50 cannot read the script")]
     CannotRead,
-    #[error("51 cannot write the report")]
     CannotWrite,
-    #[error("52 script too long")]
     ScriptTooLong,
-    #[error("99 out of memory")]
     OutOfMemory,
 }
 
 impl RunFault {
+    /// Its number and its text, with a space between them.
+    fn text(self) -> &'static str {
+        match self {
+            RunFault::BadGeometry => "1 bad geometry",
+            RunFault::TooManyPatches { .. } => "2 too many patches",
+            RunFault::NotFound { .. } => "10 not found",
+            RunFault::NotADirectory { .. } => "11 not a directory",
+            RunFault::Exists { .. } => "12 exists",
+            RunFault::NotAFile { .. } => "13 not a file",
+            RunFault::NotEmpty { .. } => "14 not empty",
+            RunFault::NoInode { .. } => "15 no free inode",
+            RunFault::NoBlock { .. } => "16 no free block",
+            RunFault::DirectoryFull { .. } => "17 directory full",
+            RunFault::FileFull { .. } => "18 file full",
+            RunFault::LinksFull { .. } => "19 too many links",
+            RunFault::JournalFull { .. } => "20 journal full",
+            RunFault::GroupFault { .. } => "21 group fault",
+            RunFault::TooMany => "30 too many closed sets",
+            RunFault::BadUtf8 { .. } => "40 not UTF-8",
+            RunFault::BadLine { .. } => "41 bad line",
+            RunFault::BadPath { .. } => "42 bad path",
+            RunFault::NoStart { .. } => "43 no start line",
+            RunFault::CannotRead => "50 cannot read the script",
+            RunFault::CannotWrite => "51 cannot write the report",
+            RunFault::ScriptTooLong => "52 script too long",
+            RunFault::OutOfMemory => "99 out of memory",
+        }
+    }
+
     /// The number of the line that is refused, from 1, where the refusal has one.
     pub fn line(&self) -> Option<usize>
         ensures { result ≡ line_of self.now }
@@ -155,6 +183,12 @@ impl RunFault {
             | RunFault::NoStart { line } => Some(line),
             _ => None,
         }
+    }
+}
+
+impl fmt::Display for RunFault {
+    fn fmt<W: fmt::Write>(&self, f: &mut fmt::Formatter<W>) -> fmt::Result {
+        f.write_str(self.text())
     }
 }
 

@@ -1,24 +1,36 @@
 //! What a report tells.
 
+ghost use Rattle.std.specs.Prelude.{◌≡◌};
+
 use crate::rules::ToldRule;
 use crash_model::fault::FaultRow;
 use crash_model::settings::{Detail, Settings};
 use disk_image::Image;
-use std::alloc::Allocator;
+use std::alloc::{AllocError, Allocator};
 use traced_patches::Traced;
 
 /// What stands behind a report's head: the failing sets, each fault with its row, or what is told of each rule.
-#[derive(Clone, Copy)]
 pub enum Body<'a, A: Allocator> {
     Sets(&'a [u128]),
     Faults(&'a [FaultRow]),
     Rules(&'a [ToldRule<A>]),
 }
 
+impl<'a, A: Allocator> Clone for Body<'a, A> {
+    ghost is_clone = { λ body copy. copy ≡ body };
+
+    ghost is_infallible = { λ _. Unit {0} };
+
+    fn clone(&self) -> Result<Body<'a, A>, AllocError> {
+        Ok(*self)
+    }
+}
+
+impl<'a, A: Allocator> Copy for Body<'a, A> {}
+
 /// A report before it is written: the image that the traced steps began on, their patches, and what was found of them.
 ///
 /// `detail` is how much it tells of a set; `closed` and `failing` are the numbers of closed and of failing sets.
-#[derive(Clone, Copy)]
 pub struct Report<'found, 'steps, 'asked, 'body, A: Allocator + Copy> {
     pub base: &'steps Image<A>,
     pub traced: &'found Traced<'steps, A>,
@@ -28,3 +40,17 @@ pub struct Report<'found, 'steps, 'asked, 'body, A: Allocator + Copy> {
     pub failing: usize,
     pub body: Body<'body, A>,
 }
+
+impl<'found, 'steps, 'asked, 'body, A: Allocator + Copy> Clone
+    for Report<'found, 'steps, 'asked, 'body, A> {
+    ghost is_clone = { λ report copy. copy ≡ report };
+
+    ghost is_infallible = { λ _. Unit {0} };
+
+    fn clone(&self) -> Result<Report<'found, 'steps, 'asked, 'body, A>, AllocError> {
+        Ok(*self)
+    }
+}
+
+impl<'found, 'steps, 'asked, 'body, A: Allocator + Copy> Copy
+    for Report<'found, 'steps, 'asked, 'body, A> {}
