@@ -117,7 +117,7 @@ fn write_late<A: Allocator + Copy>(
 }
 
 /// The objects of the sets, with a comma between two. Each is a value of its own, which is freed once it is written,
-/// but for the values of its block writes, which serve the sets behind it.
+/// but for the values of its block writes and faults, which serve the sets behind it.
 pub(crate) fn write_sections<A: Allocator + Copy>(
     out: &mut String,
     alloc: A,
