@@ -9,4 +9,4 @@ mod values;
 pub use known::KnownValues;
 pub use rules::told_rule_value;
 pub use summary::told_fault_value;
-pub use values::{hex_value, section_value};
+pub use values::hex_value;

@@ -19,7 +19,7 @@ use serde_json::{Value, json};
 use std::alloc::{AllocError, Allocator, Global};
 
 /// A failing set of a graph with `patches` patches, as it was made a section. It fails only when out of memory.
-pub fn section_value<A: Allocator>(
+pub(crate) fn section_value<A: Allocator>(
     heap: Global,
     patches: usize,
     section: &Section<A>,
