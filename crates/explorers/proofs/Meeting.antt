@@ -1,29 +1,41 @@
 -- The words that a worker has met, while its seat sees more.
-use Rattle.std.proofs.Common.{◌≡◌, ◌≢◌, ℕ, List, subst, sym, ◌⊎◌, inl, inr}
+use Rattle.std.proofs.Common.{◌≡◌, ◌≢◌, ◌∙◌, ℕ, List, subst, sym, ◌⊎◌, inl, inr}
 use Rattle.std.specs.List.{All, Contains}
 use Rattle.std.proofs.lemmas.List.Elements.{All-contains}
 use Rattle.board_rule.specs.Lists.{Has}
 use Rattle.seen_board.specs.Clauses.{SeesOn}
 use Rattle.seen_board.specs.Inserts.{PutOk}
-use Rattle.seen_board.specs.Known.{Known}
+use Rattle.seen_board.specs.Known.{Known, Shown}
 use Rattle.seen_board.specs.declared.answers.Put.{Put}
 use Rattle.seen_board.specs.declared.answers.Put.TheVariants.{Busy, Over}
 use Rattle.explorers.proofs.Successors.{has_on, put_sees, puts_in}
 use Rattle.explorers.specs.Met.{AreMet}
+use Rattle.explorers.specs.Ready.{IsFree}
+use Rattle.explorers.specs.declared.worker.Worker.{Worker}
 
 -- what was met stays so where more is seen
 pub met_on : (words : List ℕ) (seen rows : List (List ℕ)) → SeesOn seen rows → AreMet words seen → AreMet words rows
 met_on words seen rows sees met = record { has = λ word is. has_on seen rows word sees (met.has word is) }
 
 -- and where a word is kept that was put in
-pub met_more : (words more : List ℕ) (word : ℕ) (s w : Known) (put : Put) → PutOk word s w put → put ≢ Over → put ≢ Busy → ((other : ℕ) → Contains more other → (other ≡ word) ⊎ Contains words other) → AreMet words s.seen → AreMet more w.seen
-met_more words more word s w put ok not_over not_busy each met =
-    let on = met_on words s.seen w.seen (put_sees word s w put ok) met in
+pub met_more : (words more : List ℕ) (word : ℕ) (s w : Known) → SeesOn s.seen w.seen → Has w.seen word → ((other : ℕ) → Contains more other → (other ≡ word) ⊎ Contains words other) → AreMet words s.seen → AreMet more w.seen
+met_more words more word s w sees has each met = record {
+  has = λ other is. elim (each other is) [
+    | inl e ↦ subst (Has w.seen) (sym e) has
+    | inr old ↦ (met_on words s.seen w.seen sees met).has other old
+  ];
+}
+
+-- a worker that put a word in, and keeps it
+pub free_after : {S C A : Type 0} (b : Shown S) (space : S) (is_own : S → C → Type 0) (before after : Worker C A) (word : ℕ) (put : Put) → IsFree b space is_own before → PutOk word before.seat after.seat put → put ≢ Over → put ≢ Busy → is_own space after.scratch → ((other : ℕ) → Contains after.met other → (other ≡ word) ⊎ Contains before.met other) → IsFree b space is_own after
+free_after b space is_own before after word put free ok not_over not_busy own each =
+    let puts = puts_in word before.seat after.seat put ok not_over not_busy in
     record {
-      has = λ other is. elim (each other is) [
-        | inl e ↦ subst (Has w.seen) (sym e) (puts_in word s w put ok not_over not_busy).has
-        | inr old ↦ on.has other old
-      ];
+      explored = free.explored;
+      of = (puts.board ∙ free.of.0, puts.limit ∙ free.of.1);
+      free = puts.free;
+      own = own;
+      met = met_more before.met after.met word before.seat after.seat (put_sees word before.seat after.seat put ok) puts.has each free.met;
     }
 
 -- copies of one word

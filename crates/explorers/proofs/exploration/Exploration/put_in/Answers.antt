@@ -1,6 +1,6 @@
-use Rattle.std.proofs.Common.{rules, refl, ◌∙◌}
+use Rattle.std.proofs.Common.{rules, refl}
 use Rattle.explorers.proofs.Successors.{put_sees, puts_in}
-use Rattle.explorers.proofs.Meeting.{met_on, met_more}
+use Rattle.explorers.proofs.Meeting.{met_on, free_after}
 use Rattle.explorers.proofs.exploration.Exploration.put_in.Goals as goal
 
 pub returns-then-has-clause-within : goal.returns-then-has-clause-within
@@ -25,50 +25,29 @@ returns-in-Over-clause-free g c = record {
 pub returns-in-Ok : goal.returns-in-Ok
 returns-in-Ok g c =
     let seat = c.args.mine.now.seat in
-    let put = puts_in c.args.word seat c.insert-put.new.seat c.insert-put.result c.insert-put.ensures.put c.in_default.not-Over c.insert-put.ensures.done in
     record {
-      free = record {
-        explored = c.requires.free.explored;
-        of = (put.board ∙ c.requires.free.of.0, put.limit ∙ c.requires.free.of.1);
-        free = put.free;
-        own = c.requires.free.own;
-        met = met_more c.args.mine.now.met c.keep.new.self c.args.word seat c.insert-put.new.seat c.insert-put.result c.insert-put.ensures.put c.in_default.not-Over c.insert-put.ensures.done c.keep.ensures c.requires.free.met;
-      };
+      free = free_after c.args.self.now.board.now c.args.self.now.space.now g.S.Space.is_own c.args.mine.now (record c.args.mine.now { seat = c.insert-put.new.seat; tasks = c.push.new.self; met = c.keep.new.self }) c.args.word c.insert-put.result c.requires.free c.insert-put.ensures.put c.in_default.not-Over c.insert-put.ensures.done c.requires.free.own c.keep.ensures;
       sees = put_sees c.args.word seat c.insert-put.new.seat c.insert-put.result c.insert-put.ensures.put;
-      within = λ _. put;
+      within = λ _. puts_in c.args.word seat c.insert-put.new.seat c.insert-put.result c.insert-put.ensures.put c.in_default.not-Over c.insert-put.ensures.done;
       over = search rules;
     }
 
 pub returns-in_default-put : goal.returns-in_default-put
 returns-in_default-put g c =
     let seat = c.args.mine.now.seat in
-    let put = puts_in c.args.word seat c.insert-put.new.seat c.insert-put.result c.insert-put.ensures.put c.in_default.not-Over c.insert-put.ensures.done in
     record {
-      free = record {
-        explored = c.requires.free.explored;
-        of = (put.board ∙ c.requires.free.of.0, put.limit ∙ c.requires.free.of.1);
-        free = put.free;
-        own = c.requires.free.own;
-        met = met_more c.args.mine.now.met c.keep.new.self c.args.word seat c.insert-put.new.seat c.insert-put.result c.insert-put.ensures.put c.in_default.not-Over c.insert-put.ensures.done c.keep.ensures c.requires.free.met;
-      };
+      free = free_after c.args.self.now.board.now c.args.self.now.space.now g.S.Space.is_own c.args.mine.now (record c.args.mine.now { seat = c.insert-put.new.seat; tasks = c.args.mine.now.tasks; met = c.keep.new.self }) c.args.word c.insert-put.result c.requires.free c.insert-put.ensures.put c.in_default.not-Over c.insert-put.ensures.done c.requires.free.own c.keep.ensures;
       sees = put_sees c.args.word seat c.insert-put.new.seat c.insert-put.result c.insert-put.ensures.put;
-      within = λ _. put;
+      within = λ _. puts_in c.args.word seat c.insert-put.new.seat c.insert-put.result c.insert-put.ensures.put c.in_default.not-Over c.insert-put.ensures.done;
       over = search rules;
     }
 
 pub returns-in-Err : goal.returns-in-Err
 returns-in-Err g c =
     let seat = c.args.mine.now.seat in
-    let put = puts_in c.args.word seat c.insert-put.new.seat c.insert-put.result c.insert-put.ensures.put c.in_default.not-Over c.insert-put.ensures.done in
     record {
-      free = record {
-        explored = c.requires.free.explored;
-        of = (put.board ∙ c.requires.free.of.0, put.limit ∙ c.requires.free.of.1);
-        free = put.free;
-        own = c.requires.free.own;
-        met = met_more c.args.mine.now.met c.keep.new.self c.args.word seat c.insert-put.new.seat c.insert-put.result c.insert-put.ensures.put c.in_default.not-Over c.insert-put.ensures.done c.keep.ensures c.requires.free.met;
-      };
+      free = free_after c.args.self.now.board.now c.args.self.now.space.now g.S.Space.is_own c.args.mine.now (record c.args.mine.now { seat = c.insert-put.new.seat; tasks = c.push.new.self; met = c.keep.new.self }) c.args.word c.insert-put.result c.requires.free c.insert-put.ensures.put c.in_default.not-Over c.insert-put.ensures.done c.requires.free.own c.keep.ensures;
       sees = put_sees c.args.word seat c.insert-put.new.seat c.insert-put.result c.insert-put.ensures.put;
-      within = cc;
+      within = search rules;
       over = search rules;
     }
