@@ -1,5 +1,5 @@
 -- The bytes of the values of a section.
-use Rattle.std.proofs.Common.{◌≡◌, ℕ, zero, suc, ◌/◌, ◌%◌, ◌<◌, ◌≤◌, Bool, true, false, cond, eqb, length, Option, Some, None, List, [], ◌∷◌, ◌++◌, map, codes, decimal, refl, sym, ap, ap₂, ◌∙◌, arith, append_assoc}
+use Rattle.std.proofs.Common.{◌≡◌, ℕ, zero, suc, ◌/◌, ◌%◌, ◌<◌, ◌≤◌, Bool, true, false, cond, eqb, length, Option, Some, None, List, [], ◌∷◌, ◌++◌, map, codes, decimal, refl, sym, ap, ◌∙◌, arith, append_assoc}
 use Rattle.std.specs.Prelude.{slice_index, nat_le, ◌&&◌, ◌||◌}
 use Rattle.std.specs.List.{All, list_all}
 use Rattle.std.specs.Fmt.{digits, digits_onto, digit_glyph}
@@ -12,17 +12,16 @@ use Rattle.hex.specs.Hex.{encode_with, encode_lower, lower_digits, IsBytes}
 use Rattle.json.specs.Print.{escape, escape_byte}
 use Rattle.patch_sets.specs.Sets.{ids_of}
 use Rattle.patch_sets.specs.declared.write.BlockWrite.{BlockWrite}
-use Rattle.serde_json.specs.Data.{Data, string, array, member, no_members}
-use Rattle.serde_json.specs.Find.{get_member}
+use Rattle.serde_json.specs.Data.{Data, string, array}
 use Rattle.serde_json.specs.View.{items_of}
 use Rattle.serde_json.specs.Written.{compact_text, items_text, has_float, items_have_float}
 use Rattle.crash_model.specs.Lists.{join_of}
 use Rattle.crash_model.specs.Report.{Section, ReplayedBlock, fault_text, json_string, json_array, ids_json, write_json, replayed_json, section_json}
 use Rattle.crash_model.specs.declared.fault.Fault.{Fault}
 use Rattle.crash_model.specs.declared.fault.Fault.TheVariants.{Dangling, Twice, Unwritten, LowLinks, MarkedFree, Wild, Lost, NoBlock}
-use Rattle.json_values.specs.Known.{TellsSection}
+use Rattle.json_values.specs.Known.{fault_json}
 use Rattle.json_values.specs.Written.{IsWritten}
-use Rattle.json_values.specs.Values.{number_data, ids_data, write_data, writes_data, fault_data, faults_data, hex_data, replayed_data, replay_data, set_data, section_data, with_replay, AreReplayedBytes}
+use Rattle.json_values.specs.Values.{number_data, ids_data, write_data, writes_data, fault_data, faults_data, hex_data, replayed_data, replay_data, section_data, AreReplayedBytes}
 
 -- ---- text that needs no escapes
 
@@ -149,9 +148,6 @@ write_bytes patches w =
     let spelt : compact_text (write_data patches w) ≡ form (compact_text (ids_data patches w.ids)) = refl in
     spelt ∙ (ap form (ids_bytes patches w.ids) ∙ regroup_5 (codes "{\"block\":") (decimal w.block) (codes ",\"patches\":") (ids_json patches w.ids) (codes "}"))
 
-abbrev pub fault_json : Fault → List ℕ
-fault_json f = json_string (fault_text f)
-
 pub fault_bytes : (f : Fault) → compact_text (fault_data f) ≡ fault_json f
 fault_bytes f = string_bytes (fault_text f) (fault_plain f)
 
@@ -214,6 +210,9 @@ pub none_float : {X : Type 0} (f : X → Data) → ((x : X) → has_float (f x) 
 none_float f each [] = refl
 none_float f each (x ∷ xs) = rw (each x) (none_float f each xs)
 
+pub ids_no_float : (patches set : ℕ) → has_float (ids_data patches set) ≡ false
+ids_no_float patches set = none_float number_data (λ _. refl) (ids_of patches set)
+
 pub write_no_float : (patches : ℕ) (w : BlockWrite) → has_float (write_data patches w) ≡ false
 write_no_float patches w = rw (none_float number_data (λ _. refl) (ids_of patches w.ids)) refl
 
@@ -238,18 +237,3 @@ section_written patches set writes found replay value are is =
       whole = ap compact_text is ∙ section_bytes patches s are;
       plain = ap has_float is ∙ section_no_float patches s;
     }
-
--- and has its parts
-pub section_told : (patches set : ℕ) (writes : List BlockWrite) (found : List Fault) (replay : Option (List ReplayedBlock)) (told faults value : Data) → AreReplayedBytes replay → told ≡ writes_data patches writes → faults ≡ faults_data found → value ≡ set_data patches set told faults replay
-    → TellsSection patches (record { set = set; writes = writes; replay = replay; found = found }) value
-section_told patches set writes found replay told faults value are of_writes of_faults is =
-    let whole : value ≡ section_data patches (record { set = set; writes = writes; replay = replay; found = found }) =
-    is ∙ ap₂ (λ (ws fs : Data). set_data patches set ws fs replay) of_writes of_faults in
-    record {
-      written = section_written patches set writes found replay value are whole;
-      parts = (with_replay replay (member (codes "set") (ids_data patches set) (member (codes "writes") (writes_data patches writes) no_members)), whole, behind replay);
-    }
-  where
-    behind : (replay : Option (List ReplayedBlock)) → get_member (codes "writes") (with_replay replay (member (codes "set") (ids_data patches set) (member (codes "writes") (writes_data patches writes) no_members))) ≡ Some (writes_data patches writes)
-    behind None = refl
-    behind (Some blocks) = refl

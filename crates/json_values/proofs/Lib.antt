@@ -1,6 +1,9 @@
 pub mod Bytes
+pub mod Commas
 pub mod Ids
-pub mod KeptWrites
+pub mod ListedValues
+pub mod PatchBytes
 pub mod Replays
 pub mod RuleBytes
+pub mod SectionPieces
 pub mod ToldFaults

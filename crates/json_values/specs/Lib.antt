@@ -1,4 +1,6 @@
+pub mod Items
 pub mod Known
+pub mod Patches
 pub mod RuleValues
 pub mod ToldFaults
 pub mod Values

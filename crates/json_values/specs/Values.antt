@@ -41,14 +41,14 @@ abbrev pub with_replay : Option (List ReplayedBlock) → Members → Members
 with_replay None members = members
 with_replay (Some replay) members = member (codes "replay") (replay_data replay) members
 
--- a set, with the values of its block writes and of the faults that it leaves, and what replay changes
-abbrev pub set_data : ℕ → ℕ → Data → Data → Option (List ReplayedBlock) → Data
-set_data patches set writes faults replay =
-    object (member (codes "faults") faults
-    (with_replay replay (member (codes "set") (ids_data patches set) (member (codes "writes") writes no_members))))
+-- a set, with its block writes, the faults that it leaves and what replay changes
+abbrev pub set_data : ℕ → ℕ → List BlockWrite → List Fault → Option (List ReplayedBlock) → Data
+set_data patches set writes found replay =
+    object (member (codes "faults") (faults_data found)
+    (with_replay replay (member (codes "set") (ids_data patches set) (member (codes "writes") (writes_data patches writes) no_members))))
 
 abbrev pub section_data : ℕ → Section → Data
-section_data patches s = set_data patches s.set (writes_data patches s.writes) (faults_data s.found) s.replay
+section_data patches s = set_data patches s.set s.writes s.found s.replay
 
 -- what is told of replay are bytes
 abbrev pub AreReplayedBytes : Option (List ReplayedBlock) → Type 0

@@ -1,12 +1,17 @@
-//! JSON values of what reports tell: failing sets, faults with their rows, and rules.
+//! JSON of what reports tell: values of failing sets, of faults with their rows, of rules and of patches, and their texts.
 #![tactic(auto)]
 
+mod items;
 mod known;
+mod patches;
 mod rules;
+mod sections;
 mod summary;
 mod values;
 
-pub use known::KnownValues;
+pub use items::{write_comma, write_item};
+pub use known::KnownTexts;
+pub use patches::patch_value;
 pub use rules::told_rule_value;
 pub use summary::told_fault_value;
 pub use values::hex_value;

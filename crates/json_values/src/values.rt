@@ -7,7 +7,6 @@ ghost use Rattle.hex.specs.Hex.{IsBytes};
 ghost use Rattle.serde_json.specs.View.{view};
 ghost use Rattle.report_sections.specs.Replay.{told_block};
 ghost use Rattle.report_sections.specs.Sections.{section_of};
-ghost use Rattle.json_values.specs.Known.{TellsSection};
 ghost use Rattle.json_values.specs.Written.{IsWritten};
 ghost use Rattle.json_values.specs.Values.{set_data, ids_data, write_data, writes_data, fault_data, faults_data, hex_data, replayed_data, replay_data};
 
@@ -26,67 +25,45 @@ pub(crate) fn section_value<A: Allocator>(
 ) -> Result<Value, AllocError>
     ensures { IfOk result (λ value. IsWritten (view value) (section_json patches (section_of section.now))) }
 {
-    let writes = writes_value(heap, patches, &section.writes)?;
-    let faults = faults_value(heap, &section.faults)?;
-    section_with(heap, patches, section, Parts { faults, writes })
-}
-
-/// The values of a section's faults and of its block writes.
-#[derive(Drop)]
-pub(crate) struct Parts {
-    pub(crate) faults: Value,
-    pub(crate) writes: Value,
-}
-
-/// A failing set, with the values of its faults and of its block writes.
-pub(crate) fn section_with<A: Allocator>(
-    heap: Global,
-    patches: usize,
-    section: &Section<A>,
-    parts: Parts,
-) -> Result<Value, AllocError>
-    requires faults { view parts.faults ≡ faults_data section.now.faults.items }
-    requires writes { view parts.writes ≡ writes_data patches section.now.writes.items }
-    ensures { IfOk result (λ value. TellsSection patches (section_of section.now) (view value)) }
-{
     match &section.replay {
-        None => plain_section(heap, patches, section.set, parts),
-        Some(replay) => explained_section(heap, patches, section.set, replay, parts),
+        None => plain_section(heap, patches, section),
+        Some(replay) => explained_section(heap, patches, section, replay),
     }
 }
 
 /// A failing set, without what replay changes.
-fn plain_section(heap: Global, patches: usize, set: u128, parts: Parts) -> Result<Value, AllocError>
+fn plain_section<A: Allocator>(
+    heap: Global,
+    patches: usize,
+    section: &Section<A>,
+) -> Result<Value, AllocError>
     ensures { IfOk result (λ value.
-        view value ≡ set_data patches set (view parts.writes) (view parts.faults) None) }
+        view value ≡ set_data patches section.now.set section.now.writes.items section.now.faults.items None) }
 {
-    let Parts { faults, writes } = parts;
     json!(in heap; {
-        "faults": faults,
-        "set": ids_value(heap, patches, set)?,
-        "writes": writes
+        "faults": faults_value(heap, &section.faults)?,
+        "set": ids_value(heap, patches, section.set)?,
+        "writes": writes_value(heap, patches, &section.writes)?
     })
 }
 
 /// A failing set, with the blocks that replay changes.
-fn explained_section(
+fn explained_section<A: Allocator>(
     heap: Global,
     patches: usize,
-    set: u128,
+    section: &Section<A>,
     replay: &[ReplayedBlock],
-    parts: Parts,
 ) -> Result<Value, AllocError>
     ensures value { IfOk result (λ value.
-        view value ≡ set_data patches set (view parts.writes) (view parts.faults)
+        view value ≡ set_data patches section.now.set section.now.writes.items section.now.faults.items
         (Some (map told_block replay.now))) }
     ensures bytes { OnOk result (All (λ r. IsBytes r.bytes) (map told_block replay.now)) }
 {
-    let Parts { faults, writes } = parts;
     json!(in heap; {
-        "faults": faults,
+        "faults": faults_value(heap, &section.faults)?,
         "replay": replay_value(heap, replay)?,
-        "set": ids_value(heap, patches, set)?,
-        "writes": writes
+        "set": ids_value(heap, patches, section.set)?,
+        "writes": writes_value(heap, patches, &section.writes)?
     })
 }
 

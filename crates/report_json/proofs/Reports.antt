@@ -1,7 +1,7 @@
 -- The objects of sets, faults and rules, one after another, and the report around them.
-use Rattle.std.proofs.Common.{◌≡◌, ℕ, ◌+◌, ◌<◌, List, [], ◌∷◌, ◌++◌, length, get_or, take, map, Bool, true, false, codes, decimal, sym, ap, ◌∙◌, arith, append_assoc, length-take}
-use Rattle.std.proofs.lemmas.List.{append-nil, map-append, length-map, take_more}
-use Rattle.crash_model.specs.Lists.{join_of, when}
+use Rattle.std.proofs.Common.{◌≡◌, ℕ, ◌+◌, ◌<◌, List, [], ◌∷◌, ◌++◌, length, get_or, take, Bool, true, false, codes, decimal, sym, ap, ◌∙◌, arith, append_assoc, length-take}
+use Rattle.std.proofs.lemmas.List.{append-nil, length-map}
+use Rattle.crash_model.specs.Lists.{when}
 use Rattle.crash_model.specs.Explain.{base_json, trace_json}
 use Rattle.crash_model.specs.Disk.{Disk}
 use Rattle.crash_model.specs.Report.{module_text, section_json}
@@ -16,23 +16,9 @@ use Rattle.report_sections.specs.declared.section.Section as code
 use Rattle.report_sections.specs.Sections.{section_of, IsSection}
 use Rattle.report_sections.proofs.Joined.{rows_more, firsts_more}
 use Rattle.report_sections.proofs.Pushed.{sections_more, length-sections}
-use Rattle.report_json.specs.JsonReport.{WritesSections, WritesFaults, base_key, trace_key, module_key, strict_key, comma_before}
-use Rattle.report_json.proofs.Commas.{item_more}
-
--- the items of the first things, with that of the next
-mapped_more : {X : Type 0} (form : X → List ℕ) (items : List X) (item : X) (at : ℕ) (old so_far after text : List ℕ) → at ≡ length items → so_far ≡ old ++ join_of 44 (map form items) → text ≡ form item → after ≡ so_far ++ comma_before at ++ text → after ≡ old ++ join_of 44 (map form (items ++ item ∷ []))
-mapped_more form items item at old so_far after text place tells written more =
-    item_more (map form items) at old so_far after (form item) (place ∙ sym (length-map items form)) tells (more ∙ ap (λ (t : List ℕ). so_far ++ comma_before at ++ t) written)
-    ∙ ap (λ (ts : List (List ℕ)). old ++ join_of 44 ts) (sym (map-append form items (item ∷ [])))
-
--- the items of a list's first elements, with that of the next
-pub taken_more : {X : Type 0} (form : X → List ℕ) (xs : List X) (at : ℕ) (d : X) (old so_far after text : List ℕ) → at < length xs → so_far ≡ old ++ join_of 44 (map form (take at xs)) → text ≡ form (get_or xs at d) → after ≡ so_far ++ comma_before at ++ text → after ≡ old ++ join_of 44 (map form (take (at + 1) xs))
-taken_more form xs at d old so_far after text within tells written more =
-    mapped_more form (take at xs) (get_or xs at d) at old so_far after text place tells written more
-    ∙ ap (λ ys. old ++ join_of 44 (map form ys)) (sym (take_more xs at d within))
-  where
-    place : at ≡ length (take at xs)
-    place = omega (arith, within, length-take at xs)
+use Rattle.report_json.specs.JsonReport.{WritesSections, WritesFaults, base_key, trace_key, module_key, strict_key}
+use Rattle.json_values.specs.Items.{comma_before}
+use Rattle.json_values.proofs.Commas.{mapped_more}
 
 pub section_more : {A : Type 0} (detail : Detail) (base : Disk) (patches : List Patch) (sets : List ℕ) (i n : ℕ) (old so_far after text : List ℕ) (s : code.Section A) → i < length sets → n ≡ length patches → WritesSections detail base patches (take i sets) old so_far → IsSection detail base patches (get_or sets i 0) s → text ≡ section_json n (section_of s) → after ≡ so_far ++ comma_before i ++ text → WritesSections detail base patches (take (i + 1) sets) old after
 section_more detail base patches sets i n old so_far after text s within number tells is written more = record {

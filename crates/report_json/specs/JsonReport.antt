@@ -1,5 +1,5 @@
 -- Reports as JSON.
-use Rattle.std.specs.Prelude.{◌≡◌, ℕ, zero, suc, List, [], ◌++◌, length, map, if◌then◌else◌, Bool, codes, decimal}
+use Rattle.std.specs.Prelude.{◌≡◌, ℕ, List, [], ◌++◌, length, map, if◌then◌else◌, Bool, codes, decimal}
 use Rattle.crash_model.specs.Lists.{join_of}
 use Rattle.crash_model.specs.Disk.{Disk}
 use Rattle.crash_model.specs.Explain.{blocks_of, hex_json, told_patches, told_json}
@@ -32,11 +32,6 @@ module_key kind patches = codes ",\"module\":\"" ++ module_text kind ++ codes "\
 -- that the run is strict, told where it is
 abbrev pub strict_key : Bool → List ℕ
 strict_key strict = if strict then codes ",\"strict\":true" else []
-
--- the comma before the item at a place
-abbrev pub comma_before : ℕ → List ℕ
-comma_before zero = []
-comma_before (suc n) = codes ","
 
 -- behind what stood there the text has the body's key before `module`
 abbrev pub WritesEarly : {A : Type 0} → Report A → List ℕ → List ℕ → Type 0

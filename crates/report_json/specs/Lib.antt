@@ -1,3 +1,2 @@
 pub mod JsonReport
 pub mod PartTexts
-pub mod Patches

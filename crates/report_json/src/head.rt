@@ -7,9 +7,9 @@ ghost use Rattle.crash_model.specs.Rules.{rule_text};
 ghost use Rattle.crash_model.specs.Whole.{rules_json};
 ghost use Rattle.report_json.specs.JsonReport.{module_key, strict_key};
 
-use crate::items::write_comma;
 use crash_model::modules::Module;
 use crash_model::rules::Rule;
+use json_values::write_comma;
 use std::alloc::AllocError;
 
 /// The module and the number of patches.

@@ -2,7 +2,6 @@
 #![tactic(auto)]
 
 mod head;
-mod items;
 mod parts;
 mod patches;
 pub mod report;

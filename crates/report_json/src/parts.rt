@@ -5,8 +5,8 @@ ghost use Rattle.report_sections.specs.Bodies.{AreOnBase, AreClosed};
 ghost use Rattle.report_json.specs.JsonReport.{WritesSections};
 ghost use Rattle.report_json.specs.PartTexts.{ArePartTexts, AreFullParts};
 
-use crate::items::write_comma;
 use crate::report::write_sections;
+use json_values::write_comma;
 use report_sections::Report;
 use std::alloc::{AllocError, Allocator, Global};
 use std::thread;

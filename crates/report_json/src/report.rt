@@ -6,16 +6,17 @@ ghost use Rattle.crash_model.specs.Summary.{told_fault_json};
 ghost use Rattle.crash_model.specs.Whole.{Body as WholeBody, json_report};
 ghost use Rattle.report_sections.specs.Bodies.{CanTell, TellsBody, AreOnBase, AreClosed, whole_of};
 ghost use Rattle.report_sections.specs.Sections.{section_of};
-ghost use Rattle.report_json.specs.JsonReport.{comma_before, WritesEarly, WritesLate};
+ghost use Rattle.json_values.specs.Items.{comma_before};
+ghost use Rattle.report_json.specs.JsonReport.{WritesEarly, WritesLate};
 ghost use Rattle.report_json.specs.JsonReport.{WritesSections, WritesFaults, WritesRules};
 
 use crate::head::{write_module, write_rule_key, write_strict_key};
-use crate::items::{write_comma, write_item};
 use crate::parts::write_together;
 use crate::patches::{write_base, write_trace};
 use crash_model::fault::FaultRow;
-use json_values::{KnownValues, told_fault_value, told_rule_value};
-use report_sections::{Body, Report, Section, SectionMaker, ToldRule};
+use json_values::{KnownTexts, told_fault_value, told_rule_value, write_comma, write_item};
+use report_sections::{Body, Report, Section, ToldRule};
+use section_maker::SectionMaker;
 use std::alloc::{AllocError, Allocator, Global};
 use std::thread::Threads;
 
@@ -116,8 +117,8 @@ fn write_late<A: Allocator + Copy>(
     Ok(())
 }
 
-/// The objects of the sets, with a comma between two. Each is a value of its own, which is freed once it is written,
-/// but for the values of its block writes and faults, which serve the sets behind it.
+/// The objects of the sets, with a comma between two. What each is made of are values of their own, which are freed once
+/// they are written; the texts of block writes and faults serve the sets behind it.
 pub(crate) fn write_sections<A: Allocator + Copy>(
     out: &mut String,
     alloc: A,
@@ -130,7 +131,7 @@ pub(crate) fn write_sections<A: Allocator + Copy>(
         report.now.traced.now.patches sets.now (string_bytes out.old) (string_bytes out.new)) }
 {
     let graph = report.traced.graph();
-    let mut known = KnownValues::new(*out.allocator(), graph.len())?;
+    let mut known = KnownTexts::new(*out.allocator(), graph.len())?;
     let mut maker = SectionMaker::new(alloc, report.base, graph, report.detail)?;
     for (at, set) in sets.iter().enumerate() {
         let section = maker.section(*set)?;
@@ -143,7 +144,7 @@ pub(crate) fn write_sections<A: Allocator + Copy>(
 fn write_section<A: Allocator>(
     out: &mut String,
     at: usize,
-    known: &mut KnownValues,
+    known: &mut KnownTexts,
     section: &Section<A>,
 ) -> Result<(), AllocError>
     ensures text { OnOk result (string_bytes out.new

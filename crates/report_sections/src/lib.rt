@@ -9,4 +9,4 @@ pub mod section;
 pub use replayed::ReplayedBlock;
 pub use report::{Body, Report};
 pub use rules::{RuleUsage, ToldRule};
-pub use section::{Outcome, Section, SectionMaker};
+pub use section::{Outcome, Section};

@@ -1,20 +1,11 @@
 //! Sections of a report.
 
-ghost use Rattle.std.specs.Prelude.{◌≡◌, [], IfOk, OnOk};
-ghost use Rattle.patch_sets.specs.Closed.{IsClosed};
-ghost use Rattle.crash_model.specs.Patches.{deps_of};
-ghost use Rattle.report_sections.specs.Bodies.{AreOnBase};
+ghost use Rattle.std.specs.Prelude.{◌≡◌, []};
 
-use crate::replayed::{ReplayedBlock, changed_by_replay};
-use crash_image::Replayer;
+use crate::replayed::ReplayedBlock;
 use crash_model::fault::Fault;
-use crash_model::settings::Detail;
-use disk_image::Image;
-use fs_check::list_faults_under;
-use patch_graph::Graph;
 use patch_sets::write::BlockWrite;
-use std::alloc::{AllocError, Allocator};
-use std::marker::Model;
+use std::alloc::Allocator;
 
 /// A set, block writes that lead to it, what replay changes where that is explained, and the faults of its replayed
 /// image.
@@ -42,83 +33,5 @@ impl<A: Allocator> Outcome<A> {
             replay: None,
             faults: Vec::new(alloc),
         }
-    }
-}
-
-/// What the sections of a report are made in: the images of one set before and after replay, which move from set to
-/// set.
-///
-/// Contracts see the base and the patches, and how much is told of a set.
-#[derive(Drop)]
-pub struct SectionMaker<'a, A: Allocator + Copy> {
-    alloc: A,
-    graph: &'a Graph<A>,
-    images: Replayer<'a, A>,
-    detail: Detail,
-}
-
-impl<'a, A: Allocator + Copy> Model for SectionMaker<'a, A> {
-    ghost use Rattle.std.specs.Prelude.{◌≡◌};
-    ghost use Rattle.report_sections.specs.Maker.{Reported};
-
-    ghost Value = { Reported };
-
-    ghost view = { λ s. record { base = s.images.base; patches = s.images.patches; detail = s.detail } };
-
-    ghost invariant = { λ s. s.images.patches ≡ s.graph.now };
-}
-
-impl<'a, A: Allocator + Copy> SectionMaker<'a, A> {
-    ghost use Rattle.report_sections.specs.Sections.{IsSection, IsOutcome};
-
-    /// Makes sections of sets that a crash can leave, whose patches change blocks of the base and hold the bytes that
-    /// they replace there, each as `detail` asks.
-    ///
-    /// It fails only when out of memory.
-    pub fn new(
-        alloc: A,
-        base: &'a Image<A>,
-        graph: &'a Graph<A>,
-        detail: Detail,
-    ) -> Result<SectionMaker<'a, A>, AllocError>
-        requires { AreOnBase base.now graph.now }
-        ensures { IfOk result (λ maker. maker ≡ record { base = base.now; patches = graph.now; detail = detail }) }
-    {
-        Ok(SectionMaker {
-            alloc,
-            graph,
-            images: Replayer::new(base.try_copy()?, base.try_copy()?, graph),
-            detail,
-        })
-    }
-
-    /// What is told of a set that a crash can leave. It fails only when out of memory.
-    pub fn section(&mut self, set: u128) -> Result<Section<A>, AllocError>
-        requires closed { IsClosed (deps_of self.old.patches) set }
-        ensures told { IfOk result (IsSection self.old.detail self.old.base self.old.patches set) }
-        ensures kept { self.new ≡ self.old }
-    {
-        let writes = self.graph.writes_to(set)?;
-        let mut outcome = Outcome::new(self.alloc);
-        self.tell(set, &mut outcome)?;
-        let Outcome { replay, faults } = outcome;
-        Ok(Section {
-            set,
-            writes,
-            replay,
-            faults,
-        })
-    }
-
-    /// Tells what a crash that leaves a set comes to, in place of what was told, and in its memory where that is
-    /// enough. It fails only when out of memory.
-    pub fn tell(&mut self, set: u128, outcome: &mut Outcome<A>) -> Result<(), AllocError>
-        requires closed { IsClosed (deps_of self.old.patches) set }
-        ensures told { OnOk result (IsOutcome self.old.detail self.old.base self.old.patches set outcome.new) }
-        ensures kept { self.new ≡ self.old }
-    {
-        self.images.move_to(set);
-        outcome.replay = changed_by_replay(self.alloc, &self.images, self.detail.explain)?;
-        list_faults_under(&mut outcome.faults, self.images.image(), self.detail.kept)
     }
 }

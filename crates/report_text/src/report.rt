@@ -15,7 +15,8 @@ use crate::patches::write_patches;
 use crate::rules::write_rules;
 use crate::summary::write_told_fault;
 use crash_model::fault::FaultRow;
-use report_sections::{Body, Outcome, Report, SectionMaker};
+use report_sections::{Body, Outcome, Report};
+use section_maker::SectionMaker;
 use std::alloc::{AllocError, Allocator};
 use std::thread::Threads;
 

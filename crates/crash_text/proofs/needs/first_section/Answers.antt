@@ -6,7 +6,7 @@ use Rattle.crash_model.specs.Strict.{IsFailingUnder}
 use Rattle.crash_model.specs.Patches.{deps_of}
 use Rattle.crash_model.specs.declared.settings.Detail.{Detail}
 use Rattle.fault_summary.specs.Prevented.{IsFirstOut, IsFirstPrevented}
-use Rattle.report_sections.specs.Maker.{Reported}
+use Rattle.section_maker.specs.Maker.{Reported}
 use Rattle.report_sections.specs.Sections.{IsSection}
 use Rattle.crash_text.proofs.Needing.{none_new, some_new}
 use Rattle.crash_text.proofs.needs.first_section.Goals as goal

@@ -4,7 +4,7 @@ use Rattle.crash_model.specs.Rules.{rule_text, same_rule}
 use Rattle.crash_model.specs.declared.plans.Role.TheVariants.{InodeInit}
 use Rattle.crash_model.specs.declared.rules.Rule.{Rule}
 use Rattle.crash_model.specs.declared.rules.RulePart.TheVariants.{Change}
-use Rattle.report_json.proofs.Reports.{taken_more}
+use Rattle.json_values.proofs.Commas.{taken_more}
 use Rattle.report_json.proofs.head.write_rule_texts.Goals as goal
 
 -- what stands where there is no rule

@@ -5,7 +5,7 @@ use Rattle.crash_model.specs.Needs.{told_rule_json}
 use Rattle.report_sections.specs.ToldRules.{told_rule}
 use Rattle.serde_json.specs.Written.{compact_text}
 use Rattle.serde_json.specs.View.{view}
-use Rattle.report_json.proofs.Reports.{taken_more}
+use Rattle.json_values.proofs.Commas.{taken_more}
 use Rattle.report_json.proofs.report.write_rules.Goals as goal
 
 pub write_item-requires : goal.write_item-requires

@@ -1,5 +1,5 @@
-use Rattle.std.proofs.Common.{◌≡◌, length, get_or, refl, subst, ◌∙◌}
-use Rattle.report_sections.specs.Maker.{Reported}
+use Rattle.std.proofs.Common.{◌≡◌, get_or, refl, subst, ◌∙◌}
+use Rattle.section_maker.specs.Maker.{Reported}
 use Rattle.report_sections.specs.Sections.{IsSection}
 use Rattle.report_json.proofs.Reports.{section_more}
 use Rattle.report_json.proofs.report.write_sections.Goals as goal

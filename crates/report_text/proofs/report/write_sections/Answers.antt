@@ -1,6 +1,6 @@
 use Rattle.std.proofs.Common.{List, [], ◌∷◌, get_or, string_bytes, subst, ap, ◌∙◌}
 use Rattle.crash_model.specs.declared.patches.Patch.{Patch}
-use Rattle.report_sections.specs.Maker.{Reported}
+use Rattle.section_maker.specs.Maker.{Reported}
 use Rattle.report_text.specs.TextReport.{WritesSections}
 use Rattle.report_text.proofs.JoinedParts.{sections_none}
 use Rattle.report_text.proofs.Reports.{section_more}

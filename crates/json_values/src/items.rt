@@ -1,0 +1,41 @@
+//! The items of an array, one at a time.
+
+ghost use Rattle.std.specs.Prelude.{◌≡◌, false, ◌++◌, string_bytes, OnOk};
+ghost use Rattle.json_values.specs.Items.{comma_before};
+ghost use Rattle.serde_json.specs.View.{view};
+ghost use Rattle.serde_json.specs.Written.{compact_text, has_float};
+
+use serde_json::Value;
+use std::alloc::AllocError;
+
+/// A value at this place of an array, with a comma before it where it is not the first. It fails only when out of
+/// memory.
+pub fn write_item(out: &mut String, at: usize, value: &Value) -> Result<(), AllocError>
+    requires { has_float (view value.now) ≡ false }
+    ensures { OnOk result (string_bytes out.new
+        ≡ string_bytes out.old ++ comma_before at ++ compact_text (view value.now)) }
+{
+    write_comma(out, at)?;
+    write_value(out, value)
+}
+
+/// A value, compact.
+pub(crate) fn write_value(out: &mut String, value: &Value) -> Result<(), AllocError>
+    requires { has_float (view value.now) ≡ false }
+    ensures { OnOk result (string_bytes out.new ≡ string_bytes out.old ++ compact_text (view value.now)) }
+{
+    let heap = *out.allocator();
+    let text = value.to_string(heap)?;
+    out.push_str(text.as_str())?;
+    Ok(())
+}
+
+/// The comma before the item at this place of an array, where it is not the first. It fails only when out of memory.
+pub fn write_comma(out: &mut String, at: usize) -> Result<(), AllocError>
+    ensures { OnOk result (string_bytes out.new ≡ string_bytes out.old ++ comma_before at) }
+{
+    if at > 0 {
+        out.push_str(",")?;
+    }
+    Ok(())
+}

@@ -1,0 +1,92 @@
+//! Sections, written a part at a time.
+
+ghost use Rattle.std.specs.Prelude.{◌≡◌, ◌++◌, map, string_bytes, OnOk};
+ghost use Rattle.crash_model.specs.Lists.{join_of};
+ghost use Rattle.crash_model.specs.Report.{ids_json, replay_json, section_json, write_json};
+ghost use Rattle.json_values.specs.Known.{fault_json};
+ghost use Rattle.report_sections.specs.Replay.{told_replay};
+ghost use Rattle.report_sections.specs.Sections.{section_of};
+
+use crate::items::{write_comma, write_value};
+use crate::known::KnownTexts;
+use crate::values::{ids_value, replay_value};
+use crash_model::fault::Fault;
+use patch_sets::write::BlockWrite;
+use report_sections::{ReplayedBlock, Section};
+use std::alloc::{AllocError, Allocator};
+
+impl KnownTexts {
+    /// Adds a failing set, as it was made a section. What it is made of are values of their own: its ids, the blocks
+    /// that replay changes, and each block write and fault that is not known. It fails only when out of memory.
+    pub fn push_section<A: Allocator>(
+        &mut self,
+        out: &mut String,
+        section: &Section<A>,
+    ) -> Result<(), AllocError>
+        ensures text { OnOk result (string_bytes out.new
+            ≡ string_bytes out.old ++ section_json self.old (section_of section.now)) }
+        ensures kept { self.new ≡ self.old }
+    {
+        out.push_str("{\"faults\":[")?;
+        self.push_faults(out, &section.faults)?;
+        out.push_str("],")?;
+        push_replay(out, &section.replay)?;
+        out.push_str("\"set\":")?;
+        push_set(out, self.patches(), section.set)?;
+        out.push_str(",\"writes\":[")?;
+        self.push_writes(out, &section.writes)?;
+        out.push_str("]}")?;
+        Ok(())
+    }
+
+    /// The texts of the faults, with a comma between two.
+    fn push_faults(&mut self, out: &mut String, faults: &[Fault]) -> Result<(), AllocError>
+        ensures text { OnOk result (string_bytes out.new
+            ≡ string_bytes out.old ++ join_of 44 (map fault_json faults.now)) }
+        ensures kept { self.new ≡ self.old }
+    {
+        for (at, fault) in faults.iter().enumerate() {
+            write_comma(out, at)?;
+            self.push_fault(out, *fault)?;
+        }
+        Ok(())
+    }
+
+    /// The objects of the block writes, with a comma between two.
+    fn push_writes(&mut self, out: &mut String, writes: &[BlockWrite]) -> Result<(), AllocError>
+        ensures text { OnOk result (string_bytes out.new
+            ≡ string_bytes out.old ++ join_of 44 (map (write_json self.old) writes.now)) }
+        ensures kept { self.new ≡ self.old }
+    {
+        for (at, write) in writes.iter().enumerate() {
+            write_comma(out, at)?;
+            self.push_write(out, *write)?;
+        }
+        Ok(())
+    }
+}
+
+/// The ids of a set.
+fn push_set(out: &mut String, patches: usize, set: u128) -> Result<(), AllocError>
+    ensures { OnOk result (string_bytes out.new ≡ string_bytes out.old ++ ids_json patches set) }
+{
+    let value = ids_value(*out.allocator(), patches, set)?;
+    write_value(out, &value)
+}
+
+/// The key of the blocks that replay changes, with a comma behind it, where they are told.
+fn push_replay<A: Allocator>(
+    out: &mut String,
+    replay: &Option<Vec<ReplayedBlock, A>>,
+) -> Result<(), AllocError>
+    ensures { OnOk result (string_bytes out.new ≡ string_bytes out.old ++ replay_json (told_replay replay.now)) }
+{
+    let Some(blocks) = replay else {
+        return Ok(());
+    };
+    out.push_str("\"replay\":")?;
+    let value = replay_value(*out.allocator(), blocks)?;
+    write_value(out, &value)?;
+    out.push_str(",")?;
+    Ok(())
+}
