@@ -8,7 +8,7 @@ ghost use Rattle.crash_model.specs.declared.modules.Module.TheVariants.{Full};
 ghost use Rattle.crash_model.specs.Answer.{IsAnswer, Reported, Refused};
 ghost use Rattle.crash_text.specs.BaseRefusal.{IsBaseRefusal};
 ghost use Rattle.crash_finding.specs.Limits.{IsExplorable};
-ghost use Rattle.crash_text.specs.Telling.{AreReported, AreRefused};
+ghost use Rattle.crash_text.specs.Telling.{AreFindings, AreReported, AreRefused, IsReportOf};
 
 use crate::keeping::told_kept;
 use crate::needs::report_by_rule;
@@ -21,7 +21,7 @@ use disk_image::{Image, ImageFault};
 use explorers::Gate;
 use order_modules::{build_base, trace};
 use script_text::read_script;
-use std::alloc::{Allocator, Global};
+use std::alloc::{AllocError, Allocator, Global};
 use std::sync::Wait;
 use std::thread::Threads;
 
@@ -70,8 +70,7 @@ where
         workers,
         gate,
     };
-    let outcome = answer_steps(&finder, heap, &base, steps)?;
-    Ok(outcome)
+    answer_steps(&finder, heap, &base, steps)
 }
 
 /// Traces the steps over the base, explores what a crash can leave, and reports.
@@ -112,16 +111,32 @@ where
         kept,
         found,
     };
-    let (rt, workers) = (finder.rt, finder.workers);
-    let text = match &findings.found.kept {
-        Kept::Sets(sets) => findings.by_set(rt, heap, alloc, sets, workers)?,
-        Kept::Faults(rows) => findings.by_fault(rt, heap, alloc, rows, workers)?,
-        Kept::Number => report_by_rule(finder, heap, &findings)?,
-    };
     Ok(Outcome {
-        text,
+        text: report(finder, heap, &findings)?,
         failing: findings.found.failing,
     })
+}
+
+/// The report on what is found, as the settings ask for it. It fails only when out of memory.
+fn report<R, A, G>(
+    finder: &Finder<'_, R, A, G>,
+    heap: Global,
+    findings: &Findings<'_, '_, A>,
+) -> Result<String<A>, AllocError>
+where
+    R: Threads + Wait + Sync,
+    A: Allocator + Copy + Send + Sync,
+    G: Gate + Sync,
+    requires same { finder.now.settings.now ≡ findings.now.settings.now }
+    requires found { AreFindings findings.now }
+    ensures { IfOk result (λ text. IsReportOf findings.now (string_bytes text)) }
+{
+    let (rt, alloc, workers) = (finder.rt, finder.alloc, finder.workers);
+    match &findings.found.kept {
+        Kept::Sets(sets) => findings.by_set(rt, heap, alloc, sets, workers),
+        Kept::Faults(rows) => findings.by_fault(rt, heap, alloc, rows, workers),
+        Kept::Number => report_by_rule(finder, heap, findings),
+    }
 }
 
 /// The disk at the start line: the formatted one of the settings, after the steps before that line.
