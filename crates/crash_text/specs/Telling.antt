@@ -37,6 +37,12 @@ IsReportOf f text =
     (last : Tracing) → IsTraceOf f.settings.now f.base.now f.traced last
     → IsReport f.settings.now f.kept f.base.now last f.traced.patches text f.found.failing
 
+-- the text is the report on these traced patches, by a checker that is told what the steps keep
+pub record AreReportedOf (settings : Settings) (base : Disk) (steps : List Step) (t : TracedPatches) (text : List ℕ) (failing : ℕ) : Type 0 where
+  pub kept : Option ℕ
+  pub told : IsToldKept settings.strict base steps kept
+  pub report : (last : Tracing) → IsTraceOf settings base t last → IsReport settings kept base last t.patches text failing
+
 -- the report on steps that are traced over the base
 pub record AreReported (settings : Settings) (base : Disk) (steps : List Step) (text : List ℕ) (failing : ℕ) : Type 0 where
   pub last : Tracing
