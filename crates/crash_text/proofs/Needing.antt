@@ -1,5 +1,5 @@
 -- What is told of the rules of an ordering.
-use Rattle.std.proofs.Common.{◌≡◌, ℕ, ◌+◌, ◌<◌, suc, List, [], ◌∷◌, ◌++◌, length, get_or, map, take, drop, Option, All, refl, sym, ap, subst, ◌∙◌, arith, length-take}
+use Rattle.std.proofs.Common.{◌≡◌, ℕ, ◌+◌, ◌<◌, ◌≤◌, suc, List, [], ◌∷◌, ◌++◌, length, get_or, map, take, drop, Option, All, refl, sym, ap, subst, ◌∙◌, arith, length-take}
 use Rattle.std.specs.Prelude.{Some, None}
 use Rattle.std.specs.List.{Contains}
 use Rattle.std.proofs.Math.Seq.{drop-cons}
@@ -9,10 +9,11 @@ use Rattle.patch_sets.specs.Closed.{AreEarlier, IsClosed}
 use Rattle.patch_sets.specs.Sets.{Has, IsBefore, AreAllInOrder}
 use Rattle.crash_model.specs.Disk.{Disk}
 use Rattle.crash_model.specs.Strict.{IsFailingUnder}
-use Rattle.crash_model.specs.Needs.{AreToldRules, IsFirstNew, IsRuleUsage, RuleUsage, ToldRule}
+use Rattle.crash_model.specs.Needs.{AreToldRules, IsFirstNew, IsRuleUsage, RuleUsage, Unused, TooMany as PastLimit, Used, ToldRule, pairs_of}
 use Rattle.crash_model.specs.Patches.{deps_of}
 use Rattle.crash_model.specs.Report.{AreSections, IsLed}
-use Rattle.crash_model.specs.Trace.{Tracing}
+use Rattle.crash_model.specs.Rules.{rules_in_first}
+use Rattle.crash_model.specs.Trace.{Tracing, IsGraphOf}
 use Rattle.crash_model.specs.declared.patches.Patch.{Patch}
 use Rattle.crash_model.specs.declared.rules.Rule.{Rule}
 use Rattle.crash_model.specs.declared.settings.Detail.{Detail}
@@ -24,6 +25,7 @@ use Rattle.report_sections.specs.declared.rules.RuleUsage as code_usage
 use Rattle.report_sections.specs.declared.rules.ToldRule as code_rule
 use Rattle.report_sections.specs.declared.section.Section.{Section}
 use Rattle.report_sections.proofs.Pushed.{is_told}
+use Rattle.crash_text.specs.Telling.{IsUsageBy}
 
 -- the section of the first set that is not closed under the patches
 first_found : {A : Type 0} (detail : Detail) (base : Disk) (patches changed : List Patch) (sets : List ℕ) (i set : ℕ) (s : Section A) → AreEarlier (deps_of changed) → All (IsClosed (deps_of changed)) sets
@@ -70,6 +72,13 @@ some_new detail base patches changed sets set s earlier first all is =
         let before : IsBefore (get_or sets k d) set = subst (IsBefore (get_or sets k d)) last (all.ordered k at d lt within) in
         subst (IsClosed (deps_of patches)) (sym (get_or-take at sets k d lt))
         (first.before (get_or sets k d) ((all.exactly (get_or sets k d)).0 (Contains-get_or sets k d known)) before)
+
+-- a rule's usage, which is told by the patches without it
+pub usage_of_pairs : (detail : Detail) (limit : ℕ) (rules : List Rule) (base : Disk) (last : Tracing) (patches changed : List Patch) (rule : Rule) (pairs : ℕ) (usage : RuleUsage) → pairs ≡ pairs_of rule last.emitted → 1 ≤ pairs
+    → IsGraphOf (rules_in_first rules (rule ∷ [])) base last changed → IsUsageBy detail limit base patches changed pairs usage → IsRuleUsage detail limit rules base last patches rule usage
+usage_of_pairs detail limit rules base last patches changed rule pairs Unused same some graph is = absurd is
+usage_of_pairs detail limit rules base last patches changed rule pairs (PastLimit told) same some graph is = (is.0 ∙ same, omega (arith, is.0, some), (changed, graph, is.1))
+usage_of_pairs detail limit rules base last patches changed rule pairs (Used told w) same some graph is = (is.0 ∙ same, omega (arith, is.0, some), (changed, graph, is.1))
 
 -- closed sets have ids of the graph alone
 pub closed_known : (patches : List Patch) (set : ℕ) → IsClosed (deps_of patches) set → (id : ℕ) → Has set id → id < length patches

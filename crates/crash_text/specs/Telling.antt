@@ -3,6 +3,7 @@ use Rattle.std.specs.Prelude.{◌≡◌, ◌⊎◌, ℕ, List, Option, Ok, Err}
 use Rattle.crash_model.specs.Answer.{ordering_rules, IsReport}
 use Rattle.crash_model.specs.Disk.{Disk}
 use Rattle.crash_model.specs.Failing.{ExceedsLimit}
+use Rattle.crash_model.specs.Needs.{IsWithout, RuleUsage, Unused, TooMany as PastLimit, Used}
 use Rattle.crash_model.specs.Refusals.{run_of_trace}
 use Rattle.crash_model.specs.Strict.{IsToldKept}
 use Rattle.crash_model.specs.Trace.{Tracing, trace_start, trace_from, IsGraphOf}
@@ -10,6 +11,7 @@ use Rattle.crash_model.specs.declared.patches.Patch.{Patch}
 use Rattle.crash_model.specs.declared.refusals.RunFault.{RunFault}
 use Rattle.crash_model.specs.declared.refusals.RunFault.TheVariants.{TooMany}
 use Rattle.crash_model.specs.declared.refusals.TraceFault.{TraceFault}
+use Rattle.crash_model.specs.declared.settings.Detail.{Detail}
 use Rattle.crash_model.specs.declared.settings.Settings.{Settings}
 use Rattle.crash_model.specs.declared.steps.Step.{Step}
 use Rattle.traced_patches.specs.Traced.{TracedPatches}
@@ -35,6 +37,12 @@ IsReportOf f text =
     (last : Tracing) → IsTraceOf f.settings.now f.base.now f.traced last
     → IsReport f.settings.now f.kept f.base.now last f.traced.patches text f.found.failing
 
+-- the text is the report on these traced patches, by a checker that is told what the steps keep
+pub record AreReportedOf (settings : Settings) (base : Disk) (steps : List Step) (t : TracedPatches) (text : List ℕ) (failing : ℕ) : Type 0 where
+  pub kept : Option ℕ
+  pub told : IsToldKept settings.strict base steps kept
+  pub report : (last : Tracing) → IsTraceOf settings base t last → IsReport settings kept base last t.patches text failing
+
 -- the report on steps that are traced over the base
 pub record AreReported (settings : Settings) (base : Disk) (steps : List Step) (text : List ℕ) (failing : ℕ) : Type 0 where
   pub last : Tracing
@@ -51,3 +59,9 @@ AreRefused settings base steps fault =
     ((why : TraceFault) × (trace_from settings.module (trace_start base) steps ≡ Err why) × (fault ≡ run_of_trace why))
     ⊎ ((last : Tracing) × (patches : List Patch) × (trace_from settings.module (trace_start base) steps ≡ Ok last)
     × IsGraphOf (ordering_rules settings) base last patches × ExceedsLimit patches settings.limit × (fault ≡ TooMany))
+
+-- what there is where the patches have other dependencies, as those without a rule that applies to so many pairs
+abbrev pub IsUsageBy : Detail → ℕ → Disk → List Patch → List Patch → ℕ → RuleUsage → Type 0
+IsUsageBy detail limit base patches changed pairs Unused = ⊥
+IsUsageBy detail limit base patches changed pairs (PastLimit told) = (told ≡ pairs) × ExceedsLimit changed limit
+IsUsageBy detail limit base patches changed pairs (Used told w) = (told ≡ pairs) × IsWithout detail limit base patches changed w

@@ -13,7 +13,7 @@ ghost use Rattle.fault_summary.specs.Prevented.{IsFirstPrevented};
 ghost use Rattle.report_sections.specs.Bodies.{AreOnBase};
 ghost use Rattle.report_sections.specs.Sections.{section_of};
 ghost use Rattle.report_sections.specs.ToldRules.{told_rule, usage_of};
-ghost use Rattle.crash_text.specs.Telling.{AreFindings, IsReportOf, IsTraceOf};
+ghost use Rattle.crash_text.specs.Telling.{AreFindings, IsReportOf, IsTraceOf, IsUsageBy};
 
 use crate::telling::Findings;
 use crash_finding::{Crashes, Finder};
@@ -44,8 +44,7 @@ where
     ensures { IfOk result (λ text. IsReportOf findings.now (string_bytes text)) }
 {
     let rules = needs(finder, findings)?;
-    let text = findings.by_rule(finder.rt, heap, finder.alloc, &rules, finder.workers)?;
-    Ok(text)
+    findings.by_rule(finder.rt, heap, finder.alloc, &rules, finder.workers)
 }
 
 /// What is told of each rule of the ordering, in its order.
@@ -99,11 +98,33 @@ where
     if pairs == 0 {
         return Ok(RuleUsage::Unused);
     }
-    let alloc = finder.alloc;
-    let changed = graph_without(&findings.traced, alloc, findings.base, rule)?;
+    let changed = graph_without(&findings.traced, finder.alloc, findings.base, rule)?;
+    usage_without(finder, findings, pairs, &changed)
+}
+
+/// What a crash can leave without a rule that applies to so many pairs of patches. It fails only when out of memory.
+///
+/// `changed` has the same patches without that rule.
+fn usage_without<R, A, G>(
+    finder: &Finder<'_, R, A, G>,
+    findings: &Findings<'_, '_, A>,
+    pairs: usize,
+    changed: &Graph<A>,
+) -> Result<RuleUsage<A>, AllocError>
+where
+    R: Threads + Wait + Sync,
+    A: Allocator + Copy + Send + Sync,
+    G: Gate + Sync,
+    requires same { finder.now.settings.now ≡ findings.now.settings.now }
+    requires on_base { AreOnBase findings.now.base.now changed.now }
+    requires earlier { AreEarlier (deps_of changed.now) }
+    ensures { IfOk result (λ usage. IsUsageBy (detail_of findings.now.settings.now findings.now.kept)
+        findings.now.settings.now.limit findings.now.base.now findings.now.traced.patches changed.now pairs
+        (usage_of usage)) }
+{
     let crashes = Crashes {
         base: findings.base,
-        graph: &changed,
+        graph: changed,
         kept: findings.kept,
     };
     match finder.count_failing(&crashes, findings.traced.graph()) {
@@ -111,7 +132,7 @@ where
             pairs,
             closed: count.total,
             failing: count.failing,
-            first: first_section(alloc, findings, &changed, count.first)?,
+            first: first_section(finder.alloc, findings, changed, count.first)?,
         }),
         Err(RunFault::TooMany) => Ok(RuleUsage::TooMany { pairs }),
         Err(_) => Err(AllocError),

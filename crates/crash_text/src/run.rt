@@ -1,14 +1,16 @@
 //! The whole product as a function.
 
 ghost use Rattle.std.specs.Prelude.{◌≡◌, ◌≢◌, ◌≤◌, [], Ok, OnOk, IfOk, IfErr, string_bytes};
-ghost use Rattle.crash_model.specs.Disk.{empty_disk, IsGeometry};
+ghost use Rattle.crash_model.specs.Disk.{empty_disk, IsDisk, IsGeometry};
 ghost use Rattle.crash_model.specs.Sound.{IsSound, HasZeroJournal};
 ghost use Rattle.crash_model.specs.Trace.{base_from};
 ghost use Rattle.crash_model.specs.declared.modules.Module.TheVariants.{Full};
 ghost use Rattle.crash_model.specs.Answer.{IsAnswer, Reported, Refused};
 ghost use Rattle.crash_text.specs.BaseRefusal.{IsBaseRefusal};
-ghost use Rattle.crash_finding.specs.Limits.{IsExplorable};
-ghost use Rattle.crash_text.specs.Telling.{AreReported, AreRefused};
+ghost use Rattle.crash_finding.specs.Limits.{IsExplorable, SaysTooMany};
+ghost use Rattle.full_journal_laws.specs.Full.{IsFullSafe};
+ghost use Rattle.report_sections.specs.Bodies.{AreOnBase};
+ghost use Rattle.crash_text.specs.Telling.{AreFindings, AreReported, AreReportedOf, AreRefused, IsReportOf};
 
 use crate::keeping::told_kept;
 use crate::needs::report_by_rule;
@@ -21,9 +23,10 @@ use disk_image::{Image, ImageFault};
 use explorers::Gate;
 use order_modules::{build_base, trace};
 use script_text::read_script;
-use std::alloc::{Allocator, Global};
+use std::alloc::{AllocError, Allocator, Global};
 use std::sync::Wait;
 use std::thread::Threads;
+use traced_patches::Traced;
 
 /// A report's text and the number of failing sets in it.
 #[derive(Drop)]
@@ -70,8 +73,7 @@ where
         workers,
         gate,
     };
-    let outcome = answer_steps(&finder, heap, &base, steps)?;
-    Ok(outcome)
+    answer_steps(&finder, heap, &base, steps)
 }
 
 /// Traces the steps over the base, explores what a crash can leave, and reports.
@@ -93,12 +95,33 @@ where
     ensures full { finder.now.settings.now.module ≡ Full → finder.now.settings.now.without.items ≡ []
         → IfOk result (λ outcome. outcome.failing ≡ 0) }
 {
-    let (alloc, settings) = (finder.alloc, finder.settings);
-    let ordering = settings.ordering();
+    let ordering = finder.settings.ordering();
     // For the proof: what every image keeps.
     let _blocks = base.blocks();
-    let traced = trace(alloc, base, steps, &ordering)?;
-    let kept = told_kept(base, steps, settings)?;
+    let traced = trace(finder.alloc, base, steps, &ordering)?;
+    answer_traced(finder, heap, base, steps, traced)
+}
+
+/// Explores what a crash can leave of the patches of the steps, which were traced over the base, and reports.
+fn answer_traced<'steps, R, A, G>(
+    finder: &Finder<'_, R, A, G>,
+    heap: Global,
+    base: &'steps Image<A>,
+    steps: &[Step],
+    traced: Traced<'steps, A>,
+) -> Result<Outcome<A>, RunFault>
+where
+    R: Threads + Wait + Sync,
+    A: Allocator + Copy + Send + Sync,
+    G: Gate + Sync,
+    requires on_base { AreOnBase base.now traced.patches }
+    ensures reported { IfOk result (λ outcome. AreReportedOf finder.now.settings.now base.now steps.now traced.entry
+        (string_bytes outcome.text) outcome.failing) }
+    ensures too_many { IfErr result (SaysTooMany traced.entry.patches finder.now.settings.now.limit) }
+    ensures full { IsDisk base.now → IsFullSafe base.now steps.now traced.entry.patches
+        → IfOk result (λ outcome. outcome.failing ≡ 0) }
+{
+    let kept = told_kept(base, steps, finder.settings)?;
     let crashes = Crashes {
         base,
         graph: traced.graph(),
@@ -108,20 +131,36 @@ where
     let findings = Findings {
         base,
         traced,
-        settings,
+        settings: finder.settings,
         kept,
         found,
     };
-    let (rt, workers) = (finder.rt, finder.workers);
-    let text = match &findings.found.kept {
-        Kept::Sets(sets) => findings.by_set(rt, heap, alloc, sets, workers)?,
-        Kept::Faults(rows) => findings.by_fault(rt, heap, alloc, rows, workers)?,
-        Kept::Number => report_by_rule(finder, heap, &findings)?,
-    };
     Ok(Outcome {
-        text,
+        text: report(finder, heap, &findings)?,
         failing: findings.found.failing,
     })
+}
+
+/// The report on what is found, as the settings ask for it. It fails only when out of memory.
+fn report<R, A, G>(
+    finder: &Finder<'_, R, A, G>,
+    heap: Global,
+    findings: &Findings<'_, '_, A>,
+) -> Result<String<A>, AllocError>
+where
+    R: Threads + Wait + Sync,
+    A: Allocator + Copy + Send + Sync,
+    G: Gate + Sync,
+    requires same { finder.now.settings.now ≡ findings.now.settings.now }
+    requires found { AreFindings findings.now }
+    ensures { IfOk result (λ text. IsReportOf findings.now (string_bytes text)) }
+{
+    let (rt, alloc, workers) = (finder.rt, finder.alloc, finder.workers);
+    match &findings.found.kept {
+        Kept::Sets(sets) => findings.by_set(rt, heap, alloc, sets, workers),
+        Kept::Faults(rows) => findings.by_fault(rt, heap, alloc, rows, workers),
+        Kept::Number => report_by_rule(finder, heap, findings),
+    }
 }
 
 /// The disk at the start line: the formatted one of the settings, after the steps before that line.

@@ -64,8 +64,7 @@ impl<'steps, 'asked, A: Allocator + Copy + Send + Sync> Findings<'steps, 'asked,
         ensures { IfOk result (λ text. IsReportOf self.now (string_bytes text)) }
     {
         let report = self.report(Body::Sets(sets));
-        let text = write_report(rt, heap, alloc, &report, workers)?;
-        Ok(text)
+        write_report(rt, heap, alloc, &report, workers)
     }
 
     /// The report with each fault once, of which these are the rows. It fails only when out of memory.
@@ -83,8 +82,7 @@ impl<'steps, 'asked, A: Allocator + Copy + Send + Sync> Findings<'steps, 'asked,
         ensures { IfOk result (λ text. IsReportOf self.now (string_bytes text)) }
     {
         let report = self.report(Body::Faults(rows));
-        let text = write_report(rt, heap, alloc, &report, workers)?;
-        Ok(text)
+        write_report(rt, heap, alloc, &report, workers)
     }
 
     /// The report on the rules of the ordering, of which this is told. It fails only when out of memory.
@@ -105,8 +103,7 @@ impl<'steps, 'asked, A: Allocator + Copy + Send + Sync> Findings<'steps, 'asked,
         ensures { IfOk result (λ text. IsReportOf self.now (string_bytes text)) }
     {
         let report = self.report(Body::Rules(rules));
-        let text = write_report(rt, heap, alloc, &report, workers)?;
-        Ok(text)
+        write_report(rt, heap, alloc, &report, workers)
     }
 
     /// The report with this body.

@@ -1,26 +1,51 @@
-use Rattle.std.proofs.Common.{rules, ◌≡◌, List, [], sym, subst, ap, ◌∙◌}
-use Rattle.patch_sets.specs.Sets.{AreAllInOrder}
-use Rattle.crash_model.specs.Strict.{IsFailingUnder}
+use Rattle.std.proofs.Common.{rules, ◌≡◌, List, [], Ok, inr, sym, subst, ap, ◌∙◌}
+use Rattle.std.proofs.lemmas.Result.{IfErr-weaker, IfOk-weaker}
+use Rattle.crash_model.specs.Answer.{ordering_rules}
 use Rattle.crash_model.specs.Disk.{IsDisk}
 use Rattle.crash_model.specs.Rules.{AreAmong, rules_of, rules_under}
-use Rattle.crash_model.specs.declared.patches.Patch.{Patch}
+use Rattle.crash_model.specs.Trace.{Tracing, trace_start, trace_from, IsGraphOf}
 use Rattle.crash_model.specs.declared.rules.Rule.{Rule}
 use Rattle.crash_model.specs.declared.modules.Module.{Module}
 use Rattle.crash_model.specs.declared.modules.Module.TheVariants.{Full}
 use Rattle.crash_model.proofs.PutIn.{put_in_among}
-use Rattle.full_journal_laws.proofs.Failing.{none-failing}
+use Rattle.crash_text.specs.Telling.{IsTraceOf}
 use Rattle.crash_text.proofs.run.answer_steps.Goals as goal
 
 pub returns-clause-full : goal.returns-clause-full
 returns-clause-full g c = λ full none.
     let settings = c.args.finder.now.settings.now in
-    let base = c.args.base.now in
-    let t = c.in_ok-traced.traced in
-    let found = c.in_ok-found.ensures.found in
     let ordering = c.ordering-ordering.ensures in
     let all : c.ordering-ordering.result.rules.items ≡ rules_under Full [] settings.with.items = ordering.rules ∙ (ap (λ (k : Module). rules_under k settings.without.items settings.with.items) full ∙ ap (λ (rs : List Rule). rules_under Full rs settings.with.items) none) in
     let among : AreAmong (rules_of Full) c.ordering-ordering.result.rules.items = subst (λ (rs : List Rule). AreAmong (rules_of Full) rs) (sym all) (put_in_among Full settings.with.items) in
     let safe = c.in_ok-traced.ensures.full (ordering.«module» ∙ full) among c.requires.sound.0 c.requires.sound.1 in
-    let disk : IsDisk base = search rules in
-    let exactly = subst (λ (ps : List Patch). AreAllInOrder (IsFailingUnder c.in_ok-kept.kept base ps) found.sets) c.graph.ensures found.totals.exactly in
-    found.totals.number ∙ none-failing settings.strict c.in_ok-kept.kept base _ t.patches found.sets disk c.in_ok-kept.ensures safe exactly
+    let disk : IsDisk c.args.base.now = search rules in
+    c.answer_traced.ensures.full disk safe
+
+pub returns-clause-reported : goal.returns-clause-reported
+returns-clause-reported g c =
+    let settings = c.args.finder.now.settings.now in
+    let base = c.args.base.now in
+    let t = c.in_ok-traced.traced in
+    let ordering = c.ordering-ordering.ensures in
+    let ok = c.in_ok-traced.ensures.ok in
+    let last : Tracing = ok.0 in
+    let run : trace_from settings.module (trace_start base) c.args.steps.now ≡ Ok last = subst (λ (m : Module). trace_from m (trace_start base) c.args.steps.now ≡ Ok last) ordering.«module» ok.1 in
+    let graph : IsGraphOf (ordering_rules settings) base last t.patches = subst (λ (rs : List Rule). IsGraphOf rs base last t.patches) ordering.rules ok.2 in
+    let is : IsTraceOf settings base t last = record { emitted = ok.3; links = ok.4; rules = c.in_ok-traced.ensures.rules ∙ ordering.rules; graph = graph } in
+    IfOk-weaker c.answer_traced.result _ _
+    (λ outcome told. record { last = last; patches = t.patches; run = run; graph = graph; kept = told.kept; told = told.told; report = told.report last is })
+    c.answer_traced.ensures.reported
+
+pub returns-clause-refused : goal.returns-clause-refused
+returns-clause-refused g c =
+    let settings = c.args.finder.now.settings.now in
+    let base = c.args.base.now in
+    let t = c.in_ok-traced.traced in
+    let ordering = c.ordering-ordering.ensures in
+    let ok = c.in_ok-traced.ensures.ok in
+    let last : Tracing = ok.0 in
+    let run : trace_from settings.module (trace_start base) c.args.steps.now ≡ Ok last = subst (λ (m : Module). trace_from m (trace_start base) c.args.steps.now ≡ Ok last) ordering.«module» ok.1 in
+    let graph : IsGraphOf (ordering_rules settings) base last t.patches = subst (λ (rs : List Rule). IsGraphOf rs base last t.patches) ordering.rules ok.2 in
+    IfErr-weaker c.answer_traced.result _ _
+    (λ fault says memory. inr (last, t.patches, run, graph, (says memory).1, (says memory).0))
+    c.answer_traced.ensures.too_many

@@ -1,5 +1,6 @@
 use Rattle.std.proofs.Common.{rules, ◌≡◌, ◌≢◌, Ok, Err, IfErr, ap, subst, sym}
 use Rattle.std.specs.Prelude.{string_bytes}
+use Rattle.std.proofs.lemmas.Result.{IfErr-weaker, IfOk-weaker}
 use Rattle.crash_model.specs.Answer.{Refused, HasBase, IsAnswer, bad_script}
 use Rattle.crash_model.specs.Disk.{empty_disk}
 use Rattle.crash_model.specs.Refusals.{run_of_script}
@@ -26,22 +27,22 @@ returns-in_err-base-clause-refused g c =
     (λ memory. refused_base c.args.script.now c.args.settings.now script.base.items script.traced.items fault c.in_ok-script.ensures.ok
     (subst (λ s. IsBaseRefusal c.args.settings.now s fault) c.deref.ensures.value (c.in_err-base.ensures.refused memory)))
 
-pub returns-in_err-outcome-clause-refused : goal.returns-in_err-outcome-clause-refused
-returns-in_err-outcome-clause-refused g c =
+pub returns-clause-refused : goal.returns-clause-refused
+returns-clause-refused g c =
     let settings = c.args.settings.now in
     let script = c.in_ok-script.script in
     let base = c.in_ok-base.base in
-    let fault = c.in_err-outcome.field-0.0 in
     let start : HasBase c.args.script.now settings base script.traced.items = record {
       before = script.base.items;
       read = c.in_ok-script.ensures.ok;
       geometry = c.in_ok-base.ensures.lawful;
       built = subst (λ s. base_from (empty_disk settings.blocks settings.journal) s ≡ Ok base) c.deref.ensures.value c.in_ok-base.ensures.built;
     } in
-    let same : c.from_residual-in_err-outcome.result ≡ Err fault = search rules in
-    subst (λ r. IfErr r (λ f. f ≢ OutOfMemory → IsAnswer c.args.script.now settings (Refused f))) (sym same)
-    (λ memory. refused_steps c.args.script.now settings base script.traced.items fault start
-    (subst (λ s. AreRefused settings base s fault) c.deref-2.ensures.value (c.in_err-outcome.ensures.refused memory)))
+    IfErr-weaker c.answer_steps.result _ _
+    (λ fault refused memory.
+    refused_steps c.args.script.now settings base script.traced.items fault start
+    (subst (λ s. AreRefused settings base s fault) c.deref-2.ensures.value (refused memory)))
+    c.answer_steps.ensures.refused
 
 pub returns-clause-reported : goal.returns-clause-reported
 returns-clause-reported g c =
@@ -54,5 +55,8 @@ returns-clause-reported g c =
       geometry = c.in_ok-base.ensures.lawful;
       built = subst (λ s. base_from (empty_disk settings.blocks settings.journal) s ≡ Ok base) c.deref.ensures.value c.in_ok-base.ensures.built;
     } in
-    reported_steps c.args.script.now settings base script.traced.items (string_bytes c.in_ok-outcome.outcome.text) c.in_ok-outcome.outcome.failing start
-    (subst (λ s. AreReported settings base s (string_bytes c.in_ok-outcome.outcome.text) c.in_ok-outcome.outcome.failing) c.deref-2.ensures.value c.in_ok-outcome.ensures.reported)
+    IfOk-weaker c.answer_steps.result _ _
+    (λ outcome reported.
+    reported_steps c.args.script.now settings base script.traced.items (string_bytes outcome.text) outcome.failing start
+    (subst (λ s. AreReported settings base s (string_bytes outcome.text) outcome.failing) c.deref-2.ensures.value reported))
+    c.answer_steps.ensures.reported
