@@ -10,7 +10,7 @@ use std::fmt;
 /// `dir` and `inode` are inode numbers, `entry` a place in a directory from 0 to 9, `slot` a pointer's place from 0
 /// to 3, `block` a block number, `entries` the number of directory entries that name the inode and `links` its link
 /// count.
-#[derive(Clone, Copy, Debug, PartialEq, Eq, Drop)]
+#[derive(Clone, Copy, PartialEq, Eq, Drop)]
 pub enum Fault {
     /// A directory entry that names no live inode.
     Dangling { dir: u8, entry: u8, inode: u8 },
@@ -66,6 +66,12 @@ impl fmt::Display for Fault {
             Fault::Lost { inode } => write!(f, "7 lost inode: inode {inode}"),
             Fault::NoBlock { inode } => write!(f, "8 directory without a block: inode {inode}"),
         }
+    }
+}
+
+impl fmt::Debug for Fault {
+    fn fmt<W: fmt::Write>(&self, f: &mut fmt::Formatter<W>) -> fmt::Result {
+        write!(f, "Fault({self})")
     }
 }
 

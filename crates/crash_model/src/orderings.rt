@@ -1,6 +1,6 @@
 //! Orderings: how operations become patches, and the rules that order these.
 
-ghost use Rattle.std.specs.Prelude.{◌≡◌, ◌≤◌, length};
+ghost use Rattle.std.specs.Prelude.{◌≡◌, ◌≤◌, ◌+◌, ◌++◌, length};
 ghost use Rattle.crash_model.specs.Rules.{rules_of, rules_taken_out, kept_rules, rules_put_in, rules_under};
 
 use crate::modules::Module;
@@ -181,9 +181,7 @@ impl Ordering {
         ensures rules { result.rules.items ≡ rules_of «module» }
     {
         let mut rules = ArrayVec::new();
-        for rule in module.rules() {
-            rules.push(*rule);
-        }
+        push_rules(&mut rules, module.rules());
         Ordering { module, rules }
     }
 
@@ -196,12 +194,18 @@ impl Ordering {
         ensures rules { result.rules.items ≡ rules_under «module» without.now with.now }
     {
         let mut rules = ArrayVec::new();
-        for rule in module.kept_rules(without).as_slice() {
-            rules.push(*rule);
-        }
-        for rule in module.put_in(without, with).as_slice() {
-            rules.push(*rule);
-        }
+        push_rules(&mut rules, module.kept_rules(without).as_slice());
+        push_rules(&mut rules, module.put_in(without, with).as_slice());
         Ordering { module, rules }
+    }
+}
+
+/// Adds some rules, in their order.
+fn push_rules(rules: &mut ArrayVec<Rule, MAX_RULES>, more: &[Rule])
+    requires { length rules.old.items + length more.now ≤ 28 }
+    ensures { rules.new.items ≡ rules.old.items ++ more.now }
+{
+    for rule in more {
+        rules.push(*rule);
     }
 }

@@ -86,13 +86,19 @@ impl fmt::Display for TraceFault {
 /// Why a script is refused, and the first refused line, from 1; or out of memory.
 ///
 /// A script without a start line is refused at the number of its lines plus 1.
-#[derive(Clone, Copy, Debug, PartialEq, Eq, Error)]
+#[derive(Clone, Copy, PartialEq, Eq, Error)]
 pub enum ScriptFault {
     BadUtf8 { line: usize },
     BadLine { line: usize },
     BadPath { line: usize },
     NoStart { line: usize },
     OutOfMemory,
+}
+
+impl fmt::Debug for ScriptFault {
+    fn fmt<W: fmt::Write>(&self, f: &mut fmt::Formatter<W>) -> fmt::Result {
+        write!(f, "{:?}", RunFault::from(*self))
+    }
 }
 
 impl fmt::Display for ScriptFault {
@@ -102,7 +108,7 @@ impl fmt::Display for ScriptFault {
 }
 
 /// Why a run is refused: a variant for each refusal of the product.
-#[derive(Clone, Copy, Debug, PartialEq, Eq, Error)]
+#[derive(Clone, Copy, PartialEq, Eq, Error)]
 pub enum RunFault {
     BadGeometry,
     TooManyPatches { line: usize },
@@ -183,6 +189,13 @@ impl RunFault {
             | RunFault::NoStart { line } => Some(line),
             _ => None,
         }
+    }
+}
+
+impl fmt::Debug for RunFault {
+    fn fmt<W: fmt::Write>(&self, f: &mut fmt::Formatter<W>) -> fmt::Result {
+        let line = self.line();
+        write!(f, "RunFault({self}, line {line:?})")
     }
 }
 
