@@ -1,4 +1,4 @@
-//! JSON of what reports tell: values of failing sets, of faults with their rows, of rules and of patches, and their texts.
+//! JSON of what reports tell: values of failing sets, faults with their rows, rules and patches, and their texts.
 #![tactic(auto)]
 
 mod items;

@@ -117,8 +117,8 @@ fn write_late<A: Allocator + Copy>(
     Ok(())
 }
 
-/// The objects of the sets, with a comma between two. What each is made of are values of their own, which are freed once
-/// they are written; the texts of block writes and faults serve the sets behind it.
+/// The objects of the sets, with a comma between two. What each is made of are values of their own, which are freed
+/// once they are written; the texts of block writes and faults serve the sets behind it.
 pub(crate) fn write_sections<A: Allocator + Copy>(
     out: &mut String,
     alloc: A,
