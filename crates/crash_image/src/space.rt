@@ -84,6 +84,7 @@ impl<'a, A: Allocator + Copy> Space for PatchSpace<'a, A> {
     ghost use Rattle.std.specs.Prelude.{◌≡◌, IsTrue, IfOk};
     ghost use Rattle.crash_image.specs.Moves.{IsGood};
     ghost use Rattle.crash_model.specs.Patches.{deps_of};
+    ghost use Rattle.patch_graph.specs.Fronts.{Leaves};
     ghost use Rattle.patch_sets.specs.Closed.{IsClosed, successors_of};
     ghost use Rattle.patch_sets.proofs.Successors.{empty_closed, successor_closed};
 
@@ -116,6 +117,16 @@ impl<'a, A: Allocator + Copy> Space for PatchSpace<'a, A> {
 
     fn next(&self, word: u128, k: u32) -> u128 {
         self.graph.next(word, k)
+    }
+
+    ghost is_ahead = { λ s. Leaves (deps_of s.patches) };
+
+    fn ahead(&self, word: u128) -> u128 {
+        self.graph.ahead(word)
+    }
+
+    fn advance(&self, word: u128, ahead: &mut u128) -> Option<u128> {
+        self.graph.advance(word, ahead)
     }
 
     /// Whether the image of the set is clean after replay. It takes no memory, so its answer is Ok.

@@ -73,8 +73,9 @@ impl<S: Space, G: Gate, A: Allocator + Copy> Exploration<'_, S, G, A> {
         ensures over { IfOk result (λ t. t ≡ turn.Over → mine.new.seat.over ≡ 1) }
     {
         let word = self.board.at(&mut mine.seat, place);
-        for k in 0..self.space.degree(word) {
-            if let Turn::Over = self.put_in(rt, mine, self.space.next(word, k))? {
+        let mut ahead = self.space.ahead(word);
+        while let Some(next) = self.space.advance(word, &mut ahead) {
+            if let Turn::Over = self.put_in(rt, mine, next)? {
                 return Ok(Turn::Over);
             }
         }

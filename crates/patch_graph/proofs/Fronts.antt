@@ -9,10 +9,12 @@ use Rattle.patch_sets.specs.Sets.{Has, with_id, ids_below}
 use Rattle.patch_sets.specs.Closed.{AreEarlier, IsClosed, IsReady, is_ready, successors_of}
 use Rattle.patch_sets.specs.Ends.{IsLowest, IsDifference}
 use Rattle.patch_sets.proofs.Bits.{eq_or_not, none_in_empty}
+use Rattle.patch_sets.proofs.Ids.{fewer_before}
 use Rattle.patch_sets.proofs.Successors.{ready_from_test, test_from_ready}
 use Rattle.crash_model.specs.declared.patches.Patch.{Patch}
 use Rattle.crash_model.specs.Patches.{deps_of}
 use Rattle.patch_graph.specs.Apart.{AreApart}
+use Rattle.patch_graph.specs.Fronts.{IsFront, Leaves}
 use Rattle.patch_graph.proofs.Apart.{inside_apart}
 use Rattle.patch_graph.proofs.Steps.{count_one, count_skip, count_successors, successor_at}
 
@@ -46,22 +48,6 @@ none_between : (pass : ℕ → Bool) (from to : ℕ) → from ≤ to → ((q : �
 none_between pass from to le none =
     let whole : from + (to - from) ≡ to = omega (arith, le) in
     ap (λ n. length (ids_below n pass)) (sym whole) ∙ skip pass from (to - from) (λ q low high. none q low (omega (arith, high, whole)))
-
--- What is left of the ids outside a set: none is below `from`, each dependency of one is in the set or is left, and each
--- ready id from there on is left.
-pub record IsFront (deps : List ℕ) (set front from : ℕ) : Type 0 where
-  pub known : (q : ℕ) → Has front q → (q < length deps) × ¬ (Has set q)
-  pub whole : (q d : ℕ) → Has front q → Has (slice_index deps q) d → Has set d ⊎ Has front d
-  pub above : (q : ℕ) → Has front q → from ≤ q
-  pub every : (q : ℕ) → from ≤ q → IsReady deps set q → Has front q
-
--- so many ready ids have come, and those that are left have not
-pub record Leaves (deps : List ℕ) (set front count : ℕ) : Type 0 where
-  pub from : ℕ
-  pub within : from ≤ length deps
-  pub few : count ≤ from
-  pub is : IsFront deps set front from
-  pub counted : count ≡ length (ids_below from (is_ready deps set))
 
 module _ (deps : List ℕ) (set : ℕ) (earlier : AreEarlier deps) where
   pub leaves_start : (front : ℕ) → ((id : ℕ) → Has front id ↔ ((id < length deps) × ¬ (Has set id))) → Leaves deps set front 0
@@ -112,6 +98,9 @@ module _ (deps : List ℕ) (set : ℕ) (earlier : AreEarlier deps) where
 
       pub lowest_successor : slice_index (successors_of deps set) count ≡ with_id set p
       lowest_successor = successor_at deps set p count lowest_known lowest_passes before_lowest
+
+      pub lowest_comes : count < length (successors_of deps set)
+      lowest_comes = omega (arith, before_lowest, count_successors deps set, fewer_before (length deps) (is_ready deps set) p lowest_known lowest_passes)
 
       pub leaves_next : (apart : List ℕ) → AreApart deps apart → IsClosed deps set → Leaves deps set (bit_and front (slice_index apart p)) (count + 1)
       leaves_next apart are closed =

@@ -1,4 +1,5 @@
 pub mod Apart
+pub mod Fronts
 pub mod Graph
 pub mod Homes
 pub mod Leads

@@ -1,5 +1,6 @@
-ghost use Rattle.std.specs.Prelude.{◌≡◌, ℕ, ◌<◌, ◌≤◌, ◌↔◌, [], ◌∷◌, ◌++◌, length, slice_index, IsTrue, IfOk, OnOk, OnErr, IsErrOf, MatchOption};
+ghost use Rattle.std.specs.Prelude.{◌≡◌, ℕ, ◌<◌, ◌≤◌, ◌↔◌, [], ◌∷◌, ◌++◌, length, slice_index, IsTrue, IfOk, IfSome, OnOk, OnErr, IsErrOf, MatchOption};
 ghost use Rattle.std.specs.List.{All};
+ghost use Rattle.state_space.specs.Walks.{IsNextOf};
 ghost use Rattle.patch_sets.specs.Sets.{Has, IsSubset};
 ghost use Rattle.patch_sets.specs.Closed.{IsClosed, IsReady, successors_of};
 ghost use Rattle.patch_sets.specs.Machine.{CanLeave, LeadTo};
@@ -7,6 +8,7 @@ ghost use Rattle.patch_sets.specs.Writes.{AreRuns, events_of};
 ghost use Rattle.crash_model.specs.declared.patches.Patch.{Patch};
 ghost use Rattle.crash_model.specs.Patches.{deps_of, homes_of};
 ghost use Rattle.patch_graph.specs.Apart.{AddsId};
+ghost use Rattle.patch_graph.specs.Fronts.{Leaves};
 ghost use Rattle.patch_graph.specs.Leads.{IsLead};
 ghost use Rattle.patch_graph.specs.Graph.{IsAt, IsPatch, IsGraph, AddsOverlaps, Overlaps, OverlapsAt};
 
@@ -195,15 +197,42 @@ impl<A: Allocator + Copy> Graph<A> {
         (1 << self.patches.len()) - 1
     }
 
+    /// What a walk over the ready ids of a closed set begins with: the ids outside it.
+    pub fn ahead(&self, set: u128) -> u128
+        ensures { Leaves (deps_of self.now) set result 0 }
+    {
+        // For the proof: that patches depend on earlier ones.
+        let _len = self.len();
+        difference(self.ids(), set)
+    }
+
+    /// The set with the next ready id of a walk more, by ascending ids, or none after the last. What stands on the id is not
+    /// ready, and is left out of what is ahead.
+    pub fn advance(&self, set: u128, ahead: &mut u128) -> Option<u128>
+        requires closed { IsClosed (deps_of self.now) set }
+        requires ahead { (k : ℕ) × Leaves (deps_of self.now) set ahead.old k }
+        ensures next { (k : ℕ) → Leaves (deps_of self.now) set ahead.old k
+            → IsNextOf (successors_of (deps_of self.now) set) k (Leaves (deps_of self.now) set ahead.new) result }
+        ensures smaller { IfSome result (λ _. ahead.new < ahead.old) }
+    {
+        let apart = &self.apart;
+        let Some(id) = lowest(*ahead) else {
+            return None;
+        };
+        *ahead &= apart[id];
+        Some(with(set, id))
+    }
+
     /// How many sets have one ready id more than a closed set.
     pub fn degree(&self, set: u128) -> u32
         requires { IsClosed (deps_of self.now) set }
         ensures { result ≡ length (successors_of (deps_of self.now) set) }
     {
-        let mut front = difference(self.ids(), set);
+        // For the proof: how many patches every graph has at most.
+        let _len = self.len();
+        let mut ahead = self.ahead(set);
         let mut count = 0;
-        while let Some(id) = lowest(front) {
-            front &= self.apart[id];
+        while let Some(_next) = self.advance(set, &mut ahead) {
             count += 1;
         }
         count
@@ -215,16 +244,14 @@ impl<A: Allocator + Copy> Graph<A> {
         requires below { k < length (successors_of (deps_of self.now) set) }
         ensures { result ≡ slice_index (successors_of (deps_of self.now) set) k }
     {
-        let mut front = difference(self.ids(), set);
-        let mut count = 0;
-        while let Some(id) = lowest(front) {
-            if count == k {
-                return with(set, id);
-            }
-            front &= self.apart[id];
-            count += 1;
+        let mut ahead = self.ahead(set);
+        for _earlier in 0..k {
+            self.advance(set, &mut ahead);
         }
-        unreachable!()
+        match self.advance(set, &mut ahead) {
+            Some(next) => next,
+            None => unreachable!(),
+        }
     }
 
     /// The set's ids of the graph in ascending order, cut into longest runs of one block.

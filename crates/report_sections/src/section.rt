@@ -1,6 +1,6 @@
 //! Sections of a report.
 
-ghost use Rattle.std.specs.Prelude.{◌≡◌, []};
+ghost use Rattle.std.specs.Prelude.{◌≡◌, [], None};
 
 use crate::replayed::ReplayedBlock;
 use crash_model::fault::Fault;
@@ -27,7 +27,8 @@ pub struct Outcome<A: Allocator> {
 impl<A: Allocator> Outcome<A> {
     /// Nothing that replay changes, and no fault. It takes no memory.
     pub fn new(alloc: A) -> Outcome<A>
-        ensures { result.faults.items ≡ [] }
+        ensures replay { result.replay ≡ None }
+        ensures faults { result.faults.items ≡ [] }
     {
         Outcome {
             replay: None,

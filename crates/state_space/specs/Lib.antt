@@ -1,2 +1,3 @@
 pub mod Counts
 pub mod Reach
+pub mod Walks

@@ -1,4 +1,5 @@
-ghost use Rattle.std.specs.Prelude.{◌≡◌, ℕ, ◌<◌, ◌↔◌, List, length, slice_index, Contains, IfOk, IsTrue};
+ghost use Rattle.std.specs.Prelude.{◌≡◌, ℕ, ◌<◌, ◌↔◌, List, length, slice_index, Contains, IfOk, IfSome, IsTrue};
+ghost use Rattle.state_space.specs.Walks.{IsNextOf};
 
 use std::alloc::AllocError;
 
@@ -39,6 +40,24 @@ pub trait Space {
         requires lawful { is_lawful self.now word }
         requires below { k < length (successors self.now word) }
         ensures { result ≡ slice_index (successors self.now word) k };
+
+    /// What a walk over the successors of a word keeps once the first `k` of them have come: the word, what is kept,
+    /// and `k`.
+    ghost is_ahead: { Self → ℕ → ℕ → ℕ → Type 0 };
+
+    /// What a walk over the successors of a word begins with.
+    fn ahead(&self, word: u128) -> u128
+        requires { is_lawful self.now word }
+        ensures { is_ahead self.now word result 0 };
+
+    /// The next successor of a walk, in the order of the list, or none after the last. So all of them take a step for
+    /// each, where `next` may begin anew with each `k`. What the walk keeps gets smaller.
+    fn advance(&self, word: u128, ahead: &mut u128) -> Option<u128>
+        requires lawful { is_lawful self.now word }
+        requires ahead { (k : ℕ) × is_ahead self.now word ahead.old k }
+        ensures next { (k : ℕ) → is_ahead self.now word ahead.old k
+            → IsNextOf (successors self.now word) k (is_ahead self.now word ahead.new) result }
+        ensures smaller { IfSome result (λ _. ahead.new < ahead.old) };
 
     /// Whether a word is good, whatever words the scratch judged before. It fails only when out of memory.
     fn judge(&self, scratch: &mut Self::Scratch, word: u128) -> Result<bool, AllocError>

@@ -1,2 +1,3 @@
 pub mod Diamond
+pub mod Ladder
 pub mod Worker

@@ -1,8 +1,9 @@
 //! A space of four words.
 
-ghost use Rattle.std.specs.Prelude.{◌≢◌, ℕ};
+ghost use Rattle.std.specs.Prelude.{◌≡◌, ◌≢◌, ℕ, ◌+◌, length};
 ghost use Rattle.test_board.specs.Diamond.{diamond};
 
+use crate::walk::next_place;
 use state_space::Space;
 use std::alloc::AllocError;
 
@@ -41,6 +42,19 @@ impl Space for Diamond {
 
     fn next(&self, word: u128, k: u32) -> u128 {
         if word == 0 { k as u128 + 1 } else { 3 }
+    }
+
+    ghost is_ahead = { λ _ word ahead k. ahead + k ≡ length (diamond word) };
+
+    fn ahead(&self, word: u128) -> u128 {
+        u128::from(self.degree(word))
+    }
+
+    fn advance(&self, word: u128, ahead: &mut u128) -> Option<u128> {
+        let Some(place) = next_place(self.degree(word), ahead) else {
+            return None;
+        };
+        Some(self.next(word, place))
     }
 
     fn judge(&self, _scratch: &mut (), word: u128) -> Result<bool, AllocError> {

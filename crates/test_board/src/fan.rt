@@ -1,7 +1,8 @@
 //! A space whose first word leads to all others.
 
-ghost use Rattle.std.specs.Prelude.{ℕ, ◌<◌, [], cond, ◌==◌, length};
+ghost use Rattle.std.specs.Prelude.{◌≡◌, ℕ, ◌+◌, ◌<◌, [], cond, ◌==◌, length};
 
+use crate::walk::next_place;
 use state_space::Space;
 use std::alloc::AllocError;
 
@@ -43,6 +44,19 @@ impl Space for Fan<'_> {
 
     fn next(&self, word: u128, k: u32) -> u128 {
         if word == 0 { self.after[k as usize] } else { 0 }
+    }
+
+    ghost is_ahead = { λ s word ahead k. ahead + k ≡ length (cond (word == 0) s.after.now []) };
+
+    fn ahead(&self, word: u128) -> u128 {
+        u128::from(self.degree(word))
+    }
+
+    fn advance(&self, word: u128, ahead: &mut u128) -> Option<u128> {
+        let Some(place) = next_place(self.degree(word), ahead) else {
+            return None;
+        };
+        Some(self.next(word, place))
     }
 
     fn judge(&self, _scratch: &mut (), _word: u128) -> Result<bool, AllocError> {

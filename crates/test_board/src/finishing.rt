@@ -1,6 +1,6 @@
 //! Tests of the end of a board: who reads when that all is finished, what a stop leaves, and what `close` gives.
 
-ghost use Rattle.std.specs.Prelude.{◌≡◌, ◌≢◌, ◌<◌};
+ghost use Rattle.std.specs.Prelude.{◌≡◌, ◌≢◌, ◌+◌, ◌<◌, length};
 ghost use Rattle.seen_board.specs.Clauses.{IsOf, HasPlace, HasClaim, IsAtRest};
 ghost use Rattle.test_board.specs.Diamond.{diamond};
 ghost use Rattle.test_board.specs.Worker.{IsIdle};
@@ -51,6 +51,16 @@ impl Space for Paused {
 
     fn next(&self, word: u128, k: u32) -> u128 {
         Diamond.next(word, k)
+    }
+
+    ghost is_ahead = { λ _ word ahead k. ahead + k ≡ length (diamond word) };
+
+    fn ahead(&self, word: u128) -> u128 {
+        Diamond.ahead(word)
+    }
+
+    fn advance(&self, word: u128, ahead: &mut u128) -> Option<u128> {
+        Diamond.advance(word, ahead)
     }
 
     fn judge(&self, scratch: &mut (), word: u128) -> Result<bool, AllocError> {

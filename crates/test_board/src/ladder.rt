@@ -1,7 +1,9 @@
 //! A space whose words each lead to the next two.
 
-ghost use Rattle.std.specs.Prelude.{◌≡◌, ◌+◌, ◌≤◌, ◌<◌, ℕ, List, [], ◌∷◌, nat_lt, if◌then◌else◌};
+ghost use Rattle.std.specs.Prelude.{◌≡◌, ◌+◌, ◌≤◌, length};
+ghost use Rattle.test_board.specs.Ladder.{rungs};
 
+use crate::walk::next_place;
 use state_space::Space;
 use std::alloc::AllocError;
 
@@ -21,7 +23,7 @@ impl Space for Ladder {
 
     ghost initial = { λ ladder. 0 };
 
-    ghost successors = { λ ladder word. if nat_lt (word + 1) ladder.last then (word + 1) ∷ (word + 2) ∷ [] else [] };
+    ghost successors = { λ ladder. rungs ladder.last };
 
     ghost is_good = { λ ladder word. word ≤ ladder.good_to };
 
@@ -45,6 +47,19 @@ impl Space for Ladder {
 
     fn next(&self, word: u128, k: u32) -> u128 {
         if k == 0 { word + 1 } else { word + 2 }
+    }
+
+    ghost is_ahead = { λ ladder word ahead k. ahead + k ≡ length (rungs ladder.last word) };
+
+    fn ahead(&self, word: u128) -> u128 {
+        u128::from(self.degree(word))
+    }
+
+    fn advance(&self, word: u128, ahead: &mut u128) -> Option<u128> {
+        let Some(place) = next_place(self.degree(word), ahead) else {
+            return None;
+        };
+        Some(self.next(word, place))
     }
 
     fn judge(&self, _scratch: &mut (), word: u128) -> Result<bool, AllocError> {

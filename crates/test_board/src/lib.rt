@@ -12,6 +12,7 @@ mod ladder;
 mod tests;
 #[cfg(test)]
 mod trials;
+mod walk;
 mod worker;
 
 pub use diamond::Diamond;

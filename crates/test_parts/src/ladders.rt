@@ -1,65 +1,15 @@
 //! Ladders of words, on which each word leads to the next two.
 
-ghost use Rattle.std.specs.Prelude.{◌≡◌, ◌+◌, ◌≤◌, ◌<◌, ℕ, List, [], ◌∷◌, nat_lt, if◌then◌else◌};
-
 use crate::texts::each_writes;
 use explorers::{ExploreFault, Gate, OpenGate, explore};
-use state_space::Space;
 use std::alloc::{AllocError, Global};
 use std::process::Abort;
 use std::sync::Wait;
 use std::sync::atomic::{AtomicU64, Ordering};
 use std::test::Fail;
 use std::thread::Threads;
+use test_board::Ladder;
 use test_support::gates::Meeting;
-
-#[derive(Clone, Copy)]
-struct Ladder {
-    last: u8,
-    good_to: u8,
-}
-
-impl Space for Ladder {
-    type Scratch = ();
-
-    ghost is_lawful = { λ ladder word. Unit {0} };
-
-    ghost initial = { λ ladder. 0 };
-
-    ghost successors = { λ ladder word. if nat_lt (word + 1) ladder.last then (word + 1) ∷ (word + 2) ∷ [] else [] };
-
-    ghost is_good = { λ ladder word. word ≤ ladder.good_to };
-
-    ghost is_own = { λ ladder scratch. Unit {0} };
-
-    fn start(&self) -> u128 {
-        0
-    }
-
-    fn scratch(&self) -> Result<(), AllocError> {
-        Ok(())
-    }
-
-    fn degree(&self, word: u128) -> u32 {
-        if word < u128::from(self.last) && word + 1 < u128::from(self.last) {
-            2
-        } else {
-            0
-        }
-    }
-
-    fn next(&self, word: u128, k: u32) -> u128 {
-        if k == 0 { word + 1 } else { word + 2 }
-    }
-
-    fn judge(&self, _scratch: &mut (), word: u128) -> Result<bool, AllocError> {
-        Ok(word <= u128::from(self.good_to))
-    }
-
-    ghost initial_lawful = { λ ladder. tt };
-
-    ghost successor_lawful = { λ ladder word next lawful after. tt };
-}
 
 /// Counts the claims.
 #[derive(Drop)]

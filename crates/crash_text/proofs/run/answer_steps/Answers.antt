@@ -1,15 +1,25 @@
 use Rattle.std.proofs.Common.{rules, ◌≡◌, List, [], Ok, inr, sym, subst, ap, ◌∙◌}
 use Rattle.std.proofs.lemmas.Result.{IfErr-weaker, IfOk-weaker}
 use Rattle.crash_model.specs.Answer.{ordering_rules}
-use Rattle.crash_model.specs.Disk.{IsDisk}
+use Rattle.crash_model.specs.Disk.{Disk, IsDisk}
 use Rattle.crash_model.specs.Rules.{AreAmong, rules_of, rules_under}
 use Rattle.crash_model.specs.Trace.{Tracing, trace_start, trace_from, IsGraphOf}
 use Rattle.crash_model.specs.declared.rules.Rule.{Rule}
+use Rattle.crash_model.specs.declared.patches.Patch.{Patch}
+use Rattle.crash_model.specs.declared.settings.Settings.{Settings}
+use Rattle.crash_model.specs.declared.steps.Step.{Step}
 use Rattle.crash_model.specs.declared.modules.Module.{Module}
 use Rattle.crash_model.specs.declared.modules.Module.TheVariants.{Full}
 use Rattle.crash_model.proofs.PutIn.{put_in_among}
 use Rattle.crash_text.specs.Telling.{IsTraceOf}
 use Rattle.crash_text.proofs.run.answer_steps.Goals as goal
+
+-- what is traced under an ordering of these settings is traced under the settings
+of_settings : (settings : Settings) (base : Disk) (steps : List Step) (by : Module) (rules : List Rule) (last : Tracing) (patches : List Patch) → by ≡ settings.module → rules ≡ ordering_rules settings → trace_from by (trace_start base) steps ≡ Ok last → IsGraphOf rules base last patches → (trace_from settings.module (trace_start base) steps ≡ Ok last) × IsGraphOf (ordering_rules settings) base last patches
+of_settings settings base steps by rules last patches module_is rules_are run graph = (
+  subst (λ (m : Module). trace_from m (trace_start base) steps ≡ Ok last) module_is run,
+  subst (λ (rs : List Rule). IsGraphOf rs base last patches) rules_are graph,
+)
 
 pub returns-clause-full : goal.returns-clause-full
 returns-clause-full g c = λ full none.
@@ -28,12 +38,11 @@ returns-clause-reported g c =
     let t = c.in_ok-traced.traced in
     let ordering = c.ordering-ordering.ensures in
     let ok = c.in_ok-traced.ensures.ok in
-    let last : Tracing = ok.0 in
-    let run : trace_from settings.module (trace_start base) c.args.steps.now ≡ Ok last = subst (λ (m : Module). trace_from m (trace_start base) c.args.steps.now ≡ Ok last) ordering.«module» ok.1 in
-    let graph : IsGraphOf (ordering_rules settings) base last t.patches = subst (λ (rs : List Rule). IsGraphOf rs base last t.patches) ordering.rules ok.2 in
-    let is : IsTraceOf settings base t last = record { emitted = ok.3; links = ok.4; rules = c.in_ok-traced.ensures.rules ∙ ordering.rules; graph = graph } in
+    let last = ok.0 in
+    let under = of_settings settings base c.args.steps.now c.ordering-ordering.result.«module» c.ordering-ordering.result.rules.items last t.patches ordering.«module» ordering.rules ok.1 ok.2 in
+    let is : IsTraceOf settings base t last = record { emitted = ok.3; links = ok.4; rules = c.in_ok-traced.ensures.rules ∙ ordering.rules; graph = under.1 } in
     IfOk-weaker c.answer_traced.result _ _
-    (λ outcome told. record { last = last; patches = t.patches; run = run; graph = graph; kept = told.kept; told = told.told; report = told.report last is })
+    (λ outcome told. record { last = last; patches = t.patches; run = under.0; graph = under.1; kept = told.kept; told = told.told; report = told.report last is })
     c.answer_traced.ensures.reported
 
 pub returns-clause-refused : goal.returns-clause-refused
@@ -43,9 +52,8 @@ returns-clause-refused g c =
     let t = c.in_ok-traced.traced in
     let ordering = c.ordering-ordering.ensures in
     let ok = c.in_ok-traced.ensures.ok in
-    let last : Tracing = ok.0 in
-    let run : trace_from settings.module (trace_start base) c.args.steps.now ≡ Ok last = subst (λ (m : Module). trace_from m (trace_start base) c.args.steps.now ≡ Ok last) ordering.«module» ok.1 in
-    let graph : IsGraphOf (ordering_rules settings) base last t.patches = subst (λ (rs : List Rule). IsGraphOf rs base last t.patches) ordering.rules ok.2 in
+    let last = ok.0 in
+    let under = of_settings settings base c.args.steps.now c.ordering-ordering.result.«module» c.ordering-ordering.result.rules.items last t.patches ordering.«module» ordering.rules ok.1 ok.2 in
     IfErr-weaker c.answer_traced.result _ _
-    (λ fault says memory. inr (last, t.patches, run, graph, (says memory).1, (says memory).0))
+    (λ fault says memory. inr (last, t.patches, under.0, under.1, (says memory).1, (says memory).0))
     c.answer_traced.ensures.too_many

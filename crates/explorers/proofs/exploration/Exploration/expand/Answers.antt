@@ -1,4 +1,4 @@
-use Rattle.std.proofs.Common.{rules, arith, subst, ◌≡◌}
+use Rattle.std.proofs.Common.{rules, arith, subst, ◌≡◌, ◌+◌}
 use Rattle.seen_board.specs.Known.{Known}
 use Rattle.seen_board.specs.Clauses.{HasPlace, word_at, SeesOn}
 use Rattle.seen_board.proofs.Chains.{sees_on_trans}
@@ -8,33 +8,42 @@ use Rattle.explorers.proofs.exploration.Exploration.expand.Goals as goal
 pub put_in-requires-clause-successor : goal.put_in-requires-clause-successor
 put_in-requires-clause-successor g c = let same = c.at-word.ensures.same in let word : c.at-word.result ≡ word_at c.at-word.new.seat.seen c.args.place = rw same c.at-word.ensures.word in let after = g.S.Space.successors c.args.self.now.space.now in
     let has : HasPlace c.at-word.new.seat.seen c.args.place = rw same c.requires.claim.1 in
-    (expands_successor c.args.self.now.board.now after c.at-word.new.seat.seen c.args.place c.loop-k.k c.next.result c.loop-k.mine.seat has c.loop-k.invariant.expands (rw (← word) (omega (arith, c.loop-k-test.true, c.degree-k-end.ensures))) (rw (← word) c.next.ensures))
+    let kept = c.loop-next.invariant in
+    let come = c.in-Some.ensures.next kept.k kept.ahead in
+    (expands_successor c.args.self.now.board.now after c.at-word.new.seat.seen c.args.place kept.k c.in-Some.next c.loop-next.mine.seat has kept.expands (rw (← word) come.0) (rw (← word) come.1))
 
-pub loop-k-preserved : goal.loop-k-preserved
-loop-k-preserved g c = let same = c.at-word.ensures.same in let word : c.at-word.result ≡ word_at c.at-word.new.seat.seen c.args.place = rw same c.at-word.ensures.word in
-    record { free = c.put_in.ensures.free; expands = expands_next c.args.self.now.board.now c.at-word.new.seat.seen c.args.place (g.S.Space.successors c.args.self.now.space.now (word_at c.at-word.new.seat.seen c.args.place)) c.loop-k.k c.next.result c.loop-k.mine.seat c.put_in.new.mine.seat c.loop-k.invariant.expands (rw (← word) c.next.ensures) c.put_in.ensures.sees (search rules) }
+pub loop-next-preserved : goal.loop-next-preserved
+loop-next-preserved g c = let same = c.at-word.ensures.same in let word : c.at-word.result ≡ word_at c.at-word.new.seat.seen c.args.place = rw same c.at-word.ensures.word in
+    let kept = c.loop-next.invariant in
+    let come = c.in-Some.ensures.next kept.k kept.ahead in
+    record {
+      free = c.put_in.ensures.free;
+      k = kept.k + 1;
+      ahead = come.2;
+      expands = expands_next c.args.self.now.board.now c.at-word.new.seat.seen c.args.place (g.S.Space.successors c.args.self.now.space.now (word_at c.at-word.new.seat.seen c.args.place)) kept.k c.in-Some.next c.loop-next.mine.seat c.put_in.new.mine.seat kept.expands (rw (← word) come.1) c.put_in.ensures.sees (search rules);
+    }
 
 pub settle-requires-clause-seen : goal.settle-requires-clause-seen
-settle-requires-clause-seen g c = (place_on c.at-word.new.seat.seen c.loop-k.mine.seat.seen c.args.place c.loop-k.invariant.expands.sees (rw c.at-word.ensures.same c.requires.claim.1)).0
+settle-requires-clause-seen g c = (place_on c.at-word.new.seat.seen c.loop-next.mine.seat.seen c.args.place c.loop-next.invariant.expands.sees (rw c.at-word.ensures.same c.requires.claim.1)).0
 
 pub settle-requires-clause-successors : goal.settle-requires-clause-successors
 settle-requires-clause-successors g c = let same = c.at-word.ensures.same in let word : c.at-word.result ≡ word_at c.at-word.new.seat.seen c.args.place = rw same c.at-word.ensures.word in
-    let there = (place_on c.at-word.new.seat.seen c.loop-k.mine.seat.seen c.args.place c.loop-k.invariant.expands.sees (rw same c.requires.claim.1)).1 in
-    rw c.requires.free.explored (rw there (expands_all c.args.self.now.board.now c.at-word.new.seat.seen c.args.place (g.S.Space.successors c.args.self.now.space.now (word_at c.at-word.new.seat.seen c.args.place)) c.loop-k.k c.loop-k.mine.seat c.loop-k.invariant.expands (rw (← word) (omega (arith, c.loop-k-test.false, c.loop-k.auto.k-end, c.degree-k-end.ensures)))))
+    let there = (place_on c.at-word.new.seat.seen c.loop-next.mine.seat.seen c.args.place c.loop-next.invariant.expands.sees (rw same c.requires.claim.1)).1 in
+    rw c.requires.free.explored (rw there (expands_all c.args.self.now.board.now c.at-word.new.seat.seen c.args.place (g.S.Space.successors c.args.self.now.space.now (word_at c.at-word.new.seat.seen c.args.place)) c.loop-next.invariant.k c.loop-next.mine.seat c.loop-next.invariant.expands (rw (← word) (omega (arith, c.in_default.ensures.next c.loop-next.invariant.k c.loop-next.invariant.ahead)))))
 
 pub settle-requires-clause-verdict : goal.settle-requires-clause-verdict
 settle-requires-clause-verdict g c = let same = c.at-word.ensures.same in let word : c.at-word.result ≡ word_at c.at-word.new.seat.seen c.args.place = rw same c.at-word.ensures.word in
-    let there = (place_on c.at-word.new.seat.seen c.loop-k.mine.seat.seen c.args.place c.loop-k.invariant.expands.sees (rw same c.requires.claim.1)).1 in
+    let there = (place_on c.at-word.new.seat.seen c.loop-next.mine.seat.seen c.args.place c.loop-next.invariant.expands.sees (rw same c.requires.claim.1)).1 in
     rw c.requires.free.explored (rw there (rw (← word) c.in_ok-good.ensures.good))
 
 pub returns-in_err-good-clause-sees : goal.returns-in_err-good-clause-sees
-returns-in_err-good-clause-sees g c = subst (λ (s : Known). SeesOn s.seen c.loop-k.mine.seat.seen) c.at-word.ensures.same c.loop-k.invariant.expands.sees
+returns-in_err-good-clause-sees g c = subst (λ (s : Known). SeesOn s.seen c.loop-next.mine.seat.seen) c.at-word.ensures.same c.loop-next.invariant.expands.sees
 
 pub returns-clause-sees : goal.returns-clause-sees
-returns-clause-sees g c = rw c.settle.ensures (subst (λ (s : Known). SeesOn s.seen c.loop-k.mine.seat.seen) c.at-word.ensures.same c.loop-k.invariant.expands.sees)
+returns-clause-sees g c = rw c.settle.ensures (subst (λ (s : Known). SeesOn s.seen c.loop-next.mine.seat.seen) c.at-word.ensures.same c.loop-next.invariant.expands.sees)
 
 pub returns-in_err-put_in-clause-sees : goal.returns-in_err-put_in-clause-sees
-returns-in_err-put_in-clause-sees g c = subst (λ (s : Known). SeesOn s.seen c.put_in.new.mine.seat.seen) c.at-word.ensures.same (sees_on_trans c.at-word.new.seat.seen c.loop-k.mine.seat.seen c.put_in.new.mine.seat.seen c.loop-k.invariant.expands.sees c.put_in.ensures.sees)
+returns-in_err-put_in-clause-sees g c = subst (λ (s : Known). SeesOn s.seen c.put_in.new.mine.seat.seen) c.at-word.ensures.same (sees_on_trans c.at-word.new.seat.seen c.loop-next.mine.seat.seen c.put_in.new.mine.seat.seen c.loop-next.invariant.expands.sees c.put_in.ensures.sees)
 
 pub returns-in-Over-clause-sees : goal.returns-in-Over-clause-sees
-returns-in-Over-clause-sees g c = subst (λ (s : Known). SeesOn s.seen c.put_in.new.mine.seat.seen) c.at-word.ensures.same (sees_on_trans c.at-word.new.seat.seen c.loop-k.mine.seat.seen c.put_in.new.mine.seat.seen c.loop-k.invariant.expands.sees c.put_in.ensures.sees)
+returns-in-Over-clause-sees g c = subst (λ (s : Known). SeesOn s.seen c.put_in.new.mine.seat.seen) c.at-word.ensures.same (sees_on_trans c.at-word.new.seat.seen c.loop-next.mine.seat.seen c.put_in.new.mine.seat.seen c.loop-next.invariant.expands.sees c.put_in.ensures.sees)

@@ -1,12 +1,18 @@
+use Rattle.std.specs.Prelude.{ℕ}
 use Rattle.seen_board.specs.Clauses.{word_at}
 use Rattle.explorers.specs.Ready.{IsFree, Expands}
 use Rattle.explorers.proofs.exploration.Exploration.expand.Given as goal
 
-abbrev pub invariant-loop-k : goal.invariant-loop-k
-invariant-loop-k g l =
+abbrev pub invariant-loop-next : goal.invariant-loop-next
+invariant-loop-next g l =
     let space = l.self.space.now in
     let seen = l.initial.mine.seat.seen in
     record {
       free : IsFree l.self.board.now space g.S.Space.is_own l.mine;
-      expands : Expands l.self.board.now seen l.place (g.S.Space.successors space (word_at seen l.place)) l.k l.mine.seat;
+      k : ℕ;
+      ahead : g.S.Space.is_ahead space l.word l.ahead k;
+      expands : Expands l.self.board.now seen l.place (g.S.Space.successors space (word_at seen l.place)) k l.mine.seat;
     }
+
+abbrev pub decreases-loop-next : goal.decreases-loop-next
+decreases-loop-next g l = l.ahead

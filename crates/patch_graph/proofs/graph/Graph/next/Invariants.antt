@@ -1,10 +1,6 @@
-use Rattle.std.proofs.Common.{◌≤◌}
 use Rattle.crash_model.specs.Patches.{deps_of}
-use Rattle.patch_graph.proofs.Fronts.{Leaves}
+use Rattle.patch_graph.specs.Fronts.{Leaves}
 use Rattle.patch_graph.proofs.graph.Graph.next.Given as goal
 
-abbrev pub invariant-loop-id : goal.invariant-loop-id
-invariant-loop-id g l = record { leaves : Leaves (deps_of l.self) l.set l.front l.count; near : l.count ≤ l.k }
-
-abbrev pub decreases-loop-id : goal.decreases-loop-id
-decreases-loop-id g l = l.front
+abbrev pub invariant-loop-earlier : goal.invariant-loop-earlier
+invariant-loop-earlier g l = Leaves (deps_of l.self) l.set l.ahead l._earlier
