@@ -1,20 +1,20 @@
 -- The ready ids of a closed set, which come one by one from what is left of the ids outside it.
 use Rattle.std.proofs.Common.{◌≡◌, ◌≢◌, ℕ, zero, suc, ◌+◌, ◌-◌, ◌<◌, ◌≤◌, Bool, true, false, List, length, arith, refl, sym, subst, ap, ◌∙◌, inl, inr}
-use Rattle.std.specs.Prelude.{◌↔◌, ◌⊎◌, slice_index, bit_and}
+use Rattle.std.specs.Prelude.{◌↔◌, slice_index, bit_and}
 use Rattle.std.specs.Int.{bit_at}
 use Rattle.std.proofs.lemmas.List.{length-map}
 use Rattle.std.proofs.lemmas.Nat.{and_le_l}
 use Rattle.std.proofs.lemmas.Nat.Bits.{bit_at_and, bit_at-lt}
 use Rattle.patch_sets.specs.Sets.{Has, with_id, ids_below}
 use Rattle.patch_sets.specs.Closed.{AreEarlier, IsClosed, IsReady, is_ready, successors_of}
-use Rattle.patch_sets.specs.Ends.{IsLowest, IsDifference}
+use Rattle.patch_sets.specs.Ends.{IsLowest, IsWithout, IsDifference}
 use Rattle.patch_sets.proofs.Bits.{eq_or_not, none_in_empty}
 use Rattle.patch_sets.proofs.Ids.{fewer_before}
 use Rattle.patch_sets.proofs.Successors.{ready_from_test, test_from_ready}
 use Rattle.crash_model.specs.declared.patches.Patch.{Patch}
 use Rattle.crash_model.specs.Patches.{deps_of}
 use Rattle.patch_graph.specs.Apart.{AreApart}
-use Rattle.patch_graph.specs.Fronts.{IsFront, Leaves}
+use Rattle.patch_graph.specs.Fronts.{Leaves}
 use Rattle.patch_graph.proofs.Apart.{inside_apart}
 use Rattle.patch_graph.proofs.Steps.{count_one, count_skip, count_successors, successor_at}
 
@@ -89,10 +89,10 @@ module _ (deps : List ℕ) (set : ℕ) (earlier : AreEarlier deps) where
         ];
       }
 
-      lowest_passes : is_ready deps set p ≡ true
+      pub lowest_passes : is_ready deps set p ≡ true
       lowest_passes = test_from_ready deps set p lowest_ready
 
-      before_lowest : count ≡ length (ids_below p (is_ready deps set))
+      pub before_lowest : count ≡ length (ids_below p (is_ready deps set))
       before_lowest = leaves.counted ∙ sym (none_between (is_ready deps set) leaves.from p (leaves.is.above p low.inside)
           (λ q from less. not_ready q (let near = lowest_known in omega (arith, near, less)) (λ ready. let least = low.least q (leaves.is.every q from ready) in omega (arith, least, less))))
 
@@ -138,6 +138,53 @@ module _ (deps : List ℕ) (set : ℕ) (earlier : AreEarlier deps) where
         leaves.counted ∙ (sym rest ∙ sym (count_successors deps set))
 
 -- at first those are left that are outside the set
+-- what is left of a walk over the ready ids of any set, each of which is ready
+pub record Readies (deps : List ℕ) (set front count : ℕ) : Type 0 where
+  pub leaves : Leaves deps set front count
+  pub ready : (q : ℕ) → Has front q → IsReady deps set q
+
+pub readies_start : (deps : List ℕ) (set front : ℕ) → ((id : ℕ) → Has front id ↔ IsReady deps set id) → Readies deps set front 0
+readies_start deps set front are = record {
+  leaves = record {
+    from = 0;
+    within = omega arith;
+    few = omega arith;
+    is = record {
+      known = λ q is. (((are q).0 is).known, ((are q).0 is).outside);
+      whole = λ q d is dep. inl (((are q).0 is).depended d dep);
+      above = λ q is. omega arith;
+      every = λ q low ready. (are q).1 ready;
+    };
+    counted = refl;
+  };
+  ready = λ q. (are q).0;
+}
+
+module _ (deps : List ℕ) (set : ℕ) (earlier : AreEarlier deps) (front count : ℕ) (left : Readies deps set front count) (p : ℕ) (low : IsLowest front p) (rest : ℕ) (without : IsWithout front p rest) where
+  was_left : (q : ℕ) → Has rest q → (q ≢ p) × Has front q
+  was_left q is = let ne : q ≢ p = λ e. without.gone (subst (Has rest) e is) in (ne, (without.others q ne).0 is)
+
+  pub readies_next : Readies deps set rest (count + 1)
+  readies_next =
+      let leaves = left.leaves in
+      let known = lowest_known deps set earlier front count leaves p low in
+      let from = leaves.is.above p low.inside in
+      record {
+        leaves = record {
+          from = p + 1;
+          within = omega (arith, known);
+          few = let few = leaves.few in omega (arith, few, from);
+          is = record {
+            known = λ q is. leaves.is.known q (was_left q is).1;
+            whole = λ q d is dep. inl ((left.ready q (was_left q is).1).depended d dep);
+            above = λ q is. let was = was_left q is in let least = low.least q was.1 in let ne = was.0 in omega (arith, least, ne);
+            every = λ q past ready. (without.others q (λ e. omega (arith, e, past))).1 (leaves.is.every q (omega (arith, past, from)) ready);
+          };
+          counted = ap (λ n. n + 1) (before_lowest deps set earlier front count leaves p low) ∙ sym (count_one p (is_ready deps set) (lowest_passes deps set earlier front count leaves p low));
+        };
+        ready = λ q is. left.ready q (was_left q is).1;
+      }
+
 pub leaves_outside : (patches : List Patch) (set ids front : ℕ) → AreEarlier (deps_of patches) → ((id : ℕ) → Has ids id ↔ (id < length patches)) → IsDifference ids set front
     → Leaves (deps_of patches) set front 0
 leaves_outside patches set ids front earlier all difference =

@@ -1,12 +1,11 @@
 -- One patch more, in the loops over a graph's patches.
-use Rattle.std.proofs.Common.{◌≡◌, ℕ, ◌+◌, ◌<◌, Bool, true, false, cond, List, [], ◌∷◌, ◌++◌, length, arith, refl, sym, subst, ap, ◌∙◌, inl, inr, append-nil, length-append}
+use Rattle.std.proofs.Common.{◌≡◌, ℕ, ◌+◌, ◌<◌, Bool, true, false, cond, List, [], ◌∷◌, ◌++◌, length, arith, sym, subst, ap, ◌∙◌, inl, inr, append-nil, length-append}
 use Rattle.std.specs.Prelude.{◌↔◌, slice_index}
 use Rattle.std.proofs.lemmas.List.{get_or-map, length-map}
 use Rattle.patch_sets.specs.Sets.{Has, IsSubset, with_id, ids_below}
 use Rattle.patch_sets.specs.Closed.{IsReady, is_ready, successors_of}
 use Rattle.patch_sets.proofs.Bits.{eq_or_not, none_in_empty, in_with_same, in_with_old, in_with_cases}
 use Rattle.patch_sets.proofs.Ids.{ids_more, ids_push, id_at, fewer_before}
-use Rattle.patch_sets.proofs.Successors.{ready_from_test, test_from_ready}
 
 -- ---- ids that are collected
 
@@ -47,16 +46,6 @@ module _ (deps : List ℕ) (set id own : ℕ) (inside : id < length deps) (at : 
 
   pub of_ready : IsReady deps set id → ¬ (Has set id) × IsSubset own set
   of_ready ready = (ready.outside, subst (λ d. IsSubset d set) at ready.depended)
-
-  pub test_of : ¬ (Has set id) × IsSubset own set → is_ready deps set id ≡ true
-  test_of it = test_from_ready deps set id (ready_of it)
-
-  pub no_test_of : (¬ (Has set id) × IsSubset own set → ⊥) → is_ready deps set id ≡ false
-  no_test_of is_not = by_cases (is_ready deps set id) refl
-    where
-      by_cases : (b : Bool) → is_ready deps set id ≡ b → is_ready deps set id ≡ false
-      by_cases true e = absurd (is_not (of_ready (ready_from_test deps set id inside e)))
-      by_cases false e = e
 
 pub count_one : (n : ℕ) (pass : ℕ → Bool) → pass n ≡ true → length (ids_below (n + 1) pass) ≡ length (ids_below n pass) + 1
 count_one n pass is = ap length (ids_push n pass is) ∙ length-append (ids_below n pass) (n ∷ [])

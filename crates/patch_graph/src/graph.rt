@@ -163,11 +163,13 @@ impl<A: Allocator + Copy> Graph<A> {
     pub fn ready_count(&self, set: u128) -> u32
         ensures { result ≡ length (successors_of (deps_of self.now) set) }
     {
+        // For the proof: how many patches every graph has at most.
+        let _len = self.len();
+        let mut left = self.ready(set);
         let mut count = 0;
-        for (id, patch) in self.patches.iter().enumerate() {
-            if is_ready(patch, id, set) {
-                count += 1;
-            }
+        while let Some(id) = lowest(left) {
+            left = without(left, id);
+            count += 1;
         }
         count
     }
@@ -178,14 +180,16 @@ impl<A: Allocator + Copy> Graph<A> {
         requires { k < length (successors_of (deps_of self.now) set) }
         ensures { result ≡ slice_index (successors_of (deps_of self.now) set) k }
     {
-        let mut left = k;
-        for (id, patch) in self.patches.iter().enumerate() {
-            if is_ready(patch, id, set) {
-                if left == 0 {
-                    return with(set, id);
-                }
-                left -= 1;
+        // For the proof: that patches depend on earlier ones.
+        let _len = self.len();
+        let mut left = self.ready(set);
+        let mut count = 0;
+        while let Some(id) = lowest(left) {
+            if count == k {
+                return with(set, id);
             }
+            left = without(left, id);
+            count += 1;
         }
         unreachable!()
     }

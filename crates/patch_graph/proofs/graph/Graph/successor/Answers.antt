@@ -1,67 +1,31 @@
-use Rattle.std.proofs.Common.{◌≡◌, ◌+◌, ◌<◌, true, false, List, length, get_or, arith, sym, subst, ap, ◌∙◌}
-use Rattle.std.proofs.lemmas.List.{length-map}
-use Rattle.patch_sets.specs.Sets.{ids_below}
-use Rattle.patch_sets.specs.Closed.{is_ready}
-use Rattle.crash_model.specs.declared.patches.Patch.{Patch}
+use Rattle.std.proofs.Common.{arith, sym, ap, ◌∙◌}
+use Rattle.std.specs.Prelude.{slice_index}
+use Rattle.patch_sets.specs.Closed.{successors_of}
 use Rattle.crash_model.specs.Patches.{deps_of}
-use Rattle.patch_graph.proofs.Patches.{deps_read}
-use Rattle.patch_graph.proofs.Steps.{test_of, no_test_of, count_one, count_skip, count_successors, successor_at}
+use Rattle.patch_graph.proofs.Fronts.{readies_start, readies_next, leaves_all, lowest_successor}
 use Rattle.patch_graph.proofs.graph.Graph.successor.Goals as goal
-use Rattle.patch_graph.proofs.graph.Graph.successor.Goals.{then-is_ready+else-left-eq0, else-is_ready}
 
 pub loop-id-init : goal.loop-id-init
-loop-id-init g c = record {
-  patches = c.deref-patch-items.ensures.value ∙ c.self.view_is;
-  counted = omega arith;
-}
+loop-id-init g c = record { readies = readies_start (deps_of c.args.self.now) c.args.set c.ready-left.result c.ready-left.ensures; near = omega arith }
 
-pub returns-then-left-eq0 : goal.returns-then-left-eq0
-returns-then-left-eq0 g c =
-    let patches = c.args.self.now in
-    let set = c.args.set in
-    let id = c.loop-id.id in
-    let x = c.patch-item.result in
-    let same : c.deref-patch-items.result.now ≡ patches = c.loop-id.invariant.patches in
-    let inside : id < length patches = subst (λ (xs : List Patch). id < length xs) same c.loop-id-test.true in
-    let known : id < length (deps_of patches) = subst (λ n. id < n) (sym (length-map patches (λ p. p.deps))) inside in
-    let read = deps_read patches id x inside (subst (λ (xs : List Patch). x ≡ get_or xs id x) same c.patch-item.is) in
-    let pass = is_ready (deps_of patches) set in
-    let k_is : c.args.k ≡ length (ids_below id pass) = omega (arith, c.loop-id.invariant.counted, c.if-left-eq0.true) in
-    c.with.ensures ∙ sym (successor_at (deps_of patches) set id c.args.k known (test_of (deps_of patches) set id x.deps known read (c.is_ready.ensures.0 c.if-is_ready.true)) k_is)
+pub returns-then-count-k : goal.returns-then-count-k
+returns-then-count-k g c =
+    c.with.ensures
+    ∙ (sym (lowest_successor (deps_of c.args.self.now) c.args.set c.len-len.ensures.kept.earlier c.loop-id.left c.loop-id.count c.loop-id.invariant.readies.leaves c.in-Some.id c.in-Some.ensures.found)
+    ∙ ap (slice_index (successors_of (deps_of c.args.self.now) c.args.set)) c.if-count-k.true)
 
 pub loop-id-preserved : goal.loop-id-preserved
-loop-id-preserved g c =
-    let patches = c.args.self.now in
-    let set = c.args.set in
-    let id = c.loop-id.id in
-    let x = c.patch-item.result in
-    let same : c.deref-patch-items.result.now ≡ patches = c.loop-id.invariant.patches in
-    let inside : id < length patches = subst (λ (xs : List Patch). id < length xs) same c.loop-id-test.true in
-    let known : id < length (deps_of patches) = subst (λ n. id < n) (sym (length-map patches (λ p. p.deps))) inside in
-    let read = deps_read patches id x inside (subst (λ (xs : List Patch). x ≡ get_or xs id x) same c.patch-item.is) in
-    let pass = is_ready (deps_of patches) set in
-    elim c.if-is_ready.branch [
-      | then-is_ready+else-left-eq0 w ↦ record {
-        patches = same;
-        counted = omega (arith, w.left-is, w.if-left-eq0.false, c.loop-id.invariant.counted, count_one id pass (test_of (deps_of patches) set id x.deps known read (c.is_ready.ensures.0 w.if-is_ready.true)));
-      }
-      | else-is_ready w ↦ record {
-        patches = same;
-        counted = omega (
-          arith,
-          w.left-is,
-          c.loop-id.invariant.counted,
-          count_skip id pass (no_test_of (deps_of patches) set id x.deps known read
-              (λ is. let no : false ≡ true = sym w.if-is_ready.false ∙ c.is_ready.ensures.1 is in cc)),
-        );
-      }
-    ]
+loop-id-preserved g c = record {
+  readies =
+      readies_next (deps_of c.args.self.now) c.args.set c.len-len.ensures.kept.earlier c.loop-id.left c.loop-id.count c.loop-id.invariant.readies c.in-Some.id c.in-Some.ensures.found
+      c.without-left.result c.without-left.ensures.others;
+  near = omega (arith, c.loop-id.invariant.near, c.if-count-k.false);
+}
+
+pub loop-id-smaller : goal.loop-id-smaller
+loop-id-smaller g c = c.without-left.ensures.smaller c.in-Some.ensures.found.inside
 
 pub unreachable-requires : goal.unreachable-requires
 unreachable-requires g c =
-    let patches = c.args.self.now in
-    let all : length c.deref-patch-items.result.now ≡ length patches = ap length c.loop-id.invariant.patches in
-    let done : c.loop-id.id ≡ length (deps_of patches) = omega (arith, all, length-map patches (λ p. p.deps), c.loop-id-test.false, c.loop-id.auto.id-end) in
-    let counted : c.loop-id.left + length (ids_below (length (deps_of patches)) (is_ready (deps_of patches) c.args.set)) ≡ c.args.k =
-    subst (λ n. c.loop-id.left + length (ids_below n (is_ready (deps_of patches) c.args.set)) ≡ c.args.k) done c.loop-id.invariant.counted in
-    omega (arith, counted, count_successors (deps_of patches) c.args.set, c.requires)
+    let all = leaves_all (deps_of c.args.self.now) c.args.set c.len-len.ensures.kept.earlier c.loop-id.left c.loop-id.count c.loop-id.invariant.readies.leaves c.in_default.ensures.found in
+    omega (arith, all, c.loop-id.invariant.near, c.requires)
