@@ -27,8 +27,8 @@ pub const MAX_PATCHES: usize = 124;
 /// The block writes of a set are told apart for so many ids at a time, by [`Graph::leading_writes`].
 const STRIDE: usize = 8;
 
-/// For how many block writes of a set room is taken at first. An allocator gives a kilobyte at once, and more than that
-/// slowly.
+/// For how many block writes of a set room is taken at first. An allocator gives a kilobyte at once, and more than
+/// that slowly.
 const SOME_WRITES: u32 = 32;
 
 /// Some ids of a set whose block writes come first, and the others.
@@ -210,8 +210,8 @@ impl<A: Allocator + Copy> Graph<A> {
         difference(self.ids(), set)
     }
 
-    /// The set with the next ready id of a walk more, by ascending ids, or none after the last. What stands on the id is not
-    /// ready, and is left out of what is ahead.
+    /// The set with the next ready id of a walk more, by ascending ids, or none after the last. What stands on the id is
+    /// not ready, and is left out of what is ahead.
     pub fn advance(&self, set: u128, ahead: &mut u128) -> Option<u128>
         requires closed { IsClosed (deps_of self.now) set }
         requires ahead { (k : ℕ) × Leaves (deps_of self.now) set ahead.old k }
@@ -285,8 +285,8 @@ impl<A: Allocator + Copy> Graph<A> {
         Ok(writes)
     }
 
-    /// Some ids that a set begins with, cut where a block write ends, so that the writes to the set are theirs and then
-    /// those of the rest. None where the set has no id.
+    /// Some ids that a set begins with, cut where a block write ends, so that the writes to the set are theirs and
+    /// then those of the rest. None where the set has no id.
     ///
     /// Sets of one graph have few such beginnings, and each of them many.
     pub fn leading_writes(&self, set: u128) -> Option<Lead>

@@ -218,8 +218,8 @@ fn a_stop_is_read_and_the_entry_stays_claimed(rt: HostRuntime) -> Result<(), Fai
     Ok(())
 }
 
-/// Ticks the words of a row off, each a bit of a number. Fails where one is no word of the shard, was ticked off before
-/// or is not clean.
+/// Ticks the words of a row off, each a bit of a number. Fails where one is no word of the shard, was ticked off
+/// before or is not clean.
 fn tick_row(rt: &impl Abort, contents: &Contents<Global>, shard: u8, mut ticked: u128) -> u128
     requires { shard < 13 }
 {

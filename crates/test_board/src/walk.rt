@@ -6,7 +6,8 @@ ghost use Rattle.std.specs.Prelude.{◌≡◌, ◌+◌, ◌≤◌, MatchOption};
 /// is ahead.
 pub(crate) fn next_place(degree: u32, ahead: &mut u128) -> Option<u32>
     requires few { ahead.old ≤ degree }
-    ensures { MatchOption result (ahead.old ≡ 0) (λ place. (ahead.old + place ≡ degree) × (ahead.new + 1 ≡ ahead.old)) }
+    ensures { MatchOption result (ahead.old ≡ 0)
+        (λ place. (ahead.old + place ≡ degree) × (ahead.new + 1 ≡ ahead.old)) }
 {
     if *ahead == 0 {
         return None;
