@@ -5,9 +5,8 @@ use Rattle.patch_sets.specs.Sets.{Has, IsSubset, with_id}
 use Rattle.patch_sets.proofs.Bits.{in_with_same, in_with_old}
 use Rattle.crash_model.specs.Disk.{Disk, IsDisk, block_of}
 use Rattle.journal_replay.specs.Changed.{DifferAtMost}
-use Rattle.journal_replay.specs.Header.{IsHeaderAt}
+use Rattle.journal_replay.specs.Header.{Head, IsHeaderAt}
 use Rattle.journal_replay.specs.Walk.{with_copies}
-use Rattle.journal_replay.specs.declared.header.Header.{Header}
 use Rattle.journal_replay.proofs.Targets.{Apart, AreTargets}
 use Rattle.journal_replay.proofs.Walk.{IsWalking, shaped-disk, copied_none, header_targets, header_inside}
 
@@ -44,7 +43,7 @@ apart_from x (b ∷ bs) other = (other 0 (omega arith), apart_from x bs (λ k be
 pub unchanged : (d : Disk) → DifferAtMost 0 d d
 unchanged d = record { same = λ block below out. refl }
 
-pub header_changes : (start d e : Disk) (at turn : ℕ) (h : Header) (xs : List ℕ) (set next : ℕ) → IsWalking start d at turn → IsHeaderAt d at turn h → xs ≡ h.targets.items
+pub header_changes : (start d e : Disk) (at turn : ℕ) (h : Head) (xs : List ℕ) (set next : ℕ) → IsWalking start d at turn → IsHeaderAt d at turn h → xs ≡ h.targets
     → e ≡ with_copies d (at + 1) xs → IsSubset set next → HasFirst next (length xs) xs → DifferAtMost set start d → DifferAtMost next start e
 header_changes start d e at turn h xs set next w is same here sub first differ = record {
   same = λ block below out.

@@ -7,8 +7,7 @@ use Rattle.std.proofs.lemmas.List.Elements.{All-nil, All-cons, All-same}
 use Rattle.crash_model.specs.Disk.{Disk, block_of, with_bytes, IsDisk}
 use Rattle.crash_model.specs.Replay.{is_header, headers_from, headers, copy_in, copy_after, count_of, targets_of, is_ascending, image_after_replay}
 use Rattle.journal_replay.specs.Walk.{with_copies}
-use Rattle.journal_replay.specs.Header.{IsHeaderAt}
-use Rattle.journal_replay.specs.declared.header.Header.{Header}
+use Rattle.journal_replay.specs.Header.{Head, IsHeaderAt}
 use Rattle.journal_replay.proofs.Blocks.{IsShaped, shaped-inside, length-block, shaped-copy, copy-other, copy-same, joined_blocks}
 use Rattle.journal_replay.proofs.Targets.{bool_is, found_or_not, Apart, AreTargets, IsOutside, apart_above, apart_none, apart_journal, outside_apart, tail_up, targets, same_header, header_in, header_some, header_few, header_fits, header_up, header_aimed, no_header_out, no_copy}
 
@@ -245,10 +244,10 @@ walking-step start d e at turn len w is long here =
     )
 
 -- the same by what was read of the header
-pub header_known : (d : Disk) (at turn : ℕ) (h : Header) (xs : List ℕ) → IsDisk d → IsHeaderAt d at turn h → xs ≡ h.targets.items → All (λ b. b < d.blocks) xs
+pub header_known : (d : Disk) (at turn : ℕ) (h : Head) (xs : List ℕ) → IsDisk d → IsHeaderAt d at turn h → xs ≡ h.targets → All (λ b. b < d.blocks) xs
 header_known d at turn h xs i is same = All-same (λ b. b < d.blocks) xs (targets_of (block_of d at)) (same ∙ is.targets) (targets_known d at turn i is.is)
 
-pub header_inside : (d : Disk) (at turn : ℕ) (h : Header) (xs : List ℕ) → IsDisk d → IsHeaderAt d at turn h → xs ≡ h.targets.items → (at + 1) + length xs ≤ d.blocks
+pub header_inside : (d : Disk) (at turn : ℕ) (h : Head) (xs : List ℕ) → IsDisk d → IsHeaderAt d at turn h → xs ≡ h.targets → (at + 1) + length xs ≤ d.blocks
 header_inside d at turn h xs i is same =
     let row : List ℕ = block_of d at in
     let a : at < 4 + d.journal = header_in d at turn row is.is in
@@ -258,7 +257,7 @@ header_inside d at turn h xs i is same =
     let long : length xs ≡ length (targets_of row) = ap (λ (ys : List ℕ). length ys) (same ∙ is.targets) in
     omega arith
 
-pub header_copied : (d : Disk) (at turn : ℕ) (h : Header) (xs : List ℕ) → IsHeaderAt d at turn h → xs ≡ h.targets.items → h.committed ≡ true → with_copies d (at + 1) xs ≡ with_row_copies d at (block_of d at)
+pub header_copied : (d : Disk) (at turn : ℕ) (h : Head) (xs : List ℕ) → IsHeaderAt d at turn h → xs ≡ h.targets → h.committed ≡ true → with_copies d (at + 1) xs ≡ with_row_copies d at (block_of d at)
 header_copied d at turn h xs is same held =
     let t : (slice_index (block_of d at) 0 == 0xC7) ≡ true = sym is.held ∙ held in
     ap (λ (ys : List ℕ). with_copies d (at + 1) ys) (same ∙ is.targets) ∙ taken d at (block_of d at) t
@@ -266,7 +265,7 @@ header_copied d at turn h xs is same held =
     taken : (d : Disk) (at : ℕ) (row : List ℕ) → (slice_index row 0 == 0xC7) ≡ true → with_copies d (at + 1) (targets_of row) ≡ with_row_copies d at row
     taken d at row t = rw t refl
 
-pub header_left : (d : Disk) (at turn : ℕ) (h : Header) → IsHeaderAt d at turn h → h.committed ≡ false → d ≡ with_row_copies d at (block_of d at)
+pub header_left : (d : Disk) (at turn : ℕ) (h : Head) → IsHeaderAt d at turn h → h.committed ≡ false → d ≡ with_row_copies d at (block_of d at)
 header_left d at turn h is done =
     let f : (slice_index (block_of d at) 0 == 0xC7) ≡ false = sym is.held ∙ done in
     left d at (block_of d at) f
@@ -274,7 +273,7 @@ header_left d at turn h is done =
     left : (d : Disk) (at : ℕ) (row : List ℕ) → (slice_index row 0 == 0xC7) ≡ false → d ≡ with_row_copies d at row
     left d at row f = rw f refl
 
-pub header_step : (start d e : Disk) (at turn len : ℕ) (h : Header) → IsWalking start d at turn → IsHeaderAt d at turn h → len ≡ length h.targets.items → e ≡ with_row_copies d at (block_of d at) → IsWalking start e (at + (1 + len)) (turn + 1)
+pub header_step : (start d e : Disk) (at turn len : ℕ) (h : Head) → IsWalking start d at turn → IsHeaderAt d at turn h → len ≡ length h.targets → e ≡ with_row_copies d at (block_of d at) → IsWalking start e (at + (1 + len)) (turn + 1)
 header_step start d e at turn len h w is long here = walking-step start d e at turn len w is.is (long ∙ ap (λ (xs : List ℕ). length xs) is.targets) here
 
 pub walking-end : (start d : Disk) (at turn : ℕ) → IsWalking start d at turn → is_header d at turn (block_of d at) ≡ false → d ≡ disk_after_walk start.journal start 4 1

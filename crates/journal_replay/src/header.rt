@@ -6,18 +6,46 @@ ghost use Rattle.crash_model.specs.Disk.{block_of};
 ghost use Rattle.crash_model.specs.Replay.{is_ascending, is_header, is_target};
 ghost use Rattle.journal_replay.specs.Header.{IsHeaderAt};
 
-use arrayvec::ArrayVec;
 use crash_model::disk_bytes::{COMMITTED, DONE};
 use disk_image::Image;
 use std::alloc::Allocator;
+use std::marker::Model;
 
-/// The header of a transaction.
+/// The header of a transaction. Contracts see whether it is committed, and its targets.
 #[derive(Drop)]
 pub struct Header {
+    committed: bool,
+    count: usize,
+    /// The eight bytes behind the count, of which the first are the targets. All of them are moved at once, which takes
+    /// less than to move those that are meant.
+    numbers: [u8; 8],
+}
+
+impl Model for Header {
+    ghost use Rattle.std.specs.Prelude.{◌≤◌, take};
+    ghost use Rattle.journal_replay.specs.Header.{Head};
+
+    ghost Value = { Head };
+
+    ghost view = { λ h. record { committed = h.committed; targets = take h.count h.numbers } };
+
+    ghost invariant = { λ h. h.count ≤ 8 };
+}
+
+impl Header {
     /// Whether the copies may not be in place yet.
-    pub committed: bool,
+    pub fn is_committed(&self) -> bool
+        ensures { result ≡ self.now.committed }
+    {
+        self.committed
+    }
+
     /// The blocks that have copies behind the header, ascending.
-    pub targets: ArrayVec<u8, 8>,
+    pub fn targets(&self) -> &[u8]
+        ensures { result.now ≡ self.now.targets }
+    {
+        &self.numbers[..self.count]
+    }
 }
 
 /// The header of transaction `turn` in journal block `at`, where the block's bytes are one.
@@ -31,13 +59,12 @@ pub fn header_at<A: Allocator + Copy>(image: &Image<A>, at: usize, turn: usize) 
     if !is_header(image, row, at, turn) {
         return None;
     }
-    let mut targets = ArrayVec::new();
-    for target in &row[3..3 + usize::from(row[2])] {
-        targets.push(*target);
-    }
+    let mut numbers = [0; 8];
+    numbers.copy_from_slice(&row[3..11]);
     Some(Header {
         committed: row[0] == COMMITTED,
-        targets,
+        count: usize::from(row[2]),
+        numbers,
     })
 }
 

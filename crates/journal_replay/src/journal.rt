@@ -28,11 +28,12 @@ pub fn replay<A: Allocator + Copy>(image: &mut Image<A>) -> u128
     let mut written = 0;
     let _journal = image.journal();
     while let Some(header) = header_at(image, at, turn) {
-        if header.committed {
-            copy_blocks(image, at + 1, header.targets.as_slice());
-            written = with_all(written, header.targets.as_slice());
+        let targets = header.targets();
+        if header.is_committed() {
+            copy_blocks(image, at + 1, targets);
+            written = with_all(written, targets);
         }
-        at += 1 + header.targets.len();
+        at += 1 + targets.len();
         turn += 1;
     }
     written

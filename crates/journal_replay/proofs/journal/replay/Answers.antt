@@ -1,35 +1,34 @@
-use Rattle.std.proofs.Common.{◌+◌, List, ℕ, ap, sym, ◌∙◌}
-use Rattle.journal_replay.specs.Walk.{with_copies}
+use Rattle.std.proofs.Common.{List, ℕ, length, ap, sym, ◌∙◌}
 use Rattle.journal_replay.proofs.Changed.{all_few, unchanged, header_changes}
 use Rattle.journal_replay.proofs.Walk.{walking-start, header_known, header_copied, header_left, header_step, replay_ends, replay_keeps_journal}
 use Rattle.journal_replay.proofs.journal.replay.Goals as goal
-use Rattle.journal_replay.proofs.journal.replay.Goals.{then-header, else-header}
+use Rattle.journal_replay.proofs.journal.replay.Goals.{then-is_committed, else-is_committed}
 
 pub loop-header-init : goal.loop-header-init
 loop-header-init g c = record { walk = walking-start c.args.image.now c.journal-journal.ensures.disk; changed = unchanged c.args.image.now }
 
 pub copy_blocks-requires-clause-to : goal.copy_blocks-requires-clause-to
-copy_blocks-requires-clause-to g c = header_known c.loop-header.image c.loop-header.at c.loop-header.turn c.in-Some.header c.as_slice.result.now c.loop-header.invariant.walk.disk c.in-Some.ensures c.as_slice.ensures.value
+copy_blocks-requires-clause-to g c = header_known c.loop-header.image c.loop-header.at c.loop-header.turn c.in-Some.header c.targets-targets.result.now c.loop-header.invariant.walk.disk c.in-Some.ensures c.targets-targets.ensures
 
 pub with_all-written-requires : goal.with_all-written-requires
-with_all-written-requires g c = all_few c.loop-header.image c.as_slice-then-header.result.now c.loop-header.invariant.walk.disk
-    (header_known c.loop-header.image c.loop-header.at c.loop-header.turn c.in-Some.header c.as_slice-then-header.result.now c.loop-header.invariant.walk.disk c.in-Some.ensures c.as_slice-then-header.ensures.value)
+with_all-written-requires g c = all_few c.loop-header.image c.targets-targets.result.now c.loop-header.invariant.walk.disk
+    (header_known c.loop-header.image c.loop-header.at c.loop-header.turn c.in-Some.header c.targets-targets.result.now c.loop-header.invariant.walk.disk c.in-Some.ensures c.targets-targets.ensures)
 
 pub loop-header-preserved : goal.loop-header-preserved
 loop-header-preserved g c =
     let d = c.loop-header.image in let at = c.loop-header.at in let turn = c.loop-header.turn in let h = c.in-Some.header in
+    let targets = c.targets-targets.result.now in let same = c.targets-targets.ensures in
     record {
-      walk = header_step c.args.image.now d c.if-header.image at turn c.len.result h c.loop-header.invariant.walk c.in-Some.ensures c.len.ensures.value
-          (elim c.if-header.branch [
-            | then-header w ↦ w.image-is ∙ w.copy_blocks.ensures ∙ header_copied d at turn h w.as_slice.result.now c.in-Some.ensures w.as_slice.ensures.value w.if-header.true
-            | else-header w ↦ w.image-is ∙ header_left d at turn h c.in-Some.ensures w.if-header.false
+      walk = header_step c.args.image.now d c.if-is_committed.image at turn (length targets) h c.loop-header.invariant.walk c.in-Some.ensures (ap (λ (xs : List ℕ). length xs) same)
+          (elim c.if-is_committed.branch [
+            | then-is_committed w ↦ w.image-is ∙ w.copy_blocks.ensures ∙ header_copied d at turn h targets c.in-Some.ensures same (sym c.is_committed.ensures ∙ w.if-is_committed.true)
+            | else-is_committed w ↦ w.image-is ∙ header_left d at turn h c.in-Some.ensures (sym c.is_committed.ensures ∙ w.if-is_committed.false)
           ]);
-      changed = elim c.if-header.branch [
-        | then-header w ↦ rw (w.image-is, w.written-is) (header_changes c.args.image.now d w.copy_blocks.new.image at turn h w.as_slice-then-header.result.now
-            c.loop-header.written w.with_all-written.result c.loop-header.invariant.walk c.in-Some.ensures w.as_slice-then-header.ensures.value
-            (w.copy_blocks.ensures ∙ ap (λ (xs : List ℕ). with_copies d (at + 1) xs) (w.as_slice.ensures.value ∙ sym w.as_slice-then-header.ensures.value))
+      changed = elim c.if-is_committed.branch [
+        | then-is_committed w ↦ rw (w.image-is, w.written-is) (header_changes c.args.image.now d w.copy_blocks.new.image at turn h targets
+            c.loop-header.written w.with_all-written.result c.loop-header.invariant.walk c.in-Some.ensures same w.copy_blocks.ensures
             w.with_all-written.ensures.old record { each = w.with_all-written.ensures.more } c.loop-header.invariant.changed)
-        | else-header w ↦ rw (w.image-is, w.written-is) c.loop-header.invariant.changed
+        | else-is_committed w ↦ rw (w.image-is, w.written-is) c.loop-header.invariant.changed
       ];
     }
 
