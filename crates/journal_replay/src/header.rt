@@ -16,8 +16,8 @@ use std::marker::Model;
 pub struct Header {
     committed: bool,
     count: usize,
-    /// The eight bytes behind the count, of which the first are the targets. All of them are moved at once, which takes
-    /// less than to move those that are meant.
+    /// The eight bytes behind the count, of which the first are the targets. All of them are moved at once, which
+    /// takes less than to move those that are meant.
     numbers: [u8; 8],
 }
 

@@ -210,8 +210,8 @@ impl<A: Allocator + Copy> Graph<A> {
         difference(self.ids(), set)
     }
 
-    /// The set with the next ready id of a walk more, by ascending ids, or none after the last. What stands on the id is
-    /// not ready, and is left out of what is ahead.
+    /// The set with the next ready id of a walk more, by ascending ids, or none after the last. What stands on the id
+    /// is not ready, and is left out of what is ahead.
     pub fn advance(&self, set: u128, ahead: &mut u128) -> Option<u128>
         requires closed { IsClosed (deps_of self.now) set }
         requires ahead { (k : ℕ) × Leaves (deps_of self.now) set ahead.old k }
