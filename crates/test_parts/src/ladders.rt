@@ -1,5 +1,7 @@
 //! Ladders of words, on which each word leads to the next two.
 
+ghost use Rattle.std.specs.Prelude.{◌≤◌};
+
 use crate::texts::each_writes;
 use explorers::{ExploreFault, Gate, OpenGate, explore};
 use std::alloc::{AllocError, Global};
