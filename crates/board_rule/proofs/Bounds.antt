@@ -120,13 +120,14 @@ pub more_entries : (t : Told) (rows : List (List ℕ)) (words : List ℕ) → Ro
 more_entries t rows words o h = (concat rows, flat_entries t rows words o, omega (arith, h, flat_length rows))
 
 -- a full row and a reached word that it lacks
-pub full_row : (t : Told) (rows : List (List ℕ)) (words : List ℕ) (q x : ℕ) → RowsOk t rows words → q < 13 → t.limit ≤ length (row_of rows q) → IsReached t.next t.origin x → ((k : ℕ) → k < length (row_of rows q) → get_or (row_of rows q) k 0 ≢ x) → Outnumbers (IsReached t.next t.origin) t.limit
-full_row t rows words q x o near full right absent = let row = row_of rows q in (
+pub full_row : (t : Told) (rows : List (List ℕ)) (words : List ℕ) (q x : ℕ) → RowsOk t rows words → q < 13 → t.places ≤ length (row_of rows q) → IsReached t.next t.origin x → x % 13 ≡ q → ((k : ℕ) → k < length (row_of rows q) → get_or (row_of rows q) k 0 ≢ x)
+    → Outnumbers (λ word. IsReached t.next t.origin word × (word % 13 ≡ q)) t.places
+full_row t rows words q x o near full right home absent = let row = row_of rows q in let P : ℕ → Type 0 = λ word. IsReached t.next t.origin word × (word % 13 ≡ q) in (
   row ++ x ∷ [],
-  some_words (IsReached t.next t.origin) (row ++ x ∷ [])
+  some_words P (row ++ x ∷ [])
       (λ j k bj bk. snoc_cases row x (λ j y. y ≡ get_or (row ++ x ∷ []) k 0 → j ≡ k)
       (λ j b. snoc_cases row x (λ k z. get_or row j 0 ≡ z → j ≡ k) (λ k c e. o.apart q j k near b c e) (λ e. absurd (absent j b e)) k bk)
       (snoc_cases row x (λ k z. x ≡ z → length row ≡ k) (λ k c e. absurd (absent k c (sym e))) (λ e. refl) k bk) j bj)
-      (snoc_cases row x (λ k y. IsReached t.next t.origin y) (λ k b. o.reached q k near b) right),
+      (snoc_cases row x (λ k y. P y) (λ k b. (o.reached q k near b, o.at_home q k near b)) (right, home)),
   omega (arith, full, length-append row (x ∷ [])),
 )

@@ -38,12 +38,12 @@ module _ (t : Told) (good : ℕ → Type 0) (S : Type 0) where
       → n ≤ 3 → (n ≡ 2 → good (get_or (row_of o.rows q) k 0)) → (n ≡ 3 → good (get_or (row_of o.rows q) k 0) → ⊥) → (2 ≤ n → (y : ℕ) → Contains (t.next (get_or (row_of o.rows q) k 0)) y → Has o.rows y)
       → ((life : Life) → Passes life (life_of (get_or (row_of o.lives q) k 0)) → Passes life (life_of n)) → l.learned ≡ m.0.lives.learned ++ (place_of q k, new_life) ∷ [] → Passes new_life (life_of n)
       → owed + is_unsettled n ≡ m.0.pending.owed + is_unsettled (get_or (row_of o.lives q) k 0) → owed + is_settled (get_or (row_of o.lives q) k 0) ≤ m.0.pending.owed + is_settled n → verdicts + is_settled (get_or (row_of o.lives q) k 0) ≡ m.0.pending.verdicts + is_settled n → is_unsettled n ≤ is_unsettled (get_or (row_of o.lives q) k 0)
-      → (m.0.limit ≡ 0 → IsBare m.0 → IsBare (record m.0 { lives = l; pending = record m.0.pending { owed = owed; verdicts = verdicts } }))
-      → Rule (stepped s (life_word t.limit q k) n id m.1 (record m.0 { lives = l; pending = record m.0.pending { owed = owed; verdicts = verdicts } }) keeps)
+      → (m.0.places ≡ 0 → IsBare m.0 → IsBare (record m.0 { lives = l; pending = record m.0.pending { owed = owed; verdicts = verdicts } }))
+      → Rule (stepped s (life_word t.places q k) n id m.1 (record m.0 { lives = l; pending = record m.0.pending { owed = owed; verdicts = verdicts } }) keeps)
   life_turn s o id q k n new_life l owed verdicts m near inside me gain less kept top is-clean is-broken shut on more met sum few told down bare =
-      let p = record m.0.pending { owed = owed; verdicts = verdicts } in let w : View = record m.0 { lives = l; pending = p } in let i = life_word t.limit q k in let words' = set s.words i n in
+      let p = record m.0.pending { owed = owed; verdicts = verdicts } in let w : View = record m.0 { lives = l; pending = p } in let i = life_word t.places q k in let words' = set s.words i n in
       let gone : (p : ℕ) → times_among p l.given_up ≡ times_among p m.0.lives.given_up = λ p. ap (times_among p) kept in
-      let short : k < t.limit = omega (arith, inside, o.row.short q near) in let in_lives : k < length (row_of o.lives q) = omega (arith, inside, o.life.even q near) in
+      let short : k < t.places = omega (arith, inside, o.row.short q near) in let in_lives : k < length (row_of o.lives q) = omega (arith, inside, o.life.even q near) in
       let u = lives_sum is_unsettled o.lives q k n (omega (arith, near, o.life.all)) in_lives in let v = lives_sum is_settled o.lives q k n (omega (arith, near, o.life.all)) in_lives in
       let a = total-set (λ x. x.pending.announced) s.views id m.0 w me in let zeroth : get_or words' 0 0 ≡ get_or s.words 0 0 = get_or-set_other s.words i 0 n 0 (λ e. omega (arith, e)) in
       rest_turn t good S s o id i n m l p m.0.count (set o.lives q (set (row_of o.lives q) k n)) (λ b lo hi e. omega (arith, e, hi)) (λ b lo e. omega (arith, e, lo, short, near)) me bare
@@ -60,14 +60,14 @@ module _ (t : Told) (good : ℕ → Type 0) (S : Type 0) where
   given_up_life s o id q k v near me gave = is_claimed_one (get_or (row_of o.lives q) k 0) (omega (arith, gave, o.life.claimed q k near, term_le (claims_on (place_of q k)) s.views id v me))
 
   -- the claim of a place that the seat has seen: either way the seat learns that it is not waiting any more
-  pub claims_it : (n id : ℕ) (m : Me S View) (i q k : ℕ) → i ≡ life_word t.limit q k → q < 13 → k < length (row_of m.0.rows.seen q) → m.0.limit ≡ t.limit → m.0.lives.claims ≡ 0
+  pub claims_it : (n id : ℕ) (m : Me S View) (i q k : ℕ) → i ≡ life_word t.places q k → q < 13 → k < length (row_of m.0.rows.seen q) → m.0.places ≡ t.places → m.0.lives.claims ≡ 0
       → Allows Rule n id m i (λ y. either (eqb y 0) 1 y) (Claims (step n i 0 1 none) m)
-  claims_it n id m i q k at near seen told none-yet s o wide me _ = rw at (let j = life_word t.limit q k in let ok = o.seats id m.0 me in let place = place_of q k in let x = get_or s.words j 0 in
+  claims_it n id m i q k at near seen told none-yet s o wide me _ = rw at (let j = life_word t.places q k in let ok = o.seats id m.0 me in let place = place_of q k in let x = get_or s.words j 0 in
       let inside : k < length (row_of o.rows q) = omega (arith, seen, starts-length (row_of o.rows q) (row_of m.0.rows.seen q) (ok.saw q near)) in
       let in_lives : k < length (row_of o.lives q) = omega (arith, inside, o.life.even q near) in let w = with_claim m.0 place Claimed in let missed = with_learned m.0 place Claimed in
       let is : x ≡ get_or (row_of o.lives q) k 0 = o.life.shown q k near in_lives in
-      let here : (v : View) → (p b : ℕ) → j ≡ life_word m.0.limit p b → p < 13 → (place_of p b ≡ place) = λ v p b e h. omega (arith, e, told, h, near) in
-      let never_again : (p b : ℕ) → j ≡ life_word m.0.limit p b → p < 13 → get_or (row_of o.lives q) k 0 ≡ 0 → Contains m.0.lives.given_up (place_of p b) → ⊥ = λ p b e h was gave.
+      let here : (v : View) → (p b : ℕ) → j ≡ life_word m.0.places p b → p < 13 → (place_of p b ≡ place) = λ v p b e h. omega (arith, e, told, h, near) in
+      let never_again : (p b : ℕ) → j ≡ life_word m.0.places p b → p < 13 → get_or (row_of o.lives q) k 0 ≡ 0 → Contains m.0.lives.given_up (place_of p b) → ⊥ = λ p b e h was gave.
       omega (arith, was, given_up_life s o id q k m.0 near me (among place m.0.lives.given_up (subst (Contains m.0.lives.given_up) (here m.0 p b e h) gave))) in
       exchanged x 0 1 (λ y. (v : View) × (a : Act S) × Valid s.homes m.1 a × Rule (stepped s j y id m.1 v a) × Claims (step n j 0 1 none) m x (v, carried_after m.1 a))
       (λ hit. let was : get_or (row_of o.lives q) k 0 ≡ 0 = sym is ∙ hit in (
@@ -96,7 +96,7 @@ module _ (t : Told) (good : ℕ → Type 0) (S : Type 0) where
   claimed_life s o id q k v near me has here = is_claimed_one (get_or (row_of o.lives q) k 0) (omega (arith, claim_here v (place_of q k) here, has, o.life.claimed q k near, term_le (claims_on (place_of q k)) s.views id v me))
 
   -- the verdict: each successor is seen as an entry
-  pub settles : (n id : ℕ) (m : Me S View) (i q k x : ℕ) (is_good : Bool) → i ≡ life_word t.limit q k → q < 13 → k < length (row_of m.0.rows.seen q) → m.0.lives.claims ≡ 1 → m.0.lives.place ≡ place_of q k → x ≡ verdict_of is_good
+  pub settles : (n id : ℕ) (m : Me S View) (i q k x : ℕ) (is_good : Bool) → i ≡ life_word t.places q k → q < 13 → k < length (row_of m.0.rows.seen q) → m.0.lives.claims ≡ 1 → m.0.lives.place ≡ place_of q k → x ≡ verdict_of is_good
       → (IsTrue is_good ↔ good (get_or (row_of m.0.rows.seen q) k 0))
       → ((y : ℕ) → Contains (t.next (get_or (row_of m.0.rows.seen q) k 0)) y → Has m.0.rows.seen y)
       → Allows Rule n id m i (λ _. x) (λ _. Plays.Settles (step n i x 0 none) m x)

@@ -103,7 +103,7 @@ learned_on lives lives' met on = All-weaker (λ m. Passes m.1 (life_of (life_at 
 
 -- a step off the lives, after which the seat has no more of a claim
 pub lives_stay : (t : Told) (good : ℕ → Type 0) (rows lives : List (List ℕ)) (words words' : List ℕ) (views : List View) (i : ℕ) (v w : View) → LivesOk t good rows lives words views → get_elem? views i ≡ some v
-    → ((q k : ℕ) → q < 13 → k < t.limit → get_or words' (life_word t.limit q k) 0 ≡ get_or words (life_word t.limit q k) 0) → ((q : ℕ) → q < 13 → length (row_of lives q) ≤ t.limit) → ((p : ℕ) → claims_on p w ≡ claims_on p v) → w.lives.learned ≡ v.lives.learned → LivesOk t good rows lives words' (set views i w)
+    → ((q k : ℕ) → q < 13 → k < t.places → get_or words' (life_word t.places q k) 0 ≡ get_or words (life_word t.places q k) 0) → ((q : ℕ) → q < 13 → length (row_of lives q) ≤ t.places) → ((p : ℕ) → claims_on p w ≡ claims_on p v) → w.lives.learned ≡ v.lives.learned → LivesOk t good rows lives words' (set views i w)
 lives_stay t good rows lives words words' views i v w o me same short less met = record {
   all = o.all;
   even = o.even;
@@ -118,15 +118,15 @@ lives_stay t good rows lives words words' views i v w o me same short less met =
 }
 
 -- the life at place k of shard q becomes n, and the seat learns of it
-pub lives_turn : (t : Told) (good : ℕ → Type 0) (rows lives : List (List ℕ)) (words : List ℕ) (views : List View) (i : ℕ) (v w : View) (q k n : ℕ) (new_life : Life) → q < 13 → k < length (row_of lives q) → life_word t.limit q k < length words
+pub lives_turn : (t : Told) (good : ℕ → Type 0) (rows lives : List (List ℕ)) (words : List ℕ) (views : List View) (i : ℕ) (v w : View) (q k n : ℕ) (new_life : Life) → q < 13 → k < length (row_of lives q) → life_word t.places q k < length words
     → LivesOk t good rows lives words views → get_elem? views i ≡ some v
     → claims_on (place_of q k) w + is_claimed (get_or (row_of lives q) k 0) ≡ is_claimed n + claims_on (place_of q k) v → ((p : ℕ) → p ≢ place_of q k → claims_on p w ≡ claims_on p v)
     → n ≤ 3 → (n ≡ 2 → good (get_or (row_of rows q) k 0)) → (n ≡ 3 → good (get_or (row_of rows q) k 0) → ⊥) → (2 ≤ n → (y : ℕ) → Contains (t.next (get_or (row_of rows q) k 0)) y → Has rows y)
     → ((life : Life) → Passes life (life_of (get_or (row_of lives q) k 0)) → Passes life (life_of n))
     → w.lives.learned ≡ v.lives.learned ++ (place_of q k, new_life) ∷ [] → Passes new_life (life_of n)
-    → LivesOk t good rows (set lives q (set (row_of lives q) k n)) (set words (life_word t.limit q k) n) (set views i w)
-lives_turn t good rows lives words views i v w q k n new_life near inside long o me gain less top is-clean is-broken shut on more met = let l = row_of lives q in let new = set l k n in let words' = set words (life_word t.limit q k) n in let lives' = set lives q new in
-    let away : (p j : ℕ) → p < 13 → (p ≡ q → j ≢ k) → get_or words' (life_word t.limit p j) 0 ≡ get_or words (life_word t.limit p j) 0 = λ p j h ne. get_or-set_other words (life_word t.limit q k) (life_word t.limit p j) n 0 (λ e. ne (omega (arith, e, h, near)) (omega (arith, e, h, near))) in
+    → LivesOk t good rows (set lives q (set (row_of lives q) k n)) (set words (life_word t.places q k) n) (set views i w)
+lives_turn t good rows lives words views i v w q k n new_life near inside long o me gain less top is-clean is-broken shut on more met = let l = row_of lives q in let new = set l k n in let words' = set words (life_word t.places q k) n in let lives' = set lives q new in
+    let away : (p j : ℕ) → p < 13 → (p ≡ q → j ≢ k) → get_or words' (life_word t.places p j) 0 ≡ get_or words (life_word t.places p j) 0 = λ p j h ne. get_or-set_other words (life_word t.places q k) (life_word t.places p j) n 0 (λ e. ne (omega (arith, e, h, near)) (omega (arith, e, h, near))) in
     let less_at : (p j : ℕ) → p < 13 → (p ≡ q → j ≢ k) → total (claims_on (place_of p j)) (set views i w) ≡ is_claimed (get_or (row_of lives p) j 0) = λ p j h ne. omega (arith, o.claimed p j h, total-set (claims_on (place_of p j)) views i v w me, less (place_of p j) (λ e. ne (omega (arith, e, h, near)) (omega (arith, e, h, near)))) in
     -- a fact of each life, from the old ones and the new one
     let each : (F : ℕ → ℕ → ℕ → Type 0) → ((p j : ℕ) → p < 13 → F p j (get_or (row_of lives p) j 0)) → F q k n → (p j : ℕ) → p < 13 → F p j (get_or (row_of lives' p) j 0) = λ F old here p j h. rows_cases lives q new (λ p l. (j : ℕ) → F p j (get_or l j 0)) o.all near
@@ -134,11 +134,11 @@ lives_turn t good rows lives words views i v w q k n new_life near inside long o
     (λ p h ne j. old p j h) p h j in record {
       all = length-set lives q new ∙ o.all;
       even = rows_cases lives q new (λ p l. length l ≡ length (row_of rows p)) o.all near (length-set l k n ∙ o.even q near) (λ p h ne. o.even p h);
-      shown = λ p j h. rows_cases lives q new (λ p l. (j : ℕ) → j < length l → get_or words' (life_word t.limit p j) 0 ≡ get_or l j 0) o.all near
-          (λ j b. dite (ℕ_discrete j k) (λ e. subst (λ (y : ℕ). get_or words' (life_word t.limit q y) 0 ≡ get_or new y 0) (sym e) (get_or-set_same words (life_word t.limit q k) n 0 long ∙ sym (get_or-set_same l k n 0 inside)))
+      shown = λ p j h. rows_cases lives q new (λ p l. (j : ℕ) → j < length l → get_or words' (life_word t.places p j) 0 ≡ get_or l j 0) o.all near
+          (λ j b. dite (ℕ_discrete j k) (λ e. subst (λ (y : ℕ). get_or words' (life_word t.places q y) 0 ≡ get_or new y 0) (sym e) (get_or-set_same words (life_word t.places q k) n 0 long ∙ sym (get_or-set_same l k n 0 inside)))
           (λ ne. away q j near (λ _. ne) ∙ o.shown q j near (omega (arith, b, length-set l k n)) ∙ sym (get_or-set_other l k j n 0 ne)))
           (λ p h ne j b. away p j h (λ e. absurd (ne e)) ∙ o.shown p j h b) p h j;
-      fresh = λ p j h. rows_cases lives q new (λ p l. (j : ℕ) → length l ≤ j → j < t.limit → get_or words' (life_word t.limit p j) 0 ≡ 0) o.all near
+      fresh = λ p j h. rows_cases lives q new (λ p l. (j : ℕ) → length l ≤ j → j < t.places → get_or words' (life_word t.places p j) 0 ≡ 0) o.all near
           (λ j b c. away q j near (λ _ e. omega (arith, e, b, inside, length-set l k n)) ∙ o.fresh q j near (omega (arith, b, length-set l k n)) c)
           (λ p h ne j b c. away p j h (λ e. absurd (ne e)) ∙ o.fresh p j h b c) p h j;
       claimed = λ p j h. rows_cases lives q new (λ p l. (j : ℕ) → total (claims_on (place_of p j)) (set views i w) ≡ is_claimed (get_or l j 0)) o.all near
@@ -159,8 +159,8 @@ lives_turn t good rows lives words views i v w q k n new_life near inside long o
     }
 
 -- lives beside a row that grows: the new place is waiting
-pub lives_grow : (t : Told) (good : ℕ → Type 0) (rows lives : List (List ℕ)) (words words' : List ℕ) (views : List View) (i q x : ℕ) (v w : View) → q < 13 → length rows ≡ 13 → length (row_of rows q) < t.limit → LivesOk t good rows lives words views → get_elem? views i ≡ some v
-    → ((p k : ℕ) → p < 13 → get_or words' (life_word t.limit p k) 0 ≡ get_or words (life_word t.limit p k) 0) → ((p : ℕ) → claims_on p w ≡ claims_on p v) → w.lives.learned ≡ v.lives.learned
+pub lives_grow : (t : Told) (good : ℕ → Type 0) (rows lives : List (List ℕ)) (words words' : List ℕ) (views : List View) (i q x : ℕ) (v w : View) → q < 13 → length rows ≡ 13 → length (row_of rows q) < t.places → LivesOk t good rows lives words views → get_elem? views i ≡ some v
+    → ((p k : ℕ) → p < 13 → get_or words' (life_word t.places p k) 0 ≡ get_or words (life_word t.places p k) 0) → ((p : ℕ) → claims_on p w ≡ claims_on p v) → w.lives.learned ≡ v.lives.learned
     → LivesOk t good (set rows q (row_of rows q ++ x ∷ [])) (set lives q (row_of lives q ++ 0 ∷ [])) words' (set views i w)
 lives_grow t good rows lives words words' views i q x v w near all room o me same less met = let row = row_of rows q in let l = row_of lives q in let r' = row ++ x ∷ [] in let l' = l ++ 0 ∷ [] in let lives' = set lives q l' in let long = o.even q near in
     let at-rows : row_of (set rows q r') q ≡ r' = get_or-set_same rows q r' [] (omega (arith, all, near)) in
@@ -171,10 +171,10 @@ lives_grow t good rows lives words words' views i q x v w near all room o me sam
     let reads : (p j : ℕ) → p < 13 → get_or (row_of lives' p) j 0 ≡ get_or (row_of lives p) j 0 = λ p j h. rows_cases lives q l' (λ p y. (j : ℕ) → get_or y j 0 ≡ get_or (row_of lives p) j 0) o.all near (snoc_zero l) (λ p h ne j. refl) p h j in record {
       all = length-set lives q l' ∙ o.all;
       even = rows_cases lives q l' (λ p y. length y ≡ length (row_of (set rows q r') p)) o.all near (omega (arith, length-append l (0 ∷ []), length-append row (x ∷ []), long, ap length at-rows)) (λ p h ne. o.even p h ∙ ap length (sym (get_or-set_other rows q p r' [] ne)));
-      shown = λ p j h. rows_cases lives q l' (λ p y. (j : ℕ) → j < length y → get_or words' (life_word t.limit p j) 0 ≡ get_or y j 0) o.all near
-          (snoc_cases l 0 (λ j y. get_or words' (life_word t.limit q j) 0 ≡ y) (λ j b. same q j near ∙ o.shown q j near b) (same q (length l) near ∙ o.fresh q (length l) near (omega arith) (omega (arith, long, room))))
+      shown = λ p j h. rows_cases lives q l' (λ p y. (j : ℕ) → j < length y → get_or words' (life_word t.places p j) 0 ≡ get_or y j 0) o.all near
+          (snoc_cases l 0 (λ j y. get_or words' (life_word t.places q j) 0 ≡ y) (λ j b. same q j near ∙ o.shown q j near b) (same q (length l) near ∙ o.fresh q (length l) near (omega arith) (omega (arith, long, room))))
           (λ p h ne j b. same p j h ∙ o.shown p j h b) p h j;
-      fresh = λ p j h. rows_cases lives q l' (λ p y. (j : ℕ) → length y ≤ j → j < t.limit → get_or words' (life_word t.limit p j) 0 ≡ 0) o.all near
+      fresh = λ p j h. rows_cases lives q l' (λ p y. (j : ℕ) → length y ≤ j → j < t.places → get_or words' (life_word t.places p j) 0 ≡ 0) o.all near
           (λ j b c. same q j near ∙ o.fresh q j near (omega (arith, b, length-append l (0 ∷ []))) c) (λ p h ne j b c. same p j h ∙ o.fresh p j h b c) p h j;
       claimed = λ p j h. subst (λ (y : ℕ). total (claims_on (place_of p j)) (set views i w) ≡ is_claimed y) (sym (reads p j h)) (omega (arith, o.claimed p j h, total-set (claims_on (place_of p j)) views i v w me, less (place_of p j)));
       four = λ p j h. omega (arith, reads p j h, o.four p j h);

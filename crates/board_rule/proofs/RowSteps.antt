@@ -54,7 +54,7 @@ module _ (t : Told) (good : ℕ → Type 0) (S : Type 0) where
     ),
   )
 
-  pub glances_high : (n id : ℕ) (m : Me S View) (i : ℕ) → m.0.limit ≡ t.limit → Allows Rule n id m i (λ y. y) (ReadsHigh (step n i 0 0 none) m)
+  pub glances_high : (n id : ℕ) (m : Me S View) (i : ℕ) → m.0.places ≡ t.places → Allows Rule n id m i (λ y. y) (ReadsHigh (step n i 0 0 none) m)
   glances_high n id m i told s o wide me _ = (
     m.0,
     keeps,
@@ -70,14 +70,14 @@ module _ (t : Told) (good : ℕ → Type 0) (S : Type 0) where
   -- a writer stores a half of a word behind the row, at the word i
   lays : (s : State S View) (o : Rule s) (id i x : ℕ) (m : Me S View) (r : OnRows) → get_elem? s.views id ≡ some m.0 → m.0.rows.right ≡ writer
       → r.seen ≡ m.0.rows.seen → r.held ≡ m.0.rows.held → r.right ≡ m.0.rows.right → r.marks ≡ m.0.rows.marks → r.unfiled ≡ m.0.rows.unfiled → r.added ≡ m.0.rows.added
-      → 216 ≤ i → i < 216 + 26 * t.limit
-      → ((p j : ℕ) → p < 13 → j < t.limit → (p ≡ m.0.rows.held → j < length (row_of o.rows m.0.rows.held)) → (low_word p j ≢ i) × (high_word t.limit p j ≢ i))
-      → Behind t.limit (row_of o.rows r.held) r.right (set s.words i x) r.low (low_word r.held (length (row_of o.rows r.held)))
-      → Behind t.limit (row_of o.rows r.held) r.right (set s.words i x) r.high (high_word t.limit r.held (length (row_of o.rows r.held)))
+      → 216 ≤ i → i < 216 + 26 * t.places
+      → ((p j : ℕ) → p < 13 → j < t.places → (p ≡ m.0.rows.held → j < length (row_of o.rows m.0.rows.held)) → (low_word p j ≢ i) × (high_word t.places p j ≢ i))
+      → Behind t.places (row_of o.rows r.held) r.right (set s.words i x) r.low (low_word r.held (length (row_of o.rows r.held)))
+      → Behind t.places (row_of o.rows r.held) r.right (set s.words i x) r.high (high_word t.places r.held (length (row_of o.rows r.held)))
       → Rule (stepped s i x id m.1 (record m.0 { rows = r }) keeps)
   lays s o id i x m r me writes seen held right marks unfiled added lo hi away low high = let q = m.0.rows.held in let k = o.seats id m.0 me in let row = row_of o.rows q in let words' = set s.words i x in let w : View = record m.0 { rows = r } in
-      let halves : (p j : ℕ) → p < 13 → j < t.limit → (p ≡ q → j < length row) → Halves t.limit s.words words' p j = λ p j h b c. let d = away p j h b c in (get_or-set_other s.words i (low_word p j) x 0 d.0, get_or-set_other s.words i (high_word t.limit p j) x 0 d.1) in
-      let indexes : (p j : ℕ) → p < 13 → get_or words' (index_word t.limit p j) 0 ≡ get_or s.words (index_word t.limit p j) 0 = λ p j h. get_or-set_other s.words i (index_word t.limit p j) x 0 (λ e. omega (arith, e, hi)) in
+      let halves : (p j : ℕ) → p < 13 → j < t.places → (p ≡ q → j < length row) → Halves t.places s.words words' p j = λ p j h b c. let d = away p j h b c in (get_or-set_other s.words i (low_word p j) x 0 d.0, get_or-set_other s.words i (high_word t.places p j) x 0 d.1) in
+      let indexes : (p j : ℕ) → p < 13 → get_or words' (index_word t.places p j) 0 ≡ get_or s.words (index_word t.places p j) 0 = λ p j h. get_or-set_other s.words i (index_word t.places p j) x 0 (λ e. omega (arith, e, hi)) in
       let mid : (b : ℕ) → b < 216 → get_or words' b 0 ≡ get_or s.words b 0 = λ b h. get_or-set_other s.words i b x 0 (λ e. omega (arith, e, h, lo)) in
       rows_turn t good S s o id i x m r (omega (arith, lo)) (λ a l h e. omega (arith, e, l, hi)) me added (omega (arith, right, o.pending.by_writers id m.0 me))
       (locks_stay s.words words' s.views id m.0 w o.locks me (λ p h. mid (lock_word p) (omega (arith, h))) (λ p. lighter p m.0 w held right))
@@ -90,34 +90,34 @@ module _ (t : Told) (good : ℕ → Type 0) (S : Type 0) where
         low = low;
         high = high;
         marked = λ h. ap length marks ∙ k.marked (omega (arith, h, right));
-        marks = λ h j b. subst (λ (y : ℕ). get_or words' (index_word t.limit y j) 0 ≡ get_or r.marks j 0) (sym held) (indexes q j k.near ∙ k.marks (omega (arith, h, right)) j b ∙ ap (λ (l : List ℕ). get_or l j 0) (sym marks));
+        marks = λ h j b. subst (λ (y : ℕ). get_or words' (index_word t.places y j) 0 ≡ get_or r.marks j 0) (sym held) (indexes q j k.near ∙ k.marks (omega (arith, h, right)) j b ∙ ap (λ (l : List ℕ). get_or l j 0) (sym marks));
       }
-      (λ c u ne e. seat_other t.limit o.rows o.rows s.words words' q u.rows (o.seats c u e) (λ is-here. alone s.words s.views id c m.0 u o.locks k.near me e ne writes is-here) (λ p h. starts-refl (row_of o.rows p)) (λ p nq. refl)
+      (λ c u ne e. seat_other t.places o.rows o.rows s.words words' q u.rows (o.seats c u e) (λ is-here. alone s.words s.views id c m.0 u o.locks k.near me e ne writes is-here) (λ p h. starts-refl (row_of o.rows p)) (λ p nq. refl)
       (λ p d h nq b. halves p d h b (λ z. absurd (nq z))) (λ p d h nq b. indexes p d h))
-      (index_stay t.limit o.rows s.words words' s.views id m.0 w o.wide o.index me (λ p c h b. indexes p c h) (λ p c h b h-held h-writes h-owes. inr (held ∙ h-held, right ∙ h-writes, unfiled ∙ h-owes)))
+      (index_stay t.places o.rows s.words words' s.views id m.0 w o.wide o.index me (λ p c h b. indexes p c h) (λ p c h b h-held h-writes h-owes. inr (held ∙ h-held, right ∙ h-writes, unfiled ∙ h-owes)))
 
   -- the low half of a word
-  pub lays_low : (n id : ℕ) (m : Me S View) (i x : ℕ) → i ≡ low_word m.0.rows.held (length (row_of m.0.rows.seen m.0.rows.held)) → m.0.rows.right ≡ writer → length (row_of m.0.rows.seen m.0.rows.held) < t.limit
+  pub lays_low : (n id : ℕ) (m : Me S View) (i x : ℕ) → i ≡ low_word m.0.rows.held (length (row_of m.0.rows.seen m.0.rows.held)) → m.0.rows.right ≡ writer → length (row_of m.0.rows.seen m.0.rows.held) < t.places
       → Allows Rule n id m i (λ _. x) (λ _. LaysLow (step n i x 0 none) m x)
   lays_low n id m i x at writes room s o wide me _ = let q = m.0.rows.held in let k = o.seats id m.0 me in let row = row_of o.rows q in let whole = k.whole (omega (arith, writes)) in
       let here : i ≡ low_word q (length row) = at ∙ ap (λ (r : List ℕ). low_word q (length r)) whole in let w : View = record m.0 { rows = record m.0.rows { low = x ∷ [] } } in
-      let short : length row < t.limit = subst (λ (r : List ℕ). length r < t.limit) whole room in (
+      let short : length row < t.places = subst (λ (r : List ℕ). length r < t.places) whole room in (
         w,
         keeps,
         tt,
         lays s o id i x m w.rows me writes refl refl refl refl refl refl (omega (arith, here)) (omega (arith, here, short, k.near))
             (λ p j h b c. ((λ e. dite (ℕ_discrete p q) (λ z. omega (arith, e, here, h, b, k.near, short, c z, z)) (λ nz. omega (arith, e, here, h, b, k.near, short, nz))), λ e. omega (arith, e, here, h, b, k.near, short)))
             (λ y e. (writes, (ap (λ (b : ℕ). get_or (set s.words i x) b 0) (sym here) ∙ get_or-set_same s.words i x 0 (omega (arith, here, short, k.near, o.sized)) ∙ ap (λ (l : List ℕ). get_or l 0 0) e), short))
-            (λ y e. let b = k.high y e in (b.0, get_or-set_other s.words i (high_word t.limit q (length row)) x 0 (λ z. omega (arith, z, here, short, k.near)) ∙ b.1, b.2)),
+            (λ y e. let b = k.high y e in (b.0, get_or-set_other s.words i (high_word t.places q (length row)) x 0 (λ z. omega (arith, z, here, short, k.near)) ∙ b.1, b.2)),
         refl,
       )
 
   -- the high half of a word
-  pub lays_high : (n id : ℕ) (m : Me S View) (i x : ℕ) → i ≡ high_word t.limit m.0.rows.held (length (row_of m.0.rows.seen m.0.rows.held)) → m.0.rows.right ≡ writer → length (row_of m.0.rows.seen m.0.rows.held) < t.limit
+  pub lays_high : (n id : ℕ) (m : Me S View) (i x : ℕ) → i ≡ high_word t.places m.0.rows.held (length (row_of m.0.rows.seen m.0.rows.held)) → m.0.rows.right ≡ writer → length (row_of m.0.rows.seen m.0.rows.held) < t.places
       → Allows Rule n id m i (λ _. x) (λ _. LaysHigh (step n i x 0 none) m x)
   lays_high n id m i x at writes room s o wide me _ = let q = m.0.rows.held in let k = o.seats id m.0 me in let row = row_of o.rows q in let whole = k.whole (omega (arith, writes)) in
-      let here : i ≡ high_word t.limit q (length row) = at ∙ ap (λ (r : List ℕ). high_word t.limit q (length r)) whole in let w : View = record m.0 { rows = record m.0.rows { high = x ∷ [] } } in
-      let short : length row < t.limit = subst (λ (r : List ℕ). length r < t.limit) whole room in (
+      let here : i ≡ high_word t.places q (length row) = at ∙ ap (λ (r : List ℕ). high_word t.places q (length r)) whole in let w : View = record m.0 { rows = record m.0.rows { high = x ∷ [] } } in
+      let short : length row < t.places = subst (λ (r : List ℕ). length r < t.places) whole room in (
         w,
         keeps,
         tt,
@@ -166,11 +166,11 @@ module _ (t : Told) (good : ℕ → Type 0) (S : Type 0) where
           lives = set o.lives q (row_of o.lives q ++ 0 ∷ []);
           wide = o.wide;
           sized = length-set s.words j y ∙ o.sized;
-          told = seats_turn (λ u. 0 < u.limit → u.limit ≡ t.limit) s.views id w (o.told id m.0 me) (λ j u ne e. o.told j u e);
+          told = seats_turn (λ u. 0 < u.places → u.places ≡ t.places) s.views id w (o.told id m.0 me) (λ j u ne e. o.told j u e);
           rooted = has_more o.rows q x t.origin k.near o.row.all o.rooted;
           locks = locks_stay s.words words' s.views id m.0 w o.locks me (λ p h. get_or-set_other s.words j (lock_word p) y 0 (λ e. omega (arith, e, h))) (λ p. omega arith);
           row = rows_grow t o.rows s.words q x k.near (omega (arith, o.sized)) o.row b.2 b.1 d.1 home (reached_successor s o id m c kc x me c-near c-in succ) (subst (λ (l : List ℕ). (a : ℕ) → a < length l → get_or l a 0 ≢ x) whole absent);
-          seats = seats_turn (λ u. SeatOk t.limit (set o.rows q r) words' u.rows) s.views id w
+          seats = seats_turn (λ u. SeatOk t.places (set o.rows q r) words' u.rows) s.views id w
               record {
                 all = length-set m.0.rows.seen q (seen ++ x ∷ []) ∙ k.all;
                 saw = rows_cases o.rows q r (λ p l. StartsWith l (row_of (set m.0.rows.seen q (seen ++ x ∷ [])) p)) o.row.all k.near (subst (StartsWith r) (sym at-seen) (starts-refl r))
@@ -180,19 +180,19 @@ module _ (t : Told) (good : ℕ → Type 0) (S : Type 0) where
                 low = λ z e. absurd (omega (arith, ap length e));
                 high = λ z e. absurd (omega (arith, ap length e));
                 marked = k.marked;
-                marks = λ h a e. far (index_word t.limit q a) (omega arith) ∙ k.marks h a e;
+                marks = λ h a e. far (index_word t.places q a) (omega arith) ∙ k.marks h a e;
               }
-              (λ a u ne e. seat_other t.limit o.rows (set o.rows q r) s.words words' q u.rows (o.seats a u e) (λ is-here. alone s.words s.views id a m.0 u o.locks k.near me e ne b.0 is-here)
+              (λ a u ne e. seat_other t.places o.rows (set o.rows q r) s.words words' q u.rows (o.seats a u e) (λ is-here. alone s.words s.views id a m.0 u o.locks k.near me e ne b.0 is-here)
               (rows_cases o.rows q r (λ p l. StartsWith l (row_of o.rows p)) o.row.all k.near (x ∷ [], refl) (λ p h np. starts-refl (row_of o.rows p))) (λ p np. get_or-set_other o.rows q p r [] np)
-              (λ p a h np f. (far (low_word p a) (omega arith), far (high_word t.limit p a) (omega arith))) (λ p a h np f. far (index_word t.limit p a) (omega arith)));
+              (λ p a h np f. (far (low_word p a) (omega arith), far (high_word t.places p a) (omega arith))) (λ p a h np f. far (index_word t.places p a) (omega arith)));
           added = added_grow t.origin o.rows s.views id q x m.0 w k.near o.row.all o.added me (ap (λ (l : List ℕ). m.0.rows.added ++ place_of q (length l) ∷ []) whole);
-          life = lives_grow t good o.rows o.lives s.words words' s.views id q x m.0 w k.near o.row.all b.2 o.life me (λ p a h. far (life_word t.limit p a) (omega arith)) (λ p. omega arith) refl;
+          life = lives_grow t good o.rows o.lives s.words words' s.views id q x m.0 w k.near o.row.all b.2 o.life me (λ p a h. far (life_word t.places p a) (omega arith)) (λ p. omega arith) refl;
           pending = pending_turn o.lives (set o.lives q (row_of o.lives q ++ 0 ∷ [])) s.words words' s.views id m.0 w o.pending me
               (omega (arith, get_or-set_other s.words j 0 y 0 (λ e. omega (arith, e)), lives_more is_unsettled o.lives q 0 (omega (arith, k.near, o.life.all)), one-announced))
               (omega (arith, lives_more is_settled o.lives q 0 (omega (arith, k.near, o.life.all)))) (omega (arith, lives_more is_settled o.lives q 0 (omega (arith, k.near, o.life.all)))) (omega arith)
               (λ _ none-announced. absurd (omega (arith, none-announced, some-announced))) (λ f. absurd (omega (arith, (o.pending.done id m.0 me f).1, some-announced)));
           counts = count_turn t o.rows (set o.rows q r) s.words words' s.views id m.0 w o.counts me (omega (arith, get_or-set_other s.words j 1 y 0 (λ e. omega (arith, e)), more)) (o.counts.over id m.0 me);
-          index = index_grow t.limit o.rows s.words words' s.views id m.0 w q x o.wide k.near o.row.all o.index me (λ p a h f. far (index_word t.limit p a) (omega arith)) none-unfiled refl b.0 (ap (λ (l : List ℕ). length l + 1) whole);
+          index = index_grow t.places o.rows s.words words' s.views id m.0 w q x o.wide k.near o.row.all o.index me (λ p a h f. far (index_word t.places p a) (omega arith)) none-unfiled refl b.0 (ap (λ (l : List ℕ). length l + 1) whole);
           shares = shares_turn s.views id m.0 w o.shares me refl refl (λ _ u. absurd (omega (arith, u.announced, one-announced)));
         },
         λ x2 low2 high2. ap (λ (z : ℕ). (with_entry m.0 z, m.1)) (one_word x x2 m.0.rows.low m.0.rows.high low high low2 high2),

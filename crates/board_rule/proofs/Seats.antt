@@ -10,12 +10,11 @@ use lib.ListN.{get_elem?}
 use Rattle.atomic_table.specs.Table.{State, Splits, Joins}
 use Rattle.atomic_table.proofs.Lists.{at_set, at_snoc, at_longer, set_here, set_else}
 use Rattle.state_space.specs.Reach.{IsReached}
-use Rattle.state_space.specs.Counts.{Outnumbers}
 use Rattle.board_rule.specs.Layout.{writer, place_of}
 use Rattle.board_rule.specs.Lists.{row_of, StartsWith, total, is_start, longer_row, longer_rows, agree}
 use Rattle.board_rule.specs.Lives.{life_of, life_at, Passes}
 use Rattle.board_rule.specs.Views.{Told}
-use Rattle.board_rule.specs.Rule.{EachSeat, weight, times, claims_on, open_lives, SeatOk, Unfiled, Kept}
+use Rattle.board_rule.specs.Rule.{EachSeat, weight, times, claims_on, open_lives, SeatOk, Unfiled, Kept, Overfills}
 use Rattle.board_rule.specs.Changes.{either_one, both_views, with_half_share, fresh_seat, spent_view}
 use Rattle.board_rule.specs.declared.view.View.{View}
 use Rattle.board_rule.proofs.Sums.{starts-refl, starts-length, total-set, total-append, seats_turn}
@@ -142,16 +141,16 @@ module _ (t : Told) (good : ℕ → Type 0) (S : Type 0) where
   splits id v s o me = let w = with_half_share v in let u = fresh_seat v in let k = o.seats id v me in let left = set s.views id w in let vs = left ++ u ∷ [] in
       let each : (F : View → Type 0) → EachSeat F s.views → F w → F u → EachSeat F vs = λ F old one two j x e. ⊎_elim (λ h. seats_turn F s.views id w one (λ a y ne f. old a y f) j x h) (λ h. subst F h two) (at_snoc left u x j e) in
       let same : (g : View → ℕ) → g w ≡ g v → g u ≡ 0 → total g vs ≡ total g s.views = λ g like none. omega (arith, total-append g left (u ∷ []), total-set g s.views id v w me, like, none) in
-      let stands = (index_stay t.limit o.rows s.words s.words s.views id v w o.wide o.index me (λ q j h b. refl) (λ q j h b held writes owes. inr (held, writes, owes))).stands in record {
+      let stands = (index_stay t.places o.rows s.words s.words s.views id v w o.wide o.index me (λ q j h b. refl) (λ q j h b held writes owes. inr (held, writes, owes))).stands in record {
         rows = o.rows;
         lives = o.lives;
         wide = o.wide;
         sized = o.sized;
-        told = each (λ x. 0 < x.limit → x.limit ≡ t.limit) o.told (o.told id v me) (o.told id v me);
+        told = each (λ x. 0 < x.places → x.places ≡ t.places) o.told (o.told id v me) (o.told id v me);
         rooted = o.rooted;
         locks = λ q h. (omega (arith, (o.locks q h).0, same (weight q) refl (weight_idle q u refl)), (o.locks q h).1);
         row = o.row;
-        seats = each (λ x. SeatOk t.limit o.rows s.words x.rows) o.seats k (seat_free t.limit o.rows s.words u.rows k.all k.saw k.near refl refl refl);
+        seats = each (λ x. SeatOk t.places o.rows s.words x.rows) o.seats k (seat_free t.places o.rows s.words u.rows k.all k.saw k.near refl refl refl);
         added = record { once = λ p. omega (arith, o.added.once p, same (times p) refl refl); many = omega (arith, o.added.many, same (λ x. length x.rows.added) refl refl) };
         life = record {
           all = o.life.all;
@@ -175,17 +174,17 @@ module _ (t : Told) (good : ℕ → Type 0) (S : Type 0) where
         };
         counts = record {
           count = omega (arith, o.counts.count, same (λ x. x.count.uncounted) refl refl);
-          over = each (λ x. x.count.over ≡ 1 → Outnumbers (IsReached t.next t.origin) t.limit) o.counts.over (o.counts.over id v me) (o.counts.over id v me);
+          over = each (λ x. x.count.over ≡ 1 → Overfills (IsReached t.next t.origin) t.limit t.places) o.counts.over (o.counts.over id v me) (o.counts.over id v me);
         };
         index = record {
-          places = o.index.places;
+          named = o.index.named;
           stands = λ q j h b. ⊎_elim (λ st. inl st) (λ d. inr (d.0, d.1, at_longer left (u ∷ []) d.0 d.1 d.2, d.3, d.4, d.5)) (stands q j h b);
         };
         shares = shares_split s.views id v o.shares me;
       }
 
   -- what joining needs, at the shard of the seat that stays
-  joins_at : (id other : ℕ) (v w : View) → w.rows.right ≡ 0 → w.lives.claims ≡ 0 → w.pending.announced ≡ 0 → w.pending.owed ≡ 0 → w.count.uncounted ≡ 0 → 0 < v.limit → Joins Rule id v other w (joined_at v w v.rows.held) spent_view
+  joins_at : (id other : ℕ) (v w : View) → w.rows.right ≡ 0 → w.lives.claims ≡ 0 → w.pending.announced ≡ 0 → w.pending.owed ≡ 0 → w.count.uncounted ≡ 0 → 0 < v.places → Joins Rule id v other w (joined_at v w v.rows.held) spent_view
   joins_at id other v w no-right no-claim none-announced none-owed none-uncounted wide s o me apart it = let both = joined_at v w v.rows.held in let vs = set (set s.views id both) other spent_view in
       let at-w : get_elem? s.views other ≡ some w = ⊎_elim (λ e. absurd (apart e.0)) (λ e. e.1) (at_set s.views id other both w it) in
       let k = o.seats id v me in let l = o.seats other w at-w in
@@ -197,11 +196,11 @@ module _ (t : Told) (good : ℕ → Type 0) (S : Type 0) where
         lives = o.lives;
         wide = o.wide;
         sized = o.sized;
-        told = each (λ x. 0 < x.limit → x.limit ≡ t.limit) (o.told id v me) (λ h. absurd (omega (arith, h))) o.told;
+        told = each (λ x. 0 < x.places → x.places ≡ t.places) (o.told id v me) (λ h. absurd (omega (arith, h))) o.told;
         rooted = o.rooted;
         locks = λ q h. (omega (arith, (o.locks q h).0, same (weight q) refl (weight_idle q w no-right) (weight_idle q spent_view refl)), (o.locks q h).1);
         row = o.row;
-        seats = each (λ x. SeatOk t.limit o.rows s.words x.rows)
+        seats = each (λ x. SeatOk t.places o.rows s.words x.rows)
             record {
               all = merged_length v.rows.seen w.rows.seen ∙ k.all;
               saw = λ q h. merged_at (StartsWith (row_of o.rows q)) v.rows.seen w.rows.seen q (k.saw q h) (l.saw q h);
@@ -212,7 +211,7 @@ module _ (t : Told) (good : ℕ → Type 0) (S : Type 0) where
               marked = k.marked;
               marks = k.marks;
             }
-            (seat_free t.limit o.rows s.words spent_view.rows refl (λ q h. subst (StartsWith (row_of o.rows q)) (sym (nils 13 q)) (row_of o.rows q, refl)) (omega arith) refl refl refl)
+            (seat_free t.places o.rows s.words spent_view.rows refl (λ q h. subst (StartsWith (row_of o.rows q)) (sym (nils 13 q)) (row_of o.rows q, refl)) (omega arith) refl refl refl)
             o.seats;
         added = record {
           once = λ p. let mine : times p both ≡ times p v + times p w = total-append (λ x. cond (eqb x p) 1 0) v.rows.added w.rows.added in omega (arith, o.added.once p, sum (times p), mine);
@@ -241,17 +240,17 @@ module _ (t : Told) (good : ℕ → Type 0) (S : Type 0) where
         };
         counts = record {
           count = omega (arith, o.counts.count, same (λ x. x.count.uncounted) refl none-uncounted refl);
-          over = each (λ x. x.count.over ≡ 1 → Outnumbers (IsReached t.next t.origin) t.limit) (λ f. ⊎_elim (λ h. o.counts.over id v me h) (λ h. o.counts.over other w at-w h) (one_of_two v.count.over w.count.over f)) (λ f. absurd (omega (arith, f))) o.counts.over;
+          over = each (λ x. x.count.over ≡ 1 → Overfills (IsReached t.next t.origin) t.limit t.places) (λ f. ⊎_elim (λ h. o.counts.over id v me h) (λ h. o.counts.over other w at-w h) (one_of_two v.count.over w.count.over f)) (λ f. absurd (omega (arith, f))) o.counts.over;
         };
         index = record {
-          places = o.index.places;
+          named = o.index.named;
           stands = λ q j h b. ⊎_elim (λ st. inl st) (λ d. inr (unfiled_on s.views q j id other v w both spent_view me at-w apart refl refl refl no-right d)) (o.index.stands q j h b);
         };
         shares = shares_join s.views id other v w both o.shares me at-w it refl refl wide;
       }
 
   -- the seat given up has no right, no claim and no debt
-  pub joins : (id other : ℕ) (v w : View) → w.rows.right ≡ 0 → w.lives.claims ≡ 0 → w.pending.announced ≡ 0 → w.pending.owed ≡ 0 → w.count.uncounted ≡ 0 → 0 < v.limit → Joins Rule id v other w (both_views v w) spent_view
+  pub joins : (id other : ℕ) (v w : View) → w.rows.right ≡ 0 → w.lives.claims ≡ 0 → w.pending.announced ≡ 0 → w.pending.owed ≡ 0 → w.count.uncounted ≡ 0 → 0 < v.places → Joins Rule id v other w (both_views v w) spent_view
   joins id other v w a b c d e f s o me apart it =
       let at-w : get_elem? s.views other ≡ some w = ⊎_elim (λ h. absurd (apart h.0)) (λ h. h.1) (at_set s.views id other (both_views v w) w it) in let k = o.seats id v me in let l = o.seats other w at-w in
       let agreed : agree v.rows.seen w.rows.seen ≡ true = beginnings_agree o.rows v.rows.seen w.rows.seen (k.all ∙ sym o.row.all) (l.all ∙ sym o.row.all) (λ q h. k.saw q (omega (arith, h, o.row.all))) (λ q h. l.saw q (omega (arith, h, o.row.all))) in

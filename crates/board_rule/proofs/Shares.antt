@@ -35,13 +35,13 @@ portion_positive : (s : Share) (k : ℕ) → 0 < s.parts → 0 < portion s k
 portion_positive s k some-part = mul-pos some-part (pow_pos (k - s.cuts))
 
 -- a step after which the seat's share is as it was
-pub shares_turn : (views : List View) (i : ℕ) (v w : View) → SharesOk views → get_elem? views i ≡ some v → w.share ≡ v.share → w.limit ≡ v.limit → (v.limit ≡ 0 → IsBare v → IsBare w) → SharesOk (set views i w)
+pub shares_turn : (views : List View) (i : ℕ) (v w : View) → SharesOk views → get_elem? views i ≡ some v → w.share ≡ v.share → w.places ≡ v.places → (v.places ≡ 0 → IsBare v → IsBare w) → SharesOk (set views i w)
 shares_turn views i v w o me same told bare = record {
   from = o.from;
   cut = seats_turn (λ u. u.share.cuts ≤ o.from) views i w (omega (arith, ap (λ (s : Share). s.cuts) same, o.cut i v me)) (λ j u ne e. o.cut j u e);
   whole = λ k h. (let z : total (λ u. portion u.share k) (set views i w) ≡ total (λ u. portion u.share k) views = omega (arith, total-set (λ u. portion u.share k) views i v w me, ap (λ (s : Share). portion s k) same) in z) ∙ o.whole k h;
-  positive = seats_turn (λ u. 0 < u.limit → 0 < u.share.parts) views i w (λ wide. omega (arith, ap (λ (s : Share). s.parts) same, o.positive i v me (omega (arith, told, wide)))) (λ j u ne e. o.positive j u e);
-  bare = seats_turn (λ u. u.limit ≡ 0 → IsBare u) views i w (λ none. let z : v.limit ≡ 0 = sym told ∙ none in bare z (o.bare i v me z)) (λ j u ne e. o.bare j u e);
+  positive = seats_turn (λ u. 0 < u.places → 0 < u.share.parts) views i w (λ wide. omega (arith, ap (λ (s : Share). s.parts) same, o.positive i v me (omega (arith, told, wide)))) (λ j u ne e. o.positive j u e);
+  bare = seats_turn (λ u. u.places ≡ 0 → IsBare u) views i w (λ none. let z : v.places ≡ 0 = sym told ∙ none in bare z (o.bare i v me z)) (λ j u ne e. o.bare j u e);
 }
 
 pub shares_split : (views : List View) (i : ℕ) (v : View) → SharesOk views → get_elem? views i ≡ some v → SharesOk (set views i (with_half_share v) ++ fresh_seat v ∷ [])
@@ -51,14 +51,14 @@ shares_split views i v o me = let w = with_half_share v in let u = fresh_seat v 
       cut = each (λ x. x.share.cuts ≤ n) (λ j x e. omega (arith, o.cut j x e)) (omega (arith, o.cut i v me)) (omega (arith, o.cut i v me));
       whole = λ k h. let g : View → ℕ = λ x. portion x.share k in
           (let z : total g (vs ++ u ∷ []) ≡ total g views = omega (arith, total-append g vs (u ∷ []), total-set g views i v w me, portion_half v.share k (omega (arith, h, o.cut i v me))) in z) ∙ o.whole k (omega (arith, h));
-      positive = each (λ x. 0 < x.limit → 0 < x.share.parts) o.positive (o.positive i v me) (o.positive i v me);
-      bare = each (λ x. x.limit ≡ 0 → IsBare x) o.bare
+      positive = each (λ x. 0 < x.places → 0 < x.share.parts) o.positive (o.positive i v me) (o.positive i v me);
+      bare = each (λ x. x.places ≡ 0 → IsBare x) o.bare
           (λ none. let b = o.bare i v me none in record { added = b.added; claims = b.claims; given_up = b.given_up; announced = b.announced; owed = b.owed; verdicts = b.verdicts; uncounted = b.uncounted })
           (λ none. record { added = refl; claims = refl; given_up = refl; announced = refl; owed = refl; verdicts = refl; uncounted = refl });
     }
 
 pub shares_join : (views : List View) (i j : ℕ) (v w both : View) → SharesOk views → get_elem? views i ≡ some v → get_elem? views j ≡ some w → get_elem? (set views i both) j ≡ some w
-    → both.share ≡ both_shares v.share w.share → both.limit ≡ v.limit → 0 < v.limit → SharesOk (set (set views i both) j spent_view)
+    → both.share ≡ both_shares v.share w.share → both.places ≡ v.places → 0 < v.places → SharesOk (set (set views i both) j spent_view)
 shares_join views i j v w both o me it still sum told wide = let vs = set (set views i both) j spent_view in let a = o.cut i v me in let b = o.cut j w it in
     let top : both.share.cuts ≡ max v.share.cuts w.share.cuts = ap (λ (s : Share). s.cuts) sum in
     let at : (k : ℕ) → o.from ≤ k → portion both.share k ≡ portion v.share k + portion w.share k = λ k h. ap (λ (s : Share). portion s k) sum ∙ portion_both v.share w.share k (omega (arith, a, h)) (omega (arith, b, h)) in
@@ -69,8 +69,8 @@ shares_join views i j v w both o me it still sum told wide = let vs = set (set v
       cut = each (λ x. x.share.cuts ≤ o.from) (omega (arith, top, a, b)) (omega arith) o.cut;
       whole = λ k h. let g : View → ℕ = λ x. portion x.share k in
           (let z : total g vs ≡ total g views = omega (arith, total-set g views i v both me, total-set g (set views i both) j w spent_view still, at k h) in z) ∙ o.whole k h;
-      positive = each (λ x. 0 < x.limit → 0 < x.share.parts) (λ _. omega (arith, parts, portion_positive v.share (max v.share.cuts w.share.cuts) (o.positive i v me wide))) (λ none. absurd (omega (arith, none))) o.positive;
-      bare = each (λ x. x.limit ≡ 0 → IsBare x) (λ none. absurd (omega (arith, none, told, wide)))
+      positive = each (λ x. 0 < x.places → 0 < x.share.parts) (λ _. omega (arith, parts, portion_positive v.share (max v.share.cuts w.share.cuts) (o.positive i v me wide))) (λ none. absurd (omega (arith, none))) o.positive;
+      bare = each (λ x. x.places ≡ 0 → IsBare x) (λ none. absurd (omega (arith, none, told, wide)))
           (λ none. record { added = refl; claims = refl; given_up = refl; announced = refl; owed = refl; verdicts = refl; uncounted = refl }) o.bare;
     }
 
@@ -86,7 +86,7 @@ total_only g (x ∷ xs) (suc i) v e none = omega (arith, none 0 x (λ z. omega (
 
 -- a seat that has the whole board is alone: nothing of another counts
 others_bare : (views : List View) (i : ℕ) (v : View) → SharesOk views → get_elem? views i ≡ some v → IsWhole v.share → (j : ℕ) (u : View) → j ≢ i → get_elem? views j ≡ some u → IsBare u
-others_bare views i v o me whole j u ne e = let k = o.from in dite (ℕ_discrete u.limit 0) (λ none. o.bare j u e none)
+others_bare views i v o me whole j u ne e = let k = o.from in dite (ℕ_discrete u.places 0) (λ none. o.bare j u e none)
     (λ wide. let all : total (λ x. portion x.share k) views ≡ portion v.share k = o.whole k (omega arith) ∙ sym (portion_whole v.share k (o.cut i v me) whole) in
     absurd (omega (arith, all, terms_le (λ x. portion x.share k) views i j v u ne me e, portion_positive u.share k (o.positive j u e (omega (arith, wide))))))
 

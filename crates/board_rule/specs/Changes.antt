@@ -51,12 +51,13 @@ opening_rows start = slice_set (replicate 13 []) (start % 13) (start ∷ [])
 
 -- its words
 abbrev pub opening_words : ℕ → ℕ → List ℕ
-opening_words limit start = let q = start % 13 in
-    slice_set (slice_set (slice_set (slice_set (slice_set (slice_set (replicate (size_for limit) 0) 0 1) 1 1) (length_word q) 1) (low_word q 0) (start % half)) (high_word limit q 0) (start / half)) (index_word limit q (slot limit start 0)) 1
+opening_words places start = let q = start % 13 in
+    slice_set (slice_set (slice_set (slice_set (slice_set (slice_set (replicate (size_for places) 0) 0 1) 1 1) (length_word q) 1) (low_word q 0) (start % half)) (high_word places q 0) (start / half)) (index_word places q (slot places start 0)) 1
 
-abbrev pub first_view : ℕ → ℕ → View
-first_view limit start = record {
+abbrev pub first_view : ℕ → ℕ → ℕ → View
+first_view limit places start = record {
   limit = limit;
+  places = places;
   rows = record { seen = opening_rows start; held = 0; right = 0; low = []; high = []; marks = []; unfiled = 0; added = [] };
   lives = record { claims = 0; place = 0; given_up = []; learned = [] };
   pending = record { announced = 0; owed = 0; verdicts = 0; finished = 0 };
@@ -86,10 +87,11 @@ fresh_seat v = record v {
   share = half_of v.share;
 }
 
--- what a seat that was given up leaves. It is one constant, so it knows no limit
+-- what a seat that was given up leaves. It is one constant, so it knows no board
 abbrev pub spent_view : View
 spent_view = record {
   limit = 0;
+  places = 0;
   rows = record { seen = replicate 13 []; held = 0; right = 0; low = []; high = []; marks = []; unfiled = 0; added = [] };
   lives = record { claims = 0; place = 0; given_up = []; learned = [] };
   pending = record { announced = 0; owed = 0; verdicts = 0; finished = 0 };

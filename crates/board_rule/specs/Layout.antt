@@ -1,5 +1,5 @@
 -- Where the words of a board lie in its table.
--- Word 0 is pending, word 1 the count, word 2 the stop. From word 8 on come 13 locks and 13 lengths of rows, each of them 8 words behind the one before, so that no two stand in one line of a cache; then four blocks of 13 * limit words: the low halves of the entries, their high halves, their lives, and the index. In a block the shards take turns, so that each address is linear in the place.
+-- Word 0 is pending, word 1 the count, word 2 the stop. From word 8 on come 13 locks and 13 lengths of rows, each of them 8 words behind the one before, so that no two stand in one line of a cache; then four blocks of 13 * places words: the low halves of the entries, their high halves, their lives, and the index. In a block the shards take turns, so that each address is linear in the place.
 use Rattle.std.specs.Prelude.{ℕ, ◌+◌, ◌*◌, ◌/◌, ◌%◌, cond, nat_lt}
 
 -- a lock's word while a seat has the write right: 2 ^ 32
@@ -22,16 +22,16 @@ low_word q k = 216 + 13 * k + q
 
 -- and the high 64 bits
 abbrev pub high_word : ℕ → ℕ → ℕ → ℕ
-high_word limit q k = 216 + 13 * limit + 13 * k + q
+high_word places q k = 216 + 13 * places + 13 * k + q
 
 abbrev pub life_word : ℕ → ℕ → ℕ → ℕ
-life_word limit q k = 216 + 26 * limit + 13 * k + q
+life_word places q k = 216 + 26 * places + 13 * k + q
 
 abbrev pub index_word : ℕ → ℕ → ℕ → ℕ
-index_word limit q j = 216 + 39 * limit + 13 * j + q
+index_word places q j = 216 + 39 * places + 13 * j + q
 
 abbrev pub size_for : ℕ → ℕ
-size_for limit = 216 + 52 * limit
+size_for places = 216 + 52 * places
 
 -- one number for the place k of shard q
 abbrev pub place_of : ℕ → ℕ → ℕ
@@ -39,8 +39,8 @@ place_of q k = 13 * k + q
 
 -- the t-th index word at which a word is looked for
 abbrev pub slot : ℕ → ℕ → ℕ → ℕ
-slot limit x t = (x / 13 + t) % limit
+slot places x t = (x / 13 + t) % places
 
 -- how many index words a word has
 abbrev pub window : ℕ → ℕ
-window limit = cond (nat_lt limit 8) limit 8
+window places = cond (nat_lt places 8) places 8

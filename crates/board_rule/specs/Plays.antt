@@ -25,7 +25,7 @@ pub record Takes (v : View) (right q : ℕ) (w : View) : Type 0 where
   pub marks : List ℕ
   pub is : w ≡ with_right v q row marks right
   pub more : StartsWith row (row_of v.rows.seen q)
-  pub short : length row ≤ v.limit
+  pub short : length row ≤ v.places
 
 -- an index word of shard q named a place, or none at 0: the places up to it are seen
 pub record Scans (v : View) (q named : ℕ) (w : View) : Type 0 where
@@ -33,7 +33,7 @@ pub record Scans (v : View) (q named : ℕ) (w : View) : Type 0 where
   pub is : w ≡ with_seen v (slice_set v.rows.seen q row)
   pub more : StartsWith row (row_of v.rows.seen q)
   pub long : length row ≡ max (length (row_of v.rows.seen q)) named
-  pub within : named ≤ v.limit
+  pub within : named ≤ v.places
 
 module _ {S : Type 0} where
   abbrev pub Peeks : Step S → Me S View → ℕ → Me S View → Type 0
@@ -60,14 +60,14 @@ module _ {S : Type 0} where
   Leaves st m r n = n ≡ (without_right m.0, m.1)
 
   abbrev pub Measures : Step S → Me S View → ℕ → Me S View → Type 0
-  Measures st m r n = (n ≡ m) × ((q : ℕ) → st.word ≡ length_word q → m.0.rows.held ≡ q → (r ≡ length (row_of m.0.rows.seen q)) × (r ≤ m.0.limit))
+  Measures st m r n = (n ≡ m) × ((q : ℕ) → st.word ≡ length_word q → m.0.rows.held ≡ q → (r ≡ length (row_of m.0.rows.seen q)) × (r ≤ m.0.places))
 
   abbrev pub ReadsLow : (ℕ → Type 0) → Step S → Me S View → ℕ → Me S View → Type 0
   ReadsLow reached st m r n = (n ≡ m) × ((q k : ℕ) → st.word ≡ low_word q k → q < 13 → k < length (row_of m.0.rows.seen q)
       → (r ≡ slice_index (row_of m.0.rows.seen q) k % half) × reached (slice_index (row_of m.0.rows.seen q) k))
 
   abbrev pub ReadsHigh : Step S → Me S View → ℕ → Me S View → Type 0
-  ReadsHigh st m r n = (n ≡ m) × ((q k : ℕ) → st.word ≡ high_word m.0.limit q k → q < 13 → k < length (row_of m.0.rows.seen q) → r ≡ slice_index (row_of m.0.rows.seen q) k / half)
+  ReadsHigh st m r n = (n ≡ m) × ((q k : ℕ) → st.word ≡ high_word m.0.places q k → q < 13 → k < length (row_of m.0.rows.seen q) → r ≡ slice_index (row_of m.0.rows.seen q) k / half)
 
   abbrev pub LaysLow : Step S → Me S View → ℕ → Me S View → Type 0
   LaysLow st m r n = n ≡ (record m.0 { rows = record m.0.rows { low = r ∷ [] } }, m.1)
@@ -80,18 +80,18 @@ module _ {S : Type 0} where
 
   -- under a right, with and without a debt to the index
   abbrev pub ReadsMark : Step S → Me S View → ℕ → Me S View → Type 0
-  ReadsMark st m r n = (n ≡ m) × ((j : ℕ) → st.word ≡ index_word m.0.limit m.0.rows.held j → j < m.0.limit → (r ≡ slice_index m.0.rows.marks j) × (r ≤ length (row_of m.0.rows.seen m.0.rows.held)))
-      × (m.0.rows.unfiled ≡ 0 → Complete m.0.limit (row_of m.0.rows.seen m.0.rows.held) m.0.rows.marks)
+  ReadsMark st m r n = (n ≡ m) × ((j : ℕ) → st.word ≡ index_word m.0.places m.0.rows.held j → j < m.0.places → (r ≡ slice_index m.0.rows.marks j) × (r ≤ length (row_of m.0.rows.seen m.0.rows.held)))
+      × (m.0.rows.unfiled ≡ 0 → Complete m.0.places (row_of m.0.rows.seen m.0.rows.held) m.0.rows.marks)
 
   -- with no right
   abbrev pub ScansIndex : Step S → Me S View → ℕ → Me S View → Type 0
-  ScansIndex st m r n = (n.1 ≡ m.1) × ((q j : ℕ) → st.word ≡ index_word m.0.limit q j → q < 13 → j < m.0.limit → Scans m.0 q r n.0)
+  ScansIndex st m r n = (n.1 ≡ m.1) × ((q j : ℕ) → st.word ≡ index_word m.0.places q j → q < 13 → j < m.0.places → Scans m.0 q r n.0)
 
   abbrev pub Files : Step S → Me S View → ℕ → Me S View → Type 0
   Files st m r n = (marks : List ℕ) × (n ≡ (record m.0 { rows = record m.0.rows { marks = marks; unfiled = 0 } }, m.1))
 
   abbrev pub Claims : Step S → Me S View → ℕ → Me S View → Type 0
-  Claims st m r n = (n.1 ≡ m.1) × ((q k : ℕ) → st.word ≡ life_word m.0.limit q k → q < 13 → (r ≡ 0 → (n.0 ≡ with_claim m.0 (place_of q k) Claimed) × (Contains m.0.lives.given_up (place_of q k) → ⊥)) × (r ≢ 0 → n.0 ≡ with_learned m.0 (place_of q k) Claimed))
+  Claims st m r n = (n.1 ≡ m.1) × ((q k : ℕ) → st.word ≡ life_word m.0.places q k → q < 13 → (r ≡ 0 → (n.0 ≡ with_claim m.0 (place_of q k) Claimed) × (Contains m.0.lives.given_up (place_of q k) → ⊥)) × (r ≢ 0 → n.0 ≡ with_learned m.0 (place_of q k) Claimed))
 
   abbrev pub Settles : Step S → Me S View → ℕ → Me S View → Type 0
   Settles st m r n = n ≡ (record (with_learned (without_claim m.0) m.0.lives.place (life_of r)) { pending = record m.0.pending { owed = m.0.pending.owed + 1; verdicts = m.0.pending.verdicts + 1 } }, m.1)

@@ -4,10 +4,10 @@ use Rattle.board_rule.specs.Layout.{half, length_word, low_word, high_word, life
 use Rattle.board_rule.specs.Lists.{first_values}
 
 abbrev pub entry_of : ℕ → List ℕ → ℕ → ℕ → ℕ
-entry_of limit words q k = slice_index words (low_word q k) + slice_index words (high_word limit q k) * half
+entry_of places words q k = slice_index words (low_word q k) + slice_index words (high_word places q k) * half
 
 abbrev pub rows_of : ℕ → List ℕ → List (List ℕ)
-rows_of limit words = first_values (λ q. first_values (entry_of limit words q) (slice_index words (length_word q))) 13
+rows_of places words = first_values (λ q. first_values (entry_of places words q) (slice_index words (length_word q))) 13
 
 abbrev pub lives_of : ℕ → List ℕ → List (List ℕ)
-lives_of limit words = first_values (λ q. first_values (λ k. slice_index words (life_word limit q k)) (slice_index words (length_word q))) 13
+lives_of places words = first_values (λ q. first_values (λ k. slice_index words (life_word places q k)) (slice_index words (length_word q))) 13

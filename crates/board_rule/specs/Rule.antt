@@ -27,28 +27,28 @@ LocksOk words views = (q : ℕ) → q < 13 → (total (weight q) views ≤ slice
 -- Rows: the words have them, with entries that are reached, each once, in the shard of its number.
 pub record RowsOk (t : Told) (rows : List (List ℕ)) (words : List ℕ) : Type 0 where
   pub all : length rows ≡ 13
-  pub short : (q : ℕ) → q < 13 → length (row_of rows q) ≤ t.limit
+  pub short : (q : ℕ) → q < 13 → length (row_of rows q) ≤ t.places
   pub stored : (q : ℕ) → q < 13 → slice_index words (length_word q) ≡ length (row_of rows q)
   pub lows : (q k : ℕ) → q < 13 → k < length (row_of rows q) → slice_index words (low_word q k) ≡ slice_index (row_of rows q) k % half
-  pub highs : (q k : ℕ) → q < 13 → k < length (row_of rows q) → slice_index words (high_word t.limit q k) ≡ slice_index (row_of rows q) k / half
+  pub highs : (q k : ℕ) → q < 13 → k < length (row_of rows q) → slice_index words (high_word t.places q k) ≡ slice_index (row_of rows q) k / half
   pub at_home : (q k : ℕ) → q < 13 → k < length (row_of rows q) → slice_index (row_of rows q) k % 13 ≡ q
   pub apart : (q j k : ℕ) → q < 13 → j < length (row_of rows q) → k < length (row_of rows q) → slice_index (row_of rows q) j ≡ slice_index (row_of rows q) k → j ≡ k
   pub reached : (q k : ℕ) → q < 13 → k < length (row_of rows q) → IsReached t.next t.origin (slice_index (row_of rows q) k)
 
 -- a half of a word lies behind the row, and only a writer puts it there
 abbrev pub Behind : ℕ → List ℕ → ℕ → List ℕ → List ℕ → ℕ → Type 0
-Behind limit row right words part address = (x : ℕ) → part ≡ x ∷ [] → (right ≡ writer) × (slice_index words address ≡ x) × (length row < limit)
+Behind places row right words part address = (x : ℕ) → part ≡ x ∷ [] → (right ≡ writer) × (slice_index words address ≡ x) × (length row < places)
 
 -- Seats: what one has seen is a beginning of each row, under a right the whole row and the index.
-pub record SeatOk (limit : ℕ) (rows : List (List ℕ)) (words : List ℕ) (r : OnRows) : Type 0 where
+pub record SeatOk (places : ℕ) (rows : List (List ℕ)) (words : List ℕ) (r : OnRows) : Type 0 where
   pub all : length r.seen ≡ 13
   pub saw : (q : ℕ) → q < 13 → StartsWith (row_of rows q) (row_of r.seen q)
   pub near : r.held < 13
   pub whole : 0 < r.right → row_of r.seen r.held ≡ row_of rows r.held
-  pub low : Behind limit (row_of rows r.held) r.right words r.low (low_word r.held (length (row_of rows r.held)))
-  pub high : Behind limit (row_of rows r.held) r.right words r.high (high_word limit r.held (length (row_of rows r.held)))
-  pub marked : 0 < r.right → length r.marks ≡ limit
-  pub marks : 0 < r.right → (j : ℕ) → j < limit → slice_index words (index_word limit r.held j) ≡ slice_index r.marks j
+  pub low : Behind places (row_of rows r.held) r.right words r.low (low_word r.held (length (row_of rows r.held)))
+  pub high : Behind places (row_of rows r.held) r.right words r.high (high_word places r.held (length (row_of rows r.held)))
+  pub marked : 0 < r.right → length r.marks ≡ places
+  pub marks : 0 < r.right → (j : ℕ) → j < places → slice_index words (index_word places r.held j) ≡ slice_index r.marks j
 
 -- how often the place p is among these
 abbrev pub times_among : ℕ → List ℕ → ℕ
@@ -83,8 +83,8 @@ claims_on p v = claims_at p v + times_among p v.lives.given_up
 pub record LivesOk (t : Told) (good : ℕ → Type 0) (rows lives : List (List ℕ)) (words : List ℕ) (views : List View) : Type 0 where
   pub all : length lives ≡ 13
   pub even : (q : ℕ) → q < 13 → length (row_of lives q) ≡ length (row_of rows q)
-  pub shown : (q k : ℕ) → q < 13 → k < length (row_of lives q) → slice_index words (life_word t.limit q k) ≡ slice_index (row_of lives q) k
-  pub fresh : (q k : ℕ) → q < 13 → length (row_of lives q) ≤ k → k < t.limit → slice_index words (life_word t.limit q k) ≡ 0
+  pub shown : (q k : ℕ) → q < 13 → k < length (row_of lives q) → slice_index words (life_word t.places q k) ≡ slice_index (row_of lives q) k
+  pub fresh : (q k : ℕ) → q < 13 → length (row_of lives q) ≤ k → k < t.places → slice_index words (life_word t.places q k) ≡ 0
   pub claimed : (q k : ℕ) → q < 13 → total (claims_on (place_of q k)) views ≡ is_claimed (slice_index (row_of lives q) k)
   pub four : (q k : ℕ) → q < 13 → slice_index (row_of lives q) k ≤ 3
   pub clean : (q k : ℕ) → q < 13 → slice_index (row_of lives q) k ≡ 2 → good (slice_index (row_of rows q) k)
@@ -104,27 +104,31 @@ pub record PendingOk (lives : List (List ℕ)) (words : List ℕ) (views : List 
   pub by_writers : EachSeat (λ v. v.pending.announced * writer ≤ v.rows.right) views
   pub done : EachSeat (λ v. v.pending.finished ≡ 1 → (open_lives lives ≡ 0) × (total (λ u. u.pending.announced) views ≡ 0)) views
 
+-- P holds of more words than a limit, or of more words of one shard than a row has places
+abbrev pub Overfills : (ℕ → Type 0) → ℕ → ℕ → Type 0
+Overfills P limit places = Outnumbers P limit ⊎ (q : ℕ) × Outnumbers (λ word. P word × (word % 13 ≡ q)) places
+
 -- Count: with what is to be counted yet it is the number of entries, and a seat that knows over is right.
 pub record CountOk (t : Told) (rows : List (List ℕ)) (words : List ℕ) (views : List View) : Type 0 where
   pub count : slice_index words 1 + total (λ v. v.count.uncounted) views ≡ total length rows
-  pub over : EachSeat (λ v. v.count.over ≡ 1 → Outnumbers (IsReached t.next t.origin) t.limit) views
+  pub over : EachSeat (λ v. v.count.over ≡ 1 → Overfills (IsReached t.next t.origin) t.limit t.places) views
 
 -- the place k of the word x stands before each zero among the word's index words
 abbrev pub Stands : ℕ → (ℕ → ℕ) → ℕ → ℕ → Type 0
-Stands limit mark x k = (t : ℕ) → t < window limit → mark (slot limit x t) ≡ 0 → (u : ℕ) × (u < t) × (mark (slot limit x u) ≡ k + 1)
+Stands places mark x k = (t : ℕ) → t < window places → mark (slot places x t) ≡ 0 → (u : ℕ) × (u < t) × (mark (slot places x u) ≡ k + 1)
 
 -- a writer has published the place and not put it into the index yet
 abbrev pub Unfiled : List View → ℕ → ℕ → Type 0
 Unfiled views q k = (j : ℕ) × (v : View) × (get_elem? views j ≡ some v) × (v.rows.held ≡ q) × (v.rows.right ≡ writer) × (v.rows.unfiled ≡ k + 1)
 
 -- Index: each word of it is 0 or 1 more than a published place, and each published place stands in it but one whose writer is still at it.
-pub record IndexOk (limit : ℕ) (rows : List (List ℕ)) (words : List ℕ) (views : List View) : Type 0 where
-  pub places : (q j : ℕ) → q < 13 → j < limit → slice_index words (index_word limit q j) ≤ length (row_of rows q)
-  pub stands : (q k : ℕ) → q < 13 → k < length (row_of rows q) → Stands limit (λ j. slice_index words (index_word limit q j)) (slice_index (row_of rows q) k) k ⊎ Unfiled views q k
+pub record IndexOk (places : ℕ) (rows : List (List ℕ)) (words : List ℕ) (views : List View) : Type 0 where
+  pub named : (q j : ℕ) → q < 13 → j < places → slice_index words (index_word places q j) ≤ length (row_of rows q)
+  pub stands : (q k : ℕ) → q < 13 → k < length (row_of rows q) → Stands places (λ j. slice_index words (index_word places q j)) (slice_index (row_of rows q) k) k ⊎ Unfiled views q k
 
 -- what a seat with a right knows of the index: a zero among a word's index words shows that the row lacks the word, where none before it names its place
 abbrev pub Complete : ℕ → List ℕ → List ℕ → Type 0
-Complete limit row marks = (k : ℕ) → k < length row → Stands limit (slice_index marks) (slice_index row k) k
+Complete places row marks = (k : ℕ) → k < length row → Stands places (slice_index marks) (slice_index row k) k
 
 -- nothing of it counts in a sum over the seats
 pub record IsBare (v : View) : Type 0 where
@@ -145,23 +149,23 @@ pub record SharesOk (views : List View) : Type 0 where
   pub from : ℕ
   pub cut : EachSeat (λ v. v.share.cuts ≤ from) views
   pub whole : (k : ℕ) → from ≤ k → total (λ v. portion v.share k) views ≡ 2 ^ k
-  pub positive : EachSeat (λ v. 0 < v.limit → 0 < v.share.parts) views
-  pub bare : EachSeat (λ v. v.limit ≡ 0 → IsBare v) views
+  pub positive : EachSeat (λ v. 0 < v.places → 0 < v.share.parts) views
+  pub bare : EachSeat (λ v. v.places ≡ 0 → IsBare v) views
 
 pub record Kept (t : Told) (good : ℕ → Type 0) {S : Type 0} (s : State S View) : Type 0 where
   pub rows : List (List ℕ)
   pub lives : List (List ℕ)
-  pub wide : 0 < t.limit
-  pub sized : length s.words ≡ size_for t.limit
-  -- each seat but one that was given up knows the limit
-  pub told : EachSeat (λ v. 0 < v.limit → v.limit ≡ t.limit) s.views
+  pub wide : 0 < t.places
+  pub sized : length s.words ≡ size_for t.places
+  -- each seat but one that was given up knows how many places a row has
+  pub told : EachSeat (λ v. 0 < v.places → v.places ≡ t.places) s.views
   pub rooted : Has rows t.origin
   pub locks : LocksOk s.words s.views
   pub row : RowsOk t rows s.words
-  pub seats : EachSeat (λ v. SeatOk t.limit rows s.words v.rows) s.views
+  pub seats : EachSeat (λ v. SeatOk t.places rows s.words v.rows) s.views
   pub added : AddedOk t.origin rows s.views
   pub life : LivesOk t good rows lives s.words s.views
   pub pending : PendingOk lives s.words s.views
   pub counts : CountOk t rows s.words s.views
-  pub index : IndexOk t.limit rows s.words s.views
+  pub index : IndexOk t.places rows s.words s.views
   pub shares : SharesOk s.views

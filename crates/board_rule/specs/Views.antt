@@ -2,9 +2,10 @@
 use Rattle.std.specs.Prelude.{ℕ, ◌-◌, ◌*◌, ◌^◌, List}
 use Rattle.board_rule.specs.declared.life.Life.{Life}
 
--- what the table is told when it is made: how many entries a row may have, the successors of a word, and the initial word
+-- what the table is told when it is made: how many entries the board may have and how many a row, the successors of a word, and the initial word
 pub record Told : Type 0 where
   pub limit : ℕ
+  pub places : ℕ
   pub next : ℕ → List ℕ
   pub origin : ℕ
 
@@ -50,7 +51,7 @@ pub record OnPending : Type 0 where
 pub record OnCount : Type 0 where
   -- entries that it has published and not counted yet
   pub uncounted : ℕ
-  -- 1 once it knows that more words than the limit are reached
+  -- 1 once it knows that more words are reached than the board may have
   pub over : ℕ
 
 -- a share of the board: of 2 ^ cuts equal parts it has so many

@@ -6,8 +6,10 @@ use std::marker::Model;
 
 /// What a seat knows, one part a subject of the rule. No value of it is made.
 pub struct View {
-    // The board's limit, 0 once the seat is given up.
+    // How many entries the board may have.
     pub ghost limit: { ℕ },
+    // How many of them a row may have, 0 once the seat is given up.
+    pub ghost places: { ℕ },
     pub ghost rows: { OnRows },
     pub ghost lives: { OnLives },
     pub ghost pending: { OnPending },

@@ -5,7 +5,6 @@
 //! keeps no table; what is found is the same.
 #![tactic(auto)]
 
-mod board_limit;
 mod by_sweep;
 mod crashes;
 mod dependencies;

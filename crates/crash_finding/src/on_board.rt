@@ -6,7 +6,6 @@ ghost use Rattle.crash_model.specs.Failing.{CountsClosed};
 ghost use Rattle.crash_finding.specs.Kept.{Fails};
 ghost use Rattle.crash_finding.specs.Limits.{SaysTooMany};
 
-use crate::board_limit::board_limit;
 use crate::crashes::Crashes;
 use crate::dependencies::dependencies;
 use crate::finder::Finder;
@@ -47,8 +46,7 @@ where
         let Some(sets) = count_closed(&deps, limit) else {
             return Err(RunFault::TooMany);
         };
-        let limit = board_limit(sets, limit);
-        match explore(self.rt, self.alloc, &space, limit, self.workers, self.gate) {
+        match explore(self.rt, self.alloc, &space, sets, self.workers, self.gate) {
             Ok(found) => {
                 self.gate.visited(found.total, found.broken.len());
                 Ok(found)

@@ -1,3 +1,5 @@
 pub mod Entries
 pub mod Meeting
+pub mod Overfilling
+pub mod Primes
 pub mod Successors

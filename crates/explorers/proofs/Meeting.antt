@@ -32,7 +32,7 @@ free_after b space is_own before after word put free ok not_over not_busy own ea
     let puts = puts_in word before.seat after.seat put ok not_over not_busy in
     record {
       explored = free.explored;
-      of = (puts.board ∙ free.of.0, puts.limit ∙ free.of.1);
+      of = (puts.board ∙ free.of.0, puts.limit ∙ free.of.1, puts.places ∙ free.of.2);
       free = puts.free;
       own = own;
       met = met_more before.met after.met word before.seat after.seat (put_sees word before.seat after.seat put ok) puts.has each free.met;

@@ -32,6 +32,7 @@ pub puts_in : (x : ℕ) (s w : Known) (put : Put) → PutOk x s w put → put �
 puts_in x s w (New p) (e, sees, named, absent) not-over not-busy = record {
   board = ap (λ (u : Known). u.board) e;
   limit = ap (λ (u : Known). u.limit) e;
+  places = ap (λ (u : Known). u.places) e;
   free = ap (λ (u : Known). u.right) e;
   claims = ap (λ (u : Known). u.claims) e;
   place = ap (λ (u : Known). u.place) e;
@@ -40,6 +41,7 @@ puts_in x s w (New p) (e, sees, named, absent) not-over not-busy = record {
 puts_in x s w (Found p) ((e, sees), named) not-over not-busy = record {
   board = ap (λ (u : Known). u.board) e;
   limit = ap (λ (u : Known). u.limit) e;
+  places = ap (λ (u : Known). u.places) e;
   free = ap (λ (u : Known). u.right) e;
   claims = ap (λ (u : Known). u.claims) e;
   place = ap (λ (u : Known). u.place) e;
@@ -55,7 +57,7 @@ module _ {S : Type 0} (b : Shown S) where
   -- one more successor is an entry that was seen
   pub expands_next : (before : List (List ℕ)) (place : Place) (next : List ℕ) (k x : ℕ) (s w : Known) → Expands b before place next k s → x ≡ get_or next k 0 → SeesOn s.seen w.seen → PutsIn x s w → Expands b before place next (k + 1) w
   expands_next before place next k x s w o is sees put = record {
-    of = (put.board ∙ o.of.0, put.limit ∙ o.of.1);
+    of = (put.board ∙ o.of.0, put.limit ∙ o.of.1, put.places ∙ o.of.2);
     free = put.free;
     claim = (put.claims ∙ o.claim.0, put.place ∙ o.claim.1);
     sees = sees_on_trans before s.seen w.seen o.sees sees;
@@ -65,7 +67,7 @@ module _ {S : Type 0} (b : Shown S) where
   -- where the board is outgrown, the seat is idle
   pub put_over : (x : ℕ) (s w : Known) (put : Put) → IsOf b s → PutOk x s w put → put ≡ Over → IsIdle b w × (w.over ≡ 1)
   put_over x s w put of ok over = let t : PutOk x s w Over = subst (PutOk x s w) over ok in
-      (((ap (λ (u : Known). u.board) t.0 ∙ of.0, ap (λ (u : Known). u.limit) t.0 ∙ of.1), ap (λ (u : Known). u.right) t.0, ap (λ (u : Known). u.claims) t.0), ap (λ (u : Known). u.over) t.0)
+      (((ap (λ (u : Known). u.board) t.0 ∙ of.0, ap (λ (u : Known). u.limit) t.0 ∙ of.1, ap (λ (u : Known). u.places) t.0 ∙ of.2), ap (λ (u : Known). u.right) t.0, ap (λ (u : Known). u.claims) t.0), ap (λ (u : Known). u.over) t.0)
 
   -- the word at k of the list is a successor of the claimed one
   pub expands_successor : (after : ℕ → List ℕ) (before : List (List ℕ)) (place : Place) (k x : ℕ) (s : Known) → HasPlace before place → Expands b before place (after (word_at before place)) k s → k < length (after (word_at before place)) → x ≡ get_or (after (word_at before place)) k 0 → IsSuccessor after s x

@@ -30,6 +30,7 @@ pub record IsReady {S C A : Type 0} (b : Shown S) (s : S) (is_own : S → C → 
 pub record PutsIn (word : ℕ) (before after : Known) : Type 0 where
   pub board : after.board ≡ before.board
   pub limit : after.limit ≡ before.limit
+  pub places : after.places ≡ before.places
   pub free : after.right ≡ 0
   pub claims : after.claims ≡ before.claims
   pub place : after.place ≡ before.place
@@ -43,6 +44,6 @@ pub record Expands {S : Type 0} (b : Shown S) (before : List (List ℕ)) (place 
   pub sees : SeesOn before s.seen
   pub has : (j : ℕ) → j < k → Has s.seen (slice_index next j)
 
--- the seat is idle, and knows that more words than the limit are reached where its worker was told so
+-- the seat is idle, and knows that more words are reached than the board may have where its worker was told so
 abbrev pub IsLeft : {S : Type 0} → Shown S → Left → Type 0
 IsLeft b left = IsIdle b left.seat × (left.is_over ≡ true → left.seat.over ≡ 1)

@@ -1,10 +1,13 @@
 //! From what the workers leave to the answer.
 ghost use Rattle.std.specs.Prelude.{◌≡◌, ℕ, ◌<◌, ◌≤◌, IfOk, IsErrOf};
 ghost use Rattle.std.specs.List.{All};
-ghost use Rattle.patch_sets.specs.Explored.{IsExplored, ReachExceeds};
+ghost use Rattle.state_space.specs.Reach.{IsReached};
+ghost use Rattle.board_rule.specs.Rule.{Overfills};
+ghost use Rattle.patch_sets.specs.Explored.{IsExplored};
 ghost use Rattle.explorers.specs.Ready.{IsLeft};
 
 use crate::collected::collect;
+use crate::rows::Room;
 use crate::worker::Left;
 use patch_sets::explored::{ExploreFault, Explored};
 use seen_board::Board;
@@ -48,28 +51,28 @@ pub(crate) fn join_all<S: Space, A: Allocator>(
     all
 }
 
-/// The answer: what the board holds where it is finished, too many words where a worker was told so, and else want of
-/// memory.
+/// The answer: what the board holds where it is finished, too many words for the board's room where a worker was told
+/// so, and else out of memory.
 pub(crate) fn answer<S: Space, A: Allocator + Copy>(
     alloc: A,
     space: &S,
-    limit: usize,
+    room: Room,
     board: Board<S, A>,
     left: Left,
 ) -> Result<Explored<A>, ExploreFault>
-    requires board { (board.limit ≡ limit) × (board.space ≡ space.now) }
-    requires limit { limit ≤ 32768 }
+    requires board { (board.limit ≡ room.limit) × (board.places ≡ room.places) × (board.space ≡ space.now) }
+    requires small { room.places ≤ 32768 }
     requires left { IsLeft board left }
     ensures found { IfOk result (IsExplored (S.successors space.now) (S.initial space.now) (S.is_good space.now)
-        limit) }
+        room.limit) }
     ensures too_many { IsErrOf result ExploreFault.TooMany
-        → ReachExceeds (S.successors space.now) (S.initial space.now) limit }
+        → Overfills (IsReached (S.successors space.now) (S.initial space.now)) room.limit room.places }
 {
     let Left { mut seat, is_over } = left;
     let is_finished = board.finished(&mut seat);
     let contents = board.close(seat);
     if is_finished {
-        return collect(alloc, space, limit, &contents);
+        return collect(alloc, space, room, &contents);
     }
     if is_over {
         return Err(ExploreFault::TooMany);

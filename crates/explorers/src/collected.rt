@@ -6,6 +6,7 @@ ghost use Rattle.patch_sets.specs.Explored.{IsExplored, ReachExceeds};
 ghost use Rattle.seen_board.specs.Ended.{Entries, Settled, Done};
 ghost use Rattle.explorers.specs.Entries.{IsBrokenBefore, AreDistinct, AreShort};
 
+use crate::rows::Room;
 use patch_sets::explored::{ExploreFault, Explored};
 use patch_sets::order::in_order;
 use seen_board::{Contents, Life, Place, SHARDS};
@@ -16,20 +17,20 @@ use std::alloc::{AllocError, Allocator};
 pub(crate) fn collect<S: Space, A: Allocator + Copy>(
     alloc: A,
     _space: &S,
-    limit: usize,
+    room: Room,
     contents: &Contents<A>,
 ) -> Result<Explored<A>, ExploreFault>
-    requires limit { limit ≤ 32768 }
-    requires entries { Entries (S.successors _space.now) (S.initial _space.now) limit contents.now.rows }
+    requires small { room.places ≤ 32768 }
+    requires entries { Entries (S.successors _space.now) (S.initial _space.now) room.places contents.now.rows }
     requires settled { Settled (S.successors _space.now) (S.is_good _space.now) contents.now }
     requires done { Done (S.successors _space.now) (S.initial _space.now) contents.now }
     ensures found { IfOk result (IsExplored (S.successors _space.now) (S.initial _space.now) (S.is_good _space.now)
-        limit) }
+        room.limit) }
     ensures too_many { IsErrOf result ExploreFault.TooMany
-        → ReachExceeds (S.successors _space.now) (S.initial _space.now) limit }
+        → ReachExceeds (S.successors _space.now) (S.initial _space.now) room.limit }
 {
     let total = count_entries(contents);
-    if total > limit {
+    if total > room.limit {
         return Err(ExploreFault::TooMany);
     }
     let broken = broken_words(alloc, contents)?;

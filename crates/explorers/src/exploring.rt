@@ -1,7 +1,9 @@
 //! Exploring with many workers.
 ghost use Rattle.std.specs.Prelude.{◌≡◌, ℕ, ◌<◌, ◌≤◌, length, IfOk, IsErrOf};
 ghost use Rattle.std.specs.List.{All};
+ghost use Rattle.state_space.specs.Reach.{IsReached};
 ghost use Rattle.board_rule.specs.Lists.{Has};
+ghost use Rattle.board_rule.specs.Rule.{Overfills};
 ghost use Rattle.patch_sets.specs.Explored.{IsExplored, ReachExceeds};
 ghost use Rattle.explorers.specs.Ready.{IsIdle, IsReady};
 
@@ -10,6 +12,7 @@ use crate::exploration::Exploration;
 use crate::gate::Gate;
 use crate::jobs::share;
 use crate::met::Met;
+use crate::rows::{Room, first_places};
 use crate::tasks::{Task, Tasks};
 use crate::worker::{Left, Worker};
 use hands::{Hand, hands};
@@ -20,8 +23,8 @@ use std::alloc::{AllocError, Allocator};
 use std::sync::Wait;
 use std::thread::Threads;
 
-/// How many words a worker keeps at most of those that it has met: 128 KB, which stay in its processor's cache. In a larger
-/// table more words are found, but looking for one costs what asking the board does.
+/// How many words a worker keeps at most of those that it has met: 128 KB, which stay in its processor's cache. In a
+/// larger table more words are found, but looking for one costs what asking the board does.
 const MOST_MET: usize = 8192;
 
 /// Explores a space from its initial word, with 1 to 16 workers over one board.
@@ -29,6 +32,9 @@ const MOST_MET: usize = 8192;
 /// For every number of workers and every schedule, an answer other than out of memory is the one that is defined
 /// without threads: the number of the words that are reached and those of them that are not good, in canonical order,
 /// or that more words than the limit are reached.
+///
+/// The rows of the board are short first. Where one of them is full, or the limit is passed, the space is explored
+/// once more with rows as long as the limit.
 ///
 /// Worker 1 works on the caller's thread, and each of the others on a thread of its own where one can be made. The
 /// gate is told of each claim before the word is expanded.
@@ -53,7 +59,46 @@ where
     ensures too_many { IsErrOf result ExploreFault.TooMany
         → ReachExceeds (S.successors space.now) (S.initial space.now) limit }
 {
-    let (board, mut seat, place) = Board::open(alloc, space, limit)?;
+    let places = first_places(limit);
+    if places < limit {
+        let room = Room { limit, places };
+        match explore_within(rt, alloc, space, room, workers, gate) {
+            Err(ExploreFault::TooMany) => {}
+            answer => return answer,
+        }
+    }
+    let room = Room {
+        limit,
+        places: limit,
+    };
+    explore_within(rt, alloc, space, room, workers, gate)
+}
+
+/// Explores a space on a board with this room. It answers too many where more words are reached than the limit, or
+/// more of one shard than a row has places.
+fn explore_within<R, A, S, G>(
+    rt: &R,
+    alloc: A,
+    space: &S,
+    room: Room,
+    workers: usize,
+    gate: &G,
+) -> Result<Explored<A>, ExploreFault>
+where
+    R: Threads + Wait + Sync,
+    A: Allocator + Copy + Send + Sync,
+    S: Space + Sync,
+    S::Scratch: Send,
+    G: Gate + Sync,
+    requires positive { (0 < room.limit) × (0 < room.places) }
+    requires small { (room.limit ≤ 32768) × (room.places ≤ 32768) }
+    requires workers { (1 ≤ workers) × (workers ≤ 16) }
+    ensures found { IfOk result (IsExplored (S.successors space.now) (S.initial space.now) (S.is_good space.now)
+        room.limit) }
+    ensures too_many { IsErrOf result ExploreFault.TooMany
+        → Overfills (IsReached (S.successors space.now) (S.initial space.now)) room.limit room.places }
+{
+    let (board, mut seat, place) = Board::open_with_rows(alloc, space, room.limit, room.places)?;
     let hands = first_hands(alloc, space, place, workers)?;
     let ready = new_workers(alloc, &board, space, &mut seat, hands)?;
     let before = Left {
@@ -66,7 +111,7 @@ where
         gate,
     };
     let left = join_all(&board, before, share(rt, &exploration, ready)?);
-    answer(alloc, space, limit, board, left)
+    answer(alloc, space, room, board, left)
 }
 
 /// A hand for each worker. The first has the initial word, which stands at the place, as its task.
@@ -88,8 +133,8 @@ fn first_hands<S: Space, A: Allocator + Copy>(
     }
 }
 
-/// A worker for each hand, with a seat that is split off and has seen the initial word. Worker 1, whose hand is the first,
-/// is the last.
+/// A worker for each hand, with a seat that is split off and has seen the initial word. Worker 1, whose hand is the
+/// first, is the last.
 fn new_workers<S: Space, A: Allocator + Copy>(
     alloc: A,
     board: &Board<S, A>,

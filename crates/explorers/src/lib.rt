@@ -12,6 +12,7 @@ mod exploring;
 mod gate;
 mod jobs;
 mod met;
+mod rows;
 mod searching;
 mod stealing;
 mod tasks;

@@ -56,12 +56,12 @@ module _ {v w : View} {word : ℕ} (t : Appends v word w) (q at : ℕ) (held : v
   pub appends_idle : IsIdle v → IsIdle w
   appends_idle o = rw t.is record { low = refl; high = refl; unfiled = refl; announced = refl; owed = o.owed; uncounted = refl }
 
-  pub appends_limit : w.limit ≡ v.limit
-  appends_limit = ap (λ (x : View). x.limit) t.is
+  pub appends_places : w.places ≡ v.places
+  appends_places = ap (λ (x : View). x.places) t.is
 
-  pub appends_counts : (counts : List ℕ) → length counts ≡ 13 → Counts v.limit counts v.rows.seen → at < v.limit → Counts w.limit (set counts q (at + 1)) w.rows.seen
+  pub appends_counts : (counts : List ℕ) → length counts ≡ 13 → Counts v.places counts v.rows.seen → at < v.places → Counts w.places (set counts q (at + 1)) w.rows.seen
   appends_counts counts thirteen o room = let more = length-append (row_of v.rows.seen q) (word ∷ []) in
-      rw t.is (rw held (counts_set v.limit counts v.rows.seen q (at + 1) (row_of v.rows.seen q ++ word ∷ []) thirteen o near (omega (arith, is, more)) (omega (arith, is, more, room))))
+      rw t.is (rw held (counts_set v.places counts v.rows.seen q (at + 1) (row_of v.rows.seen q ++ word ∷ []) thirteen o near (omega (arith, is, more)) (omega (arith, is, more, room))))
 
 -- a right that was had and given up again
 pub returns_from : (u v w : Known) (right q : ℕ) → Gains u right q v → w ≡ record v { right = 0 } → Returns u w

@@ -38,8 +38,8 @@ module _ (v w : View) (near : (both_views v w).rows.held < 13) (all-v : length v
   pub join_second : SeesOn w.rows.seen (longer_rows v.rows.seen w.rows.seen)
   join_second q h = (rows q).1
 
-  pub join_counts : (limit : ℕ) (first second counts : List ℕ) → Counts limit first v.rows.seen → Counts limit second w.rows.seen → ((q : ℕ) → q < 13 → get_or counts q 0 ≡ max (get_or first q 0) (get_or second q 0)) → Counts limit counts (longer_rows v.rows.seen w.rows.seen)
-  join_counts limit first second counts o u is = record {
+  pub join_counts : (places : ℕ) (first second counts : List ℕ) → Counts places first v.rows.seen → Counts places second w.rows.seen → ((q : ℕ) → q < 13 → get_or counts q 0 ≡ max (get_or first q 0) (get_or second q 0)) → Counts places counts (longer_rows v.rows.seen w.rows.seen)
+  join_counts places first second counts o u is = record {
     small = o.small;
     all = merged_length v.rows.seen w.rows.seen ∙ all-v;
     each = λ q h. omega (arith, is q h, o.each q h, u.each q h, (rows q).2);

@@ -20,8 +20,8 @@ module _ {v w : View} {q named : ℕ} (t : Scans v q named w) where
   pub scans_idle : IsIdle v → IsIdle w
   scans_idle o = rw t.is record { low = o.low; high = o.high; unfiled = o.unfiled; announced = o.announced; owed = o.owed; uncounted = o.uncounted }
 
-  pub scans_counts : (counts : List ℕ) (n : ℕ) → length counts ≡ 13 → Counts v.limit counts v.rows.seen → q < 13 → n ≡ max (get_or counts q 0) named → Counts w.limit (set counts q n) w.rows.seen
-  scans_counts counts n thirteen o near is = rw t.is (counts_set v.limit counts v.rows.seen q n t.row thirteen o near (omega (arith, is, o.each q near, t.long)) (omega (arith, t.long, o.short q near, t.within)))
+  pub scans_counts : (counts : List ℕ) (n : ℕ) → length counts ≡ 13 → Counts v.places counts v.rows.seen → q < 13 → n ≡ max (get_or counts q 0) named → Counts w.places (set counts q n) w.rows.seen
+  scans_counts counts n thirteen o near is = rw t.is (counts_set v.places counts v.rows.seen q n t.row thirteen o near (omega (arith, is, o.each q near, t.long)) (omega (arith, t.long, o.short q near, t.within)))
 
-pub scans_ok : {m n : Me Unit View} {q named : ℕ} (counts : List ℕ) (c : ℕ) → Scans m.0 q named n.0 → n.1 ≡ m.1 → length counts ≡ 13 → Rests m × Counts m.0.limit counts m.0.rows.seen → q < 13 → c ≡ max (get_or counts q 0) named → Rests n × Counts n.0.limit (set counts q c) n.0.rows.seen
-scans_ok counts c t same thirteen o near is = ((same ∙ o.0.0, omega (arith, o.0.1, ap (λ (x : View). x.limit) t.is), scans_idle t o.0.2), scans_counts t counts c thirteen o.1 near is)
+pub scans_ok : {m n : Me Unit View} {q named : ℕ} (counts : List ℕ) (c : ℕ) → Scans m.0 q named n.0 → n.1 ≡ m.1 → length counts ≡ 13 → Rests m × Counts m.0.places counts m.0.rows.seen → q < 13 → c ≡ max (get_or counts q 0) named → Rests n × Counts n.0.places (set counts q c) n.0.rows.seen
+scans_ok counts c t same thirteen o near is = ((same ∙ o.0.0, omega (arith, o.0.1, ap (λ (x : View). x.places) t.is), scans_idle t o.0.2), scans_counts t counts c thirteen o.1 near is)

@@ -8,14 +8,14 @@ use mathlib.Core.Option.{some, some-injective, some-ne-none}
 use lib.ListN.{get_elem?}
 use Rattle.atomic_table.specs.Table.{State, Final, Seen}
 use Rattle.state_space.specs.Reach.{IsReached}
-use Rattle.state_space.specs.Counts.{Outnumbers, IsSome}
+use Rattle.state_space.specs.Counts.{IsSome}
 use Rattle.state_space.proofs.Runs.{along}
 use Rattle.board_rule.specs.Layout.{half, low_word, high_word, life_word, length_word, place_of}
 use Rattle.board_rule.specs.Lists.{row_of, Has, first_values, total}
 use Rattle.board_rule.specs.Lives.{life_of, is_unsettled, is_settled, Passes}
 use Rattle.board_rule.specs.Readings.{entry_of, rows_of, lives_of}
 use Rattle.board_rule.specs.Views.{Told}
-use Rattle.board_rule.specs.Rule.{times, times_among, claims_on, IsBare, IsWhole, Kept}
+use Rattle.board_rule.specs.Rule.{times, times_among, claims_on, IsBare, IsWhole, Kept, Overfills}
 use Rattle.board_rule.specs.Plays.{IsIdle}
 use Rattle.board_rule.specs.declared.life.Life.{Life}
 use Rattle.board_rule.specs.declared.life.Life.TheVariants.{Waiting, Claimed, Clean, Broken}
@@ -38,24 +38,24 @@ found [] i x e = absurd (some-ne-none x (sym e))
 found (y ∷ l) zero x e = some-injective y x e
 found (y ∷ l) (suc i) x e = found l i x e
 
-module _ (limit : ℕ) (words : List ℕ) where
-  row_at : (q : ℕ) → q < 13 → row_of (rows_of limit words) q ≡ first_values (entry_of limit words q) (get_or words (length_word q) 0)
-  row_at q h = listed_at (λ p. first_values (entry_of limit words p) (get_or words (length_word p) 0)) 13 q [] h
+module _ (places : ℕ) (words : List ℕ) where
+  row_at : (q : ℕ) → q < 13 → row_of (rows_of places words) q ≡ first_values (entry_of places words q) (get_or words (length_word q) 0)
+  row_at q h = listed_at (λ p. first_values (entry_of places words p) (get_or words (length_word p) 0)) 13 q [] h
 
-  pub row_length : (q : ℕ) → q < 13 → length (row_of (rows_of limit words) q) ≡ get_or words (length_word q) 0
-  row_length q h = ap length (row_at q h) ∙ first_values-length (entry_of limit words q) (get_or words (length_word q) 0)
+  pub row_length : (q : ℕ) → q < 13 → length (row_of (rows_of places words) q) ≡ get_or words (length_word q) 0
+  row_length q h = ap length (row_at q h) ∙ first_values-length (entry_of places words q) (get_or words (length_word q) 0)
 
-  pub entry_found : (z : Ended) (q k i j x y : ℕ) → end_of limit words ≡ z → q < 13 → k < length (row_of z.rows q) → i ≡ low_word q k → j ≡ high_word limit q k → get_elem? words i ≡ some x → get_elem? words j ≡ some y → x + y * half ≡ get_or (row_of z.rows q) k 0
+  pub entry_found : (z : Ended) (q k i j x y : ℕ) → end_of places words ≡ z → q < 13 → k < length (row_of z.rows q) → i ≡ low_word q k → j ≡ high_word places q k → get_elem? words i ≡ some x → get_elem? words j ≡ some y → x + y * half ≡ get_or (row_of z.rows q) k 0
   entry_found z q k i j x y e h b at over f g = let inside : k < get_or words (length_word q) 0 = omega (arith, row_length q h, ap (λ (t : Ended). length (row_of t.rows q)) e, b) in
-      let low : x ≡ get_or words (low_word q k) 0 = sym (found words i x f) ∙ ap (λ (a : ℕ). get_or words a 0) at in let high : y ≡ get_or words (high_word limit q k) 0 = sym (found words j y g) ∙ ap (λ (a : ℕ). get_or words a 0) over in
-      rw (low, high) (sym (ap (λ (l : List ℕ). get_or l k 0) (row_at q h) ∙ listed_at (entry_of limit words q) (get_or words (length_word q) 0) k 0 inside) ∙ ap (λ (t : Ended). get_or (row_of t.rows q) k 0) e)
+      let low : x ≡ get_or words (low_word q k) 0 = sym (found words i x f) ∙ ap (λ (a : ℕ). get_or words a 0) at in let high : y ≡ get_or words (high_word places q k) 0 = sym (found words j y g) ∙ ap (λ (a : ℕ). get_or words a 0) over in
+      rw (low, high) (sym (ap (λ (l : List ℕ). get_or l k 0) (row_at q h) ∙ listed_at (entry_of places words q) (get_or words (length_word q) 0) k 0 inside) ∙ ap (λ (t : Ended). get_or (row_of t.rows q) k 0) e)
 
-  pub life_found : (z : Ended) (q k i x : ℕ) → end_of limit words ≡ z → q < 13 → k < length (row_of z.rows q) → i ≡ life_word limit q k → get_elem? words i ≡ some x → life_of x ≡ life_of_entry z q k
+  pub life_found : (z : Ended) (q k i x : ℕ) → end_of places words ≡ z → q < 13 → k < length (row_of z.rows q) → i ≡ life_word places q k → get_elem? words i ≡ some x → life_of x ≡ life_of_entry z q k
   life_found z q k i x e h b at f = let inside : k < get_or words (length_word q) 0 = omega (arith, row_length q h, ap (λ (t : Ended). length (row_of t.rows q)) e, b) in
-      ap life_of (sym (found words i x f) ∙ ap (λ (a : ℕ). get_or words a 0) at ∙ sym (ap (λ (l : List ℕ). get_or l k 0) (listed_at (λ p. first_values (λ k. get_or words (life_word limit p k) 0) (get_or words (length_word p) 0)) 13 q [] h)
-      ∙ listed_at (λ k. get_or words (life_word limit q k) 0) (get_or words (length_word q) 0) k 0 inside)) ∙ ap (λ (t : Ended). life_of_entry t q k) e
+      ap life_of (sym (found words i x f) ∙ ap (λ (a : ℕ). get_or words a 0) at ∙ sym (ap (λ (l : List ℕ). get_or l k 0) (listed_at (λ p. first_values (λ k. get_or words (life_word places p k) 0) (get_or words (length_word p) 0)) 13 q [] h)
+      ∙ listed_at (λ k. get_or words (life_word places q k) 0) (get_or words (length_word q) 0) k 0 inside)) ∙ ap (λ (t : Ended). life_of_entry t q k) e
 
-  pub place_fits : (z : Ended) (q k : ℕ) → end_of limit words ≡ z → IsReadable limit words → q < 13 → k < length (row_of z.rows q) → (k < limit) × (limit ≤ 32768) × (length words ≡ 216 + 52 * limit)
+  pub place_fits : (z : Ended) (q k : ℕ) → end_of places words ≡ z → IsReadable places words → q < 13 → k < length (row_of z.rows q) → (k < places) × (places ≤ 32768) × (length words ≡ 216 + 52 * places)
   place_fits z q k e r h b = (omega (arith, b, ap (λ (x : Ended). length (row_of x.rows q)) e, row_length q h, r.short q h), r.small, r.sized)
 
 -- a life that is none of the first three is the last
@@ -82,35 +82,35 @@ module _ (t : Told) (good : ℕ → Type 0) (S : Type 0) (id : ℕ) (v : View) (
   abbrev o : Kept t good s
   o = e.1.0
 
-  rows_are : rows_of t.limit words ≡ o.rows
-  rows_are = ap (rows_of t.limit) (sym e.2) ∙ rows_read t o.rows s.words o.row
+  rows_are : rows_of t.places words ≡ o.rows
+  rows_are = ap (rows_of t.places) (sym e.2) ∙ rows_read t o.rows s.words o.row
 
-  lives_are : lives_of t.limit words ≡ o.lives
-  lives_are = ap (lives_of t.limit) (sym e.2) ∙ lives_read t good o.rows o.lives s.words s.views o.row o.life
+  lives_are : lives_of t.places words ≡ o.lives
+  lives_are = ap (lives_of t.places) (sym e.2) ∙ lives_read t good o.rows o.lives s.words s.views o.row o.life
 
   abbrev shown : Ended
   shown = record { rows = o.rows; lives = o.lives; pending = get_or words 0 0; count = get_or words 1 0 }
 
-  ended_is : end_of t.limit words ≡ shown
+  ended_is : end_of t.places words ≡ shown
   ended_is = λ i. record { rows = rows_are i; lives = lives_are i; pending = get_or words 0 0; count = get_or words 1 0 }
 
-  over : (F : Ended → Type 0) → F shown → F (end_of t.limit words)
+  over : (F : Ended → Type 0) → F shown → F (end_of t.places words)
   over F h = subst F (sym ended_is) h
 
-  pub end_readable : t.limit ≤ 32768 → IsReadable t.limit words
-  end_readable h = subst (IsReadable t.limit) e.2 record { sized = o.sized; small = h; short = λ q near. omega (arith, o.row.stored q near, o.row.short q near) }
+  pub end_readable : t.places ≤ 32768 → IsReadable t.places words
+  end_readable h = subst (IsReadable t.places) e.2 record { sized = o.sized; small = h; short = λ q near. omega (arith, o.row.stored q near, o.row.short q near) }
 
-  pub end_seen : SeesOn v.rows.seen (end_of t.limit words).rows
+  pub end_seen : SeesOn v.rows.seen (end_of t.places words).rows
   end_seen = over (λ z. SeesOn v.rows.seen z.rows) (o.seats id v e.1.1).saw
 
-  pub end_whole : 0 < v.rows.right → row_of v.rows.seen v.rows.held ≡ row_of (end_of t.limit words).rows v.rows.held
+  pub end_whole : 0 < v.rows.right → row_of v.rows.seen v.rows.held ≡ row_of (end_of t.places words).rows v.rows.held
   end_whole h = over (λ z. row_of v.rows.seen v.rows.held ≡ row_of z.rows v.rows.held) ((o.seats id v e.1.1).whole h)
 
   entries : IsSome (IsReached t.next t.origin) (concat o.rows)
   entries = flat_entries t o.rows s.words o.row
 
-  pub end_entries : Entries t.next t.origin t.limit (end_of t.limit words).rows
-  end_entries = over (λ z. Entries t.next t.origin t.limit z.rows) record {
+  pub end_entries : Entries t.next t.origin t.places (end_of t.places words).rows
+  end_entries = over (λ z. Entries t.next t.origin t.places z.rows) record {
     thirteen = o.row.all;
     start = o.rooted;
     some = entries;
@@ -124,27 +124,27 @@ module _ (t : Told) (good : ℕ → Type 0) (S : Type 0) (id : ℕ) (v : View) (
   settled_two : (q k : ℕ) → q < 13 → IsSettled (life_of_entry shown q k) → 2 ≤ get_or (row_of o.lives q) k 0
   settled_two q k near h = ⊎_elim (λ c. ⊎_elim (λ f. absurd (c.1 f)) (λ f. absurd (c.2 f)) h) (λ c. ⊎_elim (λ d. omega (arith, d.0)) (λ d. omega (arith, d.0)) c) (life_cases (get_or (row_of o.lives q) k 0) (o.life.four q k near))
 
-  pub end_settled : Settled t.next good (end_of t.limit words)
+  pub end_settled : Settled t.next good (end_of t.places words)
   end_settled = over (Settled t.next good) record {
     clean = λ q k near f. o.life.clean q k near (⊎_elim (λ c. absurd (c.1 f)) (λ c. ⊎_elim (λ d. d.0) (λ d. absurd (cc (sym d.1 ∙ f))) c) (life_cases (get_or (row_of o.lives q) k 0) (o.life.four q k near)));
     broken = λ q k near f. o.life.broken q k near (⊎_elim (λ c. absurd (c.2 f)) (λ c. ⊎_elim (λ d. absurd (cc (sym d.1 ∙ f))) (λ d. d.0) c) (life_cases (get_or (row_of o.lives q) k 0) (o.life.four q k near)));
     closed = λ q k y near h. o.life.closed q k y near (settled_two q k near h);
   }
 
-  pub end_claimed : v.lives.claims ≡ 1 → life_in (end_of t.limit words) v.lives.place ≡ Claimed
+  pub end_claimed : v.lives.claims ≡ 1 → life_in (end_of t.places words) v.lives.place ≡ Claimed
   end_claimed has = over (λ z. life_in z v.lives.place ≡ Claimed) (ap life_of (claimed_life t good S s o id (v.lives.place % 13) (v.lives.place / 13) v (omega arith) e.1.1 has (omega arith)))
 
-  pub end_given_up : All (λ p. life_in (end_of t.limit words) p ≡ Claimed) v.lives.given_up
+  pub end_given_up : All (λ p. life_in (end_of t.places words) p ≡ Claimed) v.lives.given_up
   end_given_up = over (λ z. All (λ p. life_in z p ≡ Claimed) v.lives.given_up) (λ k d h. let p = get_or v.lives.given_up k d in
       ap life_of (given_up_life t good S s o id (p % 13) (p / 13) v (omega arith) e.1.1 (subst (λ (x : ℕ). 1 ≤ times_among x v.lives.given_up) (omega arith) (among_at v.lives.given_up k d h))))
 
-  pub end_learned : All (λ met. Passes met.1 (life_in (end_of t.limit words) met.0)) v.lives.learned
+  pub end_learned : All (λ met. Passes met.1 (life_in (end_of t.places words) met.0)) v.lives.learned
   end_learned = over (λ z. All (λ met. Passes met.1 (life_in z met.0)) v.lives.learned) (o.life.learned id v e.1.1)
 
-  pub end_added : All (λ p. p / 13 < length (row_of (end_of t.limit words).rows (p % 13))) v.rows.added
+  pub end_added : All (λ p. p / 13 < length (row_of (end_of t.places words).rows (p % 13))) v.rows.added
   end_added = over (λ z. All (λ p. p / 13 < length (row_of z.rows (p % 13))) v.rows.added) (λ k d h. added_there t.origin o.rows s.views id (get_or v.rows.added k d) v o.added e.1.1 (among_at v.rows.added k d h))
 
-  pub end_over : v.count.over ≡ 1 → Outnumbers (IsReached t.next t.origin) t.limit
+  pub end_over : v.count.over ≡ 1 → Overfills (IsReached t.next t.origin) t.limit t.places
   end_over f = o.counts.over id v e.1.1 f
 
   module _ (b : TableId) (whole : IsWhole v.share) (idle : IsIdle v) where
@@ -160,7 +160,7 @@ module _ (t : Told) (good : ℕ → Type 0) (S : Type 0) (id : ℕ) (v : View) (
     tally : total (total is_settled) o.lives ≡ v.pending.verdicts
     tally = omega (arith, o.pending.verdicts, only (λ u. u.pending.verdicts) (λ u h. h.verdicts))
 
-    pub end_accounts : Accounts t.origin (known_of b v) (end_of t.limit words)
+    pub end_accounts : Accounts t.origin (known_of b v) (end_of t.places words)
     end_accounts = over (Accounts t.origin (known_of b v)) record {
       places = λ p. omega (arith, o.added.once p, only (times p) (bare_times p));
       entries = many;
@@ -178,7 +178,7 @@ module _ (t : Told) (good : ℕ → Type 0) (S : Type 0) (id : ℕ) (v : View) (
     every : (x : ℕ) → IsReached t.next t.origin x → Has o.rows x
     every = along t.next t.origin (Has o.rows) o.rooted (λ w has y succ. o.life.closed (w % 13) has.0 y (omega arith) (all_settled (w % 13) has.0 (omega arith) has.1) (subst (λ (a : ℕ). Contains (t.next a) y) (sym has.2) succ))
 
-    pub end_done : Done t.next t.origin (end_of t.limit words)
+    pub end_done : Done t.next t.origin (end_of t.places words)
     end_done = over (Done t.next t.origin) record {
       settled = λ q k near inside. ⊎_elim (λ c. absurd (omega (arith, c.0, all_settled q k near inside))) (λ c. ⊎_elim (λ d. inl d.1) (λ d. inr d.1) c) (life_cases (get_or (row_of o.lives q) k 0) (o.life.four q k near));
       every = every;

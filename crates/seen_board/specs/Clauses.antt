@@ -14,7 +14,7 @@ number place = place_of place.shard place.at
 
 -- the seat is of this board
 abbrev pub IsOf : {S : Type 0} → Shown S → Known → Type 0
-IsOf b s = (s.board ≡ b.board) × (s.limit ≡ b.limit)
+IsOf b s = (s.board ≡ b.board) × (s.limit ≡ b.limit) × (s.places ≡ b.places)
 
 -- and it has no right
 abbrev pub IsAtRest : {S : Type 0} → Shown S → Known → Type 0

@@ -20,7 +20,7 @@ pub record Ended : Type 0 where
   pub count : ℕ
 
 abbrev pub end_of : ℕ → List ℕ → Ended
-end_of limit words = record { rows = rows_of limit words; lives = lives_of limit words; pending = slice_index words 0; count = slice_index words 1 }
+end_of places words = record { rows = rows_of places words; lives = lives_of places words; pending = slice_index words 0; count = slice_index words 1 }
 
 -- the life of the entry at place k of shard q
 abbrev pub life_of_entry : Ended → ℕ → ℕ → Life
@@ -30,20 +30,20 @@ life_of_entry e q k = life_of (slice_index (row_of e.lives q) k)
 abbrev pub life_in : Ended → ℕ → Life
 life_in e p = life_of_entry e (p % 13) (p / 13)
 
-pub record IsReadable (limit : ℕ) (words : List ℕ) : Type 0 where
-  pub sized : length words ≡ size_for limit
-  pub small : limit ≤ 32768
-  pub short : (q : ℕ) → q < 13 → slice_index words (length_word q) ≤ limit
+pub record IsReadable (places : ℕ) (words : List ℕ) : Type 0 where
+  pub sized : length words ≡ size_for places
+  pub small : places ≤ 32768
+  pub short : (q : ℕ) → q < 13 → slice_index words (length_word q) ≤ places
 
 -- the entries are the initial word and other words that are reached, none of them twice in all shards, and each in the shard of its number
-pub record Entries (next : ℕ → List ℕ) (origin limit : ℕ) (rows : List (List ℕ)) : Type 0 where
+pub record Entries (next : ℕ → List ℕ) (origin places : ℕ) (rows : List (List ℕ)) : Type 0 where
   pub thirteen : length rows ≡ 13
   pub start : Has rows origin
   pub some : IsSome (IsReached next origin) (concat rows)
   pub at_home : (q k : ℕ) → q < 13 → k < length (row_of rows q) → slice_index (row_of rows q) k % 13 ≡ q
   pub reached : (q k : ℕ) → q < 13 → k < length (row_of rows q) → IsReached next origin (slice_index (row_of rows q) k)
   pub distinct : (p q j k : ℕ) → p < 13 → q < 13 → j < length (row_of rows p) → k < length (row_of rows q) → slice_index (row_of rows p) j ≡ slice_index (row_of rows q) k → (p ≡ q) × (j ≡ k)
-  pub short : (q : ℕ) → q < 13 → length (row_of rows q) ≤ limit
+  pub short : (q : ℕ) → q < 13 → length (row_of rows q) ≤ places
 
 abbrev pub IsSettled : Life → Type 0
 IsSettled life = (life ≡ Clean) ⊎ (life ≡ Broken)

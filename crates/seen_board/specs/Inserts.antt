@@ -54,7 +54,7 @@ LookedOk row word Absent = Lacks row word
 
 -- the place is in the index, or none of its word's index words is zero
 abbrev pub Paid : View → Type 0
-Paid v = (k t : ℕ) → v.rows.unfiled ≡ k + 1 → t < window v.limit → slice_index v.rows.marks (slot v.limit (slice_index (row_of v.rows.seen v.rows.held) k) t) ≢ 0
+Paid v = (k t : ℕ) → v.rows.unfiled ≡ k + 1 → t < window v.places → slice_index v.rows.marks (slot v.places (slice_index (row_of v.rows.seen v.rows.held) k) t) ≢ 0
 
 -- only what it knows of the index is different
 abbrev pub Filed : View → View → Type 0

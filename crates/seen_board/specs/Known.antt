@@ -9,16 +9,18 @@ use Rattle.board_rule.specs.Views.{Share}
 use Rattle.board_rule.specs.declared.life.Life.{Life}
 use Rattle.board_rule.specs.declared.view.View.{View}
 
--- a board: which it is, its limit and its space
+-- a board: which it is, how many words it may have and how many of one shard, and its space
 pub record Shown (S : Type 0) : Type 0 where
   pub board : TableId
   pub limit : ℕ
+  pub places : ℕ
   pub space : S
 
 -- a seat: of which board it is, and what it knows
 pub record Known : Type 0 where
   pub board : TableId
   pub limit : ℕ
+  pub places : ℕ
   -- what it has seen of each shard's row
   pub seen : List (List ℕ)
   -- its right, 0 for none, 1 to read, 2 ^ 32 to write, and the shard of it
@@ -39,13 +41,14 @@ pub record Known : Type 0 where
   pub share : Share
   -- 1 once it knows that all entries are settled
   pub finished : ℕ
-  -- 1 once it knows that more words than the limit are reached
+  -- 1 once it knows that more words are reached than the board may have
   pub over : ℕ
 
 abbrev pub known_of : TableId → View → Known
 known_of id v = record {
   board = id;
   limit = v.limit;
+  places = v.places;
   seen = v.rows.seen;
   right = v.rows.right;
   held = v.rows.held;
@@ -60,16 +63,16 @@ known_of id v = record {
   over = v.count.over;
 }
 
-abbrev pub first_known : TableId → ℕ → ℕ → Known
-first_known id limit start = known_of id (first_view limit start)
+abbrev pub first_known : TableId → ℕ → ℕ → ℕ → Known
+first_known id limit places start = known_of id (first_view limit places start)
 
 -- between two calls a seat owes nothing
 abbrev pub Rests : Me Unit View → Type 0
-Rests m = (m.1 ≡ []) × (0 < m.0.limit) × IsIdle m.0
+Rests m = (m.1 ≡ []) × (0 < m.0.places) × IsIdle m.0
 
 -- how much of each row is seen
-pub record Counts (limit : ℕ) (counts : List ℕ) (seen : List (List ℕ)) : Type 0 where
-  pub small : limit ≤ 32768
+pub record Counts (places : ℕ) (counts : List ℕ) (seen : List (List ℕ)) : Type 0 where
+  pub small : places ≤ 32768
   pub all : length seen ≡ 13
   pub each : (q : ℕ) → q < 13 → slice_index counts q ≡ length (row_of seen q)
-  pub short : (q : ℕ) → q < 13 → length (row_of seen q) ≤ limit
+  pub short : (q : ℕ) → q < 13 → length (row_of seen q) ≤ places

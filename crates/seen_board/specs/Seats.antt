@@ -8,7 +8,7 @@ use Rattle.seen_board.specs.declared.layout.Probe.{Probe}
 
 -- the seat is of the board's table
 abbrev pub SitsAt : {S : Type 0} → Shown S → Seat Unit View → Type 0
-SitsAt b t = (t.table_id ≡ b.board) × (t.me.0.limit ≡ b.limit)
+SitsAt b t = (t.table_id ≡ b.board) × (t.me.0.limit ≡ b.limit) × (t.me.0.places ≡ b.places)
 
 -- it is the same seat, whatever it knows
 abbrev pub StaysAt : Seat Unit View → Seat Unit View → Type 0
@@ -28,4 +28,4 @@ HasWriteRightOf v q = (q < 13) × (v.rows.held ≡ q) × (v.rows.right ≡ write
 
 -- the shard is the word's, and the index word its first
 abbrev pub IsProbe : ℕ → Probe → Type 0
-IsProbe limit s = (s.shard ≡ s.word % 13) × (s.first ≡ slot limit s.word 0) × (s.first < limit)
+IsProbe places s = (s.shard ≡ s.word % 13) × (s.first ≡ slot places s.word 0) × (s.first < places)

@@ -1,6 +1,6 @@
 //! What calls answer.
 
-/// A place on a board: a shard, below 13, and a number in the shard's row, below the limit.
+/// A place on a board: a shard, below 13, and a number in the shard's row.
 #[derive(Clone, Copy, Debug, PartialEq, Eq, Drop)]
 pub struct Place {
     pub shard: u8,
@@ -23,7 +23,7 @@ pub enum Put {
     Known(Place),
     /// A right was not had, and the word was not put in.
     Busy,
-    /// More words than the limit are reached.
+    /// More words are reached than the board may have, or more of the word's shard than its row has places.
     Over,
 }
 

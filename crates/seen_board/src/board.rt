@@ -22,6 +22,7 @@ use std::snapshot::Snapshot;
 pub struct Board<S: Space, A: Allocator> {
     pub(crate) table: Table<(), View, About<S>, Order<S>, A>,
     pub(crate) layout: Layout,
+    pub(crate) limit: usize,
 }
 
 impl<S: Space, A: Allocator> Model for Board<S, A> {
@@ -32,17 +33,25 @@ impl<S: Space, A: Allocator> Model for Board<S, A> {
     ghost Value = { Shown S };
 
     ghost view = { λ b.
-        record { board = b.table.shared.table_id; limit = b.layout.limit; space = b.table.shared.key.space.value } };
+        record {
+          board = b.table.shared.table_id;
+          limit = b.limit;
+          places = b.layout.places;
+          space = b.table.shared.key.space.value;
+        } };
 
-    ghost invariant = { λ b. (b.table.shared.table_id.words ≡ size_for b.layout.limit)
-        × (b.table.shared.table_id.slots ≡ 0) × (b.table.shared.key.limit ≡ b.layout.limit) × (0 < b.layout.limit)
-        × (b.layout.limit ≤ 32768) };
+    ghost invariant = { λ b. (b.table.shared.table_id.words ≡ size_for b.layout.places)
+        × (b.table.shared.table_id.slots ≡ 0) × (b.table.shared.key.places ≡ b.layout.places)
+        × (b.table.shared.key.limit ≡ b.limit) × (0 < b.layout.places) × (b.layout.places ≤ 32768) × (0 < b.limit)
+        × (b.limit ≤ 32768) };
 }
 
 impl<S: Space, A: Allocator + Copy> Board<S, A> {
-    /// A board with the space's initial word as its one entry, a seat that has seen it and has the whole board, and
-    /// its place. The entry waits, and pending and the count are 1: so closing the board with this seat as it is would
-    /// find them. It is the only call that can run out of memory.
+    /// A board that may have `limit` words, with the space's initial word as its one entry, a seat that has seen it
+    /// and has the whole board, and its place. The entry waits, and pending and the count are 1: so closing the board
+    /// with this seat as it is would find them. Opening is the only call that can run out of memory.
+    ///
+    /// Each row has as many places as the limit, since one shard may have all words.
     pub fn open(
         alloc: A,
         space: &S,
@@ -50,15 +59,33 @@ impl<S: Space, A: Allocator + Copy> Board<S, A> {
     ) -> Result<(Board<S, A>, BoardSeat, Place), AllocError>
         requires positive { 0 < limit }
         requires small { limit ≤ 32768 }
-        ensures board { IfOk result (λ t. (t.0.limit ≡ limit) × (t.0.space ≡ space.now)) }
-        ensures seat { IfOk result (λ t. t.1 ≡ first_known t.0.board limit (S.initial space.now)) }
+        ensures board { IfOk result (λ t. (t.0.limit ≡ limit) × (t.0.places ≡ limit) × (t.0.space ≡ space.now)) }
+        ensures seat { IfOk result (λ t. t.1 ≡ first_known t.0.board limit limit (S.initial space.now)) }
+        ensures start { IfOk result (λ t. Names t.1.seen t.2 (S.initial space.now)) }
+        ensures opening { IfOk result (λ t. IsWhole t.1.share
+            × ((e : Ended) → Accounts (S.initial space.now) t.1 e → IsOpening (S.initial space.now) e)) }
+    {
+        Board::open_with_rows(alloc, space, limit, limit)
+    }
+
+    /// A board as of `open`, whose rows have so many places. It takes 416 bytes for each of them.
+    pub fn open_with_rows(
+        alloc: A,
+        space: &S,
+        limit: usize,
+        places: usize,
+    ) -> Result<(Board<S, A>, BoardSeat, Place), AllocError>
+        requires positive { (0 < limit) × (0 < places) }
+        requires small { (limit ≤ 32768) × (places ≤ 32768) }
+        ensures board { IfOk result (λ t. (t.0.limit ≡ limit) × (t.0.places ≡ places) × (t.0.space ≡ space.now)) }
+        ensures seat { IfOk result (λ t. t.1 ≡ first_known t.0.board limit places (S.initial space.now)) }
         ensures start { IfOk result (λ t. Names t.1.seen t.2 (S.initial space.now)) }
         ensures opening { IfOk result (λ t. IsWhole t.1.share
             × ((e : Ended) → Accounts (S.initial space.now) t.1 e → IsOpening (S.initial space.now) e)) }
     {
         let start = space.start();
         let (low, high) = halves_of(start);
-        let layout = Layout { limit };
+        let layout = Layout { places };
         let Probe { shard, first, .. } = layout.probe(start);
         let mut words = vec![in alloc; 0u64; layout.size()]?;
         words[PENDING] = 1;
@@ -70,19 +97,24 @@ impl<S: Space, A: Allocator + Copy> Board<S, A> {
         let about = About {
             space: Snapshot::of(space),
             limit,
+            places,
         };
         let (table, seat) = Table::of_words(alloc, words.as_slice(), &about)?;
         let mut counts = [0u16; SHARDS];
         counts[shard as usize] = 1;
-        let place = Place { shard, at: 0 };
-        Ok((Board { table, layout }, BoardSeat { seat, counts }, place))
+        let board = Board {
+            table,
+            layout,
+            limit,
+        };
+        Ok((board, BoardSeat { seat, counts }, Place { shard, at: 0 }))
     }
 
-    /// How many words the board takes, 1 to 32768.
+    /// How many words the board may have, 1 to 32768.
     pub fn limit(&self) -> usize
         ensures limit { result ≡ self.now.limit }
         ensures range { (0 < result) × (result ≤ 32768) }
     {
-        self.layout.limit
+        self.limit
     }
 }

@@ -25,10 +25,10 @@ impl<A: Allocator> Model for Contents<A> {
 
     ghost Value = { Ended };
 
-    ghost view = { λ c. end_of c.layout.limit (slots_items c.closed.words) };
+    ghost view = { λ c. end_of c.layout.places (slots_items c.closed.words) };
 
     ghost invariant = { λ c. IsFull c.closed.words × (slots_len c.closed.slots ≡ 0)
-        × IsReadable c.layout.limit (slots_items c.closed.words) };
+        × IsReadable c.layout.places (slots_items c.closed.words) };
 }
 
 impl<A: Allocator> Contents<A> {

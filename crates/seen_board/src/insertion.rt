@@ -17,7 +17,7 @@ impl<S: Space, A: Allocator> Board<S, A> {
     /// Looks a word up under the read right, which is given up again.
     fn look_reading(&self, seat: &mut BoardSeat, probe: Probe) -> Looked
         requires seat { IsAtRest self.now seat.old }
-        requires probe { IsProbe self.now.limit probe }
+        requires probe { IsProbe self.now.places probe }
         ensures returns { Returns seat.old seat.new }
         ensures looked { LookedOk (row_of seat.new.seen probe.shard) probe.word result }
     {
@@ -36,10 +36,10 @@ impl<S: Space, A: Allocator> Board<S, A> {
     /// Tells that a full row lacks a word that is reached. The stop is set, and the claim is given up.
     fn overflow(&self, seat: &mut BoardSeat, probe: Probe)
         requires seat { IsOf self.now seat.old }
-        requires probe { IsProbe self.now.limit probe }
+        requires probe { IsProbe self.now.places probe }
         requires writes { Writes seat.old probe.shard }
         requires successor { IsSuccessor (S.successors self.now.space) seat.old probe.word }
-        requires full { self.now.limit ≤ length (row_of seat.old.seen probe.shard) }
+        requires full { self.now.places ≤ length (row_of seat.old.seen probe.shard) }
         requires absent { Lacks (row_of seat.old.seen probe.shard) probe.word }
         ensures { seat.new ≡ record (with_given_up seat.old) { over = 1 } }
     {
@@ -49,7 +49,7 @@ impl<S: Space, A: Allocator> Board<S, A> {
     /// Takes the write right and puts a word in, where the part of the row that was seen lacks it.
     fn insert_writing(&self, seat: &mut BoardSeat, probe: Probe) -> Put
         requires seat { IsAtRest self.now seat.old }
-        requires probe { IsProbe self.now.limit probe }
+        requires probe { IsProbe self.now.places probe }
         requires successor { IsSuccessor (S.successors self.now.space) seat.old probe.word }
         requires absent { Lacks (row_of seat.old.seen probe.shard) probe.word }
         ensures put { PutOk probe.word seat.old seat.new result }
@@ -64,7 +64,7 @@ impl<S: Space, A: Allocator> Board<S, A> {
             self.give(seat, shard);
             return Put::Known(Place { shard, at });
         }
-        if seat.counts[shard as usize] as usize == self.layout.limit {
+        if seat.counts[shard as usize] as usize == self.layout.places {
             self.overflow(seat, probe);
             self.give(seat, shard);
             return Put::Over;
@@ -75,9 +75,9 @@ impl<S: Space, A: Allocator> Board<S, A> {
     /// Tries to put a word in that is a successor of the one that the seat has claimed.
     ///
     /// After `New` and `Known` the seat has seen the word at that place; `New` put it in, `Known` and `Busy` put
-    /// nothing in, and all three leave the claim. After `Over` the seat knows that more words than the limit are
-    /// reached, the stop is set, the claim is given up and its entry stays claimed for good; the word may have been
-    /// put in.
+    /// nothing in, and all three leave the claim. After `Over` the seat knows that more words are reached than the
+    /// board may have, the stop is set, the claim is given up and its entry stays claimed for good; the word may have
+    /// been put in.
     pub fn try_insert(&self, seat: &mut BoardSeat, word: u128) -> Put
         requires seat { IsAtRest self.now seat.old }
         requires successor { IsSuccessor (S.successors self.now.space) seat.old word }

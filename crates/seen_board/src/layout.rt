@@ -38,20 +38,20 @@ pub fn shard_of(word: u128) -> u8
     ((3 * high + low) % SHARDS as u64) as u8
 }
 
-/// The table of a board whose rows have up to `limit` places. Behind the counters, the locks and the lengths come four
+/// The table of a board whose rows have so many places. Behind the counters, the locks and the lengths come four
 /// blocks with a word for each place: low halves, high halves, lives, and the index. In a block the shards take turns.
 #[derive(Clone, Copy, Debug, Drop)]
 pub(crate) struct Layout {
-    pub limit: usize,
+    pub places: usize,
 }
 
 impl Layout {
     /// How many words there are.
     pub fn size(&self) -> usize
-        requires small { self.now.limit ≤ 32768 }
-        ensures { result ≡ size_for self.now.limit }
+        requires small { self.now.places ≤ 32768 }
+        ensures { result ≡ size_for self.now.places }
     {
-        BLOCKS + 4 * SHARDS * self.limit
+        BLOCKS + 4 * SHARDS * self.places
     }
 
     /// The lock of a shard.
@@ -72,7 +72,7 @@ impl Layout {
 
     /// The low half of the entry at a place.
     pub fn low(&self, shard: u8, at: usize) -> usize
-        requires place { (shard < 13) × (at < 65536) × (self.now.limit ≤ 32768) }
+        requires place { (shard < 13) × (at < 65536) × (self.now.places ≤ 32768) }
         ensures { result ≡ low_word shard at }
     {
         BLOCKS + SHARDS * at + shard as usize
@@ -80,46 +80,46 @@ impl Layout {
 
     /// The high half of the entry at a place.
     pub fn high(&self, shard: u8, at: usize) -> usize
-        requires place { (shard < 13) × (at < 65536) × (self.now.limit ≤ 32768) }
-        ensures { result ≡ high_word self.now.limit shard at }
+        requires place { (shard < 13) × (at < 65536) × (self.now.places ≤ 32768) }
+        ensures { result ≡ high_word self.now.places shard at }
     {
-        BLOCKS + SHARDS * self.limit + SHARDS * at + shard as usize
+        BLOCKS + SHARDS * self.places + SHARDS * at + shard as usize
     }
 
     /// The life of the entry at a place.
     pub fn life(&self, shard: u8, at: usize) -> usize
-        requires place { (shard < 13) × (at < 65536) × (self.now.limit ≤ 32768) }
-        ensures { result ≡ life_word self.now.limit shard at }
+        requires place { (shard < 13) × (at < 65536) × (self.now.places ≤ 32768) }
+        ensures { result ≡ life_word self.now.places shard at }
     {
-        BLOCKS + 2 * SHARDS * self.limit + SHARDS * at + shard as usize
+        BLOCKS + 2 * SHARDS * self.places + SHARDS * at + shard as usize
     }
 
     /// A word of a shard's index, which has as many as the row has places.
     pub fn mark(&self, shard: u8, slot: usize) -> usize
-        requires place { (shard < 13) × (slot < self.now.limit) × (self.now.limit ≤ 32768) }
-        ensures { result ≡ index_word self.now.limit shard slot }
+        requires place { (shard < 13) × (slot < self.now.places) × (self.now.places ≤ 32768) }
+        ensures { result ≡ index_word self.now.places shard slot }
     {
-        BLOCKS + 3 * SHARDS * self.limit + SHARDS * slot + shard as usize
+        BLOCKS + 3 * SHARDS * self.places + SHARDS * slot + shard as usize
     }
 
     /// How many words of its shard's index a word has.
     pub fn window(&self) -> usize
-        ensures window { result ≡ window self.now.limit }
-        ensures within { result ≤ self.now.limit }
+        ensures window { result ≡ window self.now.places }
+        ensures within { result ≤ self.now.places }
         ensures eight { result ≤ 8 }
     {
-        if self.limit < 8 { self.limit } else { 8 }
+        if self.places < 8 { self.places } else { 8 }
     }
 
     /// What is computed once of a word that is looked for.
     pub fn probe(&self, word: u128) -> Probe
-        requires limit { (0 < self.now.limit) × (self.now.limit ≤ 32768) }
+        requires places { (0 < self.now.places) × (self.now.places ≤ 32768) }
         ensures word { result.word ≡ word }
-        ensures probe { IsProbe self.now.limit result }
+        ensures probe { IsProbe self.now.places result }
     {
         // One long division tells both: of what it leaves, the shard is the last digit to base 13, and the index word
         // the rest.
-        let places = SHARDS * self.limit;
+        let places = SHARDS * self.places;
         let left = match u64::try_from(word) {
             Ok(short) => (short % places as u64) as usize,
             Err(_) => (word % places as u128) as usize,
@@ -133,16 +133,16 @@ impl Layout {
 
     /// The t-th index word of a word, counted from 0. Behind the last word of the index comes word 0.
     pub fn slot(&self, probe: Probe, t: usize) -> usize
-        requires probe { IsProbe self.now.limit probe }
-        requires range { (t ≤ self.now.limit) × (self.now.limit ≤ 32768) }
-        ensures slot { result ≡ slot self.now.limit probe.word t }
-        ensures below { result < self.now.limit }
+        requires probe { IsProbe self.now.places probe }
+        requires range { (t ≤ self.now.places) × (self.now.places ≤ 32768) }
+        ensures slot { result ≡ slot self.now.places probe.word t }
+        ensures below { result < self.now.places }
     {
         let slot = probe.first + t;
-        if slot < self.limit {
+        if slot < self.places {
             slot
         } else {
-            slot - self.limit
+            slot - self.places
         }
     }
 }

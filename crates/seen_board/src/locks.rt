@@ -24,7 +24,7 @@ impl<S: Space, A: Allocator> Board<S, A> {
         requires right { HasRightOf seat.old.me.0 shard }
         ensures same { IsSame seat.old seat.new }
         ensures length { result ≡ length (row_of seat.old.me.0.rows.seen shard) }
-        ensures within { result ≤ self.now.limit }
+        ensures within { result ≤ self.now.places }
     {
         self.table
             .shared
@@ -97,7 +97,7 @@ impl<S: Space, A: Allocator> Board<S, A> {
         requires right { (shard < 13) × HasRight seat.old shard }
         ensures same { seat.new ≡ seat.old }
         ensures count { result ≡ length (row_of seat.old.seen shard) }
-        ensures within { result ≤ self.now.limit }
+        ensures within { result ≤ self.now.places }
     {
         self.measure(&mut seat.seat, shard)
     }

@@ -19,7 +19,7 @@ impl<S: Space, A: Allocator> Board<S, A> {
     /// What is computed once of a word that is looked for.
     pub(crate) fn probe(&self, word: u128) -> Probe
         ensures word { result.word ≡ word }
-        ensures probe { IsProbe self.now.limit result }
+        ensures probe { IsProbe self.now.places result }
     {
         self.layout.probe(word)
     }
@@ -27,10 +27,10 @@ impl<S: Space, A: Allocator> Board<S, A> {
     /// What the index tells of a word, under a right of its shard and with nothing to file.
     fn search(&self, seat: &mut Seat<(), View>, probe: Probe) -> Found
         requires seat { SitsAt self.now seat.old }
-        requires probe { IsProbe self.now.limit probe }
+        requires probe { IsProbe self.now.places probe }
         requires right { HasRightOf seat.old.me.0 probe.shard }
         requires filed { seat.old.me.0.rows.unfiled ≡ 0 }
-        requires short { length (row_of seat.old.me.0.rows.seen probe.shard) ≤ self.now.limit }
+        requires short { length (row_of seat.old.me.0.rows.seen probe.shard) ≤ self.now.places }
         ensures same { IsSame seat.old seat.new }
         ensures found { FoundOk (row_of seat.old.me.0.rows.seen probe.shard) probe.word result }
     {
@@ -71,7 +71,7 @@ impl<S: Space, A: Allocator> Board<S, A> {
     /// The place of a word under a right of its shard, where no place below `from` has it.
     pub(crate) fn look_from(&self, seat: &mut BoardSeat, from: u16, probe: Probe) -> Option<u16>
         requires seat { IsOf self.now seat.old }
-        requires probe { IsProbe self.now.limit probe }
+        requires probe { IsProbe self.now.places probe }
         requires right { HasRight seat.old probe.shard }
         requires before { (k : ℕ) → k < from → slice_index (row_of seat.old.seen probe.shard) k ≢ probe.word }
         ensures same { seat.new ≡ seat.old }
@@ -105,10 +105,10 @@ impl<S: Space, A: Allocator> Board<S, A> {
     /// Loads an index word. The places up to the one that it names are published, so the seat has seen them.
     fn scan(&self, seat: &mut BoardSeat, shard: u8, slot: usize) -> u64
         requires seat { IsOf self.now seat.old }
-        requires range { (shard < 13) × (slot < self.now.limit) }
+        requires range { (shard < 13) × (slot < self.now.places) }
         ensures sees { Sees seat.old seat.new }
         ensures named { result ≤ length (row_of seat.new.seen shard) }
-        ensures within { result ≤ self.now.limit }
+        ensures within { result ≤ self.now.places }
     {
         let mark = self
             .table
@@ -130,7 +130,7 @@ impl<S: Space, A: Allocator> Board<S, A> {
     /// Looks a word up with no right, as `find`.
     pub(crate) fn find_probe(&self, seat: &mut BoardSeat, probe: Probe) -> Option<Place>
         requires seat { IsOf self.now seat.old }
-        requires probe { IsProbe self.now.limit probe }
+        requires probe { IsProbe self.now.places probe }
         ensures sees { Sees seat.old seat.new }
         ensures found { MatchOption result (Unit {0}) (λ place. Names seat.new.seen place probe.word) }
     {

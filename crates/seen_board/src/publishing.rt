@@ -22,10 +22,10 @@ impl<S: Space, A: Allocator> Board<S, A> {
     /// the length, which publishes them.
     fn publish(&self, seat: &mut Seat<(), View>, at: usize, probe: Probe)
         requires seat { SitsAt self.now seat.old }
-        requires probe { IsProbe self.now.limit probe }
+        requires probe { IsProbe self.now.places probe }
         requires writes { HasWriteRightOf seat.old.me.0 probe.shard }
         requires rest { (seat.old.me.0.rows.unfiled ≡ 0) × (seat.old.me.0.pending.announced ≡ 0) }
-        requires room { (at ≡ length (row_of seat.old.me.0.rows.seen probe.shard)) × (at < self.now.limit) }
+        requires room { (at ≡ length (row_of seat.old.me.0.rows.seen probe.shard)) × (at < self.now.places) }
         requires claim { IsNext (S.successors self.now.space) seat.old.me.0 probe.word }
         requires absent { Lacks (row_of seat.old.me.0.rows.seen probe.shard) probe.word }
         ensures seat { StaysAt seat.old seat.new }
@@ -43,9 +43,9 @@ impl<S: Space, A: Allocator> Board<S, A> {
     /// Puts a place that was published into the index, at the first zero among its word's index words.
     fn file(&self, seat: &mut Seat<(), View>, at: usize, probe: Probe)
         requires seat { SitsAt self.now seat.old }
-        requires probe { IsProbe self.now.limit probe }
+        requires probe { IsProbe self.now.places probe }
         requires writes { HasWriteRightOf seat.old.me.0 probe.shard }
-        requires owes { (seat.old.me.0.rows.unfiled ≡ at + 1) × (at < self.now.limit)
+        requires owes { (seat.old.me.0.rows.unfiled ≡ at + 1) × (at < self.now.places)
             × (at < length (row_of seat.old.me.0.rows.seen probe.shard))
             × (slice_index (row_of seat.old.me.0.rows.seen probe.shard) at ≡ probe.word) }
         ensures seat { StaysAt seat.old seat.new × (seat.new.me.1 ≡ seat.old.me.1) }
@@ -68,11 +68,11 @@ impl<S: Space, A: Allocator> Board<S, A> {
     /// count is within the limit.
     fn append(&self, seat: &mut Seat<(), View>, at: usize, probe: Probe) -> bool
         requires seat { SitsAt self.now seat.old }
-        requires probe { IsProbe self.now.limit probe }
+        requires probe { IsProbe self.now.places probe }
         requires writes { HasWriteRightOf seat.old.me.0 probe.shard }
         requires rest { (length seat.old.me.0.rows.seen ≡ 13) × (seat.old.me.0.rows.unfiled ≡ 0)
             × (seat.old.me.0.pending.announced ≡ 0) × (seat.old.me.0.count.uncounted ≡ 0) }
-        requires room { (at ≡ length (row_of seat.old.me.0.rows.seen probe.shard)) × (at < self.now.limit) }
+        requires room { (at ≡ length (row_of seat.old.me.0.rows.seen probe.shard)) × (at < self.now.places) }
         requires claim { IsNext (S.successors self.now.space) seat.old.me.0 probe.word }
         requires absent { Lacks (row_of seat.old.me.0.rows.seen probe.shard) probe.word }
         ensures seat { StaysAt seat.old seat.new × (seat.new.me.1 ≡ seat.old.me.1) }
@@ -84,16 +84,16 @@ impl<S: Space, A: Allocator> Board<S, A> {
         self.file(seat, at, probe);
         let shared = &self.table.shared;
         shared.store::<Leave>(seat, self.layout.lock(probe.shard), 0);
-        shared.fetch_add::<Count>(seat, COUNT, 1) < self.layout.limit as u64
+        shared.fetch_add::<Count>(seat, COUNT, 1) < self.limit as u64
     }
 
     /// Puts a word in that the row lacks, under the write right, which is given up.
     pub(crate) fn add(&self, seat: &mut BoardSeat, probe: Probe) -> Put
         requires seat { IsOf self.now seat.old }
-        requires probe { IsProbe self.now.limit probe }
+        requires probe { IsProbe self.now.places probe }
         requires writes { Writes seat.old probe.shard }
         requires successor { IsSuccessor (S.successors self.now.space) seat.old probe.word }
-        requires room { length (row_of seat.old.seen probe.shard) < self.now.limit }
+        requires room { length (row_of seat.old.seen probe.shard) < self.now.places }
         requires absent { Lacks (row_of seat.old.seen probe.shard) probe.word }
         ensures added { AddOk probe.word seat.old seat.new result }
     {

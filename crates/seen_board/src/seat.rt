@@ -24,7 +24,7 @@ impl Model for BoardSeat {
 
     ghost view = { λ s. known_of s.seat.table_id s.seat.me.0 };
 
-    ghost invariant = { λ s. Rests s.seat.me × Counts s.seat.me.0.limit s.counts s.seat.me.0.rows.seen };
+    ghost invariant = { λ s. Rests s.seat.me × Counts s.seat.me.0.places s.counts s.seat.me.0.rows.seen };
 }
 
 impl BoardSeat {

@@ -2,12 +2,11 @@
 ghost use Rattle.std.specs.Prelude.{◌≡◌, ℕ, ◌/◌, ◌%◌, ◌<◌, [], length, max, slice_index};
 ghost use Rattle.std.specs.List.{All};
 ghost use Rattle.state_space.specs.Reach.{IsReached};
-ghost use Rattle.state_space.specs.Counts.{Outnumbers};
 ghost use Rattle.board_rule.specs.Lists.{row_of};
 ghost use Rattle.board_rule.specs.Lives.{Passes};
 ghost use Rattle.board_rule.specs.declared.life.Life.TheVariants.{Claimed};
 ghost use Rattle.board_rule.specs.Changes.{half_of};
-ghost use Rattle.board_rule.specs.Rule.{IsWhole};
+ghost use Rattle.board_rule.specs.Rule.{IsWhole, Overfills};
 ghost use Rattle.seen_board.specs.Ended.{Entries, Settled, Accounts, Done, life_in};
 ghost use Rattle.seen_board.specs.Clauses.{IsOf, SeesOn, both_known};
 
@@ -79,7 +78,7 @@ impl<S: Space, A: Allocator> Board<S, A> {
         requires { IsOf self seat }
         ensures seen { SeesOn seat.seen result.rows }
         ensures whole { 0 < seat.right → row_of seat.seen seat.held ≡ row_of result.rows seat.held }
-        ensures entries { Entries (S.successors self.space) (S.initial self.space) self.limit result.rows }
+        ensures entries { Entries (S.successors self.space) (S.initial self.space) self.places result.rows }
         ensures settled { Settled (S.successors self.space) (S.is_good self.space) result }
         ensures claimed { seat.claims ≡ 1 → life_in result seat.place ≡ Claimed }
         ensures given_up { All (λ p. life_in result p ≡ Claimed) seat.given_up }
@@ -88,9 +87,13 @@ impl<S: Space, A: Allocator> Board<S, A> {
         ensures accounts { IsWhole seat.share → Accounts (S.initial self.space) seat result }
         ensures finished { seat.finished ≡ 1 → Done (S.successors self.space) (S.initial self.space) result }
         ensures over { seat.over ≡ 1
-            → Outnumbers (IsReached (S.successors self.space) (S.initial self.space)) self.limit }
+            → Overfills (IsReached (S.successors self.space) (S.initial self.space)) self.limit self.places }
     {
-        let Board { table, layout } = self;
+        let Board {
+            table,
+            layout,
+            limit: _,
+        } = self;
         let BoardSeat { seat, counts: _ } = seat;
         Contents {
             closed: table.close_with(seat),

@@ -16,6 +16,7 @@ use std::snapshot::Snapshot;
 pub struct About<S> {
     pub space: Snapshot<S>,
     pub limit: usize,
+    pub places: usize,
 }
 
 /// The rule of a board's table.
@@ -27,11 +28,12 @@ impl<S: Space> TableRule<(), View, About<S>> for Order<S> {
     ghost holds = { λ about.
         Kept (record {
           limit = about.limit;
+          places = about.places;
           next = S.successors about.space.value;
           origin = S.initial about.space.value;
         }) (S.is_good about.space.value) };
 
-    ghost first = { λ about. first_view about.limit (S.initial about.space.value) };
+    ghost first = { λ about. first_view about.limit about.places (S.initial about.space.value) };
 }
 
 /// What is said of each entry: a load of one is told it by its type, since it cannot read the table's space.

@@ -29,7 +29,7 @@ module _ {S : Type 0} (b : Shown S) where
   -- one more successor is an entry that was seen
   grown : (v : Known) (place : Place) (next : List ℕ) (k x : ℕ) (s w : Known) → Expands b v place next k s → x ≡ get_or next k 0 → (added : List ℕ) (held : ℕ) → w ≡ record s { seen = w.seen; held = held; right = 0; added = added } → SeesOn s.seen w.seen → Has w.seen x → Expands b v place next (k + 1) w
   grown v place next k x s w o is added held e sees has = record {
-    of = (ap (λ (u : Known). u.board) e ∙ o.of.0, ap (λ (u : Known). u.limit) e ∙ o.of.1);
+    of = (ap (λ (u : Known). u.board) e ∙ o.of.0, ap (λ (u : Known). u.limit) e ∙ o.of.1, ap (λ (u : Known). u.places) e ∙ o.of.2);
     free = ap (λ (u : Known). u.right) e;
     claim = (ap (λ (u : Known). u.claims) e ∙ o.claim.0, ap (λ (u : Known). u.place) e ∙ o.claim.1);
     sees = sees_on_trans v.seen s.seen w.seen o.sees sees;
@@ -46,7 +46,7 @@ module _ {S : Type 0} (b : Shown S) where
   -- where the board is outgrown, the seat is idle and knows it
   pub expands_over : (v : Known) (place : Place) (next : List ℕ) (k x : ℕ) (s w : Known) (put : Put) → Expands b v place next k s → PutOk x s w put → put ≡ Over → IsIdle b w × SeesOn v.seen w.seen × (w.over ≡ 1)
   expands_over v place next k x s w put o ok over = let t : PutOk x s w Over = subst (PutOk x s w) over ok in
-      (((ap (λ (u : Known). u.board) t.0 ∙ o.of.0, ap (λ (u : Known). u.limit) t.0 ∙ o.of.1), ap (λ (u : Known). u.right) t.0, ap (λ (u : Known). u.claims) t.0), sees_on_trans v.seen s.seen w.seen o.sees t.1, ap (λ (u : Known). u.over) t.0)
+      (((ap (λ (u : Known). u.board) t.0 ∙ o.of.0, ap (λ (u : Known). u.limit) t.0 ∙ o.of.1, ap (λ (u : Known). u.places) t.0 ∙ o.of.2), ap (λ (u : Known). u.right) t.0, ap (λ (u : Known). u.claims) t.0), sees_on_trans v.seen s.seen w.seen o.sees t.1, ap (λ (u : Known). u.over) t.0)
 
   -- the word at k of the list is a successor of the claimed one
   pub expands_successor : (after : ℕ → List ℕ) (v : Known) (place : Place) (k x : ℕ) (s : Known) → HasPlace v.seen place → Expands b v place (after (word_at v.seen place)) k s → k < length (after (word_at v.seen place)) → x ≡ get_or (after (word_at v.seen place)) k 0 → IsSuccessor after s x
@@ -72,11 +72,11 @@ put_sees x s w Over (e, sees) = sees
 -- the claim is still there
 pub put_still : {S : Type 0} (b : Shown S) (place : Place) (x : ℕ) (s w : Known) (put : Put) → PutOk x s w put → IsOf b s → HasClaim s place → HasPlace s.seen place → put ≢ Over → IsAt b place (word_at s.seen place) w
 put_still b place x s w (New p) (e, sees, named, absent) of claim has not-over = let t = place_on s.seen w.seen place sees has in
-    ((ap (λ (u : Known). u.board) e ∙ of.0, ap (λ (u : Known). u.limit) e ∙ of.1), ap (λ (u : Known). u.right) e, (ap (λ (u : Known). u.claims) e ∙ claim.0, ap (λ (u : Known). u.place) e ∙ claim.1), t.0, t.1)
+    ((ap (λ (u : Known). u.board) e ∙ of.0, ap (λ (u : Known). u.limit) e ∙ of.1, ap (λ (u : Known). u.places) e ∙ of.2), ap (λ (u : Known). u.right) e, (ap (λ (u : Known). u.claims) e ∙ claim.0, ap (λ (u : Known). u.place) e ∙ claim.1), t.0, t.1)
 put_still b place x s w (Found p) ((e, sees), named) of claim has not-over = let t = place_on s.seen w.seen place sees has in
-    ((ap (λ (u : Known). u.board) e ∙ of.0, ap (λ (u : Known). u.limit) e ∙ of.1), ap (λ (u : Known). u.right) e, (ap (λ (u : Known). u.claims) e ∙ claim.0, ap (λ (u : Known). u.place) e ∙ claim.1), t.0, t.1)
+    ((ap (λ (u : Known). u.board) e ∙ of.0, ap (λ (u : Known). u.limit) e ∙ of.1, ap (λ (u : Known). u.places) e ∙ of.2), ap (λ (u : Known). u.right) e, (ap (λ (u : Known). u.claims) e ∙ claim.0, ap (λ (u : Known). u.place) e ∙ claim.1), t.0, t.1)
 put_still b place x s w Busy (e, sees) of claim has not-over = let t = place_on s.seen w.seen place sees has in
-    ((ap (λ (u : Known). u.board) e ∙ of.0, ap (λ (u : Known). u.limit) e ∙ of.1), ap (λ (u : Known). u.right) e, (ap (λ (u : Known). u.claims) e ∙ claim.0, ap (λ (u : Known). u.place) e ∙ claim.1), t.0, t.1)
+    ((ap (λ (u : Known). u.board) e ∙ of.0, ap (λ (u : Known). u.limit) e ∙ of.1, ap (λ (u : Known). u.places) e ∙ of.2), ap (λ (u : Known). u.right) e, (ap (λ (u : Known). u.claims) e ∙ claim.0, ap (λ (u : Known). u.place) e ∙ claim.1), t.0, t.1)
 put_still b place x s w Over (e, sees) of claim has not-over = absurd (not-over refl)
 
 -- the word at k of the list of the claimed word is a successor of it, for a seat that has put in nothing yet
@@ -91,10 +91,10 @@ successor_at b after place k x s of free claim has inside is =
     )
 
 pub put_after : {S : Type 0} (b : Shown S) (x : ℕ) (s w : Known) (put : Put) → PutOk x s w put → IsOf b s → IsOf b w × (w.right ≡ 0)
-put_after b x s w (New p) (e, sees, named, absent) of = ((ap (λ (u : Known). u.board) e ∙ of.0, ap (λ (u : Known). u.limit) e ∙ of.1), ap (λ (u : Known). u.right) e)
-put_after b x s w (Found p) ((e, sees), named) of = ((ap (λ (u : Known). u.board) e ∙ of.0, ap (λ (u : Known). u.limit) e ∙ of.1), ap (λ (u : Known). u.right) e)
-put_after b x s w Busy (e, sees) of = ((ap (λ (u : Known). u.board) e ∙ of.0, ap (λ (u : Known). u.limit) e ∙ of.1), ap (λ (u : Known). u.right) e)
-put_after b x s w Over (e, sees) of = ((ap (λ (u : Known). u.board) e ∙ of.0, ap (λ (u : Known). u.limit) e ∙ of.1), ap (λ (u : Known). u.right) e)
+put_after b x s w (New p) (e, sees, named, absent) of = ((ap (λ (u : Known). u.board) e ∙ of.0, ap (λ (u : Known). u.limit) e ∙ of.1, ap (λ (u : Known). u.places) e ∙ of.2), ap (λ (u : Known). u.right) e)
+put_after b x s w (Found p) ((e, sees), named) of = ((ap (λ (u : Known). u.board) e ∙ of.0, ap (λ (u : Known). u.limit) e ∙ of.1, ap (λ (u : Known). u.places) e ∙ of.2), ap (λ (u : Known). u.right) e)
+put_after b x s w Busy (e, sees) of = ((ap (λ (u : Known). u.board) e ∙ of.0, ap (λ (u : Known). u.limit) e ∙ of.1, ap (λ (u : Known). u.places) e ∙ of.2), ap (λ (u : Known). u.right) e)
+put_after b x s w Over (e, sees) of = ((ap (λ (u : Known). u.board) e ∙ of.0, ap (λ (u : Known). u.limit) e ∙ of.1, ap (λ (u : Known). u.places) e ∙ of.2), ap (λ (u : Known). u.right) e)
 
 -- one more word was tried
 pub tried_more : (words : List ℕ) (v u w : Known) (puts : List Put) (put : Put) → Tries words v u puts → length puts < length words → PutOk (get_or words (length puts) 0) u w put → Tries words v w (puts ++ put ∷ [])

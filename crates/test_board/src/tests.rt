@@ -246,6 +246,41 @@ fn a_full_row_is_over(rt: HostRuntime) -> Result<(), Fail> {
     put_on_two(&rt, &[13, 26], &[Put::New(second), Put::Over])
 }
 
+/// On a board with room for four words, one of them a shard, the words behind the first are answered so.
+fn put_on_short_rows<R: Abort + AllocGlobal>(
+    rt: &R,
+    after: &[u128],
+    expected: &[Put],
+) -> Result<(), Fail>
+    requires { length after.now < 4294967296 }
+{
+    let fan = Fan { after };
+    let (board, mut seat, _) = Board::open_with_rows(rt.alloc(), &fan, 4, 1)?;
+    put_all(rt, &board, &fan, &mut seat, expected)
+}
+
+#[test]
+fn a_full_row_is_over_below_the_limit(rt: HostRuntime) -> Result<(), Fail> {
+    let second = Place { shard: 2, at: 0 };
+    put_on_short_rows(
+        &rt,
+        &[1, 2, 14],
+        &[Put::New(FIRST), Put::New(second), Put::Over],
+    )
+}
+
+#[test]
+fn the_limit_is_over_where_no_row_is_full(rt: HostRuntime) -> Result<(), Fail> {
+    let (second, third) = (Place { shard: 2, at: 0 }, Place { shard: 3, at: 0 });
+    let expected = [
+        Put::New(FIRST),
+        Put::New(second),
+        Put::New(third),
+        Put::Over,
+    ];
+    put_on_short_rows(&rt, &[1, 2, 3, 4], &expected)
+}
+
 #[test]
 fn one_seat_settles_all_entries(rt: HostRuntime) -> Result<(), Fail> {
     let (board, seat, _) = Board::open(rt.alloc(), &Diamond, 4)?;

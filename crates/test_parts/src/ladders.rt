@@ -10,7 +10,7 @@ use std::sync::Wait;
 use std::sync::atomic::{AtomicU64, Ordering};
 use std::test::Fail;
 use std::thread::Threads;
-use test_board::Ladder;
+use test_board::{Fan, Ladder};
 use test_support::gates::Meeting;
 
 /// Counts the claims.
@@ -90,6 +90,28 @@ fn a_small_ladder(rt: HostRuntime) -> Result<(), Fail> {
     for workers in [1, 2] {
         assert!(rt; is_found(&rt, &ladder, 6, workers, &[4, 3, 5])?);
         assert!(rt; is_refused(&rt, &ladder, 5, workers));
+    }
+    Ok(())
+}
+
+/// The words 0, 13, 26 and so on up to 13 * 99, which are all of one shard.
+fn words_of_one_shard() -> [u128; 99] {
+    let mut words = [0; 99];
+    for k in 0..99 {
+        words[k] = 13 * (k as u128 + 1);
+    }
+    words
+}
+
+#[test]
+fn one_shard_may_have_all_words(rt: HostRuntime) -> Result<(), Fail> {
+    let after = words_of_one_shard();
+    let fan = Fan { after: &after };
+    for workers in [1, 2, 8, 16] {
+        let found = explore(&rt, rt.alloc(), &fan, 100, workers, &OpenGate)?;
+        assert!(rt; found.total == 100 && found.broken.is_empty());
+        let refused = explore(&rt, rt.alloc(), &fan, 99, workers, &OpenGate);
+        assert!(rt; matches!(&refused, Err(ExploreFault::TooMany)));
     }
     Ok(())
 }

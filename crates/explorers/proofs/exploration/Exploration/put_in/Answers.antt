@@ -7,6 +7,7 @@ pub returns-then-has-clause-within : goal.returns-then-has-clause-within
 returns-then-has-clause-within g c = λ _. record {
   board = refl;
   limit = refl;
+  places = refl;
   free = c.requires.free.free;
   claims = refl;
   place = refl;

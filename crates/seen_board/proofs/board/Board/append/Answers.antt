@@ -16,8 +16,8 @@ file-requires-clause-owes g c = let t = entry_there c.args.seat.now.me.0 c.args.
     rw c.publish.ensures.view (omega (arith, here), c.requires.room.1, t.0, t.1)
 
 pub store-requires : goal.store-requires
-store-requires g c = let filed : Filed (with_entry c.args.seat.now.me.0 c.args.probe.word) c.file.new.seat.me.0 = rw c.publish.ensures.view at c.file.ensures.rest in let key : c.self.inside.table.shared.key.limit ≡ c.args.self.now.limit = search rules in
-    (search rules, search rules, gives _ _ _ _ _ _ _ (omega (arith, ap (λ (v : View). v.rows.held) filed, c.requires.writes.1, c.lock.ensures)) (ap (λ (v : View). v.limit) filed ∙ c.requires.seat.1 ∙ sym key) (ap (λ (v : View). v.rows.right) filed ∙ c.requires.writes.2) (ap (λ (v : View). v.pending.announced) filed) c.file.ensures.paid)
+store-requires g c = let filed : Filed (with_entry c.args.seat.now.me.0 c.args.probe.word) c.file.new.seat.me.0 = rw c.publish.ensures.view at c.file.ensures.rest in let key : c.self.inside.table.shared.key.places ≡ c.args.self.now.places = search rules in
+    (search rules, search rules, gives _ _ _ _ _ _ _ (omega (arith, ap (λ (v : View). v.rows.held) filed, c.requires.writes.1, c.lock.ensures)) (ap (λ (v : View). v.places) filed ∙ c.requires.seat.2 ∙ sym key) (ap (λ (v : View). v.rows.right) filed ∙ c.requires.writes.2) (ap (λ (v : View). v.pending.announced) filed) c.file.ensures.paid)
 
 pub fetch_add-requires : goal.fetch_add-requires
 fetch_add-requires g c = let filed : Filed (with_entry c.args.seat.now.me.0 c.args.probe.word) c.file.new.seat.me.0 = rw c.publish.ensures.view at c.file.ensures.rest in let key : c.self.inside.table.shared.key.limit ≡ c.args.self.now.limit = search rules in

@@ -32,4 +32,4 @@ pub returns-clause-finished : goal.returns-clause-finished
 returns-clause-finished g c = rw (← c.self.view_is, ← c.seat.view_is) (λ f. end_done _ _ _ _ _ _ _ (rw c.self.invariant.2 at c.close_with.ensures.values.2) f)
 
 pub returns-clause-over : goal.returns-clause-over
-returns-clause-over g c = rw (← c.self.view_is, ← c.seat.view_is) (end_over _ _ _ _ _ _ _ (rw c.self.invariant.2 at c.close_with.ensures.values.2))
+returns-clause-over g c = rw (← c.self.view_is, ← c.seat.view_is) (end_over _ _ _ _ _ _ _ (rw c.self.invariant.3 at (rw c.self.invariant.2 at c.close_with.ensures.values.2)))

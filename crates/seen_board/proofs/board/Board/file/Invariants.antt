@@ -7,5 +7,5 @@ invariant-loop-t g l = record {
   table : l.seat.table_id ≡ l.initial.seat.table_id;
   id : l.seat.id ≡ l.initial.seat.id;
   same : l.seat.me ≡ l.initial.seat.me;
-  full : (u : ℕ) → u < l.t → slice_index l.initial.seat.me.0.rows.marks (slot l.initial.self.limit l.probe.word u) ≢ 0;
+  full : (u : ℕ) → u < l.t → slice_index l.initial.seat.me.0.rows.marks (slot l.initial.self.places l.probe.word u) ≢ 0;
 }

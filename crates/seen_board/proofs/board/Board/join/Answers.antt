@@ -13,8 +13,8 @@ load-requires g c = (search rules, search rules, places _ _ _ _ _ _ _)
 
 pub invariant_of-seat : goal.invariant_of-seat
 invariant_of-seat g c = let v = c.seat.inside.seat.me.0 in let w = c.other.inside.seat.me.0 in let near : (both_views v w).rows.held < 13 = rw c.join_seat.ensures.2 at c.load.ensures.2.1 in let i = c.seat.invariant in let j = c.other.invariant in
-    let one : w.limit ≡ v.limit = search rules in
-    rw c.load.ensures.2.0 (rw c.join_seat.ensures.2 ((i.0.0, i.0.1, join_idle v w i.0.2), join_counts v w near i.1.all j.1.all v.limit c.seat.inside.counts c.other.inside.counts c.larger_counts-counts.result i.1 (rw one at j.1) c.larger_counts-counts.ensures))
+    let one : w.places ≡ v.places = search rules in
+    rw c.load.ensures.2.0 (rw c.join_seat.ensures.2 ((i.0.0, i.0.1, join_idle v w i.0.2), join_counts v w near i.1.all j.1.all v.places c.seat.inside.counts c.other.inside.counts c.larger_counts-counts.result i.1 (rw one at j.1) c.larger_counts-counts.ensures))
 
 pub returns-clause-both : goal.returns-clause-both
 returns-clause-both g c = let v = c.seat.inside.seat.me.0 in let w = c.other.inside.seat.me.0 in let near : (both_views v w).rows.held < 13 = rw c.join_seat.ensures.2 at c.load.ensures.2.1 in

@@ -9,11 +9,11 @@ pub fetch_add-requires : goal.fetch_add-requires
 fetch_add-requires g c = let p = c.args.seat.now.me.0.lives.place in (search rules, search rules, announces _ _ _ _ _ _ (p % 13) (p / 13) (search rules) (omega arith) c.requires.claim.0 (omega arith) c.requires.writes.2 c.requires.rest.1)
 
 pub store-requires : goal.store-requires
-store-requires g c = let here : length (row_of c.args.seat.now.me.0.rows.seen c.args.seat.now.me.0.rows.held) ≡ c.args.at = ap (λ (q : ℕ). length (row_of c.args.seat.now.me.0.rows.seen q)) c.requires.writes.1 ∙ sym c.requires.room.0 in let key : c.self.inside.table.shared.key.limit ≡ c.args.self.now.limit = search rules in
+store-requires g c = let here : length (row_of c.args.seat.now.me.0.rows.seen c.args.seat.now.me.0.rows.held) ≡ c.args.at = ap (λ (q : ℕ). length (row_of c.args.seat.now.me.0.rows.seen q)) c.requires.writes.1 ∙ sym c.requires.room.0 in let key : c.self.inside.table.shared.key.places ≡ c.args.self.now.places = search rules in
     (search rules, search rules, rw c.fetch_add.ensures.2 (lays_low _ _ _ _ _ _ _ _ (omega (arith, here, c.requires.writes.1, c.low.ensures)) c.requires.writes.2 (omega (arith, here, key, c.requires.room.1))))
 
 pub store-requires-2 : goal.store-requires-2
-store-requires-2 g c = let here : length (row_of c.args.seat.now.me.0.rows.seen c.args.seat.now.me.0.rows.held) ≡ c.args.at = ap (λ (q : ℕ). length (row_of c.args.seat.now.me.0.rows.seen q)) c.requires.writes.1 ∙ sym c.requires.room.0 in let key : c.self.inside.table.shared.key.limit ≡ c.args.self.now.limit = search rules in let same : c.self.inside.layout.limit ≡ c.args.self.now.limit = search rules in
+store-requires-2 g c = let here : length (row_of c.args.seat.now.me.0.rows.seen c.args.seat.now.me.0.rows.held) ≡ c.args.at = ap (λ (q : ℕ). length (row_of c.args.seat.now.me.0.rows.seen q)) c.requires.writes.1 ∙ sym c.requires.room.0 in let key : c.self.inside.table.shared.key.places ≡ c.args.self.now.places = search rules in let same : c.self.inside.layout.places ≡ c.args.self.now.places = search rules in
     (search rules, omega (arith, c.requires.room.1, same, c.self.invariant.0, c.requires.writes.0, c.high.ensures), rw c.store.ensures.2 (rw c.fetch_add.ensures.2 (lays_high _ _ _ _ _ _ _ _ (omega (arith, here, key, same, c.requires.writes.1, c.high.ensures)) c.requires.writes.2 (omega (arith, here, key, c.requires.room.1)))))
 
 pub store-requires-3 : goal.store-requires-3

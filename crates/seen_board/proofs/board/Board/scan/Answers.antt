@@ -8,7 +8,7 @@ pub load-mark-requires : goal.load-mark-requires
 load-mark-requires g c = (search rules, search rules, scans _ _ _ _ _ _ _ c.args.shard c.args.slot (search rules) c.requires.range.0 (search rules) (search rules))
 
 pub overflow_cast-mark : goal.overflow_cast-mark
-overflow_cast-mark g c = let t : Scans c.seat.inside.seat.me.0 c.args.shard c.load-mark.result c.load-mark.new.seat.me.0 = c.load-mark.ensures.2.1 c.args.shard c.args.slot (search rules) c.requires.range.0 (search rules) in let small : c.seat.inside.seat.me.0.limit ≤ 32768 = search rules in
+overflow_cast-mark g c = let t : Scans c.seat.inside.seat.me.0 c.args.shard c.load-mark.result c.load-mark.new.seat.me.0 = c.load-mark.ensures.2.1 c.args.shard c.args.slot (search rules) c.requires.range.0 (search rules) in let small : c.seat.inside.seat.me.0.places ≤ 32768 = search rules in
     omega (arith, t.within, small)
 
 pub invariant_of-seat : goal.invariant_of-seat
@@ -24,5 +24,5 @@ returns-clause-named g c = let t : Scans c.seat.inside.seat.me.0 c.args.shard c.
     scans_named t c.seat.invariant.1.all c.requires.range.0
 
 pub returns-clause-within : goal.returns-clause-within
-returns-clause-within g c = let t : Scans c.seat.inside.seat.me.0 c.args.shard c.load-mark.result c.load-mark.new.seat.me.0 = c.load-mark.ensures.2.1 c.args.shard c.args.slot (search rules) c.requires.range.0 (search rules) in let told : c.seat.inside.seat.me.0.limit ≡ c.args.self.now.limit = search rules in
+returns-clause-within g c = let t : Scans c.seat.inside.seat.me.0 c.args.shard c.load-mark.result c.load-mark.new.seat.me.0 = c.load-mark.ensures.2.1 c.args.shard c.args.slot (search rules) c.requires.range.0 (search rules) in let told : c.seat.inside.seat.me.0.places ≡ c.args.self.now.places = search rules in
     omega (arith, t.within, told)

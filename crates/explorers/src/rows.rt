@@ -1,0 +1,52 @@
+//! How long the rows of a board are.
+ghost use Rattle.std.specs.Prelude.{◌≡◌, ℕ, ◌<◌, ◌≤◌, ◌/◌, ◌⊎◌, ◌↔◌, IsTrue};
+ghost use Rattle.explorers.specs.Primes.{IsPrime};
+
+/// How many words a board may have, and how many of one shard.
+#[derive(Clone, Copy, Debug, Drop)]
+pub(crate) struct Room {
+    pub limit: usize,
+    pub places: usize,
+}
+
+/// A board for fewer words has rows as long as its limit.
+const FEW: usize = 64;
+
+/// How many places the rows of a board for so many words have first.
+///
+/// A shard has a 13th of the words on average, and each place of each row takes memory. So it is the smallest prime
+/// that is at least a quarter of the limit, which is three times that and leaves the index of a row two thirds empty.
+/// A word's place in the index is its number modulo the places, which spreads where they are a prime. Where the limit
+/// is below 64, or no such prime is below it, it is the limit.
+pub(crate) fn first_places(limit: usize) -> usize
+    requires { 0 < limit }
+    ensures some { 0 < result }
+    ensures within { result ≤ limit }
+    ensures share { limit / 4 ≤ result }
+    ensures prime { IsPrime result ⊎ (result ≡ limit) }
+    ensures least { 64 ≤ limit → (n : ℕ) → limit / 4 ≤ n → n < result → ¬ (IsPrime n) }
+{
+    if limit < FEW {
+        return limit;
+    }
+    for places in limit / 4..limit {
+        if is_prime(places) {
+            return places;
+        }
+    }
+    limit
+}
+
+/// Whether a number is a prime. One that is none has a divisor up to its root.
+fn is_prime(n: usize) -> bool
+    ensures { IsTrue result ↔ IsPrime n }
+{
+    let mut divisor = 2;
+    while divisor <= n / divisor {
+        if n % divisor == 0 {
+            return false;
+        }
+        divisor += 1;
+    }
+    1 < n
+}
