@@ -30,9 +30,9 @@ const REFUSED: u8 = 2;
 
 /// Answers a command line, and gives the exit status: 0 with no failing set, 1 with at least one, 2 with a refusal.
 ///
-/// `words` stand without the program's name. It reads the script that they name, else `input`, writes the report to `out`,
-/// and a refusal, as one line, or a fault of the command line to `err`. A request for help or for the version is
-/// printed on `out`, with status 0.
+/// `words` stand without the program's name. It reads the script that they name, else `input`, writes the report to
+/// `out`, and a refusal, as one line, or a fault of the command line to `err`. A request for help or for the version
+/// is printed on `out`, with status 0.
 /// `heap` is what the command line and JSON take memory from, whose crates take no other, and `alloc` serves the rest.
 pub fn answer<'a, R, A, I, O, E>(
     rt: &R,

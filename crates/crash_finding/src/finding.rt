@@ -52,7 +52,8 @@ where
 {
     /// What the report that the settings ask for needs.
     ///
-    /// It fails with `TooMany` only where a crash can leave more sets than the limit, and else only when out of memory.
+    /// It fails with `TooMany` only where a crash can leave more sets than the limit, and else only when out of
+    /// memory.
     pub fn find(&self, crashes: &Crashes<'_, A>) -> Result<Found<A>, RunFault>
         ensures found { IfOk result
             (AreFound self.now.settings.now crashes.now.kept crashes.now.base.now crashes.now.graph.now) }
@@ -112,7 +113,8 @@ where
     /// How many sets a crash can leave, how many of them fail, and the first failing one that a crash cannot leave
     /// under another graph.
     ///
-    /// It fails with `TooMany` only where a crash can leave more sets than the limit, and else only when out of memory.
+    /// It fails with `TooMany` only where a crash can leave more sets than the limit, and else only when out of
+    /// memory.
     pub fn count_failing(
         &self,
         crashes: &Crashes<'_, A>,

@@ -5,8 +5,8 @@ ghost use Rattle.std.specs.List.{All, Contains};
 use std::alloc::{AllocError, Allocator};
 use std::marker::Model;
 
-/// Words that a worker has met on the board, each at the one place of a table where it is looked for. A word that comes
-/// there takes the place of the one before.
+/// Words that a worker has met on the board, each at the one place of a table where it is looked for. A word that
+/// comes there takes the place of the one before.
 ///
 /// A successor among them is an entry, so that it needs no step on the board. That a word is not among them says
 /// nothing. Contracts see the words.

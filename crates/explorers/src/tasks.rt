@@ -1,6 +1,6 @@
 //! The tasks of a worker.
-ghost use Rattle.std.specs.Prelude.{◌≡◌, ◌<◌, ◌≤◌, ◌++◌, [], ◌∷◌, length, All, IfOk, MatchOption, MatchResult};
-ghost use Rattle.hands.specs.Accounts.{account_of};
+ghost use Rattle.std.specs.Prelude.{◌≡◌, ◌<◌, ◌≤◌, length, All, IfOk, MatchOption, MatchResult};
+ghost use Rattle.hands.specs.Accounts.{with_pushed, with_taken};
 ghost use Rattle.explorers.specs.Tasks.{HasStolen};
 
 use hands::Hand;
@@ -49,7 +49,7 @@ impl<A: Allocator> Tasks<A> {
     /// Puts a task at the back of the worker's own deque, or hands it back where the deque cannot grow.
     pub fn push(&mut self, task: Task) -> Result<(), Task>
         ensures { MatchResult result
-            (λ _. self.new ≡ record self.old { own = account_of (self.old.own.pushed ++ task ∷ []) self.old.own.taken self.old.own.parts })
+            (λ _. self.new ≡ record self.old { own = with_pushed self.old.own task })
             (λ back. (back ≡ task) × (self.new ≡ self.old)) }
     {
         self.hand.push(task)
@@ -59,7 +59,7 @@ impl<A: Allocator> Tasks<A> {
     pub fn pop(&mut self) -> Option<Task>
         ensures { MatchOption result
             (self.new ≡ self.old)
-            (λ task. self.new ≡ record self.old { own = account_of self.old.own.pushed (self.old.own.taken ++ task ∷ []) self.old.own.parts }) }
+            (λ task. self.new ≡ record self.old { own = with_taken self.old.own task }) }
     {
         self.hand.pop()
     }

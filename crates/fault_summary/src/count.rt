@@ -144,7 +144,8 @@ impl<'a, A: Allocator + Copy> CountVisitor<'a, A> {
     /// The count of one set that a crash can leave.
     fn count_of(&self, scratch: &mut Scratch<'a, A>, set: u128) -> Result<Count, AllocError>
         requires closed { IsClosed (deps_of self.now.patches) set }
-        requires own { scratch.old ≡ record { base = self.now.base; patches = self.now.patches; kept = self.now.kept } }
+        requires own { scratch.old
+            ≡ record { base = self.now.base; patches = self.now.patches; kept = self.now.kept } }
         ensures own { scratch.new ≡ scratch.old }
         ensures counted { IfOk result (λ count.
             AreCounted (IsBad self.now) (IsAllowed self.now) (set ∷ []) count.failing count.first) }

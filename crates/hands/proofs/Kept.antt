@@ -5,7 +5,7 @@ use Rattle.std.specs.List.{remove}
 use Rattle.std.proofs.lemmas.List.Sums.{sum_by-append, sum_by-drop_more, sum_by-take-drop}
 use Rattle.std.proofs.lemmas.List.Elements.{All-set, All-append, All-take, All-drop, All-same}
 use Rattle.atomic_blocks.specs.Lent.{RowsId}
-use Rattle.hands.specs.Accounts.{account_of}
+use Rattle.hands.specs.Accounts.{with_taken}
 use Rattle.hands.specs.Known.{Way, Known}
 use Rattle.hands.specs.Together.{way_homes, hand_homes, IsWay, AreWays, AreFresh, AreTogether, IsHandOf, IsSameHand}
 use Rattle.hands.specs.Left.{LeadsTo}
@@ -13,7 +13,7 @@ use Rattle.hands.specs.Left.{LeadsTo}
 module _ {T A : Type 0} where
   -- a way after one steal
   pub way-kept : (r : Option T) (before after : Way T A)
-      → MatchOption r (after ≡ before) (λ task. after ≡ record before { holds = account_of before.holds.pushed (before.holds.taken ++ task ∷ []) before.holds.parts })
+      → MatchOption r (after ≡ before) (λ task. after ≡ record before { holds = with_taken before.holds task })
       → (after.home ≡ before.home) × (IsWay before → IsWay after)
   way-kept None before after e = (ap (λ (w : Way T A). w.home) e, subst IsWay (sym e))
   way-kept (Some task) before after e = (ap (λ (w : Way T A). w.home) e, subst IsWay (sym e))

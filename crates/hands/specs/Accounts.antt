@@ -1,10 +1,17 @@
 -- The account of a deque: what was taken and what is left is what was pushed, each as often.
-use Rattle.std.specs.Prelude.{◌≡◌, ℕ, ◌+◌, List, [], ◌∷◌, All}
+use Rattle.std.specs.Prelude.{◌≡◌, ℕ, ◌+◌, List, [], ◌∷◌, ◌++◌, All}
 use Rattle.hands.specs.declared.account.Held.{Held}
 
 module _ {T : Type 0} where
   abbrev pub account_of : List T → List T → ℕ → Held T
   account_of pushed taken parts = record { pushed = pushed; taken = taken; parts = parts }
+
+  -- the same with one more task that was pushed, or taken
+  abbrev pub with_pushed : Held T → T → Held T
+  with_pushed held task = account_of (held.pushed ++ task ∷ []) held.taken held.parts
+
+  abbrev pub with_taken : Held T → T → Held T
+  with_taken held task = account_of held.pushed (held.taken ++ task ∷ []) held.parts
 
   -- the weights of some tasks in all; two lists with the same weights for every weighing have each task as often
   abbrev pub weigh : (T → ℕ) → List T → ℕ

@@ -1,7 +1,7 @@
 //! A worker's hand.
-ghost use Rattle.std.specs.Prelude.{◌≡◌, ◌<◌, ◌++◌, [], ◌∷◌, length, MatchOption, MatchResult, slice_index_or, slice_set};
+ghost use Rattle.std.specs.Prelude.{◌≡◌, ◌<◌, length, MatchOption, MatchResult, slice_index_or, slice_set};
 ghost use Rattle.crossbeam_deque.specs.Handles.{worker_view, worker_deque};
-ghost use Rattle.hands.specs.Accounts.{account_of};
+ghost use Rattle.hands.specs.Accounts.{with_pushed, with_taken};
 ghost use Rattle.hands.specs.Together.{IsSameHand};
 
 use crate::account::{Accounts, Held, Pushed, Taken};
@@ -41,7 +41,7 @@ impl<T: Drop, A: Allocator> Hand<T, A> {
     pub fn push(&mut self, task: T) -> Result<(), T>
         ensures same { IsSameHand self.old self.new }
         ensures pushed { MatchResult result
-            (λ _. self.new ≡ record self.old { own = account_of (self.old.own.pushed ++ task ∷ []) self.old.own.taken self.old.own.parts })
+            (λ _. self.new ≡ record self.old { own = with_pushed self.old.own task })
             (λ back. (back ≡ task) × (self.new ≡ self.old)) }
     {
         self.deque.push_as::<Pushed>(task)
@@ -52,7 +52,7 @@ impl<T: Drop, A: Allocator> Hand<T, A> {
         ensures same { IsSameHand self.old self.new }
         ensures popped { MatchOption result
             (self.new ≡ self.old)
-            (λ task. self.new ≡ record self.old { own = account_of self.old.own.pushed (self.old.own.taken ++ task ∷ []) self.old.own.parts }) }
+            (λ task. self.new ≡ record self.old { own = with_taken self.old.own task }) }
     {
         self.deque.pop_as::<Taken>()
     }
@@ -64,7 +64,9 @@ impl<T: Drop, A: Allocator> Hand<T, A> {
         ensures same { IsSameHand self.old self.new }
         ensures stolen { (d : _) → let before = slice_index_or self.old.ways from d in MatchOption result
             (self.new ≡ self.old)
-            (λ task. self.new ≡ record self.old { ways = slice_set self.old.ways from (record before { holds = account_of before.holds.pushed (before.holds.taken ++ task ∷ []) before.holds.parts }) }) }
+            (λ task. self.new ≡ record self.old {
+              ways = slice_set self.old.ways from (record before { holds = with_taken before.holds task });
+            }) }
     {
         self.reaches[from].steal()
     }

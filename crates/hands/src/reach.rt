@@ -1,7 +1,7 @@
 //! The way to a deque.
-ghost use Rattle.std.specs.Prelude.{◌≡◌, ◌++◌, [], ◌∷◌, MatchOption};
+ghost use Rattle.std.specs.Prelude.{◌≡◌, MatchOption};
 ghost use Rattle.crossbeam_deque.specs.Handles.{view, IsPassOf};
-ghost use Rattle.hands.specs.Accounts.{account_of};
+ghost use Rattle.hands.specs.Accounts.{with_taken};
 
 use crate::account::{Accounts, Held, Taken};
 use crossbeam_deque::{Pass, Stealer};
@@ -32,8 +32,7 @@ impl<T, A: Allocator> Reach<T, A> {
     pub(crate) fn steal(&mut self) -> Option<T>
         ensures { MatchOption result (self.new ≡ self.old) (λ task.
             self.new ≡ record self.old {
-              holds = account_of self.old.holds.pushed (self.old.holds.taken ++ task ∷ [])
-                  self.old.holds.parts;
+              holds = with_taken self.old.holds task;
             }) }
     {
         self.stealer.steal_as::<Taken>(&mut self.pass).success()

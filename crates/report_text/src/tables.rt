@@ -115,8 +115,8 @@ impl KnownFaults {
     }
 }
 
-/// The place of the lines that lead to ids: a multiplicative hash of each half, of which the highest bits depend on all
-/// others (Knuth, "The Art of Computer Programming", volume 3, section 6.4).
+/// The place of the lines that lead to ids: a multiplicative hash of each half, of which the highest bits depend on
+/// all others (Knuth, "The Art of Computer Programming", volume 3, section 6.4).
 fn slot_of_ids(ids: u128) -> usize
     ensures { result < WRITE_SLOTS }
 {
