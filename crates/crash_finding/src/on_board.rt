@@ -11,7 +11,7 @@ use crate::dependencies::dependencies;
 use crate::finder::Finder;
 use crash_image::{PatchSpace, exploring_finds_the_failing_sets};
 use crash_model::refusals::RunFault;
-use explorers::{ExploreFault, Explored, Gate, explore};
+use explorers::{ExploreFault, Explored, Gate, explore, prime_at_least};
 use set_sweep::count_closed;
 use std::alloc::Allocator;
 use std::sync::Wait;
@@ -28,8 +28,8 @@ where
 {
     /// How many sets a crash can leave, at most the limit, and which of them fail, in canonical order.
     ///
-    /// The sets are counted first, so that the board is no larger than their number asks for. It refuses where they
-    /// are more than the limit.
+    /// The sets are counted first, so that the board is no larger than their number asks for: its limit is the smallest
+    /// prime that is at least their number, or else the run's limit. It refuses where they are more than that.
     pub(crate) fn explored_on_board(
         &self,
         crashes: &Crashes<'_, A>,
@@ -46,7 +46,8 @@ where
         let Some(sets) = count_closed(&deps, limit) else {
             return Err(RunFault::TooMany);
         };
-        match explore(self.rt, self.alloc, &space, sets, self.workers, self.gate) {
+        let limit = prime_at_least(sets, limit);
+        match explore(self.rt, self.alloc, &space, limit, self.workers, self.gate) {
             Ok(found) => {
                 self.gate.visited(found.total, found.broken.len());
                 Ok(found)

@@ -1,5 +1,5 @@
+pub mod Divisors
 pub mod Entries
 pub mod Meeting
 pub mod Overfilling
-pub mod Primes
 pub mod Successors

@@ -1,6 +1,8 @@
 //! How long the rows of a board are.
-ghost use Rattle.std.specs.Prelude.{◌≡◌, ℕ, ◌<◌, ◌≤◌, ◌/◌, ◌⊎◌, ◌↔◌, IsTrue};
+ghost use Rattle.std.specs.Prelude.{◌≡◌, ℕ, ◌<◌, ◌≤◌, ◌/◌, ◌⊎◌};
 ghost use Rattle.explorers.specs.Primes.{IsPrime};
+
+use crate::primes::prime_at_least;
 
 /// How many words a board may have, and how many of one shard.
 #[derive(Clone, Copy, Debug, Drop)]
@@ -29,24 +31,5 @@ pub(crate) fn first_places(limit: usize) -> usize
     if limit < FEW {
         return limit;
     }
-    for places in limit / 4..limit {
-        if is_prime(places) {
-            return places;
-        }
-    }
-    limit
-}
-
-/// Whether a number is a prime. One that is none has a divisor up to its root.
-fn is_prime(n: usize) -> bool
-    ensures { IsTrue result ↔ IsPrime n }
-{
-    let mut divisor = 2;
-    while divisor <= n / divisor {
-        if n % divisor == 0 {
-            return false;
-        }
-        divisor += 1;
-    }
-    1 < n
+    prime_at_least(limit / 4, limit)
 }

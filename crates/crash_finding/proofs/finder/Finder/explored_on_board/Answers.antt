@@ -1,20 +1,12 @@
-use Rattle.std.proofs.Common.{rules, arith, subst, ◌∙◌}
+use Rattle.std.proofs.Common.{rules, subst, ◌∙◌}
 use Rattle.state_space.specs.Counts.{HoldsOf}
 use Rattle.state_space.proofs.Counting.{not_more}
 use Rattle.patch_sets.specs.Sets.{AreAllInOrder}
 use Rattle.patch_sets.specs.Closed.{IsClosed}
-use Rattle.patch_sets.proofs.Successors.{empty_closed}
 use Rattle.crash_model.specs.Patches.{deps_of}
 use Rattle.crash_model.specs.Failing.{CountsClosed, ExceedsLimit}
 use Rattle.crash_model.specs.Strict.{IsFailingUnder}
 use Rattle.crash_finding.proofs.finder.Finder.explored_on_board.Goals as goal
-
--- a crash can leave the empty set, so there is one
-pub explore-requires-clause-limit : goal.explore-requires-clause-limit
-explore-requires-clause-limit g c =
-    let counted = c.in-Some.ensures.0 in
-    let empty = counted.1.every 0 (empty_closed _) in
-    λ _ _. (omega (arith, empty.1, counted.2), omega (arith, c.in-Some.ensures.1, c.requires.small))
 
 pub returns-in-Ok-clause-total : goal.returns-in-Ok-clause-total
 returns-in-Ok-clause-total g c =
@@ -26,14 +18,14 @@ returns-in-Ok-clause-failing g c =
     subst (λ s. AreAllInOrder (IsFailingUnder s.kept s.base s.patches) c.in-Ok.found.broken.items) c.new-space.ensures
     (c.exploring_finds_the_failing_sets.ensures.failing c.in-Ok.found.broken.items c.in-Ok.ensures.found.broken)
 
--- the board may have as many sets as there are, so it is never too small for them
+-- the board is as large as the sets are many, so it is never too small for them
 pub returns-in-Err-TooMany-clause-too_many : goal.returns-in-Err-TooMany-clause-too_many
 returns-in-Err-TooMany-clause-too_many g c =
     let patches = c.args.crashes.now.graph.now in
     let sets = c.in-Some.sets in
     let counted : CountsClosed patches sets =
     subst (λ deps. HoldsOf (IsClosed deps) sets) (c.deref.ensures.0 ∙ c.dependencies-deps.ensures.exact) c.in-Some.ensures.0 in
-    let more : ExceedsLimit patches sets =
-    subst (λ s. ExceedsLimit s.patches sets) c.new-space.ensures
-    (c.exploring_finds_the_failing_sets.ensures.too_many sets (c.in-Err-TooMany.ensures.too_many (search rules))) in
-    absurd (not_more (IsClosed (deps_of patches)) sets sets counted (omega arith) more)
+    let more : ExceedsLimit patches c.prime_at_least-limit.result =
+    subst (λ s. ExceedsLimit s.patches c.prime_at_least-limit.result) c.new-space.ensures
+    (c.exploring_finds_the_failing_sets.ensures.too_many c.prime_at_least-limit.result (c.in-Err-TooMany.ensures.too_many (search rules))) in
+    absurd (not_more (IsClosed (deps_of patches)) sets c.prime_at_least-limit.result counted c.prime_at_least-limit.ensures.enough more)

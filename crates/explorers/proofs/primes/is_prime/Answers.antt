@@ -1,6 +1,6 @@
 use Rattle.std.proofs.Common.{rules, ◌≢◌, ℕ, ◌<◌, ◌/◌, ◌%◌, arith}
-use Rattle.explorers.proofs.Primes.{no_divisor}
-use Rattle.explorers.proofs.rows.is_prime.Goals as goal
+use Rattle.explorers.proofs.Divisors.{no_divisor}
+use Rattle.explorers.proofs.primes.is_prime.Goals as goal
 
 pub returns : goal.returns
 returns c =
