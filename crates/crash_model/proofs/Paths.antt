@@ -6,7 +6,8 @@ use Rattle.std.proofs.lemmas.Bool.{and_parts}
 use Rattle.std.proofs.lemmas.List.{take-append-drop, append-nil, length_push}
 use Rattle.std.proofs.lemmas.List.Concat.{flat_map-append}
 use Rattle.std.proofs.lemmas.Bool.Decides.{nat_tests}
-use Rattle.crash_model.specs.Names.{is_name_byte, IsName, IsNothingOrSlash, HasFirstName}
+use Rattle.crash_model.specs.Names.{is_name_byte, IsName}
+use Rattle.crash_model.specs.FirstNames.{IsNothingOrSlash, HasFirstName}
 use Rattle.crash_model.specs.Script.{IsPath, IsPathWord, path_text}
 use Rattle.crash_model.specs.declared.names.Path.{Path}
 use Rattle.crash_model.specs.declared.names.Name.{Name}

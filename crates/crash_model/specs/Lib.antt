@@ -1,5 +1,6 @@
 pub mod Lists
 pub mod Names
+pub mod FirstNames
 pub mod Refusals
 pub mod RefusalLine
 pub mod DiskBytes

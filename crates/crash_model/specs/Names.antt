@@ -1,5 +1,5 @@
 -- Names of directory entries and of groups.
-use Rattle.std.specs.Prelude.{◌≡◌, ℕ, ◌≤◌, ◌<◌, List, [], ◌∷◌, ◌++◌, length, Bool, ◌&&◌, ◌||◌, nat_le, IsTrue}
+use Rattle.std.specs.Prelude.{ℕ, ◌≤◌, ◌<◌, List, length, Bool, ◌&&◌, ◌||◌, nat_le, IsTrue}
 use Rattle.std.specs.List.{list_all}
 
 -- a to z, or 0 to 9
@@ -9,9 +9,6 @@ is_name_byte c = (nat_le 97 c && nat_le c 122) || (nat_le 48 c && nat_le c 57)
 -- the same, or A to Z
 abbrev pub is_group_byte : ℕ → Bool
 is_group_byte c = is_name_byte c || (nat_le 65 c && nat_le c 90)
-
-abbrev pub IsShort : List ℕ → Type 0
-IsShort word = (0 < length word) × (length word ≤ 10)
 
 -- 1 to 10 bytes that pass
 pub record IsWord (passes : ℕ → Bool) (word : List ℕ) : Type 0 where
@@ -24,16 +21,3 @@ IsName name = IsWord is_name_byte name
 
 abbrev pub IsGroupName : List ℕ → Type 0
 IsGroupName name = IsWord is_group_byte name
-
-abbrev pub IsNothingOrSlash : List ℕ → Type 0
-IsNothingOrSlash [] = Unit {0}
-IsNothingOrSlash (c ∷ _) = c ≡ 47
-
--- a slash and a name, and then nothing or another slash
-pub record BeginsWith (text name rest : List ℕ) : Type 0 where
-  pub is_name : IsName name
-  pub whole : text ≡ 47 ∷ (name ++ rest)
-  pub ends : IsNothingOrSlash rest
-
-abbrev pub HasFirstName : List ℕ → Type 0
-HasFirstName text = (name : List ℕ) × (rest : List ℕ) × BeginsWith text name rest

@@ -2,7 +2,8 @@
 
 ghost use Rattle.std.specs.Prelude.{◌≡◌, ℕ, ◌-◌, ◌≤◌, ◌<◌, ◌++◌, ◌↔◌, replicate, length, IsTrue, MatchOption, slice_index, ◌≢◌};
 ghost use Rattle.std.specs.List.{list_all};
-ghost use Rattle.crash_model.specs.Names.{IsName, IsGroupName, IsShort, is_name_byte, is_group_byte, BeginsWith, HasFirstName};
+ghost use Rattle.crash_model.specs.Names.{IsName, IsGroupName, is_name_byte, is_group_byte};
+ghost use Rattle.crash_model.specs.FirstNames.{IsShort, BeginsWith, HasFirstName};
 ghost use Rattle.crash_model.specs.Plan.{name_spelling};
 
 use arrayvec::ArrayVec;

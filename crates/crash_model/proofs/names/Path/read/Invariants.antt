@@ -1,6 +1,7 @@
 use Rattle.std.proofs.Common.{◌≡◌, ◌++◌, ◌≤◌, ◌∷◌, [], length}
 use Rattle.std.specs.List.{All}
-use Rattle.crash_model.specs.Names.{IsName, IsNothingOrSlash}
+use Rattle.crash_model.specs.Names.{IsName}
+use Rattle.crash_model.specs.FirstNames.{IsNothingOrSlash}
 use Rattle.crash_model.proofs.Paths.{slash_text}
 use Rattle.crash_model.proofs.names.Path.read.Given as goal
 
