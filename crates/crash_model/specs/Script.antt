@@ -1,5 +1,5 @@
 -- Scripts: their lines, what a line says, and which line is refused first.
-use Rattle.std.specs.Prelude.{◌≡◌, ◌≢◌, ℕ, ◌+◌, ◌≤◌, ◌⊎◌, List, [], ◌∷◌, ◌++◌, length, codes, IsUtf8, Some, flat_map, slice_get, All, Contains}
+use Rattle.std.specs.Prelude.{◌≡◌, ◌≢◌, ℕ, ◌+◌, ◌≤◌, ◌⊎◌, List, [], ◌∷◌, ◌++◌, length, codes, IsUtf8, Some, map, flat_map, slice_get, All, Contains}
 use Rattle.crash_model.specs.Lists.{join_of}
 use Rattle.crash_model.specs.Names.{IsName, IsGroupName}
 use Rattle.crash_model.specs.declared.names.Path.{Path}
@@ -47,38 +47,57 @@ pub record IsPath (path : Path) : Type 0 where
 abbrev pub IsPathWord : List ℕ → Type 0
 IsPathWord word = (path : Path) × IsPath path × (word ≡ path_text path)
 
--- what stands behind a first word: paths or names of groups
+-- what stands behind a line's first word: a path, or the name of a group
 pub data Operand : Type 0 where
-  PathOperand : Operand
-  GroupOperand : Operand
+  PathOperand : Path → Operand
+  GroupOperand : List ℕ → Operand
 
-abbrev pub forms : List (List ℕ × List Operand)
-forms =
-    (codes "create", PathOperand ∷ []) ∷ (codes "write", PathOperand ∷ [])
-    ∷ (codes "link", PathOperand ∷ PathOperand ∷ []) ∷ (codes "unlink", PathOperand ∷ [])
-    ∷ (codes "rename", PathOperand ∷ PathOperand ∷ []) ∷ (codes "mkdir", PathOperand ∷ []) ∷ (codes "rmdir", PathOperand ∷ [])
-    ∷ (codes "group", GroupOperand ∷ []) ∷ (codes "end", []) ∷ (codes "depend", GroupOperand ∷ GroupOperand ∷ [])
-    ∷ (codes "start", []) ∷ []
+-- the line of an act: its first word, and its operands
+abbrev pub said : Act → List ℕ × List Operand
+said (Do (Create p)) = (codes "create", PathOperand p ∷ [])
+said (Do (Write p)) = (codes "write", PathOperand p ∷ [])
+said (Do (Link p q)) = (codes "link", PathOperand p ∷ PathOperand q ∷ [])
+said (Do (Unlink p)) = (codes "unlink", PathOperand p ∷ [])
+said (Do (Rename p q)) = (codes "rename", PathOperand p ∷ PathOperand q ∷ [])
+said (Do (Mkdir p)) = (codes "mkdir", PathOperand p ∷ [])
+said (Do (Rmdir p)) = (codes "rmdir", PathOperand p ∷ [])
+said (Group a) = (codes "group", GroupOperand a ∷ [])
+said End = (codes "end", [])
+said (Depend b a) = (codes "depend", GroupOperand b ∷ GroupOperand a ∷ [])
+
+abbrev pub operand_text : Operand → List ℕ
+operand_text (PathOperand path) = path_text path
+operand_text (GroupOperand name) = name
+
+abbrev pub words_of : Act → List (List ℕ)
+words_of act = (said act).0 ∷ map operand_text (said act).1
+
+-- paths and names of groups as they must be
+abbrev pub AreLawful : List Operand → Type 0
+AreLawful [] = Unit {0}
+AreLawful (PathOperand path ∷ operands) = IsPath path × AreLawful operands
+AreLawful (GroupOperand name ∷ operands) = IsGroupName name × AreLawful operands
+
+abbrev pub IsAct : Act → Type 0
+IsAct act = AreLawful (said act).1
 
 -- a word for each operand, no word empty, and names of groups where they belong
 abbrev pub Fits : List Operand → List (List ℕ) → Type 0
 Fits [] [] = Unit {0}
-Fits (PathOperand ∷ operands) (word ∷ words) = (word ≢ []) × Fits operands words
-Fits (GroupOperand ∷ operands) (word ∷ words) = IsGroupName word × Fits operands words
+Fits (PathOperand _ ∷ operands) (word ∷ words) = (word ≢ []) × Fits operands words
+Fits (GroupOperand _ ∷ operands) (word ∷ words) = IsGroupName word × Fits operands words
 Fits _ _ = ⊥
 
 -- paths where they belong
 abbrev pub HasPaths : List Operand → List (List ℕ) → Type 0
-HasPaths (PathOperand ∷ operands) (word ∷ words) = IsPathWord word × HasPaths operands words
-HasPaths (GroupOperand ∷ operands) (word ∷ words) = HasPaths operands words
+HasPaths (PathOperand _ ∷ operands) (word ∷ words) = IsPathWord word × HasPaths operands words
+HasPaths (GroupOperand _ ∷ operands) (word ∷ words) = HasPaths operands words
 HasPaths _ _ = Unit {0}
 
--- the line has a form, with these operands and words for them
-pub record HasForm (line : List ℕ) (operands : List Operand) (words : List (List ℕ)) : Type 0 where
-  pub first : List ℕ
-  pub is_form : Contains forms (first, operands)
-  pub cut : AreWords line (first ∷ words)
-  pub fits : Fits operands words
+-- the line has an act's form, with these words in place of its operands
+pub record HasForm (line : List ℕ) (like : Act) (words : List (List ℕ)) : Type 0 where
+  pub cut : AreWords line ((said like).0 ∷ words)
+  pub fits : Fits (said like).1 words
 
 -- ---- what a line says
 
@@ -87,30 +106,6 @@ pub data Line : Type 0 where
   Skipped : Line
   Start : Line
   Says : Act → Line
-
-abbrev pub words_of : Act → List (List ℕ)
-words_of (Do (Create p)) = codes "create" ∷ path_text p ∷ []
-words_of (Do (Write p)) = codes "write" ∷ path_text p ∷ []
-words_of (Do (Link p q)) = codes "link" ∷ path_text p ∷ path_text q ∷ []
-words_of (Do (Unlink p)) = codes "unlink" ∷ path_text p ∷ []
-words_of (Do (Rename p q)) = codes "rename" ∷ path_text p ∷ path_text q ∷ []
-words_of (Do (Mkdir p)) = codes "mkdir" ∷ path_text p ∷ []
-words_of (Do (Rmdir p)) = codes "rmdir" ∷ path_text p ∷ []
-words_of (Group a) = codes "group" ∷ a ∷ []
-words_of End = codes "end" ∷ []
-words_of (Depend b a) = codes "depend" ∷ b ∷ a ∷ []
-
-abbrev pub IsAct : Act → Type 0
-IsAct (Do (Create p)) = IsPath p
-IsAct (Do (Write p)) = IsPath p
-IsAct (Do (Link p q)) = IsPath p × IsPath q
-IsAct (Do (Unlink p)) = IsPath p
-IsAct (Do (Rename p q)) = IsPath p × IsPath q
-IsAct (Do (Mkdir p)) = IsPath p
-IsAct (Do (Rmdir p)) = IsPath p
-IsAct (Group a) = IsGroupName a
-IsAct End = Unit {0}
-IsAct (Depend b a) = IsGroupName b × IsGroupName a
 
 -- empty, or text that begins with #
 abbrev pub IsSkipped : List ℕ → Type 0
@@ -155,15 +150,18 @@ pub record IsFirstRefused (bytes : List ℕ) (n : ℕ) (P : List (List ℕ) → 
   pub number : n ≡ length before + 1
   pub refused : P before line
 
--- text that is not passed over and has none of the forms, or a second start line
+-- text that is not passed over, is no start line and has the form of no act, or a second start line
 abbrev pub IsBadLine : List (List ℕ) → List ℕ → Type 0
 IsBadLine before line =
-    (IsUtf8 line × (¬ (IsSkipped line)) × ((operands : List Operand) (words : List (List ℕ)) → ¬ (HasForm line operands words)))
+    (IsUtf8 line × (¬ (IsSkipped line)) × (line ≢ codes "start")
+    × ((like : Act) (words : List (List ℕ)) → ¬ (HasForm line like words)))
     ⊎ ((line ≡ codes "start") × Contains before (codes "start"))
 
--- text of one of the forms, in which a word is no path
+-- text of an act's form, in which a word is no path
 abbrev pub IsBadPath : List ℕ → Type 0
-IsBadPath line = IsUtf8 line × (¬ (IsSkipped line)) × ((operands : List Operand) × (words : List (List ℕ)) × HasForm line operands words × (¬ (HasPaths operands words)))
+IsBadPath line =
+    IsUtf8 line × (¬ (IsSkipped line))
+    × ((like : Act) × (words : List (List ℕ)) × HasForm line like words × (¬ (HasPaths (said like).1 words)))
 
 abbrev pub IsScriptRefusal : List ℕ → ScriptFault → Type 0
 IsScriptRefusal bytes (BadUtf8 n) = IsFirstRefused bytes n (λ _ line. ¬ (IsUtf8 line))

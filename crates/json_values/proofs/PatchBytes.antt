@@ -118,13 +118,13 @@ two_paths verb p q plain first second =
 
 op_plain : (op : Op) → IsAct (Do op) → IsPlain (op_text op)
 unfolding escape_byte
-op_plain (Create p) is = one_path (codes "create") p refl is
-op_plain (Write p) is = one_path (codes "write") p refl is
-op_plain (Link p q) is = two_paths (codes "link") p q refl is.0 is.1
-op_plain (Unlink p) is = one_path (codes "unlink") p refl is
-op_plain (Rename p q) is = two_paths (codes "rename") p q refl is.0 is.1
-op_plain (Mkdir p) is = one_path (codes "mkdir") p refl is
-op_plain (Rmdir p) is = one_path (codes "rmdir") p refl is
+op_plain (Create p) is = one_path (codes "create") p refl is.0
+op_plain (Write p) is = one_path (codes "write") p refl is.0
+op_plain (Link p q) is = two_paths (codes "link") p q refl is.0 is.1.0
+op_plain (Unlink p) is = one_path (codes "unlink") p refl is.0
+op_plain (Rename p q) is = two_paths (codes "rename") p q refl is.0 is.1.0
+op_plain (Mkdir p) is = one_path (codes "mkdir") p refl is.0
+op_plain (Rmdir p) is = one_path (codes "rmdir") p refl is.0
 
 -- ---- dependencies
 

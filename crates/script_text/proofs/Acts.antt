@@ -1,11 +1,12 @@
--- A line says one thing.
-use Rattle.std.proofs.Common.{◌≡◌, ◌≢◌, ℕ, inl, inr, Bool, true, not, eqb, List, [], ◌∷◌, ◌++◌, codes, refl, sym, ◌∙◌, arith}
+-- Verbs and acts by their words.
+use Rattle.std.proofs.Common.{◌≡◌, ◌≢◌, ℕ, inl, inr, Bool, true, not, eqb, cond, Option, Some, None, List, [], ◌∷◌, ◌++◌, map, codes, refl, sym, ap, ◌∙◌, subst, arith}
 use Rattle.std.specs.List.{All, Contains, list_all}
+use Rattle.std.specs.Str.{bytes_eq}
 use Rattle.std.proofs.lemmas.Bool.{and_parts, false≢true}
 use Rattle.std.proofs.lemmas.Bool.Decides.{nat_tests}
-use Rattle.std.proofs.lemmas.List.Elements.{All-head, All-tail, All-from_recursion}
+use Rattle.std.proofs.lemmas.List.Elements.{All-head, All-tail, All-nil, All-cons}
 use Rattle.crash_model.specs.Names.{IsName, IsGroupName, is_name_byte, is_group_byte}
-use Rattle.crash_model.specs.Script.{AreWords, IsPath, path_text, IsAct, words_of, Line, Reads}
+use Rattle.crash_model.specs.Script.{AreWords, IsPath, path_text, Operand, PathOperand, GroupOperand, said, operand_text, AreLawful, words_of, Fits, Reads}
 use Rattle.crash_model.specs.Script as script
 use Rattle.crash_model.specs.declared.names.Path.{Path}
 use Rattle.crash_model.specs.declared.operations.Op.TheVariants as op
@@ -15,10 +16,9 @@ use Rattle.crash_model.proofs.Cuts.{Lacks}
 use Rattle.crash_model.proofs.Paths.{slash_text, names_of, names_are}
 use Rattle.script_text.specs.declared.verb.Verb.{Verb}
 use Rattle.script_text.specs.declared.verb.Verb.TheVariants.{Create, Write, Link, Unlink, Rename, Mkdir, Rmdir, Group, End, Depend, Start}
-use Rattle.script_text.specs.Words.{spelling}
+use Rattle.script_text.specs.Words.{spelling, operands_of}
 use Rattle.script_text.proofs.Cuts.{lacks_none}
 use Rattle.script_text.proofs.Spaces.{words_once}
-use Rattle.script_text.proofs.Forms.{verb_once}
 
 -- ---- the words of an act have no space
 
@@ -56,114 +56,93 @@ path_plain path is = lacks_none 32 (path_text path) (slashed_lacks (names_of pat
 group_plain : (name : List ℕ) → IsGroupName name → ¬ (Contains name 32)
 group_plain name is = lacks_none 32 name (plain_lacks is_group_byte group_no_space name is.plain)
 
-verb_bytes : (verb : Verb) → list_all is_no_space (spelling verb) ≡ true
-unfolding is_no_space
-verb_bytes Create = refl
-verb_bytes Write = refl
-verb_bytes Link = refl
-verb_bytes Unlink = refl
-verb_bytes Rename = refl
-verb_bytes Mkdir = refl
-verb_bytes Rmdir = refl
-verb_bytes Group = refl
-verb_bytes End = refl
-verb_bytes Depend = refl
-verb_bytes Start = refl
-
-pub verb_plain : (verb : Verb) → ¬ (Contains (spelling verb) 32)
-verb_plain verb = lacks_none 32 (spelling verb) (plain_lacks is_no_space no_space (spelling verb) (verb_bytes verb))
-
 abbrev pub IsPlain : List ℕ → Type 0
 IsPlain word = ¬ (Contains word 32)
 
-pub plain_one : (a : List ℕ) → IsPlain a → All IsPlain (a ∷ [])
-plain_one a one = All-from_recursion IsPlain (a ∷ []) (one, tt)
+operands_plain : (operands : List Operand) → AreLawful operands → All IsPlain (map operand_text operands)
+operands_plain [] are = All-nil IsPlain
+operands_plain (PathOperand p ∷ os) are =
+    All-cons IsPlain (path_text p) (map operand_text os) (path_plain p are.0) (operands_plain os are.1)
+operands_plain (GroupOperand a ∷ os) are =
+    All-cons IsPlain a (map operand_text os) (group_plain a are.0) (operands_plain os are.1)
 
-plain_two : (a b : List ℕ) → IsPlain a → IsPlain b → All IsPlain (a ∷ b ∷ [])
-plain_two a b one two = All-from_recursion IsPlain (a ∷ b ∷ []) (one, (two, tt))
+-- ---- verbs
 
-plain_three : (a b c : List ℕ) → IsPlain a → IsPlain b → IsPlain c → All IsPlain (a ∷ b ∷ c ∷ [])
-plain_three a b c one two three = All-from_recursion IsPlain (a ∷ b ∷ c ∷ []) (one, (two, (three, tt)))
+-- the one of these verbs that is spelt so
+abbrev spelt_so : List Verb → List ℕ → Option Verb
+spelt_so [] word = None
+spelt_so (verb ∷ verbs) word = cond (bytes_eq word (spelling verb)) (Some verb) (spelt_so verbs word)
 
-words_plain : (a : Act) → IsAct a → All IsPlain (words_of a)
-words_plain (act.Do (op.Create p)) is = plain_two _ _ (verb_plain Create) (path_plain p is)
-words_plain (act.Do (op.Write p)) is = plain_two _ _ (verb_plain Write) (path_plain p is)
-words_plain (act.Do (op.Link p q)) is = plain_three _ _ _ (verb_plain Link) (path_plain p is.0) (path_plain q is.1)
-words_plain (act.Do (op.Unlink p)) is = plain_two _ _ (verb_plain Unlink) (path_plain p is)
-words_plain (act.Do (op.Rename p q)) is = plain_three _ _ _ (verb_plain Rename) (path_plain p is.0) (path_plain q is.1)
-words_plain (act.Do (op.Mkdir p)) is = plain_two _ _ (verb_plain Mkdir) (path_plain p is)
-words_plain (act.Do (op.Rmdir p)) is = plain_two _ _ (verb_plain Rmdir) (path_plain p is)
-words_plain (act.Group a) is = plain_two _ _ (verb_plain Group) (group_plain a is)
-words_plain act.End is = plain_one _ (verb_plain End)
-words_plain (act.Depend b a) is = plain_three _ _ _ (verb_plain Depend) (group_plain b is.0) (group_plain a is.1)
+abbrev verb_of : List ℕ → Option Verb
+verb_of word =
+    spelt_so (Create ∷ Write ∷ Link ∷ Unlink ∷ Rename ∷ Mkdir ∷ Rmdir ∷ Group ∷ End ∷ Depend ∷ Start ∷ []) word
 
--- ---- acts by their first word
+-- its spelling leads back to a verb, and has no space
+spelling_of : (verb : Verb) → (verb_of (spelling verb) ≡ Some verb) × (list_all is_no_space (spelling verb) ≡ true)
+unfolding is_no_space
+spelling_of Create = (refl, refl)
+spelling_of Write = (refl, refl)
+spelling_of Link = (refl, refl)
+spelling_of Unlink = (refl, refl)
+spelling_of Rename = (refl, refl)
+spelling_of Mkdir = (refl, refl)
+spelling_of Rmdir = (refl, refl)
+spelling_of Group = (refl, refl)
+spelling_of End = (refl, refl)
+spelling_of Depend = (refl, refl)
+spelling_of Start = (refl, refl)
 
-unfoldable pub verb_of_act : Act → Verb
-verb_of_act (act.Do (op.Create p)) = Create
-verb_of_act (act.Do (op.Write p)) = Write
-verb_of_act (act.Do (op.Link p q)) = Link
-verb_of_act (act.Do (op.Unlink p)) = Unlink
-verb_of_act (act.Do (op.Rename p q)) = Rename
-verb_of_act (act.Do (op.Mkdir p)) = Mkdir
-verb_of_act (act.Do (op.Rmdir p)) = Rmdir
-verb_of_act (act.Group a) = Group
-verb_of_act act.End = End
-verb_of_act (act.Depend b a) = Depend
+-- no two verbs are spelt alike
+pub verb_once : (verb other : Verb) → spelling verb ≡ spelling other → verb ≡ other
+verb_once verb other same = let found = sym (spelling_of verb).0 ∙ (ap verb_of same ∙ (spelling_of other).0) in cc
 
--- the words behind the first
-unfoldable pub others : Act → List (List ℕ)
-others (act.Do (op.Create p)) = path_text p ∷ []
-others (act.Do (op.Write p)) = path_text p ∷ []
-others (act.Do (op.Link p q)) = path_text p ∷ path_text q ∷ []
-others (act.Do (op.Unlink p)) = path_text p ∷ []
-others (act.Do (op.Rename p q)) = path_text p ∷ path_text q ∷ []
-others (act.Do (op.Mkdir p)) = path_text p ∷ []
-others (act.Do (op.Rmdir p)) = path_text p ∷ []
-others (act.Group a) = a ∷ []
-others act.End = []
-others (act.Depend b a) = b ∷ a ∷ []
+verb_plain : (verb : Verb) → IsPlain (spelling verb)
+verb_plain verb = lacks_none 32 (spelling verb) (plain_lacks is_no_space no_space (spelling verb) (spelling_of verb).1)
 
-pub first_and_others : (a : Act) → words_of a ≡ spelling (verb_of_act a) ∷ others a
-unfolding verb_of_act others
-first_and_others (act.Do (op.Create p)) = refl
-first_and_others (act.Do (op.Write p)) = refl
-first_and_others (act.Do (op.Link p q)) = refl
-first_and_others (act.Do (op.Unlink p)) = refl
-first_and_others (act.Do (op.Rename p q)) = refl
-first_and_others (act.Do (op.Mkdir p)) = refl
-first_and_others (act.Do (op.Rmdir p)) = refl
-first_and_others (act.Group a) = refl
-first_and_others act.End = refl
-first_and_others (act.Depend b a) = refl
+-- the verb of an act has its first word and takes the same operands, and is not that of the start line
+abbrev pub HasVerb : Act → Type 0
+HasVerb a =
+    (verb : Verb) × ((said a).0 ≡ spelling verb)
+    × ((words : List (List ℕ)) → Fits (said a).1 words → Fits (operands_of verb) words) × (verb ≢ Start)
 
-pub act_words : (line : List ℕ) (a : Act) → Reads line (script.Says a) → AreWords line (words_of a)
-act_words line a says = record {
-  plain = words_plain a says.0;
-  some = (λ e. let none = sym (first_and_others a) ∙ e in cc);
-  whole = says.1;
+pub verb_of_act : (a : Act) → HasVerb a
+verb_of_act (act.Do (op.Create p)) = (Create, refl, (λ words fits. fits), (λ e. cc))
+verb_of_act (act.Do (op.Write p)) = (Write, refl, (λ words fits. fits), (λ e. cc))
+verb_of_act (act.Do (op.Link p q)) = (Link, refl, (λ words fits. fits), (λ e. cc))
+verb_of_act (act.Do (op.Unlink p)) = (Unlink, refl, (λ words fits. fits), (λ e. cc))
+verb_of_act (act.Do (op.Rename p q)) = (Rename, refl, (λ words fits. fits), (λ e. cc))
+verb_of_act (act.Do (op.Mkdir p)) = (Mkdir, refl, (λ words fits. fits), (λ e. cc))
+verb_of_act (act.Do (op.Rmdir p)) = (Rmdir, refl, (λ words fits. fits), (λ e. cc))
+verb_of_act (act.Group a) = (Group, refl, (λ words fits. fits), (λ e. cc))
+verb_of_act act.End = (End, refl, (λ words fits. fits), (λ e. cc))
+verb_of_act (act.Depend b a) = (Depend, refl, (λ words fits. fits), (λ e. cc))
+
+-- ---- lines
+
+act_words : (line : List ℕ) (a : Act) → Reads line (script.Says a) → AreWords line (words_of a)
+act_words line a says =
+    let verb = verb_of_act a in
+    let first : IsPlain (said a).0 = subst IsPlain (sym verb.1) (verb_plain verb.0) in
+    record {
+      plain = All-cons IsPlain (said a).0 (map operand_text (said a).1) first (operands_plain (said a).1 says.0);
+      some = (λ e. cc);
+      whole = says.1;
+    }
+
+pub start_words : AreWords (codes "start") (codes "start" ∷ [])
+start_words = record {
+  plain = All-cons IsPlain (codes "start") [] (verb_plain Start) (All-nil IsPlain);
+  some = (λ e. cc);
+  whole = refl;
 }
-
-pub no_start : (a : Act) → verb_of_act a ≢ Start
-unfolding verb_of_act
-no_start (act.Do (op.Create p)) e = cc
-no_start (act.Do (op.Write p)) e = cc
-no_start (act.Do (op.Link p q)) e = cc
-no_start (act.Do (op.Unlink p)) e = cc
-no_start (act.Do (op.Rename p q)) e = cc
-no_start (act.Do (op.Mkdir p)) e = cc
-no_start (act.Do (op.Rmdir p)) e = cc
-no_start (act.Group a) e = cc
-no_start act.End e = cc
-no_start (act.Depend b a) e = cc
 
 -- the start line is no act
 pub start_is_no_act : (a : Act) → ¬ (Reads (codes "start") (script.Says a))
 start_is_no_act a says =
-    let start : AreWords (codes "start") (codes "start" ∷ []) = record { plain = plain_one (codes "start") (verb_plain Start); some = (λ e. cc); whole = refl } in
-    let same = words_once (codes "start") _ _ (act_words (codes "start") a says) start in
-    let heads : spelling (verb_of_act a) ≡ spelling Start = (let e = sym (first_and_others a) ∙ same in cc) in
-    no_start a (verb_once (verb_of_act a) Start heads)
+    let verb = verb_of_act a in
+    let same = words_once (codes "start") _ _ (act_words (codes "start") a says) start_words in
+    let heads : (said a).0 ≡ codes "start" = cc in
+    verb.3 (verb_once verb.0 Start (sym verb.1 ∙ heads))
 
 -- nor is it passed over
 pub start_is_not_skipped : ¬ (Reads (codes "start") script.Skipped)

@@ -1,9 +1,13 @@
 -- What words and lines say, and why they are refused.
-use Rattle.std.specs.Prelude.{◌≡◌, ℕ, List, [], ◌∷◌, codes, IsUtf8}
-use Rattle.crash_model.specs.Script.{Operand, PathOperand, GroupOperand, Fits, HasPaths, HasForm, forms, IsAct, words_of, Reads, IsSkipped, IsBadPath}
+use Rattle.std.specs.Prelude.{◌≡◌, ◌≢◌, ℕ, List, [], ◌∷◌, codes, Option, Some, None, IsUtf8}
+use Rattle.crash_model.specs.Script.{Operand, said, Fits, HasPaths, HasForm, IsAct, words_of, Reads, IsSkipped, IsBadPath}
 use Rattle.crash_model.specs.Script as script
+use Rattle.crash_model.specs.declared.names.Path.{Path}
+use Rattle.crash_model.specs.declared.operations.Op.TheVariants as operations
 use Rattle.crash_model.specs.declared.refusals.ScriptFault.{ScriptFault}
 use Rattle.crash_model.specs.declared.refusals.ScriptFault.TheVariants as S
+use Rattle.crash_model.specs.declared.steps.Act.{Act}
+use Rattle.crash_model.specs.declared.steps.Act.TheVariants as acts
 use Rattle.script_text.specs.declared.line.Line.{Line}
 use Rattle.script_text.specs.declared.line.Line.TheVariants.{Skipped, Start, Says}
 use Rattle.script_text.specs.declared.verb.Verb.{Verb}
@@ -25,28 +29,34 @@ SaysWords words Skipped = ⊥
 SaysWords words Start = words ≡ codes "start" ∷ []
 SaysWords words (Says act) = IsAct act × (words ≡ words_of act)
 
+-- a path for a form, where no path matters
+abbrev pub anywhere : Path
+anywhere = record { through = record { items = [] }; last = [] }
+
+-- an act that has the verb; the start line says none
+abbrev pub some_act : Verb → Option Act
+some_act Create = Some (acts.Do (operations.Create anywhere))
+some_act Write = Some (acts.Do (operations.Write anywhere))
+some_act Link = Some (acts.Do (operations.Link anywhere anywhere))
+some_act Unlink = Some (acts.Do (operations.Unlink anywhere))
+some_act Rename = Some (acts.Do (operations.Rename anywhere anywhere))
+some_act Mkdir = Some (acts.Do (operations.Mkdir anywhere))
+some_act Rmdir = Some (acts.Do (operations.Rmdir anywhere))
+some_act Group = Some (acts.Group [])
+some_act End = Some acts.End
+some_act Depend = Some (acts.Depend [] [])
+some_act verb.Start = None
+
+abbrev pub form : Option Act → List ℕ × List Operand
+form (Some act) = said act
+form None = (codes "start", [])
+
 -- how a first word is spelt, and what stands behind it
 abbrev pub spelling : Verb → List ℕ
-spelling Create = codes "create"
-spelling Write = codes "write"
-spelling Link = codes "link"
-spelling Unlink = codes "unlink"
-spelling Rename = codes "rename"
-spelling Mkdir = codes "mkdir"
-spelling Rmdir = codes "rmdir"
-spelling Group = codes "group"
-spelling End = codes "end"
-spelling Depend = codes "depend"
-spelling verb.Start = codes "start"
+spelling verb = (form (some_act verb)).0
 
 abbrev pub operands_of : Verb → List Operand
-operands_of Link = PathOperand ∷ PathOperand ∷ []
-operands_of Rename = PathOperand ∷ PathOperand ∷ []
-operands_of Group = GroupOperand ∷ []
-operands_of End = []
-operands_of Depend = GroupOperand ∷ GroupOperand ∷ []
-operands_of verb.Start = []
-operands_of _ = PathOperand ∷ []
+operands_of verb = (form (some_act verb)).1
 
 abbrev pub IsNoVerb : List ℕ → Type 0
 IsNoVerb word = (verb : Verb) → word ≡ spelling verb → ⊥
@@ -60,7 +70,9 @@ SaysLine line (Says act) = Reads line (script.Says act)
 
 abbrev pub IsLineFault : List ℕ → LineFault → Type 0
 IsLineFault line BadUtf8 = ¬ (IsUtf8 line)
-IsLineFault line BadLine = IsUtf8 line × (¬ (IsSkipped line)) × ((operands : List Operand) (words : List (List ℕ)) → ¬ (HasForm line operands words))
+IsLineFault line BadLine =
+    IsUtf8 line × (¬ (IsSkipped line)) × (line ≢ codes "start")
+    × ((like : Act) (words : List (List ℕ)) → ¬ (HasForm line like words))
 IsLineFault line BadPath = IsBadPath line
 
 abbrev pub line_fault : ℕ → LineFault → ScriptFault

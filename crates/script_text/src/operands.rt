@@ -3,7 +3,7 @@
 ghost use Rattle.std.specs.Prelude.{◌≡◌, [], ◌∷◌, map, MatchResult};
 ghost use Rattle.crash_model.specs.Names.{IsGroupName};
 ghost use Rattle.crash_model.specs.Script.{IsPath, path_text, PathOperand, GroupOperand};
-ghost use Rattle.script_text.specs.Words.{IsOperandFault};
+ghost use Rattle.script_text.specs.Words.{anywhere, IsOperandFault};
 
 use crate::line::LineFault;
 use crash_model::names::{GroupName, Path};
@@ -22,7 +22,7 @@ pub(crate) fn none(operands: &[&str]) -> Result<(), LineFault>
 /// One path.
 pub(crate) fn path(operands: &[&str]) -> Result<Path, LineFault>
     ensures { MatchResult result (λ path. IsPath path × (map (λ word. word.now) operands.now ≡ path_text path ∷ []))
-        (IsOperandFault (PathOperand ∷ []) (map (λ word. word.now) operands.now)) }
+        (IsOperandFault (PathOperand anywhere ∷ []) (map (λ word. word.now) operands.now)) }
 {
     let [word] = operands else {
         return Err(LineFault::BadLine);
@@ -37,7 +37,7 @@ pub(crate) fn path(operands: &[&str]) -> Result<Path, LineFault>
 pub(crate) fn two_paths(operands: &[&str]) -> Result<(Path, Path), LineFault>
     ensures { MatchResult result (λ paths. IsPath paths.0 × IsPath paths.1
         × (map (λ word. word.now) operands.now ≡ path_text paths.0 ∷ path_text paths.1 ∷ []))
-        (IsOperandFault (PathOperand ∷ PathOperand ∷ []) (map (λ word. word.now) operands.now)) }
+        (IsOperandFault (PathOperand anywhere ∷ PathOperand anywhere ∷ []) (map (λ word. word.now) operands.now)) }
 {
     let [old, new] = operands else {
         return Err(LineFault::BadLine);
@@ -53,7 +53,7 @@ pub(crate) fn two_paths(operands: &[&str]) -> Result<(Path, Path), LineFault>
 /// One name of a group.
 pub(crate) fn group(operands: &[&str]) -> Result<GroupName, LineFault>
     ensures { MatchResult result (λ group. IsGroupName group × (map (λ word. word.now) operands.now ≡ group ∷ []))
-        (IsOperandFault (GroupOperand ∷ []) (map (λ word. word.now) operands.now)) }
+        (IsOperandFault (GroupOperand [] ∷ []) (map (λ word. word.now) operands.now)) }
 {
     let [word] = operands else {
         return Err(LineFault::BadLine);
@@ -65,7 +65,7 @@ pub(crate) fn group(operands: &[&str]) -> Result<GroupName, LineFault>
 pub(crate) fn two_groups(operands: &[&str]) -> Result<(GroupName, GroupName), LineFault>
     ensures { MatchResult result (λ groups. IsGroupName groups.0 × IsGroupName groups.1
         × (map (λ word. word.now) operands.now ≡ groups.0 ∷ groups.1 ∷ []))
-        (IsOperandFault (GroupOperand ∷ GroupOperand ∷ []) (map (λ word. word.now) operands.now)) }
+        (IsOperandFault (GroupOperand [] ∷ GroupOperand [] ∷ []) (map (λ word. word.now) operands.now)) }
 {
     let [later, earlier] = operands else {
         return Err(LineFault::BadLine);

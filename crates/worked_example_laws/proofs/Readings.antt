@@ -1,6 +1,6 @@
 -- What a line says, computed from its words: a line says at most one thing.
-use Rattle.std.proofs.Common.{◌≡◌, ◌≢◌, ℕ, zero, suc, ◌<◌, ◌≤◌, List, [], ◌∷◌, ◌++◌, length, Bool, true, false, not, ◌&&◌, nat_lt, nat_le, arith, refl, sym, subst, ap, ◌∙◌, inl, inr, get_or}
-use Rattle.std.specs.Prelude.{◌⊎◌, ◌==◌, if◌then◌else◌, flat_map, codes, Option, Some, None, option_map, bytes_eq, IsUtf8}
+use Rattle.std.proofs.Common.{◌≡◌, ◌≢◌, ℕ, zero, suc, ◌<◌, ◌≤◌, List, [], ◌∷◌, ◌++◌, length, map, Bool, true, false, ◌&&◌, nat_lt, nat_le, arith, refl, sym, subst, ap, ◌∙◌, inl, inr}
+use Rattle.std.specs.Prelude.{◌==◌, if◌then◌else◌, flat_map, codes, Option, Some, None, option_map, bytes_eq, IsUtf8}
 use Rattle.std.specs.Str.{IsAscii}
 use Rattle.std.specs.List.{All, Contains, list_all}
 use Rattle.std.proofs.lemmas.Bool.{and_parts, ltb-true, lt-ltb, le-leb}
@@ -10,11 +10,12 @@ use Rattle.std.proofs.lemmas.Str.{IsUtf8-from_ascii}
 use Rattle.crash_model.proofs.Cuts.{Lacks}
 use Rattle.crash_model.specs.Lists.{join_of}
 use Rattle.crash_model.specs.Names.{IsWord, IsName, IsGroupName, is_name_byte, is_group_byte}
-use Rattle.crash_model.specs.Script.{IsPath, IsPathWord, path_text, Operand, PathOperand, GroupOperand, forms, Fits, HasPaths, HasForm, Line, Skipped, Start, Says, words_of, IsAct, IsSkipped, Reads}
+use Rattle.crash_model.specs.Script.{IsPath, IsPathWord, path_text, Operand, PathOperand, GroupOperand, said, operand_text, AreLawful, Fits, HasPaths, HasForm, Line, Skipped, Start, Says, words_of, IsAct, IsSkipped, Reads}
 use Rattle.crash_model.specs.declared.operations.Op.TheVariants.{Create, Write, Link, Unlink, Rename, Mkdir, Rmdir}
 use Rattle.crash_model.specs.declared.names.Path.{Path}
 use Rattle.crash_model.specs.declared.steps.Act.{Act}
 use Rattle.crash_model.specs.declared.steps.Act.TheVariants.{Do, Group, End, Depend}
+use Rattle.worked_example_laws.specs.Examples.{root}
 use Rattle.worked_example_laws.specs.Spelled.{is_word}
 use Rattle.worked_example_laws.proofs.Pieces.{onto, pieces, AreLacking, lacking_from, pieces_joined, pieces_slashed}
 
@@ -123,17 +124,73 @@ act_of (first ∷ args) =
     if bytes_eq first (codes "end") then with_none args else
     if bytes_eq first (codes "depend") then with_groups args else None
 
-pub act_is : (act : Act) → IsAct act → act_of (words_of act) ≡ Some act
-act_is (Do (Create p)) is = rw (path_is p is) refl
-act_is (Do (Write p)) is = rw (path_is p is) refl
-act_is (Do (Link p q)) is = rw (path_is p is.0, path_is q is.1) refl
-act_is (Do (Unlink p)) is = rw (path_is p is) refl
-act_is (Do (Rename p q)) is = rw (path_is p is.0, path_is q is.1) refl
-act_is (Do (Mkdir p)) is = rw (path_is p is) refl
-act_is (Do (Rmdir p)) is = rw (path_is p is) refl
+act_is : (act : Act) → IsAct act → act_of (words_of act) ≡ Some act
+act_is (Do (Create p)) is = rw (path_is p is.0) refl
+act_is (Do (Write p)) is = rw (path_is p is.0) refl
+act_is (Do (Link p q)) is = rw (path_is p is.0, path_is q is.1.0) refl
+act_is (Do (Unlink p)) is = rw (path_is p is.0) refl
+act_is (Do (Rename p q)) is = rw (path_is p is.0, path_is q is.1.0) refl
+act_is (Do (Mkdir p)) is = rw (path_is p is.0) refl
+act_is (Do (Rmdir p)) is = rw (path_is p is.0) refl
 act_is (Group a) is = refl
 act_is End is = refl
 act_is (Depend b a) is = refl
+
+-- ---- forms
+
+abbrev pub anywhere : Path
+anywhere = root []
+
+-- an act of each form
+abbrev pub samples : List Act
+samples =
+    Do (Create anywhere) ∷ Do (Write anywhere) ∷ Do (Link anywhere anywhere) ∷ Do (Unlink anywhere)
+    ∷ Do (Rename anywhere anywhere) ∷ Do (Mkdir anywhere) ∷ Do (Rmdir anywhere) ∷ Group [] ∷ End ∷ Depend [] [] ∷ []
+
+-- the first of these acts that begins with the word
+abbrev pub begun_by : List ℕ → List Act → Option Act
+begun_by first [] = None
+begun_by first (act ∷ acts) = if bytes_eq first (said act).0 then Some act else begun_by first acts
+
+abbrev pub like_of : List ℕ → Option Act
+like_of first = begun_by first samples
+
+-- both take the same words
+abbrev pub AreAlike : List Operand → List Operand → Type 0
+AreAlike operands others = (words : List (List ℕ))
+    → (Fits operands words → Fits others words)
+    × (HasPaths operands words → HasPaths others words) × (HasPaths others words → HasPaths operands words)
+
+alike : (operands : List Operand) → AreAlike operands operands
+alike operands words = ((λ fits. fits), (λ paths. paths), (λ paths. paths))
+
+-- a sample of an act's form, to which the act's first word leads; and that word has small letters alone
+abbrev HasSample : Act → Type 0
+HasSample act =
+    (sample : Act) × (like_of (said act).0 ≡ Some sample) × AreAlike (said act).1 (said sample).1
+    × (list_all is_name_byte (said act).0 ≡ true)
+
+sampled : (act : Act) → HasSample act
+sampled (Do (Create p)) = (Do (Create anywhere), refl, alike (PathOperand p ∷ []), refl)
+sampled (Do (Write p)) = (Do (Write anywhere), refl, alike (PathOperand p ∷ []), refl)
+sampled (Do (Link p q)) = (Do (Link anywhere anywhere), refl, alike (PathOperand p ∷ PathOperand q ∷ []), refl)
+sampled (Do (Unlink p)) = (Do (Unlink anywhere), refl, alike (PathOperand p ∷ []), refl)
+sampled (Do (Rename p q)) = (Do (Rename anywhere anywhere), refl, alike (PathOperand p ∷ PathOperand q ∷ []), refl)
+sampled (Do (Mkdir p)) = (Do (Mkdir anywhere), refl, alike (PathOperand p ∷ []), refl)
+sampled (Do (Rmdir p)) = (Do (Rmdir anywhere), refl, alike (PathOperand p ∷ []), refl)
+sampled (Group a) = (Group [], refl, alike (GroupOperand a ∷ []), refl)
+sampled End = (End, refl, alike [], refl)
+sampled (Depend b a) = (Depend [] [], refl, alike (GroupOperand b ∷ GroupOperand a ∷ []), refl)
+
+-- acts with the same first word take the same paths
+paths_alike : (act other : Act) → (said act).0 ≡ (said other).0 → (words : List (List ℕ))
+    → HasPaths (said act).1 words → HasPaths (said other).1 words
+paths_alike act other same words paths =
+    let one = sampled act in
+    let two = sampled other in
+    let both : Some one.0 ≡ Some two.0 = sym one.1 ∙ (ap like_of same ∙ two.1) in
+    let samples : one.0 ≡ two.0 = cc in
+    (two.2 words).2 (subst (λ (a : Act). HasPaths (said a).1 words) samples ((one.2 words).1 paths))
 
 -- ---- words
 
@@ -159,147 +216,6 @@ lacks_is : (s : ℕ) (xs : List ℕ) → Lacks s xs → ¬ (Contains xs s)
 lacks_is s [] lacks (k, within, is) = omega arith
 lacks_is s (x ∷ xs) lacks (zero, within, is) = lacks.0 is
 lacks_is s (x ∷ xs) lacks (suc k, within, is) = lacks_is s xs lacks.1 (k, omega arith, is)
-
--- the first word of an act, what stands behind it, and of which kinds
-abbrev pub operands_of : Act → List Operand
-operands_of (Do (Create p)) = PathOperand ∷ []
-operands_of (Do (Write p)) = PathOperand ∷ []
-operands_of (Do (Link p q)) = PathOperand ∷ PathOperand ∷ []
-operands_of (Do (Unlink p)) = PathOperand ∷ []
-operands_of (Do (Rename p q)) = PathOperand ∷ PathOperand ∷ []
-operands_of (Do (Mkdir p)) = PathOperand ∷ []
-operands_of (Do (Rmdir p)) = PathOperand ∷ []
-operands_of (Group a) = GroupOperand ∷ []
-operands_of End = []
-operands_of (Depend b a) = GroupOperand ∷ GroupOperand ∷ []
-
-abbrev pub behind_first : List (List ℕ) → List (List ℕ)
-behind_first [] = []
-behind_first (word ∷ words) = words
-
--- a word without a space, as text that is checked
-no_space : (word : List ℕ) → list_all (λ c. not (c == 32)) word ≡ true → Lacks 32 word
-no_space word e = name_lacks 32 (λ c. not (c == 32)) refl word e
-
-words_lack : (act : Act) → IsAct act → AreLacking 32 (words_of act)
-words_lack (Do (Create p)) is = (no_space (codes "create") refl, (path_lacks p is, tt))
-words_lack (Do (Write p)) is = (no_space (codes "write") refl, (path_lacks p is, tt))
-words_lack (Do (Link p q)) is = (no_space (codes "link") refl, (path_lacks p is.0, (path_lacks q is.1, tt)))
-words_lack (Do (Unlink p)) is = (no_space (codes "unlink") refl, (path_lacks p is, tt))
-words_lack (Do (Rename p q)) is = (no_space (codes "rename") refl, (path_lacks p is.0, (path_lacks q is.1, tt)))
-words_lack (Do (Mkdir p)) is = (no_space (codes "mkdir") refl, (path_lacks p is, tt))
-words_lack (Do (Rmdir p)) is = (no_space (codes "rmdir") refl, (path_lacks p is, tt))
-words_lack (Group a) is = (no_space (codes "group") refl, (group_lacks a is, tt))
-words_lack End is = (no_space (codes "end") refl, tt)
-words_lack (Depend b a) is = (no_space (codes "depend") refl, (group_lacks b is.0, (group_lacks a is.1, tt)))
-
-some_words : (act : Act) → words_of act ≢ []
-some_words (Do (Create p)) e = cc
-some_words (Do (Write p)) e = cc
-some_words (Do (Link p q)) e = cc
-some_words (Do (Unlink p)) e = cc
-some_words (Do (Rename p q)) e = cc
-some_words (Do (Mkdir p)) e = cc
-some_words (Do (Rmdir p)) e = cc
-some_words (Group a) e = cc
-some_words End e = cc
-some_words (Depend b a) e = cc
-
-pub act_pieces : (act : Act) → IsAct act → pieces 32 (join_of 32 (words_of act)) ≡ words_of act
-act_pieces act is = pieces_joined 32 (words_of act) (words_lack act is) (some_words act)
-
--- ---- lines
-
-abbrev pub begins_comment : List ℕ → Bool
-begins_comment [] = true
-begins_comment (c ∷ cs) = c == 35
-
--- what the line says, by the act that its words are
-abbrev pub says_by : List ℕ → Option Act → Option Line
-says_by line (Some act) = Some (Says act)
-says_by line None = if bytes_eq line (codes "start") then Some Start else (if begins_comment line then Some Skipped else None)
-
-abbrev pub says : List ℕ → Option Line
-says line = says_by line (act_of (pieces 32 line))
-
-comment_no_act : (ps : List (List ℕ)) → act_of (onto 35 ps) ≡ None
-comment_no_act [] = refl
-comment_no_act (p ∷ ps) = refl
-
-comment_says : (rest : List ℕ) → says (35 ∷ rest) ≡ Some Skipped
-comment_says rest = ap (says_by (35 ∷ rest)) (comment_no_act (pieces 32 rest))
-
-pub reads_says : (line : List ℕ) (what : Line) → Reads line what → says line ≡ Some what
-reads_says line Skipped (inl empty) = ap says empty
-reads_says line Skipped (inr (text, (rest, is))) = ap says is ∙ comment_says rest
-reads_says line Start is = ap says is
-reads_says line (Says act) (is, spelt) = ap says spelt ∙ ap (says_by (join_of 32 (words_of act))) (ap act_of (act_pieces act is) ∙ act_is act is)
-
-pub reads_one : (line : List ℕ) (what other : Line) → Reads line what → Reads line other → what ≡ other
-reads_one line what other is also = let one = reads_says line what is in let two = reads_says line other also in cc
-
--- ---- forms
-
-abbrev pub lookup : List (List ℕ × List Operand) → List ℕ → Option (List Operand)
-lookup [] first = None
-lookup (form ∷ more) first = if bytes_eq first form.0 then Some form.1 else lookup more first
-
--- a word for each operand, no word empty, and names of groups where they belong
-abbrev pub fit : List Operand → List (List ℕ) → Bool
-fit [] [] = true
-fit (PathOperand ∷ operands) ([] ∷ words) = false
-fit (PathOperand ∷ operands) ((c ∷ cs) ∷ words) = fit operands words
-fit (GroupOperand ∷ operands) (word ∷ words) = is_word is_group_byte word && fit operands words
-fit _ _ = false
-
-fit_is : (operands : List Operand) (words : List (List ℕ)) → Fits operands words → fit operands words ≡ true
-fit_is [] [] fits = refl
-fit_is [] (word ∷ words) fits = absurd fits
-fit_is (PathOperand ∷ operands) [] fits = absurd fits
-fit_is (PathOperand ∷ operands) ([] ∷ words) fits = absurd (fits.0 refl)
-fit_is (PathOperand ∷ operands) ((c ∷ cs) ∷ words) fits = fit_is operands words fits.1
-fit_is (GroupOperand ∷ operands) [] fits = absurd fits
-fit_is (GroupOperand ∷ operands) (word ∷ words) fits =
-    both (is_word is_group_byte word) (fit operands words) (word_is is_group_byte word fits.0) (fit_is operands words fits.1)
-
-abbrev pub fitting : List (List ℕ) → Option (List Operand) → Option (List Operand × List (List ℕ))
-fitting words None = None
-fitting words (Some operands) = if fit operands words then Some (operands, words) else None
-
-abbrev pub form_of : List (List ℕ) → Option (List Operand × List (List ℕ))
-form_of [] = None
-form_of (first ∷ words) = fitting words (lookup forms first)
-
-pub in_forms : (k : ℕ) (first : List ℕ) (operands : List Operand) → k < 11 → get_or forms k (first, operands) ≡ (first, operands) → lookup forms first ≡ Some operands
-in_forms k first operands below e = by_place k below e
-  where
-    found : (form : List ℕ × List Operand) → lookup forms form.0 ≡ Some form.1 → form ≡ (first, operands) → lookup forms first ≡ Some operands
-    found form at e = subst (λ (f : List ℕ × List Operand). lookup forms f.0 ≡ Some f.1) e at
-
-    by_place : (k : ℕ) → k < 11 → get_or forms k (first, operands) ≡ (first, operands) → lookup forms first ≡ Some operands
-    by_place zero below e = found (codes "create", PathOperand ∷ []) refl e
-    by_place (suc zero) below e = found (codes "write", PathOperand ∷ []) refl e
-    by_place (suc (suc zero)) below e = found (codes "link", PathOperand ∷ PathOperand ∷ []) refl e
-    by_place (suc (suc (suc zero))) below e = found (codes "unlink", PathOperand ∷ []) refl e
-    by_place (suc (suc (suc (suc zero)))) below e = found (codes "rename", PathOperand ∷ PathOperand ∷ []) refl e
-    by_place (suc (suc (suc (suc (suc zero))))) below e = found (codes "mkdir", PathOperand ∷ []) refl e
-    by_place (suc (suc (suc (suc (suc (suc zero)))))) below e = found (codes "rmdir", PathOperand ∷ []) refl e
-    by_place (suc (suc (suc (suc (suc (suc (suc zero))))))) below e = found (codes "group", GroupOperand ∷ []) refl e
-    by_place (suc (suc (suc (suc (suc (suc (suc (suc zero)))))))) below e = found (codes "end", []) refl e
-    by_place (suc (suc (suc (suc (suc (suc (suc (suc (suc zero))))))))) below e = found (codes "depend", GroupOperand ∷ GroupOperand ∷ []) refl e
-    by_place (suc (suc (suc (suc (suc (suc (suc (suc (suc (suc zero)))))))))) below e = found (codes "start", []) refl e
-    by_place (suc (suc (suc (suc (suc (suc (suc (suc (suc (suc (suc k))))))))))) below e = absurd (omega arith)
-
-pub form_is : (line : List ℕ) (operands : List Operand) (words : List (List ℕ)) → HasForm line operands words → form_of (pieces 32 line) ≡ Some (operands, words)
-form_is line operands words form =
-    ap (λ l. form_of (pieces 32 l)) form.cut.whole
-    ∙ (ap form_of (pieces_joined 32 (form.first ∷ words) (lacking_from 32 (form.first ∷ words) form.cut.plain) form.cut.some)
-    ∙ (ap (fitting words) (in_forms form.is_form.0 form.first operands form.is_form.1 form.is_form.2)
-    ∙ ap (λ b. if b then Some (operands, words) else None) (fit_is operands words form.fits)))
-
--- text of no form
-pub no_form : (line : List ℕ) → form_of (pieces 32 line) ≡ None → (operands : List Operand) (words : List (List ℕ)) → ¬ (HasForm line operands words)
-no_form line none operands words form = let one = form_is line operands words form in cc
 
 -- ---- text
 
@@ -344,23 +260,94 @@ path_low path is = slashed_low (path.through.items ++ path.last ∷ []) (names_a
 low_group : (name : List ℕ) → IsGroupName name → Low name
 low_group name is = low_if is_group_byte group_low name is.plain
 
-low_two : (first word : List ℕ) → Low first → Low word → Low (join_of 32 (first ∷ word ∷ []))
-low_two first word low more = low_append first (32 ∷ word) low (omega arith, more)
+abbrev AreLow : List (List ℕ) → Type 0
+AreLow [] = Unit {0}
+AreLow (word ∷ words) = Low word × AreLow words
 
-low_three : (first word last : List ℕ) → Low first → Low word → Low last → Low (join_of 32 (first ∷ word ∷ last ∷ []))
-low_three first word last low more end = low_append first (32 ∷ join_of 32 (word ∷ last ∷ [])) low (omega arith, low_two word last more end)
+joined_low : (words : List (List ℕ)) → AreLow words → Low (join_of 32 words)
+joined_low [] low = tt
+joined_low (word ∷ []) low = low.0
+joined_low (word ∷ more ∷ words) low =
+    low_append word (32 ∷ join_of 32 (more ∷ words)) low.0 (omega arith, joined_low (more ∷ words) low.1)
+
+-- ---- the words of an act
+
+path_some : (path : Path) → path_text path ≢ []
+path_some path e = by_names path.through.items e
+  where
+    by_names : (items : List (List ℕ)) → flat_map (λ name. 47 ∷ name) (items ++ path.last ∷ []) ≡ [] → ⊥
+    by_names [] e = cc
+    by_names (x ∷ xs) e = cc
+
+abbrev pub texts : List Operand → List (List ℕ)
+texts operands = map operand_text operands
+
+-- what lawful operands say are words of text, which fit and have paths where they belong
+record HasWords (operands : List Operand) : Type 0 where
+  lacks : AreLacking 32 (texts operands)
+  low : AreLow (texts operands)
+  fits : Fits operands (texts operands)
+  paths : HasPaths operands (texts operands)
+
+has_words : (operands : List Operand) → AreLawful operands → HasWords operands
+has_words [] are = record { lacks = tt; low = tt; fits = tt; paths = tt }
+has_words (PathOperand p ∷ operands) are =
+    let more = has_words operands are.1 in
+    record {
+      lacks = (path_lacks p are.0, more.lacks);
+      low = (path_low p are.0, more.low);
+      fits = (path_some p, more.fits);
+      paths = ((p, are.0, refl), more.paths);
+    }
+has_words (GroupOperand a ∷ operands) are =
+    let more = has_words operands are.1 in
+    record {
+      lacks = (group_lacks a are.0, more.lacks);
+      low = (low_group a are.0, more.low);
+      fits = (are.0, more.fits);
+      paths = more.paths;
+    }
+
+words_lack : (act : Act) → IsAct act → AreLacking 32 (words_of act)
+words_lack act is = (name_lacks 32 is_name_byte refl (said act).0 (sampled act).3, (has_words (said act).1 is).lacks)
 
 act_low : (act : Act) → IsAct act → Low (join_of 32 (words_of act))
-act_low (Do (Create p)) is = low_two (codes "create") (path_text p) (low_text (codes "create") refl) (path_low p is)
-act_low (Do (Write p)) is = low_two (codes "write") (path_text p) (low_text (codes "write") refl) (path_low p is)
-act_low (Do (Link p q)) is = low_three (codes "link") (path_text p) (path_text q) (low_text (codes "link") refl) (path_low p is.0) (path_low q is.1)
-act_low (Do (Unlink p)) is = low_two (codes "unlink") (path_text p) (low_text (codes "unlink") refl) (path_low p is)
-act_low (Do (Rename p q)) is = low_three (codes "rename") (path_text p) (path_text q) (low_text (codes "rename") refl) (path_low p is.0) (path_low q is.1)
-act_low (Do (Mkdir p)) is = low_two (codes "mkdir") (path_text p) (low_text (codes "mkdir") refl) (path_low p is)
-act_low (Do (Rmdir p)) is = low_two (codes "rmdir") (path_text p) (low_text (codes "rmdir") refl) (path_low p is)
-act_low (Group a) is = low_two (codes "group") a (low_text (codes "group") refl) (low_group a is)
-act_low End is = low_text (codes "end") refl
-act_low (Depend b a) is = low_three (codes "depend") b a (low_text (codes "depend") refl) (low_group b is.0) (low_group a is.1)
+act_low act is =
+    let first = low_if is_name_byte name_low (said act).0 (sampled act).3 in
+    joined_low (words_of act) (first, (has_words (said act).1 is).low)
+
+act_pieces : (act : Act) → IsAct act → pieces 32 (join_of 32 (words_of act)) ≡ words_of act
+act_pieces act is = pieces_joined 32 (words_of act) (words_lack act is) (λ e. cc)
+
+-- ---- lines
+
+abbrev pub begins_comment : List ℕ → Bool
+begins_comment [] = true
+begins_comment (c ∷ cs) = c == 35
+
+-- what the line says, by the act that its words are
+abbrev pub says_by : List ℕ → Option Act → Option Line
+says_by line (Some act) = Some (Says act)
+says_by line None = if bytes_eq line (codes "start") then Some Start else (if begins_comment line then Some Skipped else None)
+
+abbrev pub says : List ℕ → Option Line
+says line = says_by line (act_of (pieces 32 line))
+
+comment_no_act : (ps : List (List ℕ)) → act_of (onto 35 ps) ≡ None
+comment_no_act [] = refl
+comment_no_act (p ∷ ps) = refl
+
+comment_says : (rest : List ℕ) → says (35 ∷ rest) ≡ Some Skipped
+comment_says rest = ap (says_by (35 ∷ rest)) (comment_no_act (pieces 32 rest))
+
+pub reads_says : (line : List ℕ) (what : Line) → Reads line what → says line ≡ Some what
+reads_says line Skipped (inl empty) = ap says empty
+reads_says line Skipped (inr (text, (rest, is))) = ap says is ∙ comment_says rest
+reads_says line Start is = ap says is
+reads_says line (Says act) (is, spelt) = ap says spelt ∙ ap (says_by (join_of 32 (words_of act))) (ap act_of (act_pieces act is) ∙ act_is act is)
+
+pub reads_one : (line : List ℕ) (what other : Line) → Reads line what → Reads line other → what ≡ other
+reads_one line what other is also = let one = reads_says line what is in let two = reads_says line other also in cc
 
 low_utf8 : (xs : List ℕ) → Low xs → IsUtf8 xs
 low_utf8 xs low = IsUtf8-from_ascii xs (low_ascii xs low)
@@ -371,65 +358,85 @@ reads_utf8 line Skipped (inr comment) = comment.0
 reads_utf8 line Start is = subst IsUtf8 (sym is) (low_utf8 (codes "start") (low_text (codes "start") refl))
 reads_utf8 line (Says act) (is, spelt) = subst IsUtf8 (sym spelt) (low_utf8 (join_of 32 (words_of act)) (act_low act is))
 
--- ---- a line that says something has a form, with paths where they belong
+-- ---- forms of lines
+
+-- a word for each operand, no word empty, and names of groups where they belong
+abbrev pub fit : List Operand → List (List ℕ) → Bool
+fit [] [] = true
+fit (PathOperand p ∷ operands) ([] ∷ words) = false
+fit (PathOperand p ∷ operands) ((c ∷ cs) ∷ words) = fit operands words
+fit (GroupOperand a ∷ operands) (word ∷ words) = is_word is_group_byte word && fit operands words
+fit _ _ = false
+
+fit_is : (operands : List Operand) (words : List (List ℕ)) → Fits operands words → fit operands words ≡ true
+fit_is [] [] fits = refl
+fit_is [] (word ∷ words) fits = absurd fits
+fit_is (PathOperand p ∷ operands) [] fits = absurd fits
+fit_is (PathOperand p ∷ operands) ([] ∷ words) fits = absurd (fits.0 refl)
+fit_is (PathOperand p ∷ operands) ((c ∷ cs) ∷ words) fits = fit_is operands words fits.1
+fit_is (GroupOperand a ∷ operands) [] fits = absurd fits
+fit_is (GroupOperand a ∷ operands) (word ∷ words) fits =
+    both (is_word is_group_byte word) (fit operands words) (word_is is_group_byte word fits.0) (fit_is operands words fits.1)
+
+abbrev pub fits_some : Option Act → List (List ℕ) → Bool
+fits_some None words = false
+fits_some (Some like) words = fit (said like).1 words
+
+-- the words of a line have a form
+abbrev pub are_formed : List (List ℕ) → Bool
+are_formed [] = false
+are_formed (first ∷ words) = fits_some (like_of first) words
+
+form_pieces : (line : List ℕ) (like : Act) (words : List (List ℕ)) → HasForm line like words
+    → pieces 32 line ≡ (said like).0 ∷ words
+form_pieces line like words form =
+    let all = (said like).0 ∷ words in
+    ap (pieces 32) form.cut.whole ∙ pieces_joined 32 all (lacking_from 32 all form.cut.plain) form.cut.some
+
+-- text of no form
+pub no_form : (line : List ℕ) → are_formed (pieces 32 line) ≡ false → (like : Act) (words : List (List ℕ))
+    → ¬ (HasForm line like words)
+no_form line none like words form =
+    let it = sampled like in
+    let formed : are_formed (pieces 32 line) ≡ true =
+    ap are_formed (form_pieces line like words form)
+    ∙ (ap (λ (o : Option Act). fits_some o words) it.1 ∙ fit_is (said it.0).1 words ((it.2 words).0 form.fits)) in
+    cc
 
 pub plain_from : (s : ℕ) (words : List (List ℕ)) → AreLacking s words → All (λ word. ¬ (Contains word s)) words
 plain_from s [] lacks = All-nil (λ word. ¬ (Contains word s))
 plain_from s (word ∷ words) lacks = All-cons (λ word. ¬ (Contains word s)) word words (lacks_is s word lacks.0) (plain_from s words lacks.1)
 
 -- the parts of a form, for text that is given as words
-pub form_at : (k : ℕ) (operands : List Operand) (first : List ℕ) (words : List (List ℕ)) → k < 11 → get_or forms k (first, operands) ≡ (first, operands)
-    → AreLacking 32 (first ∷ words) → Fits operands words → HasForm (join_of 32 (first ∷ words)) operands words
-form_at k operands first words below at lacks fits = record {
-  first = first;
-  is_form = (k, below, at);
-  cut = record { plain = plain_from 32 (first ∷ words) lacks; some = λ e. cc; whole = refl };
+pub form_at : (line : List ℕ) (like : Act) (words : List (List ℕ)) → AreLacking 32 ((said like).0 ∷ words)
+    → Fits (said like).1 words → line ≡ join_of 32 ((said like).0 ∷ words) → HasForm line like words
+form_at line like words lacks fits whole = record {
+  cut = record { plain = plain_from 32 ((said like).0 ∷ words) lacks; some = λ e. cc; whole = whole };
   fits = fits;
 }
 
-path_some : (path : Path) → path_text path ≢ []
-path_some path e = by_names path.through.items e
-  where
-    by_names : (items : List (List ℕ)) → flat_map (λ name. 47 ∷ name) (items ++ path.last ∷ []) ≡ [] → ⊥
-    by_names [] e = cc
-    by_names (x ∷ xs) e = cc
+-- ---- a line that says something has a form, with paths where they belong
 
-act_form : (act : Act) → IsAct act → HasForm (join_of 32 (words_of act)) (operands_of act) (behind_first (words_of act))
-act_form (Do (Create p)) is = form_at 0 _ (codes "create") (path_text p ∷ []) (omega arith) refl (words_lack (Do (Create p)) is) (path_some p, tt)
-act_form (Do (Write p)) is = form_at 1 _ (codes "write") (path_text p ∷ []) (omega arith) refl (words_lack (Do (Write p)) is) (path_some p, tt)
-act_form (Do (Link p q)) is = form_at 2 _ (codes "link") (path_text p ∷ path_text q ∷ []) (omega arith) refl (words_lack (Do (Link p q)) is) (path_some p, (path_some q, tt))
-act_form (Do (Unlink p)) is = form_at 3 _ (codes "unlink") (path_text p ∷ []) (omega arith) refl (words_lack (Do (Unlink p)) is) (path_some p, tt)
-act_form (Do (Rename p q)) is = form_at 4 _ (codes "rename") (path_text p ∷ path_text q ∷ []) (omega arith) refl (words_lack (Do (Rename p q)) is) (path_some p, (path_some q, tt))
-act_form (Do (Mkdir p)) is = form_at 5 _ (codes "mkdir") (path_text p ∷ []) (omega arith) refl (words_lack (Do (Mkdir p)) is) (path_some p, tt)
-act_form (Do (Rmdir p)) is = form_at 6 _ (codes "rmdir") (path_text p ∷ []) (omega arith) refl (words_lack (Do (Rmdir p)) is) (path_some p, tt)
-act_form (Group a) is = form_at 7 _ (codes "group") (a ∷ []) (omega arith) refl (words_lack (Group a) is) (is, tt)
-act_form End is = form_at 8 _ (codes "end") [] (omega arith) refl (words_lack End is) tt
-act_form (Depend b a) is = form_at 9 _ (codes "depend") (b ∷ a ∷ []) (omega arith) refl (words_lack (Depend b a) is) (is.0, (is.1, tt))
+pub reads_form : (line : List ℕ) (what : Line) → Reads line what → ¬ (IsSkipped line) → line ≢ codes "start"
+    → (like : Act) × (words : List (List ℕ)) × HasForm line like words
+reads_form line Skipped is told other = absurd (told is)
+reads_form line Start is told other = absurd (other is)
+reads_form line (Says act) is told other =
+    let words = texts (said act).1 in
+    (act, words, form_at line act words (words_lack act is.0) (has_words (said act).1 is.0).fits is.1)
 
-act_paths : (act : Act) → IsAct act → HasPaths (operands_of act) (behind_first (words_of act))
-act_paths (Do (Create p)) is = ((p, is, refl), tt)
-act_paths (Do (Write p)) is = ((p, is, refl), tt)
-act_paths (Do (Link p q)) is = ((p, is.0, refl), ((q, is.1, refl), tt))
-act_paths (Do (Unlink p)) is = ((p, is, refl), tt)
-act_paths (Do (Rename p q)) is = ((p, is.0, refl), ((q, is.1, refl), tt))
-act_paths (Do (Mkdir p)) is = ((p, is, refl), tt)
-act_paths (Do (Rmdir p)) is = ((p, is, refl), tt)
-act_paths (Group a) is = tt
-act_paths End is = tt
-act_paths (Depend b a) is = tt
-
-start_form : HasForm (codes "start") [] []
-start_form = form_at 10 [] (codes "start") [] (omega arith) refl (no_space (codes "start") refl, tt) tt
-
--- the form of a line that says something
-pub record IsWellFormed (line : List ℕ) : Type 0 where
-  pub operands : List Operand
-  pub words : List (List ℕ)
-  pub form : HasForm line operands words
-  pub paths : HasPaths operands words
-
-pub reads_form : (line : List ℕ) (what : Line) → Reads line what → IsSkipped line ⊎ IsWellFormed line
-reads_form line Skipped is = inl is
-reads_form line Start is = inr (subst IsWellFormed (sym is) (record { operands = []; words = []; form = start_form; paths = tt }))
-reads_form line (Says act) (is, spelt) = inr (subst IsWellFormed (sym spelt)
-    (record { operands = operands_of act; words = behind_first (words_of act); form = act_form act is; paths = act_paths act is }))
+pub reads_paths : (line : List ℕ) (what : Line) (like : Act) (words : List (List ℕ)) → Reads line what → ¬ (IsSkipped line)
+    → HasForm line like words → HasPaths (said like).1 words
+reads_paths line Skipped like words is told form = absurd (told is)
+reads_paths line Start like words is told form =
+    let same : codes "start" ∷ [] ≡ (said like).0 ∷ words = sym (ap (pieces 32) is) ∙ form_pieces line like words form in
+    let heads : codes "start" ≡ (said like).0 = cc in
+    let none : None ≡ Some (sampled like).0 = ap like_of heads ∙ (sampled like).1 in
+    absurd (cc)
+reads_paths line (Says act) like words is told form =
+    let same : words_of act ≡ (said like).0 ∷ words =
+    sym (ap (pieces 32) is.1 ∙ act_pieces act is.0) ∙ form_pieces line like words form in
+    let heads : (said act).0 ≡ (said like).0 = cc in
+    let tails : texts (said act).1 ≡ words = cc in
+    let paths = subst (λ (ws : List (List ℕ)). HasPaths (said act).1 ws) tails (has_words (said act).1 is.0).paths in
+    paths_alike act like heads words paths

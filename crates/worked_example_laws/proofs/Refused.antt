@@ -1,23 +1,24 @@
 -- The first refused line of a script, by tests of its words.
-use Rattle.std.proofs.Common.{◌≡◌, ◌≢◌, ℕ, ◌+◌, ◌<◌, List, [], ◌∷◌, ◌++◌, length, map, Bool, true, false, not, ◌&&◌, ◌||◌, refl, inl, inr, get_or}
-use Rattle.std.specs.Prelude.{◌⊎◌, ◌==◌, codes, Option, Some, None, is_some, IsUtf8}
+use Rattle.std.proofs.Common.{◌≡◌, ◌≢◌, ℕ, ◌+◌, List, [], ◌∷◌, ◌++◌, length, map, Bool, true, false, not, ◌&&◌, ◌||◌, refl, inl, inr}
+use Rattle.std.specs.Prelude.{◌⊎◌, ◌==◌, codes, Option, Some, None, is_some, bytes_eq, IsUtf8}
 use Rattle.std.specs.Str.{is_utf8}
 use Rattle.std.specs.List.{Contains, list_all, list_any}
 use Rattle.std.proofs.lemmas.Bool.{and_parts}
 use Rattle.std.proofs.lemmas.List.Elements.{All-nil, All-cons}
+use Rattle.std.proofs.lemmas.Slice.Eq.{bytes_eq-Decides}
 use Rattle.std.proofs.lemmas.Str.{IsUtf8-from_is_utf8, is_utf8-from_IsUtf8}
 use Rattle.patch_sets.proofs.Ids.{ne_from_false}
 use Rattle.crash_model.proofs.Cuts.{Lacks}
 use Rattle.crash_model.specs.Lists.{join_of}
 use Rattle.crash_model.specs.Names.{is_group_byte}
-use Rattle.crash_model.specs.Script.{ArePlain, AreLines, Operand, PathOperand, GroupOperand, forms, Fits, HasPaths, IsSkipped, AreAccepted, IsFirstRefused, IsBadLine, IsBadPath, IsScriptRefusal, text_of_lines}
+use Rattle.crash_model.specs.Script.{ArePlain, AreLines, Operand, PathOperand, GroupOperand, said, Fits, HasPaths, IsSkipped, AreAccepted, IsFirstRefused, IsBadLine, IsBadPath, IsScriptRefusal, text_of_lines}
 use Rattle.crash_model.specs.declared.names.Path.{Path}
 use Rattle.crash_model.specs.declared.refusals.ScriptFault.TheVariants.{BadUtf8, BadLine, BadPath, NoStart}
 use Rattle.crash_model.specs.declared.steps.Act.{Act}
 use Rattle.worked_example_laws.specs.Examples.{numbered_steps}
 use Rattle.worked_example_laws.specs.Spelled.{is_word, is_plain, line_of, lines_of, are_acts}
 use Rattle.worked_example_laws.proofs.Pieces.{pieces, AreLacking}
-use Rattle.worked_example_laws.proofs.Readings.{path_of, no_path, fit, form_of, form_at, no_form}
+use Rattle.worked_example_laws.proofs.Readings.{path_of, no_path, fit, are_formed, form_at, no_form}
 use Rattle.worked_example_laws.proofs.Scripts.{each_reads, no_start, get_contains, steps_accepted}
 use Rattle.worked_example_laws.proofs.Spelling.{word_if, lacks_if, plain_lines, steps_are}
 
@@ -68,33 +69,44 @@ not_skipped (c ∷ cs) e (inr comment) = let head : c ≡ 35 = (let whole = comm
 pub not_text : (line : List ℕ) → is_utf8 line ≡ false → ¬ (IsUtf8 line)
 not_text line e is = let one : is_utf8 line ≡ true = is_utf8-from_IsUtf8 line is in cc
 
--- text that is not passed over
+-- text that is not passed over, nor the start line
 abbrev pub is_telling : List ℕ → Bool
-is_telling line = is_utf8 line && not (is_passed_over line)
+is_telling line = is_utf8 line && (not (is_passed_over line) && not (bytes_eq line (codes "start")))
 
--- text that has none of the forms
-pub bad_line_if : (before : List (List ℕ)) (line : List ℕ) → is_telling line ≡ true → form_of (pieces 32 line) ≡ None → IsBadLine before line
-bad_line_if before line e none =
-    let parts = and_parts (is_utf8 line) (not (is_passed_over line)) e in
-    inl (IsUtf8-from_is_utf8 line parts.0, not_skipped line (not_false (is_passed_over line) parts.1), no_form line none)
+telling : (line : List ℕ) → is_telling line ≡ true → IsUtf8 line × (¬ (IsSkipped line)) × (line ≢ codes "start")
+telling line e =
+    let first = and_parts (is_utf8 line) (not (is_passed_over line) && not (bytes_eq line (codes "start"))) e in
+    let more = and_parts (not (is_passed_over line)) (not (bytes_eq line (codes "start"))) first.1 in
+    (IsUtf8-from_is_utf8 line first.0, not_skipped line (not_false (is_passed_over line) more.0), no_start more.1)
+  where
+    no_start : not (bytes_eq line (codes "start")) ≡ true → line ≢ codes "start"
+    no_start other same =
+        let one : bytes_eq line (codes "start") ≡ true = (bytes_eq-Decides line (codes "start")).1 same in
+        let none = not_false (bytes_eq line (codes "start")) other in
+        cc
+
+-- text of no form
+pub bad_line_if : (before : List (List ℕ)) (line : List ℕ) → is_telling line ≡ true → are_formed (pieces 32 line) ≡ false
+    → IsBadLine before line
+bad_line_if before line e none = let told = telling line e in inl (told.0, told.1, told.2, no_form line none)
 
 -- ---- text of a form, in which a word is no path
 
 pub fits_if : (operands : List Operand) (words : List (List ℕ)) → fit operands words ≡ true → Fits operands words
 fits_if [] [] e = tt
 fits_if [] (word ∷ words) e = cc
-fits_if (PathOperand ∷ operands) [] e = cc
-fits_if (PathOperand ∷ operands) ([] ∷ words) e = cc
-fits_if (PathOperand ∷ operands) ((c ∷ cs) ∷ words) e = ((λ empty. cc), fits_if operands words e)
-fits_if (GroupOperand ∷ operands) [] e = cc
-fits_if (GroupOperand ∷ operands) (word ∷ words) e =
+fits_if (PathOperand p ∷ operands) [] e = cc
+fits_if (PathOperand p ∷ operands) ([] ∷ words) e = cc
+fits_if (PathOperand p ∷ operands) ((c ∷ cs) ∷ words) e = ((λ empty. cc), fits_if operands words e)
+fits_if (GroupOperand a ∷ operands) [] e = cc
+fits_if (GroupOperand a ∷ operands) (word ∷ words) e =
     let parts = and_parts (is_word is_group_byte word) (fit operands words) e in
     (word_if is_group_byte word parts.0, fits_if operands words parts.1)
 
 -- some word is no path where a path belongs
 abbrev pub lack_path : List Operand → List (List ℕ) → Bool
-lack_path (PathOperand ∷ operands) (word ∷ words) = not (is_some (path_of word)) || lack_path operands words
-lack_path (GroupOperand ∷ operands) (word ∷ words) = lack_path operands words
+lack_path (PathOperand p ∷ operands) (word ∷ words) = not (is_some (path_of word)) || lack_path operands words
+lack_path (GroupOperand a ∷ operands) (word ∷ words) = lack_path operands words
 lack_path _ _ = false
 
 none_if : (o : Option Path) → not (is_some o) ≡ true → o ≡ None
@@ -107,13 +119,13 @@ lacks_path [] words e paths = by_none words e
     by_none : (words : List (List ℕ)) → lack_path [] words ≡ true → ⊥
     by_none [] e = cc
     by_none (word ∷ words) e = cc
-lacks_path (PathOperand ∷ operands) [] e paths = cc
-lacks_path (PathOperand ∷ operands) (word ∷ words) e paths = elim (either (not (is_some (path_of word))) (lack_path operands words) e) [
+lacks_path (PathOperand p ∷ operands) [] e paths = cc
+lacks_path (PathOperand p ∷ operands) (word ∷ words) e paths = elim (either (not (is_some (path_of word))) (lack_path operands words) e) [
   | inl none ↦ no_path word (none_if (path_of word) none) paths.0
   | inr more ↦ lacks_path operands words more paths.1
 ]
-lacks_path (GroupOperand ∷ operands) [] e paths = cc
-lacks_path (GroupOperand ∷ operands) (word ∷ words) e paths = lacks_path operands words e paths
+lacks_path (GroupOperand a ∷ operands) [] e paths = cc
+lacks_path (GroupOperand a ∷ operands) (word ∷ words) e paths = lacks_path operands words e paths
 
 abbrev pub has_no_space : List ℕ → Bool
 has_no_space word = list_all (λ c. not (c == 32)) word
@@ -128,15 +140,15 @@ no_spaces : (words : List (List ℕ)) → list_all has_no_space words ≡ true �
 no_spaces [] e = tt
 no_spaces (word ∷ words) e = let parts = and_parts (has_no_space word) (list_all has_no_space words) e in (no_space word parts.0, no_spaces words parts.1)
 
-pub bad_path_if : (k : ℕ) (operands : List Operand) (first : List ℕ) (words : List (List ℕ)) → k < 11 → get_or forms k (first, operands) ≡ (first, operands)
-    → is_telling (join_of 32 (first ∷ words)) ≡ true → list_all has_no_space (first ∷ words) ≡ true → fit operands words ≡ true → lack_path operands words ≡ true
-    → IsBadPath (join_of 32 (first ∷ words))
-bad_path_if k operands first words below at e spaces fits lacks =
-    let parts = and_parts (is_utf8 (join_of 32 (first ∷ words))) (not (is_passed_over (join_of 32 (first ∷ words)))) e in (
-      IsUtf8-from_is_utf8 (join_of 32 (first ∷ words)) parts.0,
-      not_skipped (join_of 32 (first ∷ words)) (not_false (is_passed_over (join_of 32 (first ∷ words))) parts.1),
-      (operands, words, form_at k operands first words below at (no_spaces (first ∷ words) spaces) (fits_if operands words fits), lacks_path operands words lacks),
-    )
+pub bad_path_if : (like : Act) (words : List (List ℕ)) → is_telling (join_of 32 ((said like).0 ∷ words)) ≡ true
+    → list_all has_no_space ((said like).0 ∷ words) ≡ true → fit (said like).1 words ≡ true
+    → lack_path (said like).1 words ≡ true → IsBadPath (join_of 32 ((said like).0 ∷ words))
+bad_path_if like words e spaces fits lacks =
+    let line = join_of 32 ((said like).0 ∷ words) in
+    let told = telling line e in
+    let plain = no_spaces ((said like).0 ∷ words) spaces in
+    let form = form_at line like words plain (fits_if (said like).1 words fits) refl in
+    (told.0, told.1, (like, words, form, lacks_path (said like).1 words lacks))
 
 -- ---- the first refused line
 
@@ -170,7 +182,7 @@ last_utf8_refused before line accepted plain some e = record {
 }
 
 pub line_refused : (before : List (List ℕ)) (line : List ℕ) (behind : List (List ℕ)) → AreAccepted before → list_all is_plain (before ++ line ∷ behind) ≡ true
-    → is_telling line ≡ true → form_of (pieces 32 line) ≡ None → IsScriptRefusal (text_of_lines (before ++ line ∷ behind)) (BadLine (length before + 1))
+    → is_telling line ≡ true → are_formed (pieces 32 line) ≡ false → IsScriptRefusal (text_of_lines (before ++ line ∷ behind)) (BadLine (length before + 1))
 line_refused before line behind accepted plain e none = first_refused IsBadLine before line behind accepted plain (bad_line_if before line e none)
 
 -- a second start line

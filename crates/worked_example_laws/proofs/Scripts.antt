@@ -3,27 +3,17 @@ use Rattle.std.proofs.Common.{◌≡◌, ℕ, zero, suc, ◌+◌, ◌<◌, List,
 use Rattle.std.specs.Prelude.{◌⊎◌, codes, Some, slice_get, IsUtf8}
 use Rattle.std.specs.List.{All, Contains}
 use Rattle.std.proofs.lemmas.List.Elements.{All-nil, All-cons, All-append, All-contains}
-use Rattle.crash_model.specs.Script.{AreLines, Operand, HasPaths, HasForm, Line, Skipped, Start, Says, Reads, AreSteps, IsScript, AreAccepted, IsFirstRefused, IsBadLine, IsBadPath, IsScriptRefusal}
+use Rattle.crash_model.specs.Script.{AreLines, Line, Skipped, Start, Says, Reads, AreSteps, IsScript, AreAccepted, IsFirstRefused, IsBadLine, IsBadPath, IsScriptRefusal}
 use Rattle.crash_model.specs.declared.refusals.ScriptFault.{ScriptFault}
 use Rattle.crash_model.specs.declared.refusals.ScriptFault.TheVariants.{BadUtf8, BadLine, BadPath, NoStart, OutOfMemory}
 use Rattle.crash_model.specs.declared.steps.Step.{Step}
 use Rattle.worked_example_laws.proofs.Pieces.{lines_one}
-use Rattle.worked_example_laws.proofs.Readings.{form_is, reads_form, reads_one, reads_utf8}
+use Rattle.worked_example_laws.proofs.Readings.{reads_form, reads_paths, reads_one, reads_utf8}
 
 -- ---- a line that says something is not refused
 
-form_one : (line : List ℕ) (operands others : List Operand) (words more : List (List ℕ)) → HasForm line operands words → HasForm line others more → HasPaths operands words → HasPaths others more
-form_one line operands others words more form other paths =
-    let one = form_is line operands words form in
-    let two = form_is line others more other in
-    let same : (operands, words) ≡ (others, more) = cc in
-    subst (λ (f : List Operand × List (List ℕ)). HasPaths f.0 f.1) same paths
-
 not_bad_path : (line : List ℕ) (what : Line) → Reads line what → ¬ (IsBadPath line)
-not_bad_path line what is bad = elim (reads_form line what is) [
-  | inl skipped ↦ bad.1 skipped
-  | inr well ↦ bad.2.3 (form_one line well.operands bad.2.0 well.words bad.2.1 well.form bad.2.2 well.paths)
-]
+not_bad_path line what is (text, told, (like, words, form, none)) = none (reads_paths line what like words is told form)
 
 -- ---- which of two refused lines comes first
 
@@ -80,7 +70,7 @@ none_refused before line more accepted refused =
   where
     by_kind : (what : Line) → Reads line what → IsRefusedLine before line → ⊥
     by_kind what is (inl not_text) = not_text (reads_utf8 line what is)
-    by_kind what is (inr (inl (inl bad))) = elim (reads_form line what is) [ inl skipped ↦ bad.1 skipped | inr well ↦ bad.2 well.operands well.words well.form ]
+    by_kind what is (inr (inl (inl bad))) = let form = reads_form line what is bad.1 bad.2 in bad.3 form.0 form.1 form.2
     by_kind what is (inr (inl (inr second))) =
         let first = second.1 in
         let at_line : slice_get (before ++ line ∷ more) (length before) ≡ Some (codes "start") = get_middle before line more ∙ ap Some second.0 in
@@ -172,7 +162,7 @@ way_one before line not_text (inl (inr second)) = not_text (reads_utf8 line Star
 way_one before line not_text (inr bad) = not_text bad.0
 
 line_or_path : (before : List (List ℕ)) (line : List ℕ) → IsBadLine before line → IsBadPath line → ⊥
-line_or_path before line (inl bad) path = bad.2 path.2.0 path.2.1 path.2.2
+line_or_path before line (inl bad) path = bad.3 path.2.0 path.2.1 path.2.2
 line_or_path before line (inr second) path = not_bad_path line Start second.0 path
 
 -- two first refused lines are the same line

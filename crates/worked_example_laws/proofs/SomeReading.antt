@@ -1,5 +1,5 @@
 -- Each script is read or refused.
-use Rattle.std.proofs.Common.{◌≡◌, ◌≢◌, ℕ, zero, suc, ◌+◌, ◌<◌, ◌≤◌, List, [], ◌∷◌, ◌++◌, length, Bool, true, false, arith, refl, sym, subst, ap, ◌∙◌, inl, inr, get_or, append_assoc, append-nil}
+use Rattle.std.proofs.Common.{◌≡◌, ◌≢◌, ℕ, zero, suc, ◌+◌, ◌<◌, ◌≤◌, List, [], ◌∷◌, ◌++◌, length, Bool, true, false, arith, refl, sym, subst, ap, ◌∙◌, inl, inr, append_assoc, append-nil}
 use Rattle.std.specs.Prelude.{◌⊎◌, ◌==◌, codes, flat_map, Option, Some, None, bytes_eq, IsUtf8, slice_get, if◌then◌else◌}
 use Rattle.std.specs.Str.{is_utf8}
 use Rattle.std.specs.List.{All, Contains, list_all}
@@ -11,7 +11,7 @@ use Rattle.patch_sets.proofs.Ids.{eq_from_true, ne_from_false, false_from_ne}
 use Rattle.crash_model.proofs.Cuts.{Lacks}
 use Rattle.crash_model.specs.Lists.{join_of}
 use Rattle.crash_model.specs.Names.{IsName, is_name_byte}
-use Rattle.crash_model.specs.Script.{AreLines, text_of_lines, AreWords, path_text, IsPath, IsPathWord, Operand, PathOperand, GroupOperand, forms, Fits, HasPaths, HasForm, Line, Skipped, Start, Says, IsAct, words_of, IsSkipped, Reads, AreSteps, IsScript, AreAccepted, IsScriptRefusal}
+use Rattle.crash_model.specs.Script.{AreLines, text_of_lines, AreWords, path_text, IsPath, IsPathWord, Operand, PathOperand, GroupOperand, said, Fits, HasPaths, HasForm, Line, Skipped, Start, Says, IsAct, words_of, IsSkipped, Reads, AreSteps, IsScript, AreAccepted, IsScriptRefusal}
 use Rattle.crash_model.specs.declared.operations.Op.TheVariants.{Create, Write, Link, Unlink, Rename, Mkdir, Rmdir}
 use Rattle.crash_model.specs.declared.names.Path.{Path}
 use Rattle.crash_model.specs.declared.refusals.ScriptFault.{ScriptFault}
@@ -21,7 +21,7 @@ use Rattle.crash_model.specs.declared.steps.Act.TheVariants.{Do, Group, End, Dep
 use Rattle.crash_model.specs.declared.steps.Step.{Step}
 use Rattle.worked_example_laws.specs.Spelled.{is_word}
 use Rattle.worked_example_laws.proofs.Pieces.{AreLacking, onto, pieces}
-use Rattle.worked_example_laws.proofs.Readings.{path_from, path_of_pieces, path_of, no_path, fit, fitting, lookup, form_of, in_forms, no_form, plain_from}
+use Rattle.worked_example_laws.proofs.Readings.{path_from, path_of_pieces, path_of, no_path, anywhere, samples, begun_by, like_of, fit, fits_some, are_formed, form_at, no_form, plain_from}
 use Rattle.worked_example_laws.proofs.Refused.{fits_if, not_skipped, not_text}
 use Rattle.std.proofs.lemmas.Option.{slice_get-get_or}
 use Rattle.worked_example_laws.proofs.Scripts.{IsRefusedLine, get_contains, get_front, get_middle}
@@ -175,36 +175,29 @@ paths_or_not [] words = inl (none words)
     none : (words : List (List ℕ)) → HasPaths [] words
     none [] = tt
     none (word ∷ words) = tt
-paths_or_not (PathOperand ∷ operands) [] = inl tt
-paths_or_not (PathOperand ∷ operands) (word ∷ words) = by_parts (path_or_not word) (paths_or_not operands words)
+paths_or_not (PathOperand p ∷ operands) [] = inl tt
+paths_or_not (PathOperand p ∷ operands) (word ∷ words) = by_parts (path_or_not word) (paths_or_not operands words)
   where
-    by_parts : IsPathWord word ⊎ (¬ (IsPathWord word)) → HasPaths operands words ⊎ (¬ (HasPaths operands words)) → HasPaths (PathOperand ∷ operands) (word ∷ words) ⊎ (¬ (HasPaths (PathOperand ∷ operands) (word ∷ words)))
+    by_parts : IsPathWord word ⊎ (¬ (IsPathWord word)) → HasPaths operands words ⊎ (¬ (HasPaths operands words)) → HasPaths (PathOperand p ∷ operands) (word ∷ words) ⊎ (¬ (HasPaths (PathOperand p ∷ operands) (word ∷ words)))
     by_parts (inl here) (inl more) = inl (here, more)
     by_parts (inl here) (inr none) = inr (λ paths. none paths.1)
     by_parts (inr none) more = inr (λ paths. none paths.0)
-paths_or_not (GroupOperand ∷ operands) [] = inl tt
-paths_or_not (GroupOperand ∷ operands) (word ∷ words) = paths_or_not operands words
+paths_or_not (GroupOperand a ∷ operands) [] = inl tt
+paths_or_not (GroupOperand a ∷ operands) (word ∷ words) = paths_or_not operands words
 
 -- ---- forms
 
--- which form has this first word
-form_place : (first : List ℕ) → ((k : ℕ) × (operands : List Operand) × (k < 11) × (get_or forms k (first, operands) ≡ (first, operands))) ⊎ (lookup forms first ≡ None)
-form_place first = by_place (lookup_place forms)
+-- an act that is found by its first word has that word
+begins_so : (acts : List Act) (first : List ℕ) (like : Act) → begun_by first acts ≡ Some like → (said like).0 ≡ first
+begins_so [] first like e = cc
+begins_so (act ∷ acts) first like e = by_test (begins_so acts first like) (bytes_eq first (said act).0) refl e
   where
-    Found : List (List ℕ × List Operand) → Type 0
-    Found fs = ((k : ℕ) × (operands : List Operand) × (k < length fs) × (get_or fs k (first, operands) ≡ (first, operands))) ⊎ (lookup fs first ≡ None)
-
-    behind : (form : List ℕ × List Operand) (fs : List (List ℕ × List Operand)) (b : Bool) → bytes_eq first form.0 ≡ b → Found fs → Found (form ∷ fs)
-    behind form fs true e rest = inl (zero, form.1, omega arith, ap (λ f. (f, form.1)) (sym ((bytes_eq-Decides first form.0).0 e)))
-    behind form fs false e (inl (k, operands, below, at)) = inl (suc k, operands, omega arith, at)
-    behind form fs false e (inr none) = inr (rw e none)
-
-    lookup_place : (fs : List (List ℕ × List Operand)) → Found fs
-    lookup_place [] = inr refl
-    lookup_place (form ∷ fs) = behind form fs (bytes_eq first form.0) refl (lookup_place fs)
-
-    by_place : Found forms → ((k : ℕ) × (operands : List Operand) × (k < 11) × (get_or forms k (first, operands) ≡ (first, operands))) ⊎ (lookup forms first ≡ None)
-    by_place found = found
+    by_test : (begun_by first acts ≡ Some like → (said like).0 ≡ first) → (b : Bool) → bytes_eq first (said act).0 ≡ b
+        → (if b then Some act else begun_by first acts) ≡ Some like → (said like).0 ≡ first
+    by_test later true same e =
+        let found : like ≡ act = cc in
+        ap (λ (a : Act). (said a).0) found ∙ sym ((bytes_eq-Decides first (said act).0).0 same)
+    by_test later false other e = later e
 
 -- ---- what a line of a form says
 
@@ -216,7 +209,7 @@ ReadAs line words first operands = AreWords line (first ∷ words) → Fits oper
 
 module _ (line : List ℕ) where
   one_path : (first : List ℕ) (make : Path → Act) → ((p : Path) → words_of (make p) ≡ first ∷ path_text p ∷ []) → ((p : Path) → IsPath p → IsAct (make p))
-      → (words : List (List ℕ)) → ReadAs line words first (PathOperand ∷ [])
+      → (words : List (List ℕ)) → ReadAs line words first (PathOperand anywhere ∷ [])
   one_path first make text_of_lines act [] cut fits paths = absurd fits
   one_path first make text_of_lines act (word ∷ []) cut fits paths =
       let p = paths.0 in
@@ -224,7 +217,7 @@ module _ (line : List ℕ) where
   one_path first make text_of_lines act (word ∷ more ∷ words) cut fits paths = absurd fits.1
 
   two_paths : (first : List ℕ) (make : Path → Path → Act) → ((p q : Path) → words_of (make p q) ≡ first ∷ path_text p ∷ path_text q ∷ []) → ((p q : Path) → IsPath p → IsPath q → IsAct (make p q))
-      → (words : List (List ℕ)) → ReadAs line words first (PathOperand ∷ PathOperand ∷ [])
+      → (words : List (List ℕ)) → ReadAs line words first (PathOperand anywhere ∷ PathOperand anywhere ∷ [])
   two_paths first make text_of_lines act [] cut fits paths = absurd fits
   two_paths first make text_of_lines act (word ∷ []) cut fits paths = absurd fits.1
   two_paths first make text_of_lines act (word ∷ other ∷ []) cut fits paths =
@@ -238,79 +231,68 @@ module _ (line : List ℕ) where
       )
   two_paths first make text_of_lines act (word ∷ other ∷ more ∷ words) cut fits paths = absurd fits.1.1
 
-  one_group : (words : List (List ℕ)) → ReadAs line words (codes "group") (GroupOperand ∷ [])
+  one_group : (words : List (List ℕ)) → ReadAs line words (codes "group") (GroupOperand [] ∷ [])
   one_group [] cut fits paths = absurd fits
-  one_group (word ∷ []) cut fits paths = (Says (Group word), (fits.0, cut.whole))
+  one_group (word ∷ []) cut fits paths = (Says (Group word), (fits, cut.whole))
   one_group (word ∷ more ∷ words) cut fits paths = absurd fits.1
 
-  two_groups : (words : List (List ℕ)) → ReadAs line words (codes "depend") (GroupOperand ∷ GroupOperand ∷ [])
+  two_groups : (words : List (List ℕ)) → ReadAs line words (codes "depend") (GroupOperand [] ∷ GroupOperand [] ∷ [])
   two_groups [] cut fits paths = absurd fits
   two_groups (word ∷ []) cut fits paths = absurd fits.1
-  two_groups (word ∷ other ∷ []) cut fits paths = (Says (Depend word other), ((fits.0, fits.1.0), cut.whole))
+  two_groups (word ∷ other ∷ []) cut fits paths = (Says (Depend word other), (fits, cut.whole))
   two_groups (word ∷ other ∷ more ∷ words) cut fits paths = absurd fits.1.1
 
   an_end : (words : List (List ℕ)) → ReadAs line words (codes "end") []
   an_end [] cut fits paths = (Says End, (tt, cut.whole))
   an_end (word ∷ words) cut fits paths = absurd fits
 
-  a_start : (words : List (List ℕ)) → ReadAs line words (codes "start") []
-  a_start [] cut fits paths = (Start, cut.whole)
-  a_start (word ∷ words) cut fits paths = absurd fits
-
-  by_place : (k : ℕ) (first : List ℕ) (operands : List Operand) (words : List (List ℕ)) → k < 11 → get_or forms k (first, operands) ≡ (first, operands) → ReadAs line words first operands
-  by_place k first operands words below at = case_of k below at
-    where
-      as_form : (form : List ℕ × List Operand) → ReadAs line words form.0 form.1 → form ≡ (first, operands) → ReadAs line words first operands
-      as_form form read e = subst (λ (f : List ℕ × List Operand). ReadAs line words f.0 f.1) e read
-
-      case_of : (k : ℕ) → k < 11 → get_or forms k (first, operands) ≡ (first, operands) → ReadAs line words first operands
-      case_of zero below e = as_form (codes "create", PathOperand ∷ []) (one_path (codes "create") (λ p. Do (Create p)) (λ p. refl) (λ p is. is) words) e
-      case_of (suc zero) below e = as_form (codes "write", PathOperand ∷ []) (one_path (codes "write") (λ p. Do (Write p)) (λ p. refl) (λ p is. is) words) e
-      case_of (suc (suc zero)) below e = as_form (codes "link", PathOperand ∷ PathOperand ∷ []) (two_paths (codes "link") (λ p q. Do (Link p q)) (λ p q. refl) (λ p q is also. (is, also)) words) e
-      case_of (suc (suc (suc zero))) below e = as_form (codes "unlink", PathOperand ∷ []) (one_path (codes "unlink") (λ p. Do (Unlink p)) (λ p. refl) (λ p is. is) words) e
-      case_of (suc (suc (suc (suc zero)))) below e = as_form (codes "rename", PathOperand ∷ PathOperand ∷ []) (two_paths (codes "rename") (λ p q. Do (Rename p q)) (λ p q. refl) (λ p q is also. (is, also)) words) e
-      case_of (suc (suc (suc (suc (suc zero))))) below e = as_form (codes "mkdir", PathOperand ∷ []) (one_path (codes "mkdir") (λ p. Do (Mkdir p)) (λ p. refl) (λ p is. is) words) e
-      case_of (suc (suc (suc (suc (suc (suc zero)))))) below e = as_form (codes "rmdir", PathOperand ∷ []) (one_path (codes "rmdir") (λ p. Do (Rmdir p)) (λ p. refl) (λ p is. is) words) e
-      case_of (suc (suc (suc (suc (suc (suc (suc zero))))))) below e = as_form (codes "group", GroupOperand ∷ []) (one_group words) e
-      case_of (suc (suc (suc (suc (suc (suc (suc (suc zero)))))))) below e = as_form (codes "end", []) (an_end words) e
-      case_of (suc (suc (suc (suc (suc (suc (suc (suc (suc zero))))))))) below e = as_form (codes "depend", GroupOperand ∷ GroupOperand ∷ []) (two_groups words) e
-      case_of (suc (suc (suc (suc (suc (suc (suc (suc (suc (suc zero)))))))))) below e = as_form (codes "start", []) (a_start words) e
-      case_of (suc (suc (suc (suc (suc (suc (suc (suc (suc (suc (suc k))))))))))) below e = absurd (omega arith)
-
-  says_if : (operands : List Operand) (words : List (List ℕ)) → HasForm line operands words → HasPaths operands words → Read line
-  says_if operands words form paths = by_place form.is_form.0 form.first operands words form.is_form.1 form.is_form.2 form.cut form.fits paths
+  read_as : (like : Act) (words : List (List ℕ)) → ReadAs line words (said like).0 (said like).1
+  read_as (Do (Create p)) words = one_path (codes "create") (λ p. Do (Create p)) (λ p. refl) (λ p is. (is, tt)) words
+  read_as (Do (Write p)) words = one_path (codes "write") (λ p. Do (Write p)) (λ p. refl) (λ p is. (is, tt)) words
+  read_as (Do (Link p q)) words =
+      two_paths (codes "link") (λ p q. Do (Link p q)) (λ p q. refl) (λ p q is also. (is, (also, tt))) words
+  read_as (Do (Unlink p)) words = one_path (codes "unlink") (λ p. Do (Unlink p)) (λ p. refl) (λ p is. (is, tt)) words
+  read_as (Do (Rename p q)) words =
+      two_paths (codes "rename") (λ p q. Do (Rename p q)) (λ p q. refl) (λ p q is also. (is, (also, tt))) words
+  read_as (Do (Mkdir p)) words = one_path (codes "mkdir") (λ p. Do (Mkdir p)) (λ p. refl) (λ p is. (is, tt)) words
+  read_as (Do (Rmdir p)) words = one_path (codes "rmdir") (λ p. Do (Rmdir p)) (λ p. refl) (λ p is. (is, tt)) words
+  read_as (Group a) words = one_group words
+  read_as End words = an_end words
+  read_as (Depend b a) words = two_groups words
 
   -- ---- a line is read, or refused in one of the three ways, wherever it stands
 
   abbrev Judged : Type 0
   Judged = Read line ⊎ ((before : List (List ℕ)) → IsRefusedLine before line)
 
-  module _ (text : IsUtf8 line) (told : ¬ (IsSkipped line)) (first : List ℕ) (words : List (List ℕ)) (is : pieces 32 line ≡ first ∷ words) where
-    no_form_here : form_of (pieces 32 line) ≡ None → Judged
-    no_form_here none = inr (λ before. inr (inl (inl (text, told, no_form line none))))
+  module _ (text : IsUtf8 line) (told : ¬ (IsSkipped line)) (other : line ≢ codes "start") (first : List ℕ)
+      (words : List (List ℕ)) (is : pieces 32 line ≡ first ∷ words) where
+    no_form_here : are_formed (first ∷ words) ≡ false → Judged
+    no_form_here none = inr (λ before. inr (inl (inl (text, told, other, no_form line (ap are_formed is ∙ none)))))
 
-    by_paths : (operands : List Operand) → HasForm line operands words → HasPaths operands words ⊎ (¬ (HasPaths operands words)) → Judged
-    by_paths operands form (inl paths) = inl (says_if operands words form paths)
-    by_paths operands form (inr none) = inr (λ before. inr (inr (text, told, (operands, words, form, none))))
+    by_paths : (like : Act) → HasForm line like words → HasPaths (said like).1 words ⊎ (¬ (HasPaths (said like).1 words))
+        → Judged
+    by_paths like form (inl paths) = inl (read_as like words form.cut form.fits paths)
+    by_paths like form (inr none) = inr (λ before. inr (inr (text, told, (like, words, form, none))))
 
-    by_fit : (k : ℕ) (operands : List Operand) → k < 11 → get_or forms k (first, operands) ≡ (first, operands) → (b : Bool) → fit operands words ≡ b → Judged
-    by_fit k operands below at true e =
-        let lacks : AreLacking 32 (first ∷ words) = subst (AreLacking 32) is (pieces_lack 32 line) in
-        by_paths operands (record {
-          first = first;
-          is_form = (k, below, at);
-          cut = record { plain = plain_from 32 (first ∷ words) lacks; some = λ e. cc; whole = sym (joined_pieces 32 line) ∙ ap (join_of 32) is };
-          fits = fits_if operands words e;
-        }) (paths_or_not operands words)
-    by_fit k operands below at false e =
-        no_form_here (ap form_of is ∙ (ap (fitting words) (in_forms k first operands below at) ∙ ap (λ b. if b then Some (operands, words) else None) e))
+    by_fit : (like : Act) → like_of first ≡ Some like → (b : Bool) → fit (said like).1 words ≡ b → Judged
+    by_fit like found true e =
+        let parts : pieces 32 line ≡ (said like).0 ∷ words =
+        is ∙ ap (λ (w : List ℕ). w ∷ words) (sym (begins_so samples first like found)) in
+        let lacks = subst (AreLacking 32) parts (pieces_lack 32 line) in
+        let whole = sym (joined_pieces 32 line) ∙ ap (join_of 32) parts in
+        let form = form_at line like words lacks (fits_if (said like).1 words e) whole in
+        by_paths like form (paths_or_not (said like).1 words)
+    by_fit like found false e = no_form_here (ap (λ (o : Option Act). fits_some o words) found ∙ e)
 
-    by_form : ((k : ℕ) × (operands : List Operand) × (k < 11) × (get_or forms k (first, operands) ≡ (first, operands))) ⊎ (lookup forms first ≡ None) → Judged
-    by_form (inl found) = by_fit found.0 found.1 found.2 found.3 (fit found.1 words) refl
-    by_form (inr none) = no_form_here (ap form_of is ∙ ap (fitting words) none)
+    by_like : (o : Option Act) → like_of first ≡ o → Judged
+    by_like None none = no_form_here (ap (λ (o : Option Act). fits_some o words) none)
+    by_like (Some like) found = by_fit like found (fit (said like).1 words) refl
 
-  by_told : IsUtf8 line → (¬ (IsSkipped line)) → Judged
-  by_told text told = let ps = some_pieces 32 line in by_form text told ps.0 ps.1 ps.2 (form_place ps.0)
+  by_told : IsUtf8 line → (¬ (IsSkipped line)) → (line ≡ codes "start") ⊎ (line ≢ codes "start") → Judged
+  by_told text told (inl start) = inl (Start, start)
+  by_told text told (inr other) =
+      let ps = some_pieces 32 line in by_like text told other ps.0 ps.1 ps.2 (like_of ps.0) refl
 
 judged : (line : List ℕ) → Judged line
 judged line = by_text line (is_utf8 line) refl
@@ -319,7 +301,7 @@ judged line = by_text line (is_utf8 line) refl
     by_line [] text = inl (Skipped, inl refl)
     by_line (c ∷ cs) text = elim (eq_or_not c 35) [
       | inl same ↦ inl (Skipped, inr (text, (cs, ap (λ b. b ∷ cs) same)))
-      | inr other ↦ by_told (c ∷ cs) text (not_skipped (c ∷ cs) (false_from_ne c 35 other))
+      | inr other ↦ by_told (c ∷ cs) text (not_skipped (c ∷ cs) (false_from_ne c 35 other)) (same_bytes (c ∷ cs) (codes "start"))
     ]
 
     by_text : (line : List ℕ) (b : Bool) → is_utf8 line ≡ b → Judged line

@@ -5,13 +5,11 @@ use Rattle.std.specs.List.{All, Contains, list_all, list_any}
 use Rattle.std.proofs.lemmas.Bool.{and_parts, ltb-true, leb-true}
 use Rattle.std.proofs.lemmas.List.Elements.{All-nil, All-cons, All-append}
 use Rattle.crash_model.specs.Names.{IsWord, IsName, is_name_byte, is_group_byte}
-use Rattle.crash_model.specs.Script.{ArePlain, IsPath, IsAct, AreSteps, IsScript}
-use Rattle.crash_model.specs.declared.operations.Op.TheVariants.{Create, Write, Link, Unlink, Rename, Mkdir, Rmdir}
+use Rattle.crash_model.specs.Script.{ArePlain, IsPath, Operand, PathOperand, GroupOperand, said, AreLawful, AreSteps, IsScript}
 use Rattle.crash_model.specs.declared.names.Path.{Path}
 use Rattle.crash_model.specs.declared.steps.Act.{Act}
-use Rattle.crash_model.specs.declared.steps.Act.TheVariants.{Do, Group, End, Depend}
 use Rattle.worked_example_laws.specs.Examples.{numbered_steps}
-use Rattle.worked_example_laws.specs.Spelled.{is_word, is_path, is_act, line_of, is_plain, are_acts, script}
+use Rattle.worked_example_laws.specs.Spelled.{is_word, is_path, are_lawful, is_act, line_of, is_plain, are_acts, script}
 use Rattle.patch_sets.proofs.Ids.{true_from_eq}
 
 pub word_if : (passes : ℕ → Bool) (word : List ℕ) → is_word passes word ≡ true → IsWord passes word
@@ -32,22 +30,14 @@ path_if path e =
     let more = and_parts (list_all (is_word is_name_byte) path.through.items) (is_word is_name_byte path.last) first.1 in
     record { few = leb-true (length path.through.items) 3 first.0; through = names_if path.through.items more.0; last = word_if is_name_byte path.last more.1 }
 
-paths_if : (p q : Path) → (is_path p && is_path q) ≡ true → IsPath p × IsPath q
-paths_if p q e = let parts = and_parts (is_path p) (is_path q) e in (path_if p parts.0, path_if q parts.1)
-
-act_if : (act : Act) → is_act act ≡ true → IsAct act
-act_if (Do (Create p)) e = path_if p e
-act_if (Do (Write p)) e = path_if p e
-act_if (Do (Link p q)) e = paths_if p q e
-act_if (Do (Unlink p)) e = path_if p e
-act_if (Do (Rename p q)) e = paths_if p q e
-act_if (Do (Mkdir p)) e = path_if p e
-act_if (Do (Rmdir p)) e = path_if p e
-act_if (Group a) e = word_if is_group_byte a e
-act_if End e = tt
-act_if (Depend b a) e =
-    let parts = and_parts (is_word is_group_byte b) (is_word is_group_byte a) e in
-    (word_if is_group_byte b parts.0, word_if is_group_byte a parts.1)
+lawful_if : (operands : List Operand) → are_lawful operands ≡ true → AreLawful operands
+lawful_if [] e = tt
+lawful_if (PathOperand path ∷ operands) e =
+    let parts = and_parts (is_path path) (are_lawful operands) e in
+    (path_if path parts.0, lawful_if operands parts.1)
+lawful_if (GroupOperand name ∷ operands) e =
+    let parts = and_parts (is_word is_group_byte name) (are_lawful operands) e in
+    (word_if is_group_byte name parts.0, lawful_if operands parts.1)
 
 -- ---- lines
 
@@ -80,7 +70,7 @@ steps_are n [] e = refl
 steps_are n (act ∷ acts) e =
     let parts = and_parts (is_act act && is_plain (line_of act)) (are_acts acts) e in
     let mine = and_parts (is_act act) (is_plain (line_of act)) parts.0 in
-    inr (act, numbered_steps (n + 1) acts, (act_if act mine.0, refl), steps_are (n + 1) acts parts.1, refl)
+    inr (act, numbered_steps (n + 1) acts, (lawful_if (said act).1 mine.0, refl), steps_are (n + 1) acts parts.1, refl)
 
 pub script_is : (before behind : List Act) → are_acts before ≡ true → are_acts behind ≡ true
     → IsScript (script before behind) (numbered_steps 1 before) (numbered_steps (length (map line_of before) + 2) behind)

@@ -16,11 +16,9 @@ use Rattle.crash_model.specs.declared.steps.Step.{Step}
 use Rattle.worked_example_laws.specs.Computed.{closed_sets, failing_under, kept_of, are_in_order, graph_of, trace_of, is_accepted, have_runs}
 use Rattle.worked_example_laws.specs.Examples.{numbered_steps}
 use Rattle.crash_model.specs.Names.{is_name_byte, is_group_byte}
-use Rattle.crash_model.specs.Script.{text_of_lines, words_of}
-use Rattle.crash_model.specs.declared.operations.Op.TheVariants.{Create, Write, Link, Unlink, Rename, Mkdir, Rmdir}
+use Rattle.crash_model.specs.Script.{text_of_lines, Operand, PathOperand, GroupOperand, said, words_of}
 use Rattle.crash_model.specs.declared.names.Path.{Path}
 use Rattle.crash_model.specs.declared.steps.Act.{Act}
-use Rattle.crash_model.specs.declared.steps.Act.TheVariants.{Do, Group, End, Depend}
 
 -- 1 to 10 bytes that pass
 abbrev pub is_word : (ℕ → Bool) → List ℕ → Bool
@@ -29,17 +27,13 @@ is_word passes word = nat_lt 0 (length word) && (nat_le (length word) 10 && list
 abbrev pub is_path : Path → Bool
 is_path path = nat_le (length path.through.items) 3 && (list_all (is_word is_name_byte) path.through.items && is_word is_name_byte path.last)
 
+abbrev pub are_lawful : List Operand → Bool
+are_lawful [] = true
+are_lawful (PathOperand path ∷ operands) = is_path path && are_lawful operands
+are_lawful (GroupOperand name ∷ operands) = is_word is_group_byte name && are_lawful operands
+
 abbrev pub is_act : Act → Bool
-is_act (Do (Create p)) = is_path p
-is_act (Do (Write p)) = is_path p
-is_act (Do (Link p q)) = is_path p && is_path q
-is_act (Do (Unlink p)) = is_path p
-is_act (Do (Rename p q)) = is_path p && is_path q
-is_act (Do (Mkdir p)) = is_path p
-is_act (Do (Rmdir p)) = is_path p
-is_act (Group a) = is_word is_group_byte a
-is_act End = true
-is_act (Depend b a) = is_word is_group_byte b && is_word is_group_byte a
+is_act act = are_lawful (said act).1
 
 -- the line of an act, and the lines of a script
 abbrev pub line_of : Act → List ℕ

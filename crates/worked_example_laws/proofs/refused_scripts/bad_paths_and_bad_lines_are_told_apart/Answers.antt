@@ -1,6 +1,8 @@
-use Rattle.std.proofs.Common.{refl, [], ◌∷◌, arith}
+use Rattle.std.proofs.Common.{refl, [], ◌∷◌}
 use Rattle.std.specs.Prelude.{codes}
-use Rattle.crash_model.specs.Script.{PathOperand}
+use Rattle.crash_model.specs.declared.operations.Op.TheVariants.{Mkdir}
+use Rattle.crash_model.specs.declared.steps.Act.TheVariants.{Do}
+use Rattle.worked_example_laws.specs.Examples.{a}
 use Rattle.worked_example_laws.specs.Spelled.{lines_of}
 use Rattle.std.specs.Str.{is_utf8, chars}
 use lib.Utf8.{encode}
@@ -9,11 +11,11 @@ use Rattle.worked_example_laws.proofs.refused_scripts.bad_paths_and_bad_lines_ar
 
 pub returns-clause-root : goal.returns-clause-root
 unfolding is_utf8 chars encode
-returns-clause-root c = path_refused (lines_of [] []) [] (codes "mkdir") (codes "/" ∷ []) (started_accepted [] [] refl refl) refl (bad_path_if 5 (PathOperand ∷ []) (codes "mkdir") (codes "/" ∷ []) (omega arith) refl refl refl refl refl)
+returns-clause-root c = path_refused (lines_of [] []) [] (codes "mkdir") (codes "/" ∷ []) (started_accepted [] [] refl refl) refl (bad_path_if (Do (Mkdir a)) (codes "/" ∷ []) refl refl refl refl)
 
 pub returns-clause-deep : goal.returns-clause-deep
 unfolding is_utf8 chars encode
-returns-clause-deep c = path_refused (lines_of [] []) [] (codes "mkdir") (codes "/a/b/c/d/e" ∷ []) (started_accepted [] [] refl refl) refl (bad_path_if 5 (PathOperand ∷ []) (codes "mkdir") (codes "/a/b/c/d/e" ∷ []) (omega arith) refl refl refl refl refl)
+returns-clause-deep c = path_refused (lines_of [] []) [] (codes "mkdir") (codes "/a/b/c/d/e" ∷ []) (started_accepted [] [] refl refl) refl (bad_path_if (Do (Mkdir a)) (codes "/a/b/c/d/e" ∷ []) refl refl refl refl)
 
 pub returns-clause-spaces : goal.returns-clause-spaces
 unfolding is_utf8 chars encode

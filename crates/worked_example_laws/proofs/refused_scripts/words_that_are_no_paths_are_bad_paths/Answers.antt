@@ -1,27 +1,29 @@
-use Rattle.std.proofs.Common.{refl, [], ◌∷◌, arith}
+use Rattle.std.proofs.Common.{refl, [], ◌∷◌}
 use Rattle.std.specs.Prelude.{codes}
-use Rattle.crash_model.specs.Script.{PathOperand}
+use Rattle.crash_model.specs.declared.operations.Op.TheVariants.{Create, Link}
+use Rattle.crash_model.specs.declared.steps.Act.TheVariants.{Do}
 use Rattle.std.specs.Str.{is_utf8, chars}
 use lib.Utf8.{encode}
+use Rattle.worked_example_laws.specs.Examples.{a, b}
 use Rattle.worked_example_laws.proofs.Refused.{acts_accepted, bad_path_if, path_refused}
 use Rattle.worked_example_laws.proofs.refused_scripts.words_that_are_no_paths_are_bad_paths.Goals as goal
 
 pub returns-clause-capital : goal.returns-clause-capital
 unfolding is_utf8 chars encode
-returns-clause-capital c = path_refused [] [] (codes "create") (codes "/A" ∷ []) (acts_accepted [] refl) refl (bad_path_if 0 (PathOperand ∷ []) (codes "create") (codes "/A" ∷ []) (omega arith) refl refl refl refl refl)
+returns-clause-capital c = path_refused [] [] (codes "create") (codes "/A" ∷ []) (acts_accepted [] refl) refl (bad_path_if (Do (Create a)) (codes "/A" ∷ []) refl refl refl refl)
 
 pub returns-clause-empty_first : goal.returns-clause-empty_first
 unfolding is_utf8 chars encode
-returns-clause-empty_first c = path_refused [] [] (codes "create") (codes "//a" ∷ []) (acts_accepted [] refl) refl (bad_path_if 0 (PathOperand ∷ []) (codes "create") (codes "//a" ∷ []) (omega arith) refl refl refl refl refl)
+returns-clause-empty_first c = path_refused [] [] (codes "create") (codes "//a" ∷ []) (acts_accepted [] refl) refl (bad_path_if (Do (Create a)) (codes "//a" ∷ []) refl refl refl refl)
 
 pub returns-clause-empty_last : goal.returns-clause-empty_last
 unfolding is_utf8 chars encode
-returns-clause-empty_last c = path_refused [] [] (codes "create") (codes "/a/" ∷ []) (acts_accepted [] refl) refl (bad_path_if 0 (PathOperand ∷ []) (codes "create") (codes "/a/" ∷ []) (omega arith) refl refl refl refl refl)
+returns-clause-empty_last c = path_refused [] [] (codes "create") (codes "/a/" ∷ []) (acts_accepted [] refl) refl (bad_path_if (Do (Create a)) (codes "/a/" ∷ []) refl refl refl refl)
 
 pub returns-clause-long : goal.returns-clause-long
 unfolding is_utf8 chars encode
-returns-clause-long c = path_refused [] [] (codes "create") (codes "/abcdefghijk" ∷ []) (acts_accepted [] refl) refl (bad_path_if 0 (PathOperand ∷ []) (codes "create") (codes "/abcdefghijk" ∷ []) (omega arith) refl refl refl refl refl)
+returns-clause-long c = path_refused [] [] (codes "create") (codes "/abcdefghijk" ∷ []) (acts_accepted [] refl) refl (bad_path_if (Do (Create a)) (codes "/abcdefghijk" ∷ []) refl refl refl refl)
 
 pub returns-clause-no_slash : goal.returns-clause-no_slash
 unfolding is_utf8 chars encode
-returns-clause-no_slash c = path_refused [] [] (codes "link") (codes "a" ∷ codes "/b" ∷ []) (acts_accepted [] refl) refl (bad_path_if 2 (PathOperand ∷ PathOperand ∷ []) (codes "link") (codes "a" ∷ codes "/b" ∷ []) (omega arith) refl refl refl refl refl)
+returns-clause-no_slash c = path_refused [] [] (codes "link") (codes "a" ∷ codes "/b" ∷ []) (acts_accepted [] refl) refl (bad_path_if (Do (Link a b)) (codes "a" ∷ codes "/b" ∷ []) refl refl refl refl)
