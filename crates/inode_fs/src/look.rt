@@ -91,8 +91,8 @@ pub struct Entry {
 /// The entry of a path's last name; refused as [`walk`] is, and with 10 where the name is absent.
 pub fn find<A: Allocator + Copy>(image: &Image<A>, path: &Path) -> Result<Entry, FsFault>
     ensures found { MatchResult result
-        (λ e. (next : ℕ → ℕ → Result (List Change) FsFault) → at_entry image.now path.now next ≡ next e.dir e.place)
-        (λ fault. (next : ℕ → ℕ → Result (List Change) FsFault) → at_entry image.now path.now next ≡ Err fault) }
+        (λ e. (next : ℕ → ℕ → ℕ → Result (List Change) FsFault) → at_entry image.now path.now next ≡ next e.dir e.place e.target)
+        (λ fault. (next : ℕ → ℕ → ℕ → Result (List Change) FsFault) → at_entry image.now path.now next ≡ Err fault) }
     ensures target { IfOk result (λ e. e.target ≡ target_of image.now e.dir e.place) }
     ensures within { IfOk result (λ e. (e.dir < 16) × (e.place < 10) × (e.target < 16)) }
 {
