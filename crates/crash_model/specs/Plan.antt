@@ -1,5 +1,5 @@
 -- What each operation changes, and when it is refused.
-use Rattle.std.specs.Prelude.{ℕ, ◌+◌, ◌-◌, ◌*◌, ◌/◌, ◌%◌, List, [], ◌∷◌, ◌++◌, length, replicate, Bool, ◌&&◌, ◌==◌, not, nat_le, nat_lt, if◌then◌else◌, Option, Some, None, is_some, option_map, option_to_list, Result, Ok, Err, bytes_eq}
+use Rattle.std.specs.Prelude.{ℕ, ◌+◌, ◌-◌, ◌*◌, ◌/◌, ◌%◌, List, [], ◌∷◌, ◌++◌, length, replicate, Bool, ◌&&◌, ◌==◌, not, nat_le, nat_lt, if◌then◌else◌, Option, Some, None, is_some, option_to_list, Result, Ok, Err, bytes_eq}
 use Rattle.crash_model.specs.DiskBytes.{free_kind, file_kind, directory_kind, file_mark, directory_mark}
 use Rattle.crash_model.specs.Lists.{first_below, some_below, when}
 use Rattle.crash_model.specs.Disk.{Disk, with_bytes}
@@ -43,19 +43,16 @@ is_named d dir name k = is_entry d dir k && is_live d (target_of d dir k) && byt
 abbrev pub entry_named : Disk → ℕ → List ℕ → Option ℕ
 entry_named d dir name = first_below 10 (is_named d dir name)
 
--- the inode that a name leads to
-abbrev pub inode_named : Disk → ℕ → List ℕ → Option ℕ
-inode_named d dir name = option_map (target_of d dir) (entry_named d dir name)
-
 -- the directory that a name leads to
-abbrev pub directory_of : Disk → Option ℕ → Result ℕ FsFault
-directory_of d None = Err NotFound
-directory_of d (Some inode) = if kind_of d inode == directory_kind then Ok inode else Err NotADirectory
+abbrev pub directory_named : Disk → ℕ → List ℕ → Result ℕ FsFault
+directory_named d dir name =
+    with_found (entry_named d dir name) NotFound (λ k.
+    unless (not (kind_of d (target_of d dir k) == directory_kind)) NotADirectory (Ok (target_of d dir k)))
 
 -- the directory that these names lead to
 abbrev pub walk_end : Disk → ℕ → List (List ℕ) → Result ℕ FsFault
 walk_end d dir [] = Ok dir
-walk_end d dir (name ∷ names) = then_ok (directory_of d (inode_named d dir name)) (λ child. walk_end d child names)
+walk_end d dir (name ∷ names) = then_ok (directory_named d dir name) (λ child. walk_end d child names)
 
 -- what is planned in the directory and with the name that a path leads to
 abbrev pub at_path : {B : Type 0} → Disk → Path → (ℕ → List ℕ → Result B FsFault) → Result B FsFault

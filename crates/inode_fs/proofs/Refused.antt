@@ -1,10 +1,9 @@
 -- On a sound disk an operation is refused exactly as the tests said of views tell.
 use Rattle.std.proofs.Common.{◌≡◌, ◌≢◌, ℕ, ◌<◌, ◌⊎◌, ◌↔◌, inl, inr, List, [], ◌∷◌, Bool, true, false, Option, Some, None, Result, Ok, Err, arith, refl, sym, ◌∙◌, ap, subst}
-use Rattle.std.specs.Prelude.{option_map}
 use Rattle.std.proofs.lemmas.Bool.{cases_eq, eq-eqb, ne_eqb}
 use Rattle.crash_model.specs.Disk.{Disk, IsDisk}
 use Rattle.crash_model.specs.Layout.{kind_of, target_of}
-use Rattle.crash_model.specs.Plan.{plan_of, name_spelling, entry_named, inode_named, directory_of, walk_end, then_ok, unless, with_found, at_path, relink_plan}
+use Rattle.crash_model.specs.Plan.{plan_of, name_spelling, entry_named, directory_named, walk_end, then_ok, unless, with_found, at_path, relink_plan}
 use Rattle.crash_model.specs.Sound.{IsSound}
 use Rattle.crash_model.specs.View.{view_of}
 use Rattle.crash_model.specs.Meaning.{LeadsTo, IsKind, Walks, WalkFails, AtPath, AtName, Relinks, IsRefused}
@@ -62,31 +61,28 @@ pub record WalksAs (d : Disk) (from : ℕ) (names : List (List ℕ)) : Type 0 wh
   pub fails : Refuses (walk_end d from names) (WalkFails (view_of d) from names)
 
 -- a name that is a directory's is entered
-enters : (d : Disk) (dir : ℕ) (name : List ℕ) (child : ℕ) → Sound (tables_of d) → dir < 16 → (view_of d).name dir name child → kind_of d child ≡ 2 → directory_of d (inode_named d dir name) ≡ Ok child
+enters : (d : Disk) (dir : ℕ) (name : List ℕ) (child : ℕ) → Sound (tables_of d) → dir < 16 → (view_of d).name dir name child → kind_of d child ≡ 2 → directory_named d dir name ≡ Ok child
 enters d dir name child sound below h two =
     let by = named-by d dir name child sound below h in
-    ap (λ (o : Option ℕ). directory_of d (option_map (target_of d dir) o)) by.named
-    ∙ rw (by.target, eq-eqb (kind_of d child) 2 two) refl
+    rw (by.named, by.target, eq-eqb (kind_of d child) 2 two) refl
 
-no_directory : (d : Disk) (dir : ℕ) (name : List ℕ) (child : ℕ) → Sound (tables_of d) → dir < 16 → (view_of d).name dir name child → kind_of d child ≢ 2 → directory_of d (inode_named d dir name) ≡ Err NotADirectory
+no_directory : (d : Disk) (dir : ℕ) (name : List ℕ) (child : ℕ) → Sound (tables_of d) → dir < 16 → (view_of d).name dir name child → kind_of d child ≢ 2 → directory_named d dir name ≡ Err NotADirectory
 no_directory d dir name child sound below h other =
     let by = named-by d dir name child sound below h in
-    ap (λ (o : Option ℕ). directory_of d (option_map (target_of d dir) o)) by.named
-    ∙ rw (by.target, ne_eqb (kind_of d child) 2 other) refl
+    rw (by.named, by.target, ne_eqb (kind_of d child) 2 other) refl
 
 -- what a name leads to, for a walk
 data Turn (d : Disk) (dir : ℕ) (name : List ℕ) : Type 0 where
-  Absent : ¬ (LeadsTo (view_of d) dir name) → directory_of d (inode_named d dir name) ≡ Err NotFound → Turn d dir name
-  Other : (child : ℕ) → (view_of d).name dir name child → ¬ (IsKind (view_of d) child 2) → directory_of d (inode_named d dir name) ≡ Err NotADirectory → Turn d dir name
-  Directory : (child : ℕ) → (view_of d).name dir name child → IsKind (view_of d) child 2 → Walked d child → directory_of d (inode_named d dir name) ≡ Ok child → Turn d dir name
+  Absent : ¬ (LeadsTo (view_of d) dir name) → directory_named d dir name ≡ Err NotFound → Turn d dir name
+  Other : (child : ℕ) → (view_of d).name dir name child → ¬ (IsKind (view_of d) child 2) → directory_named d dir name ≡ Err NotADirectory → Turn d dir name
+  Directory : (child : ℕ) → (view_of d).name dir name child → IsKind (view_of d) child 2 → Walked d child → directory_named d dir name ≡ Ok child → Turn d dir name
 
 turn : (d : Disk) (dir : ℕ) (name : List ℕ) → Sound (tables_of d) → dir < 16 → Turn d dir name
 turn d dir name sound below = go (entry_named d dir name) refl
   where
     go : (o : Option ℕ) → entry_named d dir name ≡ o → Turn d dir name
     go None e =
-        Absent (λ h. let by = named-by d dir name h.0 sound below h.1 in let no : None ≡ Some by.k = sym e ∙ by.named in cc)
-        (ap (λ (o : Option ℕ). directory_of d (option_map (target_of d dir) o)) e)
+        Absent (λ h. let by = named-by d dir name h.0 sound below h.1 in let no : None ≡ Some by.k = sym e ∙ by.named in cc) (rw e refl)
     go (Some k) e =
         let n = named-found d dir name k below e in
         let child = target_of d dir k in

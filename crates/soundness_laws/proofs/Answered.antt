@@ -1,8 +1,10 @@
 -- Answers made of answers, where they are accepted.
-use Rattle.std.proofs.Common.{◌≡◌, ℕ, Bool, true, false, Option, Some, None, Result, Ok, Err, refl}
+use Rattle.std.proofs.Common.{◌≡◌, ℕ, List, Bool, true, false, Option, Some, None, Result, Ok, Err, refl, sym, ◌∙◌, ap}
 use Rattle.std.specs.Prelude.{is_some, not}
+use Rattle.std.proofs.lemmas.Bool.{eqb-true}
 use Rattle.crash_model.specs.Disk.{Disk}
-use Rattle.crash_model.specs.Plan.{entry_named, walk_end, then_ok, unless, with_found, at_path}
+use Rattle.crash_model.specs.Layout.{kind_of, target_of}
+use Rattle.crash_model.specs.Plan.{entry_named, walk_end, then_ok, unless, with_found, directory_named, at_path}
 use Rattle.crash_model.specs.declared.refusals.FsFault.{FsFault}
 use Rattle.crash_model.specs.declared.refusals.FsFault.TheVariants.{NotFound}
 use Rattle.crash_model.specs.declared.names.Path.{Path}
@@ -49,3 +51,22 @@ none-found None e = refl
 pub test-holds : (b : Bool) → not b ≡ false → b ≡ true
 test-holds true e = refl
 test-holds false e = cc
+
+-- where a name was entered
+pub record Entered (d : Disk) (dir : ℕ) (name : List ℕ) (child : ℕ) : Type 0 where
+  pub k : ℕ
+  pub named : entry_named d dir name ≡ Some k
+  pub target : target_of d dir k ≡ child
+  pub kind : kind_of d child ≡ 2
+
+pub directory_named-ok : (d : Disk) (dir : ℕ) (name : List ℕ) (child : ℕ) → directory_named d dir name ≡ Ok child → Entered d dir name child
+directory_named-ok d dir name child e =
+    let entry = with_found-ok (entry_named d dir name) _ _ child e in
+    let directory = unless-ok _ _ _ child entry.2 in
+    let same : child ≡ target_of d dir entry.0 = answer-ok _ child directory.1 in
+    record {
+      k = entry.0;
+      named = entry.1;
+      target = sym same;
+      kind = ap (kind_of d) same ∙ eqb-true (kind_of d (target_of d dir entry.0)) 2 (test-holds _ directory.0);
+    }
