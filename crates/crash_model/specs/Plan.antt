@@ -1,5 +1,5 @@
 -- What each operation changes, and when it is refused.
-use Rattle.std.specs.Prelude.{ℕ, ◌+◌, ◌-◌, ◌*◌, ◌/◌, ◌%◌, List, [], ◌∷◌, ◌++◌, length, replicate, Bool, ◌&&◌, ◌==◌, not, nat_le, nat_lt, if◌then◌else◌, Option, Some, None, is_some, is_none, unwrap_or, ok_or, option_map, option_to_list, Result, Ok, Err, bytes_eq}
+use Rattle.std.specs.Prelude.{ℕ, ◌+◌, ◌-◌, ◌*◌, ◌/◌, ◌%◌, List, [], ◌∷◌, ◌++◌, length, replicate, Bool, ◌&&◌, ◌==◌, not, nat_le, nat_lt, if◌then◌else◌, Option, Some, None, is_some, option_to_list, Result, Ok, Err, bytes_eq}
 use Rattle.crash_model.specs.DiskBytes.{free_kind, file_kind, directory_kind, file_mark, directory_mark}
 use Rattle.crash_model.specs.Lists.{first_below, some_below, when}
 use Rattle.crash_model.specs.Disk.{Disk, with_bytes}
@@ -13,6 +13,22 @@ use Rattle.crash_model.specs.declared.plans.Change.{Change}
 use Rattle.crash_model.specs.declared.plans.Role.{Role}
 use Rattle.crash_model.specs.declared.plans.Role.TheVariants.{InodeInit, EntrySet, EntryClear, MapSet, MapClear, InitFile, InitDir, Ptr, LinkUp, LinkDown, InodeFree}
 
+-- ---- answers, which may be refusals
+
+-- the second answer, made of the first where that is Ok
+abbrev pub then_ok : {A B : Type 0} → Result A FsFault → (A → Result B FsFault) → Result B FsFault
+then_ok (Err e) next = Err e
+then_ok (Ok x) next = next x
+
+-- the answer, unless the test holds: then it is refused
+abbrev pub unless : {B : Type 0} → Bool → FsFault → Result B FsFault → Result B FsFault
+unless test fault answer = if test then Err fault else answer
+
+-- the answer made of what is found; where nothing is, it is refused
+abbrev pub with_found : {A B : Type 0} → Option A → FsFault → (A → Result B FsFault) → Result B FsFault
+with_found None fault answer = Err fault
+with_found (Some x) fault answer = answer x
+
 -- ---- names
 
 -- an entry's bytes 1 to 11 for a name
@@ -25,44 +41,36 @@ is_named d dir name k = is_entry d dir k && is_live d (target_of d dir k) && byt
 
 -- the lowest entry of this name, in a directory that counts, whose target is live
 abbrev pub entry_named : Disk → ℕ → List ℕ → Option ℕ
-entry_named d dir name =
-    first_below 10 (is_named d dir name)
-
--- the inode that a name leads to
-abbrev pub inode_named : Disk → ℕ → List ℕ → Option ℕ
-inode_named d dir name = option_map (target_of d dir) (entry_named d dir name)
+entry_named d dir name = first_below 10 (is_named d dir name)
 
 -- the directory that a name leads to
-abbrev pub directory_of : Disk → Option ℕ → Result ℕ FsFault
-directory_of d None = Err NotFound
-directory_of d (Some inode) = if kind_of d inode == directory_kind then Ok inode else Err NotADirectory
-
--- the second answer, made of the first where that is Ok
-abbrev pub then_ok : {A B : Type 0} → Result A FsFault → (A → Result B FsFault) → Result B FsFault
-then_ok (Err e) next = Err e
-then_ok (Ok x) next = next x
+abbrev pub directory_named : Disk → ℕ → List ℕ → Result ℕ FsFault
+directory_named d dir name =
+    with_found (entry_named d dir name) NotFound (λ k.
+    unless (not (kind_of d (target_of d dir k) == directory_kind)) NotADirectory (Ok (target_of d dir k)))
 
 -- the directory that these names lead to
 abbrev pub walk_end : Disk → ℕ → List (List ℕ) → Result ℕ FsFault
 walk_end d dir [] = Ok dir
-walk_end d dir (name ∷ names) = then_ok (directory_of d (inode_named d dir name)) (λ child. walk_end d child names)
+walk_end d dir (name ∷ names) = then_ok (directory_named d dir name) (λ child. walk_end d child names)
 
 -- what is planned in the directory and with the name that a path leads to
 abbrev pub at_path : {B : Type 0} → Disk → Path → (ℕ → List ℕ → Result B FsFault) → Result B FsFault
 at_path d path plan = then_ok (walk_end d 0 path.through.items) (λ dir. plan dir path.last)
 
--- what is planned with the directory and the entry that a path leads to
-abbrev pub at_entry : {B : Type 0} → Disk → Path → (ℕ → ℕ → Result B FsFault) → Result B FsFault
-at_entry d path plan = at_path d path (λ dir name. then_ok (ok_or (entry_named d dir name) NotFound) (λ k. plan dir k))
+-- what is planned with the directory and the entry that a path leads to, and with the entry's target
+abbrev pub at_entry : {B : Type 0} → Disk → Path → (ℕ → ℕ → ℕ → Result B FsFault) → Result B FsFault
+at_entry d path plan =
+    at_path d path (λ dir name. with_found (entry_named d dir name) NotFound (λ k. plan dir k (target_of d dir k)))
 
 -- ---- what is free
 
-abbrev pub has_no_kind : Disk → ℕ → Bool
-has_no_kind d i = kind_of d i == free_kind
+-- an inode, a block, an entry and a slot that are free, and the lowest of each
+abbrev pub is_free_inode : Disk → ℕ → Bool
+is_free_inode d i = kind_of d i == free_kind
 
--- the lowest free inode, block, entry and slot
 abbrev pub free_inode : Disk → Option ℕ
-free_inode d = first_below 16 (has_no_kind d)
+free_inode d = first_below 16 (is_free_inode d)
 
 abbrev pub is_free_block : Disk → ℕ → Bool
 is_free_block d b = is_data d b && map_of d b == 0
@@ -120,73 +128,62 @@ init_block role block mark inode = change role block 0 (mark ∷ inode ∷ repli
 
 -- of an inode's pointers into the data area, by ascending slot
 abbrev pub map_clear_at : Disk → ℕ → ℕ → Option Change
-map_clear_at d inode slot = when (is_data d (pointer_of d inode slot)) (map_clear (pointer_of d inode slot))
+map_clear_at d inode slot = let block = pointer_of d inode slot in when (is_data d block) (map_clear block)
 
 abbrev pub map_clears : Disk → ℕ → List Change
 map_clears d inode = some_below 4 (map_clear_at d inode)
 
 -- ---- the operations
 
--- the first test that is true refuses
-abbrev pub unless : {B : Type 0} → List (Bool × FsFault) → B → Result B FsFault
-unless [] answer = Ok answer
-unless (test ∷ tests) answer = if test.0 then Err test.1 else unless tests answer
-
-abbrev pub is_full_dir : Disk → ℕ → Bool
-is_full_dir d dir = is_none (free_entry d dir)
-
 abbrev pub has_entries : Disk → ℕ → Bool
 has_entries d dir = is_some (first_below 10 (is_entry d dir))
 
--- the tests that link and rename share; the plan gets the old directory and entry, the target, the new directory and name
-abbrev pub relink_plan : Disk → Path → Path → (ℕ → ℕ → ℕ → ℕ → List ℕ → List Change) → Result (List Change) FsFault
-relink_plan d old new changes =
-    at_entry d old (λ old_dir k. at_path d new (λ dir name.
-    let target = target_of d old_dir k in
-    unless ((is_some (entry_named d dir name), Exists) ∷ (not (kind_of d target == file_kind), NotAFile)
-    ∷ (is_full_dir d dir, DirectoryFull) ∷ (nat_le 8 (links_of d target), LinksFull) ∷ [])
-    (changes old_dir k target dir name)))
+-- one more name for a file, and then more changes, made of the old directory and entry and of the file
+abbrev pub relink_plan : Disk → Path → Path → (ℕ → ℕ → ℕ → List Change) → Result (List Change) FsFault
+relink_plan d old new more =
+    at_entry d old (λ old_dir old_k target. at_path d new (λ dir name.
+    unless (is_some (entry_named d dir name)) Exists
+    (unless (not (kind_of d target == file_kind)) NotAFile
+    (with_found (free_entry d dir) DirectoryFull (λ k.
+    unless (nat_le 8 (links_of d target)) LinksFull
+    (Ok (link_count LinkUp target (links_of d target + 1) ∷ entry_set d dir k target name
+    ∷ more old_dir old_k target)))))))
 
 unfoldable pub plan_of : Disk → Op → Result (List Change) FsFault
 plan_of d (Create path) =
     at_path d path (λ dir name.
-    let inode = unwrap_or (free_inode d) 0 in
-    unless ((is_some (entry_named d dir name), Exists) ∷ (is_none (free_inode d), NoInode) ∷ (is_full_dir d dir, DirectoryFull) ∷ [])
-    (inode_init inode file_kind ∷ entry_set d dir (unwrap_or (free_entry d dir) 0) inode name ∷ []))
+    unless (is_some (entry_named d dir name)) Exists
+    (with_found (free_inode d) NoInode (λ inode.
+    with_found (free_entry d dir) DirectoryFull (λ k.
+    Ok (inode_init inode file_kind ∷ entry_set d dir k inode name ∷ [])))))
 plan_of d (Write path) =
-    at_entry d path (λ dir k.
-    let target = target_of d dir k in
-    let block = unwrap_or (free_block d) 0 in
-    unless ((not (kind_of d target == file_kind), NotAFile) ∷ (is_none (free_block d), NoBlock) ∷ (is_none (free_slot d target), FileFull) ∷ [])
-    (map_set block ∷ init_block InitFile block file_mark target ∷ pointer_set target (unwrap_or (free_slot d target) 0) block ∷ []))
-plan_of d (Link old new) =
-    relink_plan d old new (λ old_dir k target dir name.
-    link_count LinkUp target (links_of d target + 1) ∷ entry_set d dir (unwrap_or (free_entry d dir) 0) target name ∷ [])
+    at_entry d path (λ dir k target.
+    unless (not (kind_of d target == file_kind)) NotAFile
+    (with_found (free_block d) NoBlock (λ block.
+    with_found (free_slot d target) FileFull (λ slot.
+    Ok (map_set block ∷ init_block InitFile block file_mark target ∷ pointer_set target slot block ∷ [])))))
+plan_of d (Link old new) = relink_plan d old new (λ dir k target. [])
 plan_of d (Unlink path) =
-    at_entry d path (λ dir k.
-    let target = target_of d dir k in
-    unless ((not (kind_of d target == file_kind), NotAFile) ∷ [])
-    (entry_clear d dir k
-    ∷ (if nat_lt 1 (links_of d target)
+    at_entry d path (λ dir k target.
+    unless (not (kind_of d target == file_kind)) NotAFile
+    (Ok (entry_clear d dir k ∷ (if nat_lt 1 (links_of d target)
     then link_count LinkDown target (links_of d target - 1) ∷ []
-    else (inode_free target ∷ map_clears d target))))
+    else (inode_free target ∷ map_clears d target)))))
 plan_of d (Rename old new) =
-    relink_plan d old new (λ old_dir k target dir name.
-    link_count LinkUp target (links_of d target + 1) ∷ entry_set d dir (unwrap_or (free_entry d dir) 0) target name
-    ∷ entry_clear d old_dir k ∷ link_count LinkDown target (links_of d target) ∷ [])
+    relink_plan d old new (λ dir k target. entry_clear d dir k ∷ link_count LinkDown target (links_of d target) ∷ [])
 plan_of d (Mkdir path) =
     at_path d path (λ dir name.
-    let inode = unwrap_or (free_inode d) 0 in
-    let block = unwrap_or (free_block d) 0 in
-    unless ((is_some (entry_named d dir name), Exists) ∷ (is_none (free_inode d), NoInode) ∷ (is_none (free_block d), NoBlock)
-    ∷ (is_full_dir d dir, DirectoryFull) ∷ [])
-    (inode_init inode directory_kind ∷ map_set block ∷ init_block InitDir block directory_mark inode ∷ pointer_set inode 0 block
-    ∷ entry_set d dir (unwrap_or (free_entry d dir) 0) inode name ∷ []))
+    unless (is_some (entry_named d dir name)) Exists
+    (with_found (free_inode d) NoInode (λ inode.
+    with_found (free_block d) NoBlock (λ block.
+    with_found (free_entry d dir) DirectoryFull (λ k.
+    Ok (inode_init inode directory_kind ∷ map_set block ∷ init_block InitDir block directory_mark inode
+    ∷ pointer_set inode 0 block ∷ entry_set d dir k inode name ∷ []))))))
 plan_of d (Rmdir path) =
-    at_entry d path (λ dir k.
-    let target = target_of d dir k in
-    unless ((not (kind_of d target == directory_kind), NotADirectory) ∷ (has_entries d target, NotEmpty) ∷ [])
-    (entry_clear d dir k ∷ inode_free target ∷ option_to_list (map_clear_at d target 0)))
+    at_entry d path (λ dir k target.
+    unless (not (kind_of d target == directory_kind)) NotADirectory
+    (unless (has_entries d target) NotEmpty
+    (Ok (entry_clear d dir k ∷ inode_free target ∷ option_to_list (map_clear_at d target 0)))))
 
 -- the disk with a list of changes made, the first first
 abbrev pub with_changes : Disk → List Change → Disk

@@ -1,8 +1,8 @@
 -- What the searches found where an operation is accepted.
-use Rattle.std.proofs.Common.{◌≡◌, ℕ, ◌+◌, ◌-◌, ◌<◌, List, [], ◌∷◌, false, Option, Some, None, Ok, ◌∙◌, ap}
-use Rattle.std.specs.Prelude.{unwrap_or, option_to_list, nat_lt, if◌then◌else◌}
+use Rattle.std.proofs.Common.{◌≡◌, ℕ, ◌+◌, ◌-◌, ◌<◌, List, [], ◌∷◌, false, Some, None, Ok}
+use Rattle.std.specs.Prelude.{option_to_list, nat_lt, if◌then◌else◌}
 use Rattle.std.proofs.lemmas.Bool.{eqb-true, leb-false}
-use Rattle.soundness_laws.proofs.Answered.{then_ok-ok, at_entry-ok, unless-ok, answer-ok, some-found, none-found, test-holds}
+use Rattle.soundness_laws.proofs.Answered.{then_ok-ok, unless-ok, with_found-ok, at_entry-ok, answer-ok, none-found, test-holds}
 use Rattle.crash_model.specs.Disk.{Disk}
 use Rattle.crash_model.specs.Layout.{kind_of, links_of, target_of}
 use Rattle.crash_model.specs.Plan.{entry_named, walk_end, free_inode, free_block, free_entry, free_slot, has_entries, relink_plan, inode_init, inode_free, link_count, pointer_set, entry_set, entry_clear, map_set, map_clear_at, map_clears, init_block, plan_of}
@@ -27,18 +27,18 @@ pub create-ok : (d : Disk) (path : Path) (changes : List Change) → plan_of d (
 unfolding plan_of
 create-ok d path changes e =
     let walk = then_ok-ok (walk_end d 0 path.through.items) _ changes e in
-    let one = unless-ok _ _ _ changes walk.2 in
-    let two = unless-ok _ _ _ changes one.1 in
-    let three = unless-ok _ _ _ changes two.1 in
+    let absent = unless-ok _ _ _ changes walk.2 in
+    let inode = with_found-ok (free_inode d) _ _ changes absent.1 in
+    let place = with_found-ok (free_entry d walk.0) _ _ changes inode.2 in
     record {
       dir = walk.0;
-      i = unwrap_or (free_inode d) 0;
-      k = unwrap_or (free_entry d walk.0) 0;
+      i = inode.0;
+      k = place.0;
       walk = walk.1;
-      absent = none-found _ one.0;
-      inode = some-found _ two.0;
-      place = some-found _ three.0;
-      are = answer-ok _ changes three.1;
+      absent = none-found _ absent.0;
+      inode = inode.1;
+      place = place.1;
+      are = answer-ok _ changes place.2;
     }
 
 pub record WriteFound (d : Disk) (path : Path) (changes : List Change) : Type 0 where
@@ -58,20 +58,20 @@ unfolding plan_of
 write-ok d path changes e =
     let at = at_entry-ok d path _ changes e in
     let target = target_of d at.dir at.k in
-    let one = unless-ok _ _ _ changes at.next in
-    let two = unless-ok _ _ _ changes one.1 in
-    let three = unless-ok _ _ _ changes two.1 in
+    let file = unless-ok _ _ _ changes at.next in
+    let block = with_found-ok (free_block d) _ _ changes file.1 in
+    let slot = with_found-ok (free_slot d target) _ _ changes block.2 in
     record {
       dir = at.dir;
       k = at.k;
-      b = unwrap_or (free_block d) 0;
-      s = unwrap_or (free_slot d target) 0;
+      b = block.0;
+      s = slot.0;
       walk = at.walk;
       named = at.named;
-      file = eqb-true (kind_of d target) 1 (test-holds _ one.0);
-      block = some-found _ two.0;
-      slot = some-found _ three.0;
-      are = answer-ok _ changes three.1;
+      file = eqb-true (kind_of d target) 1 (test-holds _ file.0);
+      block = block.1;
+      slot = slot.1;
+      are = answer-ok _ changes slot.2;
     }
 
 -- what `link` and `rename` share
@@ -88,44 +88,33 @@ pub record RelinkFound (d : Disk) (old new : Path) : Type 0 where
   pub place : free_entry d dir ≡ Some k
   pub few : links_of d (target_of d old_dir old_k) < 8
 
--- the changes are made of the old place, the target, the new directory and the name
-relink-ok : (d : Disk) (old new : Path) (plan : ℕ → ℕ → ℕ → ℕ → List ℕ → List Change) (changes : List Change) → relink_plan d old new plan ≡ Ok changes
-    → (f : RelinkFound d old new) × (changes ≡ plan f.old_dir f.old_k (target_of d f.old_dir f.old_k) f.dir new.last)
-relink-ok d old new plan changes e =
+-- the first two changes are those of `link`
+relink-ok : (d : Disk) (old new : Path) (more : ℕ → ℕ → List Change) (changes : List Change) → relink_plan d old new (λ dir k _. more dir k) ≡ Ok changes
+    → (f : RelinkFound d old new) × (changes ≡ link_count LinkUp (target_of d f.old_dir f.old_k) (links_of d (target_of d f.old_dir f.old_k) + 1)
+    ∷ entry_set d f.dir f.k (target_of d f.old_dir f.old_k) new.last ∷ more f.old_dir f.old_k)
+relink-ok d old new more changes e =
     let at = at_entry-ok d old _ changes e in
     let target = target_of d at.dir at.k in
     let walk = then_ok-ok (walk_end d 0 new.through.items) _ changes at.next in
-    let one = unless-ok _ _ _ changes walk.2 in
-    let two = unless-ok _ _ _ changes one.1 in
-    let three = unless-ok _ _ _ changes two.1 in
-    let four = unless-ok _ _ _ changes three.1 in (
+    let absent = unless-ok _ _ _ changes walk.2 in
+    let file = unless-ok _ _ _ changes absent.1 in
+    let place = with_found-ok (free_entry d walk.0) _ _ changes file.1 in
+    let few = unless-ok _ _ _ changes place.2 in (
       record {
         old_dir = at.dir;
         old_k = at.k;
         dir = walk.0;
-        k = unwrap_or (free_entry d walk.0) 0;
+        k = place.0;
         walk = at.walk;
         named = at.named;
         new_walk = walk.1;
-        absent = none-found _ one.0;
-        file = eqb-true (kind_of d target) 1 (test-holds _ two.0);
-        place = some-found _ three.0;
-        few = leb-false 8 (links_of d target) four.0;
+        absent = none-found _ absent.0;
+        file = eqb-true (kind_of d target) 1 (test-holds _ file.0);
+        place = place.1;
+        few = leb-false 8 (links_of d target) few.0;
       },
-      answer-ok _ changes four.1,
+      answer-ok _ changes few.1,
     )
-
--- the new entry, where it was found
-set_found : (d : Disk) (dir k i : ℕ) (name : List ℕ) → free_entry d dir ≡ Some k → entry_set d dir (unwrap_or (free_entry d dir) 0) i name ≡ entry_set d dir k i name
-set_found d dir k i name place = ap (λ (o : Option ℕ). entry_set d dir (unwrap_or o 0) i name) place
-
-abbrev pub link_changes : Disk → ℕ → ℕ → ℕ → ℕ → List ℕ → List Change
-link_changes d old_dir old_k target dir name = link_count LinkUp target (links_of d target + 1) ∷ entry_set d dir (unwrap_or (free_entry d dir) 0) target name ∷ []
-
-abbrev pub rename_changes : Disk → ℕ → ℕ → ℕ → ℕ → List ℕ → List Change
-rename_changes d old_dir old_k target dir name =
-    link_count LinkUp target (links_of d target + 1) ∷ entry_set d dir (unwrap_or (free_entry d dir) 0) target name
-    ∷ entry_clear d old_dir old_k ∷ link_count LinkDown target (links_of d target) ∷ []
 
 pub record LinkFound (d : Disk) (old new : Path) (changes : List Change) : Type 0 where
   pub at : RelinkFound d old new
@@ -134,14 +123,7 @@ pub record LinkFound (d : Disk) (old new : Path) (changes : List Change) : Type 
 
 pub link-ok : (d : Disk) (old new : Path) (changes : List Change) → plan_of d (Link old new) ≡ Ok changes → LinkFound d old new changes
 unfolding plan_of
-link-ok d old new changes e =
-    let both = relink-ok d old new (link_changes d) changes e in
-    let f = both.0 in
-    record {
-      at = f;
-      are = both.1 ∙ ap (λ (c : Change). link_count LinkUp (target_of d f.old_dir f.old_k) (links_of d (target_of d f.old_dir f.old_k) + 1) ∷ c ∷ [])
-          (set_found d f.dir f.k (target_of d f.old_dir f.old_k) new.last f.place);
-    }
+link-ok d old new changes e = let f = relink-ok d old new _ changes e in record { at = f.0; are = f.1 }
 
 pub record RenameFound (d : Disk) (old new : Path) (changes : List Change) : Type 0 where
   pub at : RelinkFound d old new
@@ -152,15 +134,7 @@ pub record RenameFound (d : Disk) (old new : Path) (changes : List Change) : Typ
 
 pub rename-ok : (d : Disk) (old new : Path) (changes : List Change) → plan_of d (Rename old new) ≡ Ok changes → RenameFound d old new changes
 unfolding plan_of
-rename-ok d old new changes e =
-    let both = relink-ok d old new (rename_changes d) changes e in
-    let f = both.0 in
-    record {
-      at = f;
-      are = both.1 ∙ ap (λ (c : Change). link_count LinkUp (target_of d f.old_dir f.old_k) (links_of d (target_of d f.old_dir f.old_k) + 1) ∷ c
-          ∷ entry_clear d f.old_dir f.old_k ∷ link_count LinkDown (target_of d f.old_dir f.old_k) (links_of d (target_of d f.old_dir f.old_k)) ∷ [])
-          (set_found d f.dir f.k (target_of d f.old_dir f.old_k) new.last f.place);
-    }
+rename-ok d old new changes e = let f = relink-ok d old new _ changes e in record { at = f.0; are = f.1 }
 
 pub record UnlinkFound (d : Disk) (path : Path) (changes : List Change) : Type 0 where
   pub dir : ℕ
@@ -176,14 +150,14 @@ pub unlink-ok : (d : Disk) (path : Path) (changes : List Change) → plan_of d (
 unfolding plan_of
 unlink-ok d path changes e =
     let at = at_entry-ok d path _ changes e in
-    let one = unless-ok _ _ _ changes at.next in
+    let file = unless-ok _ _ _ changes at.next in
     record {
       dir = at.dir;
       k = at.k;
       walk = at.walk;
       named = at.named;
-      file = eqb-true (kind_of d (target_of d at.dir at.k)) 1 (test-holds _ one.0);
-      are = answer-ok _ changes one.1;
+      file = eqb-true (kind_of d (target_of d at.dir at.k)) 1 (test-holds _ file.0);
+      are = answer-ok _ changes file.1;
     }
 
 pub record MkdirFound (d : Disk) (path : Path) (changes : List Change) : Type 0 where
@@ -202,21 +176,21 @@ pub mkdir-ok : (d : Disk) (path : Path) (changes : List Change) → plan_of d (M
 unfolding plan_of
 mkdir-ok d path changes e =
     let walk = then_ok-ok (walk_end d 0 path.through.items) _ changes e in
-    let one = unless-ok _ _ _ changes walk.2 in
-    let two = unless-ok _ _ _ changes one.1 in
-    let three = unless-ok _ _ _ changes two.1 in
-    let four = unless-ok _ _ _ changes three.1 in
+    let absent = unless-ok _ _ _ changes walk.2 in
+    let inode = with_found-ok (free_inode d) _ _ changes absent.1 in
+    let block = with_found-ok (free_block d) _ _ changes inode.2 in
+    let place = with_found-ok (free_entry d walk.0) _ _ changes block.2 in
     record {
       dir = walk.0;
-      i = unwrap_or (free_inode d) 0;
-      b = unwrap_or (free_block d) 0;
-      k = unwrap_or (free_entry d walk.0) 0;
+      i = inode.0;
+      b = block.0;
+      k = place.0;
       walk = walk.1;
-      absent = none-found _ one.0;
-      inode = some-found _ two.0;
-      block = some-found _ three.0;
-      place = some-found _ four.0;
-      are = answer-ok _ changes four.1;
+      absent = none-found _ absent.0;
+      inode = inode.1;
+      block = block.1;
+      place = place.1;
+      are = answer-ok _ changes place.2;
     }
 
 pub record RmdirFound (d : Disk) (path : Path) (changes : List Change) : Type 0 where
@@ -232,14 +206,14 @@ pub rmdir-ok : (d : Disk) (path : Path) (changes : List Change) → plan_of d (R
 unfolding plan_of
 rmdir-ok d path changes e =
     let at = at_entry-ok d path _ changes e in
-    let one = unless-ok _ _ _ changes at.next in
-    let two = unless-ok _ _ _ changes one.1 in
+    let directory = unless-ok _ _ _ changes at.next in
+    let empty = unless-ok _ _ _ changes directory.1 in
     record {
       dir = at.dir;
       k = at.k;
       walk = at.walk;
       named = at.named;
-      directory = eqb-true (kind_of d (target_of d at.dir at.k)) 2 (test-holds _ one.0);
-      empty = two.0;
-      are = answer-ok _ changes two.1;
+      directory = eqb-true (kind_of d (target_of d at.dir at.k)) 2 (test-holds _ directory.0);
+      empty = empty.0;
+      are = answer-ok _ changes empty.1;
     }

@@ -8,7 +8,7 @@ use Rattle.crash_model.specs.Disk.{Disk, IsDisk, with_bytes}
 use Rattle.crash_model.specs.Names.{IsName}
 use Rattle.crash_model.specs.Lists.{some_below, when}
 use Rattle.crash_model.specs.Layout.{links_of, pointer_of, counts, is_data, target_of, entry_offset}
-use Rattle.crash_model.specs.Plan.{name_spelling, is_named, is_free_entry, is_free_block, is_free_slot, has_no_kind, change, at_inode, inode_free, link_count, entry_set, map_clear, init_block, map_clear_at, map_clears, plan_of, with_changes}
+use Rattle.crash_model.specs.Plan.{name_spelling, is_named, is_free_entry, is_free_block, is_free_slot, is_free_inode, change, at_inode, inode_free, link_count, entry_set, map_clear, init_block, map_clear_at, map_clears, plan_of, with_changes}
 use Rattle.crash_model.specs.declared.names.Path.{Path}
 use Rattle.crash_model.specs.declared.operations.Op.{Op}
 use Rattle.crash_model.specs.declared.operations.Op.TheVariants.{Create, Write, Link, Unlink, Rename, Mkdir, Rmdir}
@@ -93,7 +93,7 @@ clears-land d i disk = some-land d 4 (map_clear_at d i) (λ s. clear-lands d i s
 
 create-lands : (d : Disk) (path : Path) (changes : List Change) → IsDisk d → IsName path.last → CreateFound d path changes → AllLand d changes
 create-lands d path changes disk is_name f =
-    let inode = first_below-is_some 16 (has_no_kind d) f.i f.inode in
+    let inode = first_below-is_some 16 (is_free_inode d) f.i f.inode in
     let place = first_below-is_some 10 (is_free_entry d f.dir) f.k f.place in
     subst (AllLand d) (sym f.are) (
       inode-lands d InodeInit f.i 0 (1 ∷ 1 ∷ replicate 14 0) disk inode.below (omega arith) (omega arith),
@@ -160,7 +160,7 @@ rename-lands d old new changes disk is_name found =
 
 mkdir-lands : (d : Disk) (path : Path) (changes : List Change) → IsDisk d → IsName path.last → MkdirFound d path changes → AllLand d changes
 mkdir-lands d path changes disk is_name f =
-    let inode = first_below-is_some 16 (has_no_kind d) f.i f.inode in
+    let inode = first_below-is_some 16 (is_free_inode d) f.i f.inode in
     let block = first_below-is_some d.blocks (is_free_block d) f.b f.block in
     let place = first_below-is_some 10 (is_free_entry d f.dir) f.k f.place in
     subst (AllLand d) (sym f.are) (

@@ -1,22 +1,19 @@
 -- What an accepted operation means for the view of a sound disk.
 use Rattle.std.proofs.Common.{◌≡◌, ◌≢◌, ℕ, ◌+◌, ◌<◌, ◌⊎◌, inl, inr, List, [], ◌∷◌, Option, Some, None, Result, Ok, Err, arith, refl, sym, ◌∙◌, ap, subst}
-use Rattle.std.specs.Prelude.{option_map}
 use Rattle.std.proofs.lemmas.Bool.{cases_eq, eq-eqb, ne_eqb, false≢true}
 use Rattle.crash_model.specs.Disk.{Disk, IsDisk}
 use Rattle.crash_model.specs.Layout.{kind_of, target_of}
-use Rattle.crash_model.specs.Plan.{plan_of, name_spelling, entry_named, inode_named, directory_of, walk_end, free_inode, free_block, free_slot, with_changes}
+use Rattle.crash_model.specs.Plan.{plan_of, name_spelling, entry_named, directory_named, walk_end, free_inode, free_block, free_slot, with_changes}
 use Rattle.crash_model.specs.Sound.{IsSound}
 use Rattle.crash_model.specs.View.{View, view_of}
 use Rattle.crash_model.specs.Meaning.{Becomes, nothing, with_name, IsLowest, IsFreeInode, IsFreeBlock, IsFreeSlot, IsKind, Walks, IsParent, IsTarget, Means, MeansUnlinkOne, MeansUnlinkLast}
-use Rattle.crash_model.specs.declared.refusals.FsFault.{FsFault}
-use Rattle.crash_model.specs.declared.refusals.FsFault.TheVariants.{NotADirectory}
 use Rattle.crash_model.specs.declared.operations.Op.{Op}
 use Rattle.crash_model.specs.declared.names.Path.{Path}
 use Rattle.crash_model.specs.declared.operations.Op.TheVariants.{Create, Write, Link, Unlink, Rename, Mkdir, Rmdir}
 use Rattle.crash_model.specs.declared.plans.Change.{Change}
 use Rattle.soundness_laws.specs.Tables.{Tables, tables_of, view, SameView, Sound}
 use Rattle.soundness_laws.specs.Tables.Place.{Leads}
-use Rattle.soundness_laws.proofs.Answered.{then_ok-ok}
+use Rattle.soundness_laws.proofs.Answered.{then_ok-ok, Entered, directory_named-ok}
 use Rattle.soundness_laws.proofs.Becomes.{same-self, same-all_of, becomes-same}
 use Rattle.soundness_laws.proofs.ByTables.{kind-at}
 use Rattle.soundness_laws.proofs.Views.{same-view}
@@ -40,28 +37,8 @@ kind-of d i kind e some = ((tables_of d).links i, ((same-view d).inodes i kind (
 
 -- ---- walks
 
--- where a name was entered
-pub record Entered (d : Disk) (dir : ℕ) (name : List ℕ) (child : ℕ) : Type 0 where
-  pub k : ℕ
-  pub named : entry_named d dir name ≡ Some k
-  pub target : target_of d dir k ≡ child
-  pub kind : kind_of d child ≡ 2
-
-pub directory_of-ok : (d : Disk) (dir : ℕ) (name : List ℕ) (child : ℕ) → directory_of d (inode_named d dir name) ≡ Ok child → Entered d dir name child
-directory_of-ok d dir name child e = go (entry_named d dir name) refl e
-  where
-    go : (o : Option ℕ) → entry_named d dir name ≡ o → directory_of d (option_map (target_of d dir) o) ≡ Ok child → Entered d dir name child
-    go None p r = cc
-    go (Some k) p r = elim (cases_eq (kind_of d (target_of d dir k)) 2) [
-      | inl two ↦
-          let ok : Ok (target_of d dir k) ≡ Ok child = rw (eq-eqb (kind_of d (target_of d dir k)) 2 two) at r in
-          let same : target_of d dir k ≡ child = cc in
-          record { k = k; named = p; target = same; kind = ap (kind_of d) (sym same) ∙ two }
-      | inr other ↦ absurd (let no_ok : ◌≡◌ {A = Result ℕ FsFault} (Err NotADirectory) (Ok child) = rw (ne_eqb (kind_of d (target_of d dir k)) 2 other) at r in cc)
-    ]
-
-pub directory_of-name : (d : Disk) (dir : ℕ) (name : List ℕ) (child : ℕ) → dir < 16 → Entered d dir name child → (view_of d).name dir name child × Walked d child
-directory_of-name d dir name child below e =
+pub directory_named-name : (d : Disk) (dir : ℕ) (name : List ℕ) (child : ℕ) → dir < 16 → Entered d dir name child → (view_of d).name dir name child × Walked d child
+directory_named-name d dir name child below e =
     let n = named-found d dir name e.k below e.named in (
       name-of d dir e.k child name (n.leads ∙ ap (λ (x : ℕ). Leads x (name_spelling name)) e.target),
       record { below = subst (λ (x : ℕ). x < 16) e.target n.target_below; kind = kind-at d child (subst (λ (x : ℕ). x < 16) e.target n.target_below) ∙ e.kind },
@@ -70,8 +47,8 @@ directory_of-name d dir name child below e =
 pub walks : (d : Disk) (names : List (List ℕ)) (from to : ℕ) → Walked d from → walk_end d from names ≡ Ok to → Walks (view_of d) from names to
 walks d [] from to at e = cc
 walks d (name ∷ names) from to at e =
-    let step = then_ok-ok (directory_of d (inode_named d from name)) (λ child. walk_end d child names) to e in
-    let here = directory_of-name d from name step.0 at.below (directory_of-ok d from name step.0 step.1) in
+    let step = then_ok-ok (directory_named d from name) (λ child. walk_end d child names) to e in
+    let here = directory_named-name d from name step.0 at.below (directory_named-ok d from name step.0 step.1) in
     (step.0, here.0, kind-of d step.0 2 here.1.kind (λ z. omega arith), walks d names step.0 to here.1 step.2)
 
 pub root-walk_end : (d : Disk) → Sound (tables_of d) → Walked d 0

@@ -1,10 +1,9 @@
 -- On a sound disk an operation is refused exactly as the tests said of views tell.
 use Rattle.std.proofs.Common.{◌≡◌, ◌≢◌, ℕ, ◌<◌, ◌⊎◌, ◌↔◌, inl, inr, List, [], ◌∷◌, Bool, true, false, Option, Some, None, Result, Ok, Err, arith, refl, sym, ◌∙◌, ap, subst}
-use Rattle.std.specs.Prelude.{ok_or, option_map, if◌then◌else◌}
 use Rattle.std.proofs.lemmas.Bool.{cases_eq, eq-eqb, ne_eqb}
 use Rattle.crash_model.specs.Disk.{Disk, IsDisk}
 use Rattle.crash_model.specs.Layout.{kind_of, target_of}
-use Rattle.crash_model.specs.Plan.{plan_of, name_spelling, entry_named, inode_named, directory_of, walk_end, then_ok, at_entry, relink_plan}
+use Rattle.crash_model.specs.Plan.{plan_of, name_spelling, entry_named, directory_named, walk_end, then_ok, unless, with_found, at_path, relink_plan}
 use Rattle.crash_model.specs.Sound.{IsSound}
 use Rattle.crash_model.specs.View.{view_of}
 use Rattle.crash_model.specs.Meaning.{LeadsTo, IsKind, Walks, WalkFails, AtPath, AtName, Relinks, IsRefused}
@@ -17,7 +16,6 @@ use Rattle.crash_model.specs.declared.plans.Change.{Change}
 use Rattle.soundness_laws.specs.Tables.{tables_of, Sound}
 use Rattle.soundness_laws.proofs.ByTables.{kind-at}
 use Rattle.soundness_laws.proofs.ToTables.{sound-tables}
-use Rattle.inode_fs.proofs.Accepted.{link_changes, rename_changes}
 use Rattle.inode_fs.proofs.Searched.{Walked, walk-found, NamedEntry, named-found}
 use Rattle.inode_fs.proofs.Means.{kind-of, name-of, walks, root-walk_end}
 use Rattle.inode_fs.proofs.ViewTests.{named-by, test-named, test-inode, test-block, test-slot, test-full, test-kind, test-links, test-entries}
@@ -28,16 +26,29 @@ Refuses r P = (fault : FsFault) → ((r ≡ Err fault) ↔ P fault)
 
 -- ---- a list of tests
 
+-- the first test that fails decides
+abbrev First : Type 0 → FsFault → (FsFault → Type 0) → FsFault → Type 0
+First P fault R f = (P × (f ≡ fault)) ⊎ ((¬ P) × R f)
+
+-- the test fails
+refused : {B : Type 0} (P : Type 0) (fault : FsFault) (R : FsFault → Type 0) → P → Refuses {B = B} (Err fault) (First P fault R)
+refused P fault R p f = (λ e. inl (p, cc), λ h. elim h [ inl w ↦ ap (λ (x : FsFault). Err x) (sym w.1) | inr w ↦ absurd (w.0 p) ])
+
+-- the test does not fail
+passed : {B : Type 0} (P : Type 0) (fault : FsFault) (rest : Result B FsFault) (R : FsFault → Type 0) → (¬ P) → Refuses rest R → Refuses rest (First P fault R)
+passed P fault rest R none others f = (λ e. inr (none, (others f).0 e), λ h. elim h [ inl w ↦ absurd (none w.0) | inr w ↦ (others f).1 w.1 ])
+
+-- a test, and what it leaves
 one : {B : Type 0} (b : Bool) (P : Type 0) (fault : FsFault) (rest : Result B FsFault) (R : FsFault → Type 0) → ((b ≡ true) ↔ P) → Refuses rest R
-    → Refuses (if b then Err fault else rest) (λ f. (P × (f ≡ fault)) ⊎ ((¬ P) × R f))
-one {B = B} true P fault rest R test others f = (
-  λ e. inl (test.0 refl, cc),
-  λ h. elim h [ inl w ↦ ap (λ (x : FsFault). Err x) (sym w.1) | inr w ↦ absurd (w.0 (test.0 refl)) ],
-)
-one {B = B} false P fault rest R test others f = (
-  λ e. inr ((λ p. let no : false ≡ true = test.1 p in cc), (others f).0 e),
-  λ h. elim h [ inl w ↦ absurd (let no : false ≡ true = test.1 w.0 in cc) | inr w ↦ (others f).1 w.1 ],
-)
+    → Refuses (unless b fault rest) (First P fault R)
+one true P fault rest R test others = refused P fault R (test.0 refl)
+one false P fault rest R test others = passed P fault rest R (λ p. let no : false ≡ true = test.1 p in cc) others
+
+-- a search, and what is made of what it finds
+found : {A B : Type 0} (o : Option A) (P : Type 0) (fault : FsFault) (answer : A → Result B FsFault) (R : FsFault → Type 0) → ((o ≡ None) ↔ P)
+    → ((x : A) → Refuses (answer x) R) → Refuses (with_found o fault answer) (First P fault R)
+found None P fault answer R test others = refused P fault R (test.0 refl)
+found (Some x) P fault answer R test others = passed P fault (answer x) R (λ p. let no : Some x ≡ None = test.1 p in cc) (others x)
 
 accepted : {B : Type 0} (answer : B) → Refuses {B = B} (Ok answer) (λ _. ⊥)
 accepted answer f = (λ e. cc, λ z. absurd z)
@@ -49,35 +60,29 @@ pub record WalksAs (d : Disk) (from : ℕ) (names : List (List ℕ)) : Type 0 wh
   pub ends : (to : ℕ) → Walks (view_of d) from names to → walk_end d from names ≡ Ok to
   pub fails : Refuses (walk_end d from names) (WalkFails (view_of d) from names)
 
-ok_or-none : (o : Option ℕ) → o ≡ None → ok_or o NotFound ≡ Err NotFound
-ok_or-none o e = rw e refl
-
 -- a name that is a directory's is entered
-enters : (d : Disk) (dir : ℕ) (name : List ℕ) (child : ℕ) → Sound (tables_of d) → dir < 16 → (view_of d).name dir name child → kind_of d child ≡ 2 → directory_of d (inode_named d dir name) ≡ Ok child
+enters : (d : Disk) (dir : ℕ) (name : List ℕ) (child : ℕ) → Sound (tables_of d) → dir < 16 → (view_of d).name dir name child → kind_of d child ≡ 2 → directory_named d dir name ≡ Ok child
 enters d dir name child sound below h two =
     let by = named-by d dir name child sound below h in
-    ap (λ (o : Option ℕ). directory_of d (option_map (target_of d dir) o)) by.named
-    ∙ rw (by.target, eq-eqb (kind_of d child) 2 two) refl
+    rw (by.named, by.target, eq-eqb (kind_of d child) 2 two) refl
 
-no_directory : (d : Disk) (dir : ℕ) (name : List ℕ) (child : ℕ) → Sound (tables_of d) → dir < 16 → (view_of d).name dir name child → kind_of d child ≢ 2 → directory_of d (inode_named d dir name) ≡ Err NotADirectory
+no_directory : (d : Disk) (dir : ℕ) (name : List ℕ) (child : ℕ) → Sound (tables_of d) → dir < 16 → (view_of d).name dir name child → kind_of d child ≢ 2 → directory_named d dir name ≡ Err NotADirectory
 no_directory d dir name child sound below h other =
     let by = named-by d dir name child sound below h in
-    ap (λ (o : Option ℕ). directory_of d (option_map (target_of d dir) o)) by.named
-    ∙ rw (by.target, ne_eqb (kind_of d child) 2 other) refl
+    rw (by.named, by.target, ne_eqb (kind_of d child) 2 other) refl
 
 -- what a name leads to, for a walk
 data Turn (d : Disk) (dir : ℕ) (name : List ℕ) : Type 0 where
-  Absent : ¬ (LeadsTo (view_of d) dir name) → directory_of d (inode_named d dir name) ≡ Err NotFound → Turn d dir name
-  Other : (child : ℕ) → (view_of d).name dir name child → ¬ (IsKind (view_of d) child 2) → directory_of d (inode_named d dir name) ≡ Err NotADirectory → Turn d dir name
-  Directory : (child : ℕ) → (view_of d).name dir name child → IsKind (view_of d) child 2 → Walked d child → directory_of d (inode_named d dir name) ≡ Ok child → Turn d dir name
+  Absent : ¬ (LeadsTo (view_of d) dir name) → directory_named d dir name ≡ Err NotFound → Turn d dir name
+  Other : (child : ℕ) → (view_of d).name dir name child → ¬ (IsKind (view_of d) child 2) → directory_named d dir name ≡ Err NotADirectory → Turn d dir name
+  Directory : (child : ℕ) → (view_of d).name dir name child → IsKind (view_of d) child 2 → Walked d child → directory_named d dir name ≡ Ok child → Turn d dir name
 
 turn : (d : Disk) (dir : ℕ) (name : List ℕ) → Sound (tables_of d) → dir < 16 → Turn d dir name
 turn d dir name sound below = go (entry_named d dir name) refl
   where
     go : (o : Option ℕ) → entry_named d dir name ≡ o → Turn d dir name
     go None e =
-        Absent (λ h. let by = named-by d dir name h.0 sound below h.1 in let no : None ≡ Some by.k = sym e ∙ by.named in cc)
-        (ap (λ (o : Option ℕ). directory_of d (option_map (target_of d dir) o)) e)
+        Absent (λ h. let by = named-by d dir name h.0 sound below h.1 in let no : None ≡ Some by.k = sym e ∙ by.named in cc) (rw e refl)
     go (Some k) e =
         let n = named-found d dir name k below e in
         let child = target_of d dir k in
@@ -178,14 +183,15 @@ at-path {B = B} d path plan Then sound next f = go (walk_end d 0 path.through.it
     )
 
 at-name : {B : Type 0} (d : Disk) (path : Path) (plan : ℕ → ℕ → Result B FsFault) (Then : ℕ → ℕ → FsFault → Type 0) → Sound (tables_of d)
-    → ((dir k : ℕ) → Walked d dir → NamedEntry d dir path.last k → Refuses (plan dir k) (Then dir (target_of d dir k))) → Refuses (at_entry d path plan) (AtName (view_of d) path Then)
+    → ((dir k : ℕ) → Walked d dir → NamedEntry d dir path.last k → Refuses (plan dir k) (Then dir (target_of d dir k)))
+    → Refuses (at_path d path (λ dir name. with_found (entry_named d dir name) NotFound (λ k. plan dir k))) (AtName (view_of d) path Then)
 at-name {B = B} d path plan Then sound next =
-    at-path d path (λ dir. then_ok (ok_or (entry_named d dir path.last) NotFound) (λ k. plan dir k))
+    at-path d path (λ dir. with_found (entry_named d dir path.last) NotFound (λ k. plan dir k))
     (λ dir f. ((¬ (LeadsTo (view_of d) dir path.last)) × (f ≡ NotFound)) ⊎ ((i : ℕ) × (view_of d).name dir path.last i × Then dir i f))
     sound (λ dir walk. here dir walk (entry_named d dir path.last) refl)
   where
     here : (dir : ℕ) → Walked d dir → (o : Option ℕ) → entry_named d dir path.last ≡ o
-        → Refuses (then_ok (ok_or o NotFound) (λ k. plan dir k)) (λ f. ((¬ (LeadsTo (view_of d) dir path.last)) × (f ≡ NotFound)) ⊎ ((i : ℕ) × (view_of d).name dir path.last i × Then dir i f))
+        → Refuses (with_found o NotFound (λ k. plan dir k)) (λ f. ((¬ (LeadsTo (view_of d) dir path.last)) × (f ≡ NotFound)) ⊎ ((i : ℕ) × (view_of d).name dir path.last i × Then dir i f))
     here dir walk None e f =
         let absent : ¬ (LeadsTo (view_of d) dir path.last) = λ h. let by = named-by d dir path.last h.0 sound walk.below h.1 in let no : None ≡ Some by.k = sym e ∙ by.named in cc in (
           λ q. inl (absent, cc),
@@ -208,15 +214,15 @@ live-target : (d : Disk) (dir : ℕ) (name : List ℕ) (k : ℕ) → Sound (tabl
 live-target d dir name k sound n = sound.names.no_dangling dir k (target_of d dir k) (name_spelling name) n.leads
 
 -- `link` and `rename`
-relink-refused : (d : Disk) (old new : Path) (changes : ℕ → ℕ → ℕ → ℕ → List ℕ → List Change) → Sound (tables_of d) → Refuses (relink_plan d old new changes) (Relinks (view_of d) old new)
-relink-refused d old new changes t =
+relink-refused : (d : Disk) (old new : Path) (more : ℕ → ℕ → List Change) → Sound (tables_of d) → Refuses (relink_plan d old new (λ dir k _. more dir k)) (Relinks (view_of d) old new)
+relink-refused d old new more t =
     at-name d old _ _ t (λ old_dir k _ n.
     at-path d new _ _ t (λ dir walk.
     let target = target_of d old_dir k in
     one _ _ _ _ _ (test-named d dir new.last t walk.below)
     (one _ _ _ _ _ (test-kind d target 1 n.target_below (λ z. omega arith))
-    (one _ _ _ _ _ (test-full d dir t walk)
-    (one _ _ _ _ _ (test-links d target t n.target_below (live-target d old_dir old.last k t n)) (accepted _))))))
+    (found _ _ _ _ _ (test-full d dir t walk) (λ place.
+    one _ _ _ _ _ (test-links d target t n.target_below (live-target d old_dir old.last k t n)) (accepted _))))))
 
 pub plan-refused : (d : Disk) (op : Op) → IsDisk d → IsSound d → Refuses (plan_of d op) (IsRefused d.blocks d.journal (view_of d) op)
 unfolding plan_of
@@ -224,27 +230,27 @@ plan-refused d (Create path) disk sound =
     let t = sound-tables d disk sound in
     at-path d path _ _ t (λ dir walk.
     one _ _ _ _ _ (test-named d dir path.last t walk.below)
-    (one _ _ _ _ _ (test-inode d)
-    (one _ _ _ _ _ (test-full d dir t walk) (accepted _))))
+    (found _ _ _ _ _ (test-inode d) (λ inode.
+    found _ _ _ _ _ (test-full d dir t walk) (λ place. accepted _))))
 plan-refused d (Write path) disk sound =
     let t = sound-tables d disk sound in
     at-name d path _ _ t (λ dir k walk n.
     one _ _ _ _ _ (test-kind d (target_of d dir k) 1 n.target_below (λ z. omega arith))
-    (one _ _ _ _ _ (test-block d)
-    (one _ _ _ _ _ (test-slot d (target_of d dir k) n.target_below (live-target d dir path.last k t n)) (accepted _))))
-plan-refused d (Link old new) disk sound = relink-refused d old new (link_changes d) (sound-tables d disk sound)
+    (found _ _ _ _ _ (test-block d) (λ block.
+    found _ _ _ _ _ (test-slot d (target_of d dir k) n.target_below (live-target d dir path.last k t n)) (λ slot. accepted _))))
+plan-refused d (Link old new) disk sound = relink-refused d old new _ (sound-tables d disk sound)
 plan-refused d (Unlink path) disk sound =
     let t = sound-tables d disk sound in
     at-name d path _ _ t (λ dir k walk n.
     one _ _ _ _ _ (test-kind d (target_of d dir k) 1 n.target_below (λ z. omega arith)) (accepted _))
-plan-refused d (Rename old new) disk sound = relink-refused d old new (rename_changes d) (sound-tables d disk sound)
+plan-refused d (Rename old new) disk sound = relink-refused d old new _ (sound-tables d disk sound)
 plan-refused d (Mkdir path) disk sound =
     let t = sound-tables d disk sound in
     at-path d path _ _ t (λ dir walk.
     one _ _ _ _ _ (test-named d dir path.last t walk.below)
-    (one _ _ _ _ _ (test-inode d)
-    (one _ _ _ _ _ (test-block d)
-    (one _ _ _ _ _ (test-full d dir t walk) (accepted _)))))
+    (found _ _ _ _ _ (test-inode d) (λ inode.
+    found _ _ _ _ _ (test-block d) (λ block.
+    found _ _ _ _ _ (test-full d dir t walk) (λ place. accepted _)))))
 plan-refused d (Rmdir path) disk sound =
     let t = sound-tables d disk sound in
     at-name d path _ _ t (λ dir k walk n.

@@ -6,7 +6,7 @@ use Rattle.std.proofs.lemmas.Slice.Eq.{bytes_eq-Decides}
 use Rattle.crash_model.specs.Disk.{Disk}
 use Rattle.crash_model.specs.Names.{IsName}
 use Rattle.crash_model.specs.Layout.{kind_of, pointer_of, map_of, is_data, is_live, is_entry, target_of, counts, entry_of, spelling_of}
-use Rattle.crash_model.specs.Plan.{name_spelling, is_named, entry_named, walk_end, is_free_entry, free_entry, has_no_kind, free_inode, is_free_block, free_block, is_free_slot, free_slot}
+use Rattle.crash_model.specs.Plan.{name_spelling, is_named, entry_named, walk_end, is_free_entry, free_entry, is_free_inode, free_inode, is_free_block, free_block, is_free_slot, free_slot}
 use Rattle.soundness_laws.specs.Tables.{tables_of, place_of, Sound}
 use Rattle.soundness_laws.specs.Tables.Place.{Free, Leads}
 use Rattle.soundness_laws.proofs.Searches.{first_below-is_none, first_below-is_some}
@@ -20,13 +20,13 @@ use Rattle.soundness_laws.proofs.Kept.{IsPlace}
 
 pub fresh-found : (d : Disk) (i kind : ℕ) → free_inode d ≡ Some i → (1 ≤ kind) × (kind < 3) → IsFresh (tables_of d) i kind
 fresh-found d i kind e a_kind =
-    let f = first_below-is_some 16 (has_no_kind d) i e in
+    let f = first_below-is_some 16 (is_free_inode d) i e in
     record { below = f.below; free = kind-at d i f.below ∙ eqb-true (kind_of d i) 0 f.holds; a_kind = a_kind }
 
 -- every lower inode is live
 pub fresh-lowest : (d : Disk) (i : ℕ) → free_inode d ≡ Some i → (j : ℕ) → j < i → (tables_of d).kind j ≢ 0
 fresh-lowest d i e j less z =
-    let f = first_below-is_some 16 (has_no_kind d) i e in
+    let f = first_below-is_some 16 (is_free_inode d) i e in
     let below = f.below in
     eqb-false (kind_of d j) 0 (f.lower j less) (sym (kind-at d j (omega arith)) ∙ z)
 

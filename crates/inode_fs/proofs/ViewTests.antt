@@ -1,12 +1,12 @@
 -- The tests of the operations on a sound disk, said of its view.
 use Rattle.std.proofs.Common.{◌≡◌, ◌≢◌, ℕ, ◌<◌, ◌≤◌, ◌⊎◌, ◌↔◌, inl, inr, List, [], Bool, true, false, ◌&&◌, not, eqb, leb, Option, Some, None, arith, refl, sym, ◌∙◌, ap}
-use Rattle.std.specs.Prelude.{is_some, is_none}
+use Rattle.std.specs.Prelude.{is_some}
 use Rattle.std.proofs.lemmas.Bool.{cases_eq, cases_lt, eq-eqb, ne_eqb, eqb-false, le-leb, leb-true, false≢true}
 use Rattle.std.proofs.lemmas.Bool.Decides.{nat_tests}
 use Rattle.crash_model.specs.Disk.{Disk}
 use Rattle.crash_model.specs.Layout.{kind_of, links_of, pointer_of, map_of, is_data, is_entry, counts, entry_of, target_of, spelling_of}
 use Rattle.crash_model.specs.Lists.{first_below}
-use Rattle.crash_model.specs.Plan.{name_spelling, entry_named, has_no_kind, free_inode, is_free_block, free_block, is_free_entry, free_entry, is_free_slot, free_slot, is_full_dir, has_entries}
+use Rattle.crash_model.specs.Plan.{name_spelling, entry_named, is_free_inode, free_inode, is_free_block, free_block, is_free_entry, free_entry, is_free_slot, free_slot, has_entries}
 use Rattle.crash_model.specs.View.{view_of}
 use Rattle.crash_model.specs.Meaning.{LeadsTo, IsKind, IsFull, NoInodeLeft, NoBlockLeft, IsFreeSlot}
 use Rattle.soundness_laws.specs.Tables.{tables_of, Sound}
@@ -22,11 +22,7 @@ use Rattle.inode_fs.proofs.Means.{name-of, kind-of}
 
 -- ---- searches that found nothing, or something
 
-is_none-is : (o : Option ℕ) → is_none o ≡ true → o ≡ None
-is_none-is None e = refl
-is_none-is (Some k) e = cc
-
-none-is : (o : Option ℕ) → ((k : ℕ) → o ≢ Some k) → is_none o ≡ true
+none-is : (o : Option ℕ) → ((k : ℕ) → o ≢ Some k) → o ≡ None
 none-is None no_some = refl
 none-is (Some k) no_some = absurd (no_some k refl)
 
@@ -70,10 +66,10 @@ test-named d dir name sound below = (
 
 -- ---- 15: no inode is left
 
-pub test-inode : (d : Disk) → ((is_none (free_inode d) ≡ true) ↔ NoInodeLeft (view_of d))
+pub test-inode : (d : Disk) → ((free_inode d ≡ None) ↔ NoInodeLeft (view_of d))
 test-inode d = (
   λ e i below.
-      let live : (tables_of d).kind i ≢ 0 = λ z. eqb-false (kind_of d i) 0 (first_below-is_none 16 (has_no_kind d) (is_none-is (free_inode d) e) i below) (sym (kind-at d i below) ∙ z) in
+      let live : (tables_of d).kind i ≢ 0 = λ z. eqb-false (kind_of d i) 0 (first_below-is_none 16 (is_free_inode d) e i below) (sym (kind-at d i below) ∙ z) in
       ((tables_of d).kind i, (tables_of d).links i, ((same-view d).inodes i ((tables_of d).kind i) ((tables_of d).links i)).1 (refl, refl, live)),
   λ all. none-is (free_inode d) (λ i e.
       let fresh = fresh-found d i 1 e (omega arith, omega arith) in
@@ -84,11 +80,11 @@ test-inode d = (
 
 -- ---- 16: no block is left
 
-pub test-block : (d : Disk) → ((is_none (free_block d) ≡ true) ↔ NoBlockLeft d.blocks d.journal (view_of d))
+pub test-block : (d : Disk) → ((free_block d ≡ None) ↔ NoBlockLeft d.blocks d.journal (view_of d))
 unfolding tables_of
 test-block d = (
   λ e b free.
-      let none = first_below-is_none d.blocks (is_free_block d) (is_none-is (free_block d) e) b free.1 in
+      let none = first_below-is_none d.blocks (is_free_block d) e b free.1 in
       let inside : is_data d b ≡ true = area d b (free.0, free.1) in
       let marked : map_of d b ≢ 0 = λ z. false≢true (sym none ∙ rw (inside, eq-eqb (map_of d b) 0 z) refl) in
       free.2 (((same-view d).used_blocks b).1 (free.0, used-at d b free.1 ∙ ap not (ne_eqb (map_of d b) 0 marked))),
@@ -99,10 +95,10 @@ test-block d = (
 
 -- ---- 18: no slot is left
 
-pub test-slot : (d : Disk) (i : ℕ) → i < 16 → (tables_of d).kind i ≢ 0 → ((is_none (free_slot d i) ≡ true) ↔ ((s : ℕ) → ¬ (IsFreeSlot (view_of d) i s)))
+pub test-slot : (d : Disk) (i : ℕ) → i < 16 → (tables_of d).kind i ≢ 0 → ((free_slot d i ≡ None) ↔ ((s : ℕ) → ¬ (IsFreeSlot (view_of d) i s)))
 test-slot d i below live = (
   λ e s free.
-      let some = eqb-false (pointer_of d i s) 0 (first_below-is_none 4 (is_free_slot d i) (is_none-is (free_slot d i) e) s free.0) in
+      let some = eqb-false (pointer_of d i s) 0 (first_below-is_none 4 (is_free_slot d i) e s free.0) in
       free.1 (pointer_of d i s) (((same-view d).pointers i s (pointer_of d i s)).1 (live, pointer-at d i s below free.0, some)),
   λ none. none-is (free_slot d i) (λ s e.
       let f = slot-found d i s below e in
@@ -154,10 +150,10 @@ full-names d dir sound below all = (
     apart j k (inr more) e less small same = omega arith
     apart j k (inl in_j) (inr more) less small same = omega arith
 
-pub test-full : (d : Disk) (dir : ℕ) → Sound (tables_of d) → Walked d dir → ((is_full_dir d dir ≡ true) ↔ IsFull (view_of d) dir)
+pub test-full : (d : Disk) (dir : ℕ) → Sound (tables_of d) → Walked d dir → ((free_entry d dir ≡ None) ↔ IsFull (view_of d) dir)
 test-full d dir sound walk = (
   λ e. full-names d dir sound walk.below (λ k small. used-entry d dir k sound walk.below small
-      (taken k (first_below-is_none 10 (is_free_entry d dir) (is_none-is (free_entry d dir) e) k small))),
+      (taken k (first_below-is_none 10 (is_free_entry d dir) e k small))),
   λ full. none-is (free_entry d dir) (λ m e.
       let f = first_below-is_some 10 (is_free_entry d dir) m e in
       let place : ℕ → ℕ = λ k. spot full k (cases_lt k 10) in

@@ -4,7 +4,7 @@
 
 ghost use Rattle.std.specs.Prelude.{ℕ, List, Result, Err, ◌≡◌, ◌<◌, ◌&&◌, IsTrue, bytes_eq, IfSome, IfOk, MatchResult};
 ghost use Rattle.crash_model.specs.Layout.{kind_of, is_live, is_entry, target_of, spelling_of};
-ghost use Rattle.crash_model.specs.Plan.{is_named, entry_named, inode_named, directory_of, walk_end, at_entry, free_inode, free_block, free_slot, has_entries};
+ghost use Rattle.crash_model.specs.Plan.{is_named, entry_named, directory_named, walk_end, at_entry, free_inode, free_block, free_slot, has_entries};
 ghost use Rattle.crash_model.specs.declared.plans.Change.{Change};
 ghost use Rattle.crash_model.specs.declared.refusals.FsFault.{FsFault};
 
@@ -51,7 +51,7 @@ pub fn entry_named<A: Allocator + Copy>(image: &Image<A>, dir: u8, name: &Name) 
 /// leads to something else.
 fn enter<A: Allocator + Copy>(image: &Image<A>, dir: u8, name: &Name) -> Result<u8, FsFault>
     requires { dir < 16 }
-    ensures value { result ≡ directory_of image.now (inode_named image.now dir name.now) }
+    ensures value { result ≡ directory_named image.now dir name.now }
     ensures within { IfOk result (λ child. child < 16) }
 {
     match entry_named(image, dir, name) {
@@ -91,8 +91,9 @@ pub struct Entry {
 /// The entry of a path's last name; refused as [`walk`] is, and with 10 where the name is absent.
 pub fn find<A: Allocator + Copy>(image: &Image<A>, path: &Path) -> Result<Entry, FsFault>
     ensures found { MatchResult result
-        (λ e. (next : ℕ → ℕ → Result (List Change) FsFault) → at_entry image.now path.now next ≡ next e.dir e.place)
-        (λ fault. (next : ℕ → ℕ → Result (List Change) FsFault) → at_entry image.now path.now next ≡ Err fault) }
+        (λ e. (next : ℕ → ℕ → ℕ → Result (List Change) FsFault) → at_entry image.now path.now next
+        ≡ next e.dir e.place e.target)
+        (λ fault. (next : ℕ → ℕ → ℕ → Result (List Change) FsFault) → at_entry image.now path.now next ≡ Err fault) }
     ensures target { IfOk result (λ e. e.target ≡ target_of image.now e.dir e.place) }
     ensures within { IfOk result (λ e. (e.dir < 16) × (e.place < 10) × (e.target < 16)) }
 {

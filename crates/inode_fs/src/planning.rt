@@ -1,9 +1,9 @@
 //! The plan of each operation: its changes in the order in which they are emitted, or the first refusal.
 
-ghost use Rattle.std.specs.Prelude.{ℕ, List, ◌≡◌, ◌<◌, ◌≤◌, ◌↔◌, ◌+◌, ◌++◌, length, option_to_list, All, IfOk, MatchResult, Ok, Err, Some};
+ghost use Rattle.std.specs.Prelude.{ℕ, List, ◌≡◌, ◌<◌, ◌≤◌, ◌↔◌, ◌+◌, ◌++◌, ◌∷◌, length, option_to_list, All, IfOk, MatchResult, Ok, Err, Some};
 ghost use Rattle.crash_model.specs.Names.{IsName};
 ghost use Rattle.crash_model.specs.Layout.{links_of};
-ghost use Rattle.crash_model.specs.Plan.{plan_of, relink_plan, free_entry, map_clear_at, map_clears, with_changes};
+ghost use Rattle.crash_model.specs.Plan.{plan_of, relink_plan, free_entry, link_count, entry_set, map_clear_at, map_clears, with_changes};
 ghost use Rattle.crash_model.specs.declared.plans.Change.{Change};
 ghost use Rattle.crash_model.specs.Sound.{IsSound};
 ghost use Rattle.crash_model.specs.View.{view_of};
@@ -11,6 +11,7 @@ ghost use Rattle.crash_model.specs.Meaning.{IsRefused, Means};
 ghost use Rattle.crash_model.specs.declared.refusals.FsFault.{FsFault};
 ghost use Rattle.inode_fs.specs.Inside.{LiesInside, HasSameJournal, GivesName};
 ghost use Rattle.crash_model.specs.declared.operations.Op.TheVariants.{Create, Write, Link, Unlink, Rename, Mkdir, Rmdir};
+ghost use Rattle.crash_model.specs.declared.plans.Role.TheVariants.{LinkUp};
 
 use crate::changes::{
     entry_clear, entry_set, init_block, inode_free, inode_init, link_count, map_clear, map_set,
@@ -125,8 +126,11 @@ fn further_name<A: Allocator + Copy>(
     new: &Path,
 ) -> Result<FurtherName, FsFault>
     ensures found { MatchResult result
-        (λ r. (changes : ℕ → ℕ → ℕ → ℕ → List ℕ → List Change) → relink_plan image.now old.now new.now changes ≡ Ok (changes r.old.dir r.old.place r.old.target r.dir new.now.last))
-        (λ fault. (changes : ℕ → ℕ → ℕ → ℕ → List ℕ → List Change) → relink_plan image.now old.now new.now changes ≡ Err fault) }
+        (λ r. (more : ℕ → ℕ → ℕ → List Change) → relink_plan image.now old.now new.now more
+        ≡ Ok (link_count LinkUp r.old.target (links_of image.now r.old.target + 1)
+        ∷ entry_set image.now r.dir r.place r.old.target new.now.last
+        ∷ more r.old.dir r.old.place r.old.target))
+        (λ fault. (more : ℕ → ℕ → ℕ → List Change) → relink_plan image.now old.now new.now more ≡ Err fault) }
     ensures links { IfOk result (λ r. (r.links ≡ links_of image.now r.old.target) × (r.links < 8)) }
     ensures place { IfOk result (λ r. free_entry image.now r.dir ≡ Some r.place) }
     ensures within { IfOk result (λ r. (r.old.dir < 16) × (r.old.place < 10) × (r.old.target < 16) × (r.dir < 16)

@@ -5,7 +5,7 @@ use Rattle.std.proofs.lemmas.Bool.{cases_eq, cases_lt, eq-eqb, ne_eqb, lt-ltb, l
 use Rattle.std.proofs.lemmas.Bool.Decides.{nat_tests}
 use Rattle.crash_model.specs.Disk.{Disk, IsDisk, byte}
 use Rattle.crash_model.specs.Layout.{kind_of, pointer_of, is_data, is_live, target_of, counts, entry_of, spelling_of}
-use Rattle.crash_model.specs.Plan.{is_named, entry_named, inode_named, directory_of, walk_end}
+use Rattle.crash_model.specs.Plan.{is_named, directory_named, walk_end}
 use Rattle.crash_model.specs.declared.refusals.FsFault.{FsFault}
 use Rattle.crash_model.specs.declared.refusals.FsFault.TheVariants.{NotADirectory}
 use Rattle.crash_model.proofs.Bytes.{length-overwrite}
@@ -14,7 +14,7 @@ use Rattle.soundness_laws.specs.Tables.Place.{Free, Leads}
 use Rattle.soundness_laws.specs.Tables.Mark.{Plain, FileOf, DirectoryOf}
 use Rattle.soundness_laws.proofs.Puts.{with_bytes_at}
 use Rattle.soundness_laws.proofs.Searches.{first_below-is_some}
-use Rattle.soundness_laws.proofs.Answered.{then_ok-ok}
+use Rattle.soundness_laws.proofs.Answered.{then_ok-ok, directory_named-ok}
 
 -- ---- tables and bytes
 
@@ -91,24 +91,16 @@ disk-with_bytes_at d at new disk fits = record { least = disk.least; most = disk
 pub named-target : (d : Disk) (dir : ℕ) (name : List ℕ) (k : ℕ) → is_named d dir name k ≡ true → is_live d (target_of d dir k) ≡ true
 named-target d dir name k e = grind (arith, nat_tests)
 
-pub directory_of-is_ok : (d : Disk) (dir : ℕ) (name : List ℕ) (child : ℕ) → directory_of d (inode_named d dir name) ≡ Ok child → (child < 16) × (kind_of d child ≡ 2)
-directory_of-is_ok d dir name child e = go (entry_named d dir name) refl e
-  where
-    go : (o : Option ℕ) → entry_named d dir name ≡ o → directory_of d (option_map (target_of d dir) o) ≡ Ok child → (child < 16) × (kind_of d child ≡ 2)
-    go None p r = cc
-    go (Some k) p r = elim (cases_eq (kind_of d (target_of d dir k)) 2) [
-      | inl two ↦
-          let ok : Ok (target_of d dir k) ≡ Ok child = rw (eq-eqb (kind_of d (target_of d dir k)) 2 two) at r in
-          let same : target_of d dir k ≡ child = cc in
-          let live = named-target d dir name k (first_below-is_some 10 (is_named d dir name) k p).holds in
-          let less : target_of d dir k < 16 = grind (arith, nat_tests) in
-          (subst (λ (x : ℕ). x < 16) same less, ap (kind_of d) (sym same) ∙ two)
-      | inr other ↦ absurd (let no_ok : ◌≡◌ {A = Result ℕ FsFault} (Err NotADirectory) (Ok child) = rw (ne_eqb (kind_of d (target_of d dir k)) 2 other) at r in cc)
-    ]
+pub directory_named-is_ok : (d : Disk) (dir : ℕ) (name : List ℕ) (child : ℕ) → directory_named d dir name ≡ Ok child → (child < 16) × (kind_of d child ≡ 2)
+directory_named-is_ok d dir name child e =
+    let at = directory_named-ok d dir name child e in
+    let live = named-target d dir name at.k (first_below-is_some 10 (is_named d dir name) at.k at.named).holds in
+    let less : target_of d dir at.k < 16 = grind (arith, nat_tests) in
+    (subst (λ (x : ℕ). x < 16) at.target less, at.kind)
 
 pub walk_end-is_ok : (d : Disk) (dir : ℕ) (names : List (List ℕ)) (last : ℕ) → dir < 16 → kind_of d dir ≡ 2 → walk_end d dir names ≡ Ok last → (last < 16) × (kind_of d last ≡ 2)
 walk_end-is_ok d dir [] last below two e = let same : dir ≡ last = cc in (subst (λ (x : ℕ). x < 16) same below, ap (kind_of d) (sym same) ∙ two)
 walk_end-is_ok d dir (name ∷ names) last below two e =
-    let step = then_ok-ok (directory_of d (inode_named d dir name)) (λ child. walk_end d child names) last e in
-    let here = directory_of-is_ok d dir name step.0 step.1 in
+    let step = then_ok-ok (directory_named d dir name) (λ child. walk_end d child names) last e in
+    let here = directory_named-is_ok d dir name step.0 step.1 in
     walk_end-is_ok d step.0 names last here.0 here.1 step.2
