@@ -11,7 +11,8 @@ with_seen v seen = record v { rows = record v.rows { seen = seen } }
 
 -- a right of shard q, whose row and index words are seen
 abbrev pub with_right : View → ℕ → List ℕ → List ℕ → ℕ → View
-with_right v q row marks right = record v { rows = record v.rows { seen = slice_set v.rows.seen q row; held = q; right = right; low = []; high = []; marks = marks; unfiled = 0 } }
+with_right v q row marks right =
+    record v { rows = record v.rows { seen = slice_set v.rows.seen q row; held = q; right = right; low = []; high = []; marks = marks; unfiled = 0 } }
 
 abbrev pub without_right : View → View
 without_right v = record v { rows = record v.rows { right = 0; low = []; high = []; unfiled = 0 } }
@@ -35,7 +36,8 @@ with_learned v p life = record v { lives = record v.lives { learned = v.lives.le
 
 -- the claim on the place p
 abbrev pub with_claim : View → ℕ → Life → View
-with_claim v p life = record v { lives = record v.lives { claims = 1; place = p; learned = v.lives.learned ++ (p, life) ∷ [] } }
+with_claim v p life =
+    record v { lives = record v.lives { claims = 1; place = p; learned = v.lives.learned ++ (p, life) ∷ [] } }
 
 -- the claim ends
 abbrev pub without_claim : View → View
@@ -43,7 +45,8 @@ without_claim v = record v { lives = record v.lives { claims = 0 } }
 
 -- the claim is given up, where there is one, and its entry stays claimed
 abbrev pub with_given_up : View → View
-with_given_up v = record v { lives = record v.lives { claims = 0; given_up = v.lives.given_up ++ replicate v.lives.claims v.lives.place } }
+with_given_up v =
+    record v { lives = record v.lives { claims = 0; given_up = v.lives.given_up ++ replicate v.lives.claims v.lives.place } }
 
 -- a board with the start as its one entry
 abbrev pub opening_rows : ℕ → List (List ℕ)
@@ -58,7 +61,8 @@ abbrev pub first_view : ℕ → ℕ → ℕ → View
 first_view limit places start = record {
   limit = limit;
   places = places;
-  rows = record { seen = opening_rows start; held = 0; right = 0; low = []; high = []; marks = []; unfiled = 0; added = [] };
+  rows = record { seen = opening_rows start; held = 0; right = 0; low = []; high = []; marks = []; unfiled = 0;
+  added = [] };
   lives = record { claims = 0; place = 0; given_up = []; learned = [] };
   pending = record { announced = 0; owed = 0; verdicts = 0; finished = 0 };
   count = record { uncounted = 0; over = 0 };
@@ -71,7 +75,8 @@ half_of s = record s { cuts = s.cuts + 1 }
 
 -- two shares together
 abbrev pub both_shares : Share → Share → Share
-both_shares s u = record { parts = portion s (max s.cuts u.cuts) + portion u (max s.cuts u.cuts); cuts = max s.cuts u.cuts }
+both_shares s u =
+    record { parts = portion s (max s.cuts u.cuts) + portion u (max s.cuts u.cuts); cuts = max s.cuts u.cuts }
 
 -- a seat that another was split off
 abbrev pub with_half_share : View → View
@@ -92,7 +97,8 @@ abbrev pub spent_view : View
 spent_view = record {
   limit = 0;
   places = 0;
-  rows = record { seen = replicate 13 []; held = 0; right = 0; low = []; high = []; marks = []; unfiled = 0; added = [] };
+  rows = record { seen = replicate 13 []; held = 0; right = 0; low = []; high = []; marks = []; unfiled = 0;
+  added = [] };
   lives = record { claims = 0; place = 0; given_up = []; learned = [] };
   pending = record { announced = 0; owed = 0; verdicts = 0; finished = 0 };
   count = record { uncounted = 0; over = 0 };
@@ -102,12 +108,16 @@ spent_view = record {
 abbrev pub either_one : ℕ → ℕ → ℕ
 either_one a b = cond (a == 1) a b
 
--- what two seats know together. Where what they have seen disagrees the seat would be at a shard 13, which the rule excludes
+-- what two seats know together. Where what they have seen disagrees the seat would be at a shard 13, which the rule
+-- excludes
 abbrev pub both_views : View → View → View
 both_views v w = record v {
-  rows = record v.rows { seen = longer_rows v.rows.seen w.rows.seen; held = cond (agree v.rows.seen w.rows.seen) v.rows.held 13; added = v.rows.added ++ w.rows.added };
-  lives = record v.lives { given_up = v.lives.given_up ++ w.lives.given_up; learned = v.lives.learned ++ w.lives.learned };
-  pending = record v.pending { verdicts = v.pending.verdicts + w.pending.verdicts; finished = either_one v.pending.finished w.pending.finished };
+  rows = record v.rows { seen = longer_rows v.rows.seen w.rows.seen;
+  held = cond (agree v.rows.seen w.rows.seen) v.rows.held 13; added = v.rows.added ++ w.rows.added };
+  lives = record v.lives { given_up = v.lives.given_up ++ w.lives.given_up; learned = v.lives.learned
+  ++ w.lives.learned };
+  pending = record v.pending { verdicts = v.pending.verdicts + w.pending.verdicts;
+  finished = either_one v.pending.finished w.pending.finished };
   count = record v.count { over = either_one v.count.over w.count.over };
   share = both_shares v.share w.share;
 }

@@ -1,5 +1,8 @@
 -- Where the words of a board lie in its table.
--- Word 0 is pending, word 1 the count, word 2 the stop. From word 8 on come 13 locks and 13 lengths of rows, each of them 8 words behind the one before, so that no two stand in one line of a cache; then four blocks of 13 * places words: the low halves of the entries, their high halves, their lives, and the index. In a block the shards take turns, so that each address is linear in the place.
+-- Word 0 is pending, word 1 the count, word 2 the stop. From word 8 on come 13 locks and 13 lengths of rows, each of
+-- them 8 words behind the one before, so that no two stand in one line of a cache; then four blocks of 13 * places
+-- words: the low halves of the entries, their high halves, their lives, and the index. In a block the shards take
+-- turns, so that each address is linear in the place.
 use Rattle.std.specs.Prelude.{ℕ, ◌+◌, ◌*◌, ◌/◌, ◌%◌, cond, nat_lt}
 
 -- a lock's word while a seat has the write right: 2 ^ 32

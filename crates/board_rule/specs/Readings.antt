@@ -10,4 +10,5 @@ abbrev pub rows_of : ℕ → List ℕ → List (List ℕ)
 rows_of places words = first_values (λ q. first_values (entry_of places words q) (slice_index words (length_word q))) 13
 
 abbrev pub lives_of : ℕ → List ℕ → List (List ℕ)
-lives_of places words = first_values (λ q. first_values (λ k. slice_index words (life_word places q k)) (slice_index words (length_word q))) 13
+lives_of places words =
+    first_values (λ q. first_values (λ k. slice_index words (life_word places q k)) (slice_index words (length_word q))) 13

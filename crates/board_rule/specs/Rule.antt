@@ -22,22 +22,29 @@ weight q v = cond (v.rows.held == q) v.rows.right 0
 
 -- Locks: all rights of a shard weigh no more than its lock word, and that no more than one writer.
 abbrev pub LocksOk : List ℕ → List View → Type 0
-LocksOk words views = (q : ℕ) → q < 13 → (total (weight q) views ≤ slice_index words (lock_word q)) × (slice_index words (lock_word q) ≤ writer)
+LocksOk words views =
+    (q : ℕ) → q < 13 → (total (weight q) views ≤ slice_index words (lock_word q))
+    × (slice_index words (lock_word q) ≤ writer)
 
 -- Rows: the words have them, with entries that are reached, each once, in the shard of its number.
 pub record RowsOk (t : Told) (rows : List (List ℕ)) (words : List ℕ) : Type 0 where
   pub all : length rows ≡ 13
   pub short : (q : ℕ) → q < 13 → length (row_of rows q) ≤ t.places
   pub stored : (q : ℕ) → q < 13 → slice_index words (length_word q) ≡ length (row_of rows q)
-  pub lows : (q k : ℕ) → q < 13 → k < length (row_of rows q) → slice_index words (low_word q k) ≡ slice_index (row_of rows q) k % half
-  pub highs : (q k : ℕ) → q < 13 → k < length (row_of rows q) → slice_index words (high_word t.places q k) ≡ slice_index (row_of rows q) k / half
+  pub lows : (q k : ℕ) → q < 13 → k < length (row_of rows q)
+      → slice_index words (low_word q k) ≡ slice_index (row_of rows q) k % half
+  pub highs : (q k : ℕ) → q < 13 → k < length (row_of rows q)
+      → slice_index words (high_word t.places q k) ≡ slice_index (row_of rows q) k / half
   pub at_home : (q k : ℕ) → q < 13 → k < length (row_of rows q) → slice_index (row_of rows q) k % 13 ≡ q
-  pub apart : (q j k : ℕ) → q < 13 → j < length (row_of rows q) → k < length (row_of rows q) → slice_index (row_of rows q) j ≡ slice_index (row_of rows q) k → j ≡ k
-  pub reached : (q k : ℕ) → q < 13 → k < length (row_of rows q) → IsReached t.next t.origin (slice_index (row_of rows q) k)
+  pub apart : (q j k : ℕ) → q < 13 → j < length (row_of rows q) → k < length (row_of rows q)
+      → slice_index (row_of rows q) j ≡ slice_index (row_of rows q) k → j ≡ k
+  pub reached : (q k : ℕ) → q < 13 → k < length (row_of rows q)
+      → IsReached t.next t.origin (slice_index (row_of rows q) k)
 
 -- a half of a word lies behind the row, and only a writer puts it there
 abbrev pub Behind : ℕ → List ℕ → ℕ → List ℕ → List ℕ → ℕ → Type 0
-Behind places row right words part address = (x : ℕ) → part ≡ x ∷ [] → (right ≡ writer) × (slice_index words address ≡ x) × (length row < places)
+Behind places row right words part address =
+    (x : ℕ) → part ≡ x ∷ [] → (right ≡ writer) × (slice_index words address ≡ x) × (length row < places)
 
 -- Seats: what one has seen is a beginning of each row, under a right the whole row and the index.
 pub record SeatOk (places : ℕ) (rows : List (List ℕ)) (words : List ℕ) (r : OnRows) : Type 0 where
@@ -48,7 +55,8 @@ pub record SeatOk (places : ℕ) (rows : List (List ℕ)) (words : List ℕ) (r 
   pub low : Behind places (row_of rows r.held) r.right words r.low (low_word r.held (length (row_of rows r.held)))
   pub high : Behind places (row_of rows r.held) r.right words r.high (high_word places r.held (length (row_of rows r.held)))
   pub marked : 0 < r.right → length r.marks ≡ places
-  pub marks : 0 < r.right → (j : ℕ) → j < places → slice_index words (index_word places r.held j) ≡ slice_index r.marks j
+  pub marks : 0 < r.right → (j : ℕ) → j < places
+      → slice_index words (index_word places r.held j) ≡ slice_index r.marks j
 
 -- how often the place p is among these
 abbrev pub times_among : ℕ → List ℕ → ℕ
@@ -66,7 +74,8 @@ is_published rows p = cond (nat_lt (p / 13) (length (row_of rows (p % 13)))) 1 0
 abbrev pub start_place : ℕ → ℕ
 start_place origin = place_of (origin % 13) 0
 
--- Authors: each place that is published but the start's was published by one seat, once, and no other place was. So there is one entry more than there are such places.
+-- Authors: each place that is published but the start's was published by one seat, once, and no other place was. So
+-- there is one entry more than there are such places.
 pub record AddedOk (origin : ℕ) (rows : List (List ℕ)) (views : List View) : Type 0 where
   pub once : (p : ℕ) → total (times p) views + cond (p == start_place origin) 1 0 ≡ is_published rows p
   pub many : total length rows ≡ total (λ v. length v.rows.added) views + 1
@@ -79,30 +88,41 @@ claims_at p v = cond (v.lives.place == p) v.lives.claims 0
 abbrev pub claims_on : ℕ → View → ℕ
 claims_on p v = claims_at p v + times_among p v.lives.given_up
 
--- Lives: beside each row, with one claim on each claimed entry, which a seat has or has given up, and none on another. A settled life is the space's verdict, and the successors of its entry are entries. What was learned of a life stays true.
-pub record LivesOk (t : Told) (good : ℕ → Type 0) (rows lives : List (List ℕ)) (words : List ℕ) (views : List View) : Type 0 where
+-- Lives: beside each row, with one claim on each claimed entry, which a seat has or has given up, and none on another.
+-- A settled life is the space's verdict, and the successors of its entry are entries. What was learned of a life stays
+-- true.
+pub record LivesOk (t : Told) (good : ℕ → Type 0) (rows lives : List (List ℕ)) (words : List ℕ)
+    (views : List View) : Type 0 where
   pub all : length lives ≡ 13
   pub even : (q : ℕ) → q < 13 → length (row_of lives q) ≡ length (row_of rows q)
-  pub shown : (q k : ℕ) → q < 13 → k < length (row_of lives q) → slice_index words (life_word t.places q k) ≡ slice_index (row_of lives q) k
-  pub fresh : (q k : ℕ) → q < 13 → length (row_of lives q) ≤ k → k < t.places → slice_index words (life_word t.places q k) ≡ 0
-  pub claimed : (q k : ℕ) → q < 13 → total (claims_on (place_of q k)) views ≡ is_claimed (slice_index (row_of lives q) k)
+  pub shown : (q k : ℕ) → q < 13 → k < length (row_of lives q)
+      → slice_index words (life_word t.places q k) ≡ slice_index (row_of lives q) k
+  pub fresh : (q k : ℕ) → q < 13 → length (row_of lives q) ≤ k → k < t.places
+      → slice_index words (life_word t.places q k) ≡ 0
+  pub claimed : (q k : ℕ) → q < 13
+      → total (claims_on (place_of q k)) views ≡ is_claimed (slice_index (row_of lives q) k)
   pub four : (q k : ℕ) → q < 13 → slice_index (row_of lives q) k ≤ 3
   pub clean : (q k : ℕ) → q < 13 → slice_index (row_of lives q) k ≡ 2 → good (slice_index (row_of rows q) k)
   pub broken : (q k : ℕ) → q < 13 → slice_index (row_of lives q) k ≡ 3 → good (slice_index (row_of rows q) k) → ⊥
-  pub closed : (q k y : ℕ) → q < 13 → 2 ≤ slice_index (row_of lives q) k → Contains (t.next (slice_index (row_of rows q) k)) y → Has rows y
+  pub closed : (q k y : ℕ) → q < 13 → 2 ≤ slice_index (row_of lives q) k
+      → Contains (t.next (slice_index (row_of rows q) k)) y → Has rows y
   pub learned : EachSeat (λ v. All (λ met. Passes met.1 (life_of (life_at lives met.0))) v.lives.learned) views
 
 -- how many entries are not settled
 abbrev pub open_lives : List (List ℕ) → ℕ
 open_lives lives = total (total is_unsettled) lives
 
--- Pending: the entries that are not settled, the additions for words not published yet, and the subtractions owed. The seats have settled the entries that are settled. Where a seat knows that it was 0, nothing is unsettled and nothing is on its way.
+-- Pending: the entries that are not settled, the additions for words not published yet, and the subtractions owed. The
+-- seats have settled the entries that are settled. Where a seat knows that it was 0, nothing is unsettled and nothing
+-- is on its way.
 pub record PendingOk (lives : List (List ℕ)) (words : List ℕ) (views : List View) : Type 0 where
-  pub sum : slice_index words 0 ≡ open_lives lives + total (λ v. v.pending.announced) views + total (λ v. v.pending.owed) views
+  pub sum : slice_index words 0 ≡ open_lives lives + total (λ v. v.pending.announced) views
+      + total (λ v. v.pending.owed) views
   pub few : total (λ v. v.pending.owed) views ≤ total (total is_settled) lives
   pub verdicts : total (λ v. v.pending.verdicts) views ≡ total (total is_settled) lives
   pub by_writers : EachSeat (λ v. v.pending.announced * writer ≤ v.rows.right) views
-  pub done : EachSeat (λ v. v.pending.finished ≡ 1 → (open_lives lives ≡ 0) × (total (λ u. u.pending.announced) views ≡ 0)) views
+  pub done : EachSeat (λ v. v.pending.finished ≡ 1 → (open_lives lives ≡ 0)
+      × (total (λ u. u.pending.announced) views ≡ 0)) views
 
 -- P holds of more words than a limit, or of more words of one shard than a row has places
 abbrev pub Overfills : (ℕ → Type 0) → ℕ → ℕ → Type 0
@@ -115,18 +135,25 @@ pub record CountOk (t : Told) (rows : List (List ℕ)) (words : List ℕ) (views
 
 -- the place k of the word x stands before each zero among the word's index words
 abbrev pub Stands : ℕ → (ℕ → ℕ) → ℕ → ℕ → Type 0
-Stands places mark x k = (t : ℕ) → t < window places → mark (slot places x t) ≡ 0 → (u : ℕ) × (u < t) × (mark (slot places x u) ≡ k + 1)
+Stands places mark x k =
+    (t : ℕ) → t < window places → mark (slot places x t) ≡ 0 → (u : ℕ) × (u < t) × (mark (slot places x u) ≡ k + 1)
 
 -- a writer has published the place and not put it into the index yet
 abbrev pub Unfiled : List View → ℕ → ℕ → Type 0
-Unfiled views q k = (j : ℕ) × (v : View) × (get_elem? views j ≡ some v) × (v.rows.held ≡ q) × (v.rows.right ≡ writer) × (v.rows.unfiled ≡ k + 1)
+Unfiled views q k =
+    (j : ℕ) × (v : View) × (get_elem? views j ≡ some v) × (v.rows.held ≡ q) × (v.rows.right ≡ writer)
+    × (v.rows.unfiled ≡ k + 1)
 
--- Index: each word of it is 0 or 1 more than a published place, and each published place stands in it but one whose writer is still at it.
+-- Index: each word of it is 0 or 1 more than a published place, and each published place stands in it but one whose
+-- writer is still at it.
 pub record IndexOk (places : ℕ) (rows : List (List ℕ)) (words : List ℕ) (views : List View) : Type 0 where
   pub named : (q j : ℕ) → q < 13 → j < places → slice_index words (index_word places q j) ≤ length (row_of rows q)
-  pub stands : (q k : ℕ) → q < 13 → k < length (row_of rows q) → Stands places (λ j. slice_index words (index_word places q j)) (slice_index (row_of rows q) k) k ⊎ Unfiled views q k
+  pub stands : (q k : ℕ) → q < 13 → k < length (row_of rows q)
+      → Stands places (λ j. slice_index words (index_word places q j)) (slice_index (row_of rows q) k) k
+      ⊎ Unfiled views q k
 
--- what a seat with a right knows of the index: a zero among a word's index words shows that the row lacks the word, where none before it names its place
+-- what a seat with a right knows of the index: a zero among a word's index words shows that the row lacks the word,
+-- where none before it names its place
 abbrev pub Complete : ℕ → List ℕ → List ℕ → Type 0
 Complete places row marks = (k : ℕ) → k < length row → Stands places (slice_index marks) (slice_index row k) k
 

@@ -2,7 +2,8 @@
 use Rattle.std.specs.Prelude.{ℕ, ◌-◌, ◌*◌, ◌^◌, List}
 use Rattle.board_rule.specs.declared.life.Life.{Life}
 
--- what the table is told when it is made: how many entries the board may have and how many a row, the successors of a word, and the initial word
+-- what the table is told when it is made: how many entries the board may have and how many a row, the successors of a
+-- word, and the initial word
 pub record Told : Type 0 where
   pub limit : ℕ
   pub places : ℕ

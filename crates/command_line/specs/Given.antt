@@ -22,4 +22,5 @@ AreNoneIn others rules = All (λ rule. has_rule others rule ≡ false) rules
 
 -- each rule to take out is one of the module's, and none of them is to be put in
 abbrev pub AreLawful : Settings → Type 0
-AreLawful settings = AreAllIn (rules_of settings.module) settings.without.items × AreNoneIn settings.without.items settings.with.items
+AreLawful settings =
+    AreAllIn (rules_of settings.module) settings.without.items × AreNoneIn settings.without.items settings.with.items

@@ -13,5 +13,6 @@ IsLimitUnder explorer limit = IsWithin 1 1000000000 limit × (explorer ≡ Board
 
 abbrev pub IsInRanges : Call → Type 0
 IsInRanges c =
-    IsWithin 16 128 c.settings.blocks × IsWithin 0 122 c.settings.journal × IsLimitUnder c.settings.explorer c.settings.limit
+    IsWithin 16 128 c.settings.blocks × IsWithin 0 122 c.settings.journal
+    × IsLimitUnder c.settings.explorer c.settings.limit
     × IsWithin 1 16 c.workers

@@ -10,4 +10,5 @@ script_of call coming = elim call.script [ Some name ↦ None | None ↦ coming 
 
 -- the whole report on the script, with at least one failing set
 abbrev pub IsServedFailing : Option (List ℕ) → Settings → Option (List ℕ) → Option (List ℕ) → Type 0
-IsServedFailing script settings before behind = (failing : ℕ) × (0 < failing) × IsServed script settings failing before behind
+IsServedFailing script settings before behind =
+    (failing : ℕ) × (0 < failing) × IsServed script settings failing before behind

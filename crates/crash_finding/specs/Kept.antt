@@ -22,7 +22,8 @@ abbrev pub Fails : {A : Type 0} → Crashes A → ℕ → Type 0
 Fails c = IsFailingUnder c.kept c.base.now c.graph.now
 
 -- so many sets can a crash leave, at most the limit, and so many of them fail, which are these
-pub record AreTotals (limit : ℕ) (kept : Option ℕ) (base : Disk) (patches : List Patch) (closed failing : ℕ) (sets : List ℕ)
+pub record AreTotals (limit : ℕ) (kept : Option ℕ) (base : Disk) (patches : List Patch) (closed failing : ℕ)
+    (sets : List ℕ)
     : Type 0 where
   pub counted : CountsClosed patches closed
   pub within : closed ≤ limit
@@ -32,18 +33,21 @@ pub record AreTotals (limit : ℕ) (kept : Option ℕ) (base : Disk) (patches : 
 -- as much of the failing sets as the report asks for
 abbrev pub IsKept : {A : Type 0} → Settings → Option ℕ → Disk → List Patch → List ℕ → Kept A → Type 0
 IsKept settings kept base patches sets (Sets all) = (settings.by ≡ BySet) × (all.items ≡ sets)
-IsKept settings kept base patches sets (Faults rows) = (settings.by ≡ ByFault) × AreRows (HasFault kept base patches) rows.items
+IsKept settings kept base patches sets (Faults rows) =
+    (settings.by ≡ ByFault) × AreRows (HasFault kept base patches) rows.items
 IsKept settings kept base patches sets Number = settings.by ≡ ByRule
 
 -- what is found of the sets that a crash can leave, where the checker is told of these kept inodes or of none
-pub record AreFound {A : Type 0} (settings : Settings) (inodes : Option ℕ) (base : Disk) (patches : List Patch) (found : Found A)
+pub record AreFound {A : Type 0} (settings : Settings) (inodes : Option ℕ) (base : Disk) (patches : List Patch)
+    (found : Found A)
     : Type 0 where
   pub sets : List ℕ
   pub totals : AreTotals settings.limit inodes base patches found.closed found.failing sets
   pub kept : IsKept settings inodes base patches sets found.kept
 
 -- the numbers alone, with the first failing set that the other patches prevent
-pub record IsCountWith (limit : ℕ) (kept : Option ℕ) (base : Disk) (patches others : List Patch) (count : FailingCount) : Type 0 where
+pub record IsCountWith (limit : ℕ) (kept : Option ℕ) (base : Disk) (patches others : List Patch)
+    (count : FailingCount) : Type 0 where
   pub sets : List ℕ
   pub totals : AreTotals limit kept base patches count.total count.failing sets
   pub first : IsFirstPrevented (IsFailingUnder kept base patches) (IsClosed (deps_of others)) count.first

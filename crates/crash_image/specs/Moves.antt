@@ -21,7 +21,9 @@ without_patch p d = with_bytes d p.block p.offset p.undo.items
 -- the disk with the patches of a set taken back in descending order of their ids, of which the first is `id`
 abbrev pub without_patches_from : ℕ → Disk → List Patch → ℕ → Disk
 without_patches_from id d [] set = d
-without_patches_from id d (p ∷ ps) set = if has set id then without_patch p (without_patches_from (id + 1) d ps set) else without_patches_from (id + 1) d ps set
+without_patches_from id d (p ∷ ps) set =
+    if has set id then without_patch p (without_patches_from (id + 1) d ps set) else without_patches_from (id
+    + 1) d ps set
 
 -- the disk with the patches of a set taken back
 abbrev pub without_set : Disk → List Patch → ℕ → Disk

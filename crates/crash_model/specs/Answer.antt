@@ -44,7 +44,8 @@ abbrev pub ordering_rules : Settings → List Rule
 ordering_rules settings = rules_under settings.module settings.without.items settings.with.items
 
 -- the graph of the patches of those steps, with the state that they end in
-pub record HasGraph (bytes : List ℕ) (settings : Settings) (base : Disk) (last : Tracing) (patches : List Patch) : Type 0 where
+pub record HasGraph (bytes : List ℕ) (settings : Settings) (base : Disk) (last : Tracing)
+    (patches : List Patch) : Type 0 where
   pub steps : List Step
   pub start : HasBase bytes settings base steps
   pub run : trace_from settings.module (trace_start base) steps ≡ Ok last
@@ -57,15 +58,18 @@ detail_of settings kept = record { explain = settings.explain; kept = kept }
 -- what stands behind a report's head, as the settings ask for it, of these failing sets
 abbrev pub IsBody : Settings → Option ℕ → Disk → Tracing → List Patch → List ℕ → Body → Type 0
 IsBody settings kept base last patches sets (Sets sections) =
-    (settings.by ≡ BySet) × AreSections (detail_of settings kept) base patches sets sections × All (IsLed patches) sections
+    (settings.by ≡ BySet) × AreSections (detail_of settings kept) base patches sets sections
+    × All (IsLed patches) sections
 IsBody settings kept base last patches sets (Faults told) =
-    (settings.by ≡ ByFault) × AreToldFaults (detail_of settings kept) base patches told × All (λ t. IsLed patches t.first) told
+    (settings.by ≡ ByFault) × AreToldFaults (detail_of settings kept) base patches told
+    × All (λ t. IsLed patches t.first) told
 IsBody settings kept base last patches sets (Rules told) =
     (settings.by ≡ ByRule)
     × AreToldRules (detail_of settings kept) settings.limit (ordering_rules settings) base last patches (ordering_rules settings) told
 
 -- the report on a graph: how many of its closed sets fail, each of which a crash can leave
-pub record IsReport (settings : Settings) (kept : Option ℕ) (base : Disk) (last : Tracing) (patches : List Patch) (text : List ℕ)
+pub record IsReport (settings : Settings) (kept : Option ℕ) (base : Disk) (last : Tracing) (patches : List Patch)
+    (text : List ℕ)
     (failing : ℕ) : Type 0 where
   pub total : ℕ
   pub counted : CountsClosed patches total
@@ -88,9 +92,11 @@ pub record IsReport (settings : Settings) (kept : Option ℕ) (base : Disk) (las
 pub data IsAnswer (bytes : List ℕ) (settings : Settings) : Answer → Type 0 where
   bad_script : (fault : ScriptFault) → IsScriptRefusal bytes fault
       → IsAnswer bytes settings (Refused (run_of_script fault))
-  bad_geometry : (before steps : List Step) → IsScript bytes before steps → ¬ (IsGeometry settings.blocks settings.journal)
+  bad_geometry : (before steps : List Step) → IsScript bytes before steps
+      → ¬ (IsGeometry settings.blocks settings.journal)
       → IsAnswer bytes settings (Refused BadGeometry)
-  bad_base : (before steps : List Step) (fault : TraceFault) → IsScript bytes before steps → IsGeometry settings.blocks settings.journal
+  bad_base : (before steps : List Step) (fault : TraceFault) → IsScript bytes before steps
+      → IsGeometry settings.blocks settings.journal
       → base_from (empty_disk settings.blocks settings.journal) before ≡ Err fault
       → IsAnswer bytes settings (Refused (run_of_trace fault))
   bad_trace : (base : Disk) (steps : List Step) (fault : TraceFault) → HasBase bytes settings base steps

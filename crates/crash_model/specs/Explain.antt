@@ -63,7 +63,8 @@ pub record Explanation : Type 0 where
   pub patches : List ToldPatch
 
 abbrev pub explanation : List Rule → Disk → Tracing → List Patch → Explanation
-explanation rules base s patches = record { base = blocks_of base; patches = told_patches rules s.links s.emitted patches }
+explanation rules base s patches =
+    record { base = blocks_of base; patches = told_patches rules s.links s.emitted patches }
 
 -- ---- text
 
@@ -84,7 +85,8 @@ abbrev pub told_text : ToldPatch → List ℕ
 told_text t =
     let e = t.emitted in
     line (codes "patch " ++ decimal t.id ++ codes " line " ++ decimal e.origin.line ++ codes " " ++ op_text e.origin.op
-    ++ codes ": " ++ part_text e.part ++ codes " block " ++ decimal e.place.block ++ codes " offset " ++ decimal e.place.offset
+    ++ codes ": " ++ part_text e.part ++ codes " block " ++ decimal e.place.block ++ codes " offset "
+    ++ decimal e.place.offset
     ++ codes " length " ++ decimal (length e.place.new))
     ++ flat_map dependency_text t.after
 
@@ -98,7 +100,8 @@ abbrev pub hex_json : List ℕ → List ℕ
 hex_json bytes = json_string (encode_lower bytes)
 
 abbrev pub dependency_json : Dependency → List ℕ
-dependency_json w = codes "{\"patch\":" ++ decimal w.id ++ codes ",\"why\":" ++ json_array (map json_string w.reasons) ++ codes "}"
+dependency_json w =
+    codes "{\"patch\":" ++ decimal w.id ++ codes ",\"why\":" ++ json_array (map json_string w.reasons) ++ codes "}"
 
 abbrev pub told_json : ToldPatch → List ℕ
 told_json t =

@@ -20,7 +20,8 @@ abbrev pub with_inode : View → ℕ → ℕ → ℕ → View
 with_inode v inode kind links = record v { inode = λ i k l. (i ≡ inode) × (k ≡ kind) × (l ≡ links) }
 
 abbrev pub with_block : View → ℕ → ℕ → ℕ → View
-with_block v inode slot block = record v { pointer = λ i s b. (i ≡ inode) × (s ≡ slot) × (b ≡ block); used = λ b. b ≡ block }
+with_block v inode slot block =
+    record v { pointer = λ i s b. (i ≡ inode) × (s ≡ slot) × (b ≡ block); used = λ b. b ≡ block }
 
 -- an inode with all that it has, in a view
 abbrev pub with_all_of : View → View → ℕ → View
@@ -32,9 +33,13 @@ with_all_of v old inode = record v {
 
 -- the new set has what the old one had and was not lost, and what was gained
 pub record Becomes (old new gained lost : View) : Type 0 where
-  pub names : (dir : ℕ) (name : List ℕ) (i : ℕ) → (new.name dir name i ↔ ((old.name dir name i × (¬ (lost.name dir name i))) ⊎ gained.name dir name i))
-  pub inodes : (i kind links : ℕ) → (new.inode i kind links ↔ ((old.inode i kind links × (¬ (lost.inode i kind links))) ⊎ gained.inode i kind links))
-  pub pointers : (i s b : ℕ) → (new.pointer i s b ↔ ((old.pointer i s b × (¬ (lost.pointer i s b))) ⊎ gained.pointer i s b))
+  pub names : (dir : ℕ) (name : List ℕ) (i : ℕ)
+      → (new.name dir name i ↔ ((old.name dir name i × (¬ (lost.name dir name i))) ⊎ gained.name dir name i))
+  pub inodes : (i kind links : ℕ)
+      → (new.inode i kind links
+      ↔ ((old.inode i kind links × (¬ (lost.inode i kind links))) ⊎ gained.inode i kind links))
+  pub pointers : (i s b : ℕ)
+      → (new.pointer i s b ↔ ((old.pointer i s b × (¬ (lost.pointer i s b))) ⊎ gained.pointer i s b))
   pub used_blocks : (b : ℕ) → (new.used b ↔ ((old.used b × (¬ (lost.used b))) ⊎ gained.used b))
 
 pub record IsLowest (P : ℕ → Type 0) (n : ℕ) : Type 0 where
@@ -84,7 +89,8 @@ pub record MeansUnlinkLast (old new : View) (dir : ℕ) (name : List ℕ) (targe
   pub had : old.inode target file_kind 1
   pub becomes : Becomes old new nothing (with_all_of (with_name nothing dir name target) old target)
 
-pub record MeansRename (old new : View) (old_dir : ℕ) (old_name : List ℕ) (target dir : ℕ) (name : List ℕ) : Type 0 where
+pub record MeansRename (old new : View) (old_dir : ℕ) (old_name : List ℕ) (target dir : ℕ)
+    (name : List ℕ) : Type 0 where
   pub becomes : Becomes old new (with_name nothing dir name target) (with_name nothing old_dir old_name target)
 
 pub record MeansMkdir (blocks journal : ℕ) (old new : View) (dir : ℕ) (name : List ℕ) : Type 0 where
@@ -108,14 +114,17 @@ LeadsTo v dir name = (i : ℕ) × v.name dir name i
 
 abbrev pub Walks : View → ℕ → List (List ℕ) → ℕ → Type 0
 Walks v from [] to = to ≡ from
-Walks v from (name ∷ names) to = (child : ℕ) × v.name from name child × IsKind v child directory_kind × Walks v child names to
+Walks v from (name ∷ names) to =
+    (child : ℕ) × v.name from name child × IsKind v child directory_kind × Walks v child names to
 
 -- the first name that fails decides
 abbrev pub WalkFails : View → ℕ → List (List ℕ) → FsFault → Type 0
 WalkFails v from [] fault = ⊥
 WalkFails v from (name ∷ names) fault =
     ((¬ (LeadsTo v from name)) × (fault ≡ NotFound))
-    ⊎ ((child : ℕ) × v.name from name child × (((¬ (IsKind v child directory_kind)) × (fault ≡ NotADirectory)) ⊎ (IsKind v child directory_kind × WalkFails v child names fault)))
+    ⊎ ((child : ℕ) × v.name from name child
+    × (((¬ (IsKind v child directory_kind)) × (fault ≡ NotADirectory))
+    ⊎ (IsKind v child directory_kind × WalkFails v child names fault)))
 
 -- ---- what an operation means, from the directories that its paths lead to
 
@@ -129,12 +138,21 @@ IsTarget v path dir inode = IsParent v path dir × v.name dir path.last inode
 
 abbrev pub Means : ℕ → ℕ → View → View → Op → Type 0
 Means blocks journal old new (Create path) = (dir : ℕ) × IsParent old path dir × MeansCreate old new dir path.last
-Means blocks journal old new (Write path) = (dir : ℕ) × (target : ℕ) × IsTarget old path dir target × MeansWrite blocks journal old new target
-Means blocks journal old new (Link path link) = (old_dir : ℕ) × (target : ℕ) × (dir : ℕ) × IsTarget old path old_dir target × IsParent old link dir × MeansLink old new target dir link.last
-Means blocks journal old new (Unlink path) = (dir : ℕ) × (target : ℕ) × IsTarget old path dir target × (MeansUnlinkOne old new dir path.last target ⊎ MeansUnlinkLast old new dir path.last target)
-Means blocks journal old new (Rename path link) = (old_dir : ℕ) × (target : ℕ) × (dir : ℕ) × IsTarget old path old_dir target × IsParent old link dir × MeansRename old new old_dir path.last target dir link.last
-Means blocks journal old new (Mkdir path) = (dir : ℕ) × IsParent old path dir × MeansMkdir blocks journal old new dir path.last
-Means blocks journal old new (Rmdir path) = (dir : ℕ) × (target : ℕ) × IsTarget old path dir target × MeansRmdir old new dir path.last target
+Means blocks journal old new (Write path) =
+    (dir : ℕ) × (target : ℕ) × IsTarget old path dir target × MeansWrite blocks journal old new target
+Means blocks journal old new (Link path link) =
+    (old_dir : ℕ) × (target : ℕ) × (dir : ℕ) × IsTarget old path old_dir target × IsParent old link dir
+    × MeansLink old new target dir link.last
+Means blocks journal old new (Unlink path) =
+    (dir : ℕ) × (target : ℕ) × IsTarget old path dir target
+    × (MeansUnlinkOne old new dir path.last target ⊎ MeansUnlinkLast old new dir path.last target)
+Means blocks journal old new (Rename path link) =
+    (old_dir : ℕ) × (target : ℕ) × (dir : ℕ) × IsTarget old path old_dir target × IsParent old link dir
+    × MeansRename old new old_dir path.last target dir link.last
+Means blocks journal old new (Mkdir path) =
+    (dir : ℕ) × IsParent old path dir × MeansMkdir blocks journal old new dir path.last
+Means blocks journal old new (Rmdir path) =
+    (dir : ℕ) × (target : ℕ) × IsTarget old path dir target × MeansRmdir old new dir path.last target
 
 -- ---- refusals: the first test that fails decides
 
@@ -151,7 +169,8 @@ test fails fault = record { fails = fails; fault = fault }
 
 -- ten different names
 abbrev pub IsFull : View → ℕ → Type 0
-IsFull v dir = (name : ℕ → List ℕ) × ((k : ℕ) → k < 10 → LeadsTo v dir (name k)) × ((j k : ℕ) → j < k → k < 10 → name j ≢ name k)
+IsFull v dir =
+    (name : ℕ → List ℕ) × ((k : ℕ) → k < 10 → LeadsTo v dir (name k)) × ((j k : ℕ) → j < k → k < 10 → name j ≢ name k)
 
 abbrev pub NoInodeLeft : View → Type 0
 NoInodeLeft v = (i : ℕ) → i < 16 → IsInode v i
@@ -165,7 +184,9 @@ AtPath v path Then fault = WalkFails v 0 path.through.items fault ⊎ ((dir : �
 
 -- and at the inode that it leads to
 abbrev pub AtName : View → Path → (ℕ → ℕ → FsFault → Type 0) → FsFault → Type 0
-AtName v path Then fault = AtPath v path (λ dir f. ((¬ (LeadsTo v dir path.last)) × (f ≡ NotFound)) ⊎ ((i : ℕ) × v.name dir path.last i × Then dir i f)) fault
+AtName v path Then fault =
+    AtPath v path (λ dir f. ((¬ (LeadsTo v dir path.last)) × (f ≡ NotFound))
+    ⊎ ((i : ℕ) × v.name dir path.last i × Then dir i f)) fault
 
 abbrev pub Relinks : View → Path → Path → FsFault → Type 0
 Relinks v old new = AtName v old (λ _ i. AtPath v new (λ dir. RefusedBy
@@ -176,11 +197,14 @@ abbrev pub IsRefused : ℕ → ℕ → View → Op → FsFault → Type 0
 IsRefused blocks journal v (Create path) = AtPath v path (λ dir. RefusedBy
     (test (LeadsTo v dir path.last) Exists ∷ test (NoInodeLeft v) NoInode ∷ test (IsFull v dir) DirectoryFull ∷ []))
 IsRefused blocks journal v (Write path) = AtName v path (λ _ i. RefusedBy
-    (test (¬ (IsKind v i file_kind)) NotAFile ∷ test (NoBlockLeft blocks journal v) NoBlock ∷ test ((s : ℕ) → ¬ (IsFreeSlot v i s)) FileFull ∷ []))
+    (test (¬ (IsKind v i file_kind)) NotAFile ∷ test (NoBlockLeft blocks journal v) NoBlock
+    ∷ test ((s : ℕ) → ¬ (IsFreeSlot v i s)) FileFull ∷ []))
 IsRefused blocks journal v (Link old new) = Relinks v old new
-IsRefused blocks journal v (Unlink path) = AtName v path (λ _ i. RefusedBy (test (¬ (IsKind v i file_kind)) NotAFile ∷ []))
+IsRefused blocks journal v (Unlink path) =
+    AtName v path (λ _ i. RefusedBy (test (¬ (IsKind v i file_kind)) NotAFile ∷ []))
 IsRefused blocks journal v (Rename old new) = Relinks v old new
 IsRefused blocks journal v (Mkdir path) = AtPath v path (λ dir. RefusedBy
-    (test (LeadsTo v dir path.last) Exists ∷ test (NoInodeLeft v) NoInode ∷ test (NoBlockLeft blocks journal v) NoBlock ∷ test (IsFull v dir) DirectoryFull ∷ []))
+    (test (LeadsTo v dir path.last) Exists ∷ test (NoInodeLeft v) NoInode ∷ test (NoBlockLeft blocks journal v) NoBlock
+    ∷ test (IsFull v dir) DirectoryFull ∷ []))
 IsRefused blocks journal v (Rmdir path) = AtName v path (λ _ i. RefusedBy
     (test (¬ (IsKind v i directory_kind)) NotADirectory ∷ test ((name : List ℕ) × LeadsTo v i name) NotEmpty ∷ []))

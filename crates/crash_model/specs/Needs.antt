@@ -14,13 +14,15 @@ use Rattle.crash_model.specs.declared.patches.Patch.{Patch}
 use Rattle.crash_model.specs.declared.rules.Rule.{Rule}
 use Rattle.crash_model.specs.declared.settings.Detail.{Detail}
 
--- how many closed and failing sets there are without a rule, and the section of the first failing set that the rule prevents
+-- how many closed and failing sets there are without a rule, and the section of the first failing set that the rule
+-- prevents
 pub record Without : Type 0 where
   pub closed : ℕ
   pub failing : ℕ
   pub first : Option Section
 
--- what is told of a rule: that it applies to no pair; or to so many, and what there is without it, or too many closed sets
+-- what is told of a rule: that it applies to no pair; or to so many, and what there is without it, or too many closed
+-- sets
 pub data RuleUsage : Type 0 where
   Unused : RuleUsage
   TooMany : ℕ → RuleUsage
@@ -45,7 +47,8 @@ IsFirstNew detail base patches changed sets (Some section) =
     × AreSections detail base changed (set ∷ []) (section ∷ []) × IsLed changed section
 
 -- what there is under other dependencies, within the limit
-pub record IsWithout (detail : Detail) (limit : ℕ) (base : Disk) (patches changed : List Patch) (w : Without) : Type 0 where
+pub record IsWithout (detail : Detail) (limit : ℕ) (base : Disk) (patches changed : List Patch)
+    (w : Without) : Type 0 where
   pub counted : CountsClosed changed w.closed
   pub within : w.closed ≤ limit
   pub sets : List ℕ
@@ -84,7 +87,8 @@ abbrev pub usage_text : ℕ → List ℕ → RuleUsage → List ℕ
 usage_text n rule Unused = line (rule ++ codes " pairs 0")
 usage_text n rule (TooMany pairs) = line (rule ++ codes " pairs " ++ decimal pairs ++ codes " too many")
 usage_text n rule (Used pairs w) =
-    line (rule ++ codes " pairs " ++ decimal pairs ++ codes " closed " ++ decimal w.closed ++ codes " failing " ++ decimal w.failing)
+    line (rule ++ codes " pairs " ++ decimal pairs ++ codes " closed " ++ decimal w.closed ++ codes " failing "
+    ++ decimal w.failing)
     ++ first_text n w.first
 
 abbrev pub told_rule_text : ℕ → ToldRule → List ℕ
@@ -105,4 +109,5 @@ usage_json n rule (Used pairs w) =
     ++ first_json n w.first ++ codes "\"pairs\":" ++ decimal pairs ++ rule
 
 abbrev pub told_rule_json : ℕ → ToldRule → List ℕ
-told_rule_json n t = codes "{" ++ usage_json n (codes ",\"rule\":" ++ json_string (rule_text t.rule)) t.usage ++ codes "}"
+told_rule_json n t =
+    codes "{" ++ usage_json n (codes ",\"rule\":" ++ json_string (rule_text t.rule)) t.usage ++ codes "}"

@@ -25,12 +25,14 @@ places_of patches = map (λ p. place p.block p.offset p.new.items) patches
 
 -- two ranges of one block share a byte
 abbrev pub overlap : Place → Place → Bool
-overlap q p = q.block == p.block && nat_lt q.offset (p.offset + length p.new) && nat_lt p.offset (q.offset + length q.new)
+overlap q p =
+    q.block == p.block && nat_lt q.offset (p.offset + length p.new) && nat_lt p.offset (q.offset + length q.new)
 
 -- the disk with the places of a set put in ascending order of their ids, of which the first is `id`
 abbrev pub image_from : ℕ → Disk → List Place → ℕ → Disk
 image_from id d [] set = d
-image_from id d (p ∷ ps) set = image_from (id + 1) (if has set id then with_bytes d p.block p.offset p.new else d) ps set
+image_from id d (p ∷ ps) set =
+    image_from (id + 1) (if has set id then with_bytes d p.block p.offset p.new else d) ps set
 
 -- the base with the patches of a set put in ascending order of their ids
 abbrev pub image_of : Disk → List Patch → ℕ → Disk

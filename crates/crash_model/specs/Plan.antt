@@ -37,7 +37,8 @@ name_spelling name = length name ∷ name ++ replicate (10 - length name) 0
 
 -- entry k has the name, and its target is live
 abbrev pub is_named : Disk → ℕ → List ℕ → ℕ → Bool
-is_named d dir name k = is_entry d dir k && is_live d (target_of d dir k) && bytes_eq (spelling_of d dir k) (name_spelling name)
+is_named d dir name k =
+    is_entry d dir k && is_live d (target_of d dir k) && bytes_eq (spelling_of d dir k) (name_spelling name)
 
 -- the lowest entry of this name, in a directory that counts, whose target is live
 abbrev pub entry_named : Disk → ℕ → List ℕ → Option ℕ

@@ -24,7 +24,8 @@ is_ascending (x ∷ y ∷ ys) = nat_lt x y && is_ascending (y ∷ ys)
 -- the bytes of block j make it a header for transaction t
 abbrev pub is_header : Disk → ℕ → ℕ → List ℕ → Bool
 is_header d j t row =
-    nat_lt j (4 + d.journal) && (slice_index row 0 == committed_mark || slice_index row 0 == done_mark) && slice_index row 1 == t
+    nat_lt j (4 + d.journal) && (slice_index row 0 == committed_mark || slice_index row 0 == done_mark)
+    && slice_index row 1 == t
     && nat_le 1 (count_of row) && nat_le (count_of row) 8 && nat_le (j + count_of row) (3 + d.journal)
     && is_ascending (targets_of row) && list_all (is_target d) (targets_of row)
 
@@ -52,4 +53,5 @@ copy_after d block found (j ∷ js) = copy_after d block (unwrap_or (copy_in (bl
 
 -- each block is its last committed copy, or itself
 abbrev pub image_after_replay : Disk → Disk
-image_after_replay d = record d { bytes = flat_map (λ block. block_of d (copy_after d block block (headers d))) (range_with_len 0 d.blocks) }
+image_after_replay d =
+    record d { bytes = flat_map (λ block. block_of d (copy_after d block block (headers d))) (range_with_len 0 d.blocks) }

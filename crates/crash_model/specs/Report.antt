@@ -29,8 +29,8 @@ abbrev pub changed_blocks : Disk → Disk → List ReplayedBlock
 changed_blocks before after =
     some_below before.blocks (λ b. when (not (bytes_eq (block_of before b) (block_of after b))) (record { block = b; bytes = block_of after b }))
 
--- what is told of a set: its ids, block writes that lead to it, what replay changes where that is asked for, and the faults
--- of its replayed image, by the checker that is asked for
+-- what is told of a set: its ids, block writes that lead to it, what replay changes where that is asked for, and the
+-- faults of its replayed image, by the checker that is asked for
 pub record Section : Type 0 where
   pub set : ℕ
   pub writes : List BlockWrite
@@ -45,7 +45,8 @@ replay_of explain image = if explain then Some (changed_blocks image (image_afte
 abbrev pub AreSections : Detail → Disk → List Patch → List ℕ → List Section → Type 0
 AreSections detail base patches [] sections = sections ≡ []
 AreSections detail base patches (set ∷ sets) sections =
-    (writes : List BlockWrite) × (rest : List Section) × AreRuns (homes_of patches) set writes × AreSections detail base patches sets rest
+    (writes : List BlockWrite) × (rest : List Section) × AreRuns (homes_of patches) set writes
+    × AreSections detail base patches sets rest
     × (sections ≡ record {
       set = set;
       writes = writes;
@@ -60,12 +61,17 @@ IsLed patches s = LeadTo (deps_of patches) (homes_of patches) (events_of s.write
 -- ---- words that text and JSON share
 
 unfoldable pub fault_text : Fault → List ℕ
-fault_text (Dangling d k i) = codes "1 dangling entry: directory " ++ decimal d ++ codes " entry " ++ decimal k ++ codes " inode " ++ decimal i
+fault_text (Dangling d k i) =
+    codes "1 dangling entry: directory " ++ decimal d ++ codes " entry " ++ decimal k ++ codes " inode " ++ decimal i
 fault_text (Twice b) = codes "2 block used twice: block " ++ decimal b
-fault_text (Unwritten i s b) = codes "3 unwritten pointer: inode " ++ decimal i ++ codes " slot " ++ decimal s ++ codes " block " ++ decimal b
-fault_text (LowLinks i e l) = codes "4 low link count: inode " ++ decimal i ++ codes " entries " ++ decimal e ++ codes " links " ++ decimal l
-fault_text (MarkedFree i s b) = codes "5 used block marked free: inode " ++ decimal i ++ codes " slot " ++ decimal s ++ codes " block " ++ decimal b
-fault_text (Wild i s b) = codes "6 wild pointer: inode " ++ decimal i ++ codes " slot " ++ decimal s ++ codes " block " ++ decimal b
+fault_text (Unwritten i s b) =
+    codes "3 unwritten pointer: inode " ++ decimal i ++ codes " slot " ++ decimal s ++ codes " block " ++ decimal b
+fault_text (LowLinks i e l) =
+    codes "4 low link count: inode " ++ decimal i ++ codes " entries " ++ decimal e ++ codes " links " ++ decimal l
+fault_text (MarkedFree i s b) =
+    codes "5 used block marked free: inode " ++ decimal i ++ codes " slot " ++ decimal s ++ codes " block " ++ decimal b
+fault_text (Wild i s b) =
+    codes "6 wild pointer: inode " ++ decimal i ++ codes " slot " ++ decimal s ++ codes " block " ++ decimal b
 fault_text (Lost i) = codes "7 lost inode: inode " ++ decimal i
 fault_text (NoBlock i) = codes "8 directory without a block: inode " ++ decimal i
 
@@ -97,7 +103,8 @@ replay_text (Some replay) = flat_map replayed_text replay
 
 -- a crash that leaves the set
 abbrev pub crash_text : ℕ → Section → List ℕ
-crash_text n s = line (codes "set" ++ numbers (ids_of n s.set)) ++ flat_map (write_text n) s.writes ++ replay_text s.replay
+crash_text n s =
+    line (codes "set" ++ numbers (ids_of n s.set)) ++ flat_map (write_text n) s.writes ++ replay_text s.replay
 
 abbrev pub section_text : ℕ → Section → List ℕ
 section_text n s = crash_text n s ++ flat_map (λ f. line (codes "fault " ++ fault_text f)) s.found
@@ -121,7 +128,8 @@ abbrev pub writes_json : ℕ → List BlockWrite → List ℕ
 writes_json n writes = json_array (map (write_json n) writes)
 
 abbrev pub replayed_json : ReplayedBlock → List ℕ
-replayed_json r = codes "{\"block\":" ++ decimal r.block ++ codes ",\"bytes\":" ++ json_string (encode_lower r.bytes) ++ codes "}"
+replayed_json r =
+    codes "{\"block\":" ++ decimal r.block ++ codes ",\"bytes\":" ++ json_string (encode_lower r.bytes) ++ codes "}"
 
 -- a key with its value and a comma, where there is one
 abbrev pub replay_json : Option (List ReplayedBlock) → List ℕ

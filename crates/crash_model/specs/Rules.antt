@@ -152,7 +152,9 @@ is_same_scope Previous Previous = true
 is_same_scope _ _ = false
 
 abbrev pub is_same_rule : Rule → Rule → Bool
-is_same_rule rule other = is_same_part rule.later other.later && (is_same_part rule.earlier other.earlier && is_same_scope rule.scope other.scope)
+is_same_rule rule other =
+    is_same_part rule.later other.later
+    && (is_same_part rule.earlier other.earlier && is_same_scope rule.scope other.scope)
 
 abbrev pub has_rule : List Rule → Rule → Bool
 has_rule rules rule = list_any (is_same_rule rule) rules

@@ -24,7 +24,8 @@ text_of_lines lines = flat_map (λ line. line ++ 10 ∷ []) lines
 pub record AreLines (bytes : List ℕ) (lines : List (List ℕ)) : Type 0 where
   pub plain : ArePlain lines
   pub whole : (bytes ≡ text_of_lines lines)
-      ⊎ ((front : List (List ℕ)) × (last : List ℕ) × (last ≢ []) × (lines ≡ front ++ last ∷ []) × (bytes ≡ text_of_lines front ++ last))
+      ⊎ ((front : List (List ℕ)) × (last : List ℕ) × (last ≢ []) × (lines ≡ front ++ last ∷ [])
+      × (bytes ≡ text_of_lines front ++ last))
 
 -- the text is these words with a space between two
 pub record AreWords (text : List ℕ) (words : List (List ℕ)) : Type 0 where
@@ -123,7 +124,8 @@ abbrev pub AreSteps : ℕ → List (List ℕ) → List Step → Type 0
 AreSteps n [] steps = steps ≡ []
 AreSteps n (line ∷ lines) steps =
     (Reads line Skipped × AreSteps (n + 1) lines steps)
-    ⊎ ((act : Act) × (rest : List Step) × Reads line (Says act) × AreSteps (n + 1) lines rest × (steps ≡ record { line = n; act = act } ∷ rest))
+    ⊎ ((act : Act) × (rest : List Step) × Reads line (Says act) × AreSteps (n + 1) lines rest
+    × (steps ≡ record { line = n; act = act } ∷ rest))
 
 -- lines for the base, the start line, and lines that are traced
 pub record IsScript (bytes : List ℕ) (base traced : List Step) : Type 0 where
@@ -138,7 +140,8 @@ pub record IsScript (bytes : List ℕ) (base traced : List Step) : Type 0 where
 -- lines of which none is refused
 pub record AreAccepted (lines : List (List ℕ)) : Type 0 where
   pub each : All (λ line. (says : Line) × Reads line says) lines
-  pub one_start : (i j : ℕ) → slice_get lines i ≡ Some (codes "start") → slice_get lines j ≡ Some (codes "start") → i ≡ j
+  pub one_start : (i j : ℕ) → slice_get lines i ≡ Some (codes "start") → slice_get lines j ≡ Some (codes "start")
+      → i ≡ j
 
 -- line n is the first that is refused, and it has the property, given the lines before it
 pub record IsFirstRefused (bytes : List ℕ) (n : ℕ) (P : List (List ℕ) → List ℕ → Type 0) : Type 0 where
@@ -167,5 +170,7 @@ abbrev pub IsScriptRefusal : List ℕ → ScriptFault → Type 0
 IsScriptRefusal bytes (BadUtf8 n) = IsFirstRefused bytes n (λ _ line. ¬ (IsUtf8 line))
 IsScriptRefusal bytes (BadLine n) = IsFirstRefused bytes n IsBadLine
 IsScriptRefusal bytes (BadPath n) = IsFirstRefused bytes n (λ _ line. IsBadPath line)
-IsScriptRefusal bytes (NoStart n) = (lines : List (List ℕ)) × AreLines bytes lines × AreAccepted lines × (¬ (Contains lines (codes "start"))) × (n ≡ length lines + 1)
+IsScriptRefusal bytes (NoStart n) =
+    (lines : List (List ℕ)) × AreLines bytes lines × AreAccepted lines × (¬ (Contains lines (codes "start")))
+    × (n ≡ length lines + 1)
 IsScriptRefusal bytes OutOfMemory = ⊥

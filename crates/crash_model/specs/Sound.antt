@@ -21,11 +21,15 @@ pub record IsSound (d : Disk) : Type 0 where
   -- a live inode is a file or a directory
   pub kinds : (i : ℕ) → IsTrue (is_live d i) → (kind_of d i ≡ file_kind) ⊎ (kind_of d i ≡ directory_kind)
   -- a directory has one block, marked as its own; a file's pointers fill the slots from 0 on
-  pub directories : (i : ℕ) → i < 16 → kind_of d i ≡ directory_kind → IsTrue (counts d i) × ((s : ℕ) → 0 < s → s < 4 → pointer_of d i s ≡ 0)
-  pub packed : (i : ℕ) → i < 16 → kind_of d i ≡ file_kind → (s : ℕ) → s + 1 < 4 → pointer_of d i s ≡ 0 → pointer_of d i (s + 1) ≡ 0
+  pub directories : (i : ℕ) → i < 16 → kind_of d i ≡ directory_kind → IsTrue (counts d i)
+      × ((s : ℕ) → 0 < s → s < 4 → pointer_of d i s ≡ 0)
+  pub packed : (i : ℕ) → i < 16 → kind_of d i ≡ file_kind → (s : ℕ) → s + 1 < 4 → pointer_of d i s ≡ 0
+      → pointer_of d i (s + 1) ≡ 0
   -- entries have names, those of one directory different ones
-  pub named : (dir : ℕ) → dir < 16 → (k : ℕ) → k < 10 → IsTrue (is_entry d dir k) → (name : List ℕ) × IsName name × (spelling_of d dir k ≡ name_spelling name)
-  pub distinct : (dir : ℕ) → dir < 16 → (j k : ℕ) → j < k → k < 10 → IsTrue (is_entry d dir j) → IsTrue (is_entry d dir k) → spelling_of d dir j ≢ spelling_of d dir k
+  pub named : (dir : ℕ) → dir < 16 → (k : ℕ) → k < 10 → IsTrue (is_entry d dir k) → (name : List ℕ) × IsName name
+      × (spelling_of d dir k ≡ name_spelling name)
+  pub distinct : (dir : ℕ) → dir < 16 → (j k : ℕ) → j < k → k < 10 → IsTrue (is_entry d dir j)
+      → IsTrue (is_entry d dir k) → spelling_of d dir j ≢ spelling_of d dir k
   -- link counts are the numbers of entries: one for a directory, one to eight for a file
   pub counted : (i : ℕ) → 0 < i → IsTrue (is_live d i) → length (entries_to d i) ≡ links_of d i
   pub one_name : (i : ℕ) → 0 < i → i < 16 → kind_of d i ≡ directory_kind → links_of d i ≡ 1
@@ -33,8 +37,10 @@ pub record IsSound (d : Disk) : Type 0 where
   -- every live inode is reached from inode 0
   pub reached : (i : ℕ) → IsTrue (is_live d i) → (n : ℕ) × ReachedIn d n i
   -- in use are the blocks below the data area and those that live inodes name
-  pub map : (b : ℕ) → b < d.blocks → ((map_of d b ≢ 0) ↔ ((b < 4 + d.journal) ⊎ ((i : ℕ) × (s : ℕ) × HasPointer d i s b)))
+  pub map : (b : ℕ) → b < d.blocks
+      → ((map_of d b ≢ 0) ↔ ((b < 4 + d.journal) ⊎ ((i : ℕ) × (s : ℕ) × HasPointer d i s b)))
 
 -- no journal block has a byte that is not 0
 abbrev pub HasZeroJournal : Disk → Type 0
-HasZeroJournal d = (block : ℕ) → 4 ≤ block → block < 4 + d.journal → (offset : ℕ) → offset < 128 → byte d block offset ≡ 0
+HasZeroJournal d =
+    (block : ℕ) → 4 ≤ block → block < 4 + d.journal → (offset : ℕ) → offset < 128 → byte d block offset ≡ 0

@@ -34,7 +34,8 @@ pub record Origin : Type 0 where
 abbrev pub origin_at : ℕ → Op → Option (List ℕ) → Origin
 origin_at line op group = record { line = line; op = op; group = group }
 
--- a patch without its dependencies: where it stands with its bytes, what it is of its operation, and that one's number, from 1
+-- a patch without its dependencies: where it stands with its bytes, what it is of its operation, and that one's number,
+-- from 1
 pub record Emitted : Type 0 where
   pub place : Place
   pub part : Part
@@ -49,7 +50,8 @@ is_same_group (Some group) name = bytes_eq group name
 
 -- a patch of group B, and one of a group A with `depend B A`
 abbrev pub groups_depend : List (List ℕ × List ℕ) → Emitted → Emitted → Bool
-groups_depend links q p = list_any (λ link. is_same_group q.origin.group link.0 && is_same_group p.origin.group link.1) links
+groups_depend links q p =
+    list_any (λ link. is_same_group q.origin.group link.0 && is_same_group p.origin.group link.1) links
 
 -- a rule makes a patch wait for an earlier one
 abbrev pub applies : Rule → Emitted → Emitted → Bool
@@ -57,7 +59,8 @@ applies rule q p = has_part rule.later q.part && (has_part rule.earlier p.part &
 
 -- a patch depends on an earlier one
 abbrev pub depends : List Rule → List (List ℕ × List ℕ) → Emitted → Emitted → Bool
-depends rules links q p = overlap q.place p.place || groups_depend links q p || list_any (λ rule. applies rule q p) rules
+depends rules links q p =
+    overlap q.place p.place || groups_depend links q p || list_any (λ rule. applies rule q p) rules
 
 -- the rules that make it wait
 abbrev pub rules_between : List Rule → Emitted → Emitted → List Rule
@@ -66,7 +69,8 @@ rules_between rules q p = filter (λ rule. applies rule q p) rules
 -- ---- the patches of an operation
 
 abbrev pub in_place_patch : ℕ → Origin → Change → Emitted
-in_place_patch turn origin c = record { place = place c.block c.offset c.new.items; part = InPlace c.role; turn = turn; origin = origin }
+in_place_patch turn origin c =
+    record { place = place c.block c.offset c.new.items; part = InPlace c.role; turn = turn; origin = origin }
 
 abbrev pub is_file_data : Change → Bool
 is_file_data c = elim c.role [ InitFile ↦ true | _ ↦ false ]
@@ -81,14 +85,17 @@ touched_blocks blocks changes = filter (λ b. list_any (λ c. c.block == b) chan
 
 -- a patch of transaction `turn`
 abbrev pub part_of : ℕ → Origin → Part → ℕ → ℕ → List ℕ → Emitted
-part_of turn origin part block offset new = record { place = place block offset new; part = part; turn = turn; origin = origin }
+part_of turn origin part block offset new =
+    record { place = place block offset new; part = part; turn = turn; origin = origin }
 
 -- from journal block j on, a block of `after` in each
 abbrev pub copies : Disk → ℕ → ℕ → Origin → List ℕ → List Emitted
 copies after turn j origin [] = []
-copies after turn j origin (b ∷ bs) = part_of turn origin Copy j 0 (block_of after b) ∷ copies after turn (j + 1) origin bs
+copies after turn j origin (b ∷ bs) =
+    part_of turn origin Copy j 0 (block_of after b) ∷ copies after turn (j + 1) origin bs
 
--- changes that go through the journal, as transaction `turn` with its header at journal block j; `after` is the disk after it
+-- changes that go through the journal, as transaction `turn` with its header at journal block j; `after` is the disk
+-- after it
 abbrev pub journal_patches : Disk → ℕ → ℕ → Origin → List ℕ → List Change → List Emitted
 journal_patches after turn j origin targets changes =
     copies after turn (j + 1) origin targets
@@ -118,7 +125,8 @@ pub record Tracing : Type 0 where
   pub links : List (List ℕ × List ℕ)
 
 abbrev pub trace_start : Disk → Tracing
-trace_start base = record { disk = base; emitted = []; turn = 1; journal = 4; current = None; opened = []; ended = []; links = [] }
+trace_start base =
+    record { disk = base; emitted = []; turn = 1; journal = 4; current = None; opened = []; ended = []; links = [] }
 
 abbrev pub refuse_if : {A : Type 0} → Bool → TraceFault → A → Result A TraceFault
 refuse_if test fault answer = if test then Err fault else Ok answer
@@ -135,7 +143,8 @@ journal_blocks _ blocks changes = 0
 
 abbrev pub patches_by : Module → Disk → ℕ → ℕ → Origin → List Change → List Emitted
 patches_by Meta after turn j origin changes = transaction after turn j origin changes
-patches_by Full after turn j origin changes = journal_patches after turn j origin (touched_blocks after.blocks changes) changes
+patches_by Full after turn j origin changes =
+    journal_patches after turn j origin (touched_blocks after.blocks changes) changes
 patches_by _ after turn j origin changes = map (in_place_patch turn origin) changes
 
 abbrev pub trace_of_plan : Module → ℕ → Op → Tracing → Result (List Change) FsFault → Result Tracing TraceFault
@@ -162,7 +171,8 @@ step kind s line (Group a) =
     (record s { current = Some a; opened = s.opened ++ a ∷ [] })
 step kind s line End = ended_group s line s.current
 step kind s line (Depend b a) =
-    refuse_if (not (is_among a s.ended) || bytes_eq b a || list_any (λ e. is_same_group e.origin.group b) s.emitted) (no.GroupFault line)
+    refuse_if (not (is_among a s.ended) || bytes_eq b a
+    || list_any (λ e. is_same_group e.origin.group b) s.emitted) (no.GroupFault line)
     (record s { links = s.links ++ (b, a) ∷ [] })
 
 -- all steps, up to the first refused one
@@ -188,5 +198,6 @@ pub record IsGraphOf (rules : List Rule) (base : Disk) (s : Tracing) (patches : 
   pub places : places_of patches ≡ map (λ e. e.place) s.emitted
   pub undo : AreUndo base patches
   pub earlier : AreEarlier (deps_of patches)
-  pub exactly : (q p : ℕ) (later before : Emitted) → p < q → slice_get s.emitted q ≡ Some later → slice_get s.emitted p ≡ Some before
+  pub exactly : (q p : ℕ) (later before : Emitted) → p < q → slice_get s.emitted q ≡ Some later
+      → slice_get s.emitted p ≡ Some before
       → (Has (slice_index (deps_of patches) q) p ↔ IsTrue (depends rules s.links later before))

@@ -60,7 +60,8 @@ text_report settings r =
 -- a key with the texts of the rules, where there are any
 abbrev pub rules_json : List ℕ → List Rule → List ℕ
 rules_json key [] = []
-rules_json key (rule ∷ rules) = codes "," ++ json_string key ++ codes ":" ++ json_array (map (λ r. json_string (rule_text r)) (rule ∷ rules))
+rules_json key (rule ∷ rules) =
+    codes "," ++ json_string key ++ codes ":" ++ json_array (map (λ r. json_string (rule_text r)) (rule ∷ rules))
 
 -- the body's keys before `module`
 abbrev pub early_json : ℕ → ℕ → Body → List ℕ

@@ -14,4 +14,5 @@ abbrev pub IsBaseRefusal : Settings → List Step → RunFault → Type 0
 IsBaseRefusal settings steps fault =
     ((¬ (IsGeometry settings.blocks settings.journal)) × (fault ≡ BadGeometry))
     ⊎ (IsGeometry settings.blocks settings.journal
-    × ((why : TraceFault) × (base_from (empty_disk settings.blocks settings.journal) steps ≡ Err why) × (fault ≡ run_of_trace why)))
+    × ((why : TraceFault) × (base_from (empty_disk settings.blocks settings.journal) steps ≡ Err why)
+    × (fault ≡ run_of_trace why)))

@@ -38,13 +38,16 @@ IsReportOf f text =
     → IsReport f.settings.now f.kept f.base.now last f.traced.patches text f.found.failing
 
 -- the text is the report on these traced patches, by a checker that is told what the steps keep
-pub record AreReportedOf (settings : Settings) (base : Disk) (steps : List Step) (t : TracedPatches) (text : List ℕ) (failing : ℕ) : Type 0 where
+pub record AreReportedOf (settings : Settings) (base : Disk) (steps : List Step) (t : TracedPatches) (text : List ℕ)
+    (failing : ℕ) : Type 0 where
   pub kept : Option ℕ
   pub told : IsToldKept settings.strict base steps kept
-  pub report : (last : Tracing) → IsTraceOf settings base t last → IsReport settings kept base last t.patches text failing
+  pub report : (last : Tracing) → IsTraceOf settings base t last
+      → IsReport settings kept base last t.patches text failing
 
 -- the report on steps that are traced over the base
-pub record AreReported (settings : Settings) (base : Disk) (steps : List Step) (text : List ℕ) (failing : ℕ) : Type 0 where
+pub record AreReported (settings : Settings) (base : Disk) (steps : List Step) (text : List ℕ)
+    (failing : ℕ) : Type 0 where
   pub last : Tracing
   pub patches : List Patch
   pub run : trace_from settings.module (trace_start base) steps ≡ Ok last
@@ -64,4 +67,5 @@ AreRefused settings base steps fault =
 abbrev pub IsUsageBy : Detail → ℕ → Disk → List Patch → List Patch → ℕ → RuleUsage → Type 0
 IsUsageBy detail limit base patches changed pairs Unused = ⊥
 IsUsageBy detail limit base patches changed pairs (PastLimit told) = (told ≡ pairs) × ExceedsLimit changed limit
-IsUsageBy detail limit base patches changed pairs (Used told w) = (told ≡ pairs) × IsWithout detail limit base patches changed w
+IsUsageBy detail limit base patches changed pairs (Used told w) =
+    (told ≡ pairs) × IsWithout detail limit base patches changed w

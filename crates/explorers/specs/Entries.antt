@@ -16,7 +16,9 @@ pub record IsBrokenBefore (e : Ended) (q k word : ℕ) : Type 0 where
 
 -- no word stands at two places
 abbrev pub AreDistinct : List (List ℕ) → Type 0
-AreDistinct rows = (p q j k : ℕ) → p < 13 → q < 13 → j < length (row_of rows p) → k < length (row_of rows q) → slice_index (row_of rows p) j ≡ slice_index (row_of rows q) k → (p ≡ q) × (j ≡ k)
+AreDistinct rows =
+    (p q j k : ℕ) → p < 13 → q < 13 → j < length (row_of rows p) → k < length (row_of rows q)
+    → slice_index (row_of rows p) j ≡ slice_index (row_of rows q) k → (p ≡ q) × (j ≡ k)
 
 abbrev pub AreShort : List (List ℕ) → Type 0
 AreShort rows = (q : ℕ) → q < 13 → length (row_of rows q) ≤ 32768

@@ -12,8 +12,8 @@ use Rattle.explorers.specs.declared.worker.Worker.{Worker}
 abbrev pub IsIdle : {S : Type 0} → Shown S → Known → Type 0
 IsIdle b s = IsOf b s × (s.right ≡ 0) × (s.claims ≡ 0)
 
--- The space is that of the board. The worker's seat is of the board and has no right, its scratch is the space's own, and
--- its seat has seen the words that it has met.
+-- The space is that of the board. The worker's seat is of the board and has no right, its scratch is the space's own,
+-- and its seat has seen the words that it has met.
 pub record IsFree {S C A : Type 0} (b : Shown S) (s : S) (is_own : S → C → Type 0) (worker : Worker C A) : Type 0 where
   pub explored : b.space ≡ s
   pub of : IsOf b worker.seat
@@ -37,7 +37,8 @@ pub record PutsIn (word : ℕ) (before after : Known) : Type 0 where
   pub has : Has after.seen word
 
 -- the seat is at the entry that it has claimed, and the first k successors are entries that it has seen
-pub record Expands {S : Type 0} (b : Shown S) (before : List (List ℕ)) (place : Place) (next : List ℕ) (k : ℕ) (s : Known) : Type 0 where
+pub record Expands {S : Type 0} (b : Shown S) (before : List (List ℕ)) (place : Place) (next : List ℕ) (k : ℕ)
+    (s : Known) : Type 0 where
   pub of : IsOf b s
   pub free : s.right ≡ 0
   pub claim : HasClaim s place

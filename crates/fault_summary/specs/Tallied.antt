@@ -13,4 +13,5 @@ pub record AreTallied (faults_of : ℕ → List Fault) (sets : List ℕ) (failin
 
 -- the same, where no set stands twice and 64 bits count them
 abbrev pub IsTally : (ℕ → List Fault) → List ℕ → ℕ → List FaultRow → Type 0
-IsTally faults_of sets failing rows = AllPairs (λ a b. a ≢ b) sets → length sets < 2 ^ 64 → AreTallied faults_of sets failing rows
+IsTally faults_of sets failing rows =
+    AllPairs (λ a b. a ≢ b) sets → length sets < 2 ^ 64 → AreTallied faults_of sets failing rows

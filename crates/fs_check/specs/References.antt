@@ -40,7 +40,8 @@ dangling_entries d = each_entry (dangling_at d)
 
 -- the fault that a test finds of a pointer
 abbrev pub fault_of : Disk → Test → Pointer → Option Fault
-fault_of d IsUnwritten p = when (is_data d p.block && not (is_marked d p.inode p.block)) (Unwritten p.inode p.slot p.block)
+fault_of d IsUnwritten p =
+    when (is_data d p.block && not (is_marked d p.inode p.block)) (Unwritten p.inode p.slot p.block)
 fault_of d IsMarkedFree p = when (is_data d p.block && map_of d p.block == 0) (MarkedFree p.inode p.slot p.block)
 fault_of d IsWild p = when (not (is_data d p.block)) (Wild p.inode p.slot p.block)
 

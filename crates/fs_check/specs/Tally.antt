@@ -12,4 +12,5 @@ count_before width at row column = length (each_below row (row_of width at)) + l
 
 -- the counts of several tables, one for each key, before a place
 abbrev pub IsTally : {X : Type 0} → ℕ → (ℕ → ℕ → ℕ → Option X) → ℕ → ℕ → List ℕ → Type 0
-IsTally width at row column counts = (key : ℕ) → key < length counts → slice_index counts key ≡ count_before width (at key) row column
+IsTally width at row column counts =
+    (key : ℕ) → key < length counts → slice_index counts key ≡ count_before width (at key) row column

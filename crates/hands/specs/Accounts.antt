@@ -26,7 +26,8 @@ module _ {T : Type 0} where
   abbrev pub IsIdle : Held T → Type 0
   IsIdle v = v.parts ≡ 0 → (v.pushed ≡ []) × (v.taken ≡ [])
 
-  -- The rule of a deque: its passes have 17 parts in all, and what they hold as pushed is what they hold as taken and what the deque holds.
+  -- The rule of a deque: its passes have 17 parts in all, and what they hold as pushed is what they hold as taken and
+  -- what the deque holds.
   pub record IsAccounted (items : List T) (views : List (Held T)) : Type 0 where
     pub parts : total (λ v. v.parts) views ≡ 17
     pub idle : All IsIdle views

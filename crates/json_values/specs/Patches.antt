@@ -14,7 +14,8 @@ abbrev pub texts_data : List (List ℕ) → Data
 texts_data texts = array (items_of (map string texts))
 
 abbrev pub dependency_data : Dependency → Data
-dependency_data w = object (member (codes "patch") (number_data w.id) (member (codes "why") (texts_data w.reasons) no_members))
+dependency_data w =
+    object (member (codes "patch") (number_data w.id) (member (codes "why") (texts_data w.reasons) no_members))
 
 abbrev pub dependencies_data : List Dependency → Data
 dependencies_data after = array (items_of (map dependency_data after))

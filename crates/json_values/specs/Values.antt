@@ -16,7 +16,8 @@ abbrev pub ids_data : ℕ → ℕ → Data
 ids_data patches set = array (items_of (map number_data (ids_of patches set)))
 
 abbrev pub write_data : ℕ → BlockWrite → Data
-write_data patches w = object (member (codes "block") (number_data w.block) (member (codes "patches") (ids_data patches w.ids) no_members))
+write_data patches w =
+    object (member (codes "block") (number_data w.block) (member (codes "patches") (ids_data patches w.ids) no_members))
 
 abbrev pub writes_data : ℕ → List BlockWrite → Data
 writes_data patches ws = array (items_of (map (write_data patches) ws))
@@ -31,7 +32,8 @@ abbrev pub hex_data : List ℕ → Data
 hex_data bytes = string (encode_lower bytes)
 
 abbrev pub replayed_data : ReplayedBlock → Data
-replayed_data r = object (member (codes "block") (number_data r.block) (member (codes "bytes") (hex_data r.bytes) no_members))
+replayed_data r =
+    object (member (codes "block") (number_data r.block) (member (codes "bytes") (hex_data r.bytes) no_members))
 
 abbrev pub replay_data : List ReplayedBlock → Data
 replay_data replay = array (items_of (map replayed_data replay))

@@ -31,10 +31,13 @@ StepsTurn d (x ∷ xs) end = (next : Disk) × StepTurns d x next × StepsTurn ne
 
 -- the step is refused on the disk, as what it holds tells, or is one on groups
 abbrev pub IsStopped : Disk → Step → TraceFault → Type 0
-IsStopped d x fault = ((op : Op) × (why : FsFault) × (x.act ≡ Do op) × IsRefused d.blocks d.journal (view_of d) op why × (fault ≡ trace_fault x.line why))
+IsStopped d x fault =
+    ((op : Op) × (why : FsFault) × (x.act ≡ Do op) × IsRefused d.blocks d.journal (view_of d) op why
+    × (fault ≡ trace_fault x.line why))
     ⊎ (((op : Op) → ¬ (x.act ≡ Do op)) × (fault ≡ GroupFault x.line))
 
 -- the same up to a step that is refused, which changes nothing
 abbrev pub StepsStop : Disk → List Step → Disk → TraceFault → Type 0
 StepsStop d [] end fault = ⊥
-StepsStop d (x ∷ xs) end fault = (IsStopped d x fault × (end ≡ d)) ⊎ ((next : Disk) × StepTurns d x next × StepsStop next xs end fault)
+StepsStop d (x ∷ xs) end fault =
+    (IsStopped d x fault × (end ≡ d)) ⊎ ((next : Disk) × StepTurns d x next × StepsStop next xs end fault)

@@ -50,4 +50,5 @@ pub record Adds (old new : Log) (more : List Emitted) : Type 0 where
 abbrev pub WaitsAt : List Rule → List (List ℕ × List ℕ) → List Label → Label → ℕ → Type 0
 WaitsAt rules links labels later id =
     (earlier : Label) × (slice_get labels id ≡ Some earlier)
-    × IsTrue (groups_depend links (emitted_of later) (emitted_of earlier) || list_any (λ rule. applies rule (emitted_of later) (emitted_of earlier)) rules)
+    × IsTrue (groups_depend links (emitted_of later) (emitted_of earlier)
+    || list_any (λ rule. applies rule (emitted_of later) (emitted_of earlier)) rules)

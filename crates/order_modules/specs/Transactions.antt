@@ -31,7 +31,8 @@ file_data turn origin c = part_of turn origin FileData c.block c.offset c.new.it
 
 -- the blocks below n that the changes in place touch, ascending
 abbrev pub targets_of : Module → ℕ → List Change → List ℕ
-targets_of kind n changes = filter (λ b. list_any (λ c. c.block == b) (changes_in_place kind changes)) (range_with_len 0 n)
+targets_of kind n changes =
+    filter (λ b. list_any (λ c. c.block == b) (changes_in_place kind changes)) (range_with_len 0 n)
 
 abbrev pub transaction_of : Module → Disk → ℕ → ℕ → Origin → List ℕ → List Change → List Emitted
 transaction_of kind after turn j origin targets changes =

@@ -3,8 +3,8 @@ use Rattle.std.specs.Prelude.{◌≡◌, ℕ, ◌<◌, ◌≤◌, ◌⊎◌, Lis
 use Rattle.patch_sets.specs.Sets.{Has, ids_below}
 use Rattle.patch_sets.specs.Closed.{IsReady, is_ready}
 
--- What is left of the ids outside a set: none is below `from`, each dependency of one is in the set or is left, and each
--- ready id from there on is left.
+-- What is left of the ids outside a set: none is below `from`, each dependency of one is in the set or is left, and
+-- each ready id from there on is left.
 pub record IsFront (deps : List ℕ) (set front from : ℕ) : Type 0 where
   pub known : (q : ℕ) → Has front q → (q < length deps) × ¬ (Has set q)
   pub whole : (q d : ℕ) → Has front q → Has (slice_index deps q) d → Has set d ⊎ Has front d

@@ -7,7 +7,8 @@ use Rattle.patch_sets.specs.Sets.{AreAllInOrder}
 use Rattle.patch_sets.specs.declared.explored.Explored.{Explored}
 
 -- the number of words that are reached, at most the limit, and those of them that are not good, in canonical order
-pub record IsExplored {A : Type 0} (next : ℕ → List ℕ) (start : ℕ) (good : ℕ → Type 0) (limit : ℕ) (found : Explored A) : Type 0 where
+pub record IsExplored {A : Type 0} (next : ℕ → List ℕ) (start : ℕ) (good : ℕ → Type 0) (limit : ℕ)
+    (found : Explored A) : Type 0 where
   pub total : HoldsOf (IsReached next start) found.total
   pub within : found.total ≤ limit
   pub broken : AreAllInOrder (λ word. IsReached next start word × ¬ (good word)) found.broken.items

@@ -52,7 +52,8 @@ pub record WritesSections (detail : Detail) (base : Disk) (patches : List Patch)
   pub whole : new ≡ old ++ join_of 44 (map (section_json (length patches)) sections)
 
 -- the same of the objects of these rows
-pub record WritesFaults (detail : Detail) (base : Disk) (patches : List Patch) (rows : List FaultRow) (old new : List ℕ) : Type 0 where
+pub record WritesFaults (detail : Detail) (base : Disk) (patches : List Patch) (rows : List FaultRow)
+    (old new : List ℕ) : Type 0 where
   pub told : List ToldFault
   pub of_rows : map (λ t. t.row) told ≡ rows
   pub firsts : AreSections detail base patches (map (λ row. row.first) rows) (map (λ t. t.first) told)

@@ -43,7 +43,8 @@ TellsBody detail base patches (Sets sets) body =
     (sections : List Section) × AreSections detail base patches sets.now sections × (body ≡ whole.Sets sections)
 TellsBody detail base patches (Faults rows) body =
     (told : List ToldFault) × (map (λ t. t.row) told ≡ rows.now)
-    × AreSections detail base patches (map (λ row. row.first) rows.now) (map (λ t. t.first) told) × (body ≡ whole.Faults told)
+    × AreSections detail base patches (map (λ row. row.first) rows.now) (map (λ t. t.first) told)
+    × (body ≡ whole.Faults told)
 TellsBody detail base patches (Rules rules) body = body ≡ whole.Rules (map told_rule rules.now)
 
 abbrev pub explanation_by : Disk → TracedPatches → Explanation

@@ -17,13 +17,15 @@ use Rattle.report_sections.specs.declared.section.Section.{Section}
 abbrev pub section_of : {A : Type 0} → Section A → report.Section
 section_of s = record { set = s.set; writes = s.writes.items; replay = told_replay s.replay; found = s.faults.items }
 
-pub record IsSection {A : Type 0} (detail : Detail) (base : Disk) (patches : List Patch) (set : ℕ) (s : Section A) : Type 0 where
+pub record IsSection {A : Type 0} (detail : Detail) (base : Disk) (patches : List Patch) (set : ℕ)
+    (s : Section A) : Type 0 where
   pub of_set : s.set ≡ set
   pub runs : AreRuns (homes_of patches) set s.writes.items
   pub replay : told_replay s.replay ≡ replay_of detail.explain (image_of base patches set)
   pub faults : s.faults.items ≡ faults_under detail.kept (image_after_replay (image_of base patches set))
 
 -- what replay changes, and the faults of the image after it
-pub record IsOutcome {A : Type 0} (detail : Detail) (base : Disk) (patches : List Patch) (set : ℕ) (o : Outcome A) : Type 0 where
+pub record IsOutcome {A : Type 0} (detail : Detail) (base : Disk) (patches : List Patch) (set : ℕ)
+    (o : Outcome A) : Type 0 where
   pub replay : told_replay o.replay ≡ replay_of detail.explain (image_of base patches set)
   pub faults : o.faults.items ≡ faults_under detail.kept (image_after_replay (image_of base patches set))

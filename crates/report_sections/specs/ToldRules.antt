@@ -9,7 +9,8 @@ use Rattle.report_sections.specs.declared.rules.ToldRule.{ToldRule}
 abbrev pub usage_of : {A : Type 0} → RuleUsage A → needs.RuleUsage
 usage_of Unused = needs.Unused
 usage_of (TooMany pairs) = needs.TooMany pairs
-usage_of (Used pairs closed failing first) = needs.Used pairs (record { closed = closed; failing = failing; first = option_map section_of first })
+usage_of (Used pairs closed failing first) =
+    needs.Used pairs (record { closed = closed; failing = failing; first = option_map section_of first })
 
 abbrev pub told_rule : {A : Type 0} → ToldRule A → needs.ToldRule
 told_rule t = record { rule = t.rule; usage = usage_of t.usage }

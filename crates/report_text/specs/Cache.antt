@@ -13,9 +13,12 @@ fault_line fault = line (codes "fault " ++ fault_text fault)
 -- each text has the lines of the block writes that lead to its ids
 abbrev pub AreWriteLines : List Patch → List (Option WriteLines) → Type 0
 AreWriteLines patches lines =
-    (length lines ≡ 1024) × ((at : ℕ) → (known : WriteLines) → slice_get lines at ≡ Some (Some known) → WritesRuns patches known.ids [] known.text.bytes)
+    (length lines ≡ 1024)
+    × ((at : ℕ) → (known : WriteLines) → slice_get lines at ≡ Some (Some known)
+    → WritesRuns patches known.ids [] known.text.bytes)
 
 -- each line is that of its fault
 abbrev pub AreFaultLines : List (Option FaultLine) → Type 0
 AreFaultLines lines =
-    (length lines ≡ 256) × ((at : ℕ) → (known : FaultLine) → slice_get lines at ≡ Some (Some known) → known.text.bytes ≡ fault_line known.fault)
+    (length lines ≡ 256) × ((at : ℕ) → (known : FaultLine) → slice_get lines at ≡ Some (Some known)
+    → known.text.bytes ≡ fault_line known.fault)

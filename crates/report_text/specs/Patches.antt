@@ -9,7 +9,8 @@ use Rattle.crash_model.specs.Trace.{Emitted}
 abbrev pub patch_line : ℕ → Emitted → List ℕ
 patch_line id e =
     line (codes "patch " ++ decimal id ++ codes " line " ++ decimal e.origin.line ++ codes " " ++ op_text e.origin.op
-    ++ codes ": " ++ part_text e.part ++ codes " block " ++ decimal e.place.block ++ codes " offset " ++ decimal e.place.offset
+    ++ codes ": " ++ part_text e.part ++ codes " block " ++ decimal e.place.block ++ codes " offset "
+    ++ decimal e.place.offset
     ++ codes " length " ++ decimal (length e.place.new))
 
 -- what stands before the item at a place of a list

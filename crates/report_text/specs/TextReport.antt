@@ -17,7 +17,8 @@ pub record WritesSections (detail : Detail) (base : Disk) (patches : List Patch)
   pub whole : new ≡ old ++ flat_map (section_text (length patches)) sections
 
 -- behind what stood there the text has what is told of these rows
-pub record WritesFaults (detail : Detail) (base : Disk) (patches : List Patch) (rows : List FaultRow) (old new : List ℕ) : Type 0 where
+pub record WritesFaults (detail : Detail) (base : Disk) (patches : List Patch) (rows : List FaultRow)
+    (old new : List ℕ) : Type 0 where
   pub told : List ToldFault
   pub of_rows : map (λ t. t.row) told ≡ rows
   pub firsts : AreSections detail base patches (map (λ row. row.first) rows) (map (λ t. t.first) told)

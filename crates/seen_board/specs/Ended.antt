@@ -20,7 +20,9 @@ pub record Ended : Type 0 where
   pub count : ℕ
 
 abbrev pub end_of : ℕ → List ℕ → Ended
-end_of places words = record { rows = rows_of places words; lives = lives_of places words; pending = slice_index words 0; count = slice_index words 1 }
+end_of places words =
+    record { rows = rows_of places words; lives = lives_of places words; pending = slice_index words 0;
+    count = slice_index words 1 }
 
 -- the life of the entry at place k of shard q
 abbrev pub life_of_entry : Ended → ℕ → ℕ → Life
@@ -35,14 +37,16 @@ pub record IsReadable (places : ℕ) (words : List ℕ) : Type 0 where
   pub small : places ≤ 32768
   pub short : (q : ℕ) → q < 13 → slice_index words (length_word q) ≤ places
 
--- the entries are the initial word and other words that are reached, none of them twice in all shards, and each in the shard of its number
+-- the entries are the initial word and other words that are reached, none of them twice in all shards, and each in the
+-- shard of its number
 pub record Entries (next : ℕ → List ℕ) (origin places : ℕ) (rows : List (List ℕ)) : Type 0 where
   pub thirteen : length rows ≡ 13
   pub start : Has rows origin
   pub some : IsSome (IsReached next origin) (concat rows)
   pub at_home : (q k : ℕ) → q < 13 → k < length (row_of rows q) → slice_index (row_of rows q) k % 13 ≡ q
   pub reached : (q k : ℕ) → q < 13 → k < length (row_of rows q) → IsReached next origin (slice_index (row_of rows q) k)
-  pub distinct : (p q j k : ℕ) → p < 13 → q < 13 → j < length (row_of rows p) → k < length (row_of rows q) → slice_index (row_of rows p) j ≡ slice_index (row_of rows q) k → (p ≡ q) × (j ≡ k)
+  pub distinct : (p q j k : ℕ) → p < 13 → q < 13 → j < length (row_of rows p) → k < length (row_of rows q)
+      → slice_index (row_of rows p) j ≡ slice_index (row_of rows q) k → (p ≡ q) × (j ≡ k)
   pub short : (q : ℕ) → q < 13 → length (row_of rows q) ≤ places
 
 abbrev pub IsSettled : Life → Type 0
@@ -52,7 +56,8 @@ IsSettled life = (life ≡ Clean) ⊎ (life ≡ Broken)
 pub record Settled (next : ℕ → List ℕ) (good : ℕ → Type 0) (e : Ended) : Type 0 where
   pub clean : (q k : ℕ) → q < 13 → life_of_entry e q k ≡ Clean → good (slice_index (row_of e.rows q) k)
   pub broken : (q k : ℕ) → q < 13 → life_of_entry e q k ≡ Broken → good (slice_index (row_of e.rows q) k) → ⊥
-  pub closed : (q k y : ℕ) → q < 13 → IsSettled (life_of_entry e q k) → Contains (next (slice_index (row_of e.rows q) k)) y → Has e.rows y
+  pub closed : (q k y : ℕ) → q < 13 → IsSettled (life_of_entry e q k)
+      → Contains (next (slice_index (row_of e.rows q) k)) y → Has e.rows y
 
 -- every entry is settled, and the entries are the words that are reached
 pub record Done (next : ℕ → List ℕ) (origin : ℕ) (e : Ended) : Type 0 where
@@ -67,7 +72,8 @@ pub record Accounts (origin : ℕ) (s : Known) (e : Ended) : Type 0 where
   pub entries : total length e.rows ≡ length s.added + 1
   pub count : e.count ≡ length s.added + 1
   -- an entry is claimed exactly where its claim is had or given up, and that by one call
-  pub claimed : (q k : ℕ) → q < 13 → cond (s.place == place_of q k) s.claims 0 + times_among (place_of q k) s.given_up ≡ is_claimed (slice_index (row_of e.lives q) k)
+  pub claimed : (q k : ℕ) → q < 13 → cond (s.place == place_of q k) s.claims 0
+      + times_among (place_of q k) s.given_up ≡ is_claimed (slice_index (row_of e.lives q) k)
   -- as many are settled as it has settled, and pending is the number of the others
   pub settled : total (total is_settled) e.lives ≡ s.verdicts
   pub pending : e.pending + s.verdicts ≡ length s.added + 1

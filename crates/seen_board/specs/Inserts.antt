@@ -34,17 +34,24 @@ Returns v w = (w ≡ record v { seen = w.seen; held = w.held; right = 0 }) × Se
 
 -- what a try to put a word in leaves
 abbrev pub PutOk : ℕ → Known → Known → Put → Type 0
-PutOk word v w (New place) = (w ≡ record v { seen = w.seen; held = w.held; right = 0; added = v.added ++ number place ∷ [] }) × SeesOn v.seen w.seen × Names w.seen place word × Lacks (row_of v.seen (word % 13)) word
+PutOk word v w (New place) =
+    (w ≡ record v { seen = w.seen; held = w.held; right = 0; added = v.added ++ number place ∷ [] })
+    × SeesOn v.seen w.seen × Names w.seen place word × Lacks (row_of v.seen (word % 13)) word
 PutOk word v w (Found place) = Returns v w × Names w.seen place word
 PutOk word v w Busy = Returns v w
-PutOk word v w Over = (w ≡ record (with_given_up v) { seen = w.seen; held = w.held; right = 0; added = w.added; over = 1 }) × SeesOn v.seen w.seen
+PutOk word v w Over =
+    (w ≡ record (with_given_up v) { seen = w.seen; held = w.held; right = 0; added = w.added; over = 1 })
+    × SeesOn v.seen w.seen
 
 -- what a word that is put in under the write right leaves
 abbrev pub AddOk : ℕ → Known → Known → Put → Type 0
-AddOk word v w (New place) = (w ≡ record v { seen = w.seen; right = 0; added = v.added ++ number place ∷ [] }) × SeesOn v.seen w.seen × Names w.seen place word
+AddOk word v w (New place) =
+    (w ≡ record v { seen = w.seen; right = 0; added = v.added ++ number place ∷ [] }) × SeesOn v.seen w.seen
+    × Names w.seen place word
 AddOk word v w (Found place) = ⊥
 AddOk word v w Busy = ⊥
-AddOk word v w Over = (w ≡ record (with_given_up v) { seen = w.seen; right = 0; added = w.added; over = 1 }) × SeesOn v.seen w.seen
+AddOk word v w Over =
+    (w ≡ record (with_given_up v) { seen = w.seen; right = 0; added = w.added; over = 1 }) × SeesOn v.seen w.seen
 
 -- what a look under the read right tells of the row
 abbrev pub LookedOk : List ℕ → ℕ → Looked → Type 0
@@ -54,7 +61,9 @@ LookedOk row word Absent = Lacks row word
 
 -- the place is in the index, or none of its word's index words is zero
 abbrev pub Paid : View → Type 0
-Paid v = (k t : ℕ) → v.rows.unfiled ≡ k + 1 → t < window v.places → slice_index v.rows.marks (slot v.places (slice_index (row_of v.rows.seen v.rows.held) k) t) ≢ 0
+Paid v =
+    (k t : ℕ) → v.rows.unfiled ≡ k + 1 → t < window v.places
+    → slice_index v.rows.marks (slot v.places (slice_index (row_of v.rows.seen v.rows.held) k) t) ≢ 0
 
 -- only what it knows of the index is different
 abbrev pub Filed : View → View → Type 0

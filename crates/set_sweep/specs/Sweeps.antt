@@ -61,7 +61,8 @@ pub record IsClosedIn (deps : List ℕ) (from to set : ℕ) : Type 0 where
   pub below : set < to
 
 -- a tally tells of those closed sets in ascending order, of which there are so many
-pub record AreSwept {T : Type 0} (tells : List ℕ → T → Type 0) (deps : List ℕ) (from to count : ℕ) (tally : T) : Type 0 where
+pub record AreSwept {T : Type 0} (tells : List ℕ → T → Type 0) (deps : List ℕ) (from to count : ℕ)
+    (tally : T) : Type 0 where
   pub ascends : from ≤ to
   pub sets : List ℕ
   pub closed : IsAscendingListOf (IsClosedIn deps from to) sets
@@ -77,23 +78,28 @@ pub record AreParts (deps : List ℕ) (low to : ℕ) (roots : List ℕ) : Type 0
   pub each : All (IsRoot deps low) roots
   pub ascend : AllPairs (λ a b. a / 2 ^ low < b / 2 ^ low) roots
   pub below : All (λ root. part_end root low ≤ to) roots
-  pub cover : (set : ℕ) → IsClosed deps set → set < to → (j : ℕ) × (j < length roots) × (slice_index roots j / 2 ^ low ≡ set / 2 ^ low)
+  pub cover : (set : ℕ) → IsClosed deps set → set < to → (j : ℕ) × (j < length roots)
+      × (slice_index roots j / 2 ^ low ≡ set / 2 ^ low)
 
 -- the same of the part with a root
 abbrev pub IsPartSwept : {T : Type 0} → (List ℕ → T → Type 0) → List ℕ → ℕ → ℕ → ℕ → T → Type 0
 IsPartSwept tells deps low root count tally = AreSwept tells deps root (part_end root low) count tally
 
 -- the same of the part at a place
-pub record IsDone {T : Type 0} (tells : List ℕ → T → Type 0) (deps : List ℕ) (low : ℕ) (roots : List ℕ) (at count : ℕ) (tally : T) : Type 0 where
+pub record IsDone {T : Type 0} (tells : List ℕ → T → Type 0) (deps : List ℕ) (low : ℕ) (roots : List ℕ) (at count : ℕ)
+    (tally : T) : Type 0 where
   pub known : at < length roots
   pub swept : IsPartSwept tells deps low (slice_index roots at) count tally
 
 -- at each place is what was visited of the part there, or nothing
 abbrev pub ArePlaced : {T : Type 0} → (List ℕ → T → Type 0) → List ℕ → ℕ → List ℕ → List (Option (Part T)) → Type 0
-ArePlaced tells deps low roots places = (at : ℕ) (d : _) → at < length places → IfSome (slice_index_or places at d) (λ part. IsPartSwept tells deps low (slice_index roots at) part.total part.tally)
+ArePlaced tells deps low roots places =
+    (at : ℕ) (d : _) → at < length places
+    → IfSome (slice_index_or places at d) (λ part. IsPartSwept tells deps low (slice_index roots at) part.total part.tally)
 
 -- rows for 0 to 128 ids: each has those of the sets with as many ids, in the order of the sets
 pub record AreRows {Row : Type 0} (items : Row → List ℕ) (sets : List ℕ) (rows : List Row) : Type 0 where
   pub long : length rows ≡ 129
   pub small : All (λ set. count_ones set < 129) sets
-  pub each : (ids : ℕ) (d : Row) → ids < 129 → IsPickOf (λ set. count_ones set ≡ ids) sets (items (slice_index_or rows ids d))
+  pub each : (ids : ℕ) (d : Row) → ids < 129
+      → IsPickOf (λ set. count_ones set ≡ ids) sets (items (slice_index_or rows ids d))

@@ -36,7 +36,9 @@ place_at true zero spelling = Free
 place_at true (suc inode) spelling = Leads inode spelling
 
 abbrev pub mark_at : Bool → ℕ → ℕ → Mark
-mark_at test first second = if test && first == file_mark then FileOf second else if test && first == directory_mark then DirectoryOf second else Plain
+mark_at test first second =
+    if test && first == file_mark then FileOf second else if test
+    && first == directory_mark then DirectoryOf second else Plain
 
 -- f below n, and above it nothing
 abbrev pub within : {X : Type 0} → X → ℕ → (ℕ → X) → ℕ → X
@@ -63,7 +65,9 @@ abbrev pub with_value : {X : Type 0} → (ℕ → X) → ℕ → X → ℕ → X
 with_value f i v j = if j == i then v else f j
 
 abbrev pub with_inode : Tables → ℕ → ℕ → ℕ → Tables
-with_inode t i kind links = record t { kind = with_value t.kind i kind; links = with_value t.links i links; pointer = with_value t.pointer i (λ _. 0) }
+with_inode t i kind links =
+    record t { kind = with_value t.kind i kind; links = with_value t.links i links;
+    pointer = with_value t.pointer i (λ _. 0) }
 
 abbrev pub with_links : Tables → ℕ → ℕ → Tables
 with_links t i links = record t { links = with_value t.links i links }
@@ -137,7 +141,8 @@ tables_after_removal t dir k i used = record t {
 
 -- a new directory with its block
 abbrev pub tables_after_mkdir : Tables → ℕ → ℕ → ℕ → ℕ → List ℕ → Tables
-tables_after_mkdir t dir k i b name = with_entry (with_pointer (with_mark (with_used (with_inode t i directory_kind 1) b true) b (DirectoryOf i)) i 0 b) dir k (Leads i (name_spelling name))
+tables_after_mkdir t dir k i b name =
+    with_entry (with_pointer (with_mark (with_used (with_inode t i directory_kind 1) b true) b (DirectoryOf i)) i 0 b) dir k (Leads i (name_spelling name))
 
 -- ---- sound tables: four groups of facts, each said of the tables that it needs and of no other
 
@@ -157,9 +162,11 @@ count_to entry i = sum_below 16 (λ dir. sum_below 10 (λ k. leads (entry dir k)
 -- an inode is reached from inode 0 in n steps
 abbrev pub ReachedIn : (ℕ → ℕ → Place) → ℕ → ℕ → Type 0
 ReachedIn entry zero i = i ≡ 0
-ReachedIn entry (suc n) i = (dir : ℕ) × (k : ℕ) × (spelling : List ℕ) × (entry dir k ≡ Leads i spelling) × ReachedIn entry n dir
+ReachedIn entry (suc n) i =
+    (dir : ℕ) × (k : ℕ) × (spelling : List ℕ) × (entry dir k ≡ Leads i spelling) × ReachedIn entry n dir
 
-pub record SoundBlocks (blocks journal : ℕ) (kind : ℕ → ℕ) (pointer : ℕ → ℕ → ℕ) (mark : ℕ → Mark) (used : ℕ → Bool) : Type 0 where
+pub record SoundBlocks (blocks journal : ℕ) (kind : ℕ → ℕ) (pointer : ℕ → ℕ → ℕ) (mark : ℕ → Mark)
+    (used : ℕ → Bool) : Type 0 where
   pub slots : (i s : ℕ) → pointer i s ≢ 0 → s < 4
   pub once : (b i s j r : ℕ) → HasPointer kind pointer i s b → HasPointer kind pointer j r b → (i ≡ j) × (s ≡ r)
   pub file_blocks : (i s b : ℕ) → HasPointer kind pointer i s b → kind i ≡ file_kind → mark b ≡ FileOf i
@@ -184,8 +191,10 @@ pub record SoundNames (kind : ℕ → ℕ) (entry : ℕ → ℕ → Place) : Typ
   pub parents : (dir k i : ℕ) (spelling : List ℕ) → entry dir k ≡ Leads i spelling → kind dir ≡ directory_kind
   pub no_dangling : (dir k i : ℕ) (spelling : List ℕ) → entry dir k ≡ Leads i spelling → kind i ≢ free_kind
   pub no_way_up : (dir k i : ℕ) (spelling : List ℕ) → entry dir k ≡ Leads i spelling → i ≢ 0
-  pub named : (dir k i : ℕ) (spelling : List ℕ) → entry dir k ≡ Leads i spelling → (name : List ℕ) × IsName name × (spelling ≡ name_spelling name)
-  pub distinct : (dir j k i h : ℕ) (spelling : List ℕ) → entry dir j ≡ Leads i spelling → entry dir k ≡ Leads h spelling → j ≡ k
+  pub named : (dir k i : ℕ) (spelling : List ℕ) → entry dir k ≡ Leads i spelling → (name : List ℕ) × IsName name
+      × (spelling ≡ name_spelling name)
+  pub distinct : (dir j k i h : ℕ) (spelling : List ℕ) → entry dir j ≡ Leads i spelling → entry dir k ≡ Leads h spelling
+      → j ≡ k
   pub reached : (i : ℕ) → kind i ≢ free_kind → (n : ℕ) × ReachedIn entry n i
 
 pub record SoundCounts (kind links : ℕ → ℕ) (entry : ℕ → ℕ → Place) : Type 0 where

@@ -58,7 +58,8 @@ graph_of rules base s = patches_from rules s.links s.emitted 0 base s.emitted
 -- the closed sets, patch by patch: those so far, and with the next patch those that have what it depends on
 abbrev pub closed_from : ℕ → List ℕ → List ℕ → List ℕ
 closed_from id [] sets = sets
-closed_from id (need ∷ deps) sets = closed_from (id + 1) deps (sets ++ map (λ set. with_id set id) (filter (λ set. bit_and need set == need) sets))
+closed_from id (need ∷ deps) sets =
+    closed_from (id + 1) deps (sets ++ map (λ set. with_id set id) (filter (λ set. bit_and need set == need) sets))
 
 abbrev pub closed_sets : List ℕ → List ℕ
 closed_sets deps = closed_from 0 deps (0 ∷ [])
@@ -75,7 +76,8 @@ failing_sets base patches = filter (fails base patches) (closed_sets (deps_of pa
 
 -- the same where the script keeps a set of inodes or nothing is asked of that
 abbrev pub fails_under : Option ℕ → Disk → List Patch → ℕ → Bool
-fails_under kept base patches set = not (is_none_found (faults_under kept (image_after_replay (image_of base patches set))))
+fails_under kept base patches set =
+    not (is_none_found (faults_under kept (image_after_replay (image_of base patches set))))
 
 abbrev pub failing_under : Option ℕ → Disk → List Patch → List ℕ
 failing_under kept base patches = filter (fails_under kept base patches) (closed_sets (deps_of patches))
@@ -149,7 +151,8 @@ explores kind base steps closed failing =
 
 -- so many closed sets have exactly `many` of these ids
 abbrev pub CountsWith : List Patch → List ℕ → ℕ → ℕ → Type 0
-CountsWith patches ids many count = HoldsOf (λ set. IsClosed (deps_of patches) set × (length (filter (has set) ids) ≡ many)) count
+CountsWith patches ids many count =
+    HoldsOf (λ set. IsClosed (deps_of patches) set × (length (filter (has set) ids) ≡ many)) count
 
 -- each patch's block, offset and dependencies
 abbrev pub table : List Patch → List (ℕ × ℕ × List ℕ)
@@ -178,15 +181,20 @@ has_no_entries d = all_below 16 (λ dir. all_below 10 (λ k. not (is_entry d dir
 
 -- no inode is live but the root's, which is a directory with one link
 abbrev pub has_root_alone : Disk → Bool
-has_root_alone d = all_below 16 (λ i. not (is_live d i) || i == 0) && (kind_of d 0 == directory_kind && links_of d 0 == 1)
+has_root_alone d =
+    all_below 16 (λ i. not (is_live d i) || i == 0) && (kind_of d 0 == directory_kind && links_of d 0 == 1)
 
 -- the root has its block alone
 abbrev pub has_root_block : Disk → Bool
-has_root_block d = counts d 0 && (pointer_of d 0 0 == 4 + d.journal && (pointer_of d 0 1 == 0 && (pointer_of d 0 2 == 0 && pointer_of d 0 3 == 0)))
+has_root_block d =
+    counts d 0 && (pointer_of d 0 0 == 4 + d.journal
+    && (pointer_of d 0 1 == 0 && (pointer_of d 0 2 == 0 && pointer_of d 0 3 == 0)))
 
 -- the blocks up to the root's are in use, and no other
 abbrev pub is_root_mapped : Disk → Bool
-is_root_mapped d = all_below d.blocks (λ b. (nat_le b (4 + d.journal) && not (map_of d b == 0)) || (nat_lt (4 + d.journal) b && map_of d b == 0))
+is_root_mapped d =
+    all_below d.blocks (λ b. (nat_le b (4 + d.journal) && not (map_of d b == 0))
+    || (nat_lt (4 + d.journal) b && map_of d b == 0))
 
 -- no journal block has a byte that is not 0
 abbrev pub is_zero_journal : Disk → Bool
@@ -211,7 +219,9 @@ writes_of homes set = writes_by_block homes (ids_of (length homes) set)
 
 -- a write of some ids of its block, with another block behind it
 abbrev pub is_own : List ℕ → BlockWrite → Bool
-is_own homes w = not (w.ids == 0) && (nat_lt w.ids (2 ^ length homes) && list_all (λ id. slice_index homes id == w.block) (ids_of (length homes) w.ids))
+is_own homes w =
+    not (w.ids == 0) && (nat_lt w.ids (2 ^ length homes)
+    && list_all (λ id. slice_index homes id == w.block) (ids_of (length homes) w.ids))
 
 abbrev pub is_other : ℕ → List BlockWrite → Bool
 is_other block [] = true
@@ -222,7 +232,8 @@ are_cut homes [] = true
 are_cut homes (w ∷ writes) = is_own homes w && (is_other w.block writes && are_cut homes writes)
 
 abbrev pub are_runs : List ℕ → ℕ → List BlockWrite → Bool
-are_runs homes set writes = bytes_eq (flat_map (λ w. ids_of (length homes) w.ids) writes) (ids_of (length homes) set) && are_cut homes writes
+are_runs homes set writes =
+    bytes_eq (flat_map (λ w. ids_of (length homes) w.ids) writes) (ids_of (length homes) set) && are_cut homes writes
 
 abbrev pub section_of : Detail → Disk → List Patch → ℕ → Section
 section_of detail base patches set = record {

@@ -72,7 +72,9 @@ written_file = steps_from 2 (Create a ∷ Write a ∷ [])
 
 -- each file in a group of its own, the second group after the first
 abbrev pub grouped_files : List Step
-grouped_files = numbered_steps 2 (Group (codes "A") ∷ Do (Create a) ∷ End ∷ Depend (codes "B") (codes "A") ∷ Group (codes "B") ∷ Do (Create b) ∷ End ∷ [])
+grouped_files =
+    numbered_steps 2 (Group (codes "A") ∷ Do (Create a) ∷ End ∷ Depend (codes "B") (codes "A") ∷ Group (codes "B")
+    ∷ Do (Create b) ∷ End ∷ [])
 
 -- ---- where /a is there
 
@@ -105,9 +107,13 @@ reused_directory = steps_from 5 (Unlink d_x ∷ Rmdir d ∷ Write f ∷ [])
 
 -- ten files in /d
 abbrev pub full_directory : Disk
-full_directory = after fresh_disk (Mkdir d ∷ Create (inside (codes "d") (codes "0")) ∷ Create (inside (codes "d") (codes "1")) ∷ Create (inside (codes "d") (codes "2"))
-    ∷ Create (inside (codes "d") (codes "3")) ∷ Create (inside (codes "d") (codes "4")) ∷ Create (inside (codes "d") (codes "5")) ∷ Create (inside (codes "d") (codes "6"))
-    ∷ Create (inside (codes "d") (codes "7")) ∷ Create (inside (codes "d") (codes "8")) ∷ Create (inside (codes "d") (codes "9")) ∷ [])
+full_directory =
+    after fresh_disk (Mkdir d ∷ Create (inside (codes "d") (codes "0")) ∷ Create (inside (codes "d") (codes "1"))
+    ∷ Create (inside (codes "d") (codes "2"))
+    ∷ Create (inside (codes "d") (codes "3")) ∷ Create (inside (codes "d") (codes "4"))
+    ∷ Create (inside (codes "d") (codes "5")) ∷ Create (inside (codes "d") (codes "6"))
+    ∷ Create (inside (codes "d") (codes "7")) ∷ Create (inside (codes "d") (codes "8"))
+    ∷ Create (inside (codes "d") (codes "9")) ∷ [])
 
 -- and four in the root: all 16 inodes
 abbrev pub few_inodes : Disk
@@ -115,7 +121,9 @@ few_inodes = after full_directory (Create a ∷ Create b ∷ Create c ∷ Create
 
 -- /a with eight links
 abbrev pub full_links : Disk
-full_links = after with_file (Link a b ∷ Link a c ∷ Link a d ∷ Link a (root (codes "e")) ∷ Link a f ∷ Link a (root (codes "g")) ∷ Link a (root (codes "h")) ∷ [])
+full_links =
+    after with_file (Link a b ∷ Link a c ∷ Link a d ∷ Link a (root (codes "e")) ∷ Link a f ∷ Link a (root (codes "g"))
+    ∷ Link a (root (codes "h")) ∷ [])
 
 -- /a with four blocks
 abbrev pub full_file : Disk

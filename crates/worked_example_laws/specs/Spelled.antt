@@ -25,7 +25,9 @@ abbrev pub is_word : (ℕ → Bool) → List ℕ → Bool
 is_word passes word = nat_lt 0 (length word) && (nat_le (length word) 10 && list_all passes word)
 
 abbrev pub is_path : Path → Bool
-is_path path = nat_le (length path.through.items) 3 && (list_all (is_word is_name_byte) path.through.items && is_word is_name_byte path.last)
+is_path path =
+    nat_le (length path.through.items) 3
+    && (list_all (is_word is_name_byte) path.through.items && is_word is_name_byte path.last)
 
 abbrev pub are_lawful : List Operand → Bool
 are_lawful [] = true
@@ -61,7 +63,8 @@ base_or d (Err fault) = d
 base_or d (Ok base) = base
 
 abbrev pub base_of : Settings → List Act → Disk
-base_of settings before = base_or (empty_disk settings.blocks settings.journal) (base_from (empty_disk settings.blocks settings.journal) (numbered_steps 1 before))
+base_of settings before =
+    base_or (empty_disk settings.blocks settings.journal) (base_from (empty_disk settings.blocks settings.journal) (numbered_steps 1 before))
 
 abbrev pub has_base : Result Disk TraceFault → Bool
 has_base (Err fault) = false
@@ -72,10 +75,12 @@ trace_steps before behind = numbered_steps (length (map line_of before) + 2) beh
 
 -- the graph of the script
 abbrev pub graph : Settings → List Act → List Act → List Patch
-graph settings before behind = graph_of (ordering_rules settings) (base_of settings before) (trace_of settings.module (base_of settings before) (trace_steps before behind))
+graph settings before behind =
+    graph_of (ordering_rules settings) (base_of settings before) (trace_of settings.module (base_of settings before) (trace_steps before behind))
 
 abbrev pub is_geometry : Settings → Bool
-is_geometry settings = nat_le 16 settings.blocks && (nat_le settings.blocks 128 && nat_le (settings.journal + 6) settings.blocks)
+is_geometry settings =
+    nat_le 16 settings.blocks && (nat_le settings.blocks 128 && nat_le (settings.journal + 6) settings.blocks)
 
 -- the script is read, its acts are accepted, these sets fail, and there are so many closed sets
 abbrev pub is_told : Settings → List Act → List Act → ℕ → List ℕ → Bool
