@@ -12,7 +12,17 @@ with_seen v seen = record v { rows = record v.rows { seen = seen } }
 -- a right of shard q, whose row and index words are seen
 abbrev pub with_right : View → ℕ → List ℕ → List ℕ → ℕ → View
 with_right v q row marks right =
-    record v { rows = record v.rows { seen = slice_set v.rows.seen q row; held = q; right = right; low = []; high = []; marks = marks; unfiled = 0 } }
+    record v {
+      rows = record v.rows {
+        seen = slice_set v.rows.seen q row;
+        held = q;
+        right = right;
+        low = [];
+        high = [];
+        marks = marks;
+        unfiled = 0;
+      };
+    }
 
 abbrev pub without_right : View → View
 without_right v = record v { rows = record v.rows { right = 0; low = []; high = []; unfiled = 0 } }
@@ -46,7 +56,9 @@ without_claim v = record v { lives = record v.lives { claims = 0 } }
 -- the claim is given up, where there is one, and its entry stays claimed
 abbrev pub with_given_up : View → View
 with_given_up v =
-    record v { lives = record v.lives { claims = 0; given_up = v.lives.given_up ++ replicate v.lives.claims v.lives.place } }
+    record v {
+      lives = record v.lives { claims = 0; given_up = v.lives.given_up ++ replicate v.lives.claims v.lives.place };
+    }
 
 -- a board with the start as its one entry
 abbrev pub opening_rows : ℕ → List (List ℕ)
@@ -55,14 +67,24 @@ opening_rows start = slice_set (replicate 13 []) (start % 13) (start ∷ [])
 -- its words
 abbrev pub opening_words : ℕ → ℕ → List ℕ
 opening_words places start = let q = start % 13 in
-    slice_set (slice_set (slice_set (slice_set (slice_set (slice_set (replicate (size_for places) 0) 0 1) 1 1) (length_word q) 1) (low_word q 0) (start % half)) (high_word places q 0) (start / half)) (index_word places q (slot places start 0)) 1
+    slice_set (slice_set (slice_set (slice_set (slice_set (slice_set (replicate (size_for places) 0) 0 1) 1 1)
+    (length_word q) 1) (low_word q 0) (start % half)) (high_word places q 0) (start / half))
+    (index_word places q (slot places start 0)) 1
 
 abbrev pub first_view : ℕ → ℕ → ℕ → View
 first_view limit places start = record {
   limit = limit;
   places = places;
-  rows = record { seen = opening_rows start; held = 0; right = 0; low = []; high = []; marks = []; unfiled = 0;
-  added = [] };
+  rows = record {
+    seen = opening_rows start;
+    held = 0;
+    right = 0;
+    low = [];
+    high = [];
+    marks = [];
+    unfiled = 0;
+    added = [];
+  };
   lives = record { claims = 0; place = 0; given_up = []; learned = [] };
   pending = record { announced = 0; owed = 0; verdicts = 0; finished = 0 };
   count = record { uncounted = 0; over = 0 };
@@ -97,8 +119,16 @@ abbrev pub spent_view : View
 spent_view = record {
   limit = 0;
   places = 0;
-  rows = record { seen = replicate 13 []; held = 0; right = 0; low = []; high = []; marks = []; unfiled = 0;
-  added = [] };
+  rows = record {
+    seen = replicate 13 [];
+    held = 0;
+    right = 0;
+    low = [];
+    high = [];
+    marks = [];
+    unfiled = 0;
+    added = [];
+  };
   lives = record { claims = 0; place = 0; given_up = []; learned = [] };
   pending = record { announced = 0; owed = 0; verdicts = 0; finished = 0 };
   count = record { uncounted = 0; over = 0 };
@@ -112,12 +142,20 @@ either_one a b = cond (a == 1) a b
 -- excludes
 abbrev pub both_views : View → View → View
 both_views v w = record v {
-  rows = record v.rows { seen = longer_rows v.rows.seen w.rows.seen;
-  held = cond (agree v.rows.seen w.rows.seen) v.rows.held 13; added = v.rows.added ++ w.rows.added };
-  lives = record v.lives { given_up = v.lives.given_up ++ w.lives.given_up; learned = v.lives.learned
-  ++ w.lives.learned };
-  pending = record v.pending { verdicts = v.pending.verdicts + w.pending.verdicts;
-  finished = either_one v.pending.finished w.pending.finished };
+  rows = record v.rows {
+    seen = longer_rows v.rows.seen w.rows.seen;
+    held = cond (agree v.rows.seen w.rows.seen) v.rows.held 13;
+    added = v.rows.added ++ w.rows.added;
+  };
+  lives = record v.lives {
+    given_up = v.lives.given_up ++ w.lives.given_up;
+    learned = v.lives.learned
+        ++ w.lives.learned;
+  };
+  pending = record v.pending {
+    verdicts = v.pending.verdicts + w.pending.verdicts;
+    finished = either_one v.pending.finished w.pending.finished;
+  };
   count = record v.count { over = either_one v.count.over w.count.over };
   share = both_shares v.share w.share;
 }

@@ -50,7 +50,7 @@ module _ {S : Type 0} where
 
   abbrev pub TakesRight : ℕ → Step S → Me S View → ℕ → Me S View → Type 0
   TakesRight right st m r n = (n.1 ≡ m.1) × (r ≡ st.first → (q : ℕ) → st.word ≡ lock_word q → Takes m.0 right q n.0)
-  × (r ≢ st.first → n.0 ≡ m.0)
+      × (r ≢ st.first → n.0 ≡ m.0)
 
   abbrev pub Enters : Step S → Me S View → ℕ → Me S View → Type 0
   Enters = TakesRight 1
@@ -63,17 +63,18 @@ module _ {S : Type 0} where
 
   abbrev pub Measures : Step S → Me S View → ℕ → Me S View → Type 0
   Measures st m r n = (n ≡ m)
-  × ((q : ℕ) → st.word ≡ length_word q → m.0.rows.held ≡ q → (r ≡ length (row_of m.0.rows.seen q)) × (r ≤ m.0.places))
+      × ((q : ℕ) → st.word ≡ length_word q → m.0.rows.held ≡ q → (r ≡ length (row_of m.0.rows.seen q))
+      × (r ≤ m.0.places))
 
   abbrev pub ReadsLow : (ℕ → Type 0) → Step S → Me S View → ℕ → Me S View → Type 0
   ReadsLow reached st m r n = (n ≡ m)
-  × ((q k : ℕ) → st.word ≡ low_word q k → q < 13 → k < length (row_of m.0.rows.seen q)
+      × ((q k : ℕ) → st.word ≡ low_word q k → q < 13 → k < length (row_of m.0.rows.seen q)
       → (r ≡ slice_index (row_of m.0.rows.seen q) k % half) × reached (slice_index (row_of m.0.rows.seen q) k))
 
   abbrev pub ReadsHigh : Step S → Me S View → ℕ → Me S View → Type 0
   ReadsHigh st m r n = (n ≡ m)
-  × ((q k : ℕ) → st.word ≡ high_word m.0.places q k → q < 13 → k < length (row_of m.0.rows.seen q)
-  → r ≡ slice_index (row_of m.0.rows.seen q) k / half)
+      × ((q k : ℕ) → st.word ≡ high_word m.0.places q k → q < 13 → k < length (row_of m.0.rows.seen q)
+      → r ≡ slice_index (row_of m.0.rows.seen q) k / half)
 
   abbrev pub LaysLow : Step S → Me S View → ℕ → Me S View → Type 0
   LaysLow st m r n = n ≡ (record m.0 { rows = record m.0.rows { low = r ∷ [] } }, m.1)
@@ -83,31 +84,33 @@ module _ {S : Type 0} where
 
   abbrev pub Publishes : Step S → Me S View → ℕ → Me S View → Type 0
   Publishes st m r n = (x : ℕ) → m.0.rows.low ≡ x % half ∷ [] → m.0.rows.high ≡ x / half ∷ []
-  → n ≡ (with_entry m.0 x, m.1)
+      → n ≡ (with_entry m.0 x, m.1)
 
   -- under a right, with and without a debt to the index
   abbrev pub ReadsMark : Step S → Me S View → ℕ → Me S View → Type 0
   ReadsMark st m r n = (n ≡ m)
-  × ((j : ℕ) → st.word ≡ index_word m.0.places m.0.rows.held j → j < m.0.places → (r ≡ slice_index m.0.rows.marks j)
-  × (r ≤ length (row_of m.0.rows.seen m.0.rows.held)))
+      × ((j : ℕ) → st.word ≡ index_word m.0.places m.0.rows.held j → j < m.0.places → (r ≡ slice_index m.0.rows.marks j)
+      × (r ≤ length (row_of m.0.rows.seen m.0.rows.held)))
       × (m.0.rows.unfiled ≡ 0 → Complete m.0.places (row_of m.0.rows.seen m.0.rows.held) m.0.rows.marks)
 
   -- with no right
   abbrev pub ScansIndex : Step S → Me S View → ℕ → Me S View → Type 0
   ScansIndex st m r n = (n.1 ≡ m.1)
-  × ((q j : ℕ) → st.word ≡ index_word m.0.places q j → q < 13 → j < m.0.places → Scans m.0 q r n.0)
+      × ((q j : ℕ) → st.word ≡ index_word m.0.places q j → q < 13 → j < m.0.places → Scans m.0 q r n.0)
 
   abbrev pub Files : Step S → Me S View → ℕ → Me S View → Type 0
   Files st m r n = (marks : List ℕ) × (n ≡ (record m.0 { rows = record m.0.rows { marks = marks; unfiled = 0 } }, m.1))
 
   abbrev pub Claims : Step S → Me S View → ℕ → Me S View → Type 0
   Claims st m r n = (n.1 ≡ m.1)
-  × ((q k : ℕ) → st.word ≡ life_word m.0.places q k → q < 13
-  → (r ≡ 0 → (n.0 ≡ with_claim m.0 (place_of q k) Claimed) × (Contains m.0.lives.given_up (place_of q k) → ⊥))
-  × (r ≢ 0 → n.0 ≡ with_learned m.0 (place_of q k) Claimed))
+      × ((q k : ℕ) → st.word ≡ life_word m.0.places q k → q < 13
+      → (r ≡ 0 → (n.0 ≡ with_claim m.0 (place_of q k) Claimed) × (Contains m.0.lives.given_up (place_of q k) → ⊥))
+      × (r ≢ 0 → n.0 ≡ with_learned m.0 (place_of q k) Claimed))
 
   abbrev pub Settles : Step S → Me S View → ℕ → Me S View → Type 0
-  Settles st m r n = n ≡ (record (with_learned (without_claim m.0) m.0.lives.place (life_of r)) { pending = record m.0.pending { owed = m.0.pending.owed + 1; verdicts = m.0.pending.verdicts + 1 } }, m.1)
+  Settles st m r n =
+      let pending = record m.0.pending { owed = m.0.pending.owed + 1; verdicts = m.0.pending.verdicts + 1 } in
+      n ≡ (record (with_learned (without_claim m.0) m.0.lives.place (life_of r)) { pending = pending }, m.1)
 
   abbrev pub Announces : Step S → Me S View → ℕ → Me S View → Type 0
   Announces st m r n = n ≡ (record m.0 { pending = record m.0.pending { announced = 1 } }, m.1)
@@ -117,11 +120,11 @@ module _ {S : Type 0} where
 
   abbrev pub Ends : Step S → Me S View → ℕ → Me S View → Type 0
   Ends st m r n = (n.1 ≡ m.1) × (r ≡ 0 → n.0 ≡ record m.0 { pending = record m.0.pending { finished = 1 } })
-  × (r ≢ 0 → n.0 ≡ m.0)
+      × (r ≢ 0 → n.0 ≡ m.0)
 
   abbrev pub CountsEntry : Step S → Me S View → ℕ → Me S View → Type 0
   CountsEntry st m r n = (n.1 ≡ m.1) × (r < m.0.limit → n.0 ≡ record m.0 { count = record m.0.count { uncounted = 0 } })
-  × (m.0.limit ≤ r → n.0 ≡ record m.0 { count = record m.0.count { uncounted = 0; over = 1 } })
+      × (m.0.limit ≤ r → n.0 ≡ record m.0 { count = record m.0.count { uncounted = 0; over = 1 } })
 
   abbrev pub Stops : Step S → Me S View → ℕ → Me S View → Type 0
   Stops st m r n = n ≡ (with_given_up m.0, m.1)

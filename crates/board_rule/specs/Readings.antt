@@ -11,4 +11,5 @@ rows_of places words = first_values (λ q. first_values (entry_of places words q
 
 abbrev pub lives_of : ℕ → List ℕ → List (List ℕ)
 lives_of places words =
-    first_values (λ q. first_values (λ k. slice_index words (life_word places q k)) (slice_index words (length_word q))) 13
+    first_values (λ q.
+    first_values (λ k. slice_index words (life_word places q k)) (slice_index words (length_word q))) 13

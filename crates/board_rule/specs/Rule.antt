@@ -53,7 +53,8 @@ pub record SeatOk (places : ℕ) (rows : List (List ℕ)) (words : List ℕ) (r 
   pub near : r.held < 13
   pub whole : 0 < r.right → row_of r.seen r.held ≡ row_of rows r.held
   pub low : Behind places (row_of rows r.held) r.right words r.low (low_word r.held (length (row_of rows r.held)))
-  pub high : Behind places (row_of rows r.held) r.right words r.high (high_word places r.held (length (row_of rows r.held)))
+  pub high : Behind places (row_of rows r.held) r.right words r.high
+      (high_word places r.held (length (row_of rows r.held)))
   pub marked : 0 < r.right → length r.marks ≡ places
   pub marks : 0 < r.right → (j : ℕ) → j < places
       → slice_index words (index_word places r.held j) ≡ slice_index r.marks j

@@ -65,7 +65,8 @@ IsBody settings kept base last patches sets (Faults told) =
     × All (λ t. IsLed patches t.first) told
 IsBody settings kept base last patches sets (Rules told) =
     (settings.by ≡ ByRule)
-    × AreToldRules (detail_of settings kept) settings.limit (ordering_rules settings) base last patches (ordering_rules settings) told
+    × AreToldRules (detail_of settings kept) settings.limit (ordering_rules settings) base last patches
+    (ordering_rules settings) told
 
 -- the report on a graph: how many of its closed sets fail, each of which a crash can leave
 pub record IsReport (settings : Settings) (kept : Option ℕ) (base : Disk) (last : Tracing) (patches : List Patch)

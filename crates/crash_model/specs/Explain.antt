@@ -44,7 +44,12 @@ dependency rules links emitted q id = elim (slice_get emitted id) [
 abbrev pub told_patch : List Rule → List (List ℕ × List ℕ) → List Emitted → List Patch → ℕ → Option ToldPatch
 told_patch rules links emitted patches id = elim (slice_get emitted id) [
   | Some q ↦ elim (slice_get patches id) [
-    | Some patch ↦ Some (record { id = id; emitted = q; undo = patch.undo.items; after = some_below id (dependency rules links emitted q) })
+    | Some patch ↦ Some (record {
+      id = id;
+      emitted = q;
+      undo = patch.undo.items;
+      after = some_below id (dependency rules links emitted q);
+    })
     | None ↦ None
   ]
   | None ↦ None

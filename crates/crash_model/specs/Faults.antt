@@ -71,7 +71,8 @@ faults d =
     each_entry (λ dir k. when (is_dangling d dir k) (Dangling dir k (target_of d dir k)))
     ++ some_below d.blocks (λ block. when (is_twice d block) (Twice block))
     ++ each_slot (λ inode slot. when (is_unwritten d inode slot) (Unwritten inode slot (pointer_of d inode slot)))
-    ++ some_below 16 (λ inode. when (has_low_links d inode) (LowLinks inode (length (entries_to d inode)) (links_of d inode)))
+    ++ some_below 16 (λ inode.
+    when (has_low_links d inode) (LowLinks inode (length (entries_to d inode)) (links_of d inode)))
     ++ each_slot (λ inode slot. when (is_marked_free d inode slot) (MarkedFree inode slot (pointer_of d inode slot)))
     ++ each_slot (λ inode slot. when (is_wild d inode slot) (Wild inode slot (pointer_of d inode slot)))
 

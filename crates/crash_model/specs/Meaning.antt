@@ -75,14 +75,16 @@ pub record MeansWrite (blocks journal : ℕ) (old new : View) (target : ℕ) : T
 pub record MeansLink (old new : View) (target dir : ℕ) (name : List ℕ) : Type 0 where
   pub links : ℕ
   pub had : old.inode target file_kind links
-  pub becomes : Becomes old new (with_inode (with_name nothing dir name target) target file_kind (links + 1)) (with_inode nothing target file_kind links)
+  pub becomes : Becomes old new (with_inode (with_name nothing dir name target) target file_kind (links + 1))
+      (with_inode nothing target file_kind links)
 
 -- `unlink` where other names are left
 pub record MeansUnlinkOne (old new : View) (dir : ℕ) (name : List ℕ) (target : ℕ) : Type 0 where
   pub left : ℕ
   pub some : 0 < left
   pub had : old.inode target file_kind (left + 1)
-  pub becomes : Becomes old new (with_inode nothing target file_kind left) (with_inode (with_name nothing dir name target) target file_kind (left + 1))
+  pub becomes : Becomes old new (with_inode nothing target file_kind left)
+      (with_inode (with_name nothing dir name target) target file_kind (left + 1))
 
 -- `unlink` of the last name
 pub record MeansUnlinkLast (old new : View) (dir : ℕ) (name : List ℕ) (target : ℕ) : Type 0 where
@@ -98,7 +100,8 @@ pub record MeansMkdir (blocks journal : ℕ) (old new : View) (dir : ℕ) (name 
   pub block : ℕ
   pub lowest_inode : IsLowest (IsFreeInode old) inode
   pub lowest_block : IsLowest (IsFreeBlock blocks journal old) block
-  pub becomes : Becomes old new (with_block (with_inode (with_name nothing dir name inode) inode directory_kind 1) inode 0 block) nothing
+  pub becomes : Becomes old new
+      (with_block (with_inode (with_name nothing dir name inode) inode directory_kind 1) inode 0 block) nothing
 
 pub record MeansRmdir (old new : View) (dir : ℕ) (name : List ℕ) (target : ℕ) : Type 0 where
   pub had : old.inode target directory_kind 1

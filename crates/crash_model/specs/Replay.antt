@@ -54,4 +54,6 @@ copy_after d block found (j ∷ js) = copy_after d block (unwrap_or (copy_in (bl
 -- each block is its last committed copy, or itself
 abbrev pub image_after_replay : Disk → Disk
 image_after_replay d =
-    record d { bytes = flat_map (λ block. block_of d (copy_after d block block (headers d))) (range_with_len 0 d.blocks) }
+    record d {
+      bytes = flat_map (λ block. block_of d (copy_after d block block (headers d))) (range_with_len 0 d.blocks);
+    }

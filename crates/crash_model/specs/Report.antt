@@ -27,7 +27,8 @@ pub record ReplayedBlock : Type 0 where
 -- the blocks in which a disk differs from the one before, ascending
 abbrev pub changed_blocks : Disk → Disk → List ReplayedBlock
 changed_blocks before after =
-    some_below before.blocks (λ b. when (not (bytes_eq (block_of before b) (block_of after b))) (record { block = b; bytes = block_of after b }))
+    some_below before.blocks (λ b.
+    when (not (bytes_eq (block_of before b) (block_of after b))) (record { block = b; bytes = block_of after b }))
 
 -- what is told of a set: its ids, block writes that lead to it, what replay changes where that is asked for, and the
 -- faults of its replayed image, by the checker that is asked for

@@ -107,7 +107,8 @@ journal_patches after turn j origin targets changes =
 abbrev pub transaction : Disk → ℕ → ℕ → Origin → List Change → List Emitted
 transaction after turn j origin changes =
     map (λ c. part_of turn origin FileData c.block c.offset c.new.items) (filter is_file_data changes)
-    ++ journal_patches after turn j origin (touched_blocks after.blocks (metadata_changes changes)) (metadata_changes changes)
+    ++ journal_patches after turn j origin (touched_blocks after.blocks (metadata_changes changes))
+    (metadata_changes changes)
 
 -- ---- the steps
 
@@ -186,7 +187,10 @@ trace_from kind s (x ∷ xs) = then_trace (step kind s x.line x.act) (λ next. t
 abbrev pub base_from : Disk → List Step → Result Disk TraceFault
 base_from d [] = Ok d
 base_from d (x ∷ xs) = elim x.act [
-  | Do op ↦ elim (plan_of d op) [ Err e ↦ Err (trace_fault x.line e) | Ok changes ↦ base_from (with_changes d changes) xs ]
+  | Do op ↦ elim (plan_of d op) [
+    | Err e ↦ Err (trace_fault x.line e)
+    | Ok changes ↦ base_from (with_changes d changes) xs
+  ]
   | _ ↦ Err (no.GroupFault x.line)
 ]
 

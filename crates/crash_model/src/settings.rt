@@ -37,9 +37,10 @@ pub struct Detail {
 /// The settings of a run.
 ///
 /// The ordering is the module's with the rules `without` taken out and the rules `with` put in at its end. The disk
-/// has `blocks` blocks of 128 bytes, of which `journal` are the journal's. A run that has more than `limit` closed sets is
-/// refused. The report is JSON where `json` is set, else text; with `explain` it tells what the patches are and what
-/// replay changes. With `strict` the checker asks of each image, too, that nothing which the script keeps is lost.
+/// has `blocks` blocks of 128 bytes, of which `journal` are the journal's. A run that has more than `limit` closed
+/// sets is refused. The report is JSON where `json` is set, else text; with `explain` it tells what the patches are
+/// and what replay changes. With `strict` the checker asks of each image, too, that nothing which the script keeps is
+/// lost.
 #[derive(Debug, PartialEq, Eq, Drop)]
 pub struct Settings {
     pub module: Module,

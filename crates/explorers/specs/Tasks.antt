@@ -7,4 +7,5 @@ use Rattle.hands.specs.Known.{Known}
 pub record HasStolen {T A : Type 0} (before : Known T A) (task : T) (after : Known T A) : Type 0 where
   pub from : ℕ
   pub inside : from < length before.ways
-  pub is : (d : _) → let way = slice_index_or before.ways from d in after ≡ record before { ways = slice_set before.ways from (record way { holds = with_taken way.holds task }) }
+  pub is : (d : _) → let way = slice_index_or before.ways from d in
+      after ≡ record before { ways = slice_set before.ways from (record way { holds = with_taken way.holds task }) }

@@ -47,7 +47,8 @@ commits_from id (e ∷ es) set = (if is_commit e.part && has set id then 1 else 
 -- many commit patches the set has; a sound disk
 pub record IsRecovered (base : Disk) (steps : List Step) (s : Tracing) (patches : List Patch) (set : ℕ) : Type 0 where
   pub same : (block : ℕ) → block < base.blocks → IsOutside base.journal block
-      → block_of (image_after_replay (image_of base patches set)) block ≡ block_of (after_ops base (take (commits_from 0 s.emitted set) (ops_of steps))) block
+      → block_of (image_after_replay (image_of base patches set)) block
+      ≡ block_of (after_ops base (take (commits_from 0 s.emitted set) (ops_of steps))) block
   pub sound : IsSound (image_after_replay (image_of base patches set))
 
 -- the patches are those of the steps under the full journal, and replay recovers from every set that a crash can leave

@@ -15,8 +15,12 @@ module _ {T A : Type 0} where
   abbrev pub IsLeftIn : List (Known T A) → ℕ → List T → Type 0
   IsLeftIn hands of left =
       (d : Known T A) (e : Way T A) (weight : T → ℕ)
-      → let owner = slice_index_or hands of d in weigh weight owner.own.pushed ≡ weigh weight owner.own.taken + sum_by (weigh_taken weight of e) hands + weigh weight left
+      → let owner = slice_index_or hands of d in
+      weigh weight owner.own.pushed
+      ≡ weigh weight owner.own.taken + sum_by (weigh_taken weight of e) hands + weigh weight left
 
   -- the hand's way to deque `of` leads to this one
   abbrev pub LeadsTo : RowsId × A → ℕ → Known T A → Type 0
-  LeadsTo home of hand = (of < length hand.ways) × ((e : Way T A) → let way = slice_index_or hand.ways of e in (way.home ≡ home) × IsWay way)
+  LeadsTo home of hand =
+      (of < length hand.ways)
+      × ((e : Way T A) → let way = slice_index_or hand.ways of e in (way.home ≡ home) × IsWay way)

@@ -31,7 +31,8 @@ abbrev pub usage_members : List ℕ → RuleUsage → Option Data → Members
 usage_members rule Unused first =
     member (codes "pairs") (number_data 0) (member (codes "rule") (string rule) no_members)
 usage_members rule (TooMany pairs) first =
-    member (codes "pairs") (number_data pairs) (member (codes "rule") (string rule) (member (codes "too_many") (boolean true) no_members))
+    member (codes "pairs") (number_data pairs)
+    (member (codes "rule") (string rule) (member (codes "too_many") (boolean true) no_members))
 usage_members rule (Used pairs w) first =
     member (codes "closed") (number_data w.closed) (member (codes "failing") (number_data w.failing)
     (first_members first (member (codes "pairs") (number_data pairs) (member (codes "rule") (string rule) no_members))))
@@ -43,4 +44,5 @@ told_rule_data t first = object (usage_members (rule_text t.rule) t.usage first)
 -- what is told of a rule with these numbers, with the value of the first section
 abbrev pub used_data : Rule → Numbers → Option Data → Data
 used_data rule n first =
-    told_rule_data (record { rule = rule; usage = Used n.pairs (record { closed = n.closed; failing = n.failing; first = None }) }) first
+    let without = record { closed = n.closed; failing = n.failing; first = None } in
+    told_rule_data (record { rule = rule; usage = Used n.pairs without }) first

@@ -47,7 +47,8 @@ with_replay (Some replay) members = member (codes "replay") (replay_data replay)
 abbrev pub set_data : ℕ → ℕ → List BlockWrite → List Fault → Option (List ReplayedBlock) → Data
 set_data patches set writes found replay =
     object (member (codes "faults") (faults_data found)
-    (with_replay replay (member (codes "set") (ids_data patches set) (member (codes "writes") (writes_data patches writes) no_members))))
+    (with_replay replay (member (codes "set") (ids_data patches set)
+    (member (codes "writes") (writes_data patches writes) no_members))))
 
 abbrev pub section_data : ℕ → Section → Data
 section_data patches s = set_data patches s.set s.writes s.found s.replay

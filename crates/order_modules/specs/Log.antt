@@ -30,7 +30,8 @@ with_places d (p ∷ ps) = with_places (with_bytes d p.block p.offset p.new) ps
 pub record IsLog (log : Log) : Type 0 where
   pub written : log.written ≡ with_places log.base (places_of log.patches)
   pub known : All (λ patch. patch.block < log.base.blocks) log.patches
-  pub graph : IsGraphOf log.rules log.base (record (trace_start log.base) { emitted = log.emitted; links = log.links }) log.patches
+  pub graph : IsGraphOf log.rules log.base
+      (record (trace_start log.base) { emitted = log.emitted; links = log.links }) log.patches
 
 -- the log is over the same base, by the same ordering
 pub record Keeps (old new : Log) : Type 0 where

@@ -32,8 +32,16 @@ pub record Trace : Type 0 where
 abbrev pub trace_of : Log → Disk → ℕ → ℕ → Option (List ℕ) → List (List ℕ) → List (List ℕ) → Trace
 trace_of log disk turn next current opened ended = record {
   log = log;
-  tracing = record { disk = disk; emitted = log.emitted; turn = turn; journal = next; current = current;
-  opened = opened; ended = ended; links = log.links };
+  tracing = record {
+    disk = disk;
+    emitted = log.emitted;
+    turn = turn;
+    journal = next;
+    current = current;
+    opened = opened;
+    ended = ended;
+    links = log.links;
+  };
 }
 
 pub record IsTrace (t : Trace) : Type 0 where

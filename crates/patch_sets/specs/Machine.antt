@@ -20,8 +20,10 @@ at_rest committed = record { committed = committed; in_flight = λ block. 0 }
 abbrev pub after : State → Event → State
 after s (Begin block set) = record s { in_flight = λ b. if b == block then set else s.in_flight b }
 after s (End block) =
-    record { committed = bit_or s.committed (s.in_flight block);
-    in_flight = λ b. if b == block then 0 else s.in_flight b }
+    record {
+      committed = bit_or s.committed (s.in_flight block);
+      in_flight = λ b. if b == block then 0 else s.in_flight b;
+    }
 
 -- The block has nothing in flight and takes patches of its own that are not committed, at least one; each of
 -- their dependencies is committed or goes with them.

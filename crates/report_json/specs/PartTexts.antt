@@ -10,7 +10,8 @@ use Rattle.report_json.specs.JsonReport.{WritesSections}
 abbrev pub ArePartTexts : {A E : Type 0} → Detail → Disk → List Patch → List ℕ → ℕ → List (Result (String A) E) → Type 0
 ArePartTexts {A = A} {E = E} detail base patches sets size texts =
     (n : ℕ) (d : Result (String A) E) → n < length texts
-    → IfOk (slice_index_or texts n d) (λ text. WritesSections detail base patches (slice_chunk sets size n) [] (string_bytes text))
+    → IfOk (slice_index_or texts n d)
+    (λ text. WritesSections detail base patches (slice_chunk sets size n) [] (string_bytes text))
 
 -- no part is empty
 abbrev pub AreFullParts : {R : Type 0} → List ℕ → ℕ → List R → Type 0

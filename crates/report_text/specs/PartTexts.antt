@@ -10,4 +10,5 @@ use Rattle.report_text.specs.TextReport.{WritesSections}
 abbrev pub ArePartTexts : {A E : Type 0} → Detail → Disk → List Patch → List ℕ → ℕ → List (Result (String A) E) → Type 0
 ArePartTexts {A = A} {E = E} detail base patches sets size texts =
     (n : ℕ) (d : Result (String A) E) → n < length texts
-    → IfOk (slice_index_or texts n d) (λ text. WritesSections detail base patches (slice_chunk sets size n) [] (string_bytes text))
+    → IfOk (slice_index_or texts n d)
+    (λ text. WritesSections detail base patches (slice_chunk sets size n) [] (string_bytes text))

@@ -66,9 +66,16 @@ verdict_life good = cond good Clean Broken
 -- what two seats know together, with what they have seen
 abbrev pub both_known : Known → Known → List (List ℕ) → Known
 both_known s u seen =
-    record s { seen = seen; given_up = s.given_up ++ u.given_up; learned = s.learned ++ u.learned; added = s.added
-    ++ u.added; verdicts = s.verdicts + u.verdicts; share = both_shares s.share u.share;
-    finished = either_one s.finished u.finished; over = either_one s.over u.over }
+    record s {
+      seen = seen;
+      given_up = s.given_up ++ u.given_up;
+      learned = s.learned ++ u.learned;
+      added = s.added ++ u.added;
+      verdicts = s.verdicts + u.verdicts;
+      share = both_shares s.share u.share;
+      finished = either_one s.finished u.finished;
+      over = either_one s.over u.over;
+    }
 
 -- the rows have the place
 abbrev pub HasPlace : List (List ℕ) → Place → Type 0

@@ -21,8 +21,12 @@ pub record Ended : Type 0 where
 
 abbrev pub end_of : ℕ → List ℕ → Ended
 end_of places words =
-    record { rows = rows_of places words; lives = lives_of places words; pending = slice_index words 0;
-    count = slice_index words 1 }
+    record {
+      rows = rows_of places words;
+      lives = lives_of places words;
+      pending = slice_index words 0;
+      count = slice_index words 1;
+    }
 
 -- the life of the entry at place k of shard q
 abbrev pub life_of_entry : Ended → ℕ → ℕ → Life

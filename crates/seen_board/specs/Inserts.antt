@@ -73,4 +73,7 @@ Filed v w = w ≡ record v { rows = record v.rows { marks = w.rows.marks; unfile
 pub record Appends (v : View) (word : ℕ) (w : View) : Type 0 where
   pub marks : List ℕ
   pub over : ℕ
-  pub is : w ≡ (let u = with_entry v word in record u { rows = record u.rows { right = 0; unfiled = 0; marks = marks }; count = record u.count { uncounted = 0; over = over } })
+  pub is : w ≡ (let u = with_entry v word in record u {
+    rows = record u.rows { right = 0; unfiled = 0; marks = marks };
+    count = record u.count { uncounted = 0; over = over };
+  })

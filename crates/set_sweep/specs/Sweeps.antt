@@ -95,7 +95,8 @@ pub record IsDone {T : Type 0} (tells : List ℕ → T → Type 0) (deps : List 
 abbrev pub ArePlaced : {T : Type 0} → (List ℕ → T → Type 0) → List ℕ → ℕ → List ℕ → List (Option (Part T)) → Type 0
 ArePlaced tells deps low roots places =
     (at : ℕ) (d : _) → at < length places
-    → IfSome (slice_index_or places at d) (λ part. IsPartSwept tells deps low (slice_index roots at) part.total part.tally)
+    → IfSome (slice_index_or places at d)
+    (λ part. IsPartSwept tells deps low (slice_index roots at) part.total part.tally)
 
 -- rows for 0 to 128 ids: each has those of the sets with as many ids, in the order of the sets
 pub record AreRows {Row : Type 0} (items : Row → List ℕ) (sets : List ℕ) (rows : List Row) : Type 0 where

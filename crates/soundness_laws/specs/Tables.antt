@@ -66,8 +66,11 @@ with_value f i v j = if j == i then v else f j
 
 abbrev pub with_inode : Tables → ℕ → ℕ → ℕ → Tables
 with_inode t i kind links =
-    record t { kind = with_value t.kind i kind; links = with_value t.links i links;
-    pointer = with_value t.pointer i (λ _. 0) }
+    record t {
+      kind = with_value t.kind i kind;
+      links = with_value t.links i links;
+      pointer = with_value t.pointer i (λ _. 0);
+    }
 
 abbrev pub with_links : Tables → ℕ → ℕ → Tables
 with_links t i links = record t { links = with_value t.links i links }
@@ -142,7 +145,9 @@ tables_after_removal t dir k i used = record t {
 -- a new directory with its block
 abbrev pub tables_after_mkdir : Tables → ℕ → ℕ → ℕ → ℕ → List ℕ → Tables
 tables_after_mkdir t dir k i b name =
-    with_entry (with_pointer (with_mark (with_used (with_inode t i directory_kind 1) b true) b (DirectoryOf i)) i 0 b) dir k (Leads i (name_spelling name))
+    with_entry
+    (with_pointer (with_mark (with_used (with_inode t i directory_kind 1) b true) b (DirectoryOf i)) i 0 b)
+    dir k (Leads i (name_spelling name))
 
 -- ---- sound tables: four groups of facts, each said of the tables that it needs and of no other
 

@@ -68,5 +68,6 @@ pub trait Space {
 
     ghost initial_lawful: { (s : Self) → is_lawful s (initial s) };
 
-    ghost successor_lawful: { (s : Self) (word next : ℕ) → is_lawful s word → Contains (successors s word) next → is_lawful s next };
+    ghost successor_lawful: { (s : Self) (word next : ℕ) → is_lawful s word → Contains (successors s word) next
+        → is_lawful s next };
 }

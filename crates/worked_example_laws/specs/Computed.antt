@@ -47,7 +47,10 @@ patches_from rules links all q d (e ∷ es) =
       block = e.place.block;
       offset = e.place.offset;
       new = record { items = e.place.new };
-      undo = record { items = slice_range d.bytes (128 * e.place.block + e.place.offset) (128 * e.place.block + e.place.offset + length e.place.new) };
+      undo = record {
+        items = slice_range d.bytes
+            (128 * e.place.block + e.place.offset) (128 * e.place.block + e.place.offset + length e.place.new);
+      };
       deps = needs rules links all q;
     }
     ∷ patches_from rules links all (q + 1) (with_bytes d e.place.block e.place.offset e.place.new) es

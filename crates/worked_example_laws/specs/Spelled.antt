@@ -64,7 +64,8 @@ base_or d (Ok base) = base
 
 abbrev pub base_of : Settings → List Act → Disk
 base_of settings before =
-    base_or (empty_disk settings.blocks settings.journal) (base_from (empty_disk settings.blocks settings.journal) (numbered_steps 1 before))
+    base_or (empty_disk settings.blocks settings.journal)
+    (base_from (empty_disk settings.blocks settings.journal) (numbered_steps 1 before))
 
 abbrev pub has_base : Result Disk TraceFault → Bool
 has_base (Err fault) = false
@@ -76,7 +77,8 @@ trace_steps before behind = numbered_steps (length (map line_of before) + 2) beh
 -- the graph of the script
 abbrev pub graph : Settings → List Act → List Act → List Patch
 graph settings before behind =
-    graph_of (ordering_rules settings) (base_of settings before) (trace_of settings.module (base_of settings before) (trace_steps before behind))
+    graph_of (ordering_rules settings) (base_of settings before)
+    (trace_of settings.module (base_of settings before) (trace_steps before behind))
 
 abbrev pub is_geometry : Settings → Bool
 is_geometry settings =
@@ -91,7 +93,8 @@ is_told settings before behind closed failing =
     && (has_base (base_from (empty_disk settings.blocks settings.journal) (numbered_steps 1 before))
     && (is_accepted (trace_from settings.module (trace_start base) (trace_steps before behind))
     && ((length (closed_sets (deps_of patches)) == closed)
-    && (are_in_order (length (deps_of patches)) failing (failing_under (kept_of settings.strict base (trace_steps before behind)) base patches)
+    && (are_in_order (length (deps_of patches)) failing
+    (failing_under (kept_of settings.strict base (trace_steps before behind)) base patches)
     && (nat_le closed settings.limit && have_runs patches failing)))))))
 
 -- the settings of a module's own ordering, whose report tells each failing set
