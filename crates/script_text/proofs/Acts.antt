@@ -1,5 +1,5 @@
 -- Verbs and acts by their words.
-use Rattle.std.proofs.Common.{◌≡◌, ◌≢◌, ℕ, inl, inr, Bool, true, not, eqb, cond, Option, Some, None, List, [], ◌∷◌, ◌++◌, map, codes, refl, sym, ap, ◌∙◌, subst, arith}
+use Rattle.std.proofs.Common.{◌≡◌, ◌≢◌, ℕ, inl, inr, Bool, true, cond, Option, Some, None, List, [], ◌∷◌, ◌++◌, map, codes, refl, sym, ap, ◌∙◌, subst, arith}
 use Rattle.std.specs.List.{All, Contains, list_all}
 use Rattle.std.specs.Str.{bytes_eq}
 use Rattle.std.proofs.lemmas.Bool.{and_parts, false≢true}
@@ -33,13 +33,6 @@ name_no_space c e = grind (arith, nat_tests)
 
 group_no_space : (c : ℕ) → is_group_byte c ≡ true → c ≢ 32
 group_no_space c e = grind (arith, nat_tests)
-
-is_no_space : ℕ → Bool
-is_no_space c = not (eqb c 32)
-
-no_space : (c : ℕ) → is_no_space c ≡ true → c ≢ 32
-unfolding is_no_space
-no_space c e = grind (arith, nat_tests)
 
 lacks-append : (s : ℕ) (xs ys : List ℕ) → Lacks s xs → Lacks s ys → Lacks s (xs ++ ys)
 lacks-append s [] ys one two = two
@@ -77,9 +70,8 @@ abbrev verb_of : List ℕ → Option Verb
 verb_of word =
     spelt_so (Create ∷ Write ∷ Link ∷ Unlink ∷ Rename ∷ Mkdir ∷ Rmdir ∷ Group ∷ End ∷ Depend ∷ Start ∷ []) word
 
--- its spelling leads back to a verb, and has no space
-spelling_of : (verb : Verb) → (verb_of (spelling verb) ≡ Some verb) × (list_all is_no_space (spelling verb) ≡ true)
-unfolding is_no_space
+-- its spelling leads back to a verb, and has small letters alone
+spelling_of : (verb : Verb) → (verb_of (spelling verb) ≡ Some verb) × (list_all is_name_byte (spelling verb) ≡ true)
 spelling_of Create = (refl, refl)
 spelling_of Write = (refl, refl)
 spelling_of Link = (refl, refl)
@@ -97,7 +89,7 @@ pub verb_once : (verb other : Verb) → spelling verb ≡ spelling other → ver
 verb_once verb other same = let found = sym (spelling_of verb).0 ∙ (ap verb_of same ∙ (spelling_of other).0) in cc
 
 verb_plain : (verb : Verb) → IsPlain (spelling verb)
-verb_plain verb = lacks_none 32 (spelling verb) (plain_lacks is_no_space no_space (spelling verb) (spelling_of verb).1)
+verb_plain verb = lacks_none 32 (spelling verb) (plain_lacks is_name_byte name_no_space (spelling verb) (spelling_of verb).1)
 
 -- the verb of an act has its first word and takes the same operands, and is not that of the start line
 abbrev pub HasVerb : Act → Type 0

@@ -1,9 +1,10 @@
 -- Text cut at a byte, and the lines, words and names that it was joined of.
-use Rattle.std.proofs.Common.{◌≡◌, ◌≢◌, ℕ, zero, suc, List, [], ◌∷◌, ◌++◌, arith, refl, sym, subst, ap, ◌∙◌, inl, inr, append_assoc, append-nil}
+use Rattle.std.proofs.Common.{◌≡◌, ◌≢◌, ℕ, zero, suc, Bool, true, false, List, [], ◌∷◌, ◌++◌, arith, refl, sym, subst, ap, ◌∙◌, inl, inr, append_assoc, append-nil}
 use Rattle.std.specs.Prelude.{◌⊎◌, ◌==◌, if◌then◌else◌, flat_map}
 use Rattle.std.specs.List.{All, Contains}
 use Rattle.std.proofs.lemmas.List.Elements.{All-head, All-tail}
-use Rattle.patch_sets.proofs.Ids.{true_from_eq, false_from_ne}
+use Rattle.patch_sets.proofs.Bits.{eq_or_not}
+use Rattle.patch_sets.proofs.Ids.{eq_from_true, ne_from_false, true_from_eq, false_from_ne}
 use Rattle.crash_model.proofs.Cuts.{Lacks}
 use Rattle.crash_model.specs.Lists.{join_of}
 use Rattle.crash_model.specs.Script.{AreLines, text_of_lines}
@@ -41,6 +42,39 @@ pieces_alone s (c ∷ cs) lacks = rw (false_from_ne c s lacks.0) (ap (onto c) (p
 pieces_first : (s : ℕ) (word rest : List ℕ) → Lacks s word → pieces s (word ++ s ∷ rest) ≡ word ∷ pieces s rest
 pieces_first s [] rest lacks = rw (true_from_eq s s refl) refl
 pieces_first s (c ∷ cs) rest lacks = rw (false_from_ne c s lacks.0) (ap (onto c) (pieces_first s cs rest lacks.1))
+
+-- any text is the join of its pieces
+
+pub pieces_lack : (s : ℕ) (xs : List ℕ) → AreLacking s (pieces s xs)
+pieces_lack s [] = (tt, tt)
+pieces_lack s (c ∷ cs) = by_test (c == s) refl (eq_or_not c s) (pieces s cs) (pieces_lack s cs)
+  where
+    by_test : (b : Bool) → (c == s) ≡ b → (c ≡ s) ⊎ (c ≢ s) → (ps : List (List ℕ)) → AreLacking s ps → AreLacking s (if b then [] ∷ ps else onto c ps)
+    by_test true e which ps lacks = (tt, lacks)
+    by_test false e (inl same) ps lacks = absurd (ne_from_false c s e same)
+    by_test false e (inr other) [] lacks = ((other, tt), tt)
+    by_test false e (inr other) (p ∷ ps) lacks = ((other, lacks.0), lacks.1)
+
+pub some_pieces : (s : ℕ) (xs : List ℕ) → (p : List ℕ) × (ps : List (List ℕ)) × (pieces s xs ≡ p ∷ ps)
+some_pieces s [] = ([], [], refl)
+some_pieces s (c ∷ cs) = by_test (c == s) (pieces s cs)
+  where
+    by_test : (b : Bool) (ps : List (List ℕ)) → (p : List ℕ) × (qs : List (List ℕ)) × ((if b then [] ∷ ps else onto c ps) ≡ p ∷ qs)
+    by_test true ps = ([], ps, refl)
+    by_test false [] = (c ∷ [], [], refl)
+    by_test false (p ∷ ps) = (c ∷ p, ps, refl)
+
+pub joined_pieces : (s : ℕ) (xs : List ℕ) → join_of s (pieces s xs) ≡ xs
+joined_pieces s [] = refl
+joined_pieces s (c ∷ cs) = by_test (c == s) refl (some_pieces s cs) (joined_pieces s cs)
+  where
+    by_test : (b : Bool) → (c == s) ≡ b → (p : List ℕ) × (ps : List (List ℕ)) × (pieces s cs ≡ p ∷ ps) → join_of s (pieces s cs) ≡ cs → join_of s (if b then [] ∷ pieces s cs else onto c (pieces s cs)) ≡ c ∷ cs
+    by_test true e (p, ps, is) rest = ap (λ qs. join_of s ([] ∷ qs)) is ∙ (ap (λ qs. s ∷ join_of s qs) (sym is) ∙ (ap (λ xs. s ∷ xs) rest ∙ ap (λ d. d ∷ cs) (sym (eq_from_true c s e))))
+    by_test false e (p, ps, is) rest = ap (λ qs. join_of s (onto c qs)) is ∙ (ahead p ps ∙ ap (λ xs. c ∷ xs) (ap (join_of s) (sym is) ∙ rest))
+      where
+        ahead : (p : List ℕ) (ps : List (List ℕ)) → join_of s ((c ∷ p) ∷ ps) ≡ c ∷ join_of s (p ∷ ps)
+        ahead p [] = refl
+        ahead p (q ∷ qs) = refl
 
 -- words with the byte between two
 pub pieces_joined : (s : ℕ) (words : List (List ℕ)) → AreLacking s words → words ≢ [] → pieces s (join_of s words) ≡ words

@@ -17,7 +17,7 @@ use Rattle.crash_model.specs.declared.steps.Act.{Act}
 use Rattle.crash_model.specs.declared.steps.Act.TheVariants.{Do, Group, End, Depend}
 use Rattle.worked_example_laws.specs.Examples.{root}
 use Rattle.worked_example_laws.specs.Spelled.{is_word}
-use Rattle.worked_example_laws.proofs.Pieces.{onto, pieces, AreLacking, lacking_from, pieces_joined, pieces_slashed}
+use Rattle.worked_example_laws.proofs.Pieces.{onto, pieces, AreLacking, lacking_from, pieces_lack, joined_pieces, pieces_joined, pieces_slashed}
 
 -- ---- names
 
@@ -99,11 +99,11 @@ with_paths make (p ∷ q ∷ []) = both_paths make (path_of p) (path_of q)
 with_paths make _ = None
 
 abbrev pub with_group : List (List ℕ) → Option Act
-with_group (a ∷ []) = Some (Group a)
+with_group (a ∷ []) = if is_word is_group_byte a then Some (Group a) else None
 with_group _ = None
 
 abbrev pub with_groups : List (List ℕ) → Option Act
-with_groups (b ∷ a ∷ []) = Some (Depend b a)
+with_groups (b ∷ a ∷ []) = if is_word is_group_byte b && is_word is_group_byte a then Some (Depend b a) else None
 with_groups _ = None
 
 abbrev pub with_none : List (List ℕ) → Option Act
@@ -132,9 +132,9 @@ act_is (Do (Unlink p)) is = rw (path_is p is.0) refl
 act_is (Do (Rename p q)) is = rw (path_is p is.0, path_is q is.1.0) refl
 act_is (Do (Mkdir p)) is = rw (path_is p is.0) refl
 act_is (Do (Rmdir p)) is = rw (path_is p is.0) refl
-act_is (Group a) is = refl
+act_is (Group a) is = rw (word_is is_group_byte a is.0) refl
 act_is End is = refl
-act_is (Depend b a) is = refl
+act_is (Depend b a) is = rw (word_is is_group_byte b is.0, word_is is_group_byte a is.1.0) refl
 
 -- ---- forms
 
@@ -407,13 +407,13 @@ pub plain_from : (s : ℕ) (words : List (List ℕ)) → AreLacking s words → 
 plain_from s [] lacks = All-nil (λ word. ¬ (Contains word s))
 plain_from s (word ∷ words) lacks = All-cons (λ word. ¬ (Contains word s)) word words (lacks_is s word lacks.0) (plain_from s words lacks.1)
 
--- the parts of a form, for text that is given as words
-pub form_at : (line : List ℕ) (like : Act) (words : List (List ℕ)) → AreLacking 32 ((said like).0 ∷ words)
-    → Fits (said like).1 words → line ≡ join_of 32 ((said like).0 ∷ words) → HasForm line like words
-form_at line like words lacks fits whole = record {
-  cut = record { plain = plain_from 32 ((said like).0 ∷ words) lacks; some = λ e. cc; whole = whole };
-  fits = fits;
-}
+-- the form of text that is cut into these words
+pub form_at : (line : List ℕ) (like : Act) (words : List (List ℕ)) → pieces 32 line ≡ (said like).0 ∷ words
+    → Fits (said like).1 words → HasForm line like words
+form_at line like words cut fits =
+    let lacks = subst (AreLacking 32) cut (pieces_lack 32 line) in
+    let whole = sym (joined_pieces 32 line) ∙ ap (join_of 32) cut in
+    record { cut = record { plain = plain_from 32 ((said like).0 ∷ words) lacks; some = λ e. cc; whole = whole }; fits = fits }
 
 -- ---- a line that says something has a form, with paths where they belong
 
@@ -423,7 +423,7 @@ reads_form line Skipped is told other = absurd (told is)
 reads_form line Start is told other = absurd (other is)
 reads_form line (Says act) is told other =
     let words = texts (said act).1 in
-    (act, words, form_at line act words (words_lack act is.0) (has_words (said act).1 is.0).fits is.1)
+    (act, words, form_at line act words (ap (pieces 32) is.1 ∙ act_pieces act is.0) (has_words (said act).1 is.0).fits)
 
 pub reads_paths : (line : List ℕ) (what : Line) (like : Act) (words : List (List ℕ)) → Reads line what → ¬ (IsSkipped line)
     → HasForm line like words → HasPaths (said like).1 words
@@ -440,3 +440,53 @@ reads_paths line (Says act) like words is told form =
     let tails : texts (said act).1 ≡ words = cc in
     let paths = subst (λ (ws : List (List ℕ)). HasPaths (said act).1 ws) tails (has_words (said act).1 is.0).paths in
     paths_alike act like heads words paths
+
+-- ---- what a line of a form says
+
+abbrev pub Read : List ℕ → Type 0
+Read line = (what : Line) × Reads line what
+
+-- operands of the same kinds, one by one
+abbrev HaveKinds : List Operand → List Operand → Type 0
+HaveKinds [] [] = Unit {0}
+HaveKinds (PathOperand _ ∷ likes) (PathOperand _ ∷ operands) = HaveKinds likes operands
+HaveKinds (GroupOperand _ ∷ likes) (GroupOperand _ ∷ operands) = HaveKinds likes operands
+HaveKinds _ _ = ⊥
+
+-- the act with these operands in place of its own
+with_operands : (like : Act) (operands : List Operand) → HaveKinds (said like).1 operands
+    → (act : Act) × (said act ≡ ((said like).0, operands))
+with_operands (Do (Create _)) (PathOperand p ∷ []) have = (Do (Create p), refl)
+with_operands (Do (Write _)) (PathOperand p ∷ []) have = (Do (Write p), refl)
+with_operands (Do (Link _ _)) (PathOperand p ∷ PathOperand q ∷ []) have = (Do (Link p q), refl)
+with_operands (Do (Unlink _)) (PathOperand p ∷ []) have = (Do (Unlink p), refl)
+with_operands (Do (Rename _ _)) (PathOperand p ∷ PathOperand q ∷ []) have = (Do (Rename p q), refl)
+with_operands (Do (Mkdir _)) (PathOperand p ∷ []) have = (Do (Mkdir p), refl)
+with_operands (Do (Rmdir _)) (PathOperand p ∷ []) have = (Do (Rmdir p), refl)
+with_operands (Group _) (GroupOperand a ∷ []) have = (Group a, refl)
+with_operands End [] have = (End, refl)
+with_operands (Depend _ _) (GroupOperand b ∷ GroupOperand a ∷ []) have = (Depend b a, refl)
+with_operands _ _ have = absurd have
+
+-- the lawful operands that words say
+operands_for : (likes : List Operand) (words : List (List ℕ)) → Fits likes words → HasPaths likes words
+    → (operands : List Operand) × HaveKinds likes operands × AreLawful operands × (words ≡ texts operands)
+operands_for [] [] fits paths = ([], tt, tt, refl)
+operands_for [] (word ∷ words) fits paths = absurd fits
+operands_for (PathOperand _ ∷ likes) [] fits paths = absurd fits
+operands_for (GroupOperand _ ∷ likes) [] fits paths = absurd fits
+operands_for (PathOperand _ ∷ likes) (word ∷ words) fits paths =
+    let p = paths.0 in
+    let more = operands_for likes words fits.1 paths.1 in
+    (PathOperand p.0 ∷ more.0, more.1, (p.1, more.2), cc (p.2, more.3))
+operands_for (GroupOperand _ ∷ likes) (word ∷ words) fits paths =
+    let more = operands_for likes words fits.1 paths in
+    (GroupOperand word ∷ more.0, more.1, (fits.0, more.2), cc (more.3))
+
+pub read_as : (line : List ℕ) (like : Act) (words : List (List ℕ)) → HasForm line like words → HasPaths (said like).1 words → Read line
+read_as line like words form paths =
+    let it = operands_for (said like).1 words form.fits paths in
+    let act = with_operands like it.0 it.1 in
+    let text = λ (s : List ℕ × List Operand). join_of 32 (s.0 ∷ texts s.1) in
+    let whole = form.cut.whole ∙ (ap (λ (ws : List (List ℕ)). join_of 32 ((said like).0 ∷ ws)) it.3 ∙ ap text (sym act.1)) in
+    (Says act.0, (subst (λ (s : List ℕ × List Operand). AreLawful s.1) (sym act.1) it.2, whole))

@@ -1,27 +1,25 @@
 -- Each script is read or refused.
 use Rattle.std.proofs.Common.{◌≡◌, ◌≢◌, ℕ, zero, suc, ◌+◌, ◌<◌, ◌≤◌, List, [], ◌∷◌, ◌++◌, length, Bool, true, false, arith, refl, sym, subst, ap, ◌∙◌, inl, inr, append_assoc, append-nil}
-use Rattle.std.specs.Prelude.{◌⊎◌, ◌==◌, codes, flat_map, Option, Some, None, bytes_eq, IsUtf8, slice_get, if◌then◌else◌}
+use Rattle.std.specs.Prelude.{◌⊎◌, codes, flat_map, Option, Some, None, bytes_eq, IsUtf8, slice_get, if◌then◌else◌}
 use Rattle.std.specs.Str.{is_utf8}
 use Rattle.std.specs.List.{All, Contains, list_all}
 use Rattle.std.proofs.lemmas.List.Elements.{All-nil, All-cons, All-head, All-tail, All-push}
 use Rattle.std.proofs.lemmas.Slice.Eq.{bytes_eq-Decides}
 use Rattle.std.proofs.lemmas.Str.{IsUtf8-from_is_utf8}
 use Rattle.patch_sets.proofs.Bits.{eq_or_not}
-use Rattle.patch_sets.proofs.Ids.{eq_from_true, ne_from_false, false_from_ne}
+use Rattle.patch_sets.proofs.Ids.{false_from_ne}
 use Rattle.crash_model.proofs.Cuts.{Lacks}
 use Rattle.crash_model.specs.Lists.{join_of}
 use Rattle.crash_model.specs.Names.{IsName, is_name_byte}
-use Rattle.crash_model.specs.Script.{AreLines, text_of_lines, AreWords, path_text, IsPath, IsPathWord, Operand, PathOperand, GroupOperand, said, Fits, HasPaths, HasForm, Line, Skipped, Start, Says, IsAct, words_of, IsSkipped, Reads, AreSteps, IsScript, AreAccepted, IsScriptRefusal}
-use Rattle.crash_model.specs.declared.operations.Op.TheVariants.{Create, Write, Link, Unlink, Rename, Mkdir, Rmdir}
+use Rattle.crash_model.specs.Script.{AreLines, text_of_lines, path_text, IsPath, IsPathWord, Operand, PathOperand, GroupOperand, said, HasPaths, HasForm, Line, Skipped, Start, Says, IsSkipped, Reads, AreSteps, IsScript, AreAccepted, IsScriptRefusal}
 use Rattle.crash_model.specs.declared.names.Path.{Path}
 use Rattle.crash_model.specs.declared.refusals.ScriptFault.{ScriptFault}
 use Rattle.crash_model.specs.declared.refusals.ScriptFault.TheVariants.{BadUtf8, BadLine, BadPath, NoStart}
 use Rattle.crash_model.specs.declared.steps.Act.{Act}
-use Rattle.crash_model.specs.declared.steps.Act.TheVariants.{Do, Group, End, Depend}
 use Rattle.crash_model.specs.declared.steps.Step.{Step}
 use Rattle.worked_example_laws.specs.Spelled.{is_word}
-use Rattle.worked_example_laws.proofs.Pieces.{AreLacking, onto, pieces}
-use Rattle.worked_example_laws.proofs.Readings.{path_from, path_of_pieces, path_of, no_path, anywhere, samples, begun_by, like_of, fit, fits_some, are_formed, form_at, no_form, plain_from}
+use Rattle.worked_example_laws.proofs.Pieces.{AreLacking, pieces, some_pieces, joined_pieces}
+use Rattle.worked_example_laws.proofs.Readings.{path_from, path_of_pieces, path_of, no_path, Read, read_as, samples, begun_by, like_of, fit, fits_some, are_formed, form_at, no_form, plain_from}
 use Rattle.worked_example_laws.proofs.Refused.{fits_if, not_skipped, not_text}
 use Rattle.std.proofs.lemmas.Option.{slice_get-get_or}
 use Rattle.worked_example_laws.proofs.Scripts.{IsRefusedLine, get_contains, get_front, get_middle}
@@ -72,39 +70,6 @@ some_lines bytes = by_last (cut_of bytes)
         whole = inr (front, c ∷ cs, (λ e. cc), refl, cut.whole);
       },
     )
-
--- ---- words and names
-
-pieces_lack : (s : ℕ) (xs : List ℕ) → AreLacking s (pieces s xs)
-pieces_lack s [] = (tt, tt)
-pieces_lack s (c ∷ cs) = by_test (c == s) refl (eq_or_not c s) (pieces s cs) (pieces_lack s cs)
-  where
-    by_test : (b : Bool) → (c == s) ≡ b → (c ≡ s) ⊎ (c ≢ s) → (ps : List (List ℕ)) → AreLacking s ps → AreLacking s (if b then [] ∷ ps else onto c ps)
-    by_test true e which ps lacks = (tt, lacks)
-    by_test false e (inl same) ps lacks = absurd (ne_from_false c s e same)
-    by_test false e (inr other) [] lacks = ((other, tt), tt)
-    by_test false e (inr other) (p ∷ ps) lacks = ((other, lacks.0), lacks.1)
-
-some_pieces : (s : ℕ) (xs : List ℕ) → (p : List ℕ) × (ps : List (List ℕ)) × (pieces s xs ≡ p ∷ ps)
-some_pieces s [] = ([], [], refl)
-some_pieces s (c ∷ cs) = by_test (c == s) (pieces s cs)
-  where
-    by_test : (b : Bool) (ps : List (List ℕ)) → (p : List ℕ) × (qs : List (List ℕ)) × ((if b then [] ∷ ps else onto c ps) ≡ p ∷ qs)
-    by_test true ps = ([], ps, refl)
-    by_test false [] = (c ∷ [], [], refl)
-    by_test false (p ∷ ps) = (c ∷ p, ps, refl)
-
-joined_pieces : (s : ℕ) (xs : List ℕ) → join_of s (pieces s xs) ≡ xs
-joined_pieces s [] = refl
-joined_pieces s (c ∷ cs) = by_test (c == s) refl (some_pieces s cs) (joined_pieces s cs)
-  where
-    by_test : (b : Bool) → (c == s) ≡ b → (p : List ℕ) × (ps : List (List ℕ)) × (pieces s cs ≡ p ∷ ps) → join_of s (pieces s cs) ≡ cs → join_of s (if b then [] ∷ pieces s cs else onto c (pieces s cs)) ≡ c ∷ cs
-    by_test true e (p, ps, is) rest = ap (λ qs. join_of s ([] ∷ qs)) is ∙ (ap (λ qs. s ∷ join_of s qs) (sym is) ∙ (ap (λ xs. s ∷ xs) rest ∙ ap (λ d. d ∷ cs) (sym (eq_from_true c s e))))
-    by_test false e (p, ps, is) rest = ap (λ qs. join_of s (onto c qs)) is ∙ (ahead p ps ∙ ap (λ xs. c ∷ xs) (ap (join_of s) (sym is) ∙ rest))
-      where
-        ahead : (p : List ℕ) (ps : List (List ℕ)) → join_of s ((c ∷ p) ∷ ps) ≡ c ∷ join_of s (p ∷ ps)
-        ahead p [] = refl
-        ahead p (q ∷ qs) = refl
 
 -- ---- paths
 
@@ -199,69 +164,9 @@ begins_so (act ∷ acts) first like e = by_test (begins_so acts first like) (byt
         ap (λ (a : Act). (said a).0) found ∙ sym ((bytes_eq-Decides first (said act).0).0 same)
     by_test later false other e = later e
 
--- ---- what a line of a form says
-
-abbrev Read : List ℕ → Type 0
-Read line = (what : Line) × Reads line what
-
-abbrev ReadAs : List ℕ → List (List ℕ) → List ℕ → List Operand → Type 0
-ReadAs line words first operands = AreWords line (first ∷ words) → Fits operands words → HasPaths operands words → Read line
+-- ---- a line is read, or refused in one of the three ways, wherever it stands
 
 module _ (line : List ℕ) where
-  one_path : (first : List ℕ) (make : Path → Act) → ((p : Path) → words_of (make p) ≡ first ∷ path_text p ∷ []) → ((p : Path) → IsPath p → IsAct (make p))
-      → (words : List (List ℕ)) → ReadAs line words first (PathOperand anywhere ∷ [])
-  one_path first make text_of_lines act [] cut fits paths = absurd fits
-  one_path first make text_of_lines act (word ∷ []) cut fits paths =
-      let p = paths.0 in
-      (Says (make p.0), (act p.0 p.1, cut.whole ∙ (ap (λ w. join_of 32 (first ∷ w ∷ [])) p.2 ∙ ap (join_of 32) (sym (text_of_lines p.0)))))
-  one_path first make text_of_lines act (word ∷ more ∷ words) cut fits paths = absurd fits.1
-
-  two_paths : (first : List ℕ) (make : Path → Path → Act) → ((p q : Path) → words_of (make p q) ≡ first ∷ path_text p ∷ path_text q ∷ []) → ((p q : Path) → IsPath p → IsPath q → IsAct (make p q))
-      → (words : List (List ℕ)) → ReadAs line words first (PathOperand anywhere ∷ PathOperand anywhere ∷ [])
-  two_paths first make text_of_lines act [] cut fits paths = absurd fits
-  two_paths first make text_of_lines act (word ∷ []) cut fits paths = absurd fits.1
-  two_paths first make text_of_lines act (word ∷ other ∷ []) cut fits paths =
-      let p = paths.0 in
-      let q = paths.1.0 in (
-        Says (make p.0 q.0),
-        (
-          act p.0 q.0 p.1 q.1,
-          cut.whole ∙ ((λ i. join_of 32 (first ∷ p.2 i ∷ q.2 i ∷ [])) ∙ ap (join_of 32) (sym (text_of_lines p.0 q.0))),
-        ),
-      )
-  two_paths first make text_of_lines act (word ∷ other ∷ more ∷ words) cut fits paths = absurd fits.1.1
-
-  one_group : (words : List (List ℕ)) → ReadAs line words (codes "group") (GroupOperand [] ∷ [])
-  one_group [] cut fits paths = absurd fits
-  one_group (word ∷ []) cut fits paths = (Says (Group word), (fits, cut.whole))
-  one_group (word ∷ more ∷ words) cut fits paths = absurd fits.1
-
-  two_groups : (words : List (List ℕ)) → ReadAs line words (codes "depend") (GroupOperand [] ∷ GroupOperand [] ∷ [])
-  two_groups [] cut fits paths = absurd fits
-  two_groups (word ∷ []) cut fits paths = absurd fits.1
-  two_groups (word ∷ other ∷ []) cut fits paths = (Says (Depend word other), (fits, cut.whole))
-  two_groups (word ∷ other ∷ more ∷ words) cut fits paths = absurd fits.1.1
-
-  an_end : (words : List (List ℕ)) → ReadAs line words (codes "end") []
-  an_end [] cut fits paths = (Says End, (tt, cut.whole))
-  an_end (word ∷ words) cut fits paths = absurd fits
-
-  read_as : (like : Act) (words : List (List ℕ)) → ReadAs line words (said like).0 (said like).1
-  read_as (Do (Create p)) words = one_path (codes "create") (λ p. Do (Create p)) (λ p. refl) (λ p is. (is, tt)) words
-  read_as (Do (Write p)) words = one_path (codes "write") (λ p. Do (Write p)) (λ p. refl) (λ p is. (is, tt)) words
-  read_as (Do (Link p q)) words =
-      two_paths (codes "link") (λ p q. Do (Link p q)) (λ p q. refl) (λ p q is also. (is, (also, tt))) words
-  read_as (Do (Unlink p)) words = one_path (codes "unlink") (λ p. Do (Unlink p)) (λ p. refl) (λ p is. (is, tt)) words
-  read_as (Do (Rename p q)) words =
-      two_paths (codes "rename") (λ p q. Do (Rename p q)) (λ p q. refl) (λ p q is also. (is, (also, tt))) words
-  read_as (Do (Mkdir p)) words = one_path (codes "mkdir") (λ p. Do (Mkdir p)) (λ p. refl) (λ p is. (is, tt)) words
-  read_as (Do (Rmdir p)) words = one_path (codes "rmdir") (λ p. Do (Rmdir p)) (λ p. refl) (λ p is. (is, tt)) words
-  read_as (Group a) words = one_group words
-  read_as End words = an_end words
-  read_as (Depend b a) words = two_groups words
-
-  -- ---- a line is read, or refused in one of the three ways, wherever it stands
-
   abbrev Judged : Type 0
   Judged = Read line ⊎ ((before : List (List ℕ)) → IsRefusedLine before line)
 
@@ -272,17 +177,14 @@ module _ (line : List ℕ) where
 
     by_paths : (like : Act) → HasForm line like words → HasPaths (said like).1 words ⊎ (¬ (HasPaths (said like).1 words))
         → Judged
-    by_paths like form (inl paths) = inl (read_as like words form.cut form.fits paths)
+    by_paths like form (inl paths) = inl (read_as line like words form paths)
     by_paths like form (inr none) = inr (λ before. inr (inr (text, told, (like, words, form, none))))
 
     by_fit : (like : Act) → like_of first ≡ Some like → (b : Bool) → fit (said like).1 words ≡ b → Judged
     by_fit like found true e =
         let parts : pieces 32 line ≡ (said like).0 ∷ words =
         is ∙ ap (λ (w : List ℕ). w ∷ words) (sym (begins_so samples first like found)) in
-        let lacks = subst (AreLacking 32) parts (pieces_lack 32 line) in
-        let whole = sym (joined_pieces 32 line) ∙ ap (join_of 32) parts in
-        let form = form_at line like words lacks (fits_if (said like).1 words e) whole in
-        by_paths like form (paths_or_not (said like).1 words)
+        by_paths like (form_at line like words parts (fits_if (said like).1 words e)) (paths_or_not (said like).1 words)
     by_fit like found false e = no_form_here (ap (λ (o : Option Act). fits_some o words) found ∙ e)
 
     by_like : (o : Option Act) → like_of first ≡ o → Judged

@@ -53,7 +53,7 @@ lacks_if (b ∷ line) c e (suc k, within, is) = lacks_if line c (second (b == c)
     second false q e = e
     second true q e = cc
 
-not_false : (a : Bool) → not a ≡ true → a ≡ false
+pub not_false : (a : Bool) → not a ≡ true → a ≡ false
 not_false false e = refl
 not_false true e = cc
 

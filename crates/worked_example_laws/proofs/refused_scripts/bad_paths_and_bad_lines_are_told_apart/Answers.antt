@@ -11,11 +11,15 @@ use Rattle.worked_example_laws.proofs.refused_scripts.bad_paths_and_bad_lines_ar
 
 pub returns-clause-root : goal.returns-clause-root
 unfolding is_utf8 chars encode
-returns-clause-root c = path_refused (lines_of [] []) [] (codes "mkdir") (codes "/" ∷ []) (started_accepted [] [] refl refl) refl (bad_path_if (Do (Mkdir a)) (codes "/" ∷ []) refl refl refl refl)
+returns-clause-root c =
+    path_refused (lines_of [] []) (codes "mkdir /") [] (started_accepted [] [] refl refl) refl
+    (bad_path_if (codes "mkdir /") (Do (Mkdir a)) (codes "/" ∷ []) refl refl refl)
 
 pub returns-clause-deep : goal.returns-clause-deep
 unfolding is_utf8 chars encode
-returns-clause-deep c = path_refused (lines_of [] []) [] (codes "mkdir") (codes "/a/b/c/d/e" ∷ []) (started_accepted [] [] refl refl) refl (bad_path_if (Do (Mkdir a)) (codes "/a/b/c/d/e" ∷ []) refl refl refl refl)
+returns-clause-deep c =
+    path_refused (lines_of [] []) (codes "mkdir /a/b/c/d/e") [] (started_accepted [] [] refl refl) refl
+    (bad_path_if (codes "mkdir /a/b/c/d/e") (Do (Mkdir a)) (codes "/a/b/c/d/e" ∷ []) refl refl refl)
 
 pub returns-clause-spaces : goal.returns-clause-spaces
 unfolding is_utf8 chars encode

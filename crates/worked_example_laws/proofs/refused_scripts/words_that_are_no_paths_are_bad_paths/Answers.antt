@@ -10,20 +10,30 @@ use Rattle.worked_example_laws.proofs.refused_scripts.words_that_are_no_paths_ar
 
 pub returns-clause-capital : goal.returns-clause-capital
 unfolding is_utf8 chars encode
-returns-clause-capital c = path_refused [] [] (codes "create") (codes "/A" ∷ []) (acts_accepted [] refl) refl (bad_path_if (Do (Create a)) (codes "/A" ∷ []) refl refl refl refl)
+returns-clause-capital c =
+    path_refused [] (codes "create /A") [] (acts_accepted [] refl) refl
+    (bad_path_if (codes "create /A") (Do (Create a)) (codes "/A" ∷ []) refl refl refl)
 
 pub returns-clause-empty_first : goal.returns-clause-empty_first
 unfolding is_utf8 chars encode
-returns-clause-empty_first c = path_refused [] [] (codes "create") (codes "//a" ∷ []) (acts_accepted [] refl) refl (bad_path_if (Do (Create a)) (codes "//a" ∷ []) refl refl refl refl)
+returns-clause-empty_first c =
+    path_refused [] (codes "create //a") [] (acts_accepted [] refl) refl
+    (bad_path_if (codes "create //a") (Do (Create a)) (codes "//a" ∷ []) refl refl refl)
 
 pub returns-clause-empty_last : goal.returns-clause-empty_last
 unfolding is_utf8 chars encode
-returns-clause-empty_last c = path_refused [] [] (codes "create") (codes "/a/" ∷ []) (acts_accepted [] refl) refl (bad_path_if (Do (Create a)) (codes "/a/" ∷ []) refl refl refl refl)
+returns-clause-empty_last c =
+    path_refused [] (codes "create /a/") [] (acts_accepted [] refl) refl
+    (bad_path_if (codes "create /a/") (Do (Create a)) (codes "/a/" ∷ []) refl refl refl)
 
 pub returns-clause-long : goal.returns-clause-long
 unfolding is_utf8 chars encode
-returns-clause-long c = path_refused [] [] (codes "create") (codes "/abcdefghijk" ∷ []) (acts_accepted [] refl) refl (bad_path_if (Do (Create a)) (codes "/abcdefghijk" ∷ []) refl refl refl refl)
+returns-clause-long c =
+    path_refused [] (codes "create /abcdefghijk") [] (acts_accepted [] refl) refl
+    (bad_path_if (codes "create /abcdefghijk") (Do (Create a)) (codes "/abcdefghijk" ∷ []) refl refl refl)
 
 pub returns-clause-no_slash : goal.returns-clause-no_slash
 unfolding is_utf8 chars encode
-returns-clause-no_slash c = path_refused [] [] (codes "link") (codes "a" ∷ codes "/b" ∷ []) (acts_accepted [] refl) refl (bad_path_if (Do (Link a b)) (codes "a" ∷ codes "/b" ∷ []) refl refl refl refl)
+returns-clause-no_slash c =
+    path_refused [] (codes "link a /b") [] (acts_accepted [] refl) refl
+    (bad_path_if (codes "link a /b") (Do (Link a b)) (codes "a" ∷ codes "/b" ∷ []) refl refl refl)
