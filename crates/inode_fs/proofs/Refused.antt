@@ -1,11 +1,11 @@
 -- On a sound disk an operation is refused exactly as the tests said of views tell.
-use Rattle.std.proofs.Common.{◌≡◌, ◌≢◌, ℕ, ◌<◌, ◌⊎◌, ◌↔◌, inl, inr, List, [], ◌∷◌, Bool, true, false, Option, Some, None, Result, Ok, Err, arith, refl, sym, ◌∙◌, ap, subst}
-use Rattle.std.proofs.lemmas.Bool.{cases_eq, eq-eqb, ne_eqb}
+use Rattle.std.proofs.Common.{◌≡◌, ◌≢◌, ℕ, ◌<◌, ◌⊎◌, ◌↔◌, inl, inr, List, [], ◌∷◌, Bool, true, false, not, eqb, Option, Some, None, Result, Ok, Err, arith, refl, sym, ◌∙◌, ap, subst}
+use Rattle.std.proofs.lemmas.Bool.{eq-eqb, eqb-true}
 use Rattle.crash_model.specs.Disk.{Disk, IsDisk}
 use Rattle.crash_model.specs.Layout.{kind_of, target_of}
 use Rattle.crash_model.specs.Plan.{plan_of, name_spelling, entry_named, directory_named, walk_end, then_ok, unless, with_found, at_path, relink_plan}
 use Rattle.crash_model.specs.Sound.{IsSound}
-use Rattle.crash_model.specs.View.{view_of}
+use Rattle.crash_model.specs.View.{View, view_of}
 use Rattle.crash_model.specs.Meaning.{LeadsTo, IsKind, Walks, WalkFails, AtPath, AtName, Relinks, IsRefused}
 use Rattle.crash_model.specs.declared.refusals.FsFault.{FsFault}
 use Rattle.crash_model.specs.declared.refusals.FsFault.TheVariants.{NotFound, NotADirectory}
@@ -14,7 +14,9 @@ use Rattle.crash_model.specs.declared.names.Path.{Path}
 use Rattle.crash_model.specs.declared.operations.Op.TheVariants.{Create, Write, Link, Unlink, Rename, Mkdir, Rmdir}
 use Rattle.crash_model.specs.declared.plans.Change.{Change}
 use Rattle.soundness_laws.specs.Tables.{tables_of, Sound}
+use Rattle.soundness_laws.proofs.Answered.{test-holds}
 use Rattle.soundness_laws.proofs.ByTables.{kind-at}
+use Rattle.soundness_laws.proofs.Views.{same-view}
 use Rattle.soundness_laws.proofs.ToTables.{sound-tables}
 use Rattle.inode_fs.proofs.Searched.{Walked, walk-found, NamedEntry, named-found}
 use Rattle.inode_fs.proofs.Means.{kind-of, name-of, walks, root-walk_end}
@@ -53,47 +55,11 @@ found (Some x) P fault answer R test others = passed P fault (answer x) R (λ p.
 accepted : {B : Type 0} (answer : B) → Refuses {B = B} (Ok answer) (λ _. ⊥)
 accepted answer f = (λ e. cc, λ z. absurd z)
 
--- ---- walks
+-- ---- names
 
--- the walk ends at one directory, or fails with one fault
-pub record WalksAs (d : Disk) (from : ℕ) (names : List (List ℕ)) : Type 0 where
-  pub ends : (to : ℕ) → Walks (view_of d) from names to → walk_end d from names ≡ Ok to
-  pub fails : Refuses (walk_end d from names) (WalkFails (view_of d) from names)
-
--- a name that is a directory's is entered
-enters : (d : Disk) (dir : ℕ) (name : List ℕ) (child : ℕ) → Sound (tables_of d) → dir < 16 → (view_of d).name dir name child → kind_of d child ≡ 2 → directory_named d dir name ≡ Ok child
-enters d dir name child sound below h two =
-    let by = named-by d dir name child sound below h in
-    rw (by.named, by.target, eq-eqb (kind_of d child) 2 two) refl
-
-no_directory : (d : Disk) (dir : ℕ) (name : List ℕ) (child : ℕ) → Sound (tables_of d) → dir < 16 → (view_of d).name dir name child → kind_of d child ≢ 2 → directory_named d dir name ≡ Err NotADirectory
-no_directory d dir name child sound below h other =
-    let by = named-by d dir name child sound below h in
-    rw (by.named, by.target, ne_eqb (kind_of d child) 2 other) refl
-
--- what a name leads to, for a walk
-data Turn (d : Disk) (dir : ℕ) (name : List ℕ) : Type 0 where
-  Absent : ¬ (LeadsTo (view_of d) dir name) → directory_named d dir name ≡ Err NotFound → Turn d dir name
-  Other : (child : ℕ) → (view_of d).name dir name child → ¬ (IsKind (view_of d) child 2) → directory_named d dir name ≡ Err NotADirectory → Turn d dir name
-  Directory : (child : ℕ) → (view_of d).name dir name child → IsKind (view_of d) child 2 → Walked d child → directory_named d dir name ≡ Ok child → Turn d dir name
-
-turn : (d : Disk) (dir : ℕ) (name : List ℕ) → Sound (tables_of d) → dir < 16 → Turn d dir name
-turn d dir name sound below = go (entry_named d dir name) refl
-  where
-    go : (o : Option ℕ) → entry_named d dir name ≡ o → Turn d dir name
-    go None e =
-        Absent (λ h. let by = named-by d dir name h.0 sound below h.1 in let no : None ≡ Some by.k = sym e ∙ by.named in cc) (rw e refl)
-    go (Some k) e =
-        let n = named-found d dir name k below e in
-        let child = target_of d dir k in
-        let h = name-of d dir k child name n.leads in
-        let test = test-kind d child 2 n.target_below (λ z. omega arith) in
-        elim (cases_eq (kind_of d child) 2) [
-          | inl two ↦
-              let kind = kind-at d child n.target_below ∙ two in
-              Directory child h (kind-of d child 2 kind (λ z. omega arith)) (record { below = n.target_below; kind = kind }) (enters d dir name child sound below h two)
-          | inr other ↦ Other child h (test.0 (rw (ne_eqb (kind_of d child) 2 other) refl)) (no_directory d dir name child sound below h other)
-        ]
+-- the name is absent, or it leads to an inode for which more is tested
+abbrev AtInode : View → ℕ → List ℕ → (ℕ → FsFault → Type 0) → FsFault → Type 0
+AtInode v dir name Then f = ((¬ (LeadsTo v dir name)) × (f ≡ NotFound)) ⊎ ((i : ℕ) × v.name dir name i × Then i f)
 
 -- a name leads to one inode
 one-inode : (d : Disk) (dir : ℕ) (name : List ℕ) (i j : ℕ) → Sound (tables_of d) → dir < 16 → (view_of d).name dir name i → (view_of d).name dir name j → i ≡ j
@@ -104,55 +70,76 @@ one-inode d dir name i j sound below h g =
     let place : a.k ≡ b.k = cc in
     sym a.target ∙ ap (target_of d dir) place ∙ b.target
 
-pub walks-as : (d : Disk) (names : List (List ℕ)) (from : ℕ) → Sound (tables_of d) → Walked d from → WalksAs d from names
-walks-as d [] from sound at = record {
-  ends = λ to same. ap (λ (x : ℕ). Ok x) (sym same);
-  fails = accepted from;
-}
-walks-as d (name ∷ names) from sound at = go (turn d from name sound at.below) (λ child walk. walks-as d names child sound walk)
+named : {B : Type 0} (d : Disk) (dir : ℕ) (name : List ℕ) (answer : ℕ → Result B FsFault) (Then : ℕ → FsFault → Type 0) → Sound (tables_of d) → dir < 16
+    → ((k : ℕ) → NamedEntry d dir name k → Refuses (answer k) (Then (target_of d dir k)))
+    → Refuses (with_found (entry_named d dir name) NotFound answer) (AtInode (view_of d) dir name Then)
+named {B = B} d dir name answer Then sound below next = here (entry_named d dir name) refl
   where
-    go : Turn d from name → ((child : ℕ) → Walked d child → WalksAs d child names) → WalksAs d from (name ∷ names)
-    go (Absent none e) rest = record {
-      ends = λ to w. absurd (none (w.0, w.1));
-      fails = λ f. (
-        λ r. let same : Err NotFound ≡ Err f = sym (ap (λ (x : Result ℕ FsFault). then_ok x (λ child. walk_end d child names)) e) ∙ r in inl (none, cc),
-        λ h. elim h [
-          | inl w ↦ ap (λ (x : Result ℕ FsFault). then_ok x (λ child. walk_end d child names)) e ∙ ap (λ (x : FsFault). Err x) (sym w.1)
-          | inr w ↦ absurd (none (w.0, w.1))
-        ],
-      );
-    }
-    go (Other child h other e) rest = record {
-      ends = λ to w. absurd (other (subst (λ (x : ℕ). IsKind (view_of d) x 2) (one-inode d from name w.0 child sound at.below w.1 h) w.2));
-      fails = λ f. (
-        λ r. let same : Err NotADirectory ≡ Err f = sym (ap (λ (x : Result ℕ FsFault). then_ok x (λ child. walk_end d child names)) e) ∙ r in inr (child, h, inl (other, cc)),
-        λ g. elim g [
-          | inl w ↦ absurd (w.0 (child, h))
-          | inr w ↦ elim w.2 [
-            | inl x ↦ ap (λ (x : Result ℕ FsFault). then_ok x (λ child. walk_end d child names)) e ∙ ap (λ (x : FsFault). Err x) (sym x.1)
-            | inr x ↦ absurd (other (subst (λ (x : ℕ). IsKind (view_of d) x 2) (one-inode d from name w.0 child sound at.below w.1 h) x.0))
-          ]
-        ],
-      );
-    }
-    go (Directory child h kind walk e) rest =
-        let r = rest child walk in
-        let opens = ap (λ (x : Result ℕ FsFault). then_ok x (λ child. walk_end d child names)) e in
-        record {
-          ends = λ to w. opens ∙ r.ends to (subst (λ (x : ℕ). Walks (view_of d) x names to) (one-inode d from name w.0 child sound at.below w.1 h) w.3);
-          fails = λ f. (
-            λ q. inr (child, h, inr (kind, (r.fails f).0 (sym opens ∙ q))),
-            λ g. elim g [
-              | inl w ↦ absurd (w.0 (child, h))
-              | inr w ↦
-                  let same = one-inode d from name w.0 child sound at.below w.1 h in
-                  elim w.2 [
-                    | inl x ↦ absurd (x.0 (subst (λ (x : ℕ). IsKind (view_of d) x 2) (sym same) kind))
-                    | inr x ↦ opens ∙ (r.fails f).1 (subst (λ (y : ℕ). WalkFails (view_of d) y names f) same x.1)
-                  ]
-            ],
-          );
-        }
+    here : (o : Option ℕ) → entry_named d dir name ≡ o → Refuses (with_found o NotFound answer) (AtInode (view_of d) dir name Then)
+    here None e f =
+        let absent : ¬ (LeadsTo (view_of d) dir name) = λ h. let by = named-by d dir name h.0 sound below h.1 in let no : None ≡ Some by.k = sym e ∙ by.named in cc in (
+          λ q. inl (absent, cc),
+          λ h. elim h [ inl x ↦ ap (λ (y : FsFault). Err y) (sym x.1) | inr x ↦ absurd (absent (x.0, x.1)) ],
+        )
+    here (Some k) e f =
+        let n = named-found d dir name k below e in
+        let i = target_of d dir k in
+        let leads = name-of d dir k i name n.leads in (
+          λ q. inr (i, leads, (next k n f).0 q),
+          λ h. elim h [
+            | inl x ↦ absurd (x.0 (i, leads))
+            | inr x ↦ (next k n f).1 (subst (λ (y : ℕ). Then y f) (sym (one-inode d dir name i x.0 sound below leads x.1)) x.2)
+          ],
+        )
+
+-- ---- walks
+
+-- a name that is a directory's is entered
+enters : (d : Disk) (dir : ℕ) (name : List ℕ) (child : ℕ) → Sound (tables_of d) → dir < 16 → (view_of d).name dir name child → kind_of d child ≡ 2 → directory_named d dir name ≡ Ok child
+enters d dir name child sound below h two =
+    let by = named-by d dir name child sound below h in
+    rw (by.named, by.target, eq-eqb (kind_of d child) 2 two) refl
+
+walk-ends : (d : Disk) (names : List (List ℕ)) (from to : ℕ) → Sound (tables_of d) → Walked d from → Walks (view_of d) from names to → walk_end d from names ≡ Ok to
+walk-ends d [] from to sound at same = ap (λ (x : ℕ). Ok x) (sym same)
+walk-ends d (name ∷ names) from to sound at w =
+    let by = named-by d from name w.0 sound at.below w.1 in
+    let below : w.0 < 16 = subst (λ (x : ℕ). x < 16) by.target (named-found d from name by.k at.below by.named).target_below in
+    let in_tables = ((same-view d).inodes w.0 2 w.2.0).0 w.2.1 in
+    let two : kind_of d w.0 ≡ 2 = sym (kind-at d w.0 below) ∙ in_tables.0 in
+    ap (λ (x : Result ℕ FsFault). then_ok x (λ child. walk_end d child names)) (enters d from name w.0 sound at.below w.1 two)
+    ∙ walk-ends d names w.0 to sound (record { below = below; kind = in_tables.0 }) w.3
+
+-- what is made of the directory that is entered
+entered : {A B : Type 0} (o : Option ℕ) (test : ℕ → Bool) (to : ℕ → A) (next : A → Result B FsFault)
+    → then_ok (with_found o NotFound (λ k. unless (test k) NotADirectory (Ok (to k)))) next ≡ with_found o NotFound (λ k. unless (test k) NotADirectory (next (to k)))
+entered None test to next = refl
+entered {B = B} (Some k) test to next = passes (test k)
+  where
+    passes : (b : Bool) → then_ok (unless b NotADirectory (Ok (to k))) next ≡ unless b NotADirectory (next (to k))
+    passes true = refl
+    passes false = refl
+
+-- an inode is of a kind, or it is refused
+either : {B : Type 0} (b : Bool) (K : Type 0) (fault : FsFault) (rest : Result B FsFault) (R : FsFault → Type 0) → ((b ≡ true) → ¬ K) → ((b ≡ false) → K × Refuses rest R)
+    → Refuses (unless b fault rest) (λ f. ((¬ K) × (f ≡ fault)) ⊎ (K × R f))
+either true K fault rest R other same f = (λ e. inl (other refl, cc), λ h. elim h [ inl w ↦ ap (λ (x : FsFault). Err x) (sym w.1) | inr w ↦ absurd (other refl w.0) ])
+either false K fault rest R other same f =
+    let y = same refl in
+    (λ e. inr (y.0, (y.1 f).0 e), λ h. elim h [ inl w ↦ absurd (w.0 y.0) | inr w ↦ (y.1 f).1 w.1 ])
+
+walk-fails : (d : Disk) (names : List (List ℕ)) (from : ℕ) → Sound (tables_of d) → Walked d from → Refuses (walk_end d from names) (WalkFails (view_of d) from names)
+walk-fails d [] from sound at = accepted from
+walk-fails d (name ∷ names) from sound at =
+    let test : ℕ → Bool = λ k. not (eqb (kind_of d (target_of d from k)) 2) in
+    subst (λ (r : Result ℕ FsFault). Refuses r (WalkFails (view_of d) from (name ∷ names)))
+    (sym (entered (entry_named d from name) test (target_of d from) (λ child. walk_end d child names)))
+    (named d from name (λ k. unless (test k) NotADirectory (walk_end d (target_of d from k) names))
+    (λ child f. ((¬ (IsKind (view_of d) child 2)) × (f ≡ NotADirectory)) ⊎ (IsKind (view_of d) child 2 × WalkFails (view_of d) child names f)) sound at.below (λ k n.
+    let child = target_of d from k in
+    either (test k) (IsKind (view_of d) child 2) NotADirectory (walk_end d child names) (WalkFails (view_of d) child names) (test-kind d child 2 n.target_below (λ z. omega arith)).0 (λ e.
+    let kind = kind-at d child n.target_below ∙ eqb-true (kind_of d child) 2 (test-holds _ e) in
+    (kind-of d child 2 kind (λ z. omega arith), walk-fails d names child sound (record { below = n.target_below; kind = kind })))))
 
 -- ---- at a path
 
@@ -160,23 +147,26 @@ at-path : {B : Type 0} (d : Disk) (path : Path) (plan : ℕ → Result B FsFault
     → ((dir : ℕ) → Walked d dir → Refuses (plan dir) (Then dir)) → Refuses (then_ok (walk_end d 0 path.through.items) plan) (AtPath (view_of d) path Then)
 at-path {B = B} d path plan Then sound next f = go (walk_end d 0 path.through.items) refl
   where
-    w : WalksAs d 0 path.through.items
-    w = walks-as d path.through.items 0 sound (root-walk_end d sound)
+    root : Walked d 0
+    root = root-walk_end d sound
+
+    fails : Refuses (walk_end d 0 path.through.items) (WalkFails (view_of d) 0 path.through.items)
+    fails = walk-fails d path.through.items 0 sound root
 
     go : (r : Result ℕ FsFault) → walk_end d 0 path.through.items ≡ r → ((then_ok r plan ≡ Err f) ↔ AtPath (view_of d) path Then f)
     go (Err g) e = (
-      λ q. let same : Err g ≡ Err f = cc in inl ((w.fails f).0 (e ∙ same)),
+      λ q. let same : Err g ≡ Err f = cc in inl ((fails f).0 (e ∙ same)),
       λ h. elim h [
-        | inl x ↦ let same : Err g ≡ Err f = sym e ∙ (w.fails f).1 x in cc
-        | inr x ↦ absurd (let no : ◌≡◌ {A = Result ℕ FsFault} (Err g) (Ok x.0) = sym e ∙ w.ends x.0 x.1 in cc)
+        | inl x ↦ let same : Err g ≡ Err f = sym e ∙ (fails f).1 x in cc
+        | inr x ↦ absurd (let no : ◌≡◌ {A = Result ℕ FsFault} (Err g) (Ok x.0) = sym e ∙ walk-ends d path.through.items 0 x.0 sound root x.1 in cc)
       ],
     )
     go (Ok dir) e = (
-      λ q. inr (dir, walks d path.through.items 0 dir (root-walk_end d sound) e, (next dir (walk-found d path.through.items dir sound e) f).0 q),
+      λ q. inr (dir, walks d path.through.items 0 dir root e, (next dir (walk-found d path.through.items dir sound e) f).0 q),
       λ h. elim h [
-        | inl x ↦ absurd (let no : ◌≡◌ {A = Result ℕ FsFault} (Ok dir) (Err f) = sym e ∙ (w.fails f).1 x in cc)
+        | inl x ↦ absurd (let no : ◌≡◌ {A = Result ℕ FsFault} (Ok dir) (Err f) = sym e ∙ (fails f).1 x in cc)
         | inr x ↦
-            let both : ◌≡◌ {A = Result ℕ FsFault} (Ok dir) (Ok x.0) = sym e ∙ w.ends x.0 x.1 in
+            let both : ◌≡◌ {A = Result ℕ FsFault} (Ok dir) (Ok x.0) = sym e ∙ walk-ends d path.through.items 0 x.0 sound root x.1 in
             let same : dir ≡ x.0 = cc in
             (next dir (walk-found d path.through.items dir sound e) f).1 (subst (λ (y : ℕ). Then y f) (sym same) x.2)
       ],
@@ -185,28 +175,9 @@ at-path {B = B} d path plan Then sound next f = go (walk_end d 0 path.through.it
 at-name : {B : Type 0} (d : Disk) (path : Path) (plan : ℕ → ℕ → Result B FsFault) (Then : ℕ → ℕ → FsFault → Type 0) → Sound (tables_of d)
     → ((dir k : ℕ) → Walked d dir → NamedEntry d dir path.last k → Refuses (plan dir k) (Then dir (target_of d dir k)))
     → Refuses (at_path d path (λ dir name. with_found (entry_named d dir name) NotFound (λ k. plan dir k))) (AtName (view_of d) path Then)
-at-name {B = B} d path plan Then sound next =
+at-name d path plan Then sound next =
     at-path d path (λ dir. with_found (entry_named d dir path.last) NotFound (λ k. plan dir k))
-    (λ dir f. ((¬ (LeadsTo (view_of d) dir path.last)) × (f ≡ NotFound)) ⊎ ((i : ℕ) × (view_of d).name dir path.last i × Then dir i f))
-    sound (λ dir walk. here dir walk (entry_named d dir path.last) refl)
-  where
-    here : (dir : ℕ) → Walked d dir → (o : Option ℕ) → entry_named d dir path.last ≡ o
-        → Refuses (with_found o NotFound (λ k. plan dir k)) (λ f. ((¬ (LeadsTo (view_of d) dir path.last)) × (f ≡ NotFound)) ⊎ ((i : ℕ) × (view_of d).name dir path.last i × Then dir i f))
-    here dir walk None e f =
-        let absent : ¬ (LeadsTo (view_of d) dir path.last) = λ h. let by = named-by d dir path.last h.0 sound walk.below h.1 in let no : None ≡ Some by.k = sym e ∙ by.named in cc in (
-          λ q. inl (absent, cc),
-          λ h. elim h [ inl x ↦ ap (λ (y : FsFault). Err y) (sym x.1) | inr x ↦ absurd (absent (x.0, x.1)) ],
-        )
-    here dir walk (Some k) e f =
-        let n = named-found d dir path.last k walk.below e in
-        let i = target_of d dir k in
-        let name = name-of d dir k i path.last n.leads in (
-          λ q. inr (i, name, (next dir k walk n f).0 q),
-          λ h. elim h [
-            | inl x ↦ absurd (x.0 (i, name))
-            | inr x ↦ (next dir k walk n f).1 (subst (λ (y : ℕ). Then dir y f) (sym (one-inode d dir path.last i x.0 sound walk.below name x.1)) x.2)
-          ],
-        )
+    (λ dir. AtInode (view_of d) dir path.last (Then dir)) sound (λ dir walk. named d dir path.last (plan dir) (Then dir) sound walk.below (λ k n. next dir k walk n))
 
 -- ---- the operations
 
