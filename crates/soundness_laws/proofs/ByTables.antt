@@ -89,7 +89,8 @@ disk-with_bytes_at d at new disk fits = record { least = disk.least; most = disk
 pub named-target : (d : Disk) (dir : ℕ) (name : List ℕ) (k : ℕ) → is_named d dir name k ≡ true → is_live d (target_of d dir k) ≡ true
 named-target d dir name k e = grind (arith, nat_tests)
 
-pub directory_named-is_ok : (d : Disk) (dir : ℕ) (name : List ℕ) (child : ℕ) → directory_named d dir name ≡ Ok child → (child < 16) × (kind_of d child ≡ 2)
+pub directory_named-is_ok : (d : Disk) (dir : ℕ) (name : List ℕ) (child : ℕ)
+    → directory_named d dir name ≡ Ok child → (child < 16) × (kind_of d child ≡ 2)
 directory_named-is_ok d dir name child e =
     let at = directory_named-ok d dir name child e in
     let live = named-target d dir name at.k (first_below-is_some 10 (is_named d dir name) at.k at.named).holds in
