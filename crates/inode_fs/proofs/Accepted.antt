@@ -89,8 +89,9 @@ pub record RelinkFound (d : Disk) (old new : Path) : Type 0 where
   pub few : links_of d (target_of d old_dir old_k) < 8
 
 -- the first two changes are those of `link`
-relink-ok : (d : Disk) (old new : Path) (more : ℕ → ℕ → List Change) (changes : List Change) → relink_plan d old new (λ dir k _. more dir k) ≡ Ok changes
-    → (f : RelinkFound d old new) × (changes ≡ link_count LinkUp (target_of d f.old_dir f.old_k) (links_of d (target_of d f.old_dir f.old_k) + 1)
+relink-ok : (d : Disk) (old new : Path) (more : ℕ → ℕ → List Change) (changes : List Change)
+    → relink_plan d old new (λ dir k _. more dir k) ≡ Ok changes → (f : RelinkFound d old new)
+    × (changes ≡ link_count LinkUp (target_of d f.old_dir f.old_k) (links_of d (target_of d f.old_dir f.old_k) + 1)
     ∷ entry_set d f.dir f.k (target_of d f.old_dir f.old_k) new.last ∷ more f.old_dir f.old_k)
 relink-ok d old new more changes e =
     let at = at_entry-ok d old _ changes e in

@@ -1,8 +1,8 @@
 -- What an accepted operation means for the view of a sound disk.
-use Rattle.std.proofs.Common.{◌≡◌, ◌≢◌, ℕ, ◌+◌, ◌<◌, ◌⊎◌, inl, inr, List, [], ◌∷◌, Option, Some, None, Result, Ok, Err, arith, refl, sym, ◌∙◌, ap, subst}
-use Rattle.std.proofs.lemmas.Bool.{cases_eq, eq-eqb, ne_eqb, false≢true}
+use Rattle.std.proofs.Common.{◌≡◌, ◌≢◌, ℕ, ◌+◌, ◌<◌, ◌⊎◌, inl, inr, List, [], ◌∷◌, Some, Ok, arith, refl, sym, ◌∙◌, ap, subst}
+use Rattle.std.proofs.lemmas.Bool.{false≢true}
 use Rattle.crash_model.specs.Disk.{Disk, IsDisk}
-use Rattle.crash_model.specs.Layout.{kind_of, target_of}
+use Rattle.crash_model.specs.Layout.{target_of}
 use Rattle.crash_model.specs.Plan.{plan_of, name_spelling, entry_named, directory_named, walk_end, free_inode, free_block, free_slot, with_changes}
 use Rattle.crash_model.specs.Sound.{IsSound}
 use Rattle.crash_model.specs.View.{View, view_of}

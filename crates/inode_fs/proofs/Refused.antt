@@ -1,11 +1,11 @@
 -- On a sound disk an operation is refused exactly as the tests said of views tell.
-use Rattle.std.proofs.Common.{◌≡◌, ◌≢◌, ℕ, ◌<◌, ◌⊎◌, ◌↔◌, inl, inr, List, [], ◌∷◌, Bool, true, false, Option, Some, None, Result, Ok, Err, arith, refl, sym, ◌∙◌, ap, subst}
-use Rattle.std.proofs.lemmas.Bool.{cases_eq, eq-eqb, ne_eqb}
+use Rattle.std.proofs.Common.{◌≡◌, ◌≢◌, ℕ, ◌<◌, ◌⊎◌, ◌↔◌, inl, inr, List, [], ◌∷◌, Bool, true, false, not, eqb, Option, Some, None, Result, Ok, Err, arith, refl, sym, ◌∙◌, ap, subst}
+use Rattle.std.proofs.lemmas.Bool.{eq-eqb, eqb-true}
 use Rattle.crash_model.specs.Disk.{Disk, IsDisk}
 use Rattle.crash_model.specs.Layout.{kind_of, target_of}
 use Rattle.crash_model.specs.Plan.{plan_of, name_spelling, entry_named, directory_named, walk_end, then_ok, unless, with_found, at_path, relink_plan}
 use Rattle.crash_model.specs.Sound.{IsSound}
-use Rattle.crash_model.specs.View.{view_of}
+use Rattle.crash_model.specs.View.{View, view_of}
 use Rattle.crash_model.specs.Meaning.{LeadsTo, IsKind, Walks, WalkFails, AtPath, AtName, Relinks, IsRefused}
 use Rattle.crash_model.specs.declared.refusals.FsFault.{FsFault}
 use Rattle.crash_model.specs.declared.refusals.FsFault.TheVariants.{NotFound, NotADirectory}
@@ -14,7 +14,9 @@ use Rattle.crash_model.specs.declared.names.Path.{Path}
 use Rattle.crash_model.specs.declared.operations.Op.TheVariants.{Create, Write, Link, Unlink, Rename, Mkdir, Rmdir}
 use Rattle.crash_model.specs.declared.plans.Change.{Change}
 use Rattle.soundness_laws.specs.Tables.{tables_of, Sound}
+use Rattle.soundness_laws.proofs.Answered.{test-holds}
 use Rattle.soundness_laws.proofs.ByTables.{kind-at}
+use Rattle.soundness_laws.proofs.Views.{same-view}
 use Rattle.soundness_laws.proofs.ToTables.{sound-tables}
 use Rattle.inode_fs.proofs.Searched.{Walked, walk-found, NamedEntry, named-found}
 use Rattle.inode_fs.proofs.Means.{kind-of, name-of, walks, root-walk_end}
@@ -26,74 +28,48 @@ Refuses r P = (fault : FsFault) → ((r ≡ Err fault) ↔ P fault)
 
 -- ---- a list of tests
 
--- the first test that fails decides
-abbrev First : Type 0 → FsFault → (FsFault → Type 0) → FsFault → Type 0
-First P fault R f = (P × (f ≡ fault)) ⊎ ((¬ P) × R f)
+-- a test fails, or it does not and the others decide
+abbrev First : Type 0 → Type 0 → FsFault → (FsFault → Type 0) → FsFault → Type 0
+First P Q fault R f = (P × (f ≡ fault)) ⊎ (Q × R f)
 
--- the test fails
-refused : {B : Type 0} (P : Type 0) (fault : FsFault) (R : FsFault → Type 0) → P → Refuses {B = B} (Err fault) (First P fault R)
-refused P fault R p f = (λ e. inl (p, cc), λ h. elim h [ inl w ↦ ap (λ (x : FsFault). Err x) (sym w.1) | inr w ↦ absurd (w.0 p) ])
+fails : {B : Type 0} (P Q : Type 0) (fault : FsFault) (R : FsFault → Type 0) → P → (¬ Q)
+    → Refuses {B = B} (Err fault) (First P Q fault R)
+fails P Q fault R p none f = (
+  λ e. inl (p, cc),
+  λ h. elim h [ inl w ↦ ap (λ (x : FsFault). Err x) (sym w.1) | inr w ↦ absurd (none w.0) ],
+)
 
--- the test does not fail
-passed : {B : Type 0} (P : Type 0) (fault : FsFault) (rest : Result B FsFault) (R : FsFault → Type 0) → (¬ P) → Refuses rest R → Refuses rest (First P fault R)
-passed P fault rest R none others f = (λ e. inr (none, (others f).0 e), λ h. elim h [ inl w ↦ absurd (none w.0) | inr w ↦ (others f).1 w.1 ])
+passes : {B : Type 0} (P Q : Type 0) (fault : FsFault) (rest : Result B FsFault) (R : FsFault → Type 0) → (¬ P) → Q
+    → Refuses rest R → Refuses rest (First P Q fault R)
+passes P Q fault rest R none q others f = (
+  λ e. inr (q, (others f).0 e),
+  λ h. elim h [ inl w ↦ absurd (none w.0) | inr w ↦ (others f).1 w.1 ],
+)
 
 -- a test, and what it leaves
-one : {B : Type 0} (b : Bool) (P : Type 0) (fault : FsFault) (rest : Result B FsFault) (R : FsFault → Type 0) → ((b ≡ true) ↔ P) → Refuses rest R
-    → Refuses (unless b fault rest) (First P fault R)
-one true P fault rest R test others = refused P fault R (test.0 refl)
-one false P fault rest R test others = passed P fault rest R (λ p. let no : false ≡ true = test.1 p in cc) others
+one : {B : Type 0} (b : Bool) (P : Type 0) (fault : FsFault) (rest : Result B FsFault) (R : FsFault → Type 0)
+    → ((b ≡ true) ↔ P) → Refuses rest R → Refuses (unless b fault rest) (First P (¬ P) fault R)
+one true P fault rest R test others = let p = test.0 refl in fails P (¬ P) fault R p (λ none. none p)
+one false P fault rest R test others =
+    let none : ¬ P = λ p. let no : false ≡ true = test.1 p in cc in
+    passes P (¬ P) fault rest R none none others
 
 -- a search, and what is made of what it finds
-found : {A B : Type 0} (o : Option A) (P : Type 0) (fault : FsFault) (answer : A → Result B FsFault) (R : FsFault → Type 0) → ((o ≡ None) ↔ P)
-    → ((x : A) → Refuses (answer x) R) → Refuses (with_found o fault answer) (First P fault R)
-found None P fault answer R test others = refused P fault R (test.0 refl)
-found (Some x) P fault answer R test others = passed P fault (answer x) R (λ p. let no : Some x ≡ None = test.1 p in cc) (others x)
+found : {A B : Type 0} (o : Option A) (P : Type 0) (fault : FsFault) (answer : A → Result B FsFault)
+    (R : FsFault → Type 0) → ((o ≡ None) ↔ P) → ((x : A) → Refuses (answer x) R) → Refuses (with_found o fault answer) (First P (¬ P) fault R)
+found None P fault answer R test others = let p = test.0 refl in fails P (¬ P) fault R p (λ none. none p)
+found (Some x) P fault answer R test others =
+    let none : ¬ P = λ p. let no : Some x ≡ None = test.1 p in cc in
+    passes P (¬ P) fault (answer x) R none none (others x)
 
 accepted : {B : Type 0} (answer : B) → Refuses {B = B} (Ok answer) (λ _. ⊥)
 accepted answer f = (λ e. cc, λ z. absurd z)
 
--- ---- walks
+-- ---- names
 
--- the walk ends at one directory, or fails with one fault
-pub record WalksAs (d : Disk) (from : ℕ) (names : List (List ℕ)) : Type 0 where
-  pub ends : (to : ℕ) → Walks (view_of d) from names to → walk_end d from names ≡ Ok to
-  pub fails : Refuses (walk_end d from names) (WalkFails (view_of d) from names)
-
--- a name that is a directory's is entered
-enters : (d : Disk) (dir : ℕ) (name : List ℕ) (child : ℕ) → Sound (tables_of d) → dir < 16 → (view_of d).name dir name child → kind_of d child ≡ 2 → directory_named d dir name ≡ Ok child
-enters d dir name child sound below h two =
-    let by = named-by d dir name child sound below h in
-    rw (by.named, by.target, eq-eqb (kind_of d child) 2 two) refl
-
-no_directory : (d : Disk) (dir : ℕ) (name : List ℕ) (child : ℕ) → Sound (tables_of d) → dir < 16 → (view_of d).name dir name child → kind_of d child ≢ 2 → directory_named d dir name ≡ Err NotADirectory
-no_directory d dir name child sound below h other =
-    let by = named-by d dir name child sound below h in
-    rw (by.named, by.target, ne_eqb (kind_of d child) 2 other) refl
-
--- what a name leads to, for a walk
-data Turn (d : Disk) (dir : ℕ) (name : List ℕ) : Type 0 where
-  Absent : ¬ (LeadsTo (view_of d) dir name) → directory_named d dir name ≡ Err NotFound → Turn d dir name
-  Other : (child : ℕ) → (view_of d).name dir name child → ¬ (IsKind (view_of d) child 2) → directory_named d dir name ≡ Err NotADirectory → Turn d dir name
-  Directory : (child : ℕ) → (view_of d).name dir name child → IsKind (view_of d) child 2 → Walked d child → directory_named d dir name ≡ Ok child → Turn d dir name
-
-turn : (d : Disk) (dir : ℕ) (name : List ℕ) → Sound (tables_of d) → dir < 16 → Turn d dir name
-turn d dir name sound below = go (entry_named d dir name) refl
-  where
-    go : (o : Option ℕ) → entry_named d dir name ≡ o → Turn d dir name
-    go None e =
-        Absent (λ h. let by = named-by d dir name h.0 sound below h.1 in let no : None ≡ Some by.k = sym e ∙ by.named in cc) (rw e refl)
-    go (Some k) e =
-        let n = named-found d dir name k below e in
-        let child = target_of d dir k in
-        let h = name-of d dir k child name n.leads in
-        let test = test-kind d child 2 n.target_below (λ z. omega arith) in
-        elim (cases_eq (kind_of d child) 2) [
-          | inl two ↦
-              let kind = kind-at d child n.target_below ∙ two in
-              Directory child h (kind-of d child 2 kind (λ z. omega arith)) (record { below = n.target_below; kind = kind }) (enters d dir name child sound below h two)
-          | inr other ↦ Other child h (test.0 (rw (ne_eqb (kind_of d child) 2 other) refl)) (no_directory d dir name child sound below h other)
-        ]
+-- the name is absent, or it leads to an inode for which more is tested
+abbrev AtInode : View → ℕ → List ℕ → (ℕ → FsFault → Type 0) → FsFault → Type 0
+AtInode v dir name Then f = ((¬ (LeadsTo v dir name)) × (f ≡ NotFound)) ⊎ ((i : ℕ) × v.name dir name i × Then i f)
 
 -- a name leads to one inode
 one-inode : (d : Disk) (dir : ℕ) (name : List ℕ) (i j : ℕ) → Sound (tables_of d) → dir < 16 → (view_of d).name dir name i → (view_of d).name dir name j → i ≡ j
@@ -104,55 +80,92 @@ one-inode d dir name i j sound below h g =
     let place : a.k ≡ b.k = cc in
     sym a.target ∙ ap (target_of d dir) place ∙ b.target
 
-pub walks-as : (d : Disk) (names : List (List ℕ)) (from : ℕ) → Sound (tables_of d) → Walked d from → WalksAs d from names
-walks-as d [] from sound at = record {
-  ends = λ to same. ap (λ (x : ℕ). Ok x) (sym same);
-  fails = accepted from;
-}
-walks-as d (name ∷ names) from sound at = go (turn d from name sound at.below) (λ child walk. walks-as d names child sound walk)
+named : {B : Type 0} (d : Disk) (dir : ℕ) (name : List ℕ) (answer : ℕ → Result B FsFault) (Then : ℕ → FsFault → Type 0)
+    → Sound (tables_of d) → dir < 16
+    → ((k : ℕ) → NamedEntry d dir name k → Refuses (answer k) (Then (target_of d dir k)))
+    → Refuses (with_found (entry_named d dir name) NotFound answer) (AtInode (view_of d) dir name Then)
+named {B = B} d dir name answer Then sound below next = here (entry_named d dir name) refl
   where
-    go : Turn d from name → ((child : ℕ) → Walked d child → WalksAs d child names) → WalksAs d from (name ∷ names)
-    go (Absent none e) rest = record {
-      ends = λ to w. absurd (none (w.0, w.1));
-      fails = λ f. (
-        λ r. let same : Err NotFound ≡ Err f = sym (ap (λ (x : Result ℕ FsFault). then_ok x (λ child. walk_end d child names)) e) ∙ r in inl (none, cc),
-        λ h. elim h [
-          | inl w ↦ ap (λ (x : Result ℕ FsFault). then_ok x (λ child. walk_end d child names)) e ∙ ap (λ (x : FsFault). Err x) (sym w.1)
-          | inr w ↦ absurd (none (w.0, w.1))
-        ],
-      );
-    }
-    go (Other child h other e) rest = record {
-      ends = λ to w. absurd (other (subst (λ (x : ℕ). IsKind (view_of d) x 2) (one-inode d from name w.0 child sound at.below w.1 h) w.2));
-      fails = λ f. (
-        λ r. let same : Err NotADirectory ≡ Err f = sym (ap (λ (x : Result ℕ FsFault). then_ok x (λ child. walk_end d child names)) e) ∙ r in inr (child, h, inl (other, cc)),
-        λ g. elim g [
-          | inl w ↦ absurd (w.0 (child, h))
-          | inr w ↦ elim w.2 [
-            | inl x ↦ ap (λ (x : Result ℕ FsFault). then_ok x (λ child. walk_end d child names)) e ∙ ap (λ (x : FsFault). Err x) (sym x.1)
-            | inr x ↦ absurd (other (subst (λ (x : ℕ). IsKind (view_of d) x 2) (one-inode d from name w.0 child sound at.below w.1 h) x.0))
-          ]
-        ],
-      );
-    }
-    go (Directory child h kind walk e) rest =
-        let r = rest child walk in
-        let opens = ap (λ (x : Result ℕ FsFault). then_ok x (λ child. walk_end d child names)) e in
-        record {
-          ends = λ to w. opens ∙ r.ends to (subst (λ (x : ℕ). Walks (view_of d) x names to) (one-inode d from name w.0 child sound at.below w.1 h) w.3);
-          fails = λ f. (
-            λ q. inr (child, h, inr (kind, (r.fails f).0 (sym opens ∙ q))),
-            λ g. elim g [
-              | inl w ↦ absurd (w.0 (child, h))
-              | inr w ↦
-                  let same = one-inode d from name w.0 child sound at.below w.1 h in
-                  elim w.2 [
-                    | inl x ↦ absurd (x.0 (subst (λ (x : ℕ). IsKind (view_of d) x 2) (sym same) kind))
-                    | inr x ↦ opens ∙ (r.fails f).1 (subst (λ (y : ℕ). WalkFails (view_of d) y names f) same x.1)
-                  ]
-            ],
-          );
-        }
+    here : (o : Option ℕ) → entry_named d dir name ≡ o
+        → Refuses (with_found o NotFound answer) (AtInode (view_of d) dir name Then)
+    here None e f =
+        let absent : ¬ (LeadsTo (view_of d) dir name) = λ h.
+        let by = named-by d dir name h.0 sound below h.1 in
+        let no : None ≡ Some by.k = sym e ∙ by.named in cc in (
+          λ q. inl (absent, cc),
+          λ h. elim h [ inl x ↦ ap (λ (y : FsFault). Err y) (sym x.1) | inr x ↦ absurd (absent (x.0, x.1)) ],
+        )
+    here (Some k) e f =
+        let n = named-found d dir name k below e in
+        let i = target_of d dir k in
+        let leads = name-of d dir k i name n.leads in
+        let only : (j : ℕ) → (view_of d).name dir name j → j ≡ i =
+        λ j h. one-inode d dir name j i sound below h leads in (
+          λ q. inr (i, leads, (next k n f).0 q),
+          λ h. elim h [
+            | inl x ↦ absurd (x.0 (i, leads))
+            | inr x ↦ (next k n f).1 (subst (λ (y : ℕ). Then y f) (only x.0 x.1) x.2)
+          ],
+        )
+
+-- ---- walks
+
+-- a name that is a directory's is entered
+enters : (d : Disk) (dir : ℕ) (name : List ℕ) (child : ℕ) → Sound (tables_of d) → dir < 16
+    → (view_of d).name dir name child → kind_of d child ≡ 2 → directory_named d dir name ≡ Ok child
+enters d dir name child sound below h two =
+    let by = named-by d dir name child sound below h in
+    rw (by.named, by.target, eq-eqb (kind_of d child) 2 two) refl
+
+walk-ends : (d : Disk) (names : List (List ℕ)) (from to : ℕ) → Sound (tables_of d) → Walked d from
+    → Walks (view_of d) from names to → walk_end d from names ≡ Ok to
+walk-ends d [] from to sound at same = ap (λ (x : ℕ). Ok x) (sym same)
+walk-ends d (name ∷ names) from to sound at w =
+    let by = named-by d from name w.0 sound at.below w.1 in
+    let entry = named-found d from name by.k at.below by.named in
+    let below : w.0 < 16 = subst (λ (x : ℕ). x < 16) by.target entry.target_below in
+    let in_tables = ((same-view d).inodes w.0 2 w.2.0).0 w.2.1 in
+    let two : kind_of d w.0 ≡ 2 = sym (kind-at d w.0 below) ∙ in_tables.0 in
+    let is = enters d from name w.0 sound at.below w.1 two in
+    ap (λ (x : Result ℕ FsFault). then_ok x (λ child. walk_end d child names)) is
+    ∙ walk-ends d names w.0 to sound (record { below = below; kind = in_tables.0 }) w.3
+
+-- what is made of the directory that is entered
+entered : {A B : Type 0} (o : Option ℕ) (test : ℕ → Bool) (to : ℕ → A) (next : A → Result B FsFault)
+    → then_ok (with_found o NotFound (λ k. unless (test k) NotADirectory (Ok (to k)))) next
+    ≡ with_found o NotFound (λ k. unless (test k) NotADirectory (next (to k)))
+entered None test to next = refl
+entered {B = B} (Some k) test to next = go (test k)
+  where
+    go : (b : Bool) → then_ok (unless b NotADirectory (Ok (to k))) next ≡ unless b NotADirectory (next (to k))
+    go true = refl
+    go false = refl
+
+-- only an inode of the kind passes
+of-kind : {B : Type 0} (b : Bool) (K : Type 0) (fault : FsFault) (rest : Result B FsFault) (R : FsFault → Type 0)
+    → ((b ≡ true) → ¬ K) → ((b ≡ false) → K × Refuses rest R) → Refuses (unless b fault rest) (First (¬ K) K fault R)
+of-kind true K fault rest R other same = fails (¬ K) K fault R (other refl) (other refl)
+of-kind false K fault rest R other same =
+    let is = same refl in
+    passes (¬ K) K fault rest R (λ none. none is.0) is.0 is.1
+
+walk-fails : (d : Disk) (names : List (List ℕ)) (from : ℕ) → Sound (tables_of d) → Walked d from
+    → Refuses (walk_end d from names) (WalkFails (view_of d) from names)
+walk-fails d [] from sound at = accepted from
+walk-fails d (name ∷ names) from sound at =
+    let v = view_of d in
+    let other : ℕ → Bool = λ k. not (eqb (kind_of d (target_of d from k)) 2) in
+    subst (λ (r : Result ℕ FsFault). Refuses r (WalkFails v from (name ∷ names)))
+    (sym (entered (entry_named d from name) other (target_of d from) (λ child. walk_end d child names)))
+    (named d from name (λ k. unless (other k) NotADirectory (walk_end d (target_of d from k) names))
+    (λ child. First (¬ (IsKind v child 2)) (IsKind v child 2) NotADirectory (WalkFails v child names)) sound
+    at.below (λ k n.
+    let child = target_of d from k in
+    let test = test-kind d child 2 n.target_below (λ z. omega arith) in
+    of-kind (other k) (IsKind v child 2) NotADirectory (walk_end d child names) (WalkFails v child names) test.0 (λ e.
+    let kind = kind-at d child n.target_below ∙ eqb-true (kind_of d child) 2 (test-holds _ e) in
+    let walk : Walked d child = record { below = n.target_below; kind = kind } in
+    (kind-of d child 2 kind (λ z. omega arith), walk-fails d names child sound walk))))
 
 -- ---- at a path
 
@@ -160,23 +173,31 @@ at-path : {B : Type 0} (d : Disk) (path : Path) (plan : ℕ → Result B FsFault
     → ((dir : ℕ) → Walked d dir → Refuses (plan dir) (Then dir)) → Refuses (then_ok (walk_end d 0 path.through.items) plan) (AtPath (view_of d) path Then)
 at-path {B = B} d path plan Then sound next f = go (walk_end d 0 path.through.items) refl
   where
-    w : WalksAs d 0 path.through.items
-    w = walks-as d path.through.items 0 sound (root-walk_end d sound)
+    root : Walked d 0
+    root = root-walk_end d sound
+
+    at_end : Refuses (walk_end d 0 path.through.items) (WalkFails (view_of d) 0 path.through.items)
+    at_end = walk-fails d path.through.items 0 sound root
+
+    ends : (to : ℕ) → Walks (view_of d) 0 path.through.items to → walk_end d 0 path.through.items ≡ Ok to
+    ends to = walk-ends d path.through.items 0 to sound root
 
     go : (r : Result ℕ FsFault) → walk_end d 0 path.through.items ≡ r → ((then_ok r plan ≡ Err f) ↔ AtPath (view_of d) path Then f)
     go (Err g) e = (
-      λ q. let same : Err g ≡ Err f = cc in inl ((w.fails f).0 (e ∙ same)),
+      λ q. let same : Err g ≡ Err f = cc in inl ((at_end f).0 (e ∙ same)),
       λ h. elim h [
-        | inl x ↦ let same : Err g ≡ Err f = sym e ∙ (w.fails f).1 x in cc
-        | inr x ↦ absurd (let no : ◌≡◌ {A = Result ℕ FsFault} (Err g) (Ok x.0) = sym e ∙ w.ends x.0 x.1 in cc)
+        | inl x ↦ let same : Err g ≡ Err f = sym e ∙ (at_end f).1 x in cc
+        | inr x ↦ absurd (let no : ◌≡◌ {A = Result ℕ FsFault} (Err g) (Ok x.0) = sym e ∙ ends x.0 x.1 in cc)
       ],
     )
     go (Ok dir) e = (
-      λ q. inr (dir, walks d path.through.items 0 dir (root-walk_end d sound) e, (next dir (walk-found d path.through.items dir sound e) f).0 q),
+      λ q.
+          let walk = walk-found d path.through.items dir sound e in
+          inr (dir, walks d path.through.items 0 dir root e, (next dir walk f).0 q),
       λ h. elim h [
-        | inl x ↦ absurd (let no : ◌≡◌ {A = Result ℕ FsFault} (Ok dir) (Err f) = sym e ∙ (w.fails f).1 x in cc)
+        | inl x ↦ absurd (let no : ◌≡◌ {A = Result ℕ FsFault} (Ok dir) (Err f) = sym e ∙ (at_end f).1 x in cc)
         | inr x ↦
-            let both : ◌≡◌ {A = Result ℕ FsFault} (Ok dir) (Ok x.0) = sym e ∙ w.ends x.0 x.1 in
+            let both : ◌≡◌ {A = Result ℕ FsFault} (Ok dir) (Ok x.0) = sym e ∙ ends x.0 x.1 in
             let same : dir ≡ x.0 = cc in
             (next dir (walk-found d path.through.items dir sound e) f).1 (subst (λ (y : ℕ). Then y f) (sym same) x.2)
       ],
@@ -184,29 +205,12 @@ at-path {B = B} d path plan Then sound next f = go (walk_end d 0 path.through.it
 
 at-name : {B : Type 0} (d : Disk) (path : Path) (plan : ℕ → ℕ → Result B FsFault) (Then : ℕ → ℕ → FsFault → Type 0) → Sound (tables_of d)
     → ((dir k : ℕ) → Walked d dir → NamedEntry d dir path.last k → Refuses (plan dir k) (Then dir (target_of d dir k)))
-    → Refuses (at_path d path (λ dir name. with_found (entry_named d dir name) NotFound (λ k. plan dir k))) (AtName (view_of d) path Then)
-at-name {B = B} d path plan Then sound next =
+    → Refuses (at_path d path (λ dir name. with_found (entry_named d dir name) NotFound (λ k. plan dir k)))
+    (AtName (view_of d) path Then)
+at-name d path plan Then sound next =
     at-path d path (λ dir. with_found (entry_named d dir path.last) NotFound (λ k. plan dir k))
-    (λ dir f. ((¬ (LeadsTo (view_of d) dir path.last)) × (f ≡ NotFound)) ⊎ ((i : ℕ) × (view_of d).name dir path.last i × Then dir i f))
-    sound (λ dir walk. here dir walk (entry_named d dir path.last) refl)
-  where
-    here : (dir : ℕ) → Walked d dir → (o : Option ℕ) → entry_named d dir path.last ≡ o
-        → Refuses (with_found o NotFound (λ k. plan dir k)) (λ f. ((¬ (LeadsTo (view_of d) dir path.last)) × (f ≡ NotFound)) ⊎ ((i : ℕ) × (view_of d).name dir path.last i × Then dir i f))
-    here dir walk None e f =
-        let absent : ¬ (LeadsTo (view_of d) dir path.last) = λ h. let by = named-by d dir path.last h.0 sound walk.below h.1 in let no : None ≡ Some by.k = sym e ∙ by.named in cc in (
-          λ q. inl (absent, cc),
-          λ h. elim h [ inl x ↦ ap (λ (y : FsFault). Err y) (sym x.1) | inr x ↦ absurd (absent (x.0, x.1)) ],
-        )
-    here dir walk (Some k) e f =
-        let n = named-found d dir path.last k walk.below e in
-        let i = target_of d dir k in
-        let name = name-of d dir k i path.last n.leads in (
-          λ q. inr (i, name, (next dir k walk n f).0 q),
-          λ h. elim h [
-            | inl x ↦ absurd (x.0 (i, name))
-            | inr x ↦ (next dir k walk n f).1 (subst (λ (y : ℕ). Then dir y f) (sym (one-inode d dir path.last i x.0 sound walk.below name x.1)) x.2)
-          ],
-        )
+    (λ dir. AtInode (view_of d) dir path.last (Then dir)) sound (λ dir walk.
+    named d dir path.last (plan dir) (Then dir) sound walk.below (λ k n. next dir k walk n))
 
 -- ---- the operations
 
@@ -214,7 +218,8 @@ live-target : (d : Disk) (dir : ℕ) (name : List ℕ) (k : ℕ) → Sound (tabl
 live-target d dir name k sound n = sound.names.no_dangling dir k (target_of d dir k) (name_spelling name) n.leads
 
 -- `link` and `rename`
-relink-refused : (d : Disk) (old new : Path) (more : ℕ → ℕ → List Change) → Sound (tables_of d) → Refuses (relink_plan d old new (λ dir k _. more dir k)) (Relinks (view_of d) old new)
+relink-refused : (d : Disk) (old new : Path) (more : ℕ → ℕ → List Change) → Sound (tables_of d)
+    → Refuses (relink_plan d old new (λ dir k _. more dir k)) (Relinks (view_of d) old new)
 relink-refused d old new more t =
     at-name d old _ _ t (λ old_dir k _ n.
     at-path d new _ _ t (λ dir walk.
@@ -237,7 +242,8 @@ plan-refused d (Write path) disk sound =
     at-name d path _ _ t (λ dir k walk n.
     one _ _ _ _ _ (test-kind d (target_of d dir k) 1 n.target_below (λ z. omega arith))
     (found _ _ _ _ _ (test-block d) (λ block.
-    found _ _ _ _ _ (test-slot d (target_of d dir k) n.target_below (live-target d dir path.last k t n)) (λ slot. accepted _))))
+    let live = live-target d dir path.last k t n in
+    found _ _ _ _ _ (test-slot d (target_of d dir k) n.target_below live) (λ slot. accepted _))))
 plan-refused d (Link old new) disk sound = relink-refused d old new _ (sound-tables d disk sound)
 plan-refused d (Unlink path) disk sound =
     let t = sound-tables d disk sound in

@@ -14,8 +14,8 @@ then_ok-ok (Ok x) next y e = (x, refl, e)
 then_ok-ok (Err f) next y e = cc
 
 -- the test is false
-pub unless-ok : {B : Type 0} (test : Bool) (fault : FsFault) (answer : Result B FsFault) (y : B) → unless test fault answer ≡ Ok y
-    → (test ≡ false) × (answer ≡ Ok y)
+pub unless-ok : {B : Type 0} (test : Bool) (fault : FsFault) (answer : Result B FsFault) (y : B)
+    → unless test fault answer ≡ Ok y → (test ≡ false) × (answer ≡ Ok y)
 unless-ok true fault answer y e = cc
 unless-ok false fault answer y e = (refl, e)
 
@@ -34,7 +34,8 @@ pub record AtEntry {B : Type 0} (d : Disk) (path : Path) (plan : ℕ → ℕ →
   pub next : plan dir k ≡ Ok y
 
 pub at_entry-ok : {B : Type 0} (d : Disk) (path : Path) (plan : ℕ → ℕ → Result B FsFault) (y : B)
-    → at_path d path (λ dir name. with_found (entry_named d dir name) NotFound (λ k. plan dir k)) ≡ Ok y → AtEntry d path plan y
+    → at_path d path (λ dir name. with_found (entry_named d dir name) NotFound (λ k. plan dir k)) ≡ Ok y
+    → AtEntry d path plan y
 at_entry-ok d path plan y e =
     let walk = then_ok-ok (walk_end d 0 path.through.items) _ y e in
     let dir = walk.0 in
@@ -59,7 +60,8 @@ pub record Entered (d : Disk) (dir : ℕ) (name : List ℕ) (child : ℕ) : Type
   pub target : target_of d dir k ≡ child
   pub kind : kind_of d child ≡ 2
 
-pub directory_named-ok : (d : Disk) (dir : ℕ) (name : List ℕ) (child : ℕ) → directory_named d dir name ≡ Ok child → Entered d dir name child
+pub directory_named-ok : (d : Disk) (dir : ℕ) (name : List ℕ) (child : ℕ)
+    → directory_named d dir name ≡ Ok child → Entered d dir name child
 directory_named-ok d dir name child e =
     let entry = with_found-ok (entry_named d dir name) _ _ child e in
     let directory = unless-ok _ _ _ child entry.2 in

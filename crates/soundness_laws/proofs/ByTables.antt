@@ -1,13 +1,11 @@
 -- What tables say of the bytes, and what a search found.
-use Rattle.std.proofs.Common.{◌≡◌, ◌≢◌, ℕ, zero, suc, ◌+◌, ◌<◌, ◌≤◌, inl, inr, List, Bool, true, false, Option, Some, None, Result, Ok, Err, length, arith, refl, sym, ◌∙◌, ap, subst}
-use Rattle.std.specs.Prelude.{option_map, [], ◌∷◌}
+use Rattle.std.proofs.Common.{◌≡◌, ◌≢◌, ℕ, zero, suc, ◌+◌, ◌<◌, ◌≤◌, inl, inr, List, Bool, true, false, Ok, length, arith, refl, sym, ◌∙◌, ap, subst}
+use Rattle.std.specs.Prelude.{[], ◌∷◌}
 use Rattle.std.proofs.lemmas.Bool.{cases_eq, cases_lt, eq-eqb, ne_eqb, lt-ltb, le-ltb}
 use Rattle.std.proofs.lemmas.Bool.Decides.{nat_tests}
 use Rattle.crash_model.specs.Disk.{Disk, IsDisk, byte}
 use Rattle.crash_model.specs.Layout.{kind_of, pointer_of, is_data, is_live, target_of, counts, entry_of, spelling_of}
 use Rattle.crash_model.specs.Plan.{is_named, directory_named, walk_end}
-use Rattle.crash_model.specs.declared.refusals.FsFault.{FsFault}
-use Rattle.crash_model.specs.declared.refusals.FsFault.TheVariants.{NotADirectory}
 use Rattle.crash_model.proofs.Bytes.{length-overwrite}
 use Rattle.soundness_laws.specs.Tables.{tables_of, place_at, place_of, mark_at}
 use Rattle.soundness_laws.specs.Tables.Place.{Free, Leads}
@@ -91,7 +89,8 @@ disk-with_bytes_at d at new disk fits = record { least = disk.least; most = disk
 pub named-target : (d : Disk) (dir : ℕ) (name : List ℕ) (k : ℕ) → is_named d dir name k ≡ true → is_live d (target_of d dir k) ≡ true
 named-target d dir name k e = grind (arith, nat_tests)
 
-pub directory_named-is_ok : (d : Disk) (dir : ℕ) (name : List ℕ) (child : ℕ) → directory_named d dir name ≡ Ok child → (child < 16) × (kind_of d child ≡ 2)
+pub directory_named-is_ok : (d : Disk) (dir : ℕ) (name : List ℕ) (child : ℕ)
+    → directory_named d dir name ≡ Ok child → (child < 16) × (kind_of d child ≡ 2)
 directory_named-is_ok d dir name child e =
     let at = directory_named-ok d dir name child e in
     let live = named-target d dir name at.k (first_below-is_some 10 (is_named d dir name) at.k at.named).holds in
