@@ -1,21 +1,22 @@
 -- Parts of the closed sets, and the tallies of the parts put together.
 use Rattle.std.proofs.Common.{◌≡◌, ℕ, ◌+◌, ◌-◌, ◌*◌, ◌/◌, ◌%◌, ◌^◌, ◌<◌, ◌≤◌, List, [], ◌∷◌, ◌++◌, length, get_or, set, arith, length-append, refl, sym, subst, ap, ◌∙◌, inl, inr}
-use Rattle.std.specs.Prelude.{◌⊎◌, Option, Some, None, IfSome, bit_or}
+use Rattle.std.specs.Prelude.{◌⊎◌, Option, Some, None, IfSome, option_to_list}
+use Rattle.std.specs.List.{All}
 use Rattle.std.proofs.lemmas.Bool.{cases_lt}
 use Rattle.std.proofs.lemmas.List.{get_or_append_left, get_or_push, get_or_past, get_or_default, get_or-set_same, get_or-set_other, length-set}
-use Rattle.std.proofs.lemmas.List.Elements.{All-push, All-nil, All-weaker}
+use Rattle.std.proofs.lemmas.List.Elements.{All-pop, All-push, All-nil, All-weaker}
 use Rattle.std.proofs.lemmas.List.Quantifiers.{all_pairs_push}
 use Rattle.std.proofs.lemmas.Nat.{pow_pos, shr-shr, shr_split, le-div, mod_below, div_below}
 use Rattle.std.proofs.Math.Nat.{mul-le-mul_left}
 use Rattle.std.proofs.Math.Pow.{shr_mono}
 use Rattle.state_space.specs.Counts.{Outnumbers}
-use Rattle.patch_sets.specs.Sets.{Has}
 use Rattle.patch_sets.specs.Closed.{IsClosed}
 use Rattle.patch_sets.proofs.Bits.{eq_or_not}
-use Rattle.set_sweep.specs.Sweeps.{IsClosedIn, IsClosure, IsRoot, AreParts, AreSwept, IsPartSwept, ArePlaced, part_end}
+use Rattle.set_sweep.specs.Sweeps.{IsClosedIn, IsRoot, AreParts, AreSwept, IsPartSwept, IsDone, ArePlaced, part_end}
 use Rattle.set_sweep.specs.declared.sweeping.Part.{Part}
+use Rattle.set_sweep.specs.declared.together.Done.{Done}
 use Rattle.set_sweep.proofs.Lists.{list_of, list_join, none_swept, swept_rises}
-use Rattle.set_sweep.proofs.Roots.{subset_le, child_gap, closed_small}
+use Rattle.set_sweep.proofs.Roots.{subset_le, closed_small}
 
 -- ---- numbers that agree from an id on
 
@@ -94,11 +95,6 @@ module _ (deps : List ℕ) (low : ℕ) where
             (length roots, omega (arith, length-append roots (to ∷ [])), ap (λ r. r / 2 ^ low) (get_or_push roots to 0 (length roots) refl) ∙ omega (arith, up, down))
       ];
     }
-
-  -- parts up to a child
-  pub parts_to_child : (set p closure k : ℕ) (roots : List ℕ) → ¬ (Has set p) → IsClosure deps p closure → p < k → IsRoot deps k set → AreParts deps low (part_end set p) roots → AreParts deps low (bit_or set closure) roots
-  parts_to_child set p closure k roots out is less root parts =
-      let gap = child_gap deps set p closure k out is less root in parts_rise (part_end set p) roots parts (bit_or set closure) gap.0 gap.1
 
 -- ---- putting the tallies of the parts together
 
@@ -199,19 +195,34 @@ module _ {T : Type 0} (tells : List ℕ → T → Type 0) (deps : List ℕ) (low
 
 -- ---- parts at their places
 
-pub placed_none : {T : Type 0} (tells : List ℕ → T → Type 0) (deps : List ℕ) (low : ℕ) (roots : List ℕ) (places : List (Option (Part T)))
-    → ArePlaced tells deps low roots places → ArePlaced tells deps low roots (places ++ None ∷ [])
-placed_none tells deps low roots places placed i d lt = elim (cases_lt i (length places)) [
-  | inl low' ↦ subst (λ o. IfSome o (λ p. IsPartSwept tells deps low (get_or roots i 0) p.total p.tally)) (sym (get_or_append_left places (None ∷ []) d i low')) (placed i d low')
-  | inr up ↦ subst (λ o. IfSome o (λ p. IsPartSwept tells deps low (get_or roots i 0) p.total p.tally))
-      (sym (get_or_push places None d i (omega (arith, lt, up, length-append places (None ∷ []))))) tt
-]
+module _ {T : Type 0} (tells : List ℕ → T → Type 0) (deps : List ℕ) (low : ℕ) (roots : List ℕ) where
+  -- at places that are all empty nothing is wrong
+  pub placed_none : (places : List (Option (Part T))) → All (λ place. place ≡ None) places → ArePlaced tells deps low roots places
+  placed_none places empty i d lt = subst (λ o. IfSome o (λ p. IsPartSwept tells deps low (get_or roots i 0) p.total p.tally)) (sym (empty i d lt)) tt
 
-pub placed_set : {T : Type 0} (tells : List ℕ → T → Type 0) (deps : List ℕ) (low : ℕ) (roots : List ℕ) (places : List (Option (Part T))) (at : ℕ) (part : Part T)
-    → ArePlaced tells deps low roots places → at < length places → IsPartSwept tells deps low (get_or roots at 0) part.total part.tally → ArePlaced tells deps low roots (set places at (Some part))
-placed_set tells deps low roots places at part placed inside is i d lt = elim (eq_or_not i at) [
-  | inl e ↦ subst (λ n. IfSome (get_or (set places at (Some part)) n d) (λ p. IsPartSwept tells deps low (get_or roots n 0) p.total p.tally)) (sym e)
-      (subst (λ o. IfSome o (λ p. IsPartSwept tells deps low (get_or roots at 0) p.total p.tally)) (sym (get_or-set_same places at (Some part) d inside)) is)
-  | inr ne ↦ subst (λ o. IfSome o (λ p. IsPartSwept tells deps low (get_or roots i 0) p.total p.tally)) (sym (get_or-set_other places at i (Some part) d ne))
-      (placed i d (omega (arith, lt, length-set places at (Some part))))
-]
+  placed_set : (places : List (Option (Part T))) (at : ℕ) (part : Part T) → ArePlaced tells deps low roots places → at < length places
+      → IsPartSwept tells deps low (get_or roots at 0) part.total part.tally → ArePlaced tells deps low roots (set places at (Some part))
+  placed_set places at part placed inside is i d lt = elim (eq_or_not i at) [
+    | inl e ↦ subst (λ n. IfSome (get_or (set places at (Some part)) n d) (λ p. IsPartSwept tells deps low (get_or roots n 0) p.total p.tally)) (sym e)
+        (subst (λ o. IfSome o (λ p. IsPartSwept tells deps low (get_or roots at 0) p.total p.tally)) (sym (get_or-set_same places at (Some part) d inside)) is)
+    | inr ne ↦ subst (λ o. IfSome o (λ p. IsPartSwept tells deps low (get_or roots i 0) p.total p.tally)) (sym (get_or-set_other places at i (Some part) d ne))
+        (placed i d (omega (arith, lt, length-set places at (Some part))))
+  ]
+
+  -- what was visited of some parts still has to be put to its place, and what is at a place was visited of the part there
+  pub record IsPlacing (left : List (Done T)) (places : List (Option (Part T))) : Type 0 where
+    pub done : All (IsDone tells deps low roots) left
+    pub long : length places ≡ length roots
+    pub placed : ArePlaced tells deps low roots places
+
+  -- the last of it is put to its place
+  pub placing_next : (left rest : List (Done T)) (places : List (Option (Part T))) (last : Done T) → left ≡ rest ++ option_to_list (Some last)
+      → IsPlacing left places → IsPlacing rest (set places last.at (Some last.part))
+  placing_next left rest places last is so_far =
+      let popped = All-pop (IsDone tells deps low roots) left rest (Some last) is so_far.done in
+      let here : IsDone tells deps low roots last = popped.1 in
+      record {
+        done = popped.0;
+        long = length-set places last.at (Some last.part) ∙ so_far.long;
+        placed = placed_set places last.at last.part so_far.placed (omega (arith, so_far.long, here.known)) here.swept;
+      }

@@ -1,6 +1,6 @@
 -- Sets that agree from an id on, and what comes after them.
 use Rattle.std.proofs.Common.{◌≡◌, ◌≢◌, ℕ, zero, suc, ◌+◌, ◌-◌, ◌*◌, ◌/◌, ◌%◌, ◌^◌, ◌<◌, ◌≤◌, List, length, arith, sym, subst, ap, ◌∙◌, inl, inr}
-use Rattle.std.specs.Prelude.{Option, None, Some, MatchOption, bit_and, bit_or}
+use Rattle.std.specs.Prelude.{Option, None, Some, MatchOption, bit_and, bit_or, slice_index}
 use Rattle.std.specs.Int.{bit_at, w128}
 use Rattle.std.specs.Int.{trailing_ones}
 use Rattle.std.proofs.lemmas.Nat.{pow_pos, pow-add, shr-shr, shr_le, shr_split, le-div, or_shr, or_disjoint, and_le_r}
@@ -11,8 +11,8 @@ use Rattle.patch_sets.specs.Sets.{Has, IsSubset}
 use Rattle.patch_sets.specs.Closed.{IsClosed}
 use Rattle.patch_sets.proofs.Bits.{and_from_subset, in_or_cases, in_or_left, in_or_right, small_from_below, none_in_empty}
 use Rattle.state_space.specs.Counts.{HoldsOf, Outnumbers}
-use Rattle.set_sweep.specs.Sweeps.{IsClosure, IsNextOut, IsRoot, AreSwept, AreCounted, part_end}
-use Rattle.set_sweep.proofs.Lists.{swept_rises, all_swept, sweep_counts}
+use Rattle.set_sweep.specs.Sweeps.{IsClosure, AreClosures, IsNextOut, IsRoot, AreCounted, part_end}
+use Rattle.set_sweep.proofs.Lists.{all_swept, sweep_counts}
 
 -- ---- the next id outside
 
@@ -53,19 +53,36 @@ end_in set p is =
     two : (h y : ℕ) → (h + 1) * (2 * y) ≡ (2 * h + 1 + 1) * y
     two h y = omega arith
 
-pub end_run : (set p d : ℕ) → ((q : ℕ) → p ≤ q → q < p + d → Has set q) → part_end set (p + d) ≡ part_end set p
+end_run : (set p d : ℕ) → ((q : ℕ) → p ≤ q → q < p + d → Has set q) → part_end set (p + d) ≡ part_end set p
 end_run set p zero ins = ap (part_end set) (omega arith)
 end_run set p (suc d) ins =
     ap (part_end set) (omega arith) ∙ (end_in set (p + d) (ins (p + d) (omega arith) (omega arith)) ∙ end_run set p d (λ q low high. ins q low (omega arith)))
 
 -- the same up to an id
-pub end_to : (set p q : ℕ) → p ≤ q → ((i : ℕ) → p ≤ i → i < q → Has set i) → part_end set q ≡ part_end set p
+end_to : (set p q : ℕ) → p ≤ q → ((i : ℕ) → p ≤ i → i < q → Has set i) → part_end set q ≡ part_end set p
 end_to set p q up ins =
     let at : p + (q - p) ≡ q = omega arith in
     ap (part_end set) (sym at) ∙ end_run set p (q - p) (λ i low high. ins i low (omega arith))
 
 pub end_none : (set : ℕ) → part_end set 0 ≡ set + 1
 end_none set = omega (arith, shr_split set 0)
+
+-- where a walk over the ids that a set lacks stands: it ends once it is at id k or past it
+pub record IsOutside (set k id : ℕ) : Type 0 where
+  pub out : ¬ (Has set id)
+  pub ones : (q : ℕ) → k ≤ q → q < id → Has set q
+
+-- the walk goes on to the next id that the set lacks
+pub outside_next : {set from id : ℕ} (k : ℕ) → from ≤ k → IsNextOut set from id → IsOutside set k id
+outside_next k up next = record { out = next.out; ones = λ q low high. next.between q (omega arith) high }
+
+-- the part from that id on ends where the part from the id before ends
+pub end_next : {set from id : ℕ} → IsNextOut set from id → part_end set id ≡ part_end set from
+end_next {set} {from} {id} next = end_to set from id next.from next.between
+
+-- at its end the part from there on is that from id k on
+pub end_outside : {set k id : ℕ} → IsOutside set k id → k ≤ id → part_end set id ≡ part_end set k
+end_outside {set} {k} {id} at past = end_to set k id past at.ones
 
 -- ---- an id more
 
@@ -89,12 +106,12 @@ module _ (deps : List ℕ) (set p closure : ℕ) (out : ¬ (Has set p)) (is : Is
   bit_out = let low = bit_at-lt set p in let no : bit_at set p ≢ 1 = out in omega arith
 
   -- the part from id p on is one more
-  pub one_more : bit_or set closure / 2 ^ p ≡ set / 2 ^ p + 1
+  one_more : bit_or set closure / 2 ^ p ≡ set / 2 ^ p + 1
   one_more =
       let apart : bit_and (set / 2 ^ p) 1 ≡ 0 = shr_and_one set p ∙ bit_out in
       or_shr set closure p ∙ (ap (bit_or (set / 2 ^ p)) top_one ∙ or_disjoint (set / 2 ^ p) 1 apart)
 
-  pub end_more : part_end (bit_or set closure) p ≡ part_end set (p + 1)
+  end_more : part_end (bit_or set closure) p ≡ part_end set (p + 1)
   end_more =
       let h = set / 2 ^ (p + 1) in
       let y = 2 ^ p in
@@ -104,7 +121,7 @@ module _ (deps : List ℕ) (set p closure : ℕ) (out : ¬ (Has set p)) (is : Is
       two : (h y : ℕ) → (2 * h + 1 + 1) * y ≡ (h + 1) * (2 * y)
       two h y = omega arith
 
-  pub root_more : (k : ℕ) → p < k → IsRoot deps k set → IsRoot deps p (bit_or set closure)
+  root_more : (k : ℕ) → p < k → IsRoot deps k set → IsRoot deps p (bit_or set closure)
   root_more k below root = record {
     closed = either_closed deps set closure root.closed is.closed;
     least = λ other closed same.
@@ -128,20 +145,27 @@ none_before deps k set root w closed low high =
     let over : set ≤ w = subset_le set w (root.least w closed (omega arith)) in
     omega arith
 
--- no closed set lies between the end of what comes before a child and the child
-pub child_gap : (deps : List ℕ) (set p closure k : ℕ) → ¬ (Has set p) → IsClosure deps p closure → p < k → IsRoot deps k set
-    → (part_end set p ≤ bit_or set closure) × ((w : ℕ) → IsClosed deps w → part_end set p ≤ w → w < bit_or set closure → ⊥)
-child_gap deps set p closure k out is below root =
-    let child = root_more deps set p closure out is k below root in
-    let base : part_end set p ≡ bit_or set closure / 2 ^ p * 2 ^ p = ap (λ q. q * 2 ^ p) (sym (one_more deps set p closure out is)) in
-    (omega (arith, base, shr_split (bit_or set closure) p), λ w closed low high. none_before deps p (bit_or set closure) child w closed (subst (λ n. n ≤ w) base low) high)
+-- the child of a root by an id that it lacks: no closed set lies between the end of what comes before it and the child
+pub record IsChild (deps : List ℕ) (set id child : ℕ) : Type 0 where
+  pub root : IsRoot deps id child
+  pub up : part_end set id ≤ child
+  pub none : (w : ℕ) → IsClosed deps w → part_end set id ≤ w → w < child → ⊥
+  pub end : part_end child id ≡ part_end set (id + 1)
 
--- what was swept up to a child is swept up to its root
-pub swept_to_child : {T : Type 0} (tells : List ℕ → T → Type 0) (deps : List ℕ) (from set p closure k count : ℕ) (tally : T)
-    → ¬ (Has set p) → IsClosure deps p closure → p < k → IsRoot deps k set → AreSwept tells deps from (part_end set p) count tally → AreSwept tells deps from (bit_or set closure) count tally
-swept_to_child tells deps from set p closure k count tally out is below root so_far =
-    let gap = child_gap deps set p closure k out is below root in
-    swept_rises tells deps from (part_end set p) count tally so_far (bit_or set closure) gap.0 gap.1
+-- a root with the closure of an id that it lacks is such a child
+pub child_of : (deps closures : List ℕ) (k set id : ℕ) → AreClosures deps closures → k ≤ length deps → IsRoot deps k set
+    → ¬ (Has set id) → id < k → IsChild deps set id (bit_or set (slice_index closures id))
+child_of deps closures k set id each known root out less =
+    let closure = slice_index closures id in
+    let is : IsClosure deps id closure = each.each id (omega arith) in
+    let child = root_more deps set id closure out is k less root in
+    let base : part_end set id ≡ bit_or set closure / 2 ^ id * 2 ^ id = ap (λ q. q * 2 ^ id) (sym (one_more deps set id closure out is)) in
+    record {
+      root = child;
+      up = omega (arith, base, shr_split (bit_or set closure) id);
+      none = λ w closed low high. none_before deps id (bit_or set closure) child w closed (subst (λ n. n ≤ w) base low) high;
+      end = end_more deps set id closure out is;
+    }
 
 -- ---- the whole graph
 

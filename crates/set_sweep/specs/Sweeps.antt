@@ -4,6 +4,7 @@ use Rattle.std.specs.List.{All, AllPairs, Contains}
 use Rattle.patch_sets.specs.Sets.{Has, IsSubset}
 use Rattle.patch_sets.specs.Closed.{IsClosed}
 use Rattle.set_sweep.specs.declared.sweeping.Part.{Part}
+use Rattle.set_sweep.specs.declared.together.Done.{Done}
 
 -- the list has the words of which P holds, and no others, in ascending order
 pub record IsAscendingListOf (P : ℕ → Type 0) (words : List ℕ) : Type 0 where
@@ -86,10 +87,10 @@ abbrev pub IsPartSwept : {T : Type 0} → (List ℕ → T → Type 0) → List �
 IsPartSwept tells deps low root count tally = AreSwept tells deps root (part_end root low) count tally
 
 -- the same of the part at a place
-pub record IsDone {T : Type 0} (tells : List ℕ → T → Type 0) (deps : List ℕ) (low : ℕ) (roots : List ℕ) (at count : ℕ)
-    (tally : T) : Type 0 where
-  pub known : at < length roots
-  pub swept : IsPartSwept tells deps low (slice_index roots at) count tally
+pub record IsDone {T : Type 0} (tells : List ℕ → T → Type 0) (deps : List ℕ) (low : ℕ) (roots : List ℕ)
+    (done : Done T) : Type 0 where
+  pub known : done.at < length roots
+  pub swept : IsPartSwept tells deps low (slice_index roots done.at) done.part.total done.part.tally
 
 -- at each place is what was visited of the part there, or nothing
 abbrev pub ArePlaced : {T : Type 0} → (List ℕ → T → Type 0) → List ℕ → ℕ → List ℕ → List (Option (Part T)) → Type 0

@@ -166,9 +166,7 @@ impl<'a, V: Visitor, A: Allocator + Copy> Job for Sweeping<'a, V, A> {
 
     ghost is_left = { λ j left.
         IfOk left (λ all.
-        All (λ done.
-        IsDone (V.tells j.sweeper.now.visitor.now) j.sweeper.now.deps.now j.low j.roots.now done.at done.part.total
-        done.part.tally) all.items)
+        All (IsDone (V.tells j.sweeper.now.visitor.now) j.sweeper.now.deps.now j.low j.roots.now) all.items)
         × (IsErrOf left fault.TooMany → Outnumbers (IsClosed j.sweeper.now.deps.now) j.sweeper.now.limit) };
 
     fn work(&self, scratch: V::Scratch) -> Result<Vec<Done<V::Tally>, A>, ExploreFault> {
@@ -200,9 +198,7 @@ fn draw_parts<A: Allocator + Copy, V: Visitor>(
     requires lawful { (set : ℕ) → IsClosed sweeper.now.deps.now set → V.is_lawful sweeper.now.visitor.now set }
     requires own { V.is_own sweeper.now.visitor.now scratch }
     ensures done { IfOk result (λ all.
-        All (λ done.
-        IsDone (V.tells sweeper.now.visitor.now) sweeper.now.deps.now low roots.now done.at done.part.total
-        done.part.tally) all.items) }
+        All (IsDone (V.tells sweeper.now.visitor.now) sweeper.now.deps.now low roots.now) all.items) }
     ensures too_many { IsErrOf result ExploreFault.TooMany
         → Outnumbers (IsClosed sweeper.now.deps.now) sweeper.now.limit }
 {
@@ -242,9 +238,7 @@ where
     requires lawful { (set : ℕ) → IsClosed sweeper.now.deps.now set → V.is_lawful sweeper.now.visitor.now set }
     requires own { All (V.is_own sweeper.now.visitor.now) scratches.items }
     ensures done { IfOk result (λ all.
-        All (λ done.
-        IsDone (V.tells sweeper.now.visitor.now) sweeper.now.deps.now low roots.now done.at done.part.total
-        done.part.tally) all.items) }
+        All (IsDone (V.tells sweeper.now.visitor.now) sweeper.now.deps.now low roots.now) all.items) }
     ensures too_many { IsErrOf result ExploreFault.TooMany
         → Outnumbers (IsClosed sweeper.now.deps.now) sweeper.now.limit }
 {

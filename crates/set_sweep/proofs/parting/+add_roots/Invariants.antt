@@ -1,6 +1,6 @@
-use Rattle.std.proofs.Common.{ℕ, ◌<◌, ◌≤◌, ◌-◌}
-use Rattle.patch_sets.specs.Sets.{Has}
+use Rattle.std.proofs.Common.{◌≤◌, ◌-◌}
 use Rattle.set_sweep.specs.Sweeps.{AreParts, part_end}
+use Rattle.set_sweep.proofs.Roots.{IsOutside}
 use Rattle.set_sweep.proofs.parting.+add_roots.Given as goal
 
 abbrev pub decreases-add_roots : goal.decreases-add_roots
@@ -9,8 +9,7 @@ decreases-add_roots g l = l.k
 abbrev pub invariant-loop-id : goal.invariant-loop-id
 invariant-loop-id g l = record {
   up : l.low ≤ l.id;
-  out : ¬ (Has l.set l.id);
-  ones : (q : ℕ) → l.k ≤ q → q < l.id → Has l.set q;
+  at : IsOutside l.set l.k l.id;
   parts : AreParts l.deps l.low (part_end l.set l.id) l.roots.items;
 }
 

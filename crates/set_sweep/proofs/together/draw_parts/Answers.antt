@@ -10,8 +10,8 @@ loop-init g c =
     let tells = g.V.Visitor.tells c.args.sweeper.now.visitor.now in
     record {
       own = c.requires.own;
-      done = subst (All (λ done. IsDone tells deps c.args.low c.args.roots.now done.at done.part.total done.part.tally)) (sym c.new-all.ensures.items)
-          (All-nil (λ done. IsDone tells deps c.args.low c.args.roots.now done.at done.part.total done.part.tally));
+      done = subst (All (IsDone tells deps c.args.low c.args.roots.now)) (sym c.new-all.ensures.items)
+          (All-nil (IsDone tells deps c.args.low c.args.roots.now));
     }
 
 pub sweep_part-requires-clause-known : goal.sweep_part-requires-clause-known
@@ -34,6 +34,6 @@ loop-preserved g c =
     let inside : c.fetch_add-at.result < length roots = omega (arith, c.if-at-roots.false) in
     record {
       own = c.in_ok-part.ensures.own;
-      done = subst (All (λ done. IsDone tells deps c.args.low roots done.at done.part.total done.part.tally)) (sym c.in_ok-push.ensures.items)
-          (All-push (λ done. IsDone tells deps c.args.low roots done.at done.part.total done.part.tally) c.loop.all.items _ c.loop.invariant.done record { known = inside; swept = c.in_ok-part.ensures.swept });
+      done = subst (All (IsDone tells deps c.args.low roots)) (sym c.in_ok-push.ensures.items)
+          (All-push (IsDone tells deps c.args.low roots) c.loop.all.items _ c.loop.invariant.done record { known = inside; swept = c.in_ok-part.ensures.swept });
     }

@@ -5,5 +5,5 @@ use Rattle.set_sweep.proofs.together.draw_parts.Given as goal
 abbrev pub invariant-loop : goal.invariant-loop
 invariant-loop g l = record {
   own : g.V.Visitor.is_own l.sweeper.visitor.now l.scratch;
-  done : All (λ done. IsDone (g.V.Visitor.tells l.sweeper.visitor.now) l.sweeper.deps.now l.low l.roots done.at done.part.total done.part.tally) l.all.items;
+  done : All (IsDone (g.V.Visitor.tells l.sweeper.visitor.now) l.sweeper.deps.now l.low l.roots) l.all.items;
 }

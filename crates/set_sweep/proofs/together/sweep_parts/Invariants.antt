@@ -12,8 +12,8 @@ invariant-loop-left g l =
     let deps = l.fn.sweeper.deps.now in
     let tells = g.V.Visitor.tells l.fn.sweeper.visitor.now in
     record {
-      all : All (λ done. IsDone tells deps l.low l.roots done.at done.part.total done.part.tally) l.all.items;
-      lefts : All (λ left. IfOk left (λ some. All (λ done. IsDone tells deps l.low l.roots done.at done.part.total done.part.tally) some.items) × (IsErrOf left fault.TooMany → Outnumbers (IsClosed deps) l.fn.sweeper.limit)) l.lefts.items;
+      all : All (IsDone tells deps l.low l.roots) l.all.items;
+      lefts : All (λ left. IfOk left (λ some. All (IsDone tells deps l.low l.roots) some.items) × (IsErrOf left fault.TooMany → Outnumbers (IsClosed deps) l.fn.sweeper.limit)) l.lefts.items;
     }
 
 abbrev pub decreases-loop-left : goal.decreases-loop-left

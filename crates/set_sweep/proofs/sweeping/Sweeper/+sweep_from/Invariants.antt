@@ -1,6 +1,6 @@
-use Rattle.std.proofs.Common.{◌≡◌, ℕ, ◌<◌, ◌≤◌, ◌-◌}
-use Rattle.patch_sets.specs.Sets.{Has}
+use Rattle.std.proofs.Common.{◌≡◌, ◌≤◌, ◌-◌}
 use Rattle.set_sweep.specs.Sweeps.{AreSwept, part_end}
+use Rattle.set_sweep.proofs.Roots.{IsOutside}
 use Rattle.set_sweep.proofs.sweeping.Sweeper.+sweep_from.Given as goal
 
 abbrev pub decreases-sweep_from : goal.decreases-sweep_from
@@ -11,8 +11,7 @@ invariant-loop-id g l = record {
   own : g.V.Visitor.is_own l.self.visitor.now l.scratch;
   within : l.part.total ≤ l.self.limit;
   root : l.part.root ≡ l.fn.part.root;
-  out : ¬ (Has l.set l.id);
-  ones : (q : ℕ) → l.k ≤ q → q < l.id → Has l.set q;
+  at : IsOutside l.set l.k l.id;
   swept : AreSwept (g.V.Visitor.tells l.self.visitor.now) l.self.deps.now l.part.root (part_end l.set l.id) l.part.total l.part.tally;
 }
 
