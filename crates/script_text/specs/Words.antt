@@ -29,7 +29,7 @@ SaysWords words Skipped = ⊥
 SaysWords words Start = words ≡ codes "start" ∷ []
 SaysWords words (Says act) = IsAct act × (words ≡ words_of act)
 
--- a path for a form, where no path matters
+-- a path for a form, in which no path matters
 abbrev pub anywhere : Path
 anywhere = record { through = record { items = [] }; last = [] }
 
@@ -47,6 +47,7 @@ some_act End = Some acts.End
 some_act Depend = Some (acts.Depend [] [])
 some_act verb.Start = None
 
+-- the first word and the operands of that act, or of the start line
 abbrev pub form : Option Act → List ℕ × List Operand
 form (Some act) = said act
 form None = (codes "start", [])
