@@ -7,8 +7,10 @@ use Rattle.crash_model.specs.Trace.{Emitted, trace_start, IsGraphOf, groups_depe
 use Rattle.crash_model.specs.declared.patches.Patch.{Patch}
 use Rattle.crash_model.specs.declared.rules.Rule.{Rule}
 use Rattle.crash_model.specs.declared.modules.Module.{Module}
-use Rattle.traced_patches.specs.Labels.{emitted_of}
+use Rattle.crash_model.specs.declared.orderings.Ordering.{Ordering}
+use Rattle.traced_patches.specs.Labels.{emitted_of, emitted_by, links_by}
 use Rattle.traced_patches.specs.declared.labels.Label.{Label}
+use Rattle.traced_patches.specs.declared.labels.Link.{Link}
 
 pub record Log : Type 0 where
   -- the disk before the patches, and with all of them
@@ -20,6 +22,18 @@ pub record Log : Type 0 where
   -- the patches with what they are of their operations, and as they stand in the graph
   pub emitted : List Emitted
   pub patches : List Patch
+
+-- by what a patch log keeps
+abbrev pub log_of : Disk → Disk → Ordering → List Patch → List Label → List Link → Log
+log_of base written ordering patches labels links = record {
+  base = base;
+  written = written;
+  kind = ordering.«module»;
+  rules = ordering.rules.items;
+  links = links_by links;
+  emitted = emitted_by (places_of patches) labels;
+  patches = patches;
+}
 
 -- the disk with places put one after another
 abbrev pub with_places : Disk → List Place → Disk

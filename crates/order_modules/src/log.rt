@@ -33,34 +33,16 @@ pub struct PatchLog<'a, A: Allocator + Copy> {
 }
 
 impl<'a, A: Allocator + Copy> Model for PatchLog<'a, A> {
-    ghost use Rattle.order_modules.specs.Log.{Log, IsLog};
-    ghost use Rattle.traced_patches.specs.Labels.{emitted_by, links_by};
-    ghost use Rattle.crash_model.specs.Patches.{places_of};
+    ghost use Rattle.order_modules.specs.Log.{Log, IsLog, log_of};
     ghost use Rattle.std.specs.Prelude.{◌≡◌, length};
 
     ghost Value = { Log };
 
-    ghost view = { λ l.
-        record {
-          base = l.base.now;
-          kind = l.ordering.now.«module»;
-          rules = l.ordering.now.rules.items;
-          links = links_by l.links.items;
-          emitted = emitted_by (places_of l.graph) l.labels.items;
-          patches = l.graph;
-          written = l.written;
-        } };
+    ghost view = { λ l. log_of l.base.now l.written l.ordering.now l.graph l.labels.items l.links.items };
 
     ghost invariant = { λ l.
-        IsLog (record {
-          base = l.base.now;
-          kind = l.ordering.now.«module»;
-          rules = l.ordering.now.rules.items;
-          links = links_by l.links.items;
-          emitted = emitted_by (places_of l.graph) l.labels.items;
-          patches = l.graph;
-          written = l.written;
-        }) × (length l.labels.items ≡ length l.graph) };
+        IsLog (log_of l.base.now l.written l.ordering.now l.graph l.labels.items l.links.items)
+        × (length l.labels.items ≡ length l.graph) };
 }
 
 impl<'a, A: Allocator + Copy> PatchLog<'a, A> {

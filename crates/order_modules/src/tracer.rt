@@ -11,9 +11,11 @@ ghost use Rattle.crash_model.specs.declared.modules.Module.TheVariants.{Full};
 ghost use Rattle.inode_fs.specs.Inside.{LiesInside, GivesName};
 ghost use Rattle.full_journal_laws.specs.Full.{ops_of, IsFullSafe};
 ghost use Rattle.order_modules.specs.Tracer.{Moves, IsOrdered, IsJournaled};
+ghost use Rattle.order_modules.specs.Transactions.{targets_of};
 
 use crate::log::PatchLog;
 use crate::transactions::touched;
+use arrayvec::ArrayVec;
 use crash_model::modules::Module;
 use crash_model::names::GroupName;
 use crash_model::operations::Op;
@@ -191,6 +193,13 @@ impl<'a, A: Allocator + Copy> Tracer<'a, A> {
         Ok(())
     }
 
+    /// The blocks that a transaction of the plan has copies of, ascending.
+    fn touched_by(&self, plan: &Plan) -> ArrayVec<u8, 128>
+        ensures { result.items ≡ targets_of self.now.log.kind self.now.tracing.disk.blocks plan.now.items }
+    {
+        touched(self.log.module(), self.disk.blocks(), plan.as_slice())
+    }
+
     /// Adds the changes of an operation as a transaction of the journal.
     fn write_journaled(&mut self, line: usize, op: &'a Op, plan: &Plan) -> Result<(), TraceFault>
         requires order { IsJournaled self.old.log.kind }
@@ -201,7 +210,7 @@ impl<'a, A: Allocator + Copy> Tracer<'a, A> {
         ensures refused { IfErr result (λ refusal. refusal ≢ fault.OutOfMemory
             → trace_of_plan self.old.log.kind line op.now self.old.tracing (Ok plan.now.items) ≡ Err refusal) }
     {
-        let targets = touched(self.log.module(), self.disk.blocks(), plan.as_slice());
+        let targets = self.touched_by(plan);
         let next = self.next + 1 + targets.len();
         if next > 4 + self.disk.journal() {
             return Err(TraceFault::JournalFull { line });

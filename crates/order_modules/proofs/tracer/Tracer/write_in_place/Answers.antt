@@ -1,14 +1,12 @@
 use Rattle.std.proofs.Common.{◌≡◌, ◌+◌, ◌≤◌, List, length, map, arith, refl, sym, ap, subst}
-use Rattle.std.specs.Prelude.{All, Ok}
-use Rattle.crash_model.specs.Disk.{IsDisk}
+use Rattle.std.specs.Prelude.{Ok}
 use Rattle.crash_model.specs.Trace.{origin_at, in_place_patch, trace_of_plan}
 use Rattle.crash_model.specs.declared.plans.Change.{Change}
-use Rattle.inode_fs.specs.Inside.{LiesInside}
 use Rattle.traced_patches.specs.Labels.{group_by}
 use Rattle.order_modules.specs.Log.{Adds}
 use Rattle.order_modules.specs.Tracer.{Trace, Moves, IsOrdered, names_by, trace_of}
 use Rattle.order_modules.specs.Transactions.{changes_in_place}
-use Rattle.order_modules.proofs.Planning.{trace_kept, not_journaled, moves_in_place, placed_all, with_changes-disk}
+use Rattle.order_modules.proofs.Planning.{trace_kept, not_journaled, moves_in_place, placed_all}
 use Rattle.order_modules.proofs.tracer.Tracer.write_in_place.Goals as goal
 
 pub emit_in_place-requires-clause-room : goal.emit_in_place-requires-clause-room
@@ -21,23 +19,14 @@ emit_in_place-requires-clause-room g c =
     omega (arith, all, same, room, c.len.ensures.value)
 
 pub invariant_of-self : goal.invariant_of-self
-invariant_of-self g c =
-    let i = c.self.inside in
-    let old : Trace = trace_of i.log i.disk i.turn i.next (group_by i.current) (names_by i.opened.items) (names_by i.ended.items) in
-    let inside = subst (λ (t : Trace). All (LiesInside t.tracing.disk.blocks) c.args.plan.now.items) (sym c.self.view_is) c.requires.inside in
-    let is_disk : IsDisk c.apply.new.image = subst IsDisk (sym c.apply.ensures.changes) (with_changes-disk i.disk c.args.plan.now.items c.self.invariant.disk inside) in
-    trace_kept old c.self.invariant c.emit_in_place.new.self c.emit_in_place.ensures.kept c.apply.new.image is_disk c.apply.ensures.size.0 c.apply.ensures.size.1 i.turn i.next (omega arith)
-    (omega (arith, c.self.invariant.to, c.apply.ensures.size.1)) c.self.invariant.counted
+invariant_of-self g c = trace_kept _ _ c.emit_in_place.new.self c.apply.new.image c.args.plan.now.items c.self.inside.turn c.self.inside.next c.self.view_is c.self.invariant c.emit_in_place.ensures.kept c.requires.inside c.apply.ensures.changes
+    (omega arith) c.self.invariant.to c.self.invariant.counted
 
 pub invariant_of-self-2 : goal.invariant_of-self-2
 invariant_of-self-2 g c =
-    let i = c.self.inside in
-    let old : Trace = trace_of i.log i.disk i.turn i.next (group_by i.current) (names_by i.opened.items) (names_by i.ended.items) in
     let order = subst (λ (t : Trace). IsOrdered t.log.kind) (sym c.self.view_is) c.requires.order in
-    let inside = subst (λ (t : Trace). All (LiesInside t.tracing.disk.blocks) c.args.plan.now.items) (sym c.self.view_is) c.requires.inside in
-    let is_disk : IsDisk c.apply.new.image = subst IsDisk (sym c.apply.ensures.changes) (with_changes-disk i.disk c.args.plan.now.items c.self.invariant.disk inside) in
-    trace_kept old c.self.invariant c.emit_in_place.new.self c.emit_in_place.ensures.kept c.apply.new.image is_disk c.apply.ensures.size.0 c.apply.ensures.size.1 (i.turn + 1) i.next (omega arith)
-    (omega (arith, c.self.invariant.to, c.apply.ensures.size.1)) (λ j. absurd (not_journaled i.log.kind order j))
+    trace_kept _ _ c.emit_in_place.new.self c.apply.new.image c.args.plan.now.items (c.self.inside.turn + 1) c.self.inside.next c.self.view_is c.self.invariant c.emit_in_place.ensures.kept c.requires.inside c.apply.ensures.changes
+    (omega arith) c.self.invariant.to (λ j. absurd (not_journaled c.self.inside.log.kind order j))
 
 pub returns-clause-ok : goal.returns-clause-ok
 returns-clause-ok g c =

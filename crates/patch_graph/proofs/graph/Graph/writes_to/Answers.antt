@@ -1,8 +1,10 @@
-use Rattle.std.proofs.Common.{◌≡◌, ℕ, ◌<◌, ◌≤◌, ◌↔◌, List, length, bit_and, arith, refl, sym, subst, ◌∙◌}
+use Rattle.std.proofs.Common.{◌≡◌, ℕ, ◌<◌, ◌≤◌, ◌↔◌, List, [], ◌∷◌, ◌++◌, length, get_or, bit_and, arith, refl, sym, ap, subst, ◌∙◌}
 use Rattle.std.proofs.lemmas.List.{length-map}
 use Rattle.std.specs.Prelude.{slice_index}
 use Rattle.patch_sets.specs.Sets.{Has}
 use Rattle.patch_sets.specs.Closed.{AreEarlier}
+use Rattle.patch_sets.specs.Ends.{IsLowest, IsDifference}
+use Rattle.patch_sets.specs.Leading.{ComesBefore}
 use Rattle.patch_sets.specs.declared.write.BlockWrite.{BlockWrite}
 use Rattle.patch_sets.proofs.Writes.{runs_from_cut}
 use Rattle.patch_sets.proofs.Runs.{runs_lead}
@@ -18,47 +20,33 @@ loop-id-init g c =
     subst (λ (writes : List BlockWrite). IsRest (homes_of c.args.self.now) c.args.set (bit_and c.args.set c.ids.result) writes) (sym c.in_ok-writes.ensures.items)
     (rest_start c.args.self.now c.args.set c.ids.result c.ids.ensures)
 
--- the mask of the block of the lowest id
-of_block : (homes masks : List ℕ) (id block q : ℕ) → AreAtBlocks homes masks → block < 256 → slice_index homes id ≡ block → Has (slice_index masks block) q ↔ ((q < length homes) × (slice_index homes q ≡ slice_index homes id))
-of_block homes masks id block q are small home = subst (λ (b : ℕ). Has (slice_index masks block) q ↔ ((q < length homes) × (slice_index homes q ≡ b))) (sym home) (are.exactly block q small)
-
-few_homes : (patches : List Patch) → length patches ≤ 124 → length (homes_of patches) ≤ 128
-few_homes patches few = let long = length-map patches (λ p. p.block) in omega (arith, long, few)
+-- with a write of the run that the lowest id begins, less is left
+run_written : (now patches : List Patch) (masks : List ℕ) (block : ℕ) (x : Patch) {set left id others ahead rest : ℕ} {writes : List BlockWrite}
+    → patches ≡ now → length patches ≤ 124 → AreAtBlocks (homes_of patches) masks → IsRest (homes_of now) set left writes
+    → IsLowest left id → x ≡ get_or patches id x → block ≡ x.block → block < 256
+    → IsDifference left (slice_index masks block) others → ((q : ℕ) → Has ahead q ↔ ((q < 128) × ComesBefore others q)) → IsDifference left ahead rest
+    → (rest < left) × IsRest (homes_of now) set rest (writes ++ record { block = x.block; ids = bit_and left ahead } ∷ [])
+run_written now patches masks block x {set} {left} {id} {others} {ahead} {rest} {writes} view few masked so_far low read is small are_others are_ahead is_rest =
+    let homes = homes_of now in
+    let few_homes : length homes ≤ 128 = subst (λ (xs : List Patch). length (homes_of xs) ≤ 128) view (omega (arith, few, length-map patches (λ p. p.block))) in
+    let home : slice_index homes id ≡ x.block = subst (λ (xs : List Patch). slice_index (homes_of xs) id ≡ x.block) view
+    (home_read patches id x (omega (arith, so_far.known id low.inside, ap length view, length-map now (λ p. p.block))) read) in
+    let of_block : (q : ℕ) → Has (slice_index masks block) q ↔ ((q < length homes) × (slice_index homes q ≡ slice_index homes id)) = λ q.
+    subst (λ (b : ℕ). Has (slice_index masks block) q ↔ ((q < length homes) × (slice_index homes q ≡ b))) (is ∙ sym home)
+    ((subst (λ (xs : List Patch). AreAtBlocks (homes_of xs) masks) view masked).exactly block q small) in (
+      rest_smaller homes set left writes so_far few_homes id low (slice_index masks block) others ahead rest of_block are_others are_ahead is_rest,
+      rest_next homes set left writes so_far few_homes id low (slice_index masks block) others ahead rest of_block are_others are_ahead is_rest _ (sym home) refl,
+    )
 
 pub loop-id-smaller : goal.loop-id-smaller
-loop-id-smaller g c =
-    let patches = c.self.inside.patches.items in
-    let before = c.loop-id in
-    let id = c.in-Some.id in
-    let x = c.index.result.now in
-    let so_far = subst (λ (xs : List Patch). IsRest (homes_of xs) c.args.set before.left before.writes.items) (sym c.self.view_is) before.invariant in
-    let few = few_homes patches c.self.invariant.0.few in
-    let known = so_far.known id c.in-Some.ensures.found.inside in
-    let inside : id < length patches = omega (arith, known, length-map patches (λ p. p.block)) in
-    let home : slice_index (homes_of patches) id ≡ x.block = home_read patches id x inside c.index.ensures in
-    rest_smaller (homes_of patches) c.args.set before.left before.writes.items so_far few id c.in-Some.ensures.found
-    (slice_index c.self.inside.at_block c.from.result) c.difference-others.result c.below_lowest-ahead.result c.difference-left.result
-    (λ q. of_block (homes_of patches) c.self.inside.at_block id c.from.result q c.self.invariant.2 (omega (arith, c.from.ensures)) (home ∙ sym c.from.ensures))
-    c.difference-others.ensures c.below_lowest-ahead.ensures c.difference-left.ensures
+loop-id-smaller g c = (run_written c.args.self.now c.self.inside.patches.items c.self.inside.at_block c.from.result c.index.result.now c.self.view_is c.self.invariant.0.few c.self.invariant.2 c.loop-id.invariant
+    c.in-Some.ensures.found c.index.ensures c.from.ensures (omega (arith, c.from.ensures)) c.difference-others.ensures c.below_lowest-ahead.ensures c.difference-left.ensures).0
 
 pub loop-id-preserved : goal.loop-id-preserved
 loop-id-preserved g c =
-    let patches = c.self.inside.patches.items in
-    let before = c.loop-id in
-    let id = c.in-Some.id in
-    let x = c.index.result.now in
-    let so_far = subst (λ (xs : List Patch). IsRest (homes_of xs) c.args.set before.left before.writes.items) (sym c.self.view_is) before.invariant in
-    let few = few_homes patches c.self.invariant.0.few in
-    let known = so_far.known id c.in-Some.ensures.found.inside in
-    let inside : id < length patches = omega (arith, known, length-map patches (λ p. p.block)) in
-    let home : slice_index (homes_of patches) id ≡ x.block = home_read patches id x inside c.index.ensures in
-    let w : BlockWrite = record { block = x.block; ids = bit_and before.left c.below_lowest-ahead.result } in
-    let next = rest_next (homes_of patches) c.args.set before.left before.writes.items so_far few id c.in-Some.ensures.found
-    (slice_index c.self.inside.at_block c.from.result) c.difference-others.result c.below_lowest-ahead.result c.difference-left.result
-    (λ q. of_block (homes_of patches) c.self.inside.at_block id c.from.result q c.self.invariant.2 (omega (arith, c.from.ensures)) (home ∙ sym c.from.ensures))
-    c.difference-others.ensures c.below_lowest-ahead.ensures c.difference-left.ensures w (sym home) refl in
-    subst (λ (xs : List Patch). IsRest (homes_of xs) c.args.set c.difference-left.result c.push.new.self.items) c.self.view_is
-    (subst (λ (ws : List BlockWrite). IsRest (homes_of patches) c.args.set c.difference-left.result ws) (sym c.in_ok-push.ensures.items) next)
+    let next = run_written c.args.self.now c.self.inside.patches.items c.self.inside.at_block c.from.result c.index.result.now c.self.view_is c.self.invariant.0.few c.self.invariant.2 c.loop-id.invariant
+    c.in-Some.ensures.found c.index.ensures c.from.ensures (omega (arith, c.from.ensures)) c.difference-others.ensures c.below_lowest-ahead.ensures c.difference-left.ensures in
+    subst (λ (writes : List BlockWrite). IsRest (homes_of c.args.self.now) c.args.set c.difference-left.result writes) (sym c.in_ok-push.ensures.items) next.1
 
 pub returns-clause-runs : goal.returns-clause-runs
 returns-clause-runs g c =
