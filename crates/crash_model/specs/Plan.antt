@@ -150,6 +150,7 @@ relink_plan d old new more =
     (Ok (link_count LinkUp target (links_of d target + 1) ∷ entry_set d dir k target name
     ∷ more old_dir old_k target)))))))
 
+-- the changes of an operation, in the order in which they are emitted, or its first refusal
 unfoldable pub plan_of : Disk → Op → Result (List Change) FsFault
 plan_of d (Create path) =
     at_path d path (λ dir name.
