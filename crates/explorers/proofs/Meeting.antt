@@ -8,9 +8,10 @@ use Rattle.seen_board.specs.Inserts.{PutOk}
 use Rattle.seen_board.specs.Known.{Known, Shown}
 use Rattle.seen_board.specs.declared.answers.Put.{Put}
 use Rattle.seen_board.specs.declared.answers.Put.TheVariants.{Busy, Over}
-use Rattle.explorers.proofs.Successors.{has_on, put_sees, puts_in}
+use Rattle.seen_board.proofs.Puts.{has_on, put_sees}
+use Rattle.explorers.proofs.Successors.{puts_in}
 use Rattle.explorers.specs.Met.{AreMet}
-use Rattle.explorers.specs.Ready.{IsFree}
+use Rattle.explorers.specs.Ready.{IsIdle, IsFree, IsReady}
 use Rattle.explorers.specs.declared.worker.Worker.{Worker}
 
 -- what was met stays so where more is seen
@@ -37,6 +38,14 @@ free_after b space is_own before after word put free ok not_over not_busy own ea
       own = own;
       met = met_more before.met after.met word before.seat after.seat (put_sees word before.seat after.seat put ok) puts.has each free.met;
     }
+
+-- a worker that is between two turns stays so where its seat is idle and sees on
+pub ready_on : {S C A : Type 0} (b : Shown S) (space : S) (is_own : S → C → Type 0) (seen : List (List ℕ)) (worker : Worker C A) → b.space ≡ space → is_own space worker.scratch → AreMet worker.met seen
+    → IsIdle b worker.seat → SeesOn seen worker.seat.seen → IsReady b space is_own worker
+ready_on b space is_own seen worker explored own met idle sees = record {
+  free = record { explored = explored; of = idle.0; free = idle.1; own = own; met = met_on worker.met seen worker.seat.seen sees met };
+  unclaimed = idle.2;
+}
 
 -- copies of one word
 pub met_copies : (words : List ℕ) (word : ℕ) (seen : List (List ℕ)) → All (λ met. met ≡ word) words → Has seen word → AreMet words seen

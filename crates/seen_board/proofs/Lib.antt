@@ -7,4 +7,5 @@ pub mod AfterScans
 pub mod Chains
 pub mod Digits
 pub mod Endings
+pub mod Puts
 pub mod Slots

@@ -2,7 +2,8 @@ use Rattle.std.proofs.Common.{rules, arith, subst, ◌≡◌, ◌+◌}
 use Rattle.seen_board.specs.Known.{Known}
 use Rattle.seen_board.specs.Clauses.{HasPlace, word_at, SeesOn}
 use Rattle.seen_board.proofs.Chains.{sees_on_trans}
-use Rattle.explorers.proofs.Successors.{place_on, expands_next, expands_successor, expands_all}
+use Rattle.seen_board.proofs.Puts.{place_on, successor_on}
+use Rattle.explorers.proofs.Successors.{expands_next, expands_all}
 use Rattle.explorers.proofs.exploration.Exploration.expand.Goals as goal
 
 pub put_in-requires-clause-successor : goal.put_in-requires-clause-successor
@@ -10,7 +11,7 @@ put_in-requires-clause-successor g c = let same = c.at-word.ensures.same in let 
     let has : HasPlace c.at-word.new.seat.seen c.args.place = rw same c.requires.claim.1 in
     let kept = c.loop-next.invariant in
     let come = c.in-Some.ensures.next kept.k kept.ahead in
-    (expands_successor c.args.self.now.board.now after c.at-word.new.seat.seen c.args.place kept.k c.in-Some.next c.loop-next.mine.seat has kept.expands (rw (← word) come.0) (rw (← word) come.1))
+    successor_on after c.at-word.new.seat.seen c.args.place kept.k c.in-Some.next c.loop-next.mine.seat kept.expands.claim has kept.expands.sees (rw (← word) come.0) (rw (← word) come.1)
 
 pub loop-next-preserved : goal.loop-next-preserved
 loop-next-preserved g c = let same = c.at-word.ensures.same in let word : c.at-word.result ≡ word_at c.at-word.new.seat.seen c.args.place = rw same c.at-word.ensures.word in

@@ -1,5 +1,6 @@
 use Rattle.std.proofs.Common.{rules, refl}
-use Rattle.explorers.proofs.Successors.{put_sees, puts_in}
+use Rattle.seen_board.proofs.Puts.{put_sees}
+use Rattle.explorers.proofs.Successors.{puts_in}
 use Rattle.explorers.proofs.Meeting.{met_on, free_after}
 use Rattle.explorers.proofs.exploration.Exploration.put_in.Goals as goal
 

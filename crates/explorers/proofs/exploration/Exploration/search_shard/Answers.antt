@@ -1,24 +1,14 @@
 use Rattle.std.proofs.Common.{arith}
 use Rattle.board_rule.specs.Lists.{row_of}
 use Rattle.board_rule.proofs.Sums.{starts-length}
-use Rattle.explorers.proofs.Meeting.{met_on}
+use Rattle.explorers.proofs.Meeting.{ready_on}
 use Rattle.explorers.proofs.exploration.Exploration.search_shard.Goals as goal
 
 pub loop-at-init : goal.loop-at-init
 loop-at-init g c =
-    let mine = c.args.mine.now in
-    let idle = c.count_of-count.ensures.idle in
+    let free = c.requires.ready.free in
     record {
-      ready = record {
-        free = record {
-          explored = c.requires.ready.free.explored;
-          of = idle.0;
-          free = idle.1;
-          own = c.requires.ready.free.own;
-          met = met_on mine.met mine.seat.seen c.count_of-count.new.seat.seen c.count_of-count.ensures.sees c.requires.ready.free.met;
-        };
-        unclaimed = idle.2;
-      };
+      ready = ready_on _ _ _ c.args.mine.now.seat.seen _ free.explored free.own free.met c.count_of-count.ensures.idle c.count_of-count.ensures.sees;
       seen = c.count_of-count.ensures.seen;
     }
 

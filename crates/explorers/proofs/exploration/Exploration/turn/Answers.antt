@@ -1,19 +1,7 @@
-use Rattle.explorers.proofs.Meeting.{met_on}
+use Rattle.explorers.proofs.Meeting.{ready_on}
 use Rattle.explorers.proofs.exploration.Exploration.turn.Goals as goal
 
 pub take-requires-in-Some-steal : goal.take-requires-in-Some-steal
 take-requires-in-Some-steal g c =
-    let mine = c.args.mine.now in
-    let idle = c.learn.ensures.idle in
-    record {
-      ready = record {
-        free = record {
-          explored = c.requires.ready.free.explored;
-          of = idle.0;
-          free = idle.1;
-          own = c.requires.ready.free.own;
-          met = met_on mine.met c.stopped.new.seat.seen c.learn.new.seat.seen c.learn.ensures.sees (rw c.stopped.ensures c.requires.ready.free.met);
-        };
-        unclaimed = idle.2;
-      };
-    }
+    let free = c.requires.ready.free in
+    record { ready = ready_on _ _ _ c.stopped.new.seat.seen _ free.explored free.own (rw c.stopped.ensures free.met) c.learn.ensures.idle c.learn.ensures.sees }
