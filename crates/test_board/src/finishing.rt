@@ -1,15 +1,16 @@
 //! Tests of the end of a board: who reads when that all is finished, what a stop leaves, and what `close` gives.
 
-ghost use Rattle.std.specs.Prelude.{◌≡◌, ◌≢◌, ◌+◌, ◌<◌, length};
+ghost use Rattle.std.specs.Prelude.{◌≡◌, ◌≢◌, ◌<◌};
 ghost use Rattle.seen_board.specs.Clauses.{IsOf, HasPlace, HasClaim, IsAtRest};
 ghost use Rattle.test_board.specs.Diamond.{diamond};
 ghost use Rattle.test_board.specs.Worker.{IsIdle};
 
-use crate::trials::{DiamondBoard, FIRST, START, put_after_start, waits_for};
-use crate::{Diamond, Ladder, expand, is_explored, work};
+use crate::trials::{DiamondBoard, waits_for};
+use crate::{
+    Diamond, FIRST, Ladder, START, Shape, Small, expand, is_explored, put_after_start, work,
+};
 use seen_board::{Board, BoardSeat, Contents, Life, Place, Put};
-use state_space::Space;
-use std::alloc::{AllocError, Global};
+use std::alloc::Global;
 use std::process::Abort;
 use std::sync::Wait;
 use std::sync::atomic::AtomicBool;
@@ -24,26 +25,10 @@ struct Paused {
     goes_on: AtomicBool,
 }
 
-impl Space for Paused {
-    type Scratch = ();
-
-    ghost is_lawful = { λ _ _. Unit {0} };
-
-    ghost initial = { λ _. 0 };
-
+impl Shape for Paused {
     ghost successors = { λ _. diamond };
 
     ghost is_good = { λ _ word. word ≢ 2 };
-
-    ghost is_own = { λ _ _. Unit {0} };
-
-    fn start(&self) -> u128 {
-        Diamond.start()
-    }
-
-    fn scratch(&self) -> Result<(), AllocError> {
-        Diamond.scratch()
-    }
 
     fn degree(&self, word: u128) -> u32 {
         Diamond.degree(word)
@@ -53,27 +38,13 @@ impl Space for Paused {
         Diamond.next(word, k)
     }
 
-    ghost is_ahead = { λ _ word ahead k. ahead + k ≡ length (diamond word) };
-
-    fn ahead(&self, word: u128) -> u128 {
-        Diamond.ahead(word)
-    }
-
-    fn advance(&self, word: u128, ahead: &mut u128) -> Option<u128> {
-        Diamond.advance(word, ahead)
-    }
-
-    fn judge(&self, scratch: &mut (), word: u128) -> Result<bool, AllocError> {
+    fn judge(&self, word: u128) -> bool {
         if word == 0 {
             self.judging.store(true, SeqCst);
             waits_for(&self.goes_on);
         }
-        Diamond.judge(scratch, word)
+        Diamond.judge(word)
     }
-
-    ghost initial_lawful = { λ _. tt };
-
-    ghost successor_lawful = { λ _ _ _ _ _. tt };
 }
 
 /// Claims an entry and expands it, which settles it.
@@ -83,7 +54,8 @@ fn settle_entry<R: Abort + Wait>(rt: &R, board: &DiamondBoard, seat: &mut BoardS
 {
     assert!(rt; seat.has_seen(place));
     assert!(rt; board.claim(seat, place));
-    assert!(rt; matches!(expand(rt, board, &Diamond, &mut (), seat, place), Ok(true)));
+    let within = expand(rt, board, &Small(Diamond), &mut (), seat, place);
+    assert!(rt; matches!(within, Ok(true)));
 }
 
 /// One seat settles the four words, one after another, and before each of them neither reads that all is finished.
@@ -107,7 +79,7 @@ fn settle_four<R: Abort + Wait>(
 
 #[test]
 fn finished_comes_with_the_last_verdict(rt: HostRuntime) -> Result<(), Fail> {
-    let (board, mut seat, _) = Board::open(rt.alloc(), &Diamond, 4)?;
+    let (board, mut seat, _) = Board::open(rt.alloc(), &Small(Diamond), 4)?;
     let mut other = board.split(&mut seat);
     settle_four(&rt, &board, &mut seat, &mut other);
     assert!(rt; board.finished(&mut other));
@@ -127,21 +99,21 @@ fn put_twice(rt: &impl Abort, board: &DiamondBoard, seat: &mut BoardSeat, other:
 {
     assert!(rt; board.claim(seat, START));
     assert!(rt; !board.finished(other));
-    assert!(rt; put_after_start(rt, board, &Diamond, seat, 0) == Put::New(FIRST));
+    assert!(rt; put_after_start(board, &Small(Diamond), seat, 0) == Some(Put::New(FIRST)));
     assert!(rt; !board.finished(other));
-    assert!(rt; put_after_start(rt, board, &Diamond, seat, 0) == Put::Known(FIRST));
+    assert!(rt; put_after_start(board, &Small(Diamond), seat, 0) == Some(Put::Known(FIRST)));
     assert!(rt; !board.finished(seat));
 }
 
 #[test]
 fn a_word_is_new_once_and_the_entry_settled_later(rt: HostRuntime) -> Result<(), Fail> {
-    let (board, mut seat, _) = Board::open(rt.alloc(), &Diamond, 4)?;
+    let (board, mut seat, _) = Board::open(rt.alloc(), &Small(Diamond), 4)?;
     let mut other = board.split(&mut seat);
     put_twice(&rt, &board, &mut seat, &mut other);
-    let within = expand(&rt, &board, &Diamond, &mut (), &mut seat, START);
+    let within = expand(&rt, &board, &Small(Diamond), &mut (), &mut seat, START);
     assert!(rt; matches!(within, Ok(true)));
     assert!(rt; !board.finished(&mut other));
-    let mut seat = work(&rt, &board, &Diamond, seat);
+    let mut seat = work(&rt, &board, &Small(Diamond), seat);
     assert!(rt; board.finished(&mut other));
     assert!(rt; board.finished(&mut seat));
     assert!(rt; is_explored(&board.close(seat)));
@@ -151,25 +123,25 @@ fn a_word_is_new_once_and_the_entry_settled_later(rt: HostRuntime) -> Result<(),
 /// What a seat reads of the end while another judges its first entry, and whether it came in time. Then it works on.
 fn read_amid_judging<R: Wait>(
     rt: &R,
-    board: &Board<Paused, Global>,
-    space: &Paused,
+    board: &Board<Small<Paused>, Global>,
+    space: &Small<Paused>,
     mut seat: BoardSeat,
 ) -> (bool, bool, BoardSeat)
     requires { IsIdle board.now seat × (board.now.space ≡ space.now) }
     ensures { IsIdle board.now result.2 }
 {
-    let met = waits_for(&space.judging);
+    let met = waits_for(&space.0.judging);
     let finished = board.finished(&mut seat);
-    space.goes_on.store(true, SeqCst);
+    space.0.goes_on.store(true, SeqCst);
     (met, finished, work(rt, board, space, seat))
 }
 
 #[test]
 fn finished_is_false_amid_an_expansion(rt: HostRuntime) -> Result<(), Fail> {
-    let paused = Paused {
+    let paused = Small(Paused {
         judging: AtomicBool::new(false),
         goes_on: AtomicBool::new(false),
-    };
+    });
     let (board, mut seat, _) = Board::open(rt.alloc(), &paused, 4)?;
     let other = board.split(&mut seat);
     let (shared, space, handle) = (&board, &paused, &rt);
@@ -210,7 +182,7 @@ fn is_claimed(contents: &Contents<Global>) -> bool {
 
 #[test]
 fn a_stop_is_read_and_the_entry_stays_claimed(rt: HostRuntime) -> Result<(), Fail> {
-    let (board, mut seat, _) = Board::open(rt.alloc(), &Diamond, 4)?;
+    let (board, mut seat, _) = Board::open(rt.alloc(), &Small(Diamond), 4)?;
     let mut other = board.split(&mut seat);
     stop_a_claim(&rt, &board, &mut seat, &mut other);
     assert!(rt; !board.finished(&mut other));
@@ -246,10 +218,10 @@ fn tick_all(rt: &impl Abort, contents: &Contents<Global>) {
 
 #[test]
 fn a_finished_board_has_each_word_once(rt: HostRuntime) -> Result<(), Fail> {
-    let ladder = Ladder {
+    let ladder = Small(Ladder {
         last: 40,
         good_to: 40,
-    };
+    });
     let (board, mut seat, _) = Board::open(rt.alloc(), &ladder, 41)?;
     let other = board.split(&mut seat);
     let (shared, space, handle) = (&board, &ladder, &rt);

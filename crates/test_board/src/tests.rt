@@ -1,11 +1,11 @@
 //! Tests of what a board answers: rights, claims, words that are put in, and seats in several threads.
 
 ghost use Rattle.std.specs.Prelude.{◌≡◌, ◌<◌, length, IfOk};
-ghost use Rattle.seen_board.specs.Clauses.{IsOf, IsAtRest, HasClaim, HasPlace};
+ghost use Rattle.seen_board.specs.Clauses.{IsAtRest, HasClaim, HasPlace};
 ghost use Rattle.test_board.specs.Worker.{IsIdle};
 
-use crate::trials::{DiamondBoard, FIRST, START, put_after_start, waits_for};
-use crate::{Diamond, Fan, is_explored, put_each, work};
+use crate::trials::{DiamondBoard, waits_for};
+use crate::{Diamond, FIRST, Fan, START, Small, is_explored, put_after_start, put_each, work};
 use seen_board::{Board, BoardSeat, Contents, Got, Life, Place, Put};
 use state_space::Space;
 use std::alloc::Global;
@@ -32,7 +32,7 @@ fn write_alone(rt: &impl Abort, board: &DiamondBoard, writer: &mut BoardSeat, ot
 
 #[test]
 fn a_writer_keeps_others_out(rt: HostRuntime) -> Result<(), Fail> {
-    let (board, mut seat, _) = Board::open(rt.alloc(), &Diamond, 16)?;
+    let (board, mut seat, _) = Board::open(rt.alloc(), &Small(Diamond), 16)?;
     let mut other = board.split(&mut seat);
     write_alone(&rt, &board, &mut seat, &mut other);
     assert!(rt; board.try_read(&mut other, 0) == Got::Right);
@@ -59,7 +59,7 @@ fn reads_beside_another<R: Wait>(
 
 #[test]
 fn two_readers_are_in_at_once(rt: HostRuntime) -> Result<(), Fail> {
-    let (board, mut seat, _) = Board::open(rt.alloc(), &Diamond, 16)?;
+    let (board, mut seat, _) = Board::open(rt.alloc(), &Small(Diamond), 16)?;
     let mut other = board.split(&mut seat);
     let (first, second) = (AtomicBool::new(false), AtomicBool::new(false));
     let (shared, handle, one, two) = (&board, &rt, &first, &second);
@@ -95,7 +95,7 @@ fn find_what_is_put<S: Space>(
     assert!(rt; board.find(other, 0) == Some(START));
     assert!(rt; board.find(other, 1) == None);
     assert!(rt; board.claim(seat, START));
-    assert!(rt; put_after_start(rt, board, space, seat, 0) == Put::New(FIRST));
+    assert!(rt; put_after_start(board, space, seat, 0) == Some(Put::New(FIRST)));
     assert!(rt; board.find(other, 1) == Some(FIRST));
 }
 
@@ -112,14 +112,14 @@ fn meet_a_writer<S: Space>(
     requires other { IsAtRest board.now other.old }
 {
     assert!(rt; board.try_write(other, 1) == Got::Right);
-    assert!(rt; put_after_start(rt, board, space, seat, 1) == Put::Busy);
-    assert!(rt; put_after_start(rt, board, space, seat, 0) == Put::Known(FIRST));
+    assert!(rt; put_after_start(board, space, seat, 1) == Some(Put::Busy));
+    assert!(rt; put_after_start(board, space, seat, 0) == Some(Put::Known(FIRST)));
     assert!(rt; board.find(seat, 1) == Some(FIRST));
 }
 
 #[test]
 fn an_entry_is_found_without_a_right(rt: HostRuntime) -> Result<(), Fail> {
-    let fan = Fan { after: &[1, 14] };
+    let fan = Small(Fan { after: &[1, 14] });
     let (board, mut seat, _) = Board::open(rt.alloc(), &fan, 16)?;
     let mut other = board.split(&mut seat);
     find_what_is_put(&rt, &board, &fan, &mut seat, &mut other);
@@ -138,7 +138,7 @@ fn find_own(rt: &impl Abort, board: &DiamondBoard, seat: &mut BoardSeat)
     assert!(rt; board.find(seat, 0) == Some(START));
     assert!(rt; board.find(seat, 1) == None);
     assert!(rt; seat.has_seen(START));
-    assert!(rt; put_after_start(rt, board, &Diamond, seat, 0) == Put::New(FIRST));
+    assert!(rt; put_after_start(board, &Small(Diamond), seat, 0) == Some(Put::New(FIRST)));
     assert!(rt; board.find(seat, 1) == Some(FIRST));
     assert!(rt; seat.has_seen(START));
 }
@@ -158,12 +158,12 @@ fn know_without_a_right(
     assert!(rt; board.try_read(seat, 1) == Got::Busy);
     assert!(rt; board.find(seat, 1) == Some(FIRST));
     assert!(rt; seat.has_seen(START));
-    assert!(rt; put_after_start(rt, board, &Diamond, seat, 0) == Put::Known(FIRST));
+    assert!(rt; put_after_start(board, &Small(Diamond), seat, 0) == Some(Put::Known(FIRST)));
 }
 
 #[test]
 fn a_word_that_is_known_needs_no_right(rt: HostRuntime) -> Result<(), Fail> {
-    let (board, mut seat, _) = Board::open(rt.alloc(), &Diamond, 4)?;
+    let (board, mut seat, _) = Board::open(rt.alloc(), &Small(Diamond), 4)?;
     find_own(&rt, &board, &mut seat);
     let mut other = board.split(&mut seat);
     know_without_a_right(&rt, &board, &mut seat, &mut other);
@@ -172,7 +172,7 @@ fn a_word_that_is_known_needs_no_right(rt: HostRuntime) -> Result<(), Fail> {
 
 #[test]
 fn an_entry_is_claimed_once(rt: HostRuntime) -> Result<(), Fail> {
-    let (board, mut seat, start) = Board::open(rt.alloc(), &Diamond, 16)?;
+    let (board, mut seat, start) = Board::open(rt.alloc(), &Small(Diamond), 16)?;
     assert!(rt; start == START);
     let mut other = board.split(&mut seat);
     assert!(rt; other.has_seen(START));
@@ -216,7 +216,7 @@ fn has_both(contents: &Contents<Global>) -> bool {
 #[test]
 fn words_whose_low_halves_are_equal_are_two_entries(rt: HostRuntime) -> Result<(), Fail> {
     let after = [ALIKE[0], ALIKE[1], ALIKE[0]];
-    let fan = Fan { after: &after };
+    let fan = Small(Fan { after: &after });
     let (board, mut seat, _) = Board::open(rt.alloc(), &fan, 16)?;
     let (first, second) = (Place { shard: 5, at: 0 }, Place { shard: 5, at: 1 });
     let expected = [Put::New(first), Put::New(second), Put::Known(first)];
@@ -230,7 +230,7 @@ fn words_whose_low_halves_are_equal_are_two_entries(rt: HostRuntime) -> Result<(
 fn put_on_two<R: Abort + AllocGlobal>(rt: &R, after: &[u128], expected: &[Put]) -> Result<(), Fail>
     requires { length after.now < 4294967296 }
 {
-    let fan = Fan { after };
+    let fan = Small(Fan { after });
     let (board, mut seat, _) = Board::open(rt.alloc(), &fan, 2)?;
     put_all(rt, &board, &fan, &mut seat, expected)
 }
@@ -254,7 +254,7 @@ fn put_on_short_rows<R: Abort + AllocGlobal>(
 ) -> Result<(), Fail>
     requires { length after.now < 4294967296 }
 {
-    let fan = Fan { after };
+    let fan = Small(Fan { after });
     let (board, mut seat, _) = Board::open_with_rows(rt.alloc(), &fan, 4, 1)?;
     put_all(rt, &board, &fan, &mut seat, expected)
 }
@@ -283,8 +283,8 @@ fn the_limit_is_over_where_no_row_is_full(rt: HostRuntime) -> Result<(), Fail> {
 
 #[test]
 fn one_seat_settles_all_entries(rt: HostRuntime) -> Result<(), Fail> {
-    let (board, seat, _) = Board::open(rt.alloc(), &Diamond, 4)?;
-    let mut seat = work(&rt, &board, &Diamond, seat);
+    let (board, seat, _) = Board::open(rt.alloc(), &Small(Diamond), 4)?;
+    let mut seat = work(&rt, &board, &Small(Diamond), seat);
     assert!(rt; board.finished(&mut seat));
     assert!(rt; !board.stopped(&mut seat));
     assert!(rt; is_explored(&board.close(seat)));
@@ -295,7 +295,7 @@ fn one_seat_settles_all_entries(rt: HostRuntime) -> Result<(), Fail> {
 fn work_in_two<R: Threads + Wait + Sync>(
     rt: &R,
     board: &DiamondBoard,
-    space: &Diamond,
+    space: &Small<Diamond>,
     one: BoardSeat,
     two: BoardSeat,
 ) -> (BoardSeat, BoardSeat)
@@ -312,9 +312,9 @@ fn work_in_two<R: Threads + Wait + Sync>(
 
 #[test]
 fn two_seats_in_two_threads_settle_all_entries(rt: HostRuntime) -> Result<(), Fail> {
-    let (board, mut seat, _) = Board::open(rt.alloc(), &Diamond, 4)?;
+    let (board, mut seat, _) = Board::open(rt.alloc(), &Small(Diamond), 4)?;
     let other = board.split(&mut seat);
-    let (mut seat, other) = work_in_two(&rt, &board, &Diamond, seat, other);
+    let (mut seat, other) = work_in_two(&rt, &board, &Small(Diamond), seat, other);
     board.join(&mut seat, other);
     assert!(rt; board.finished(&mut seat));
     assert!(rt; is_explored(&board.close(seat)));
@@ -323,10 +323,10 @@ fn two_seats_in_two_threads_settle_all_entries(rt: HostRuntime) -> Result<(), Fa
 
 #[test]
 fn four_seats_in_four_threads_settle_all_entries(rt: HostRuntime) -> Result<(), Fail> {
-    let (board, mut seat, _) = Board::open(rt.alloc(), &Diamond, 4)?;
+    let (board, mut seat, _) = Board::open(rt.alloc(), &Small(Diamond), 4)?;
     let (two, three) = (board.split(&mut seat), board.split(&mut seat));
     let four = board.split(&mut seat);
-    let (shared, space, handle) = (&board, &Diamond, &rt);
+    let (shared, space, handle) = (&board, &Small(Diamond), &rt);
     let ((mut seat, two), (three, four)) = join(
         &rt,
         move || work_in_two(handle, shared, space, seat, two),

@@ -50,29 +50,6 @@ pub fn expand<S: Space, A: Allocator, R: Wait>(
     Ok(true)
 }
 
-/// Expands the entry at a place if it is waiting. `false` where the board was outgrown.
-pub(crate) fn visit_place<S: Space, A: Allocator, R: Wait>(
-    rt: &R,
-    board: &Board<S, A>,
-    space: &S,
-    scratch: &mut S::Scratch,
-    seat: &mut BoardSeat,
-    place: Place,
-) -> Result<bool, AllocError>
-    requires board { IsIdle board.now seat.old × (board.now.space ≡ space.now) }
-    requires own { S.is_own space.now scratch.old }
-    requires seen { HasPlace seat.old.seen place }
-    ensures idle { IsIdle board.now seat.new }
-    ensures sees { SeesOn seat.old.seen seat.new.seen }
-    ensures own { S.is_own space.now scratch.new }
-    ensures over { IfOk result (λ within. within ≡ false → seat.new.over ≡ 1) }
-{
-    if !board.claim(seat, place) {
-        return Ok(true);
-    }
-    expand(rt, board, space, scratch, seat, place)
-}
-
 /// Sees each shard once, and expands each entry that it finds waiting. `false` where the board was outgrown.
 pub fn visit<S: Space, A: Allocator, R: Wait>(
     rt: &R,
@@ -92,7 +69,11 @@ pub fn visit<S: Space, A: Allocator, R: Wait>(
         let count = board.see(seat, shard);
         board.leave(seat, shard);
         for at in 0..count {
-            if !visit_place(rt, board, space, scratch, seat, Place { shard, at })? {
+            let place = Place { shard, at };
+            if !board.claim(seat, place) {
+                continue;
+            }
+            if !expand(rt, board, space, scratch, seat, place)? {
                 return Ok(false);
             }
         }
@@ -101,7 +82,7 @@ pub fn visit<S: Space, A: Allocator, R: Wait>(
 }
 
 /// Puts in the successor at place `k` of the list of the entry that the seat has claimed, in one try.
-pub fn put_successor<S: Space, A: Allocator>(
+pub(crate) fn put_successor<S: Space, A: Allocator>(
     board: &Board<S, A>,
     space: &S,
     seat: &mut BoardSeat,
