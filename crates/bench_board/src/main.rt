@@ -13,7 +13,7 @@ use std::rt::Runtime;
 use std::sync::Wait;
 use std::test::Fail;
 use std::time::Instant;
-use test_board::{Fan, expand};
+use test_board::{Fan, Small, expand};
 
 /// The most words of a board.
 const LIMIT: usize = 32768;
@@ -34,7 +34,7 @@ fn time_words<R: Wait + Runtime + AllocGlobal>(rt: &R, count: u32) -> Result<(),
     requires { count < 32768 }
 {
     let words = scattered(rt.alloc(), count)?;
-    let space = Fan { after: &words };
+    let space = Small(Fan { after: &words });
     let (board, mut seat, place) = Board::open(rt.alloc(), &space, LIMIT)?;
     if !board.claim(&mut seat, place) {
         return Ok(());

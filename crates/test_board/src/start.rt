@@ -1,6 +1,6 @@
 //! The first word of a board, and its successors.
 
-ghost use Rattle.std.specs.Prelude.{◌≡◌, ◌≢◌, IfSome};
+ghost use Rattle.std.specs.Prelude.{◌≡◌, ◌≢◌, ◌≤◌, length, MatchOption};
 ghost use Rattle.seen_board.specs.Clauses.{IsOf, HasClaim, HasPlace, word_at};
 ghost use Rattle.test_board.specs.Worker.{IsAt};
 
@@ -26,8 +26,8 @@ pub fn put_after_start<S: Space, A: Allocator>(
     requires board { IsOf board.now seat.old × (board.now.space ≡ space.now) }
     requires free { seat.old.right ≡ 0 }
     requires claim { HasClaim seat.old START × HasPlace seat.old.seen START }
-    ensures still { IfSome result (λ put.
-        put ≢ Put.Over → IsAt board.now START (word_at seat.old.seen START) seat.new) }
+    ensures { MatchOption result (length (S.successors space.now (word_at seat.old.seen START)) ≤ k)
+        (λ put. put ≢ Put.Over → IsAt board.now START (word_at seat.old.seen START) seat.new) }
 {
     let word = board.at(seat, START);
     if k < space.degree(word) {

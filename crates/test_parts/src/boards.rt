@@ -1,8 +1,9 @@
-//! Seats on the board of a script's own space, whose limit is just enough.
+//! Seats on the board of a script's own space, whose limit is just enough: its first word is the empty set, and the
+//! word 1 the set of patch 0.
 
-ghost use Rattle.std.specs.Prelude.{◌≡◌, ◌≢◌};
-ghost use Rattle.seen_board.specs.Clauses.{IsOf, HasClaim, HasPlace, word_at};
-ghost use Rattle.test_board.specs.Worker.{IsAt, IsIdle};
+ghost use Rattle.std.specs.Prelude.{◌≡◌};
+ghost use Rattle.seen_board.specs.Clauses.{IsOf, HasClaim, HasPlace};
+ghost use Rattle.test_board.specs.Worker.{IsIdle};
 
 use crate::traces::trace_of_asked;
 use crash_image::PatchSpace;
@@ -12,37 +13,14 @@ use std::alloc::Global;
 use std::process::Abort;
 use std::sync::Wait;
 use std::test::Fail;
-use test_board::{expand, put_successor};
+use test_board::{FIRST, START, expand, put_after_start};
 use test_support::asked::CREATE;
-
-/// Where the empty set stands.
-const START: Place = Place { shard: 0, at: 0 };
-
-/// Where the set of patch 0, which is the word 1, comes to stand.
-const FIRST: Place = Place { shard: 1, at: 0 };
 
 /// Where the set of patch 1 comes to stand.
 const SECOND: Place = Place { shard: 2, at: 0 };
 
 /// Where the set of both patches comes to stand.
 const BOTH: Place = Place { shard: 3, at: 0 };
-
-/// Puts in the first successor of the empty set, which the seat has claimed.
-fn put_first<S: Space>(
-    rt: &impl Abort,
-    board: &Board<S, Global>,
-    space: &S,
-    seat: &mut BoardSeat,
-) -> Put
-    requires board { IsOf board.now seat.old × (board.now.space ≡ space.now) }
-    requires free { seat.old.right ≡ 0 }
-    requires claim { HasClaim seat.old START × HasPlace seat.old.seen START }
-    ensures still { result ≢ Put.Over → IsAt board.now START (word_at seat.old.seen START) seat.new }
-{
-    let word = board.at(seat, START);
-    assert!(rt; 0 < space.degree(word));
-    put_successor(board, space, seat, START, 0)
-}
 
 /// The set of patch 0 is found once it was put in, without a right.
 fn find_first<S: Space>(rt: &impl Abort, board: &Board<S, Global>, space: &S, seat: &mut BoardSeat)
@@ -55,7 +33,7 @@ fn find_first<S: Space>(rt: &impl Abort, board: &Board<S, Global>, space: &S, se
     assert!(rt; board.find(seat, 0) == Some(START));
     assert!(rt; board.find(seat, 1) == None);
     assert!(rt; seat.has_seen(START));
-    assert!(rt; put_first(rt, board, space, seat) == Put::New(FIRST));
+    assert!(rt; put_after_start(board, space, seat, 0) == Some(Put::New(FIRST)));
     assert!(rt; board.find(seat, 1) == Some(FIRST));
     assert!(rt; seat.has_seen(START));
 }
@@ -80,7 +58,7 @@ fn knows_first<S: Space>(rt: &impl Abort, board: &Board<S, Global>, space: &S, s
 {
     assert!(rt; board.find(seat, 1) == Some(FIRST));
     assert!(rt; seat.has_seen(START));
-    assert!(rt; put_first(rt, board, space, seat) == Put::Known(FIRST));
+    assert!(rt; put_after_start(board, space, seat, 0) == Some(Put::Known(FIRST)));
 }
 
 /// While another seat writes the shard of the set of patch 0, this one gets no right there, and finds the set without
@@ -115,7 +93,7 @@ fn claim_start<S: Space>(rt: &impl Abort, board: &Board<S, Global>, space: &S, s
 {
     assert!(rt; board.claim(seat, START));
     find_first(rt, board, space, seat);
-    assert!(rt; put_first(rt, board, space, seat) == Put::Known(FIRST));
+    assert!(rt; put_after_start(board, space, seat, 0) == Some(Put::Known(FIRST)));
     meet_a_writer(rt, board, space, seat);
 }
 

@@ -1,33 +1,10 @@
 //! Graphs made of patches of one byte.
 
-ghost use Rattle.std.specs.Prelude.{◌≡◌, ◌+◌, ◌<◌, ◌≤◌};
-ghost use Rattle.patch_graph.specs.Graph.{IsPatch};
-
 use crate::texts::each_writes;
-use arrayvec::ArrayVec;
-use crash_model::patches::Patch;
 use patch_graph::{BlockWrite, Graph, GraphFault, MAX_PATCHES};
 use std::alloc::Global;
 use std::test::Fail;
-
-/// A patch of one byte.
-fn one_byte(block: u8, offset: u8) -> Patch
-    requires { offset < 128 }
-    ensures whole { IsPatch result }
-    ensures alone { result.deps ≡ 0 }
-{
-    let mut new = ArrayVec::new();
-    new.push(1);
-    let mut undo = ArrayVec::new();
-    undo.push(0);
-    Patch {
-        block,
-        offset,
-        new,
-        undo,
-        deps: 0,
-    }
-}
+use test_support::patches::one_byte;
 
 /// Blocks and offsets of patches of which the last overlaps the first.
 const MOVED: [(u8, u8); 4] = [(2, 17), (4, 20), (4, 8), (2, 17)];
@@ -35,7 +12,7 @@ const MOVED: [(u8, u8); 4] = [(2, 17), (4, 20), (4, 8), (2, 17)];
 fn moved(alloc: Global) -> Result<Graph<Global>, Fail> {
     let mut graph = Graph::new(alloc);
     for (block, offset) in MOVED {
-        graph.push(one_byte(block, offset))?;
+        graph.push(one_byte(block, offset, 1))?;
     }
     Ok(graph)
 }
@@ -88,7 +65,10 @@ fn a_name_moves(rt: HostRuntime) -> Result<(), Fail> {
 
 /// Whether a graph takes no patch more.
 fn is_full(graph: &mut Graph<Global>) -> bool {
-    matches!(graph.push(one_byte(6, 0)), Err(GraphFault::TooManyPatches))
+    matches!(
+        graph.push(one_byte(6, 0, 1)),
+        Err(GraphFault::TooManyPatches)
+    )
 }
 
 const FAULTS: [(GraphFault, &str); 2] = [
@@ -100,7 +80,7 @@ const FAULTS: [(GraphFault, &str); 2] = [
 fn as_many_patches_as_a_set_names(rt: HostRuntime) -> Result<(), Fail> {
     let mut graph = Graph::new(rt.alloc());
     for id in 0..MAX_PATCHES {
-        graph.push(one_byte(5, id as u8))?;
+        graph.push(one_byte(5, id as u8, 1))?;
     }
     assert!(rt; is_full(&mut graph) && graph.len() == MAX_PATCHES);
     each_writes(&rt, &FAULTS)

@@ -10,7 +10,7 @@ use std::sync::Wait;
 use std::sync::atomic::{AtomicU64, Ordering};
 use std::test::Fail;
 use std::thread::Threads;
-use test_board::{Fan, Ladder};
+use test_board::{Fan, Ladder, Small};
 use test_support::gates::Meeting;
 
 /// Counts the claims.
@@ -41,7 +41,7 @@ fn in_canonical_order(alloc: Global, first: u128, last: u128) -> Result<Vec<u128
 /// Whether so many workers find a ladder of so many words, which is the limit too, with these broken words.
 fn is_found<R: Threads + Wait + AllocGlobal + Sync>(
     rt: &R,
-    ladder: &Ladder,
+    ladder: &Small<Ladder>,
     total: usize,
     workers: usize,
     broken: &[u128],
@@ -56,7 +56,7 @@ fn is_found<R: Threads + Wait + AllocGlobal + Sync>(
 /// Whether a ladder is refused that has more words than this limit.
 fn is_refused<R: Threads + Wait + AllocGlobal + Sync>(
     rt: &R,
-    ladder: &Ladder,
+    ladder: &Small<Ladder>,
     limit: usize,
     workers: usize,
 ) -> bool
@@ -69,10 +69,10 @@ fn is_refused<R: Threads + Wait + AllocGlobal + Sync>(
 
 #[test]
 fn any_number_of_workers_finds_the_whole_ladder(rt: HostRuntime) -> Result<(), Fail> {
-    let ladder = Ladder {
+    let ladder = Small(Ladder {
         last: 200,
         good_to: 150,
-    };
+    });
     let broken = in_canonical_order(rt.alloc(), 151, 200)?;
     for workers in [1, 2, 8, 16] {
         assert!(rt; is_found(&rt, &ladder, 201, workers, &broken)?);
@@ -83,10 +83,10 @@ fn any_number_of_workers_finds_the_whole_ladder(rt: HostRuntime) -> Result<(), F
 
 #[test]
 fn a_small_ladder(rt: HostRuntime) -> Result<(), Fail> {
-    let ladder = Ladder {
+    let ladder = Small(Ladder {
         last: 5,
         good_to: 2,
-    };
+    });
     for workers in [1, 2] {
         assert!(rt; is_found(&rt, &ladder, 6, workers, &[4, 3, 5])?);
         assert!(rt; is_refused(&rt, &ladder, 5, workers));
@@ -106,7 +106,7 @@ fn words_of_one_shard() -> [u128; 99] {
 #[test]
 fn one_shard_may_have_all_words(rt: HostRuntime) -> Result<(), Fail> {
     let after = words_of_one_shard();
-    let fan = Fan { after: &after };
+    let fan = Small(Fan { after: &after });
     for workers in [1, 2, 8, 16] {
         let found = explore(&rt, rt.alloc(), &fan, 100, workers, &OpenGate)?;
         assert!(rt; found.total == 100 && found.broken.is_empty());
@@ -129,7 +129,7 @@ fn faults_as_they_are_printed(rt: HostRuntime) -> Result<(), Fail> {
 /// So many workers find the words of a ladder, and claim each of them once.
 fn claims_each_once<R: Threads + Wait + Abort + AllocGlobal + Sync>(
     rt: &R,
-    ladder: &Ladder,
+    ladder: &Small<Ladder>,
     workers: usize,
 ) -> Result<(), Fail>
     requires workers { (1 ≤ workers) × (workers ≤ 16) }
@@ -144,10 +144,10 @@ fn claims_each_once<R: Threads + Wait + Abort + AllocGlobal + Sync>(
 
 #[test]
 fn each_word_is_claimed_once(rt: HostRuntime) -> Result<(), Fail> {
-    let ladder = Ladder {
+    let ladder = Small(Ladder {
         last: 200,
         good_to: 0,
-    };
+    });
     for workers in [1, 8] {
         claims_each_once(&rt, &ladder, workers)?;
     }
@@ -156,10 +156,10 @@ fn each_word_is_claimed_once(rt: HostRuntime) -> Result<(), Fail> {
 
 #[test]
 fn two_workers_meet(rt: HostRuntime) -> Result<(), Fail> {
-    let ladder = Ladder {
+    let ladder = Small(Ladder {
         last: 3,
         good_to: 3,
-    };
+    });
     let meeting = Meeting::new(2, 1 << 2);
     let total = explore(&rt, rt.alloc(), &ladder, 4, 2, &meeting)?.total;
     assert!(rt; total == 4 && meeting.was_held());

@@ -4,7 +4,7 @@ ghost use Rattle.std.specs.Prelude.{◌≡◌, ◌<◌};
 ghost use Rattle.std.specs.List.{All};
 ghost use Rattle.crash_model.specs.Patches.{AreUndo};
 
-use crate::traces::{Trace, closed_sets, trace_of, trace_of_asked};
+use crate::traces::{Trace, closed_sets, trace_of_asked};
 use crash_image::{Mover, build};
 use crash_model::modules::Module;
 use disk_image::Image;
@@ -12,6 +12,7 @@ use std::alloc::Global;
 use std::process::Abort;
 use std::test::Fail;
 use test_support::asked::{JOURNAL, REUSE, WRITE};
+use test_support::traces::trace_of;
 
 /// Whether two images have the same bytes.
 pub fn are_equal(one: &Image<Global>, other: &Image<Global>) -> bool {
@@ -26,27 +27,7 @@ pub fn are_equal(one: &Image<Global>, other: &Image<Global>) -> bool {
     true
 }
 
-/// Moves to a set that a crash can leave, and compares the image with the one that is built anew.
-fn moves_to(
-    rt: &impl Abort,
-    mover: &mut Mover<Global>,
-    script: &Trace,
-    set: u128,
-) -> Result<(), Fail>
-    requires base { mover.old.base ≡ script.now.base }
-    requires graph { mover.old.patches ≡ script.now.graph }
-    requires fits { All (λ patch. patch.block < script.now.base.blocks) script.now.graph }
-    ensures base { mover.new.base ≡ script.now.base }
-    ensures graph { mover.new.patches ≡ script.now.graph }
-{
-    assert!(rt; script.graph.is_closed(set));
-    mover.move_to(set);
-    let built = build(&script.base, &script.graph, set)?;
-    assert!(rt; are_equal(mover.image(), &built));
-    Ok(())
-}
-
-/// Moves to one set after another.
+/// Moves to sets that a crash can leave, one after another, and compares each image with the one that is built anew.
 fn moves_along(
     rt: &impl Abort,
     mover: &mut Mover<Global>,
@@ -60,7 +41,10 @@ fn moves_along(
     ensures graph { mover.new.patches ≡ script.now.graph }
 {
     for set in sets {
-        moves_to(rt, mover, script, *set)?;
+        assert!(rt; script.graph.is_closed(*set));
+        mover.move_to(*set);
+        let built = build(&script.base, &script.graph, *set)?;
+        assert!(rt; are_equal(mover.image(), &built));
     }
     Ok(())
 }
@@ -102,8 +86,7 @@ fn undo_of_every_patch_gives_the_link_count_back(rt: HostRuntime) -> Result<(), 
         Module::Soft,
     )?;
     let mut mover = Mover::new(script.base.try_copy()?, &script.graph);
-    moves_to(&rt, &mut mover, &script, 15)?;
-    moves_to(&rt, &mut mover, &script, 0)?;
+    moves_along(&rt, &mut mover, &script, &[15, 0])?;
     assert!(rt; mover.set() == 0 && mover.image().byte(2, 17) == 1);
     Ok(())
 }

@@ -1,6 +1,5 @@
 //! The patches of scripts: where they stand, what they depend on, and why.
 
-use crate::traces::trace_of;
 use crash_model::modules::Module;
 use crash_model::patches::Patch;
 use crash_model::plans::Role;
@@ -15,6 +14,7 @@ use script_text::read_script;
 use std::alloc::Global;
 use std::process::Abort;
 use std::test::Fail;
+use test_support::traces::trace_of;
 
 /// A patch that is expected: its block, its first byte, its first bytes, and the patches that it depends on.
 struct Expected(u8, u8, &'static [u8], &'static [u32]);

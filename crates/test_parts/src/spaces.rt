@@ -4,7 +4,7 @@ ghost use Rattle.std.specs.Prelude.{◌≡◌, ◌<◌};
 ghost use Rattle.std.specs.List.{All};
 ghost use Rattle.crash_model.specs.Patches.{AreUndo};
 
-use crate::traces::{Trace, closed_sets, trace_of, trace_of_asked};
+use crate::traces::{Trace, closed_sets, trace_of_asked};
 use crash_image::PatchSpace;
 use crash_model::modules::Module;
 use state_space::Space;
@@ -12,6 +12,7 @@ use std::alloc::Global;
 use std::process::Abort;
 use std::test::Fail;
 use test_support::asked::{Asked, JOURNAL, REUSE, WRITE};
+use test_support::traces::trace_of;
 
 /// How many of the sets that a crash can leave are not good.
 fn count_failing(rt: &impl Abort, alloc: Global, script: &Trace) -> Result<usize, Fail>
