@@ -1,13 +1,14 @@
 -- The count of all sets that a crash can leave.
-use Rattle.std.proofs.Common.{◌≡◌, ◌≢◌, ℕ, ◌<◌, ◌^◌, List, length, arith}
+use Rattle.std.proofs.Common.{◌≡◌, ◌≢◌, ℕ, ◌<◌, ◌^◌, List, length, arith, subst}
 use Rattle.std.specs.Prelude.{◌↔◌, Option, Some, None}
 use Rattle.std.specs.List.{AllPairs}
 use Rattle.std.proofs.lemmas.List.Elements.{All-contains}
 use Rattle.patch_sets.specs.Closed.{IsClosed}
 use Rattle.patch_sets.specs.Sets.{AreAllInOrder}
-use Rattle.set_sweep.specs.Sweeps.{IsAscendingListOf}
+use Rattle.set_sweep.specs.Sweeps.{IsAscendingListOf, IsSweep}
 use Rattle.crash_model.specs.Patches.{deps_of}
 use Rattle.crash_model.specs.Strict.{IsFailingUnder}
+use Rattle.fault_summary.specs.declared.count.Count.{Count}
 use Rattle.fault_summary.specs.Prevented.{Compared, IsBad, IsAllowed, IsFirstPrevented, FailsAmong, AreCounted, IsCount}
 use Rattle.fault_summary.proofs.Ordered.{all_in_order}
 use Rattle.fault_summary.proofs.Summed.{same_numbers}
@@ -21,12 +22,21 @@ first_like P Q allowed same (Some set) is = record {
   before = λ other fails. is.before other ((same other).1 fails);
 }
 
-module _ (v : Compared) (sets : List ℕ) (closed : IsAscendingListOf (IsClosed (deps_of v.patches)) sets) (failing : ℕ) (first : Option ℕ) (short : length sets < 2 ^ 64) (told : IsCount (IsBad v) (IsAllowed v) sets failing first) where
+-- a sweep over the sets of a graph that tallies such counts
+module _ (v : Compared) (deps : List ℕ) (total : ℕ) (tally : Count) (same : deps ≡ deps_of v.patches)
+    (all : IsSweep (λ sets tally. IsCount (IsBad v) (IsAllowed v) sets tally.failing tally.first) deps total tally)
+    (short : total < 2 ^ 64) where
+  abbrev sets : List ℕ
+  sets = all.sets
+
+  closed : IsAscendingListOf (IsClosed (deps_of v.patches)) sets
+  closed = subst (λ (ds : List ℕ). IsAscendingListOf (IsClosed ds) sets) same all.closed
+
   once : AllPairs (λ a b. a ≢ b) sets
   once i j d lt within same = let up = closed.ascend i j d lt within in omega (arith, up, same)
 
-  counted : AreCounted (IsBad v) (IsAllowed v) sets failing first
-  counted = told once short
+  counted : AreCounted (IsBad v) (IsAllowed v) sets tally.failing tally.first
+  counted = all.told once (omega (arith, all.counted, short))
 
   same_sets : (s : ℕ) → FailsAmong (IsBad v) sets s ↔ IsFailingUnder v.kept v.base v.patches s
   same_sets s = (
@@ -34,9 +44,13 @@ module _ (v : Compared) (sets : List ℕ) (closed : IsAscendingListOf (IsClosed 
     λ is. (closed.every s is.closed, is.unclean),
   )
 
-  pub failing_count : (all : List ℕ) × AreAllInOrder (IsFailingUnder v.kept v.base v.patches) all × (failing ≡ length all)
+  pub failing_count : (fail : List ℕ) × AreAllInOrder (IsFailingUnder v.kept v.base v.patches) fail
+      × (tally.failing ≡ length fail)
   failing_count =
-      all_in_order (IsFailingUnder v.kept v.base v.patches) failing (same_numbers (FailsAmong (IsBad v) sets) (IsFailingUnder v.kept v.base v.patches) same_sets failing counted.number)
+      all_in_order (IsFailingUnder v.kept v.base v.patches) tally.failing
+      (same_numbers (FailsAmong (IsBad v) sets) (IsFailingUnder v.kept v.base v.patches) same_sets tally.failing
+      counted.number)
 
-  pub first_prevented : IsFirstPrevented (IsFailingUnder v.kept v.base v.patches) (IsAllowed v) first
-  first_prevented = first_like (FailsAmong (IsBad v) sets) (IsFailingUnder v.kept v.base v.patches) (IsAllowed v) same_sets first counted.first
+  pub first_prevented : IsFirstPrevented (IsFailingUnder v.kept v.base v.patches) (IsAllowed v) tally.first
+  first_prevented = first_like (FailsAmong (IsBad v) sets) (IsFailingUnder v.kept v.base v.patches) (IsAllowed v)
+      same_sets tally.first counted.first

@@ -197,11 +197,15 @@ module _ {T : Type 0} (tells : List ℕ → T → Type 0) (deps : List ℕ) (low
 
 module _ {T : Type 0} (tells : List ℕ → T → Type 0) (deps : List ℕ) (low : ℕ) (roots : List ℕ) where
   -- at places that are all empty nothing is wrong
-  pub placed_none : (places : List (Option (Part T))) → All (λ place. place ≡ None) places → ArePlaced tells deps low roots places
-  placed_none places empty i d lt = subst (λ o. IfSome o (λ p. IsPartSwept tells deps low (get_or roots i 0) p.total p.tally)) (sym (empty i d lt)) tt
+  pub placed_none : (places : List (Option (Part T))) → All (λ place. place ≡ None) places
+      → ArePlaced tells deps low roots places
+  placed_none places empty i d lt =
+      subst (λ o. IfSome o (λ p. IsPartSwept tells deps low (get_or roots i 0) p.total p.tally)) (sym (empty i d lt)) tt
 
-  placed_set : (places : List (Option (Part T))) (at : ℕ) (part : Part T) → ArePlaced tells deps low roots places → at < length places
-      → IsPartSwept tells deps low (get_or roots at 0) part.total part.tally → ArePlaced tells deps low roots (set places at (Some part))
+  placed_set : (places : List (Option (Part T))) (at : ℕ) (part : Part T) → ArePlaced tells deps low roots places
+      → at < length places
+      → IsPartSwept tells deps low (get_or roots at 0) part.total part.tally
+      → ArePlaced tells deps low roots (set places at (Some part))
   placed_set places at part placed inside is i d lt = elim (eq_or_not i at) [
     | inl e ↦ subst (λ n. IfSome (get_or (set places at (Some part)) n d) (λ p. IsPartSwept tells deps low (get_or roots n 0) p.total p.tally)) (sym e)
         (subst (λ o. IfSome o (λ p. IsPartSwept tells deps low (get_or roots at 0) p.total p.tally)) (sym (get_or-set_same places at (Some part) d inside)) is)
@@ -209,14 +213,16 @@ module _ {T : Type 0} (tells : List ℕ → T → Type 0) (deps : List ℕ) (low
         (placed i d (omega (arith, lt, length-set places at (Some part))))
   ]
 
-  -- what was visited of some parts still has to be put to its place, and what is at a place was visited of the part there
+  -- What was visited of some parts still has to be put to its place, and what is at a place was visited of the part
+  -- there.
   pub record IsPlacing (left : List (Done T)) (places : List (Option (Part T))) : Type 0 where
     pub done : All (IsDone tells deps low roots) left
     pub long : length places ≡ length roots
     pub placed : ArePlaced tells deps low roots places
 
   -- the last of it is put to its place
-  pub placing_next : (left rest : List (Done T)) (places : List (Option (Part T))) (last : Done T) → left ≡ rest ++ option_to_list (Some last)
+  pub placing_next : (left rest : List (Done T)) (places : List (Option (Part T))) (last : Done T)
+      → left ≡ rest ++ option_to_list (Some last)
       → IsPlacing left places → IsPlacing rest (set places last.at (Some last.part))
   placing_next left rest places last is so_far =
       let popped = All-pop (IsDone tells deps low roots) left rest (Some last) is so_far.done in

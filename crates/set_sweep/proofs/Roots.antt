@@ -159,11 +159,13 @@ child_of deps closures k set id each known root out less =
     let closure = slice_index closures id in
     let is : IsClosure deps id closure = each.each id (omega arith) in
     let child = root_more deps set id closure out is k less root in
-    let base : part_end set id ≡ bit_or set closure / 2 ^ id * 2 ^ id = ap (λ q. q * 2 ^ id) (sym (one_more deps set id closure out is)) in
+    let base : part_end set id ≡ bit_or set closure / 2 ^ id * 2 ^ id =
+    ap (λ q. q * 2 ^ id) (sym (one_more deps set id closure out is)) in
     record {
       root = child;
       up = omega (arith, base, shr_split (bit_or set closure) id);
-      none = λ w closed low high. none_before deps id (bit_or set closure) child w closed (subst (λ n. n ≤ w) base low) high;
+      none = λ w closed low high. none_before deps id (bit_or set closure) child w closed
+          (subst (λ n. n ≤ w) base low) high;
       end = end_more deps set id closure out is;
     }
 

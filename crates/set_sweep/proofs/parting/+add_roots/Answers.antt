@@ -25,9 +25,21 @@ pub add_roots-requires : goal.add_roots-requires
 add_roots-requires g t c κs within =
     let deps = c.args.deps.now in
     let inv = c.loop-id.invariant in
-    let child = child_of deps c.args.closures.now c.args.k c.args.set c.loop-id.id c.requires.each c.requires.known.1 c.requires.root inv.at.out c.loop-id-test.true in
-    let parts = parts_rise deps c.args.low _ c.loop-id.roots.items inv.parts _ child.up child.none in
-    (omega (arith, c.decreases, c.loop-id-test.true), (within, (c.requires.few, (c.requires.each, ((inv.up, omega (arith, c.requires.known.1, c.loop-id-test.true)), (child.root, parts))))))
+    let child = child_of deps c.args.closures.now c.args.k c.args.set c.loop-id.id c.requires.each c.requires.known.1
+    c.requires.root inv.at.out c.loop-id-test.true in
+    let parts = parts_rise deps c.args.low _ c.loop-id.roots.items inv.parts _ child.up child.none in (
+      omega (arith, c.decreases, c.loop-id-test.true),
+      (
+        within,
+        (
+          c.requires.few,
+          (
+            c.requires.each,
+            ((inv.up, omega (arith, c.requires.known.1, c.loop-id-test.true)), (child.root, parts)),
+          ),
+        ),
+      ),
+    )
 
 pub next_out-id-requires-in-loop-id-clause-small : goal.next_out-id-requires-in-loop-id-clause-small
 next_out-id-requires-in-loop-id-clause-small g t c = set_small c.args.deps.now c.args.set c.requires.root.closed c.requires.few
@@ -37,14 +49,17 @@ loop-id-preserved g t c =
     let deps = c.args.deps.now in
     let inv = c.loop-id.invariant in
     let next = c.next_out-id-in-loop-id.ensures in
-    let child = child_of deps c.args.closures.now c.args.k c.args.set c.loop-id.id c.requires.each c.requires.known.1 c.requires.root inv.at.out c.loop-id-test.true in
+    let child = child_of deps c.args.closures.now c.args.k c.args.set c.loop-id.id c.requires.each c.requires.known.1
+    c.requires.root inv.at.out c.loop-id-test.true in
     record {
       up = omega (arith, inv.up, next.from);
       at = outside_next c.args.k (omega (arith, c.loop-id-test.true)) next;
-      parts = subst (λ to. AreParts deps c.args.low to c.add_roots.new.roots.items) (child.end ∙ sym (end_next next)) c.in_ok-add_roots.ensures;
+      parts = subst (λ to. AreParts deps c.args.low to c.add_roots.new.roots.items) (child.end ∙ sym (end_next next))
+          c.in_ok-add_roots.ensures;
     }
 
 pub returns : goal.returns
 returns g t c =
     let inv = c.loop-id.invariant in
-    subst (λ to. AreParts c.args.deps.now c.args.low to c.loop-id.roots.items) (end_outside inv.at c.loop-id-test.false) inv.parts
+    subst (λ to. AreParts c.args.deps.now c.args.low to c.loop-id.roots.items)
+    (end_outside inv.at c.loop-id-test.false) inv.parts

@@ -35,5 +35,6 @@ loop-preserved g c =
     record {
       own = c.in_ok-part.ensures.own;
       done = subst (All (IsDone tells deps c.args.low roots)) (sym c.in_ok-push.ensures.items)
-          (All-push (IsDone tells deps c.args.low roots) c.loop.all.items _ c.loop.invariant.done record { known = inside; swept = c.in_ok-part.ensures.swept });
+          (All-push (IsDone tells deps c.args.low roots) c.loop.all.items _ c.loop.invariant.done
+          record { known = inside; swept = c.in_ok-part.ensures.swept });
     }

@@ -14,7 +14,9 @@ loop-left-preserved g c =
     let tells = g.V.Visitor.tells c.args.sweeper.now.visitor.now in
     let roots = c.args.roots.now in
     let inv = c.loop-left.invariant in
-    let popped = All-pop (λ left. IfOk left (λ some. All (IsDone tells deps c.args.low roots) some.items) × (IsErrOf left fault.TooMany → Outnumbers (IsClosed deps) c.args.sweeper.now.limit)) c.loop-left.lefts.items c.pop.new.self.items (Some c.in-Some.left) c.in-Some.ensures.items inv.lefts in
+    let popped = All-pop (λ left. IfOk left (λ some. All (IsDone tells deps c.args.low roots) some.items)
+    × (IsErrOf left fault.TooMany → Outnumbers (IsClosed deps) c.args.sweeper.now.limit)) c.loop-left.lefts.items
+    c.pop.new.self.items (Some c.in-Some.left) c.in-Some.ensures.items inv.lefts in
     let some : IfOk c.in-Some.left (λ some. All (IsDone tells deps c.args.low roots) some.items) = popped.1.0 in
     let left : All (IsDone tells deps c.args.low roots) c.in_ok-left.left.items =
     subst (λ r. IfOk r (λ some. All (IsDone tells deps c.args.low roots) some.items)) c.in_ok-left.was some in

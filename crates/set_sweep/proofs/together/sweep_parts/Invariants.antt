@@ -13,7 +13,8 @@ invariant-loop-left g l =
     let tells = g.V.Visitor.tells l.fn.sweeper.visitor.now in
     record {
       all : All (IsDone tells deps l.low l.roots) l.all.items;
-      lefts : All (λ left. IfOk left (λ some. All (IsDone tells deps l.low l.roots) some.items) × (IsErrOf left fault.TooMany → Outnumbers (IsClosed deps) l.fn.sweeper.limit)) l.lefts.items;
+      lefts : All (λ left. IfOk left (λ some. All (IsDone tells deps l.low l.roots) some.items)
+          × (IsErrOf left fault.TooMany → Outnumbers (IsClosed deps) l.fn.sweeper.limit)) l.lefts.items;
     }
 
 abbrev pub decreases-loop-left : goal.decreases-loop-left

@@ -22,17 +22,23 @@ loop-id-init t c =
     record {
       within = omega (arith, c.requires.within, c.if-count-self.false);
       at = outside_next c.args.k (omega arith) c.next_out-id.ensures;
-      counted = subst (λ to. AreCounted deps 0 to (c.args.count + 1)) (sym (end_next c.next_out-id.ensures ∙ end_none c.args.set))
-          (swept_more {T = Unit {0}} nothing deps 0 c.args.set c.args.count (tt {0}) c.requires.counted c.requires.root.closed (tt {0}) (λ sets told. tt {0}));
+      counted = subst (λ to. AreCounted deps 0 to (c.args.count + 1))
+          (sym (end_next c.next_out-id.ensures ∙ end_none c.args.set))
+          (swept_more {T = Unit {0}} nothing deps 0 c.args.set c.args.count (tt {0}) c.requires.counted
+          c.requires.root.closed (tt {0}) (λ sets told. tt {0}));
     }
 
 pub count_from-requires : goal.count_from-requires
 count_from-requires t c =
     let self = c.args.self.now in
     let inv = c.loop-id.invariant in
-    let child = child_of self.deps.now self.closures.now c.args.k c.args.set c.loop-id.id self.each c.requires.known c.requires.root inv.at.out c.loop-id-test.true in
-    let counted = swept_rises {T = Unit {0}} nothing self.deps.now 0 _ c.loop-id.count (tt {0}) inv.counted _ child.up child.none in
-    (omega (arith, c.decreases, c.loop-id-test.true), (omega (arith, c.requires.known, c.loop-id-test.true), (child.root, (counted, inv.within))))
+    let child = child_of self.deps.now self.closures.now c.args.k c.args.set c.loop-id.id self.each c.requires.known
+    c.requires.root inv.at.out c.loop-id-test.true in
+    let counted = swept_rises {T = Unit {0}} nothing self.deps.now 0 _ c.loop-id.count (tt {0}) inv.counted _ child.up
+    child.none in (
+      omega (arith, c.decreases, c.loop-id-test.true),
+      (omega (arith, c.requires.known, c.loop-id-test.true), (child.root, (counted, inv.within))),
+    )
 
 pub next_out-id-requires-in-loop-id-clause-small : goal.next_out-id-requires-in-loop-id-clause-small
 next_out-id-requires-in-loop-id-clause-small t c = set_small c.args.self.now.deps.now c.args.set c.requires.root.closed c.args.self.now.few
@@ -41,14 +47,19 @@ pub loop-id-preserved : goal.loop-id-preserved
 loop-id-preserved t c =
     let self = c.args.self.now in
     let inv = c.loop-id.invariant in
-    let child = child_of self.deps.now self.closures.now c.args.k c.args.set c.loop-id.id self.each c.requires.known c.requires.root inv.at.out c.loop-id-test.true in
+    let child = child_of self.deps.now self.closures.now c.args.k c.args.set c.loop-id.id self.each c.requires.known
+    c.requires.root inv.at.out c.loop-id-test.true in
     record {
       within = c.in_ok-count.ensures.1;
       at = outside_next c.args.k (omega (arith, c.loop-id-test.true)) c.next_out-id-in-loop-id.ensures;
-      counted = subst (λ to. AreCounted self.deps.now 0 to c.in_ok-count.count) (child.end ∙ sym (end_next c.next_out-id-in-loop-id.ensures)) c.in_ok-count.ensures.0;
+      counted = subst (λ to. AreCounted self.deps.now 0 to c.in_ok-count.count)
+          (child.end ∙ sym (end_next c.next_out-id-in-loop-id.ensures)) c.in_ok-count.ensures.0;
     }
 
 pub returns : goal.returns
 returns t c =
-    let inv = c.loop-id.invariant in
-    (subst (λ to. AreCounted c.args.self.now.deps.now 0 to c.loop-id.count) (end_outside inv.at c.loop-id-test.false) inv.counted, inv.within)
+    let inv = c.loop-id.invariant in (
+      subst (λ to. AreCounted c.args.self.now.deps.now 0 to c.loop-id.count) (end_outside inv.at c.loop-id-test.false)
+          inv.counted,
+      inv.within,
+    )

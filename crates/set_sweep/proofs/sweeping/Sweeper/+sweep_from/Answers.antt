@@ -17,7 +17,8 @@ loop-id-init g t c =
       within = told.within;
       root = told.root;
       at = outside_next c.args.k (omega arith) c.next_out-id.ensures;
-      swept = subst (λ to. AreSwept (g.V.Visitor.tells self.visitor.now) self.deps.now part.root to part.total part.tally)
+      swept = subst (λ to. AreSwept (g.V.Visitor.tells self.visitor.now) self.deps.now part.root to part.total
+          part.tally)
           (sym (end_next c.next_out-id.ensures ∙ end_none c.args.set)) told.swept;
     }
 
@@ -26,9 +27,25 @@ sweep_from-requires g t c κs within =
     let self = c.args.self.now in
     let inv = c.loop-id.invariant in
     let part = c.loop-id.part in
-    let child = child_of self.deps.now self.closures.now c.args.k c.args.set c.loop-id.id self.each c.requires.known c.requires.root inv.at.out c.loop-id-test.true in
-    let swept = swept_rises (g.V.Visitor.tells self.visitor.now) self.deps.now part.root _ part.total part.tally inv.swept _ child.up child.none in
-    (omega (arith, c.decreases, c.loop-id-test.true), (within.0, (within.1.0, (within.1.1, (omega (arith, c.requires.known, c.loop-id-test.true), (child.root, (c.requires.lawful, (inv.own, (inv.within, swept)))))))))
+    let child = child_of self.deps.now self.closures.now c.args.k c.args.set c.loop-id.id self.each c.requires.known
+    c.requires.root inv.at.out c.loop-id-test.true in
+    let swept = swept_rises (g.V.Visitor.tells self.visitor.now) self.deps.now part.root _ part.total part.tally
+    inv.swept _ child.up child.none in (
+      omega (arith, c.decreases, c.loop-id-test.true),
+      (
+        within.0,
+        (
+          within.1.0,
+          (
+            within.1.1,
+            (
+              omega (arith, c.requires.known, c.loop-id-test.true),
+              (child.root, (c.requires.lawful, (inv.own, (inv.within, swept)))),
+            ),
+          ),
+        ),
+      ),
+    )
 
 pub returns-in_err-sweep_from-clause-root : goal.returns-in_err-sweep_from-clause-root
 returns-in_err-sweep_from-clause-root g t c = c.sweep_from.ensures.root ∙ c.loop-id.invariant.root
@@ -42,13 +59,15 @@ loop-id-preserved g t c =
     let inv = c.loop-id.invariant in
     let told = c.in_ok-sweep_from.ensures in
     let part = c.sweep_from.new.part in
-    let child = child_of self.deps.now self.closures.now c.args.k c.args.set c.loop-id.id self.each c.requires.known c.requires.root inv.at.out c.loop-id-test.true in
+    let child = child_of self.deps.now self.closures.now c.args.k c.args.set c.loop-id.id self.each c.requires.known
+    c.requires.root inv.at.out c.loop-id-test.true in
     record {
       own = told.own;
       within = told.within;
       root = told.root ∙ inv.root;
       at = outside_next c.args.k (omega (arith, c.loop-id-test.true)) c.next_out-id-in-loop-id.ensures;
-      swept = subst (λ to. AreSwept (g.V.Visitor.tells self.visitor.now) self.deps.now part.root to part.total part.tally)
+      swept = subst (λ to. AreSwept (g.V.Visitor.tells self.visitor.now) self.deps.now part.root to part.total
+          part.tally)
           (child.end ∙ sym (end_next c.next_out-id-in-loop-id.ensures)) told.swept;
     }
 
@@ -66,4 +85,5 @@ returns-clause-swept g t c =
     let self = c.args.self.now in
     let inv = c.loop-id.invariant in
     let part = c.loop-id.part in
-    subst (λ to. AreSwept (g.V.Visitor.tells self.visitor.now) self.deps.now part.root to part.total part.tally) (end_outside inv.at c.loop-id-test.false) inv.swept
+    subst (λ to. AreSwept (g.V.Visitor.tells self.visitor.now) self.deps.now part.root to part.total part.tally)
+    (end_outside inv.at c.loop-id-test.false) inv.swept
