@@ -47,8 +47,10 @@ module _ (e : Ended) where
   }
 
   -- a broken entry that stands before another place too
-  before_at : (q k p j w : ℕ) (b : IsBrokenBefore e q k w) → b.shard * 65536 + b.at < p * 65536 + j → IsBrokenBefore e p j w
-  before_at q k p j w b h = record { shard = b.shard; at = b.at; near = b.near; inside = b.inside; before = h; is = b.is; life = b.life }
+  before_at : (q k p j w : ℕ) (b : IsBrokenBefore e q k w) → b.shard * 65536 + b.at < p * 65536 + j
+      → IsBrokenBefore e p j w
+  before_at q k p j w b h =
+      record { shard = b.shard; at = b.at; near = b.near; inside = b.inside; before = h; is = b.is; life = b.life }
 
   later : (q k p j : ℕ) → q * 65536 + k ≤ p * 65536 + j → (w : ℕ) → IsBrokenBefore e q k w → IsBrokenBefore e p j w
   later q k p j h w b = before_at q k p j w b (omega (arith, h, b.before))
@@ -63,7 +65,9 @@ module _ (e : Ended) where
       pub other_stays : (l : List ℕ) → life_of_entry e q k ≢ Broken → IsListOf (IsBrokenBefore e q k) l → IsListOf (IsBrokenBefore e q (k + 1)) l
       other_stays l whole = same_list (IsBrokenBefore e q k) (IsBrokenBefore e q (k + 1)) l (later q k q (k + 1) (omega arith))
           (λ w b. before_at q (k + 1) q k w b (let fits = short b.shard b.near in
-          up_to w b b.shard b.at (λ s a. whole (subst (λ p. life_of_entry e p k ≡ Broken) s (subst (λ j. life_of_entry e b.shard j ≡ Broken) a b.life))) b.before (omega (arith, b.inside, fits))))
+          up_to w b b.shard b.at (λ s a. whole
+          (subst (λ p. life_of_entry e p k ≡ Broken) s
+          (subst (λ j. life_of_entry e b.shard j ≡ Broken) a b.life))) b.before (omega (arith, b.inside, fits))))
 
       pub broken_push : (l : List ℕ) → AreDistinct e.rows → life_of_entry e q k ≡ Broken → IsListOf (IsBrokenBefore e q k) l → IsListOf (IsBrokenBefore e q (k + 1)) (l ++ get_or (row_of e.rows q) k 0 ∷ [])
       broken_push l apart broken list =
@@ -77,7 +81,8 @@ module _ (e : Ended) where
             distinct = some.distinct;
             each = some.each;
             every = λ w b. dite (dec_le (suc (b.shard * 65536 + b.at)) (q * 65536 + k))
-                (λ yes. Contains-append_left l (x ∷ []) w (list.every w (before_at q (k + 1) q k w b (omega (arith, yes)))))
+                (λ yes. Contains-append_left l (x ∷ []) w
+                (list.every w (before_at q (k + 1) q k w b (omega (arith, yes)))))
                 (λ no. let fits = short q near in let small = short b.shard b.near in let s : b.shard ≡ q = omega (arith, no, b.before, b.inside, small, inside, fits) in let a : b.at ≡ k = omega (arith, no, b.before, s) in
                 subst (Contains (l ++ x ∷ [])) (subst (λ p. get_or (row_of e.rows p) k 0 ≡ w) s (subst (λ j. get_or (row_of e.rows b.shard) j 0 ≡ w) a b.is)) (Contains-push l x));
           }
@@ -85,8 +90,11 @@ module _ (e : Ended) where
     -- at the end of a row the next one starts
     pub row_done : (q : ℕ) (l : List ℕ) → q < 13 → IsListOf (IsBrokenBefore e q (length (row_of e.rows q))) l → IsListOf (IsBrokenBefore e (q + 1) 0) l
     row_done q l near = let fits = short q near in same_list (IsBrokenBefore e q (length (row_of e.rows q))) (IsBrokenBefore e (q + 1) 0) l (later q (length (row_of e.rows q)) (q + 1) 0 (omega (arith, fits)))
-        (λ w b. before_at (q + 1) 0 q (length (row_of e.rows q)) w b (let small = short b.shard b.near in dite (dec_le (suc b.shard) q) (λ less. omega (arith, less, b.inside, small))
-        (λ no. let s : b.shard ≡ q = omega (arith, no, b.before) in let inside : b.at < length (row_of e.rows q) = subst (λ p. b.at < length (row_of e.rows p)) s b.inside in omega (arith, s, inside))))
+        (λ w b. before_at (q + 1) 0 q (length (row_of e.rows q)) w b (let small = short b.shard b.near in
+        dite (dec_le (suc b.shard) q) (λ less. omega (arith, less, b.inside, small))
+        (λ no. let s : b.shard ≡ q = omega (arith, no, b.before) in
+        let inside : b.at < length (row_of e.rows q) = subst (λ p. b.at < length (row_of e.rows p)) s b.inside in
+        omega (arith, s, inside))))
 
   -- on a finished board the broken entries are the words that are reached and not good
   pub broken_all : (next : ℕ → List ℕ) (origin limit : ℕ) (good : ℕ → Type 0) (l : List ℕ) → Entries next origin limit e.rows → Settled next good e → Done next origin e → AreShort e.rows → IsListOf (IsBrokenBefore e 13 0) l → IsListOf (λ w. IsReached next origin w × (good w → ⊥)) l

@@ -40,10 +40,17 @@ free_after b space is_own before after word put free ok not_over not_busy own ea
     }
 
 -- a worker that is between two turns stays so where its seat is idle and sees on
-pub ready_on : {S C A : Type 0} (b : Shown S) (space : S) (is_own : S → C → Type 0) (seen : List (List ℕ)) (worker : Worker C A) → b.space ≡ space → is_own space worker.scratch → AreMet worker.met seen
+pub ready_on : {S C A : Type 0} (b : Shown S) (space : S) (is_own : S → C → Type 0) (seen : List (List ℕ))
+    (worker : Worker C A) → b.space ≡ space → is_own space worker.scratch → AreMet worker.met seen
     → IsIdle b worker.seat → SeesOn seen worker.seat.seen → IsReady b space is_own worker
 ready_on b space is_own seen worker explored own met idle sees = record {
-  free = record { explored = explored; of = idle.0; free = idle.1; own = own; met = met_on worker.met seen worker.seat.seen sees met };
+  free = record {
+    explored = explored;
+    of = idle.0;
+    free = idle.1;
+    own = own;
+    met = met_on worker.met seen worker.seat.seen sees met;
+  };
   unclaimed = idle.2;
 }
 

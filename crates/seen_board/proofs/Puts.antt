@@ -16,17 +16,24 @@ use Rattle.seen_board.specs.declared.answers.Put.TheVariants.{New, Known as Foun
 -- an entry stays one
 pub has_on : (seen rows : List (List ℕ)) (y : ℕ) → SeesOn seen rows → Has seen y → Has rows y
 has_on seen rows y sees has =
-    let s = sees (y % 13) (omega arith) in
-    (has.0, omega (arith, has.1, starts-length (row_of rows (y % 13)) (row_of seen (y % 13)) s), starts-at (row_of rows (y % 13)) (row_of seen (y % 13)) has.0 s has.1 ∙ has.2)
+    let s = sees (y % 13) (omega arith) in (
+      has.0,
+      omega (arith, has.1, starts-length (row_of rows (y % 13)) (row_of seen (y % 13)) s),
+      starts-at (row_of rows (y % 13)) (row_of seen (y % 13)) has.0 s has.1 ∙ has.2,
+    )
 
 -- a place stays one, with its word
-pub place_on : (seen rows : List (List ℕ)) (place : Place) → SeesOn seen rows → HasPlace seen place → HasPlace rows place × (word_at rows place ≡ word_at seen place)
+pub place_on : (seen rows : List (List ℕ)) (place : Place) → SeesOn seen rows → HasPlace seen place
+    → HasPlace rows place × (word_at rows place ≡ word_at seen place)
 place_on seen rows place sees has =
-    let s = sees place.shard has.0 in
-    ((has.0, omega (arith, has.1, starts-length (row_of rows place.shard) (row_of seen place.shard) s)), starts-at (row_of rows place.shard) (row_of seen place.shard) place.at s has.1)
+    let s = sees place.shard has.0 in (
+      (has.0, omega (arith, has.1, starts-length (row_of rows place.shard) (row_of seen place.shard) s)),
+      starts-at (row_of rows place.shard) (row_of seen place.shard) place.at s has.1,
+    )
 
 -- the word at k of the list of the claimed word is a successor of it
-pub successor_on : (after : ℕ → List ℕ) (before : List (List ℕ)) (place : Place) (k x : ℕ) (s : Known) → HasClaim s place → HasPlace before place → SeesOn before s.seen
+pub successor_on : (after : ℕ → List ℕ) (before : List (List ℕ)) (place : Place) (k x : ℕ) (s : Known)
+    → HasClaim s place → HasPlace before place → SeesOn before s.seen
     → k < length (after (word_at before place)) → x ≡ get_or (after (word_at before place)) k 0 → IsSuccessor after s x
 successor_on after before place k x s claim has sees inside is =
     let there = place_on before s.seen place sees has in
@@ -35,7 +42,8 @@ successor_on after before place k x s claim has sees inside is =
       claim.0,
       (
         rw shard (rw at there.0.1),
-        rw shard (rw at (subst (λ (y : ℕ). Contains (after y) x) (sym there.1) (k, inside, get_or_default (after (word_at before place)) k x 0 inside ∙ sym is))),
+        rw shard (rw at (subst (λ (y : ℕ). Contains (after y) x) (sym there.1)
+            (k, inside, get_or_default (after (word_at before place)) k x 0 inside ∙ sym is))),
       ),
     )
 
@@ -51,7 +59,8 @@ pub record IsStill (before after : Known) : Type 0 where
   pub place : after.place ≡ before.place
   pub learned : after.learned ≡ before.learned
 
-still_by : (s w : Known) (added : List ℕ) → w ≡ record s { seen = w.seen; held = w.held; right = 0; added = added } → IsStill s w
+still_by : (s w : Known) (added : List ℕ) → w ≡ record s { seen = w.seen; held = w.held; right = 0; added = added }
+    → IsStill s w
 still_by s w added e = record {
   board = ap (λ (u : Known). u.board) e;
   limit = ap (λ (u : Known). u.limit) e;
@@ -78,7 +87,9 @@ put_sees x s w Over (e, sees) = sees
 
 -- a word that is named is an entry
 names_has : (rows : List (List ℕ)) (place : Place) (x : ℕ) → Names rows place x → Has rows x
-names_has rows place x named = subst (λ (q : ℕ). (j : ℕ) × (j < length (row_of rows q)) × (get_or (row_of rows q) j 0 ≡ x)) named.2 (place.at, named.0.1, named.1)
+names_has rows place x named =
+    subst (λ (q : ℕ). (j : ℕ) × (j < length (row_of rows q)) × (get_or (row_of rows q) j 0 ≡ x)) named.2
+    (place.at, named.0.1, named.1)
 
 -- the word is an entry then, unless there was no answer
 pub put_has : (x : ℕ) (s w : Known) (put : Put) → PutOk x s w put → put ≢ Over → put ≢ Busy → Has w.seen x

@@ -11,7 +11,8 @@ put_in-requires-clause-successor g c = let same = c.at-word.ensures.same in let 
     let has : HasPlace c.at-word.new.seat.seen c.args.place = rw same c.requires.claim.1 in
     let kept = c.loop-next.invariant in
     let come = c.in-Some.ensures.next kept.k kept.ahead in
-    successor_on after c.at-word.new.seat.seen c.args.place kept.k c.in-Some.next c.loop-next.mine.seat kept.expands.claim has kept.expands.sees (rw (← word) come.0) (rw (← word) come.1)
+    successor_on after c.at-word.new.seat.seen c.args.place kept.k c.in-Some.next c.loop-next.mine.seat
+    kept.expands.claim has kept.expands.sees (rw (← word) come.0) (rw (← word) come.1)
 
 pub loop-next-preserved : goal.loop-next-preserved
 loop-next-preserved g c = let same = c.at-word.ensures.same in let word : c.at-word.result ≡ word_at c.at-word.new.seat.seen c.args.place = rw same c.at-word.ensures.word in

@@ -8,7 +8,8 @@ pub loop-at-init : goal.loop-at-init
 loop-at-init g c =
     let free = c.requires.ready.free in
     record {
-      ready = ready_on _ _ _ c.args.mine.now.seat.seen _ free.explored free.own free.met c.count_of-count.ensures.idle c.count_of-count.ensures.sees;
+      ready = ready_on _ _ _ c.args.mine.now.seat.seen _ free.explored free.own free.met c.count_of-count.ensures.idle
+          c.count_of-count.ensures.sees;
       seen = c.count_of-count.ensures.seen;
     }
 
