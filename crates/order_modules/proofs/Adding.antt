@@ -99,7 +99,8 @@ length-copies after turn j origin (b ∷ bs) = ap suc (length-copies after turn 
 -- ---- in the loops
 
 -- the test of the code is that of the definition
-pub ahead_read : (kind now read : Module) (x : Change) (test : Bool) → read ≡ now → now ≡ kind → test ≡ is_ahead read x → is_ahead kind x ≡ test
+pub ahead_read : (kind now read : Module) (x : Change) (test : Bool) → read ≡ now → now ≡ kind
+    → test ≡ is_ahead read x → is_ahead kind x ≡ test
 ahead_read kind now read x test one two is = sym (is ∙ ap (λ (k : Module). is_ahead k x) (one ∙ two))
 
 module _ (a b : Log) (p : Change → Bool) (f : Change → Emitted) (xs : List Change) (i : ℕ) (x : Change) (inside : i < length xs) (read : x ≡ get_or xs i x)
@@ -182,22 +183,39 @@ transaction_adds kind after turn j origin targets changes a b c d e f same first
     (adds-then c d f (z ∷ []) (ws ++ v ∷ []) third
     (adds-then d e f ws (v ∷ []) fourth' fifth)))
 
-adds-map : (a b : Log) (f : Change → Emitted) (xs : List Change) → Adds a b (map f xs) → length b.emitted ≡ length a.emitted + length xs
+adds-map : (a b : Log) (f : Change → Emitted) (xs : List Change) → Adds a b (map f xs)
+    → length b.emitted ≡ length a.emitted + length xs
 adds-map a b f xs adds = adds-long a b (map f xs) adds ∙ ap (λ (n : ℕ). length a.emitted + n) (length-map xs f)
 
-adds-copies : (a b : Log) (after : Disk) (turn j : ℕ) (origin : Origin) (bs : List ℕ) → Adds a b (copies after turn j origin bs) → length b.emitted ≡ length a.emitted + length bs
+adds-copies : (a b : Log) (after : Disk) (turn j : ℕ) (origin : Origin) (bs : List ℕ)
+    → Adds a b (copies after turn j origin bs) → length b.emitted ≡ length a.emitted + length bs
 adds-copies a b after turn j origin bs adds = adds-long a b (copies after turn j origin bs) adds ∙ ap (λ (n : ℕ). length a.emitted + n) (length-copies after turn j origin bs)
 
 -- ---- room for what a transaction adds next
 
-module _ (old first : Log) (changes : List Change) (targets : List ℕ) (f : Change → Emitted) (room : length old.emitted + (length changes + length targets + 2) ≤ 124)
+module _ (old first : Log) (changes : List Change) (targets : List ℕ) (f : Change → Emitted)
+    (room : length old.emitted + (length changes + length targets + 2) ≤ 124)
     (ahead : Adds old first (map f (changes_ahead old.kind changes))) where
   pub room_for_copies : length first.emitted + length targets ≤ 124
-  room_for_copies = omega (arith, room, transaction_room old.kind changes, adds-map old first f (changes_ahead old.kind changes) ahead)
+  room_for_copies = omega (
+    arith,
+    room,
+    transaction_room old.kind changes,
+    adds-map old first f
+        (changes_ahead old.kind changes) ahead,
+  )
 
-  module _ (second : Log) (after : Disk) (turn j : ℕ) (origin : Origin) (copied : Adds first second (copies after turn j origin targets)) where
+  module _ (second : Log) (after : Disk) (turn j : ℕ) (origin : Origin)
+      (copied : Adds first second (copies after turn j origin targets)) where
     left : length second.emitted + (length (changes_in_place old.kind changes) + 2) ≤ 124
-    left = omega (arith, room, transaction_room old.kind changes, adds-map old first f (changes_ahead old.kind changes) ahead, adds-copies first second after turn j origin targets copied)
+    left = omega (
+      arith,
+      room,
+      transaction_room old.kind changes,
+      adds-map old first f
+          (changes_ahead old.kind changes) ahead,
+      adds-copies first second after turn j origin targets copied,
+    )
 
     pub room_for_commit : length second.emitted < 124
     room_for_commit = omega (arith, left)
@@ -205,11 +223,14 @@ module _ (old first : Log) (changes : List Change) (targets : List ℕ) (f : Cha
     module _ (third : Log) (commit : Emitted) (committed : Adds second third (commit ∷ [])) where
       left_then : length third.emitted + (length (changes_in_place third.kind changes) + 1) ≤ 124
       left_then =
-          let same : length (changes_in_place third.kind changes) ≡ length (changes_in_place old.kind changes) = ap (λ (k : Module). length (changes_in_place k changes)) (committed.kind ∙ copied.kind ∙ ahead.kind) in
+          let same : length (changes_in_place third.kind changes) ≡ length (changes_in_place old.kind changes) =
+          ap (λ (k : Module). length (changes_in_place k changes)) (committed.kind ∙ copied.kind ∙ ahead.kind) in
           omega (arith, left, adds-long second third (commit ∷ []) committed, same)
 
       pub room_in_place : length third.emitted + length (changes_in_place third.kind changes) ≤ 124
       room_in_place = omega (arith, left_then)
 
-      pub room_for_done : (fourth : Log) (h : Change → Emitted) → Adds third fourth (map h (changes_in_place third.kind changes)) → length fourth.emitted < 124
-      room_for_done fourth h placed = omega (arith, left_then, adds-map third fourth h (changes_in_place third.kind changes) placed)
+      pub room_for_done : (fourth : Log) (h : Change → Emitted)
+          → Adds third fourth (map h (changes_in_place third.kind changes)) → length fourth.emitted < 124
+      room_for_done fourth h placed =
+          omega (arith, left_then, adds-map third fourth h (changes_in_place third.kind changes) placed)

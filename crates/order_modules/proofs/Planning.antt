@@ -132,11 +132,17 @@ abbrev pub trace_with : Trace → Log → Disk → ℕ → ℕ → Trace
 trace_with old log disk turn next = record { log = log; tracing = record old.tracing { disk = disk; emitted = log.emitted; turn = turn; journal = next; links = log.links } }
 
 -- a trace stays one with the changes of a plan on its disk
-pub trace_kept : (old now : Trace) (log : Log) (disk : Disk) (cs : List Change) (turn next : ℕ) → old ≡ now → IsTrace old → Keeps old.log log → All (LiesInside now.tracing.disk.blocks) cs → disk ≡ with_changes old.tracing.disk cs
-    → old.tracing.journal ≤ next → next ≤ 4 + old.tracing.disk.journal → (IsJournaled old.log.kind → turn + 3 ≤ next) → IsTrace (trace_with old log disk turn next)
+pub trace_kept : (old now : Trace) (log : Log) (disk : Disk) (cs : List Change) (turn next : ℕ) → old ≡ now
+    → IsTrace old → Keeps old.log log → All (LiesInside now.tracing.disk.blocks) cs
+    → disk ≡ with_changes old.tracing.disk cs
+    → old.tracing.journal ≤ next → next ≤ 4 + old.tracing.disk.journal → (IsJournaled old.log.kind → turn + 3 ≤ next)
+    → IsTrace (trace_with old log disk turn next)
 trace_kept old now log disk cs turn next view is keeps inside here from to counted = record {
-  disk = subst IsDisk (sym here) (with_changes-disk old.tracing.disk cs is.disk (subst (λ (t : Trace). All (LiesInside t.tracing.disk.blocks) cs) (sym view) inside));
-  blocks = ap (λ (d : Disk). d.blocks) here ∙ with_changes-blocks old.tracing.disk cs ∙ is.blocks ∙ ap (λ (d : Disk). d.blocks) (sym keeps.base);
+  disk = subst IsDisk (sym here)
+      (with_changes-disk old.tracing.disk cs is.disk
+      (subst (λ (t : Trace). All (LiesInside t.tracing.disk.blocks) cs) (sym view) inside));
+  blocks = ap (λ (d : Disk). d.blocks) here ∙ with_changes-blocks old.tracing.disk cs ∙ is.blocks
+      ∙ ap (λ (d : Disk). d.blocks) (sym keeps.base);
   from = omega (arith, is.from, from);
   to = omega (arith, to, ap (λ (d : Disk). d.journal) here, with_changes-journal old.tracing.disk cs);
   counted = λ j. counted (subst IsJournaled keeps.kind j);

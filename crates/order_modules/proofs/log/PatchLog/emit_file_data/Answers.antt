@@ -12,7 +12,8 @@ use Rattle.order_modules.proofs.log.PatchLog.emit_file_data.Goals.{then-is_ahead
 pub emit-requires-clause-room : goal.emit-requires-clause-room
 emit-requires-clause-room g c =
     let x = c.change-item.result in
-    let t : is_ahead c.args.self.now.kind x ≡ true = ahead_read c.args.self.now.kind c.loop-change.self.kind c.module.result x true c.module.ensures c.loop-change.invariant.kind c.if-is_ahead.ensures in
+    let t : is_ahead c.args.self.now.kind x ≡ true = ahead_read c.args.self.now.kind c.loop-change.self.kind
+    c.module.result x true c.module.ensures c.loop-change.invariant.kind c.if-is_ahead.ensures in
     chosen_space c.args.self.now c.loop-change.self (is_ahead c.args.self.now.kind) (file_data c.args.turn (origin_by c.args.origin)) c.args.changes.now c.loop-change.change-index x c.loop-change-test.true c.change-item.is c.loop-change.invariant (t) c.requires.room
 
 pub loop-change-preserved : goal.loop-change-preserved
@@ -21,7 +22,8 @@ loop-change-preserved g c =
     let turn = c.args.turn in let origin = origin_by c.args.origin in let i = c.loop-change.change-index in
     let p = is_ahead c.args.self.now.kind in let f = file_data c.args.turn (origin_by c.args.origin) in
     let next : Log → Type 0 = λ log. Adds old log (map f (filter p (take (i + 1) c.args.changes.now))) in
-    let same : is_ahead old.kind x ≡ c.is_ahead.result = ahead_read old.kind now.kind c.module.result x c.is_ahead.result c.module.ensures c.loop-change.invariant.kind c.is_ahead.ensures in
+    let same : is_ahead old.kind x ≡ c.is_ahead.result = ahead_read old.kind now.kind c.module.result x
+    c.is_ahead.result c.module.ensures c.loop-change.invariant.kind c.is_ahead.ensures in
     elim c.if-is_ahead.branch [
       | then-is_ahead+in_ok-emit w ↦
           let t : is_ahead old.kind x ≡ true = same ∙ w.if-is_ahead.true in

@@ -10,4 +10,5 @@ returns g c =
     let cs = c.args.plan.now.items in
     let targets = c.touched.result.items in
     subst (λ (t : Trace). targets ≡ targets_of t.log.kind t.tracing.disk.blocks cs) c.self.view_is
-    (targets_read i.log.kind c.module.result i.disk.blocks c.blocks-2.result cs c.as_slice.result.now targets c.touched.ensures c.module.ensures c.blocks-2.ensures.value c.as_slice.ensures.value)
+    (targets_read i.log.kind c.module.result i.disk.blocks c.blocks-2.result cs c.as_slice.result.now targets
+    c.touched.ensures c.module.ensures c.blocks-2.ensures.value c.as_slice.ensures.value)

@@ -19,13 +19,17 @@ emit_in_place-requires-clause-room g c =
     omega (arith, all, same, room, c.len.ensures.value)
 
 pub invariant_of-self : goal.invariant_of-self
-invariant_of-self g c = trace_kept _ _ c.emit_in_place.new.self c.apply.new.image c.args.plan.now.items c.self.inside.turn c.self.inside.next c.self.view_is c.self.invariant c.emit_in_place.ensures.kept c.requires.inside c.apply.ensures.changes
+invariant_of-self g c = trace_kept _ _ c.emit_in_place.new.self c.apply.new.image c.args.plan.now.items
+    c.self.inside.turn c.self.inside.next c.self.view_is c.self.invariant c.emit_in_place.ensures.kept
+    c.requires.inside c.apply.ensures.changes
     (omega arith) c.self.invariant.to c.self.invariant.counted
 
 pub invariant_of-self-2 : goal.invariant_of-self-2
 invariant_of-self-2 g c =
     let order = subst (λ (t : Trace). IsOrdered t.log.kind) (sym c.self.view_is) c.requires.order in
-    trace_kept _ _ c.emit_in_place.new.self c.apply.new.image c.args.plan.now.items (c.self.inside.turn + 1) c.self.inside.next c.self.view_is c.self.invariant c.emit_in_place.ensures.kept c.requires.inside c.apply.ensures.changes
+    trace_kept _ _ c.emit_in_place.new.self c.apply.new.image c.args.plan.now.items (c.self.inside.turn + 1)
+    c.self.inside.next c.self.view_is c.self.invariant c.emit_in_place.ensures.kept c.requires.inside
+    c.apply.ensures.changes
     (omega arith) c.self.invariant.to (λ j. absurd (not_journaled c.self.inside.log.kind order j))
 
 pub returns-clause-ok : goal.returns-clause-ok
