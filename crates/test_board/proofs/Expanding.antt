@@ -1,5 +1,5 @@
 -- A seat while it expands the entry that it has claimed.
-use Rattle.std.proofs.Common.{◌≡◌, ◌≢◌, ℕ, ◌+◌, ◌<◌, List, [], ◌∷◌, ◌++◌, length, get_or, refl, ap, sym, ◌∙◌, subst, arith, below_more}
+use Rattle.std.proofs.Common.{◌≡◌, ◌≢◌, ℕ, ◌+◌, ◌<◌, List, [], ◌∷◌, ◌++◌, length, get_or, refl, ap, ◌∙◌, subst, arith, below_more}
 use Rattle.std.specs.List.{Contains}
 use Rattle.std.proofs.lemmas.List.{get_or_default}
 use Rattle.board_rule.specs.Lists.{Has}
@@ -25,29 +25,46 @@ module _ {S : Type 0} (b : Shown S) where
         claim = still_claims place s w still o.claim;
         sees = sees_on_trans v.seen s.seen w.seen o.sees sees;
         learned = still.learned ∙ o.learned;
-        has = below_more (λ j. Has w.seen (get_or next j 0)) k (λ j h. has_on s.seen w.seen (get_or next j 0) sees (o.has j h)) (subst (Has w.seen) is (put_has x s w put ok not-over not-busy));
+        has = below_more (λ j. Has w.seen (get_or next j 0)) k
+            (λ j h. has_on s.seen w.seen (get_or next j 0) sees (o.has j h))
+            (subst (Has w.seen) is (put_has x s w put ok not-over not-busy));
       }
 
   -- whatever the answer, the seat is of the board and has no right
   pub put_after : (x : ℕ) (s w : Known) (put : Put) → PutOk x s w put → IsOf b s → IsOf b w × (w.right ≡ 0)
-  put_after x s w (New p) ok of = let still = put_still x s w (New p) ok (λ over. cc) in (still_of b s w still of, still.free)
-  put_after x s w (Found p) ok of = let still = put_still x s w (Found p) ok (λ over. cc) in (still_of b s w still of, still.free)
+  put_after x s w (New p) ok of = let still = put_still x s w (New p) ok (λ over. cc) in
+      (still_of b s w still of, still.free)
+  put_after x s w (Found p) ok of = let still = put_still x s w (Found p) ok (λ over. cc) in
+      (still_of b s w still of, still.free)
   put_after x s w Busy ok of = let still = put_still x s w Busy ok (λ over. cc) in (still_of b s w still of, still.free)
-  put_after x s w Over (e, sees) of = ((ap (λ (u : Known). u.board) e ∙ of.0, ap (λ (u : Known). u.limit) e ∙ of.1, ap (λ (u : Known). u.places) e ∙ of.2), ap (λ (u : Known). u.right) e)
+  put_after x s w Over (e, sees) of = (
+    (
+      ap (λ (u : Known). u.board) e ∙ of.0,
+      ap (λ (u : Known). u.limit) e ∙ of.1,
+      ap (λ (u : Known). u.places) e
+          ∙ of.2,
+    ),
+    ap (λ (u : Known). u.right) e,
+  )
 
   -- where the board is outgrown, the seat is idle and knows it
   pub expands_over : (v : Known) (place : Place) (next : List ℕ) (k x : ℕ) (s w : Known) (put : Put) → Expands b v place next k s → PutOk x s w put → put ≡ Over → IsIdle b w × SeesOn v.seen w.seen × (w.over ≡ 1)
   expands_over v place next k x s w put o ok over =
       let given_up : PutOk x s w Over = subst (PutOk x s w) over ok in
-      let after = put_after x s w put ok o.of in
-      ((after.0, after.1, ap (λ (u : Known). u.claims) given_up.0), sees_on_trans v.seen s.seen w.seen o.sees given_up.1, ap (λ (u : Known). u.over) given_up.0)
+      let after = put_after x s w put ok o.of in (
+        (after.0, after.1, ap (λ (u : Known). u.claims) given_up.0),
+        sees_on_trans v.seen s.seen w.seen o.sees
+            given_up.1,
+        ap (λ (u : Known). u.over) given_up.0,
+      )
 
   -- once all are, the entry can be settled
   pub expands_all : (v : Known) (place : Place) (next : List ℕ) (k : ℕ) (s : Known) → Expands b v place next k s → k ≡ length next → (y : ℕ) → Contains next y → Has s.seen y
   expands_all v place next k s o all y has = subst (Has s.seen) (get_or_default next has.0 0 y has.1 ∙ has.2) (o.has has.0 (omega (arith, all, has.1)))
 
   -- the claim is still there
-  pub still_at : (place : Place) (x : ℕ) (s w : Known) (put : Put) → PutOk x s w put → IsOf b s → HasClaim s place → HasPlace s.seen place → put ≢ Over → IsAt b place (word_at s.seen place) w
+  pub still_at : (place : Place) (x : ℕ) (s w : Known) (put : Put) → PutOk x s w put → IsOf b s → HasClaim s place
+      → HasPlace s.seen place → put ≢ Over → IsAt b place (word_at s.seen place) w
   still_at place x s w put ok of claim has not-over =
       let still = put_still x s w put ok not-over in
       let there = place_on s.seen w.seen place (put_sees x s w put ok) has in

@@ -9,7 +9,9 @@ use Rattle.test_board.proofs.worker.expand.Goals as goal
 pub insert-requires-clause-successor : goal.insert-requires-clause-successor
 insert-requires-clause-successor g c = let same = c.at-word.ensures.same in let word : c.at-word.result ≡ word_at c.at-word.new.seat.seen c.args.place = rw same c.at-word.ensures.word in let after = g.S.Space.successors c.args.space.now in
     let has : HasPlace c.at-word.new.seat.seen c.args.place = rw same c.requires.claim.1 in
-    rw c.requires.board.1 (successor_on after c.at-word.new.seat.seen c.args.place c.loop-k.k c.next.result c.loop-k.seat c.loop-k.invariant.claim has c.loop-k.invariant.sees (rw (← word) (omega (arith, c.loop-k-test.true, c.degree-k-end.ensures))) (rw (← word) c.next.ensures))
+    rw c.requires.board.1 (successor_on after c.at-word.new.seat.seen c.args.place c.loop-k.k c.next.result
+    c.loop-k.seat c.loop-k.invariant.claim has c.loop-k.invariant.sees
+    (rw (← word) (omega (arith, c.loop-k-test.true, c.degree-k-end.ensures))) (rw (← word) c.next.ensures))
 
 pub returns-in-Over-clause-idle : goal.returns-in-Over-clause-idle
 returns-in-Over-clause-idle g c = (expands_over c.args.board.now c.at-word.new.seat c.args.place (g.S.Space.successors c.args.space.now (word_at c.at-word.new.seat.seen c.args.place)) c.loop-k.k c.next.result c.loop-k.seat c.insert.new.seat c.insert.result c.loop-k.invariant c.insert.ensures.put c.in-Over.is).0
