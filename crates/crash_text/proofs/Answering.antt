@@ -1,8 +1,9 @@
 -- What the parts of a run find makes its answer.
-use Rattle.std.proofs.Common.{ℕ, List, subst, sym, inl, inr}
+use Rattle.std.proofs.Common.{◌≡◌, ℕ, List, Ok, subst, sym, inl, inr}
 use Rattle.crash_model.specs.Answer.{Refused, Reported, HasBase, IsAnswer, bad_geometry, bad_base, bad_trace, too_many, reported}
-use Rattle.crash_model.specs.Disk.{Disk}
+use Rattle.crash_model.specs.Disk.{Disk, IsGeometry, empty_disk}
 use Rattle.crash_model.specs.Script.{IsScript}
+use Rattle.crash_model.specs.Trace.{base_from}
 use Rattle.crash_model.specs.declared.refusals.RunFault.{RunFault}
 use Rattle.crash_model.specs.declared.settings.Settings.{Settings}
 use Rattle.crash_model.specs.declared.steps.Step.{Step}
@@ -10,6 +11,17 @@ use Rattle.crash_text.specs.BaseRefusal.{IsBaseRefusal}
 use Rattle.crash_text.specs.Telling.{AreReported, AreRefused}
 
 module _ (bytes : List ℕ) (settings : Settings) where
+  -- where a script is read and its base built, the answer has that base
+  pub has_base : (before built steps : List Step) (base : Disk) → IsScript bytes before steps
+      → IsGeometry settings.blocks settings.journal → built ≡ before
+      → base_from (empty_disk settings.blocks settings.journal) built ≡ Ok base → HasBase bytes settings base steps
+  has_base before built steps base read geometry same is = record {
+    before = before;
+    read = read;
+    geometry = geometry;
+    built = subst (λ (s : List Step). base_from (empty_disk settings.blocks settings.journal) s ≡ Ok base) same is;
+  }
+
   pub refused_base : (before steps : List Step) (fault : RunFault) → IsScript bytes before steps → IsBaseRefusal settings before fault → IsAnswer bytes settings (Refused fault)
   refused_base before steps fault read (inl bad) = subst (λ f. IsAnswer bytes settings (Refused f)) (sym bad.1) (bad_geometry before steps read bad.0)
   refused_base before steps fault read (inr bad) = subst (λ f. IsAnswer bytes settings (Refused f)) (sym bad.1.2) (bad_base before steps bad.1.0 read bad.0 bad.1.1)

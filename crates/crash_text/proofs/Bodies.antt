@@ -11,13 +11,12 @@ use Rattle.crash_model.specs.Answer.{detail_of, ordering_rules, IsBody, IsReport
 use Rattle.crash_model.specs.Disk.{Disk}
 use Rattle.crash_model.specs.Explain.{Explanation, explanation}
 use Rattle.crash_model.specs.Strict.{IsFailingUnder}
-use Rattle.crash_model.specs.Lists.{when}
 use Rattle.crash_model.specs.Needs.{ToldRule, AreToldRules}
 use Rattle.crash_model.specs.Patches.{deps_of}
 use Rattle.crash_model.specs.Report.{Section, AreSections, IsLed}
 use Rattle.crash_model.specs.Summary.{HasFault, AreRows, ToldFault, AreToldFaults}
 use Rattle.crash_model.specs.Trace.{Tracing}
-use Rattle.crash_model.specs.Whole.{Body, Sets, Faults, Rules, Report, report}
+use Rattle.crash_model.specs.Whole.{Body, Sets, Faults, Rules, report}
 use Rattle.crash_model.specs.declared.fault.FaultRow.{FaultRow}
 use Rattle.crash_model.specs.declared.patches.Patch.{Patch}
 use Rattle.crash_model.specs.declared.settings.Detail.{Detail}
@@ -25,27 +24,18 @@ use Rattle.crash_model.specs.declared.settings.Settings.{Settings}
 use Rattle.crash_model.specs.declared.settings.ReportBy.TheVariants.{BySet, ByFault, ByRule}
 use Rattle.crash_model.proofs.Leading.{failing_closed, closed_are_left, sections_lead}
 use Rattle.traced_patches.specs.Traced.{TracedPatches}
-use Rattle.report_sections.specs.Bodies.{AreOnBase, AreClosed, CanTell, TellsBody, sets_of, explanation_by}
+use Rattle.report_sections.specs.Bodies.{AreOnBase, AreClosed, CanTell, sets_of, explanation_by}
 use Rattle.report_sections.specs.declared.report.Body as code
 use Rattle.report_sections.specs.declared.report.Body.TheVariants as code_body
 use Rattle.report_sections.specs.declared.report.Report as code_report
 use Rattle.report_sections.specs.ToldRules.{told_rule}
 use Rattle.report_sections.specs.declared.rules.ToldRule as code_rule
 use Rattle.crash_finding.specs.Kept.{AreTotals}
-use Rattle.crash_text.specs.Telling.{IsTraceOf}
+use Rattle.crash_text.specs.Telling.{IsTraceOf, Tells, whole}
 
 -- what holds of each image holds of each item's image
 all_of : {X Y : Type 0} (P : X → Type 0) (f : Y → X) (ys : List Y) → All P (map f ys) → All (λ y. P (f y)) ys
 all_of P f ys all k d within = subst P (get_or-map f ys k d) (all k (f d) (omega (arith, within, length-map ys f)))
-
-abbrev whole : Settings → Explanation → List Patch → ℕ → ℕ → Body → Report
-whole settings told patches total failing body = record {
-  patches = length patches;
-  closed = total;
-  failing = failing;
-  explanation = when settings.explain told;
-  body = body;
-}
 
 -- the text of the report on these failing sets, of so many closed ones
 abbrev IsTextOn : Settings → Option ℕ → Disk → Tracing → List Patch → ℕ → List ℕ → List ℕ → Type 0
@@ -60,11 +50,6 @@ can_tell r base t same_base same_trace on_base closed = record {
   on_base = subst (λ (d : Disk). AreOnBase d r.traced.now.patches) (sym same_base) (subst (λ (u : TracedPatches). AreOnBase base u.patches) (sym same_trace) on_base);
   closed = subst (λ (u : TracedPatches). AreClosed u.patches (sets_of r.body)) (sym same_trace) closed;
 }
-
--- the text of a report with these data
-abbrev pub Tells : {A : Type 0} → Settings → Detail → Disk → TracedPatches → ℕ → ℕ → code.Body A → List ℕ → Type 0
-Tells settings detail base t closed failing chosen text =
-    (body : Body) × TellsBody detail base t.patches chosen body × (text ≡ report settings (whole settings (explanation_by base t) t.patches closed failing body))
 
 pub tells_of : {A : Type 0} (r : code_report.Report A) (settings : Settings) (detail : Detail) (base : Disk) (t : TracedPatches) (closed failing : ℕ) (chosen : code.Body A) (text : List ℕ) → r.settings.now ≡ settings → r.detail ≡ detail → r.base.now ≡ base → r.traced.now ≡ t → r.closed ≡ closed → r.failing ≡ failing → r.body ≡ chosen
     → Tells r.settings.now r.detail r.base.now r.traced.now r.closed r.failing r.body text → Tells settings detail base t closed failing chosen text

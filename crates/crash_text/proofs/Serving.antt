@@ -1,6 +1,6 @@
 -- What is served, and which refusals are not a run's.
 use Rattle.std.proofs.Common.{◌≡◌, ℕ, ◌<◌, ◌≤◌, List, ◌++◌, length, Option, Some, None, IfSome, Bool, true, false, refl, sym, subst, ap, ◌∙◌, append-nil, arith}
-use Rattle.std.specs.Prelude.{◌≢◌}
+use Rattle.std.specs.Prelude.{◌≢◌, Result, Err}
 use Rattle.std.specs.Io.KnownBytes.{Consumes, IsAtEnd}
 use Rattle.crash_model.specs.Answer.{Answer, Refused, Reported, IsAnswer, bad_script, bad_geometry, bad_base, bad_trace, too_many, reported}
 use Rattle.crash_model.specs.Refusals.{run_of_script, run_of_trace}
@@ -15,20 +15,21 @@ use Rattle.devices.specs.Counted.{IsReadFault}
 use Rattle.crash_text.specs.Served.{IsWhole, IsRefusedBy}
 
 -- a source that was read to its end had these bytes
-pub whole : (old new : Option (List ℕ)) (bytes : List ℕ) → Consumes old new bytes → IsAtEnd new → IsWhole old bytes
-whole None new bytes all end = tt
-whole (Some xs) None bytes all end = absurd all
-whole (Some xs) (Some ys) bytes all end = sym (all ∙ ap (λ zs. bytes ++ zs) end ∙ append-nil bytes)
+pub whole : (old new : Option (List ℕ)) (bytes : List ℕ) → Consumes old new bytes × IsAtEnd new → IsWhole old bytes
+whole None new bytes read = tt
+whole (Some xs) None bytes (all, end) = absurd all
+whole (Some xs) (Some ys) bytes (all, end) = sym (all ∙ ap (λ zs. bytes ++ zs) end ∙ append-nil bytes)
 
 pub known-any : (P : List ℕ → Type 0) (old : Option (List ℕ)) → ((bytes : List ℕ) → P bytes) → IfSome old P
 known-any P None all = tt
 known-any P (Some xs) all = all xs
 
 -- a source that was read whole was not too long
-pub not_longer : (P : Type 0) (old : Option (List ℕ)) (bytes : List ℕ) (most : ℕ) → IsWhole old bytes → length bytes ≤ most → IfSome old (λ all. most < length all → P)
-not_longer P None bytes most are few = tt
-not_longer P (Some all) bytes most are few = λ more.
-    let same : length bytes ≡ length all = ap (λ (xs : List ℕ). length xs) are in
+pub not_longer : (P : Type 0) (old new : Option (List ℕ)) (bytes : List ℕ) (most : ℕ)
+    → Consumes old new bytes × IsAtEnd new → length bytes ≤ most → IfSome old (λ all. most < length all → P)
+not_longer P None new bytes most read few = tt
+not_longer P (Some all) new bytes most read few = λ more.
+    let same : length bytes ≡ length all = ap (λ (xs : List ℕ). length xs) (whole (Some all) new bytes read) in
     absurd (omega arith)
 
 -- why a source was not read is no script's answer
@@ -65,10 +66,12 @@ of_run (bad_trace base steps fault start is) = trace_is_of_run fault
 of_run (too_many base last patches has more) = refl
 of_run (reported kept base last patches text failing has told report) = refl
 
--- a run's refusal is no device's
-pub not_of_device : (bytes : List ℕ) (settings : Settings) (fault device : RunFault) → (fault ≢ OutOfMemory → IsAnswer bytes settings (Refused fault))
-    → is_of_run device ≡ false → fault ≡ device → ⊥
-not_of_device bytes settings fault device answers is same =
+-- where a run refused, the refusal is no device's
+pub not_of_device : {X : Type 0} (result : Result X RunFault) (bytes : List ℕ) (settings : Settings)
+    (fault device : RunFault) → (fault ≢ OutOfMemory → IsAnswer bytes settings (Refused fault))
+    → is_of_run device ≡ false → result ≡ Err fault → result ≡ Err device → ⊥
+not_of_device result bytes settings fault device answers is ran refused =
+    let same : fault ≡ device = cc in
     let memory : fault ≢ OutOfMemory = λ e. let yes : is_of_run device ≡ true = subst (λ f. is_of_run f ≡ true) (sym e ∙ same) refl in cc in
     let yes : is_of_run device ≡ true = subst (λ f. is_of_run f ≡ true) same (of_run (answers memory)) in
     cc

@@ -1,12 +1,15 @@
 -- What the report of a run tells.
-use Rattle.std.specs.Prelude.{◌≡◌, ◌⊎◌, ℕ, List, Option, Ok, Err}
+use Rattle.std.specs.Prelude.{◌≡◌, ◌⊎◌, ℕ, List, Option, Ok, Err, length}
 use Rattle.crash_model.specs.Answer.{ordering_rules, IsReport}
 use Rattle.crash_model.specs.Disk.{Disk}
+use Rattle.crash_model.specs.Explain.{Explanation}
 use Rattle.crash_model.specs.Failing.{ExceedsLimit}
+use Rattle.crash_model.specs.Lists.{when}
 use Rattle.crash_model.specs.Needs.{IsWithout, RuleUsage, Unused, TooMany as PastLimit, Used}
 use Rattle.crash_model.specs.Refusals.{run_of_trace}
 use Rattle.crash_model.specs.Strict.{IsToldKept}
 use Rattle.crash_model.specs.Trace.{Tracing, trace_start, trace_from, IsGraphOf}
+use Rattle.crash_model.specs.Whole.{Body, Report, report}
 use Rattle.crash_model.specs.declared.patches.Patch.{Patch}
 use Rattle.crash_model.specs.declared.refusals.RunFault.{RunFault}
 use Rattle.crash_model.specs.declared.refusals.RunFault.TheVariants.{TooMany}
@@ -15,7 +18,8 @@ use Rattle.crash_model.specs.declared.settings.Detail.{Detail}
 use Rattle.crash_model.specs.declared.settings.Settings.{Settings}
 use Rattle.crash_model.specs.declared.steps.Step.{Step}
 use Rattle.traced_patches.specs.Traced.{TracedPatches}
-use Rattle.report_sections.specs.Bodies.{AreOnBase}
+use Rattle.report_sections.specs.Bodies.{AreOnBase, TellsBody, explanation_by}
+use Rattle.report_sections.specs.declared.report.Body as code
 use Rattle.crash_finding.specs.Kept.{AreFound}
 use Rattle.crash_text.specs.declared.telling.Findings.{Findings}
 
@@ -36,6 +40,22 @@ abbrev pub IsReportOf : {A : Type 0} → Findings A → List ℕ → Type 0
 IsReportOf f text =
     (last : Tracing) → IsTraceOf f.settings.now f.base.now f.traced last
     → IsReport f.settings.now f.kept f.base.now last f.traced.patches text f.found.failing
+
+-- the report with this body as the definition sees it
+abbrev pub whole : Settings → Explanation → List Patch → ℕ → ℕ → Body → Report
+whole settings told patches total failing body = record {
+  patches = length patches;
+  closed = total;
+  failing = failing;
+  explanation = when settings.explain told;
+  body = body;
+}
+
+-- the text of a report with these data
+abbrev pub Tells : {A : Type 0} → Settings → Detail → Disk → TracedPatches → ℕ → ℕ → code.Body A → List ℕ → Type 0
+Tells settings detail base t closed failing chosen text =
+    (body : Body) × TellsBody detail base t.patches chosen body
+    × (text ≡ report settings (whole settings (explanation_by base t) t.patches closed failing body))
 
 -- the text is the report on these traced patches, by a checker that is told what the steps keep
 pub record AreReportedOf (settings : Settings) (base : Disk) (steps : List Step) (t : TracedPatches) (text : List ℕ)

@@ -9,9 +9,9 @@ ghost use Rattle.crash_model.specs.Summary.{HasFault, AreRows};
 ghost use Rattle.crash_model.specs.Trace.{Tracing};
 ghost use Rattle.crash_model.specs.declared.settings.ReportBy.TheVariants.{BySet, ByFault, ByRule};
 ghost use Rattle.crash_model.specs.Whole.{Body as WholeBody, report as report_bytes};
-ghost use Rattle.report_sections.specs.Bodies.{CanTell, TellsBody, whole_of};
+ghost use Rattle.report_sections.specs.Bodies.{AreClosed, AreOnBase, CanTell, TellsBody, sets_of, whole_of};
 ghost use Rattle.report_sections.specs.ToldRules.{told_rule};
-ghost use Rattle.crash_text.specs.Telling.{AreFindings, IsReportOf, IsTraceOf};
+ghost use Rattle.crash_text.specs.Telling.{AreFindings, IsReportOf, IsTraceOf, Tells};
 
 use crash_finding::Found;
 use crash_model::fault::FaultRow;
@@ -63,8 +63,7 @@ impl<'steps, 'asked, A: Allocator + Copy + Send + Sync> Findings<'steps, 'asked,
             sets.now }
         ensures { IfOk result (λ text. IsReportOf self.now (string_bytes text)) }
     {
-        let report = self.report(Body::Sets(sets));
-        write_report(rt, heap, alloc, &report, workers)
+        self.write(rt, heap, alloc, Body::Sets(sets), workers)
     }
 
     /// The report with each fault once, of which these are the rows. It fails only when out of memory.
@@ -81,8 +80,7 @@ impl<'steps, 'asked, A: Allocator + Copy + Send + Sync> Findings<'steps, 'asked,
         requires rows { AreRows (HasFault self.now.kept self.now.base.now self.now.traced.patches) rows.now }
         ensures { IfOk result (λ text. IsReportOf self.now (string_bytes text)) }
     {
-        let report = self.report(Body::Faults(rows));
-        write_report(rt, heap, alloc, &report, workers)
+        self.write(rt, heap, alloc, Body::Faults(rows), workers)
     }
 
     /// The report on the rules of the ordering, of which this is told. It fails only when out of memory.
@@ -102,7 +100,25 @@ impl<'steps, 'asked, A: Allocator + Copy + Send + Sync> Findings<'steps, 'asked,
             (ordering_rules self.now.settings.now) (map told_rule rules.now) }
         ensures { IfOk result (λ text. IsReportOf self.now (string_bytes text)) }
     {
-        let report = self.report(Body::Rules(rules));
+        self.write(rt, heap, alloc, Body::Rules(rules), workers)
+    }
+
+    /// The report with this body, in the form that the settings ask for. It fails only when out of memory.
+    fn write<R: Threads + Sync>(
+        &self,
+        rt: &R,
+        heap: Global,
+        alloc: A,
+        body: Body<'_, A>,
+        workers: usize,
+    ) -> Result<String<A>, AllocError>
+        requires on_base { AreOnBase self.now.base.now self.now.traced.patches }
+        requires closed { AreClosed self.now.traced.patches (sets_of body) }
+        ensures { IfOk result (λ text. Tells self.now.settings.now (detail_of self.now.settings.now self.now.kept)
+            self.now.base.now self.now.traced self.now.found.closed self.now.found.failing body.entry
+            (string_bytes text)) }
+    {
+        let report = self.report(body);
         write_report(rt, heap, alloc, &report, workers)
     }
 

@@ -34,26 +34,34 @@ returns-clause-full g c = λ full none.
 pub returns-clause-reported : goal.returns-clause-reported
 returns-clause-reported g c =
     let settings = c.args.finder.now.settings.now in
-    let base = c.args.base.now in
     let t = c.in_ok-traced.traced in
-    let ordering = c.ordering-ordering.ensures in
     let ok = c.in_ok-traced.ensures.ok in
-    let last = ok.0 in
-    let under = of_settings settings base c.args.steps.now c.ordering-ordering.result.«module» c.ordering-ordering.result.rules.items last t.patches ordering.«module» ordering.rules ok.1 ok.2 in
-    let is : IsTraceOf settings base t last = record { emitted = ok.3; links = ok.4; rules = c.in_ok-traced.ensures.rules ∙ ordering.rules; graph = under.1 } in
+    let ordering = c.ordering-ordering.ensures in
+    let under = of_settings settings c.args.base.now c.args.steps.now _ _ ok.0 t.patches ordering.«module»
+    ordering.rules ok.1 ok.2 in
+    let is : IsTraceOf settings c.args.base.now t ok.0 = record {
+      emitted = ok.3;
+      links = ok.4;
+      rules = c.in_ok-traced.ensures.rules ∙ ordering.rules;
+      graph = under.1;
+    } in
     IfOk-weaker c.answer_traced.result _ _
-    (λ outcome told. record { last = last; patches = t.patches; run = under.0; graph = under.1; kept = told.kept; told = told.told; report = told.report last is })
+    (λ outcome told. record {
+      last = ok.0;
+      patches = t.patches;
+      run = under.0;
+      graph = under.1;
+      kept = told.kept;
+      told = told.told;
+      report = told.report ok.0 is;
+    })
     c.answer_traced.ensures.reported
 
 pub returns-clause-refused : goal.returns-clause-refused
 returns-clause-refused g c =
-    let settings = c.args.finder.now.settings.now in
-    let base = c.args.base.now in
-    let t = c.in_ok-traced.traced in
-    let ordering = c.ordering-ordering.ensures in
     let ok = c.in_ok-traced.ensures.ok in
-    let last = ok.0 in
-    let under = of_settings settings base c.args.steps.now c.ordering-ordering.result.«module» c.ordering-ordering.result.rules.items last t.patches ordering.«module» ordering.rules ok.1 ok.2 in
+    let under = of_settings c.args.finder.now.settings.now c.args.base.now c.args.steps.now _ _ ok.0 _
+    c.ordering-ordering.ensures.«module» c.ordering-ordering.ensures.rules ok.1 ok.2 in
     IfErr-weaker c.answer_traced.result _ _
-    (λ fault says memory. inr (last, t.patches, under.0, under.1, (says memory).1, (says memory).0))
+    (λ fault says memory. inr (ok.0, c.in_ok-traced.traced.patches, under.0, under.1, (says memory).1, (says memory).0))
     c.answer_traced.ensures.too_many

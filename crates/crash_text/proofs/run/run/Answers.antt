@@ -1,14 +1,12 @@
-use Rattle.std.proofs.Common.{rules, ◌≡◌, ◌≢◌, Ok, Err, IfErr, ap, subst, sym}
+use Rattle.std.proofs.Common.{rules, ◌≡◌, ◌≢◌, Err, IfErr, ap, subst, sym}
 use Rattle.std.specs.Prelude.{string_bytes}
 use Rattle.std.proofs.lemmas.Result.{IfErr-weaker, IfOk-weaker}
-use Rattle.crash_model.specs.Answer.{Refused, HasBase, IsAnswer, bad_script}
-use Rattle.crash_model.specs.Disk.{empty_disk}
+use Rattle.crash_model.specs.Answer.{Refused, IsAnswer, bad_script}
 use Rattle.crash_model.specs.Refusals.{run_of_script}
-use Rattle.crash_model.specs.Trace.{base_from}
 use Rattle.crash_model.specs.declared.refusals.RunFault.TheVariants.{OutOfMemory}
 use Rattle.crash_text.specs.BaseRefusal.{IsBaseRefusal}
 use Rattle.crash_text.specs.Telling.{AreReported, AreRefused}
-use Rattle.crash_text.proofs.Answering.{refused_base, refused_steps, reported_steps}
+use Rattle.crash_text.proofs.Answering.{has_base, refused_base, refused_steps, reported_steps}
 use Rattle.crash_text.proofs.run.run.Goals as goal
 
 pub returns-in_err-script-clause-refused : goal.returns-in_err-script-clause-refused
@@ -32,12 +30,8 @@ returns-clause-refused g c =
     let settings = c.args.settings.now in
     let script = c.in_ok-script.script in
     let base = c.in_ok-base.base in
-    let start : HasBase c.args.script.now settings base script.traced.items = record {
-      before = script.base.items;
-      read = c.in_ok-script.ensures.ok;
-      geometry = c.in_ok-base.ensures.lawful;
-      built = subst (λ s. base_from (empty_disk settings.blocks settings.journal) s ≡ Ok base) c.deref.ensures.value c.in_ok-base.ensures.built;
-    } in
+    let start = has_base c.args.script.now settings script.base.items _ script.traced.items base
+    c.in_ok-script.ensures.ok c.in_ok-base.ensures.lawful c.deref.ensures.value c.in_ok-base.ensures.built in
     IfErr-weaker c.answer_steps.result _ _
     (λ fault refused memory.
     refused_steps c.args.script.now settings base script.traced.items fault start
@@ -49,12 +43,8 @@ returns-clause-reported g c =
     let settings = c.args.settings.now in
     let script = c.in_ok-script.script in
     let base = c.in_ok-base.base in
-    let start : HasBase c.args.script.now settings base script.traced.items = record {
-      before = script.base.items;
-      read = c.in_ok-script.ensures.ok;
-      geometry = c.in_ok-base.ensures.lawful;
-      built = subst (λ s. base_from (empty_disk settings.blocks settings.journal) s ≡ Ok base) c.deref.ensures.value c.in_ok-base.ensures.built;
-    } in
+    let start = has_base c.args.script.now settings script.base.items _ script.traced.items base
+    c.in_ok-script.ensures.ok c.in_ok-base.ensures.lawful c.deref.ensures.value c.in_ok-base.ensures.built in
     IfOk-weaker c.answer_steps.result _ _
     (λ outcome reported.
     reported_steps c.args.script.now settings base script.traced.items (string_bytes outcome.text) outcome.failing start

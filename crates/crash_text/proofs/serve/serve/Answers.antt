@@ -27,45 +27,34 @@ returns-in_err-outcome-clause-refused g c =
     let fault = c.in_err-outcome.field-0.0 in
     let bytes = c.in_ok-script.script.items in
     let coming = g.S.Source.coming c.args.source.now in
-    let read = whole coming _ bytes c.in_ok-script.ensures.whole.0 c.in_ok-script.ensures.whole.1 in
+    let read = whole coming _ bytes c.in_ok-script.ensures.whole in
     let same : c.from_residual-in_err-outcome.result ≡ Err fault = search rules in
     subst (λ r. IfErr r (IsRefusedBy coming c.args.settings.now)) (sym same)
     (λ _ _ _ memory. (bytes, read, subst (λ xs. IsAnswer xs c.args.settings.now (Refused fault)) c.as_slice.ensures.value (c.in_err-outcome.ensures.refused memory)))
 
 pub returns-in_err-outcome-clause-bounded : goal.returns-in_err-outcome-clause-bounded
-returns-in_err-outcome-clause-bounded g c =
-    let bytes = c.in_ok-script.script.items in
-    let coming = g.S.Source.coming c.args.source.now in
-    let read = whole coming _ bytes c.in_ok-script.ensures.whole.0 c.in_ok-script.ensures.whole.1 in
-    not_longer (IsErrAnd c.from_residual-in_err-outcome.result IsReadFault) coming bytes 1048576 read c.in_ok-script.ensures.short
+returns-in_err-outcome-clause-bounded g c = not_longer _ (g.S.Source.coming c.args.source.now) _
+    c.in_ok-script.script.items 1048576 c.in_ok-script.ensures.whole c.in_ok-script.ensures.short
 
 pub returns-in_err-outcome-clause-unread : goal.returns-in_err-outcome-clause-unread
 returns-in_err-outcome-clause-unread g c = λ is.
-    let fault = c.in_err-outcome.field-0.0 in
-    let same : c.from_residual-in_err-outcome.result ≡ Err fault = search rules in
-    let device : fault ≡ CannotRead = cc (same, is) in
-    absurd (not_of_device c.as_slice.result.now c.args.settings.now fault CannotRead c.in_err-outcome.ensures.refused refl device)
+    absurd (not_of_device c.from_residual-in_err-outcome.result c.as_slice.result.now c.args.settings.now
+    c.in_err-outcome.field-0.0 CannotRead c.in_err-outcome.ensures.refused refl (search rules) is)
 
 pub returns-in_err-outcome-clause-unwritten : goal.returns-in_err-outcome-clause-unwritten
 returns-in_err-outcome-clause-unwritten g c = λ is.
-    let fault = c.in_err-outcome.field-0.0 in
-    let same : c.from_residual-in_err-outcome.result ≡ Err fault = search rules in
-    let device : fault ≡ CannotWrite = cc (same, is) in
-    absurd (not_of_device c.as_slice.result.now c.args.settings.now fault CannotWrite c.in_err-outcome.ensures.refused refl device)
+    absurd (not_of_device c.from_residual-in_err-outcome.result c.as_slice.result.now c.args.settings.now
+    c.in_err-outcome.field-0.0 CannotWrite c.in_err-outcome.ensures.refused refl (search rules) is)
 
 pub returns-in_err-outcome-clause-cut : goal.returns-in_err-outcome-clause-cut
 returns-in_err-outcome-clause-cut g c = λ is.
-    let fault = c.in_err-outcome.field-0.0 in
-    let same : c.from_residual-in_err-outcome.result ≡ Err fault = search rules in
-    let device : fault ≡ CannotWrite = cc (same, is) in
-    absurd (not_of_device c.as_slice.result.now c.args.settings.now fault CannotWrite c.in_err-outcome.ensures.refused refl device)
+    absurd (not_of_device c.from_residual-in_err-outcome.result c.as_slice.result.now c.args.settings.now
+    c.in_err-outcome.field-0.0 CannotWrite c.in_err-outcome.ensures.refused refl (search rules) is)
 
 pub returns-in_err-outcome-clause-too_long : goal.returns-in_err-outcome-clause-too_long
 returns-in_err-outcome-clause-too_long g c = λ is.
-    let fault = c.in_err-outcome.field-0.0 in
-    let same : c.from_residual-in_err-outcome.result ≡ Err fault = search rules in
-    let device : fault ≡ ScriptTooLong = cc (same, is) in
-    absurd (not_of_device c.as_slice.result.now c.args.settings.now fault ScriptTooLong c.in_err-outcome.ensures.refused refl device)
+    absurd (not_of_device c.from_residual-in_err-outcome.result c.as_slice.result.now c.args.settings.now
+    c.in_err-outcome.field-0.0 ScriptTooLong c.in_err-outcome.ensures.refused refl (search rules) is)
 
 pub returns-in-Ok-clause-served : goal.returns-in-Ok-clause-served
 returns-in-Ok-clause-served g c =
@@ -75,18 +64,15 @@ returns-in-Ok-clause-served g c =
     let same : c.as_bytes.result.now ≡ text = search rules in
     record {
       bytes = bytes;
-      read = whole coming _ bytes c.in_ok-script.ensures.whole.0 c.in_ok-script.ensures.whole.1;
+      read = whole coming _ bytes c.in_ok-script.ensures.whole;
       text = text;
       answer = subst (λ xs. IsAnswer xs c.args.settings.now (Reported text c.in_ok-outcome.outcome.failing)) c.as_slice.ensures.value c.in_ok-outcome.ensures.reported;
       taken = subst (λ xs. Appends (g.K.Sink.taken c.args.sink.now) (g.K.Sink.taken c.write_all.new.sink) xs) same c.in-Ok.ensures.taken;
     }
 
 pub returns-in-Ok-clause-bounded : goal.returns-in-Ok-clause-bounded
-returns-in-Ok-clause-bounded g c =
-    let bytes = c.in_ok-script.script.items in
-    let coming = g.S.Source.coming c.args.source.now in
-    let read = whole coming _ bytes c.in_ok-script.ensures.whole.0 c.in_ok-script.ensures.whole.1 in
-    not_longer _ coming bytes 1048576 read c.in_ok-script.ensures.short
+returns-in-Ok-clause-bounded g c = not_longer _ (g.S.Source.coming c.args.source.now) _ c.in_ok-script.script.items
+    1048576 c.in_ok-script.ensures.whole c.in_ok-script.ensures.short
 
 pub returns-clause-cut : goal.returns-clause-cut
 returns-clause-cut g c = λ _.
@@ -97,7 +83,7 @@ returns-clause-cut g c = λ _.
     let same : c.as_bytes.result.now ≡ text = search rules in
     record {
       bytes = bytes;
-      read = whole coming _ bytes c.in_ok-script.ensures.whole.0 c.in_ok-script.ensures.whole.1;
+      read = whole coming _ bytes c.in_ok-script.ensures.whole;
       front = begun.0;
       rest = begun.1;
       failing = c.in_ok-outcome.outcome.failing;
@@ -107,8 +93,5 @@ returns-clause-cut g c = λ _.
     }
 
 pub returns-clause-bounded : goal.returns-clause-bounded
-returns-clause-bounded g c =
-    let bytes = c.in_ok-script.script.items in
-    let coming = g.S.Source.coming c.args.source.now in
-    let read = whole coming _ bytes c.in_ok-script.ensures.whole.0 c.in_ok-script.ensures.whole.1 in
-    not_longer _ coming bytes 1048576 read c.in_ok-script.ensures.short
+returns-clause-bounded g c = not_longer _ (g.S.Source.coming c.args.source.now) _ c.in_ok-script.script.items 1048576
+    c.in_ok-script.ensures.whole c.in_ok-script.ensures.short

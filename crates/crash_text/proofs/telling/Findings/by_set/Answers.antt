@@ -1,24 +1,18 @@
-use Rattle.std.proofs.Common.{string_bytes, sym, subst}
+use Rattle.std.proofs.Common.{string_bytes}
 use Rattle.std.proofs.lemmas.Result.{IfOk-weaker}
 use Rattle.crash_model.proofs.Leading.{failing_closed}
-use Rattle.report_sections.specs.Bodies.{AreClosed, sets_of}
-use Rattle.crash_text.proofs.Bodies.{can_tell, tells_of, by_set}
+use Rattle.crash_text.proofs.Bodies.{by_set}
 use Rattle.crash_text.proofs.telling.Findings.by_set.Goals as goal
 
-pub write_report-requires-clause-tell : goal.write_report-requires-clause-tell
-write_report-requires-clause-tell g c = λ _ _.
-    let f = c.args.self.now in
-    let r = c.report-report.ensures in
-    can_tell c.report-report.result f.base.now f.traced r.base r.traced c.requires.found.on_base
-    (subst (λ b. AreClosed f.traced.patches (sets_of b)) (sym r.body) (failing_closed f.kept f.base.now f.traced.patches c.args.sets.now c.requires.sets))
+pub write-requires-clause-closed : goal.write-requires-clause-closed
+write-requires-clause-closed g c = λ _ _. let f = c.args.self.now in
+    failing_closed f.kept f.base.now f.traced.patches c.args.sets.now c.requires.sets
 
 pub returns : goal.returns
 returns g c =
     let f = c.args.self.now in
-    let r = c.report-report.ensures in
     let found = c.requires.found.found in
-    IfOk-weaker c.write_report.result _ _
-    (λ text told. λ last is.
-    by_set f.settings.now f.kept f.base.now f.traced last is g.row.A.Denot f.found.closed f.found.failing found.sets (string_bytes text) c.args.sets found.totals c.requires.by c.requires.sets
-    (tells_of c.report-report.result f.settings.now _ f.base.now f.traced f.found.closed f.found.failing _ _ r.settings r.detail r.base r.traced r.closed r.failing r.body told))
-    c.write_report.ensures
+    IfOk-weaker c.write.result _ _
+    (λ text told. λ last is. by_set f.settings.now f.kept f.base.now f.traced last is g.row.A.Denot f.found.closed
+    f.found.failing found.sets (string_bytes text) c.args.sets found.totals c.requires.by c.requires.sets told)
+    c.write.ensures
