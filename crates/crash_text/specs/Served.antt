@@ -12,8 +12,8 @@ IsWhole None bytes = Unit {0}
 IsWhole (Some all) bytes = bytes ≡ all
 
 -- the whole report on the source's bytes
-pub record IsServed (coming : Option (List ℕ)) (settings : Settings) (failing : ℕ) (before behind : Option
-    (List ℕ)) : Type 0 where
+pub record IsServed (coming : Option (List ℕ)) (settings : Settings) (failing : ℕ)
+    (before behind : Option (List ℕ)) : Type 0 where
   pub bytes : List ℕ
   pub read : IsWhole coming bytes
   pub text : List ℕ

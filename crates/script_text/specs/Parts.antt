@@ -10,13 +10,13 @@ use denote.Ref.{Bor}
 
 -- lines from number `first` on that say these steps, up to a start line with number n and bytes behind it, or up to the
 -- end
-pub record IsPart (bytes : List ℕ) (first : ℕ) (steps : List Step) (n : ℕ) (behind : Option (Bor
-    (List ℕ))) : Type 0 where
+pub record IsPart (bytes : List ℕ) (first : ℕ) (steps : List Step) (n : ℕ)
+    (behind : Option (Bor (List ℕ))) : Type 0 where
   pub before : List (List ℕ)
   pub says : AreSteps first before steps
   pub number : n ≡ first + length before
-  pub lines : MatchOption behind (lines_of bytes ≡ before) (λ rest. lines_of bytes ≡ before
-      ++ (codes "start" ∷ lines_of rest.now))
+  pub lines : MatchOption behind (lines_of bytes ≡ before)
+      (λ rest. lines_of bytes ≡ before ++ (codes "start" ∷ lines_of rest.now))
 
 -- the first refused line, which no start line goes before
 pub record IsPartRefused (bytes : List ℕ) (first : ℕ) (fault : ScriptFault) : Type 0 where
