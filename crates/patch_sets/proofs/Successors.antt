@@ -11,13 +11,15 @@ use Rattle.patch_sets.specs.Closed.{AreEarlier, IsClosed, IsReady, is_ready, suc
 use Rattle.patch_sets.proofs.Bits.{eq_or_not, none_in_empty, same_set, subset_from_and, and_from_subset, in_with_same, in_with_old, in_with_cases, in_low, from_low, small_from_below}
 use Rattle.patch_sets.proofs.Ids.{true_from_eq, eq_from_true, false_from_ne, ne_from_false, from_ids, to_ids}
 
-from_map : (f : ℕ → ℕ) (xs : List ℕ) (y : ℕ) → Contains (map f xs) y → (x : ℕ) × Contains xs x × (y ≡ f x)
+-- a word of a mapped list is that of one of the list
+pub from_map : (f : ℕ → ℕ) (xs : List ℕ) (y : ℕ) → Contains (map f xs) y → (x : ℕ) × Contains xs x × (y ≡ f x)
 from_map f [] y (k, within, is) = absurd (omega arith)
 from_map f (x ∷ xs) y (zero, within, is) = (x, (zero, omega arith, refl), sym is)
 from_map f (x ∷ xs) y (suc k, within, is) = let it = from_map f xs y (k, omega arith, is) in
     (it.0, (suc it.1.0, omega (arith, it.1.1), it.1.2), it.2)
 
-to_map : (f : ℕ → ℕ) (xs : List ℕ) (x : ℕ) → Contains xs x → Contains (map f xs) (f x)
+-- and that of each of the list is one of it
+pub to_map : (f : ℕ → ℕ) (xs : List ℕ) (x : ℕ) → Contains xs x → Contains (map f xs) (f x)
 to_map f [] x (k, within, is) = absurd (omega arith)
 to_map f (y ∷ xs) x (zero, within, is) = (zero, omega arith, ap f is)
 to_map f (y ∷ xs) x (suc k, within, is) = let it = to_map f xs x (k, omega arith, is) in (suc it.0, omega (arith, it.1), it.2)

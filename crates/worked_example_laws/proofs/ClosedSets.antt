@@ -8,20 +8,10 @@ use Rattle.patch_sets.specs.Sets.{Has, with_id}
 use Rattle.patch_sets.specs.Closed.{AreEarlier, IsClosed}
 use Rattle.patch_sets.proofs.Bits.{eq_or_not, none_in_empty, same_set, subset_from_and, and_from_subset, in_with_same, in_with_old, in_with_cases, in_low, from_low}
 use Rattle.patch_sets.proofs.Ids.{true_from_eq, eq_from_true}
+use Rattle.patch_sets.proofs.Successors.{from_map, to_map}
 use Rattle.worked_example_laws.specs.Computed.{closed_from, closed_sets}
 
 -- ---- what lists contain
-
-from_map : (f : ℕ → ℕ) (xs : List ℕ) (y : ℕ) → Contains (map f xs) y → (x : ℕ) × Contains xs x × (y ≡ f x)
-from_map f [] y (k, within, is) = absurd (omega arith)
-from_map f (x ∷ xs) y (zero, within, is) = (x, (zero, omega arith, refl), sym is)
-from_map f (x ∷ xs) y (suc k, within, is) = let it = from_map f xs y (k, omega arith, is) in
-    (it.0, (suc it.1.0, omega (arith, it.1.1), it.1.2), it.2)
-
-to_map : (f : ℕ → ℕ) (xs : List ℕ) (x : ℕ) → Contains xs x → Contains (map f xs) (f x)
-to_map f [] x (k, within, is) = absurd (omega arith)
-to_map f (y ∷ xs) x (zero, within, is) = (zero, omega arith, ap f is)
-to_map f (y ∷ xs) x (suc k, within, is) = let it = to_map f xs x (k, omega arith, is) in (suc it.0, omega (arith, it.1), it.2)
 
 pub from_filter : (test : ℕ → Bool) (xs : List ℕ) (x : ℕ) → Contains (filter test xs) x → Contains xs x × (test x ≡ true)
 from_filter test [] x (k, within, is) = absurd (omega arith)
