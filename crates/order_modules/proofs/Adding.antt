@@ -196,6 +196,7 @@ adds-copies a b after turn j origin bs adds = adds-long a b (copies after turn j
 module _ (old first : Log) (changes : List Change) (targets : List ℕ) (f : Change → Emitted)
     (room : length old.emitted + (length changes + length targets + 2) ≤ 124)
     (ahead : Adds old first (map f (changes_ahead old.kind changes))) where
+  -- after the file data there is room for the copies
   pub room_for_copies : length first.emitted + length targets ≤ 124
   room_for_copies = omega (
     arith,
@@ -207,6 +208,7 @@ module _ (old first : Log) (changes : List Change) (targets : List ℕ) (f : Cha
 
   module _ (second : Log) (after : Disk) (turn j : ℕ) (origin : Origin)
       (copied : Adds first second (copies after turn j origin targets)) where
+    -- after the copies there is room for the commit, the changes in place and the mark that all is done
     left : length second.emitted + (length (changes_in_place old.kind changes) + 2) ≤ 124
     left = omega (
       arith,
@@ -221,6 +223,7 @@ module _ (old first : Log) (changes : List Change) (targets : List ℕ) (f : Cha
     room_for_commit = omega (arith, left)
 
     module _ (third : Log) (commit : Emitted) (committed : Adds second third (commit ∷ [])) where
+      -- after the commit for all but it
       left_then : length third.emitted + (length (changes_in_place third.kind changes) + 1) ≤ 124
       left_then =
           let same : length (changes_in_place third.kind changes) ≡ length (changes_in_place old.kind changes) =

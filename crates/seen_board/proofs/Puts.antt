@@ -59,6 +59,7 @@ pub record IsStill (before after : Known) : Type 0 where
   pub place : after.place ≡ before.place
   pub learned : after.learned ≡ before.learned
 
+-- so it is after a call that changes only what was seen, held and put in
 still_by : (s w : Known) (added : List ℕ) → w ≡ record s { seen = w.seen; held = w.held; right = 0; added = added }
     → IsStill s w
 still_by s w added e = record {
@@ -71,7 +72,7 @@ still_by s w added e = record {
   learned = ap (λ (u : Known). u.learned) e;
 }
 
--- so it is where the board is not outgrown
+-- and so it is where the board is not outgrown
 pub put_still : (x : ℕ) (s w : Known) (put : Put) → PutOk x s w put → put ≢ Over → IsStill s w
 put_still x s w (New p) (e, sees, named, absent) not-over = still_by s w (s.added ++ number p ∷ []) e
 put_still x s w (Found p) ((e, sees), named) not-over = still_by s w s.added e
