@@ -4,23 +4,16 @@ ghost use Rattle.std.specs.Prelude.{◌≡◌};
 ghost use Rattle.seen_board.specs.Clauses.{IsOf, HasPlace};
 ghost use Rattle.test_board.specs.Worker.{IsIdle};
 
-use seen_board::{Board, BoardSeat, Got, Place, Put};
-use state_space::Space;
+use seen_board::{Board, BoardSeat, Got, Put};
 use std::alloc::Global;
 use std::process::Abort;
 use std::sync::Wait;
 use std::test::Fail;
-use test_board::{Diamond, is_explored, put_successor, work};
+use test_board::{Diamond, FIRST, START, Small, is_explored, put_after_start, work};
 use test_support::refusing::Refusing;
 
 /// A board in the memory of these tests.
-type Trial<'m> = Board<Diamond, &'m Refusing<Global>>;
-
-/// The place of the first word.
-const START: Place = Place { shard: 0, at: 0 };
-
-/// The place of its first successor.
-const NEXT: Place = Place { shard: 1, at: 0 };
+type Trial<'m> = Board<Small<Diamond>, &'m Refusing<Global>>;
 
 /// Explores the whole board with one seat, beside one that is split off before and joined after.
 fn explore<R: Abort + Wait>(rt: &R, board: &Trial<'_>, mut seat: BoardSeat) -> BoardSeat
@@ -28,7 +21,7 @@ fn explore<R: Abort + Wait>(rt: &R, board: &Trial<'_>, mut seat: BoardSeat) -> B
     ensures { IsOf board.now result }
 {
     let other = board.split(&mut seat);
-    let mut seat = work(rt, board, &Diamond, seat);
+    let mut seat = work(rt, board, &Small(Diamond), seat);
     board.join(&mut seat, other);
     assert!(rt; board.finished(&mut seat));
     assert!(rt; !board.stopped(&mut seat));
@@ -38,7 +31,7 @@ fn explore<R: Abort + Wait>(rt: &R, board: &Trial<'_>, mut seat: BoardSeat) -> B
 #[test]
 fn exploring_takes_none(rt: HostRuntime) -> Result<(), Fail> {
     let memory = Refusing::new(rt.alloc());
-    let (board, seat, _) = Board::open(&memory, &Diamond, 4)?;
+    let (board, seat, _) = Board::open(&memory, &Small(Diamond), 4)?;
     memory.gauge().refuse(1, u64::MAX);
     let seat = explore(&rt, &board, seat);
     assert!(rt; is_explored(&board.close(seat)));
@@ -74,10 +67,8 @@ fn claim_and_stop(rt: &impl Abort, board: &Trial<'_>, seat: &mut BoardSeat, othe
 {
     assert!(rt; seat.has_seen(START));
     assert!(rt; board.claim(seat, START));
-    let word = board.at(seat, START);
-    assert!(rt; 0 < Diamond.degree(word));
-    assert!(rt; put_successor(board, &Diamond, seat, START, 0) == Put::New(NEXT));
-    assert!(rt; board.find(other, 1) == Some(NEXT));
+    assert!(rt; put_after_start(board, &Small(Diamond), seat, 0) == Some(Put::New(FIRST)));
+    assert!(rt; board.find(other, 1) == Some(FIRST));
     board.stop(seat);
     assert!(rt; board.stopped(other));
 }
@@ -85,7 +76,7 @@ fn claim_and_stop(rt: &impl Abort, board: &Trial<'_>, seat: &mut BoardSeat, othe
 #[test]
 fn rights_and_claims_take_none(rt: HostRuntime) -> Result<(), Fail> {
     let memory = Refusing::new(rt.alloc());
-    let (board, mut seat, _) = Board::open(&memory, &Diamond, 4)?;
+    let (board, mut seat, _) = Board::open(&memory, &Small(Diamond), 4)?;
     memory.gauge().refuse(1, u64::MAX);
     let mut other = board.split(&mut seat);
     take_rights(&rt, &board, &mut seat, &mut other);
