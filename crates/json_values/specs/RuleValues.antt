@@ -44,5 +44,7 @@ told_rule_data t first = object (usage_members (rule_text t.rule) t.usage first)
 -- what is told of a rule with these numbers, with the value of the first section
 abbrev pub used_data : Rule → Numbers → Option Data → Data
 used_data rule n first =
-    let without = record { closed = n.closed; failing = n.failing; first = None } in
-    told_rule_data (record { rule = rule; usage = Used n.pairs without }) first
+    told_rule_data (record {
+      rule = rule;
+      usage = Used n.pairs (record { closed = n.closed; failing = n.failing; first = None });
+    }) first
