@@ -1,3 +1,4 @@
 pub mod BaseRefusal
 pub mod Served
+pub mod Status
 pub mod Telling

@@ -1,8 +1,10 @@
-//! From a script's bytes to a report's bytes.
+//! From a command line and a script's bytes to a report's bytes and an exit status.
 #![tactic(auto)]
 
+pub mod answer;
 mod keeping;
 mod needs;
+pub mod progress;
 pub mod run;
 pub mod serve;
 mod telling;

@@ -1,8 +1,9 @@
 //! The program: crash states of a small file system, from a script.
 #![tactic(auto)]
 
-use crash_answer::{Progress, answer_watched, refuse, refuse_words};
 use crash_model::refusals::RunFault;
+use crash_text::answer::{answer_watched, refuse, refuse_words};
+use crash_text::progress::Progress;
 use std::alloc::{AllocError, Global};
 use std::io::IsTerminal;
 use std::process::ExitCode;

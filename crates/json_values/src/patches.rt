@@ -77,15 +77,18 @@ fn object_of(
         view value ≡ patch_data (view after) (emitted_at (place patch.now.block patch.now.offset patch.now.new.items)
         label.now) patch.now.undo.items) }
 {
+    let new = hex_value(heap, patch.new.as_slice())?;
+    let step = step_value(heap, label.origin.op)?;
+    let undo = hex_value(heap, patch.undo.as_slice())?;
     json!(in heap; {
         "after": after,
         "block": patch.block,
         "line": label.origin.line,
-        "new": hex_value(heap, patch.new.as_slice())?,
+        "new": new,
         "offset": patch.offset,
         "part": label.part.name(),
-        "step": step_value(heap, label.origin.op)?,
-        "undo": hex_value(heap, patch.undo.as_slice())?
+        "step": step,
+        "undo": undo
     })
 }
 

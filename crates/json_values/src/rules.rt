@@ -85,14 +85,16 @@ fn rule_value<A: Allocator>(
 fn unused_value(heap: Global, rule: Rule) -> Result<Value, AllocError>
     ensures { IfOk result (λ value. view value ≡ told_rule_data (record { rule = rule; usage = Unused }) None) }
 {
-    json!(in heap; {"pairs": 0, "rule": rule.to_string(heap)?})
+    let text = rule.to_string(heap)?;
+    json!(in heap; {"pairs": 0, "rule": text})
 }
 
 /// What is told of a rule without which there are too many closed sets.
 fn too_many_value(heap: Global, rule: Rule, pairs: usize) -> Result<Value, AllocError>
     ensures { IfOk result (λ value. view value ≡ told_rule_data (record { rule = rule; usage = TooMany pairs }) None) }
 {
-    json!(in heap; {"pairs": pairs, "rule": rule.to_string(heap)?, "too_many": true})
+    let text = rule.to_string(heap)?;
+    json!(in heap; {"pairs": pairs, "rule": text, "too_many": true})
 }
 
 /// What is told of a rule without which there are so many closed sets, with the value of the first section.
@@ -114,11 +116,12 @@ fn used_value(
 fn harmless_value(heap: Global, rule: Rule, numbers: Numbers) -> Result<Value, AllocError>
     ensures { IfOk result (λ value. view value ≡ used_data rule numbers None) }
 {
+    let text = rule.to_string(heap)?;
     json!(in heap; {
         "closed": numbers.closed,
         "failing": numbers.failing,
         "pairs": numbers.pairs,
-        "rule": rule.to_string(heap)?
+        "rule": text
     })
 }
 
@@ -131,11 +134,12 @@ fn prevented_value(
 ) -> Result<Value, AllocError>
     ensures { IfOk result (λ value. view value ≡ used_data rule numbers (Some (view first))) }
 {
+    let text = rule.to_string(heap)?;
     json!(in heap; {
         "closed": numbers.closed,
         "failing": numbers.failing,
         "first": first,
         "pairs": numbers.pairs,
-        "rule": rule.to_string(heap)?
+        "rule": text
     })
 }

@@ -10,7 +10,7 @@ ghost use Rattle.report_sections.specs.Replay.{told_block};
 ghost use Rattle.report_sections.specs.Sections.{section_of};
 ghost use Rattle.serde_json.specs.View.{view};
 
-use crate::values::{ids_value, replay_value, writes_value};
+use crate::values::{fault_value, ids_value, replay_value, writes_value};
 use crash_model::fault::FaultRow;
 use report_sections::{ReplayedBlock, Section};
 use serde_json::{Value, json};
@@ -43,12 +43,10 @@ fn plain_value<A: Allocator>(
     ensures { IfOk result (λ value.
         view value ≡ told_fault_data patches row.now.fault row.now.sets first.now.set first.now.writes.items None) }
 {
-    json!(in heap; {
-        "fault": row.fault.to_string(heap)?,
-        "set": ids_value(heap, patches, first.set)?,
-        "sets": row.sets,
-        "writes": writes_value(heap, patches, &first.writes)?
-    })
+    let fault = fault_value(heap, row.fault)?;
+    let set = ids_value(heap, patches, first.set)?;
+    let writes = writes_value(heap, patches, &first.writes)?;
+    json!(in heap; {"fault": fault, "set": set, "sets": row.sets, "writes": writes})
 }
 
 /// What is told of a fault, with the blocks that replay changes.
@@ -64,11 +62,15 @@ fn explained_value<A: Allocator>(
         (Some (map told_block replay.now))) }
     ensures bytes { OnOk result (All (λ r. IsBytes r.bytes) (map told_block replay.now)) }
 {
+    let fault = fault_value(heap, row.fault)?;
+    let replayed = replay_value(heap, replay)?;
+    let set = ids_value(heap, patches, first.set)?;
+    let writes = writes_value(heap, patches, &first.writes)?;
     json!(in heap; {
-        "fault": row.fault.to_string(heap)?,
-        "replay": replay_value(heap, replay)?,
-        "set": ids_value(heap, patches, first.set)?,
+        "fault": fault,
+        "replay": replayed,
+        "set": set,
         "sets": row.sets,
-        "writes": writes_value(heap, patches, &first.writes)?
+        "writes": writes
     })
 }

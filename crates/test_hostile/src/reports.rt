@@ -4,12 +4,12 @@ ghost use Rattle.std.specs.Prelude.{◌≤◌};
 
 use crash_text::run::run;
 use explorers::Gate;
-use sha1::Sha1;
 use std::process::Abort;
 use std::sync::Wait;
 use std::test::Fail;
 use std::thread::Threads;
 use test_support::asked::Asked;
+use test_support::digest::digest_of;
 
 /// So many workers behind this gate give exactly the report.
 pub fn reports<R: Abort + AllocGlobal + Threads + Wait + Sync, G: Gate + Sync>(
@@ -25,7 +25,7 @@ pub fn reports<R: Abort + AllocGlobal + Threads + Wait + Sync, G: Gate + Sync>(
     let settings = asked.settings(4096, false);
     let outcome = run(rt, heap, heap, &script, &settings, workers, gate)?;
     assert_eq!(rt; outcome.failing, asked.failing);
-    let digest = hex::encode(heap, Sha1::digest(outcome.text.as_bytes()))?;
+    let digest = digest_of(heap, outcome.text.as_bytes())?;
     assert!(rt; digest.as_str() == asked.text, "{workers} workers");
     Ok(())
 }

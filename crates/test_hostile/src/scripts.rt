@@ -2,7 +2,7 @@
 //!
 //! `bench/hostile_scripts.py` makes the same scripts and prints the digests that are expected here.
 
-use crash_answer::answer;
+use crash_text::answer::answer;
 use sha1::Sha1;
 use std::alloc::{AllocError, Global};
 use std::process::Abort;

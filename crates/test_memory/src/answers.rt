@@ -5,13 +5,13 @@ ghost use Rattle.std.specs.Prelude.{◌≤◌};
 use crash_model::refusals::RunFault;
 use crash_text::run::{Outcome, run};
 use explorers::OpenGate;
-use sha1::Sha1;
-use std::alloc::{AllocError, Global};
+use std::alloc::Global;
 use std::process::Abort;
 use std::sync::Wait;
 use std::test::Fail;
 use std::thread::Threads;
 use test_support::asked::{Asked, WRITE};
+use test_support::digest::digest_of;
 use test_support::refusing::Refusing;
 
 /// The most closed sets that each of them may have.
@@ -19,15 +19,6 @@ const LIMIT: usize = 4096;
 
 /// What a run answers that takes its memory from what refuses it.
 type Answer<'m> = Result<Outcome<&'m Refusing<Global>>, RunFault>;
-
-/// Whether the outcome's text has this digest.
-fn has_digest(
-    heap: Global,
-    outcome: &Outcome<&Refusing<Global>>,
-    digest: &str,
-) -> Result<bool, AllocError> {
-    Ok(hex::encode(heap, Sha1::digest(outcome.text.as_bytes()))?.as_str() == digest)
-}
 
 /// Whether the run reported, and then exactly so; else it is out of memory.
 fn expect_report<R: Abort + AllocGlobal>(
@@ -37,7 +28,8 @@ fn expect_report<R: Abort + AllocGlobal>(
 ) -> Result<bool, Fail> {
     match answer {
         Ok(outcome) => {
-            assert!(rt; has_digest(rt.alloc(), outcome, digest)?);
+            let told = digest_of(rt.alloc(), outcome.text.as_bytes())?;
+            assert!(rt; told.as_str() == digest);
             Ok(true)
         }
         Err(fault) => {

@@ -1,14 +1,14 @@
 //! What the tests ask of the program.
 
 use command_line::settings_of;
-use crash_answer::answer;
-use sha1::Sha1;
+use crash_text::answer::answer;
 use std::alloc::{AllocError, Global};
 use std::process::Abort;
 use std::rt::Files;
 use std::sync::Wait;
 use std::test::Fail;
 use std::thread::Threads;
+use test_support::digest::digest_of;
 
 /// What the program gave.
 #[derive(Drop)]
@@ -161,7 +161,7 @@ pub fn has_digest<R: Files + Abort + AllocGlobal + Threads + Wait + Sync>(
 ) -> Result<(), Fail> {
     let got = ask(rt, words, script)?;
     assert!(rt; got.status == status && got.err.is_empty());
-    let told = digest(rt, &got.out)?;
+    let told = digest_of(rt.alloc(), &got.out)?;
     assert!(rt; told.as_str() == wanted, "{wanted}");
     Ok(())
 }
@@ -190,11 +190,6 @@ pub fn reports<R: Files + Abort + AllocGlobal + Threads + Wait + Sync>(
         }
     }
     Ok(())
-}
-
-/// The SHA-1 digest, as text.
-pub fn digest<R: AllocGlobal>(rt: &R, bytes: &[u8]) -> Result<String, Fail> {
-    Ok(hex::encode(rt.alloc(), Sha1::digest(bytes))?)
 }
 
 /// Do the wanted bytes stand in these, one behind the other?

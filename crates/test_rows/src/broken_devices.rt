@@ -5,9 +5,9 @@ ghost use Rattle.std.specs.Prelude.{◌≡◌, ◌-◌, ◌^◌, ◌<◌, Some, 
 use crate::asked::{ask, refused};
 use crate::scripts::CREATE;
 use crate::tables::each_row;
-use crash_answer::answer;
 use crash_model::modules::Module;
 use crash_model::refusals::RunFault;
+use crash_text::answer::answer;
 use crash_text::serve::serve;
 use devices::memory::Taken;
 use devices::sink::Sink;

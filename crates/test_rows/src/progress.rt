@@ -1,6 +1,6 @@
 //! The line that tells on a terminal how far a run is.
 
-use crash_answer::Progress;
+use crash_text::progress::Progress;
 use explorers::Gate;
 use std::alloc::Global;
 use std::cell::{Cell, RefCell};

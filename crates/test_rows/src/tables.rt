@@ -10,13 +10,14 @@
 //! them, or does so by each (`each-begins`), or `shows` them somewhere. Or they are its SHA-1 `digest`, or the digests
 //! of eight `reports`.
 
-use crate::asked::{Answered, EXPLORED, ask, digest, reports, stands_in};
+use crate::asked::{Answered, EXPLORED, ask, reports, stands_in};
 use crate::scripts::named;
 use std::process::Abort;
 use std::rt::Files;
 use std::sync::Wait;
 use std::test::Fail;
 use std::thread::Threads;
+use test_support::digest::digest_of;
 
 /// A row of a table.
 #[derive(Clone, Copy)]
@@ -173,7 +174,7 @@ fn is_answer<R: AllocGlobal>(
     Ok(match row.how {
         "begins" | "each-begins" => got.out.starts_with(told.as_bytes()),
         "shows" => stands_in(&got.out, told.as_bytes()),
-        "digest" => digest(rt, &got.out)?.as_str() == told.trim_end(),
+        "digest" => digest_of(rt.alloc(), &got.out)?.as_str() == told.trim_end(),
         _ => got.out.as_slice() == told.as_bytes(),
     })
 }

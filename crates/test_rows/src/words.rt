@@ -1,7 +1,7 @@
 //! Words of the command line that ask for no run.
 
 use crate::tables::each_row;
-use crash_answer::refuse_words;
+use crash_text::answer::refuse_words;
 use std::io::{Error, ErrorKind};
 use std::test::Fail;
 

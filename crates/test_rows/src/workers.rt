@@ -5,12 +5,12 @@ ghost use Rattle.std.specs.Prelude.{◌≤◌};
 use crash_model::refusals::RunFault;
 use crash_text::run::run;
 use explorers::{Gate, OpenGate};
-use sha1::Sha1;
 use std::process::Abort;
 use std::sync::Wait;
 use std::test::Fail;
 use std::thread::Threads;
 use test_support::asked::{Asked, CREATE, HALF_LINKS, LINKS, REUSE, WRITE};
+use test_support::digest::digest_of;
 use test_support::gates::{Diary, Meeting, Slow};
 
 /// So many workers behind a gate give exactly the report, with a limit that is just enough.
@@ -28,7 +28,7 @@ fn reports<R: Abort + AllocGlobal + Threads + Wait + Sync, G: Gate + Sync>(
     let settings = asked.settings(limit, false);
     let outcome = run(rt, heap, heap, &script, &settings, workers, gate)?;
     assert!(rt; outcome.failing == asked.failing);
-    let digest = hex::encode(heap, Sha1::digest(outcome.text.as_bytes()))?;
+    let digest = digest_of(heap, outcome.text.as_bytes())?;
     assert!(rt; digest.as_str() == asked.text, "{workers} workers");
     Ok(())
 }

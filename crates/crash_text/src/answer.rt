@@ -1,23 +1,19 @@
 //! All that the program does, over any reader and writers.
-#![tactic(auto)]
-
-mod progress;
 
 ghost use Rattle.std.specs.Prelude.{◌≡◌, ◌+◌, ◌-◌, ◌^◌, ◌<◌, ◌≤◌, ◌⊎◌, IsSome, IfOk, OnErr};
 ghost use Rattle.std.specs.Io.KnownBytes.{Keeps};
 ghost use Rattle.command_line.specs.Ranges.{IsInRanges};
 ghost use Rattle.crash_text.specs.Served.{IsServed};
-ghost use Rattle.crash_answer.specs.Status.{IsServedFailing, script_of};
+ghost use Rattle.crash_text.specs.Status.{IsServedFailing, script_of};
 
+use crate::serve::serve;
 use clap::error::ErrorKind;
 use command_line::{Call, settings_of};
 use crash_model::refusals::RunFault;
-use crash_text::serve::serve;
 use devices::sink::Sink;
 use devices::source::Source;
 use devices::standard::Counted;
 use explorers::{Gate, OpenGate};
-pub use progress::Progress;
 use std::alloc::{Allocator, Global};
 use std::fs::File;
 use std::io::{self, Read, Write};
