@@ -77,18 +77,15 @@ fn object_of(
         view value ≡ patch_data (view after) (emitted_at (place patch.now.block patch.now.offset patch.now.new.items)
         label.now) patch.now.undo.items) }
 {
-    let new = hex_value(heap, patch.new.as_slice())?;
-    let step = step_value(heap, label.origin.op)?;
-    let undo = hex_value(heap, patch.undo.as_slice())?;
     json!(in heap; {
         "after": after,
         "block": patch.block,
         "line": label.origin.line,
-        "new": new,
+        "new": hex_value(heap, patch.new.as_slice())?,
         "offset": patch.offset,
         "part": label.part.name(),
-        "step": step,
-        "undo": undo
+        "step": step_value(heap, label.origin.op)?,
+        "undo": hex_value(heap, patch.undo.as_slice())?
     })
 }
 
@@ -159,8 +156,7 @@ fn dependency_object(heap: Global, earlier: usize, reasons: &[Reason]) -> Result
     ensures { IfOk result (λ value.
         view value ≡ dependency_data (record { id = earlier; reasons = map reason_text reasons.now })) }
 {
-    let why = why_value(heap, reasons)?;
-    json!(in heap; {"patch": earlier, "why": why})
+    json!(in heap; {"patch": earlier, "why": why_value(heap, reasons)?})
 }
 
 /// The texts of the reasons.

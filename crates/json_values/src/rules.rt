@@ -2,9 +2,11 @@
 
 ghost use Rattle.std.specs.Prelude.{◌≡◌, Some, None, option_map, IfOk};
 ghost use Rattle.crash_model.specs.Needs.{Unused, TooMany, told_rule_json};
+ghost use Rattle.crash_model.specs.Rules.{rule_text};
 ghost use Rattle.json_values.specs.Written.{IsWritten};
 ghost use Rattle.json_values.specs.RuleValues.{first_section, told_rule_data, used_data, IsFirst};
 ghost use Rattle.report_sections.specs.ToldRules.{told_rule, usage_of};
+ghost use Rattle.serde_json.specs.Data.{string};
 ghost use Rattle.serde_json.specs.View.{view};
 
 use crate::values::section_value;
@@ -81,20 +83,25 @@ fn rule_value<A: Allocator>(
     }
 }
 
+/// The text of a rule.
+fn text_value(heap: Global, rule: Rule) -> Result<Value, AllocError>
+    ensures { IfOk result (λ value. view value ≡ string (rule_text rule)) }
+{
+    Ok(Value::String(rule.to_string(heap)?))
+}
+
 /// What is told of a rule that applies to no pair.
 fn unused_value(heap: Global, rule: Rule) -> Result<Value, AllocError>
     ensures { IfOk result (λ value. view value ≡ told_rule_data (record { rule = rule; usage = Unused }) None) }
 {
-    let text = rule.to_string(heap)?;
-    json!(in heap; {"pairs": 0, "rule": text})
+    json!(in heap; {"pairs": 0, "rule": text_value(heap, rule)?})
 }
 
 /// What is told of a rule without which there are too many closed sets.
 fn too_many_value(heap: Global, rule: Rule, pairs: usize) -> Result<Value, AllocError>
     ensures { IfOk result (λ value. view value ≡ told_rule_data (record { rule = rule; usage = TooMany pairs }) None) }
 {
-    let text = rule.to_string(heap)?;
-    json!(in heap; {"pairs": pairs, "rule": text, "too_many": true})
+    json!(in heap; {"pairs": pairs, "rule": text_value(heap, rule)?, "too_many": true})
 }
 
 /// What is told of a rule without which there are so many closed sets, with the value of the first section.
@@ -116,12 +123,11 @@ fn used_value(
 fn harmless_value(heap: Global, rule: Rule, numbers: Numbers) -> Result<Value, AllocError>
     ensures { IfOk result (λ value. view value ≡ used_data rule numbers None) }
 {
-    let text = rule.to_string(heap)?;
     json!(in heap; {
         "closed": numbers.closed,
         "failing": numbers.failing,
         "pairs": numbers.pairs,
-        "rule": text
+        "rule": text_value(heap, rule)?
     })
 }
 
@@ -134,12 +140,11 @@ fn prevented_value(
 ) -> Result<Value, AllocError>
     ensures { IfOk result (λ value. view value ≡ used_data rule numbers (Some (view first))) }
 {
-    let text = rule.to_string(heap)?;
     json!(in heap; {
         "closed": numbers.closed,
         "failing": numbers.failing,
         "first": first,
         "pairs": numbers.pairs,
-        "rule": text
+        "rule": text_value(heap, rule)?
     })
 }

@@ -43,10 +43,12 @@ fn plain_value<A: Allocator>(
     ensures { IfOk result (λ value.
         view value ≡ told_fault_data patches row.now.fault row.now.sets first.now.set first.now.writes.items None) }
 {
-    let fault = fault_value(heap, row.fault)?;
-    let set = ids_value(heap, patches, first.set)?;
-    let writes = writes_value(heap, patches, &first.writes)?;
-    json!(in heap; {"fault": fault, "set": set, "sets": row.sets, "writes": writes})
+    json!(in heap; {
+        "fault": fault_value(heap, row.fault)?,
+        "set": ids_value(heap, patches, first.set)?,
+        "sets": row.sets,
+        "writes": writes_value(heap, patches, &first.writes)?
+    })
 }
 
 /// What is told of a fault, with the blocks that replay changes.
@@ -62,15 +64,11 @@ fn explained_value<A: Allocator>(
         (Some (map told_block replay.now))) }
     ensures bytes { OnOk result (All (λ r. IsBytes r.bytes) (map told_block replay.now)) }
 {
-    let fault = fault_value(heap, row.fault)?;
-    let replayed = replay_value(heap, replay)?;
-    let set = ids_value(heap, patches, first.set)?;
-    let writes = writes_value(heap, patches, &first.writes)?;
     json!(in heap; {
-        "fault": fault,
-        "replay": replayed,
-        "set": set,
+        "fault": fault_value(heap, row.fault)?,
+        "replay": replay_value(heap, replay)?,
+        "set": ids_value(heap, patches, first.set)?,
         "sets": row.sets,
-        "writes": writes
+        "writes": writes_value(heap, patches, &first.writes)?
     })
 }

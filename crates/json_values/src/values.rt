@@ -40,10 +40,11 @@ fn plain_section<A: Allocator>(
     ensures { IfOk result (λ value.
         view value ≡ set_data patches section.now.set section.now.writes.items section.now.faults.items None) }
 {
-    let faults = faults_value(heap, &section.faults)?;
-    let set = ids_value(heap, patches, section.set)?;
-    let writes = writes_value(heap, patches, &section.writes)?;
-    json!(in heap; {"faults": faults, "set": set, "writes": writes})
+    json!(in heap; {
+        "faults": faults_value(heap, &section.faults)?,
+        "set": ids_value(heap, patches, section.set)?,
+        "writes": writes_value(heap, patches, &section.writes)?
+    })
 }
 
 /// A failing set, with the blocks that replay changes.
@@ -58,11 +59,12 @@ fn explained_section<A: Allocator>(
         (Some (map told_block replay.now))) }
     ensures bytes { OnOk result (All (λ r. IsBytes r.bytes) (map told_block replay.now)) }
 {
-    let faults = faults_value(heap, &section.faults)?;
-    let replayed = replay_value(heap, replay)?;
-    let set = ids_value(heap, patches, section.set)?;
-    let writes = writes_value(heap, patches, &section.writes)?;
-    json!(in heap; {"faults": faults, "replay": replayed, "set": set, "writes": writes})
+    json!(in heap; {
+        "faults": faults_value(heap, &section.faults)?,
+        "replay": replay_value(heap, replay)?,
+        "set": ids_value(heap, patches, section.set)?,
+        "writes": writes_value(heap, patches, &section.writes)?
+    })
 }
 
 /// The blocks that replay changes.
