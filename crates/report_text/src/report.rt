@@ -1,10 +1,15 @@
 //! Whole reports.
 
-ghost use Rattle.std.specs.Prelude.{◌≡◌, [], ◌∷◌, map, string_bytes, IfOk, OnOk};
+ghost use Rattle.std.specs.Prelude.{◌≡◌, ◌++◌, [], ◌∷◌, map, string_bytes, IfOk, OnOk};
 ghost use Rattle.patch_sets.specs.Closed.{IsClosed};
 ghost use Rattle.crash_model.specs.Patches.{deps_of};
+ghost use Rattle.crash_model.specs.Explain.{explanation_text};
+ghost use Rattle.crash_model.specs.Lists.{when};
+ghost use Rattle.crash_model.specs.Summary.{told_fault_text};
 ghost use Rattle.crash_model.specs.Whole.{Body as WholeBody, text_report};
-ghost use Rattle.report_sections.specs.Bodies.{CanTell, TellsBody, AreOnBase, AreClosed, whole_of};
+ghost use Rattle.report_sections.specs.Bodies.{CanTell, TellsBody, AreOnBase, AreClosed, explanation_by, whole_of};
+ghost use Rattle.report_sections.specs.Sections.{section_of, IsSection};
+ghost use Rattle.report_sections.specs.declared.section.Section.{Section};
 ghost use Rattle.report_text.specs.TextReport.{WritesSections, WritesFaults};
 
 use crate::cache::LineCache;
@@ -40,23 +45,56 @@ where
         × (string_bytes text ≡ text_report report.now.settings.now (whole_of report.now body))) }
 {
     let mut out = String::new(alloc);
+    write_report(&mut out, rt, report, workers)?;
+    Ok(out)
+}
+
+/// The report, as an empty text's first.
+fn write_report<R, A>(
+    out: &mut String<A>,
+    rt: &R,
+    report: &Report<'_, '_, '_, '_, A>,
+    workers: usize,
+) -> Result<(), AllocError>
+where
+    R: Threads + Sync,
+    A: Allocator + Copy + Send + Sync,
+    requires empty { string_bytes out.old ≡ [] }
+    requires told { CanTell report.now }
+    ensures { OnOk result ((body : WholeBody)
+        × TellsBody report.now.detail report.now.base.now report.now.traced.now.patches report.now.body
+        body
+        × (string_bytes out.new ≡ text_report report.now.settings.now (whole_of report.now body))) }
+{
     let patches = report.traced.graph().len();
     write_head(
-        &mut out,
+        out,
         report.settings,
         patches,
         report.closed,
         report.failing,
     )?;
-    if report.settings.explain {
-        write_patches(&mut out, report.traced)?;
-    }
+    write_explanation(out, report)?;
     match report.body {
-        Body::Sets(sets) => write_together(&mut out, rt, report, sets, workers)?,
-        Body::Faults(rows) => write_faults(&mut out, alloc, report, rows)?,
-        Body::Rules(rules) => write_rules(&mut out, patches, rules)?,
+        Body::Sets(sets) => write_together(out, rt, report, sets, workers)?,
+        Body::Faults(rows) => write_faults(out, report, rows)?,
+        Body::Rules(rules) => write_rules(out, patches, rules)?,
     }
-    Ok(out)
+    Ok(())
+}
+
+/// For each patch its lines, where that is asked for.
+fn write_explanation<A: Allocator + Copy>(
+    out: &mut String<A>,
+    report: &Report<'_, '_, '_, '_, A>,
+) -> Result<(), AllocError>
+    ensures { OnOk result (string_bytes out.new ≡ string_bytes out.old ++ explanation_text
+        (when report.now.settings.now.explain (explanation_by report.now.base.now report.now.traced.now))) }
+{
+    if report.settings.explain {
+        write_patches(out, report.traced)?;
+    }
+    Ok(())
 }
 
 /// The lines of each of the sets.
@@ -78,8 +116,24 @@ pub(crate) fn write_sections<A: Allocator + Copy>(
     let mut lines = LineCache::new(graph);
     let mut maker = SectionMaker::new(alloc, report.base, graph, report.detail)?;
     let mut outcome = Outcome::new(alloc);
+    write_each(out, &mut lines, &mut maker, &mut outcome, sets)
+}
+
+/// The lines of each of the sets, by one maker of sections.
+fn write_each<A: Allocator + Copy>(
+    out: &mut String<A>,
+    lines: &mut LineCache<'_, A>,
+    maker: &mut SectionMaker<'_, A>,
+    outcome: &mut Outcome<A>,
+    sets: &[u128],
+) -> Result<(), AllocError>
+    requires same { maker.old.patches ≡ lines.old }
+    requires closed { AreClosed maker.old.patches sets.now }
+    ensures { OnOk result (WritesSections maker.old.detail maker.old.base maker.old.patches sets.now
+        (string_bytes out.old) (string_bytes out.new)) }
+{
     for set in sets {
-        write_one(out, &mut lines, &mut maker, &mut outcome, *set)?;
+        write_one(out, lines, maker, outcome, *set)?;
     }
     Ok(())
 }
@@ -110,7 +164,6 @@ fn write_one<A: Allocator + Copy>(
 /// The lines of each of the faults, with the first set that has it.
 fn write_faults<A: Allocator + Copy>(
     out: &mut String<A>,
-    alloc: A,
     report: &Report<'_, '_, '_, '_, A>,
     rows: &[FaultRow],
 ) -> Result<(), AllocError>
@@ -120,10 +173,28 @@ fn write_faults<A: Allocator + Copy>(
         report.now.traced.now.patches rows.now (string_bytes out.old) (string_bytes out.new)) }
 {
     let graph = report.traced.graph();
-    let mut maker = SectionMaker::new(alloc, report.base, graph, report.detail)?;
+    let mut maker = SectionMaker::new(*out.allocator(), report.base, graph, report.detail)?;
     for row in rows {
-        let section = maker.section(row.first)?;
-        write_told_fault(out, graph.len(), row, &section)?;
+        write_fault(out, &mut maker, graph.len(), row)?;
     }
+    Ok(())
+}
+
+/// The lines of a fault, with the first set that has it. The graph has `patches` patches.
+fn write_fault<A: Allocator + Copy>(
+    out: &mut String<A>,
+    maker: &mut SectionMaker<'_, A>,
+    patches: usize,
+    row: &FaultRow,
+) -> Result<(), AllocError>
+    requires { IsClosed (deps_of maker.old.patches) row.now.first }
+    ensures told { OnOk result ((section : Section A)
+        × IsSection maker.old.detail maker.old.base maker.old.patches row.now.first section
+        × (string_bytes out.new ≡ string_bytes out.old
+        ++ told_fault_text patches (record { row = row.now; first = section_of section }))) }
+    ensures maker { maker.new ≡ maker.old }
+{
+    let section = maker.section(row.first)?;
+    write_told_fault(out, patches, row, &section)?;
     Ok(())
 }

@@ -9,7 +9,7 @@ use crash_model::steps::Step;
 use disk_image::Image;
 use order_modules::{Ordering, build_base, trace};
 use patch_graph::Graph;
-use script_text::read_script;
+use script_text::{Script, read_script};
 use std::alloc::Allocator;
 use std::test::Fail;
 
@@ -58,6 +58,20 @@ pub fn trace_of<A: Allocator + Copy>(
     ensures undo { IfOk result (λ t. AreUndo t.base t.graph) }
 {
     let script = read_script(alloc, script)?;
+    traced(alloc, &script, blocks, journal, order)
+}
+
+/// The steps of a script under an ordering, on a disk of so many blocks, some of them the journal's.
+fn traced<A: Allocator + Copy>(
+    alloc: A,
+    script: &Script<A>,
+    blocks: usize,
+    journal: usize,
+    order: Module,
+) -> Result<Trace<A>, Fail>
+    ensures fits { IfOk result (λ t. All (λ patch. patch.block < t.base.blocks) t.graph) }
+    ensures undo { IfOk result (λ t. AreUndo t.base t.graph) }
+{
     let base = base_of(alloc, &script.base, blocks, journal)?;
     let graph = graph_of(alloc, &base, &script.traced, order)?;
     Ok(Trace { base, graph })

@@ -7,22 +7,20 @@ use Rattle.report_sections.proofs.Firsts.{no_row, first_closed}
 use Rattle.report_text.proofs.Reports.{fault_more}
 use Rattle.report_text.proofs.report.write_faults.Goals as goal
 
-pub section-requires : goal.section-requires
-section-requires g c =
+pub write_fault-requires : goal.write_fault-requires
+write_fault-requires g c =
     let rows = c.args.rows.now in
-    record {
-      closed = subst (λ (m : Reported). IsClosed (deps_of m.patches) (get_or rows c.loop-row.row-index no_row).first) (sym c.loop-row.invariant.of_report)
-          (first_closed c.args.report.now.traced.now.patches rows c.loop-row.row-index c.requires.closed c.loop-row-test.true);
-    }
+    subst (λ (m : Reported). IsClosed (deps_of m.patches) (get_or rows c.loop-row.row-index no_row).first) (sym c.loop-row.invariant.of_report)
+        (first_closed c.args.report.now.traced.now.patches rows c.loop-row.row-index c.requires.closed c.loop-row-test.true)
 
 pub loop-row-preserved : goal.loop-row-preserved
 loop-row-preserved g c =
-    let kept : c.section.new.self ≡ c.loop-row.maker = cc in
     let report = c.args.report.now in
     let number : c.len.result ≡ length report.traced.now.patches = cc in
     let rows = c.args.rows.now in
-    let is = subst (λ (m : Reported). IsSection m.detail m.base m.patches (get_or rows c.loop-row.row-index no_row).first c.in_ok-section.section) c.loop-row.invariant.of_report c.in_ok-section.ensures.told in
+    let wrote = c.in_ok-write_fault.ensures.told in
+    let is = subst (λ (m : Reported). IsSection m.detail m.base m.patches (get_or rows c.loop-row.row-index no_row).first wrote.0) c.loop-row.invariant.of_report wrote.1 in
     record {
-      told = fault_more report.detail report.base.now report.traced.now.patches rows c.loop-row.row-index c.len.result no_row _ _ _ c.in_ok-section.section c.loop-row-test.true number c.loop-row.invariant.told is c.in_ok-write_told_fault.ensures;
-      of_report = kept ∙ c.loop-row.invariant.of_report;
+      told = fault_more report.detail report.base.now report.traced.now.patches rows c.loop-row.row-index c.len.result no_row _ _ _ wrote.0 c.loop-row-test.true number c.loop-row.invariant.told is wrote.2;
+      of_report = c.in_ok-write_fault.ensures.maker ∙ c.loop-row.invariant.of_report;
     }
