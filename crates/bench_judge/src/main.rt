@@ -8,6 +8,7 @@ mod rounds;
 mod sets;
 
 use command_line::settings_of;
+use crash_model::settings::Settings;
 use disk_image::Image;
 use order_modules::{build_base, trace};
 use rounds::judge_rounds;
@@ -30,11 +31,16 @@ fn main(rt: HostRuntime) -> Result<(), Fail> {
     let settings = settings_of(heap, &texts)?.settings;
     let mut script = Vec::new(heap);
     rt.stdin().read_to_end(&mut script)?;
-    let script = read_script(heap, &script)?;
+    judge(&rt, &settings, &script)
+}
+
+/// Judges the sets of a script, as the settings order its patches.
+fn judge(rt: &HostRuntime, settings: &Settings, script: &[u8]) -> Result<(), Fail> {
+    let heap = rt.alloc();
+    let script = read_script(heap, script)?;
     let mut base = Image::formatted(heap, settings.blocks, settings.journal)?;
     build_base(&mut base, &script.base)?;
-    let ordering = settings.ordering();
-    let graph = trace(heap, &base, &script.traced, &ordering)?.into_graph();
+    let graph = trace(heap, &base, &script.traced, &settings.ordering())?.into_graph();
     let sets = closed_sets(heap, &graph, settings.limit)?;
-    judge_rounds(&rt, &base, &graph, &sets)
+    judge_rounds(rt, &base, &graph, &sets)
 }

@@ -18,7 +18,7 @@ use std::time::Instant;
 /// How often all sets are judged.
 const ROUNDS: u32 = 100;
 
-/// Judges the sets in rounds with one scratch, and prints how many they are, how many fail, and the rate.
+/// Judges the sets in rounds, and prints how many they are, how many fail, and the rate.
 pub fn judge_rounds(
     rt: &HostRuntime,
     base: &Image<Global>,
@@ -29,17 +29,36 @@ pub fn judge_rounds(
     requires undo { AreUndo base.now graph.now }
     requires closed { All (IsClosed (deps_of graph.now)) sets.now }
 {
+    let start = Instant::now(rt)?;
+    let failing = count_in_rounds(base, graph, sets)?;
+    let took = start.elapsed(rt)?.as_micros();
+    tell(rt, sets.len(), failing, took)
+}
+
+/// How many of the sets are not good, by one scratch, which judges them in each round anew.
+fn count_in_rounds(
+    base: &Image<Global>,
+    graph: &Graph<Global>,
+    sets: &[u128],
+) -> Result<usize, AllocError>
+    requires fits { All (λ patch. patch.block < base.now.blocks) graph.now }
+    requires undo { AreUndo base.now graph.now }
+    requires closed { All (IsClosed (deps_of graph.now)) sets.now }
+{
     let space = PatchSpace::new(base, graph, None);
     let mut scratch = space.scratch()?;
     let mut failing = 0;
-    let start = Instant::now(rt)?;
     for _ in 0..ROUNDS {
         failing = count_failing(&space, &mut scratch, sets)?;
     }
-    let judged = sets.len() as u128 * u128::from(ROUNDS);
-    let took = start.elapsed(rt)?.as_micros().max(1);
-    println!(rt; "{} sets, {failing} failing", sets.len())?;
-    eprintln!(rt; "{} judged a second", judged * 1_000_000 / took)?;
+    Ok(failing)
+}
+
+/// Prints how many sets there are and how many of them fail, and how many were judged a second.
+fn tell(rt: &HostRuntime, sets: usize, failing: usize, micros: u128) -> Result<(), Fail> {
+    let judged = sets as u128 * u128::from(ROUNDS);
+    println!(rt; "{sets} sets, {failing} failing")?;
+    eprintln!(rt; "{} judged a second", judged * 1_000_000 / micros.max(1))?;
     Ok(())
 }
 
