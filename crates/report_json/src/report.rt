@@ -1,11 +1,16 @@
 //! Whole reports.
 
-ghost use Rattle.std.specs.Prelude.{◌≡◌, ◌++◌, map, string_bytes, IfOk, OnOk};
+ghost use Rattle.std.specs.Prelude.{◌≡◌, ◌++◌, [], map, string_bytes, IfOk, OnOk};
+ghost use Rattle.patch_sets.specs.Closed.{IsClosed};
+ghost use Rattle.crash_model.specs.Patches.{deps_of};
+ghost use Rattle.crash_model.specs.Explain.{base_json, trace_json};
+ghost use Rattle.crash_model.specs.Lists.{when};
 ghost use Rattle.crash_model.specs.Report.{section_json};
 ghost use Rattle.crash_model.specs.Summary.{told_fault_json};
 ghost use Rattle.crash_model.specs.Whole.{Body as WholeBody, json_report};
-ghost use Rattle.report_sections.specs.Bodies.{CanTell, TellsBody, AreOnBase, AreClosed, whole_of};
-ghost use Rattle.report_sections.specs.Sections.{section_of};
+ghost use Rattle.report_sections.specs.Bodies.{CanTell, TellsBody, AreOnBase, AreClosed, explanation_by, whole_of};
+ghost use Rattle.report_sections.specs.Sections.{section_of, IsSection};
+ghost use Rattle.report_sections.specs.declared.section.Section.{Section};
 ghost use Rattle.json_values.specs.Items.{comma_before};
 ghost use Rattle.report_json.specs.JsonReport.{WritesEarly, WritesLate};
 ghost use Rattle.report_json.specs.JsonReport.{WritesSections, WritesFaults, WritesRules};
@@ -15,7 +20,7 @@ use crate::parts::write_together;
 use crate::patches::{write_base, write_trace};
 use crash_model::fault::FaultRow;
 use json_values::{KnownTexts, told_fault_value, told_rule_value, write_comma, write_item};
-use report_sections::{Body, Report, Section, ToldRule};
+use report_sections::{Body, Report, ToldRule};
 use section_maker::SectionMaker;
 use std::alloc::{AllocError, Allocator, Global};
 use std::thread::Threads;
@@ -42,24 +47,70 @@ where
         × (string_bytes text ≡ json_report report.now.settings.now (whole_of report.now body))) }
 {
     let mut out = String::new(heap);
+    write_report(&mut out, rt, alloc, report, workers)?;
+    Ok(out)
+}
+
+/// The report, as an empty text's first.
+fn write_report<R, A>(
+    out: &mut String,
+    rt: &R,
+    alloc: A,
+    report: &Report<'_, '_, '_, '_, A>,
+    workers: usize,
+) -> Result<(), AllocError>
+where
+    R: Threads + Sync,
+    A: Allocator + Copy + Send + Sync,
+    requires empty { string_bytes out.old ≡ [] }
+    requires told { CanTell report.now }
+    ensures { OnOk result ((body : WholeBody)
+        × TellsBody report.now.detail report.now.base.now report.now.traced.now.patches report.now.body
+        body
+        × (string_bytes out.new ≡ json_report report.now.settings.now (whole_of report.now body))) }
+{
     let settings = report.settings;
     out.push_str("{")?;
-    if settings.explain {
-        write_base(&mut out, report.base)?;
-    }
+    write_explained_base(out, report)?;
     let closed = report.closed;
     write!(out, "\"closed\":{closed}")?;
-    write_early(&mut out, rt, alloc, report, workers)?;
-    write_module(&mut out, settings.module, report.traced.graph().len())?;
-    write_late(&mut out, report)?;
-    write_strict_key(&mut out, settings.strict)?;
-    if settings.explain {
-        write_trace(&mut out, report.traced)?;
-    }
-    write_rule_key(&mut out, "with", settings.put_in().as_slice())?;
-    write_rule_key(&mut out, "without", settings.taken_out().as_slice())?;
+    write_early(out, rt, alloc, report, workers)?;
+    write_module(out, settings.module, report.traced.graph().len())?;
+    write_late(out, report)?;
+    write_strict_key(out, settings.strict)?;
+    write_explained_trace(out, report)?;
+    write_rule_key(out, "with", settings.put_in().as_slice())?;
+    write_rule_key(out, "without", settings.taken_out().as_slice())?;
     out.push_str("}\n")?;
-    Ok(out)
+    Ok(())
+}
+
+/// The key of the base, where an explanation is asked for.
+fn write_explained_base<A: Allocator + Copy>(
+    out: &mut String,
+    report: &Report<'_, '_, '_, '_, A>,
+) -> Result<(), AllocError>
+    ensures { OnOk result (string_bytes out.new ≡ string_bytes out.old ++ base_json
+        (when report.now.settings.now.explain (explanation_by report.now.base.now report.now.traced.now))) }
+{
+    if report.settings.explain {
+        write_base(out, report.base)?;
+    }
+    Ok(())
+}
+
+/// The key of the patches, where an explanation is asked for.
+fn write_explained_trace<A: Allocator + Copy>(
+    out: &mut String,
+    report: &Report<'_, '_, '_, '_, A>,
+) -> Result<(), AllocError>
+    ensures { OnOk result (string_bytes out.new ≡ string_bytes out.old ++ trace_json
+        (when report.now.settings.now.explain (explanation_by report.now.base.now report.now.traced.now))) }
+{
+    if report.settings.explain {
+        write_trace(out, report.traced)?;
+    }
+    Ok(())
 }
 
 /// The body's key before `module`.
@@ -134,25 +185,31 @@ pub(crate) fn write_sections<A: Allocator + Copy>(
     let mut known = KnownTexts::new(*out.allocator(), graph.len())?;
     let mut maker = SectionMaker::new(alloc, report.base, graph, report.detail)?;
     for (at, set) in sets.iter().enumerate() {
-        let section = maker.section(*set)?;
-        write_section(out, at, &mut known, &section)?;
+        write_section(out, at, &mut known, &mut maker, *set)?;
     }
     Ok(())
 }
 
 /// The object of a set at this place of an array, with a comma before it where it is not the first.
-fn write_section<A: Allocator>(
+fn write_section<A: Allocator + Copy>(
     out: &mut String,
     at: usize,
     known: &mut KnownTexts,
-    section: &Section<A>,
+    maker: &mut SectionMaker<'_, A>,
+    set: u128,
 ) -> Result<(), AllocError>
-    ensures text { OnOk result (string_bytes out.new
-        ≡ string_bytes out.old ++ comma_before at ++ section_json known.old (section_of section.now)) }
-    ensures kept { known.new ≡ known.old }
+    requires { IsClosed (deps_of maker.old.patches) set }
+    ensures told { OnOk result ((section : Section A)
+        × IsSection maker.old.detail maker.old.base maker.old.patches set section
+        × (string_bytes out.new
+        ≡ string_bytes out.old ++ comma_before at ++ section_json known.old (section_of section))) }
+    ensures known { known.new ≡ known.old }
+    ensures maker { maker.new ≡ maker.old }
 {
+    let section = maker.section(set)?;
     write_comma(out, at)?;
-    known.push_section(out, section)
+    known.push_section(out, &section)?;
+    Ok(())
 }
 
 /// The objects of the faults, with a comma between two.
@@ -171,25 +228,28 @@ fn write_faults<A: Allocator + Copy>(
     let patches = graph.len();
     let mut maker = SectionMaker::new(alloc, report.base, graph, report.detail)?;
     for (at, row) in rows.iter().enumerate() {
-        let section = maker.section(row.first)?;
-        write_fault(out, at, patches, row, &section)?;
+        write_fault(out, at, &mut maker, patches, row)?;
     }
     Ok(())
 }
 
 /// The object of a fault at this place of an array, with a comma before it where it is not the first.
-fn write_fault<A: Allocator>(
+fn write_fault<A: Allocator + Copy>(
     out: &mut String,
     at: usize,
+    maker: &mut SectionMaker<'_, A>,
     patches: usize,
     row: &FaultRow,
-    first: &Section<A>,
 ) -> Result<(), AllocError>
-    ensures { OnOk result (string_bytes out.new ≡ string_bytes out.old ++ comma_before at
-        ++ told_fault_json patches (record { row = row.now; first = section_of first.now })) }
+    requires { IsClosed (deps_of maker.old.patches) row.now.first }
+    ensures told { OnOk result ((section : Section A)
+        × IsSection maker.old.detail maker.old.base maker.old.patches row.now.first section
+        × (string_bytes out.new ≡ string_bytes out.old ++ comma_before at
+        ++ told_fault_json patches (record { row = row.now; first = section_of section }))) }
+    ensures maker { maker.new ≡ maker.old }
 {
-    let heap = *out.allocator();
-    let value = told_fault_value(heap, patches, row, first)?;
+    let first = maker.section(row.first)?;
+    let value = told_fault_value(*out.allocator(), patches, row, &first)?;
     write_item(out, at, &value)?;
     Ok(())
 }

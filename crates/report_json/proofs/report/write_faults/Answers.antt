@@ -7,22 +7,21 @@ use Rattle.report_sections.proofs.Firsts.{no_row, first_closed}
 use Rattle.report_json.proofs.Reports.{fault_more}
 use Rattle.report_json.proofs.report.write_faults.Goals as goal
 
-pub section-requires : goal.section-requires
-section-requires g c =
+pub write_fault-requires : goal.write_fault-requires
+write_fault-requires g c =
     let rows = c.args.rows.now in
-    record {
-      closed = subst (λ (m : Reported). IsClosed (deps_of m.patches) (get_or rows c.loop-at.at no_row).first) (sym c.loop-at.invariant.of_report)
-          (first_closed c.args.report.now.traced.now.patches rows c.loop-at.at c.requires.closed c.loop-at-test.true);
-    }
+    subst (λ (m : Reported). IsClosed (deps_of m.patches) (get_or rows c.loop-at.at no_row).first) (sym c.loop-at.invariant.of_report)
+        (first_closed c.args.report.now.traced.now.patches rows c.loop-at.at c.requires.closed c.loop-at-test.true)
 
 pub loop-at-preserved : goal.loop-at-preserved
 loop-at-preserved g c =
-    let kept : c.section.new.self ≡ c.loop-at.maker = cc in
     let report = c.args.report.now in
     let rows = c.args.rows.now in
     let number : c.len-patches.result ≡ length report.traced.now.patches = cc in
-    let is = subst (λ (m : Reported). IsSection m.detail m.base m.patches (get_or rows c.loop-at.at no_row).first c.in_ok-section.section) c.loop-at.invariant.of_report c.in_ok-section.ensures.told in
+    let wrote = c.in_ok-write_fault.ensures in
+    let told = wrote.told in
+    let is = subst (λ (m : Reported). IsSection m.detail m.base m.patches (get_or rows c.loop-at.at no_row).first told.0) c.loop-at.invariant.of_report told.1 in
     record {
-      told = fault_more report.detail report.base.now report.traced.now.patches rows c.loop-at.at c.len-patches.result no_row _ _ _ _ c.in_ok-section.section c.loop-at-test.true number c.loop-at.invariant.told is refl c.in_ok-write_fault.ensures;
-      of_report = kept ∙ c.loop-at.invariant.of_report;
+      told = fault_more report.detail report.base.now report.traced.now.patches rows c.loop-at.at c.len-patches.result no_row _ _ _ _ told.0 c.loop-at-test.true number c.loop-at.invariant.told is refl told.2;
+      of_report = wrote.maker ∙ c.loop-at.invariant.of_report;
     }
