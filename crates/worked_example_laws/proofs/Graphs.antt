@@ -104,14 +104,3 @@ module _ (rules : List Rule) (base : Disk) (s : Tracing) where
     earlier = earlier;
     exactly = exactly;
   }
-
--- steps that are accepted have the computed graph
-pub has_graph : (kind : Module) (base : Disk) (steps : List Step) (P : List Patch → Type 0)
-    → trace_from kind (trace_start base) steps ≡ Ok (trace_of kind base steps) → P (graph_of (rules_of kind) base (trace_of kind base steps)) → HasGraph kind base steps P
-has_graph kind base steps P run holds = record {
-  last = trace_of kind base steps;
-  run = run;
-  patches = graph_of (rules_of kind) base (trace_of kind base steps);
-  graph = graph_is (rules_of kind) base (trace_of kind base steps);
-  holds = holds;
-}
