@@ -1,5 +1,5 @@
 -- The computed failing sets are all sets that a crash can leave and that fail.
-use Rattle.std.proofs.Common.{◌≡◌, ℕ, zero, suc, ◌+◌, ◌*◌, ◌/◌, ◌%◌, ◌^◌, ◌<◌, List, [], ◌∷◌, length, Bool, true, false, not, ◌&&◌, ◌||◌, nat_lt, arith, refl, sym, subst, ap, ◌∙◌, pow-suc, inl, inr, get_or, add-one}
+use Rattle.std.proofs.Common.{◌≡◌, ℕ, zero, suc, ◌+◌, ◌*◌, ◌/◌, ◌%◌, ◌^◌, ◌<◌, List, [], ◌∷◌, ◌++◌, length, Bool, true, false, not, ◌&&◌, ◌||◌, nat_lt, arith, refl, sym, subst, ap, ◌∙◌, pow-suc, inl, inr, get_or, add-one}
 use Rattle.std.specs.Prelude.{◌⊎◌, Option, Some, None, ◌==◌, count_ones, Ok, Err, Result}
 use Rattle.std.specs.List.{Contains, filter, list_any, list_all}
 use Rattle.std.proofs.lemmas.List.{get_or_default}
@@ -19,7 +19,7 @@ use Rattle.crash_model.specs.Patches.{deps_of, image_of}
 use Rattle.crash_model.specs.Replay.{image_after_replay}
 use Rattle.crash_model.specs.Faults.{faults}
 use Rattle.crash_model.specs.Failing.{IsFailing, CountsClosed}
-use Rattle.crash_model.specs.Strict.{faults_under, IsFailingUnder}
+use Rattle.crash_model.specs.Strict.{faults_under, strict_faults, IsFailingUnder}
 use Rattle.crash_model.specs.declared.fault.Fault.{Fault}
 use Rattle.crash_model.specs.Trace.{Tracing, trace_start, trace_from}
 use Rattle.crash_model.specs.declared.patches.Patch.{Patch}
@@ -264,16 +264,28 @@ counts_if kind base steps ids counts total e =
 
 -- ---- which fail
 
-abbrev pub fails_quickly : Disk → List Patch → ℕ → Bool
-fails_quickly base patches set = not (is_none_found (quick_faults (replayed (image_of base patches set))))
+abbrev pub quick_faults_under : Option ℕ → Disk → List Fault
+quick_faults_under None d = quick_faults d
+quick_faults_under (Some kept) d = quick_faults d ++ strict_faults kept d
+
+quick_faults_under_are : (kept : Option ℕ) (d : Disk) → quick_faults_under kept d ≡ faults_under kept d
+quick_faults_under_are None d = quick_faults_are d
+quick_faults_under_are (Some kept) d = ap (λ found. found ++ strict_faults kept d) (quick_faults_are d)
+
+abbrev pub failing_quickly_under : Option ℕ → Disk → List Patch → List ℕ
+failing_quickly_under kept base patches =
+    filter (λ set. not (is_none_found (quick_faults_under kept (replayed (image_of base patches set))))) (closed_sets (deps_of patches))
+
+pub failing_under_are : (kept : Option ℕ) (base : Disk) (patches : List Patch) → failing_quickly_under kept base patches ≡ failing_under kept base patches
+failing_under_are kept base patches =
+    filter_agree (λ set. not (is_none_found (quick_faults_under kept (replayed (image_of base patches set))))) (fails_under kept base patches)
+    (λ set. ap (λ found. not (is_none_found found)) (quick_faults_under_are kept (image_after_replay (image_of base patches set)))) (closed_sets (deps_of patches))
 
 abbrev pub failing_quickly : Disk → List Patch → List ℕ
-failing_quickly base patches = filter (fails_quickly base patches) (closed_sets (deps_of patches))
+failing_quickly base patches = failing_quickly_under None base patches
 
 failing_are : (base : Disk) (patches : List Patch) → failing_quickly base patches ≡ failing_sets base patches
-failing_are base patches =
-    filter_agree (fails_quickly base patches) (fails base patches)
-    (λ set. ap (λ found. not (is_none_found found)) (quick_faults_are (image_after_replay (image_of base patches set)))) (closed_sets (deps_of patches))
+failing_are base patches = failing_under_are None base patches
 
 pub number_if : (kind : Module) (base : Disk) (steps : List Step) (many : ℕ)
     → at_graph kind base (λ patches. length (failing_quickly base patches)) (trace_from kind (trace_start base) steps) ≡ Some many
