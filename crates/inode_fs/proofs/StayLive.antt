@@ -1,7 +1,7 @@
 -- The inodes that stay live, step by step.
 use Rattle.std.proofs.Common.{◌≡◌, ℕ, ◌+◌, ◌<◌, inl, inr, List, [], ◌∷◌, drop, drop-cons, length, get_or, Bool, true, false, ◌&&◌, ◌==◌, not, nat_lt, arith, refl, sym, subst, ap, ◌∙◌, suc}
 use Rattle.std.specs.Prelude.{bit_and}
-use Rattle.std.proofs.lemmas.Bool.{false≢true, cases_eq, and_parts, and_right, lt-ltb, ltb-true, cases_Bool, le-ltb}
+use Rattle.std.proofs.lemmas.Bool.{cases_eq, and_parts, and_right, lt-ltb, ltb-true, cases_Bool, le-ltb}
 use Rattle.std.proofs.lemmas.Nat.Bits.{bit_at_and, bit_at-lt}
 use Rattle.patch_sets.specs.Sets.{Has, has, with_id}
 use Rattle.patch_sets.proofs.Bits.{none_in_empty, in_with_same, in_with_cases, in_with_old}

@@ -1,5 +1,5 @@
 -- The answer about a script that is written down as acts.
-use Rattle.std.proofs.Common.{◌≡◌, ℕ, ◌+◌, ◌<◌, List, length, map, Bool, true, false, ◌&&◌, nat_le, nat_lt, refl, sym, subst}
+use Rattle.std.proofs.Common.{◌≡◌, ℕ, ◌+◌, ◌<◌, List, length, map, Bool, true, false, ◌&&◌, nat_le, nat_lt, refl, sym, subst, ◌∙◌}
 use Rattle.std.specs.Prelude.{◌==◌, Result, Ok, Err}
 use Rattle.std.proofs.lemmas.Bool.{and_parts, leb-true, le-leb, ltb-true}
 use Rattle.patch_sets.proofs.Ids.{eq_from_true}
@@ -22,7 +22,7 @@ use Rattle.crash_model.proofs.Leading.{failing_closed, closed_are_left, sections
 use Rattle.worked_example_laws.specs.Computed.{closed_sets, failing_under, kept_of, are_in_order, trace_of, is_accepted, section_of, have_runs}
 use Rattle.worked_example_laws.specs.Examples.{numbered_steps}
 use Rattle.worked_example_laws.specs.Spelled.{are_acts, script, base_or, base_of, has_base, trace_steps, graph, is_geometry, is_told}
-use Rattle.worked_example_laws.proofs.FailingSets.{accepted_is, counts_closed, all_under}
+use Rattle.worked_example_laws.proofs.FailingSets.{accepted_is, counts_closed, all_under, failing_quickly_under, failing_under_are}
 use Rattle.worked_example_laws.proofs.Graphs.{earlier, graph_is}
 use Rattle.worked_example_laws.proofs.Keeping.{is_told_kept}
 use Rattle.worked_example_laws.proofs.Runs.{sections_if}
@@ -83,9 +83,28 @@ refused_trace settings before behind fault read read_too geometry whole is =
 abbrev pub told_detail : Settings → List Act → List Act → Detail
 told_detail settings before behind = detail_of settings (kept_of settings.strict (base_of settings before) (trace_steps before behind))
 
+-- the same test as `is_told`, in fewer steps
+abbrev pub is_told_quickly : Settings → List Act → List Act → ℕ → List ℕ → Bool
+is_told_quickly settings before behind closed failing =
+    let base = base_of settings before in
+    let patches = graph settings before behind in
+    are_acts before && (are_acts behind && (is_geometry settings
+    && (has_base (base_from (empty_disk settings.blocks settings.journal) (numbered_steps 1 before))
+    && (is_accepted (trace_from settings.module (trace_start base) (trace_steps before behind))
+    && ((length (closed_sets (deps_of patches)) == closed)
+    && (are_in_order (length (deps_of patches)) failing
+    (failing_quickly_under (kept_of settings.strict base (trace_steps before behind)) base patches)
+    && (nat_le closed settings.limit && have_runs patches failing)))))))
+
+quickly_is : (settings : Settings) (before behind : List Act) (closed : ℕ) (failing : List ℕ)
+    → is_told_quickly settings before behind closed failing ≡ is_told settings before behind closed failing
+quickly_is settings before behind closed failing =
+    let base = base_of settings before in
+    rw (failing_under_are (kept_of settings.strict base (trace_steps before behind)) base (graph settings before behind)) refl
+
 -- the report, of each failing set
 pub reported : (settings : Settings) (before behind : List Act) (closed : ℕ) (failing : List ℕ) (text : List ℕ)
-    → is_told settings before behind closed failing ≡ true
+    → is_told_quickly settings before behind closed failing ≡ true
     → settings.by ≡ BySet
     → text ≡ report settings (record {
       patches = length (graph settings before behind);
@@ -97,7 +116,8 @@ pub reported : (settings : Settings) (before behind : List Act) (closed : ℕ) (
     })
     → IsAnswer (script before behind) settings (Reported text (length failing))
 unfolding has_graph
-reported settings before behind closed failing text told by_set is =
+reported settings before behind closed failing text told_quickly by_set is =
+    let told : is_told settings before behind closed failing ≡ true = sym (quickly_is settings before behind closed failing) ∙ told_quickly in
     let base = base_of settings before in
     let steps = trace_steps before behind in
     let last = trace_of settings.module base steps in

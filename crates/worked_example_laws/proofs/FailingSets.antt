@@ -1,8 +1,9 @@
 -- The computed failing sets are all sets that a crash can leave and that fail.
-use Rattle.std.proofs.Common.{◌≡◌, ℕ, zero, suc, ◌+◌, ◌*◌, ◌/◌, ◌%◌, ◌^◌, ◌<◌, List, [], ◌∷◌, length, take, drop, Bool, true, false, not, ◌&&◌, ◌||◌, nat_lt, arith, refl, sym, subst, ap, ◌∙◌, pow-suc, inl, inr, get_or, add-one}
-use Rattle.std.specs.Prelude.{◌⊎◌, Option, None, ◌==◌, count_ones, Ok, Err, Result}
+use Rattle.std.proofs.Common.{◌≡◌, ℕ, zero, suc, ◌+◌, ◌*◌, ◌/◌, ◌%◌, ◌^◌, ◌<◌, List, [], ◌∷◌, ◌++◌, length, Bool, true, false, not, ◌&&◌, ◌||◌, nat_lt, arith, refl, sym, subst, ap, ◌∙◌, pow-suc, inl, inr, get_or, add-one}
+use Rattle.std.specs.Prelude.{◌⊎◌, Option, Some, None, ◌==◌, count_ones, Ok, Err, Result}
 use Rattle.std.specs.List.{Contains, filter, list_any, list_all}
 use Rattle.std.proofs.lemmas.List.{get_or_default}
+use Rattle.std.proofs.lemmas.List.Elements.{filter_agree}
 use Rattle.std.proofs.lemmas.Bool.{and_parts, ltb-true}
 use Rattle.std.proofs.lemmas.Nat.{ones_le_self}
 use lib.Count.{ones_step}
@@ -16,16 +17,18 @@ use Rattle.crash_model.specs.Rules.{rules_of}
 use Rattle.crash_model.specs.Disk.{Disk}
 use Rattle.crash_model.specs.Patches.{deps_of, image_of}
 use Rattle.crash_model.specs.Replay.{image_after_replay}
+use Rattle.crash_model.specs.Faults.{faults}
 use Rattle.crash_model.specs.Failing.{IsFailing, CountsClosed}
-use Rattle.crash_model.specs.Strict.{faults_under, IsFailingUnder}
+use Rattle.crash_model.specs.Strict.{faults_under, strict_faults, IsFailingUnder}
 use Rattle.crash_model.specs.declared.fault.Fault.{Fault}
 use Rattle.crash_model.specs.Trace.{Tracing, trace_start, trace_from}
 use Rattle.crash_model.specs.declared.patches.Patch.{Patch}
 use Rattle.crash_model.specs.declared.refusals.TraceFault.{TraceFault}
 use Rattle.crash_model.specs.declared.modules.Module.{Module}
 use Rattle.crash_model.specs.declared.steps.Step.{Step}
-use Rattle.worked_example_laws.proofs.Graphs.{earlier, has_graph}
-use Rattle.worked_example_laws.specs.Computed.{closed_sets, is_none_found, fails, failing_sets, fails_under, failing_under, ones_below, is_before, is_ordered, is_in, are_in_order, graph_of, trace_of, HasGraph, Explored, is_accepted, trace_or_start, explores, CountsWith, none_fails}
+use Rattle.worked_example_laws.proofs.Graphs.{graph_is}
+use Rattle.worked_example_laws.specs.Computed.{closed_sets, is_none_found, fails, failing_sets, fails_under, failing_under, ones_below, is_before, is_ordered, is_in, are_in_order, graph_of, HasGraph, Explored, is_accepted, trace_or_start, CountsWith}
+use Rattle.worked_example_laws.proofs.QuickFaults.{replayed, quick_faults, quick_faults_are}
 use Rattle.worked_example_laws.proofs.ClosedSets.{AreApart, closed_are_all, pairs_apart, apart_filter, from_filter, to_filter}
 
 -- ---- how many
@@ -177,92 +180,151 @@ pub accepted_is : (base : Disk) (r : Result Tracing TraceFault) → is_accepted 
 accepted_is base (Err fault) e = cc
 accepted_is base (Ok s) e = refl
 
--- a computed graph that has a property
-pub graph_if : (kind : Module) (base : Disk) (steps : List Step) (P : List Patch → Type 0)
-    → is_accepted (trace_from kind (trace_start base) steps) ≡ true → P (graph_of (rules_of kind) base (trace_of kind base steps)) → HasGraph kind base steps P
-graph_if kind base steps P run holds = has_graph kind base steps P (accepted_is base (trace_from kind (trace_start base) steps) run) holds
+-- ---- of a computed graph
+
+-- what a function gives at the graph of a trace, unless a step is refused
+abbrev pub at_graph : {X : Type 0} → Module → Disk → (List Patch → X) → Result Tracing TraceFault → Option X
+at_graph kind base f (Err fault) = None
+at_graph kind base f (Ok s) = Some (f (graph_of (rules_of kind) base s))
+
+pub graph_if : {X : Type 0} (kind : Module) (base : Disk) (steps : List Step) (f : List Patch → X) (x : X)
+    → at_graph kind base f (trace_from kind (trace_start base) steps) ≡ Some x → HasGraph kind base steps (λ patches. f patches ≡ x)
+graph_if kind base steps f x e = of_run (trace_from kind (trace_start base) steps) refl e
+  where
+    of_run : (r : Result Tracing TraceFault) → trace_from kind (trace_start base) steps ≡ r → at_graph kind base f r ≡ Some x
+        → HasGraph kind base steps (λ patches. f patches ≡ x)
+    of_run (Err fault) run e = cc
+    of_run (Ok s) run e = record {
+      last = s;
+      run = run;
+      patches = graph_of (rules_of kind) base s;
+      graph = graph_is (rules_of kind) base s;
+      holds = cc;
+    }
+
+-- what follows from a property of the graph
+pub graph_then : (kind : Module) (base : Disk) (steps : List Step) (P Q : List Patch → Type 0)
+    → ((patches : List Patch) → AreEarlier (deps_of patches) → P patches → Q patches) → HasGraph kind base steps P → HasGraph kind base steps Q
+graph_then kind base steps P Q then_is has = record {
+  last = has.last;
+  run = has.run;
+  patches = has.patches;
+  graph = has.graph;
+  holds = then_is has.patches has.graph.earlier has.holds;
+}
+
+-- ---- how many, and by how many of some ids
 
 pub counted_if : (kind : Module) (base : Disk) (steps : List Step) (closed : ℕ)
-    → is_accepted (trace_from kind (trace_start base) steps) ≡ true
-    → length (closed_sets (deps_of (graph_of (rules_of kind) base (trace_of kind base steps)))) ≡ closed
+    → at_graph kind base (λ patches. length (closed_sets (deps_of patches))) (trace_from kind (trace_start base) steps) ≡ Some closed
     → HasGraph kind base steps (λ patches. CountsClosed patches closed)
-counted_if kind base steps closed run many =
-    graph_if kind base steps (λ patches. CountsClosed patches closed) run
-    (counts_closed (graph_of (rules_of kind) base (trace_of kind base steps)) closed (earlier (rules_of kind) base (trace_of kind base steps)) many)
+counted_if kind base steps closed e =
+    graph_then kind base steps (λ patches. length (closed_sets (deps_of patches)) ≡ closed) (λ patches. CountsClosed patches closed)
+    (λ patches before is. counts_closed patches closed before is)
+    (graph_if kind base steps (λ patches. length (closed_sets (deps_of patches))) closed e)
+
+-- so many sets have none of these ids, so many have one, and so on
+abbrev pub are_counted_from : ℕ → List ℕ → List ℕ → List ℕ → Bool
+are_counted_from held ids [] sets = true
+are_counted_from held ids (n ∷ counts) sets =
+    (length (filter (λ set. length (filter (has set) ids) == held) sets) == n) && are_counted_from (held + 1) ids counts sets
+
+abbrev pub are_counted : List ℕ → List ℕ → ℕ → List ℕ → Bool
+are_counted ids counts total sets = (length sets == total) && are_counted_from 0 ids counts sets
+
+pub record HasCounts (kind : Module) (base : Disk) (steps : List Step) (ids counts : List ℕ) (total : ℕ) : Type 0 where
+  pub all : HasGraph kind base steps (λ patches. CountsClosed patches total)
+  pub each : (held : ℕ) → held < length counts → HasGraph kind base steps (λ patches. CountsWith patches ids held (get_or counts held 0))
+
+count_at : (ids counts sets : List ℕ) (from held many : ℕ) → from + held ≡ many → are_counted_from from ids counts sets ≡ true → held < length counts
+    → length (filter (λ set. length (filter (has set) ids) == many) sets) ≡ get_or counts held 0
+count_at ids [] sets from held many sum e within = absurd (omega arith)
+count_at ids (n ∷ counts) sets from zero many sum e within =
+    let same : from ≡ many = omega arith in
+    let first = eq_from_true _ n (and_parts (length (filter (λ set. length (filter (has set) ids) == from) sets) == n) _ e).0 in
+    subst (λ (m : ℕ). length (filter (λ set. length (filter (has set) ids) == m) sets) ≡ n) same first
+count_at ids (n ∷ counts) sets from (suc held) many sum e within =
+    count_at ids counts sets (from + 1) held many (omega arith)
+    (and_parts (length (filter (λ set. length (filter (has set) ids) == from) sets) == n) _ e).1 (omega arith)
+
+pub counts_if : (kind : Module) (base : Disk) (steps : List Step) (ids counts : List ℕ) (total : ℕ)
+    → at_graph kind base (λ patches. are_counted ids counts total (closed_sets (deps_of patches))) (trace_from kind (trace_start base) steps) ≡ Some true
+    → HasCounts kind base steps ids counts total
+counts_if kind base steps ids counts total e =
+    let test = λ (patches : List Patch). are_counted ids counts total (closed_sets (deps_of patches)) in
+    let has = graph_if kind base steps test true e in
+    let parts = λ (patches : List Patch) (is : test patches ≡ true). and_parts (length (closed_sets (deps_of patches)) == total) _ is in
+    record {
+      all = graph_then kind base steps (λ patches. test patches ≡ true) (λ patches. CountsClosed patches total)
+          (λ patches before is. counts_closed patches total before (eq_from_true _ total (parts patches is).0)) has;
+      each = λ held within. graph_then kind base steps (λ patches. test patches ≡ true) (λ patches. CountsWith patches ids held (get_or counts held 0))
+          (λ patches before is. counts_with patches ids held (get_or counts held 0) before
+          (count_at ids counts (closed_sets (deps_of patches)) 0 held held (omega arith) (parts patches is).1 within)) has;
+    }
+
+-- ---- which fail
+
+abbrev pub quick_faults_under : Option ℕ → Disk → List Fault
+quick_faults_under None d = quick_faults d
+quick_faults_under (Some kept) d = quick_faults d ++ strict_faults kept d
+
+quick_faults_under_are : (kept : Option ℕ) (d : Disk) → quick_faults_under kept d ≡ faults_under kept d
+quick_faults_under_are None d = quick_faults_are d
+quick_faults_under_are (Some kept) d = ap (λ found. found ++ strict_faults kept d) (quick_faults_are d)
+
+abbrev pub failing_quickly_under : Option ℕ → Disk → List Patch → List ℕ
+failing_quickly_under kept base patches =
+    filter (λ set. not (is_none_found (quick_faults_under kept (replayed (image_of base patches set))))) (closed_sets (deps_of patches))
+
+pub failing_under_are : (kept : Option ℕ) (base : Disk) (patches : List Patch) → failing_quickly_under kept base patches ≡ failing_under kept base patches
+failing_under_are kept base patches =
+    filter_agree (λ set. not (is_none_found (quick_faults_under kept (replayed (image_of base patches set))))) (fails_under kept base patches)
+    (λ set. ap (λ found. not (is_none_found found)) (quick_faults_under_are kept (image_after_replay (image_of base patches set)))) (closed_sets (deps_of patches))
+
+abbrev pub failing_quickly : Disk → List Patch → List ℕ
+failing_quickly base patches = failing_quickly_under None base patches
+
+failing_are : (base : Disk) (patches : List Patch) → failing_quickly base patches ≡ failing_sets base patches
+failing_are base patches = failing_under_are None base patches
 
 pub number_if : (kind : Module) (base : Disk) (steps : List Step) (many : ℕ)
-    → is_accepted (trace_from kind (trace_start base) steps) ≡ true
-    → length (failing_sets base (graph_of (rules_of kind) base (trace_of kind base steps))) ≡ many
+    → at_graph kind base (λ patches. length (failing_quickly base patches)) (trace_from kind (trace_start base) steps) ≡ Some many
     → HasGraph kind base steps (λ patches. HoldsOf (IsFailing base patches) many)
-number_if kind base steps many run is =
-    graph_if kind base steps (λ patches. HoldsOf (IsFailing base patches) many) run
-    (counts_failing base (graph_of (rules_of kind) base (trace_of kind base steps)) (earlier (rules_of kind) base (trace_of kind base steps)) many is)
-
-pub counted_with_if : (kind : Module) (base : Disk) (steps : List Step) (ids : List ℕ) (held count : ℕ)
-    → is_accepted (trace_from kind (trace_start base) steps) ≡ true
-    → length (filter (λ set. length (filter (has set) ids) == held) (closed_sets (deps_of (graph_of (rules_of kind) base (trace_of kind base steps))))) ≡ count
-    → HasGraph kind base steps (λ patches. CountsWith patches ids held count)
-counted_with_if kind base steps ids held count run many =
-    graph_if kind base steps (λ patches. CountsWith patches ids held count) run
-    (counts_with (graph_of (rules_of kind) base (trace_of kind base steps)) ids held count (earlier (rules_of kind) base (trace_of kind base steps)) many)
+number_if kind base steps many e =
+    graph_then kind base steps (λ patches. length (failing_quickly base patches) ≡ many) (λ patches. HoldsOf (IsFailing base patches) many)
+    (λ patches before is. counts_failing base patches before many (ap length (sym (failing_are base patches)) ∙ is))
+    (graph_if kind base steps (λ patches. length (failing_quickly base patches)) many e)
 
 -- one of the closed sets fails
 pub failing_if : (kind : Module) (base : Disk) (steps : List Step) (set : ℕ)
-    → is_accepted (trace_from kind (trace_start base) steps) ≡ true
-    → is_in (closed_sets (deps_of (graph_of (rules_of kind) base (trace_of kind base steps)))) set ≡ true
-    → fails base (graph_of (rules_of kind) base (trace_of kind base steps)) set ≡ true
+    → at_graph kind base (λ patches. is_in (failing_quickly base patches) set) (trace_from kind (trace_start base) steps) ≡ Some true
     → HasGraph kind base steps (λ patches. IsFailing base patches set)
-failing_if kind base steps set run is_closed is_failing =
-    let patches = graph_of (rules_of kind) base (trace_of kind base steps) in
-    graph_if kind base steps (λ ps. IsFailing base ps set) run
-    (failing_at base patches (earlier (rules_of kind) base (trace_of kind base steps)) set
-    (to_filter (fails base patches) (closed_sets (deps_of patches)) set (in_if (closed_sets (deps_of patches)) set is_closed) is_failing))
+failing_if kind base steps set e =
+    graph_then kind base steps (λ patches. is_in (failing_quickly base patches) set ≡ true) (λ patches. IsFailing base patches set)
+    (λ patches before is. failing_at base patches before set
+    (in_if (failing_sets base patches) set (ap (λ found. is_in found set) (sym (failing_are base patches)) ∙ is)))
+    (graph_if kind base steps (λ patches. is_in (failing_quickly base patches) set) true e)
+
+pub fails_at_fault : (base : Disk) (patches : List Patch) → AreEarlier (deps_of patches) → (set : ℕ) → is_in (closed_sets (deps_of patches)) set ≡ true
+    → (f : Fault) (fs : List Fault) → faults (image_after_replay (image_of base patches set)) ≡ f ∷ fs → IsFailing base patches set
+fails_at_fault base patches before set is_closed f fs is = record {
+  closed = (closed_are_all (deps_of patches) before).each set (in_if (closed_sets (deps_of patches)) set is_closed);
+  unclean = λ clean. let none = clean.faultless in cc;
+}
+
+-- so many sets are closed, and these are all that fail, in canonical order
+abbrev pub are_explored : Disk → ℕ → List ℕ → List Patch → Bool
+are_explored base closed failing patches =
+    (length (closed_sets (deps_of patches)) == closed) && are_in_order (length (deps_of patches)) failing (failing_quickly base patches)
 
 pub explored_if : (kind : Module) (base : Disk) (steps : List Step) (closed : ℕ) (failing : List ℕ)
-    → explores kind base steps closed failing ≡ true → Explored kind base steps closed failing
+    → at_graph kind base (are_explored base closed failing) (trace_from kind (trace_start base) steps) ≡ Some true
+    → Explored kind base steps closed failing
 explored_if kind base steps closed failing e =
-    let patches = graph_of (rules_of kind) base (trace_of kind base steps) in
-    let before = earlier (rules_of kind) base (trace_of kind base steps) in
-    let first = and_parts (is_accepted (trace_from kind (trace_start base) steps)) _ e in
-    let more = and_parts (length (closed_sets (deps_of (graph_of (rules_of kind) base (trace_of kind base steps)))) == closed) _ first.1 in
-    graph_if kind base steps (λ ps. CountsClosed ps closed × AreAllInOrder (IsFailing base ps) failing) first.0
-    (counts_closed patches closed before (eq_from_true _ _ more.0), all_failing base patches failing before more.1)
-
--- ---- in parts, where a declaration's steps don't suffice
-
-none_filtered : (base : Disk) (patches : List Patch) (some : List ℕ) → none_fails base patches some ≡ true → filter (fails base patches) some ≡ []
-none_filtered base patches [] e = refl
-none_filtered base patches (set ∷ some) e =
-    let parts = and_parts (not (fails base patches set)) (none_fails base patches some) e in
-    rw (not_true _ parts.0) (none_filtered base patches some parts.1)
-  where
-    not_true : (b : Bool) → not b ≡ true → b ≡ false
-    not_true false e = refl
-    not_true true e = cc
-
-pub none_in_parts : (n : ℕ) (base : Disk) (patches : List Patch) (some : List ℕ)
-    → none_fails base patches (take n some) ≡ true → none_fails base patches (drop n some) ≡ true → none_fails base patches some ≡ true
-none_in_parts zero base patches some low high = high
-none_in_parts (suc n) base patches [] low high = refl
-none_in_parts (suc n) base patches (set ∷ some) low high =
-    let parts = and_parts (not (fails base patches set)) (none_fails base patches (take n some)) low in
-    let rest : none_fails base patches some ≡ true = none_in_parts n base patches some parts.1 high in
-    and_of (not (fails base patches set)) (none_fails base patches some) parts.0 rest
-  where
-    and_of : (a b : Bool) → a ≡ true → b ≡ true → (a && b) ≡ true
-    and_of a b p q = rw (p, q) refl
-
-pub all_clean_if : (kind : Module) (base : Disk) (steps : List Step) (closed : ℕ)
-    → is_accepted (trace_from kind (trace_start base) steps) ≡ true
-    → length (closed_sets (deps_of (graph_of (rules_of kind) base (trace_of kind base steps)))) ≡ closed
-    → none_fails base (graph_of (rules_of kind) base (trace_of kind base steps)) (closed_sets (deps_of (graph_of (rules_of kind) base (trace_of kind base steps)))) ≡ true
-    → Explored kind base steps closed []
-all_clean_if kind base steps closed run many clean =
-    let patches = graph_of (rules_of kind) base (trace_of kind base steps) in
-    let before = earlier (rules_of kind) base (trace_of kind base steps) in
-    graph_if kind base steps (λ ps. CountsClosed ps closed × AreAllInOrder (IsFailing base ps) []) run
-    (counts_closed patches closed before many, all_failing base patches [] before (none_in_order base patches clean))
-  where
-    none_in_order : (base : Disk) (patches : List Patch) → none_fails base patches (closed_sets (deps_of patches)) ≡ true
-        → are_in_order (length (deps_of patches)) [] (failing_sets base patches) ≡ true
-    none_in_order base patches clean = rw (none_filtered base patches (closed_sets (deps_of patches)) clean) refl
+    graph_then kind base steps (λ patches. are_explored base closed failing patches ≡ true)
+    (λ patches. CountsClosed patches closed × AreAllInOrder (IsFailing base patches) failing)
+    (λ patches before is. let parts = and_parts (length (closed_sets (deps_of patches)) == closed) _ is in (
+      counts_closed patches closed before (eq_from_true _ closed parts.0),
+      all_failing base patches failing before (ap (are_in_order (length (deps_of patches)) failing) (sym (failing_are base patches)) ∙ parts.1),
+    ))
+    (graph_if kind base steps (are_explored base closed failing) true e)

@@ -1,18 +1,14 @@
 -- The computed graph of a trace is its graph.
 use Rattle.std.proofs.Common.{◌≡◌, ℕ, zero, suc, ◌+◌, ◌<◌, ◌≤◌, List, [], ◌∷◌, length, map, Bool, true, false, arith, refl, sym, subst, ap, ◌∙◌, inl, inr}
-use Rattle.std.specs.Prelude.{◌↔◌, ◌⊎◌, IsTrue, Some, Ok, slice_get, slice_index, if◌then◌else◌}
+use Rattle.std.specs.Prelude.{◌↔◌, ◌⊎◌, IsTrue, Some, slice_get, slice_index, if◌then◌else◌}
 use Rattle.patch_sets.specs.Sets.{Has, with_id}
 use Rattle.patch_sets.specs.Closed.{AreEarlier}
 use Rattle.patch_sets.proofs.Bits.{none_in_empty, in_with_same, in_with_old, in_with_cases}
 use Rattle.crash_model.specs.Disk.{Disk, with_bytes}
 use Rattle.crash_model.specs.Patches.{places_of, deps_of, AreUndo}
-use Rattle.crash_model.specs.Rules.{rules_of}
-use Rattle.crash_model.specs.Trace.{Emitted, Tracing, trace_start, trace_from, depends, IsGraphOf}
-use Rattle.crash_model.specs.declared.patches.Patch.{Patch}
+use Rattle.crash_model.specs.Trace.{Emitted, Tracing, depends, IsGraphOf}
 use Rattle.crash_model.specs.declared.rules.Rule.{Rule}
-use Rattle.crash_model.specs.declared.modules.Module.{Module}
-use Rattle.crash_model.specs.declared.steps.Step.{Step}
-use Rattle.worked_example_laws.specs.Computed.{set_below, depends_if, needs, patches_from, graph_of, trace_of, HasGraph}
+use Rattle.worked_example_laws.specs.Computed.{set_below, depends_if, needs, patches_from, graph_of}
 
 -- ---- the set of the ids that pass
 
@@ -104,14 +100,3 @@ module _ (rules : List Rule) (base : Disk) (s : Tracing) where
     earlier = earlier;
     exactly = exactly;
   }
-
--- steps that are accepted have the computed graph
-pub has_graph : (kind : Module) (base : Disk) (steps : List Step) (P : List Patch → Type 0)
-    → trace_from kind (trace_start base) steps ≡ Ok (trace_of kind base steps) → P (graph_of (rules_of kind) base (trace_of kind base steps)) → HasGraph kind base steps P
-has_graph kind base steps P run holds = record {
-  last = trace_of kind base steps;
-  run = run;
-  patches = graph_of (rules_of kind) base (trace_of kind base steps);
-  graph = graph_is (rules_of kind) base (trace_of kind base steps);
-  holds = holds;
-}

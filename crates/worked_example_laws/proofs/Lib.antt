@@ -1,5 +1,6 @@
 pub mod Graphs
 pub mod ClosedSets
+pub mod QuickFaults
 pub mod FailingSets
 pub mod Sound
 pub mod Runs

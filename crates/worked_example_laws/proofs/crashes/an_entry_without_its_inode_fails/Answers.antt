@@ -2,14 +2,13 @@ use Rattle.std.proofs.Common.{refl}
 use Rattle.crash_model.specs.Disk.{overwrite}
 use Rattle.crash_model.specs.Lists.{each_below, some_below, first_below}
 use Rattle.crash_model.specs.Plan.{plan_of}
-use Rattle.crash_model.specs.Faults.{each_slot, each_entry, namers, entries_to, faults}
 use Rattle.worked_example_laws.proofs.FailingSets.{explored_if}
 use Rattle.worked_example_laws.proofs.crashes.an_entry_without_its_inode_fails.Goals as goal
 
 pub returns-clause-unordered : goal.returns-clause-unordered
-unfolding overwrite each_below some_below first_below plan_of each_slot each_entry namers entries_to faults
+unfolding overwrite each_below some_below first_below plan_of
 returns-clause-unordered c = explored_if _ _ _ _ _ refl
 
 pub returns-clause-soft : goal.returns-clause-soft
-unfolding overwrite each_below some_below first_below plan_of each_slot each_entry namers entries_to faults
+unfolding overwrite each_below some_below first_below plan_of
 returns-clause-soft c = explored_if _ _ _ _ _ refl

@@ -2,10 +2,9 @@ use Rattle.std.proofs.Common.{refl}
 use Rattle.crash_model.specs.Disk.{overwrite}
 use Rattle.crash_model.specs.Lists.{each_below, some_below, first_below}
 use Rattle.crash_model.specs.Plan.{plan_of}
-use Rattle.crash_model.specs.Faults.{each_slot, each_entry, namers, entries_to, faults}
 use Rattle.worked_example_laws.proofs.FailingSets.{explored_if}
 use Rattle.worked_example_laws.proofs.crashes.two_new_files_fail_wherever_an_entry_lacks_its_inode.Goals as goal
 
 pub returns : goal.returns
-unfolding overwrite each_below some_below first_below plan_of each_slot each_entry namers entries_to faults
+unfolding overwrite each_below some_below first_below plan_of
 returns c = explored_if _ _ _ _ _ refl

@@ -1,11 +1,12 @@
-use Rattle.std.proofs.Common.{refl}
+use Rattle.std.proofs.Common.{[], refl}
 use Rattle.crash_model.specs.Disk.{overwrite}
 use Rattle.crash_model.specs.Lists.{each_below, some_below, first_below}
 use Rattle.crash_model.specs.Plan.{plan_of}
-use Rattle.crash_model.specs.Faults.{each_slot, each_entry, namers, entries_to, faults}
+use Rattle.crash_model.specs.declared.modules.Module.TheVariants.{Full}
+use Rattle.worked_example_laws.specs.Examples.{fresh_with_journal, one_file}
 use Rattle.worked_example_laws.proofs.FailingSets.{explored_if}
 use Rattle.worked_journal_laws.proofs.full.a_full_journal_of_one_file_never_fails.Goals as goal
 
 pub returns : goal.returns
-unfolding overwrite each_below some_below first_below plan_of each_slot each_entry namers entries_to faults
-returns c = explored_if _ _ _ _ _ refl
+unfolding overwrite each_below some_below first_below plan_of
+returns c = explored_if Full fresh_with_journal one_file 9 [] refl

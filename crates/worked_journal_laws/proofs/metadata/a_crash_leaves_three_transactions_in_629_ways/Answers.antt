@@ -1,28 +1,27 @@
-use Rattle.std.proofs.Common.{refl}
+use Rattle.std.proofs.Common.{refl, arith, [], ◌∷◌}
 use Rattle.crash_model.specs.Disk.{overwrite}
 use Rattle.crash_model.specs.Lists.{each_below, some_below, first_below}
 use Rattle.crash_model.specs.Plan.{plan_of}
-use Rattle.crash_model.specs.Faults.{each_slot, each_entry, namers, entries_to, faults}
-use Rattle.std.proofs.Common.{[], ◌∷◌}
-use Rattle.worked_example_laws.proofs.FailingSets.{counted_if, counted_with_if}
+use Rattle.crash_model.specs.declared.modules.Module.TheVariants.{Meta}
+use Rattle.worked_example_laws.specs.Examples.{with_directory, reused_directory}
+use Rattle.worked_example_laws.proofs.FailingSets.{HasCounts, counts_if}
 use Rattle.worked_journal_laws.proofs.metadata.a_crash_leaves_three_transactions_in_629_ways.Goals as goal
 
+counts : HasCounts Meta with_directory reused_directory (2 ∷ 9 ∷ 17 ∷ []) (128 ∷ 160 ∷ 264 ∷ 77 ∷ []) 629
+unfolding overwrite each_below some_below first_below plan_of
+counts = counts_if Meta with_directory reused_directory (2 ∷ 9 ∷ 17 ∷ []) (128 ∷ 160 ∷ 264 ∷ 77 ∷ []) 629 refl
+
 pub returns-clause-none : goal.returns-clause-none
-unfolding overwrite each_below some_below first_below plan_of each_slot each_entry namers entries_to faults
-returns-clause-none c = counted_with_if _ _ _ (2 ∷ 9 ∷ 17 ∷ []) _ _ refl refl
+returns-clause-none c = counts.each 0 (omega arith)
 
 pub returns-clause-first : goal.returns-clause-first
-unfolding overwrite each_below some_below first_below plan_of each_slot each_entry namers entries_to faults
-returns-clause-first c = counted_with_if _ _ _ (2 ∷ 9 ∷ 17 ∷ []) _ _ refl refl
+returns-clause-first c = counts.each 1 (omega arith)
 
 pub returns-clause-two : goal.returns-clause-two
-unfolding overwrite each_below some_below first_below plan_of each_slot each_entry namers entries_to faults
-returns-clause-two c = counted_with_if _ _ _ (2 ∷ 9 ∷ 17 ∷ []) _ _ refl refl
+returns-clause-two c = counts.each 2 (omega arith)
 
 pub returns-clause-three : goal.returns-clause-three
-unfolding overwrite each_below some_below first_below plan_of each_slot each_entry namers entries_to faults
-returns-clause-three c = counted_with_if _ _ _ (2 ∷ 9 ∷ 17 ∷ []) _ _ refl refl
+returns-clause-three c = counts.each 3 (omega arith)
 
 pub returns-clause-all : goal.returns-clause-all
-unfolding overwrite each_below some_below first_below plan_of each_slot each_entry namers entries_to faults
-returns-clause-all c = counted_if _ _ _ _ refl refl
+returns-clause-all c = counts.all

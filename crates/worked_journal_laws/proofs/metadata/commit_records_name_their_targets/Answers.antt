@@ -2,10 +2,9 @@ use Rattle.std.proofs.Common.{refl}
 use Rattle.crash_model.specs.Disk.{overwrite}
 use Rattle.crash_model.specs.Lists.{each_below, some_below, first_below}
 use Rattle.crash_model.specs.Plan.{plan_of}
-use Rattle.crash_model.specs.Faults.{each_slot, each_entry, namers, entries_to, faults}
 use Rattle.worked_example_laws.proofs.FailingSets.{graph_if}
 use Rattle.worked_journal_laws.proofs.metadata.commit_records_name_their_targets.Goals as goal
 
 pub returns : goal.returns
-unfolding overwrite each_below some_below first_below plan_of each_slot each_entry namers entries_to faults
-returns c = graph_if _ _ _ _ refl refl
+unfolding overwrite each_below some_below first_below plan_of
+returns c = graph_if _ _ _ _ _ refl
