@@ -67,13 +67,7 @@ where
         × (string_bytes out.new ≡ text_report report.now.settings.now (whole_of report.now body))) }
 {
     let patches = report.traced.graph().len();
-    write_head(
-        out,
-        report.settings,
-        patches,
-        report.closed,
-        report.failing,
-    )?;
+    write_head(out, report.settings, patches, report.closed, report.failing)?;
     write_explanation(out, report)?;
     match report.body {
         Body::Sets(sets) => write_together(out, rt, report, sets, workers)?,

@@ -145,13 +145,6 @@ abbrev pub Explored : Module → Disk → List Step → ℕ → List ℕ → Typ
 Explored kind base steps closed failing =
     HasGraph kind base steps (λ patches. CountsClosed patches closed × AreAllInOrder (IsFailing base patches) failing)
 
--- the same as a test
-abbrev pub explores : Module → Disk → List Step → ℕ → List ℕ → Bool
-explores kind base steps closed failing =
-    let patches = graph_of (rules_of kind) base (trace_of kind base steps) in
-    is_accepted (trace_from kind (trace_start base) steps) && ((length (closed_sets (deps_of patches)) == closed)
-    && are_in_order (length (deps_of patches)) failing (failing_sets base patches))
-
 -- so many closed sets have exactly `many` of these ids
 abbrev pub CountsWith : List Patch → List ℕ → ℕ → ℕ → Type 0
 CountsWith patches ids many count =
@@ -166,10 +159,6 @@ abbrev pub new_bytes : List Patch → ℕ → List ℕ
 new_bytes [] id = []
 new_bytes (p ∷ ps) zero = p.new.items
 new_bytes (p ∷ ps) (suc id) = new_bytes ps id
-
--- none of these sets fails
-abbrev pub none_fails : Disk → List Patch → List ℕ → Bool
-none_fails base patches some = list_all (λ set. not (fails base patches set)) some
 
 -- ---- sound images
 

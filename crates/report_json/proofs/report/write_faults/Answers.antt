@@ -11,7 +11,7 @@ pub write_fault-requires : goal.write_fault-requires
 write_fault-requires g c =
     let rows = c.args.rows.now in
     subst (λ (m : Reported). IsClosed (deps_of m.patches) (get_or rows c.loop-at.at no_row).first) (sym c.loop-at.invariant.of_report)
-        (first_closed c.args.report.now.traced.now.patches rows c.loop-at.at c.requires.closed c.loop-at-test.true)
+    (first_closed c.args.report.now.traced.now.patches rows c.loop-at.at c.requires.closed c.loop-at-test.true)
 
 pub loop-at-preserved : goal.loop-at-preserved
 loop-at-preserved g c =

@@ -11,7 +11,7 @@ pub write_fault-requires : goal.write_fault-requires
 write_fault-requires g c =
     let rows = c.args.rows.now in
     subst (λ (m : Reported). IsClosed (deps_of m.patches) (get_or rows c.loop-row.row-index no_row).first) (sym c.loop-row.invariant.of_report)
-        (first_closed c.args.report.now.traced.now.patches rows c.loop-row.row-index c.requires.closed c.loop-row-test.true)
+    (first_closed c.args.report.now.traced.now.patches rows c.loop-row.row-index c.requires.closed c.loop-row-test.true)
 
 pub loop-row-preserved : goal.loop-row-preserved
 loop-row-preserved g c =
