@@ -1,40 +1,43 @@
-use Rattle.std.proofs.Common.{◌<◌, length, arith, sym, subst}
-use Rattle.std.specs.List.{All}
+use Rattle.std.proofs.Common.{subst}
+use Rattle.std.specs.Prelude.{IfSome}
 use Rattle.std.proofs.lemmas.List.Elements.{All-nil, All-push}
+use Rattle.std.proofs.lemmas.Result.{err_from_is_err_and}
 use Rattle.set_sweep.specs.Sweeps.{IsDone}
-use Rattle.set_sweep.proofs.together.draw_parts.Goals as goal
+use Rattle.set_sweep.proofs.together.Sweeping.draw_parts.Goals as goal
 
 pub loop-init : goal.loop-init
 loop-init g c =
-    let deps = c.args.sweeper.now.deps.now in
-    let tells = g.V.Visitor.tells c.args.sweeper.now.visitor.now in
+    let self = c.args.self.now in
+    let sweeper = self.sweeper.now in
     record {
       own = c.requires.own;
-      done = subst (All (IsDone tells deps c.args.low c.args.roots.now)) (sym c.new-all.ensures.items)
-          (All-nil (IsDone tells deps c.args.low c.args.roots.now));
+      done = rw c.new-all.ensures.items (All-nil (IsDone (g.V.Visitor.tells sweeper.visitor.now) sweeper.deps.now self.low self.roots.now));
     }
 
-pub sweep_part-requires-clause-known : goal.sweep_part-requires-clause-known
-sweep_part-requires-clause-known g c = c.requires.known
+pub draw_part-requires-clause-known : goal.draw_part-requires-clause-known
+draw_part-requires-clause-known g c = c.requires.known
 
-pub sweep_part-requires-clause-root : goal.sweep_part-requires-clause-root
-sweep_part-requires-clause-root g c = c.requires.parts.each c.fetch_add-at.result 0 (omega (arith, c.if-at-roots.false))
+pub draw_part-requires-clause-parts : goal.draw_part-requires-clause-parts
+draw_part-requires-clause-parts g c = c.requires.parts
 
-pub sweep_part-requires-clause-lawful : goal.sweep_part-requires-clause-lawful
-sweep_part-requires-clause-lawful g c = c.requires.lawful
+pub draw_part-requires-clause-lawful : goal.draw_part-requires-clause-lawful
+draw_part-requires-clause-lawful g c = c.requires.lawful
 
-pub sweep_part-requires-clause-own : goal.sweep_part-requires-clause-own
-sweep_part-requires-clause-own g c = c.loop.invariant.own
+pub draw_part-requires-clause-own : goal.draw_part-requires-clause-own
+draw_part-requires-clause-own g c = c.loop.invariant.own
 
 pub loop-preserved : goal.loop-preserved
 loop-preserved g c =
-    let deps = c.args.sweeper.now.deps.now in
-    let tells = g.V.Visitor.tells c.args.sweeper.now.visitor.now in
-    let roots = c.args.roots.now in
-    let inside : c.fetch_add-at.result < length roots = omega (arith, c.if-at-roots.false) in
+    let self = c.args.self.now in
+    let sweeper = self.sweeper.now in
+    let done = IsDone (g.V.Visitor.tells sweeper.visitor.now) sweeper.deps.now self.low self.roots.now in
     record {
-      own = c.in_ok-part.ensures.own;
-      done = subst (All (IsDone tells deps c.args.low roots)) (sym c.in_ok-push.ensures.items)
-          (All-push (IsDone tells deps c.args.low roots) c.loop.all.items _ c.loop.invariant.done
-          record { known = inside; swept = c.in_ok-part.ensures.swept });
+      own = c.in_ok-done.ensures.own;
+      done = rw c.in_ok-push.ensures.items (All-push done c.loop.all.items c.in-Some.done c.loop.invariant.done (subst (λ drawn. IfSome drawn done) c.in-Some.is c.in_ok-done.ensures.done));
     }
+
+pub returns-clause-done : goal.returns-clause-done
+returns-clause-done g c = c.loop.invariant.done
+
+pub returns-in_err-done-clause-too_many : goal.returns-in_err-done-clause-too_many
+returns-in_err-done-clause-too_many g c = let p = err_from_is_err_and c.from_residual.result c.from_residual.ensures.1 in rw (p.1, p.2) (λ is. c.in_err-done.ensures.too_many cc)
