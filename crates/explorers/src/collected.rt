@@ -3,6 +3,7 @@ ghost use Rattle.std.specs.Prelude.{◌≡◌, ℕ, ◌+◌, ◌<◌, ◌≤◌,
 ghost use Rattle.std.specs.List.{concat};
 ghost use Rattle.state_space.specs.Counts.{IsListOf};
 ghost use Rattle.patch_sets.specs.Explored.{IsExplored, ReachExceeds};
+ghost use Rattle.seen_board.specs.Clauses.{HasPlace};
 ghost use Rattle.seen_board.specs.Ended.{Entries, Settled, Done};
 ghost use Rattle.explorers.specs.Entries.{IsBrokenBefore, AreDistinct, AreShort};
 
@@ -82,10 +83,25 @@ fn push_broken<A: Allocator>(
     ensures { OnOk result (IsListOf (IsBrokenBefore contents.now (shard + 1) 0) broken.new.items) }
 {
     for at in 0..contents.len(shard) as u16 {
-        let place = Place { shard, at };
-        if let Life::Broken = contents.life(place) {
-            broken.push(contents.word(place))?;
-        }
+        push_if_broken(contents, Place { shard, at }, broken)?;
+    }
+    Ok(())
+}
+
+/// Puts the word of an entry at the end if the entry is broken.
+fn push_if_broken<A: Allocator>(
+    contents: &Contents<A>,
+    place: Place,
+    broken: &mut Vec<u128, A>,
+) -> Result<(), AllocError>
+    requires place { HasPlace contents.now.rows place }
+    requires distinct { AreDistinct contents.now.rows }
+    requires short { AreShort contents.now.rows }
+    requires before { IsListOf (IsBrokenBefore contents.now place.shard place.at) broken.old.items }
+    ensures { OnOk result (IsListOf (IsBrokenBefore contents.now place.shard (place.at + 1)) broken.new.items) }
+{
+    if let Life::Broken = contents.life(place) {
+        broken.push(contents.word(place))?;
     }
     Ok(())
 }

@@ -1,6 +1,8 @@
 //! Expanding what was claimed.
-ghost use Rattle.std.specs.Prelude.{◌≡◌, ◌≢◌, IfOk, OnOk};
-ghost use Rattle.seen_board.specs.Clauses.{HasClaim, HasPlace, SeesOn};
+ghost use Rattle.std.specs.Prelude.{◌≡◌, ◌≢◌, ℕ, IfOk, OnOk};
+ghost use Rattle.std.specs.List.{Contains};
+ghost use Rattle.board_rule.specs.Lists.{Has};
+ghost use Rattle.seen_board.specs.Clauses.{HasClaim, HasPlace, SeesOn, word_at};
 ghost use Rattle.seen_board.specs.Inserts.{IsSuccessor};
 ghost use Rattle.explorers.specs.Ready.{IsFree, IsReady, PutsIn};
 ghost use Rattle.explorers.specs.declared.exploration.Turn.TheVariants as turn;
@@ -51,11 +53,13 @@ impl<S: Space, G: Gate, A: Allocator + Copy> Exploration<'_, S, G, A> {
         }
         let word = self.board.at(&mut mine.seat, place);
         self.gate.claimed(mine.number, word);
-        let turn = self.expand(rt, mine, place);
-        if turn.is_err() {
-            self.board.stop(&mut mine.seat);
+        match self.expand(rt, mine, place) {
+            Ok(turn) => Ok(turn),
+            Err(refused) => {
+                self.board.stop(&mut mine.seat);
+                Err(refused)
+            }
         }
-        turn
     }
 
     /// Puts the successors of a claimed entry in, in the order of the list, judges it and settles it.
@@ -79,9 +83,30 @@ impl<S: Space, G: Gate, A: Allocator + Copy> Exploration<'_, S, G, A> {
                 return Ok(Turn::Over);
             }
         }
+        self.judge(mine, place, word)?;
+        Ok(Turn::Within)
+    }
+
+    /// Judges the word of a claimed entry, of which all successors are in, and settles the entry.
+    fn judge(
+        &self,
+        mine: &mut Worker<S::Scratch, A>,
+        place: Place,
+        word: u128,
+    ) -> Result<(), AllocError>
+        requires free { IsFree self.now.board.now self.now.space.now S.is_own mine.old }
+        requires claim { HasClaim mine.old.seat place × HasPlace mine.old.seat.seen place }
+        requires word { word ≡ word_at mine.old.seat.seen place }
+        requires lawful { S.is_lawful self.now.space.now word }
+        requires successors { (next : ℕ) → Contains (S.successors self.now.space.now word) next
+            → Has mine.old.seat.seen next }
+        ensures free { IsFree self.now.board.now self.now.space.now S.is_own mine.new }
+        ensures seen { mine.new.seat.seen ≡ mine.old.seat.seen }
+        ensures ended { OnOk result (mine.new.seat.claims ≡ 0) }
+    {
         let good = self.space.judge(&mut mine.scratch, word)?;
         self.board.settle(&mut mine.seat, place, good);
-        Ok(Turn::Within)
+        Ok(())
     }
 
     /// Puts a successor of the claimed entry in unless it was met, and makes a task of it if it is new.

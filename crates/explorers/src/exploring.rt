@@ -5,7 +5,7 @@ ghost use Rattle.state_space.specs.Reach.{IsReached};
 ghost use Rattle.board_rule.specs.Lists.{Has};
 ghost use Rattle.board_rule.specs.Rule.{Overfills};
 ghost use Rattle.patch_sets.specs.Explored.{IsExplored, ReachExceeds};
-ghost use Rattle.explorers.specs.Ready.{IsIdle, IsReady};
+ghost use Rattle.explorers.specs.Ready.{IsIdle, IsReady, IsLeft};
 
 use crate::answers::{answer, join_all};
 use crate::exploration::Exploration;
@@ -98,20 +98,51 @@ where
     ensures too_many { IsErrOf result ExploreFault.TooMany
         → Overfills (IsReached (S.successors space.now) (S.initial space.now)) room.limit room.places }
 {
-    let (board, mut seat, place) = Board::open_with_rows(alloc, space, room.limit, room.places)?;
+    let (board, seat, place) = Board::open_with_rows(alloc, space, room.limit, room.places)?;
     let hands = first_hands(alloc, space, place, workers)?;
-    let ready = new_workers(alloc, &board, space, &mut seat, hands)?;
-    let before = Left {
-        seat,
-        is_over: false,
-    };
     let exploration = Exploration {
         board: &board,
         space,
         gate,
     };
-    let left = join_all(&board, before, share(rt, &exploration, ready)?);
+    let left = work_all(rt, alloc, &exploration, seat, hands)?;
     answer(alloc, space, room, board, left)
+}
+
+/// Lets a worker work for each hand, and joins what they leave to the seat.
+fn work_all<R, A, S, G>(
+    rt: &R,
+    alloc: A,
+    exploration: &Exploration<'_, S, G, A>,
+    mut seat: BoardSeat,
+    hands: Vec<Hand<Task, A>, A>,
+) -> Result<Left, AllocError>
+where
+    R: Threads + Wait + Sync,
+    A: Allocator + Copy + Send + Sync,
+    S: Space + Sync,
+    S::Scratch: Send,
+    G: Gate + Sync,
+    requires space { exploration.now.board.now.space ≡ exploration.now.space.now }
+    requires idle { IsIdle exploration.now.board.now seat }
+    requires start { Has seat.seen (S.initial exploration.now.space.now) }
+    requires few { length hands.items ≤ 16 }
+    requires ways { All (λ hand. length hand.ways ≡ length hands.items) hands.items }
+    ensures { IfOk result (IsLeft exploration.now.board.now) }
+{
+    let workers = new_workers(
+        alloc,
+        exploration.board,
+        exploration.space,
+        &mut seat,
+        hands,
+    )?;
+    let left = share(rt, exploration, workers)?;
+    let before = Left {
+        seat,
+        is_over: false,
+    };
+    Ok(join_all(exploration.board, before, left))
 }
 
 /// A hand for each worker. The first has the initial word, which stands at the place, as its task.
@@ -154,13 +185,29 @@ fn new_workers<S: Space, A: Allocator + Copy>(
     let count = hands.len();
     let mut workers = Vec::new(alloc);
     while let Some(hand) = hands.pop() {
-        let own = hands.len();
-        let scratch = space.scratch()?;
-        let seat = board.split(seat);
-        let tasks = Tasks::new(hand, own, count);
-        let met = Met::new(alloc, space.start(), board.limit().min(MOST_MET))?;
-        let worker = Worker::new(own + 1, seat, scratch, tasks, met);
+        let tasks = Tasks::new(hand, hands.len(), count);
+        let worker = new_worker(alloc, board, space, seat, tasks)?;
         workers.push(worker)?;
     }
     Ok(workers)
+}
+
+/// A worker with these tasks, and with a seat that is split off and has seen the initial word.
+fn new_worker<S: Space, A: Allocator + Copy>(
+    alloc: A,
+    board: &Board<S, A>,
+    space: &S,
+    seat: &mut BoardSeat,
+    tasks: Tasks<A>,
+) -> Result<Worker<S::Scratch, A>, AllocError>
+    requires space { board.now.space ≡ space.now }
+    requires idle { IsIdle board.now seat.old }
+    requires start { Has seat.old.seen (S.initial space.now) }
+    ensures idle { IsIdle board.now seat.new }
+    ensures seen { seat.new.seen ≡ seat.old.seen }
+    ensures ready { IfOk result (IsReady board.now space.now S.is_own) }
+{
+    let scratch = space.scratch()?;
+    let met = Met::new(alloc, space.start(), board.limit().min(MOST_MET))?;
+    Ok(Worker::new(board.split(seat), scratch, tasks, met))
 }

@@ -46,6 +46,11 @@ impl<A: Allocator> Tasks<A> {
         Tasks { hand, own, workers }
     }
 
+    /// The worker's number, from 1.
+    pub fn number(&self) -> usize {
+        self.own + 1
+    }
+
     /// Puts a task at the back of the worker's own deque, or hands it back where the deque cannot grow.
     pub fn push(&mut self, task: Task) -> Result<(), Task>
         ensures { MatchResult result

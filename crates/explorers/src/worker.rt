@@ -9,7 +9,7 @@ use crate::jobs::Job;
 use crate::met::Met;
 use crate::stealing::learn;
 use crate::tasks::Tasks;
-use seen_board::BoardSeat;
+use seen_board::{BoardSeat, Place};
 use state_space::Space;
 use std::alloc::{AllocError, Allocator};
 use std::sync::Wait;
@@ -33,20 +33,14 @@ pub(crate) struct Worker<C, A: Allocator> {
 
 impl<C, A: Allocator> Worker<C, A> {
     /// A worker that has tried nothing.
-    pub fn new(
-        number: usize,
-        seat: BoardSeat,
-        scratch: C,
-        tasks: Tasks<A>,
-        met: Met<A>,
-    ) -> Worker<C, A>
+    pub fn new(seat: BoardSeat, scratch: C, tasks: Tasks<A>, met: Met<A>) -> Worker<C, A>
         ensures seat { result.seat ≡ seat }
         ensures scratch { result.scratch ≡ scratch }
         ensures tasks { result.tasks ≡ tasks }
         ensures met { result.met ≡ met }
     {
         Worker {
-            number,
+            number: tasks.number(),
             seat,
             scratch,
             tasks,
@@ -102,16 +96,26 @@ impl<S: Space, G: Gate, A: Allocator + Copy> Exploration<'_, S, G, A> {
         if self.board.stopped(&mut mine.seat) {
             return Ok(Turn::Ended);
         }
+        match self.next_place(rt, mine) {
+            Some(place) => {
+                mine.empty_rounds = 0;
+                self.take(rt, mine, place)
+            }
+            None => self.pass(rt, mine),
+        }
+    }
+
+    /// The place of the newest of its own tasks, else of the oldest of another worker's, whose entry it looks for.
+    fn next_place<R: Wait>(&self, rt: &R, mine: &mut Worker<S::Scratch, A>) -> Option<Place>
+        requires ready { IsReady self.now.board.now self.now.space.now S.is_own mine.old }
+        ensures ready { IsReady self.now.board.now self.now.space.now S.is_own mine.new }
+    {
         if let Some(task) = mine.tasks.pop() {
-            mine.empty_rounds = 0;
-            return self.take(rt, mine, task.place);
+            return Some(task.place);
         }
-        if let Some(task) = mine.tasks.steal() {
-            mine.empty_rounds = 0;
-            learn(rt, self.board, &mut mine.seat, task.word);
-            return self.take(rt, mine, task.place);
-        }
-        self.pass(rt, mine)
+        let task = mine.tasks.steal()?;
+        learn(rt, self.board, &mut mine.seat, task.word);
+        Some(task.place)
     }
 
     /// Passes a round in which all deques were found empty, and searches the rows in the last of many.

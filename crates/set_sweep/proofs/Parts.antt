@@ -213,6 +213,18 @@ module _ {T : Type 0} (tells : List ℕ → T → Type 0) (deps : List ℕ) (low
         (placed i d (omega (arith, lt, length-set places at (Some part))))
   ]
 
+  -- and where a place is made empty
+  pub placed_taken : (places : List (Option (Part T))) (at : ℕ) → ArePlaced tells deps low roots places
+      → ArePlaced tells deps low roots (set places at None)
+  placed_taken places at placed i d lt =
+      let long = length-set places at None in elim (eq_or_not i at) [
+        | inl e ↦ subst (λ o. IfSome o (λ p. IsPartSwept tells deps low (get_or roots i 0) p.total p.tally))
+            (sym (subst (λ n. get_or (set places at None) n d ≡ None) (sym e) (get_or-set_same places at None d (omega (arith, lt, long, e)))))
+            tt
+        | inr ne ↦ subst (λ o. IfSome o (λ p. IsPartSwept tells deps low (get_or roots i 0) p.total p.tally)) (sym (get_or-set_other places at i None d ne))
+            (placed i d (omega (arith, lt, long)))
+      ]
+
   -- What was visited of some parts still has to be put to its place, and what is at a place was visited of the part
   -- there.
   pub record IsPlacing (left : List (Done T)) (places : List (Option (Part T))) : Type 0 where

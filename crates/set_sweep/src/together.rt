@@ -1,5 +1,5 @@
 //! The sweep of many workers.
-ghost use Rattle.std.specs.Prelude.{◌≡◌, ℕ, ◌<◌, ◌≤◌, ◌^◌, false, length, IfOk, IsErrOf};
+ghost use Rattle.std.specs.Prelude.{◌≡◌, ℕ, ◌<◌, ◌≤◌, ◌^◌, false, length, IfOk, IfSome, OnOk, IsErrOf};
 ghost use Rattle.std.specs.List.{All};
 ghost use Rattle.state_space.specs.Counts.{Outnumbers};
 ghost use Rattle.patch_sets.specs.Closed.{AreEarlier, IsClosed};
@@ -170,52 +170,82 @@ impl<'a, V: Visitor, A: Allocator + Copy> Job for Sweeping<'a, V, A> {
         × (IsErrOf left fault.TooMany → Outnumbers (IsClosed j.sweeper.now.deps.now) j.sweeper.now.limit) };
 
     fn work(&self, scratch: V::Scratch) -> Result<Vec<Done<V::Tally>, A>, ExploreFault> {
-        draw_parts(
-            self.alloc,
-            self.sweeper,
-            self.low,
-            self.roots,
-            self.next,
-            self.seen,
-            scratch,
-        )
+        self.draw_parts(scratch)
     }
 }
 
-/// Draws one part after another by their places, and sweeps over it. It stops where more sets than the limit were
-/// seen.
-fn draw_parts<A: Allocator + Copy, V: Visitor>(
-    alloc: A,
-    sweeper: &Sweeper<'_, V>,
-    low: usize,
-    roots: &[u128],
-    next: &AtomicUsize,
-    seen: &AtomicUsize,
-    mut scratch: V::Scratch,
-) -> Result<Vec<Done<V::Tally>, A>, ExploreFault>
-    requires known { low ≤ length sweeper.now.deps.now }
-    requires parts { AreParts sweeper.now.deps.now low (2 ^ length sweeper.now.deps.now) roots.now }
-    requires lawful { (set : ℕ) → IsClosed sweeper.now.deps.now set → V.is_lawful sweeper.now.visitor.now set }
-    requires own { V.is_own sweeper.now.visitor.now scratch }
-    ensures done { IfOk result (λ all.
-        All (IsDone (V.tells sweeper.now.visitor.now) sweeper.now.deps.now low roots.now) all.items) }
-    ensures too_many { IsErrOf result ExploreFault.TooMany
-        → Outnumbers (IsClosed sweeper.now.deps.now) sweeper.now.limit }
-{
-    let mut all = Vec::new(alloc);
-    for _ in 0..roots.len() {
-        let at = next.fetch_add(1, Ordering::SeqCst);
-        if at >= roots.len() {
-            break;
+impl<V: Visitor, A: Allocator + Copy> Sweeping<'_, V, A> {
+    /// Draws one part after another and sweeps over it, until none is left or more sets than the limit were seen.
+    fn draw_parts(&self, mut scratch: V::Scratch) -> Result<Vec<Done<V::Tally>, A>, ExploreFault>
+        requires known { self.now.low ≤ length self.now.sweeper.now.deps.now }
+        requires parts { AreParts self.now.sweeper.now.deps.now self.now.low (2 ^ length self.now.sweeper.now.deps.now)
+            self.now.roots.now }
+        requires lawful { (set : ℕ) → IsClosed self.now.sweeper.now.deps.now set
+            → V.is_lawful self.now.sweeper.now.visitor.now set }
+        requires own { V.is_own self.now.sweeper.now.visitor.now scratch }
+        ensures done { IfOk result (λ all. All (IsDone (V.tells self.now.sweeper.now.visitor.now)
+            self.now.sweeper.now.deps.now self.now.low self.now.roots.now) all.items) }
+        ensures too_many { IsErrOf result ExploreFault.TooMany
+            → Outnumbers (IsClosed self.now.sweeper.now.deps.now) self.now.sweeper.now.limit }
+    {
+        let mut all = Vec::new(self.alloc);
+        for _ in 0..self.roots.len() {
+            let Some(done) = self.draw_part(&mut scratch)? else {
+                break;
+            };
+            all.push(done)?;
         }
-        if seen.load(Ordering::SeqCst) > sweeper.limit {
-            break;
-        }
-        let part = sweeper.sweep_part(&mut scratch, low, roots[at])?;
-        seen.fetch_add(part.total, Ordering::SeqCst);
-        all.push(Done { at, part })?;
+        Ok(all)
     }
-    Ok(all)
+
+    /// Draws the next part by its place, and sweeps over it. `None` says that none is left, or that more sets than the
+    /// limit were seen.
+    fn draw_part(&self, scratch: &mut V::Scratch) -> Result<Option<Done<V::Tally>>, ExploreFault>
+        requires known { self.now.low ≤ length self.now.sweeper.now.deps.now }
+        requires parts { AreParts self.now.sweeper.now.deps.now self.now.low (2 ^ length self.now.sweeper.now.deps.now)
+            self.now.roots.now }
+        requires lawful { (set : ℕ) → IsClosed self.now.sweeper.now.deps.now set
+            → V.is_lawful self.now.sweeper.now.visitor.now set }
+        requires own { V.is_own self.now.sweeper.now.visitor.now scratch.old }
+        ensures own { OnOk result (V.is_own self.now.sweeper.now.visitor.now scratch.new) }
+        ensures done { IfOk result (λ drawn. IfSome drawn (IsDone (V.tells self.now.sweeper.now.visitor.now)
+            self.now.sweeper.now.deps.now self.now.low self.now.roots.now)) }
+        ensures too_many { IsErrOf result ExploreFault.TooMany
+            → Outnumbers (IsClosed self.now.sweeper.now.deps.now) self.now.sweeper.now.limit }
+    {
+        let at = self.next.fetch_add(1, Ordering::SeqCst);
+        if at >= self.roots.len() {
+            return Ok(None);
+        }
+        if self.seen.load(Ordering::SeqCst) > self.sweeper.limit {
+            return Ok(None);
+        }
+        let part = self.sweeper.sweep_part(scratch, self.low, self.roots[at])?;
+        self.seen.fetch_add(part.total, Ordering::SeqCst);
+        Ok(Some(Done { at, part }))
+    }
+
+    /// What all workers left, together.
+    fn join_lefts(
+        &self,
+        mut lefts: Vec<Result<Vec<Done<V::Tally>, A>, ExploreFault>, A>,
+    ) -> Result<Vec<Done<V::Tally>, A>, ExploreFault>
+        requires { All (λ left. IfOk left (λ all. All (IsDone (V.tells self.now.sweeper.now.visitor.now)
+            self.now.sweeper.now.deps.now self.now.low self.now.roots.now) all.items)
+            × (IsErrOf left ExploreFault.TooMany
+            → Outnumbers (IsClosed self.now.sweeper.now.deps.now) self.now.sweeper.now.limit)) lefts.items }
+        ensures done { IfOk result (λ all. All (IsDone (V.tells self.now.sweeper.now.visitor.now)
+            self.now.sweeper.now.deps.now self.now.low self.now.roots.now) all.items) }
+        ensures too_many { IsErrOf result ExploreFault.TooMany
+            → Outnumbers (IsClosed self.now.sweeper.now.deps.now) self.now.sweeper.now.limit }
+    {
+        let mut all = Vec::new(self.alloc);
+        while let Some(left) = lefts.pop() {
+            let mut left = left?;
+            all.append(&mut left)?;
+        }
+        Ok(all)
+    }
 }
 
 /// The workers sweep over the parts side by side.
@@ -252,11 +282,6 @@ where
         seen: &seen,
         alloc,
     };
-    let mut lefts = share(rt, &sweeping, scratches)?;
-    let mut all = Vec::new(alloc);
-    while let Some(left) = lefts.pop() {
-        let mut left = left?;
-        all.append(&mut left)?;
-    }
-    Ok(all)
+    let lefts = share(rt, &sweeping, scratches)?;
+    sweeping.join_lefts(lefts)
 }

@@ -1,4 +1,6 @@
 use Rattle.std.proofs.Common.{arith}
+use Rattle.std.proofs.lemmas.Result.{err_from_is_err_and}
+use Rattle.set_sweep.proofs.Lists.{sweep_counts}
 use Rattle.fault_summary.proofs.Prevented.{failing_count, first_prevented}
 use Rattle.fault_summary.proofs.count.sweep_count.Goals as goal
 
@@ -9,3 +11,9 @@ returns-clause-failing g c = failing_count c.args.visitor.now _ _ _ c.requires.d
 pub returns-clause-first : goal.returns-clause-first
 returns-clause-first g c = first_prevented c.args.visitor.now _ _ _ c.requires.deps c.in_ok-swept.ensures.swept
     (omega (arith, c.in_ok-swept.ensures.within, c.ranges.limit.fits))
+
+pub returns-clause-total : goal.returns-clause-total
+returns-clause-total g c = rw (← c.requires.deps) (sweep_counts _ _ _ _ c.in_ok-swept.ensures.swept)
+
+pub returns-in_err-swept-clause-too_many : goal.returns-in_err-swept-clause-too_many
+returns-in_err-swept-clause-too_many g c = let p = err_from_is_err_and c.from_residual.result c.from_residual.ensures.1 in rw (p.1, p.2) (λ is. rw (← c.requires.deps) (c.in_err-swept.ensures.too_many cc))

@@ -1,6 +1,8 @@
 use Rattle.std.proofs.Common.{◌<◌, ◌^◌, ℕ, List, length, arith, subst}
+use Rattle.std.proofs.lemmas.Result.{err_from_is_err_and}
 use Rattle.patch_sets.specs.Closed.{IsClosed}
 use Rattle.set_sweep.specs.Sweeps.{IsAscendingListOf}
+use Rattle.set_sweep.proofs.Lists.{sweep_counts}
 use Rattle.fault_summary.proofs.Swept.{failing_sets, swept_rows}
 use Rattle.fault_summary.proofs.tally.sweep_faults.Goals as goal
 
@@ -17,3 +19,9 @@ returns-clause-rows g c =
     let short : length all.sets < 2 ^ 64 = omega (arith, all.counted, c.in_ok-swept.ensures.within, c.ranges.limit.fits) in
     swept_rows c.args.visitor.now.base c.args.visitor.now.patches all.sets (subst (λ (ds : List ℕ). IsAscendingListOf (IsClosed ds) all.sets) c.requires.deps all.closed)
     c.args.visitor.now.kept c.in_ok-swept.swept.tally.failing c.in_ok-swept.swept.tally.summary short all.told c.into_rows.result.items c.into_rows.ensures.same c.into_rows.ensures.ordered
+
+pub returns-clause-total : goal.returns-clause-total
+returns-clause-total g c = rw (← c.requires.deps) (sweep_counts _ _ _ _ c.in_ok-swept.ensures.swept)
+
+pub returns-in_err-swept-clause-too_many : goal.returns-in_err-swept-clause-too_many
+returns-in_err-swept-clause-too_many g c = let p = err_from_is_err_and c.from_residual.result c.from_residual.ensures.1 in rw (p.1, p.2) (λ is. rw (← c.requires.deps) (c.in_err-swept.ensures.too_many cc))

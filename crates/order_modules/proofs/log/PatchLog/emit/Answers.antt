@@ -1,9 +1,10 @@
 use Rattle.std.proofs.Common.{◌≡◌, ◌<◌, ◌++◌, [], ◌∷◌, ℕ, List, length, arith, ◌∙◌, ap}
+use Rattle.std.proofs.lemmas.Result.{err_from_is_err_and}
 use Rattle.std.proofs.lemmas.Option.{slice_get_within}
 use Rattle.crash_model.specs.Patches.{place}
 use Rattle.crash_model.specs.declared.patches.Patch.{Patch}
 use Rattle.traced_patches.specs.Labels.{links_by, emitted_at}
-use Rattle.order_modules.specs.Log.{Log}
+use Rattle.order_modules.specs.Log.{Log, log_of}
 use Rattle.traced_patches.specs.declared.labels.Label.{Label}
 use Rattle.order_modules.proofs.Emitting.{written_blocks, emit_fields, emitted_new, waits_read, undo_read, put_read}
 use Rattle.order_modules.proofs.log.PatchLog.emit.Goals as goal
@@ -55,4 +56,27 @@ returns-clause-ok g c =
           emitted_new i.base.now i.written i.ordering.now.module i.ordering.now.rules.items (links_by i.links.items) i.labels.items c.args.label i.graph patch ok.0 c.push-2.new.self c.push.new.self.items c.self.invariant.1 ok.1 ok.2 c.in_ok-push.ensures.items
           ∙ ap (λ (l : Log). l.emitted ++ emitted_at (place c.args.block c.args.offset c.bytes_of.result.items) c.args.label ∷ []) c.self.view_is
           ∙ ap (λ (xs : List ℕ). c.args.self.now.emitted ++ emitted_at (place c.args.block c.args.offset xs) c.args.label ∷ []) c.bytes_of.ensures;
+    }
+
+pub returns-clause-kept : goal.returns-clause-kept
+returns-clause-kept g c = record {
+  base = ap (λ (l : Log). l.base) c.self.view_is;
+  kind = ap (λ (l : Log). l.kind) c.self.view_is;
+  rules = ap (λ (l : Log). l.rules) c.self.view_is;
+}
+
+pub returns-in_err-push : goal.returns-in_err-push
+returns-in_err-push g c =
+    let i = c.self.inside in
+    let failed = err_from_is_err_and c.from_residual.result c.from_residual.ensures.1 in
+    let same : log_of i.base.now i.written i.ordering.now i.graph c.push.new.self.items i.links.items ≡ c.args.self.now =
+    ap (λ (ls : List Label). log_of i.base.now i.written i.ordering.now i.graph ls i.links.items) c.in_err-push.ensures.items ∙ c.self.view_is in
+    record {
+      ok = rw failed.1 tt;
+      err = rw failed.1 same;
+      kept = record {
+        base = ap (λ (l : Log). l.base) c.self.view_is;
+        kind = ap (λ (l : Log). l.kind) c.self.view_is;
+        rules = ap (λ (l : Log). l.rules) c.self.view_is;
+      };
     }

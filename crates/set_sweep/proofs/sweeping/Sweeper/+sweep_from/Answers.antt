@@ -1,4 +1,5 @@
 use Rattle.std.proofs.Common.{arith, sym, subst, ◌∙◌}
+use Rattle.std.proofs.lemmas.Result.{err_from_is_err_and}
 use Rattle.set_sweep.specs.Sweeps.{AreSwept}
 use Rattle.set_sweep.proofs.Lists.{swept_rises}
 use Rattle.set_sweep.proofs.Roots.{child_of, outside_next, end_next, end_outside, end_none, set_small}
@@ -87,3 +88,9 @@ returns-clause-swept g t c =
     let part = c.loop-id.part in
     subst (λ to. AreSwept (g.V.Visitor.tells self.visitor.now) self.deps.now part.root to part.total part.tally)
     (end_outside inv.at c.loop-id-test.false) inv.swept
+
+pub returns-in_err-visit-clause-too_many : goal.returns-in_err-visit-clause-too_many
+returns-in_err-visit-clause-too_many g t c = let p = err_from_is_err_and c.from_residual.result c.from_residual.ensures.1 in rw (p.1, p.2) c.in_err-visit.ensures.too_many
+
+pub returns-in_err-sweep_from-clause-too_many : goal.returns-in_err-sweep_from-clause-too_many
+returns-in_err-sweep_from-clause-too_many g t c = let p = err_from_is_err_and c.from_residual-in_err-sweep_from.result c.from_residual-in_err-sweep_from.ensures.1 in rw (p.1, p.2) c.in_err-sweep_from.ensures.too_many

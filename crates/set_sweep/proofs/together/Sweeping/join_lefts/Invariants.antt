@@ -5,16 +5,17 @@ use Rattle.state_space.specs.Counts.{Outnumbers}
 use Rattle.patch_sets.specs.Closed.{IsClosed}
 use Rattle.patch_sets.specs.declared.explored.ExploreFault.TheVariants as fault
 use Rattle.set_sweep.specs.Sweeps.{IsDone}
-use Rattle.set_sweep.proofs.together.sweep_parts.Given as goal
+use Rattle.set_sweep.proofs.together.Sweeping.join_lefts.Given as goal
 
 abbrev pub invariant-loop-left : goal.invariant-loop-left
 invariant-loop-left g l =
-    let deps = l.fn.sweeper.deps.now in
-    let tells = g.V.Visitor.tells l.fn.sweeper.visitor.now in
+    let self = l.self in
+    let deps = self.sweeper.now.deps.now in
+    let done = IsDone (g.V.Visitor.tells self.sweeper.now.visitor.now) deps self.low self.roots.now in
     record {
-      all : All (IsDone tells deps l.low l.roots) l.all.items;
-      lefts : All (λ left. IfOk left (λ some. All (IsDone tells deps l.low l.roots) some.items)
-          × (IsErrOf left fault.TooMany → Outnumbers (IsClosed deps) l.fn.sweeper.limit)) l.lefts.items;
+      all : All done l.all.items;
+      lefts : All (λ left. IfOk left (λ some. All done some.items)
+          × (IsErrOf left fault.TooMany → Outnumbers (IsClosed deps) self.sweeper.now.limit)) l.lefts.items;
     }
 
 abbrev pub decreases-loop-left : goal.decreases-loop-left
