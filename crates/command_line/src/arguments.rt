@@ -6,15 +6,31 @@ use std::alloc::{AllocError, Global};
 /// What `--version` shows behind the program's name.
 const VERSION: &str = "1.0.0";
 
-static MODULES: [&str; 4] = ["async", "soft", "meta", "full"];
+/// An option in the table of its head.
+struct Entry {
+    name: &'static str,
+    takes: Takes,
+    help: &'static str,
+}
 
-static EXPLORERS: [&str; 3] = ["auto", "board", "sweep"];
+/// What stands behind an option, which help calls by the symbol.
+enum Takes {
+    /// Nothing: the option is a flag.
+    Nothing,
+    /// Nothing, and the option does not go with the other.
+    NothingWithout(&'static str),
+    /// The option is a word of its own, which no name goes before.
+    Itself,
+    /// A rule, in each of several uses.
+    Rule,
+    /// A number from the first to the second, else the default.
+    Number(&'static str, i64, i64, &'static str),
+    /// One of the words, else the default.
+    OneOf(&'static str, &'static [&'static str], &'static str),
+}
 
 /// The program so far, unless memory ran out.
 type Made<'a> = Result<Command<'a>, AllocError>;
-
-/// Options, unless memory ran out.
-type Options<'a> = Result<Vec<Arg<'a>>, AllocError>;
 
 const ABOUT: &str =
     "Explores every state that a crash can leave a small file system in, and reports those that its checker refuses after journal replay";
@@ -33,18 +49,159 @@ end, depend B A), comments (#) and one line `start`: the lines before it build t
 
 Exit status: 0 no failing set, 1 at least one, 2 a refusal (one line on standard error).";
 
+/// The script and the size of its disk.
+static WHAT_TO_RUN: [Entry; 3] = [
+    Entry {
+        name: "SCRIPT",
+        takes: Takes::Itself,
+        help: "The script to read; standard input where it is left out",
+    },
+    Entry {
+        name: "blocks",
+        takes: Takes::Number("N", 16, 128, "16"),
+        help: "Blocks of the disk, 16 to 128",
+    },
+    Entry {
+        name: "journal",
+        takes: Takes::Number("JL", 0, 122, "0"),
+        help: "Blocks of the journal, 0 to N - 6",
+    },
+];
+
+/// The module, and the rules to take out of it and to put in.
+static THE_ORDERING: [Entry; 3] = [
+    Entry {
+        name: "module",
+        takes: Takes::OneOf("M", &["async", "soft", "meta", "full"], "soft"),
+        help: "What orders the writes: nothing, soft updates, a metadata journal, a full journal",
+    },
+    Entry {
+        name: "without",
+        takes: Takes::Rule,
+        help: "A rule to take out of the module's, up to 16 times",
+    },
+    Entry {
+        name: "with",
+        takes: Takes::Rule,
+        help: "A rule to put in, up to 16 times",
+    },
+];
+
+/// What the checker asks for.
+static WHAT_FAILS: [Entry; 1] = [Entry {
+    name: "strict",
+    takes: Takes::Nothing,
+    help: "A set fails, too, where an inode that the script keeps is lost or a directory has no block",
+}];
+
+/// How many sets are explored, and by whom.
+static HOW_FAR: [Entry; 3] = [
+    Entry {
+        name: "limit",
+        takes: Takes::Number("L", 1, 1_000_000_000, "4096"),
+        help: "Most closed sets to explore, 1 to 1000000000",
+    },
+    Entry {
+        name: "explorer",
+        takes: Takes::OneOf("E", &["auto", "board", "sweep"], "auto"),
+        help: "Who explores: a board that workers share, up to a limit of 32768, or a sweep that keeps no table",
+    },
+    Entry {
+        name: "workers",
+        takes: Takes::Number("W", 1, 16, "1"),
+        help: "Threads that explore, 1 to 16",
+    },
+];
+
+/// What the report tells, and in which form.
+static HOW_TO_READ_IT: [Entry; 4] = [
+    Entry {
+        name: "explain",
+        takes: Takes::Nothing,
+        help: "Tell what each patch is, why it waits for others, and what replay changes",
+    },
+    Entry {
+        name: "summary",
+        takes: Takes::Nothing,
+        help: "Tell each fault once, with the first set that has it, in place of the failing sets",
+    },
+    Entry {
+        name: "needs",
+        takes: Takes::NothingWithout("summary"),
+        help: "Tell what goes wrong without each rule of the ordering, in place of the failing sets",
+    },
+    Entry {
+        name: "json",
+        takes: Takes::Nothing,
+        help: "Report as JSON in place of text",
+    },
+];
+
 /// The program's options, in help under five heads.
 pub(crate) fn command<'a>(heap: Global) -> Made<'a> {
-    let command = add(Ok(the_program(heap)), "What to run", what_to_run(heap));
-    let command = add(command, "The ordering", the_ordering(heap));
-    let command = add(command, "What fails", what_fails(heap));
-    let command = add(command, "How far", how_far(heap));
-    add(command, "How to read it", how_to_read_it(heap))
+    let command = add(heap, the_program(heap), "What to run", &WHAT_TO_RUN)?;
+    let command = add(heap, command, "The ordering", &THE_ORDERING)?;
+    let command = add(heap, command, "What fails", &WHAT_FAILS)?;
+    let command = add(heap, command, "How far", &HOW_FAR)?;
+    add(heap, command, "How to read it", &HOW_TO_READ_IT)
 }
 
-/// Adds options, in help under the head.
-fn add<'a>(command: Made<'a>, head: &'static str, options: Options<'a>) -> Made<'a> {
-    command?.next_help_heading(head).args(options?)
+/// Adds options, in help under the head, in this order.
+fn add<'a>(
+    heap: Global,
+    command: Command<'a>,
+    head: &'static str,
+    entries: &'static [Entry],
+) -> Made<'a> {
+    let mut command = command.next_help_heading(head);
+    for (place, entry) in entries.iter().enumerate() {
+        command = add_one(heap, command, place, entry)?;
+    }
+    Ok(command)
+}
+
+/// Adds an option, at this place in help.
+fn add_one<'a>(
+    heap: Global,
+    command: Command<'a>,
+    place: usize,
+    entry: &'static Entry,
+) -> Made<'a> {
+    let arg = argument(heap, entry)?;
+    command.arg(arg.display_order(place))
+}
+
+/// The option as `clap` knows it.
+fn argument<'a>(heap: Global, entry: &'static Entry) -> Result<Arg<'a>, AllocError> {
+    let arg = Arg::new(heap, entry.name).help(entry.help);
+    if let Takes::Itself = entry.takes {
+        return Ok(arg.action(ArgAction::Set));
+    }
+    taking(arg.long(entry.name), &entry.takes)
+}
+
+/// The option with what stands behind it.
+fn taking<'a>(arg: Arg<'a>, takes: &'static Takes) -> Result<Arg<'a>, AllocError> {
+    match takes {
+        Takes::Nothing => Ok(arg.action(ArgAction::SetTrue)),
+        Takes::NothingWithout(other) => arg.action(ArgAction::SetTrue).conflicts_with(other),
+        Takes::Rule => Ok(arg.value_name("RULE").action(ArgAction::Append)),
+        Takes::Number(symbol, from, until, default) => {
+            let among = value_parser!(usize).range(*from..=*until);
+            Ok(set(arg, symbol, default).value_parser(among))
+        }
+        Takes::OneOf(symbol, words, default) => {
+            Ok(set(arg, symbol, default).value_parser(*words))
+        }
+        Takes::Itself => Ok(arg),
+    }
+}
+
+/// The option with one value, else the default.
+fn set<'a>(arg: Arg<'a>, symbol: &'static str, default: &'static str) -> Arg<'a> {
+    arg.value_name(symbol)
+        .action(ArgAction::Set)
+        .default_value(default)
 }
 
 /// The program without its options.
@@ -54,100 +211,4 @@ fn the_program<'a>(heap: Global) -> Command<'a> {
         .version(VERSION)
         .about(ABOUT)
         .after_help(AFTER)
-}
-
-/// The script and the size of its disk.
-fn what_to_run<'a>(heap: Global) -> Options<'a> {
-    let script = Arg::new(heap, "SCRIPT")
-        .action(ArgAction::Set)
-        .display_order(0)
-        .help("The script to read; standard input where it is left out");
-    let blocks = number(heap, "blocks", "N", 16, 128)
-        .default_value("16")
-        .display_order(1)
-        .help("Blocks of the disk, 16 to 128");
-    let journal = number(heap, "journal", "JL", 0, 122)
-        .default_value("0")
-        .display_order(2)
-        .help("Blocks of the journal, 0 to N - 6");
-    Ok(Vec::from_array(heap, [script, blocks, journal])?)
-}
-
-/// The module, and the rules to take out of it and to put in.
-fn the_ordering<'a>(heap: Global) -> Options<'a> {
-    let module = option(heap, "module", "M")
-        .value_parser(MODULES.as_slice())
-        .default_value("soft")
-        .help("What orders the writes: nothing, soft updates, a metadata journal, a full journal");
-    let without = option(heap, "without", "RULE")
-        .action(ArgAction::Append)
-        .help("A rule to take out of the module's, up to 16 times");
-    let with = option(heap, "with", "RULE")
-        .action(ArgAction::Append)
-        .help("A rule to put in, up to 16 times");
-    Ok(Vec::from_array(heap, [module, without, with])?)
-}
-
-/// What the checker asks for.
-fn what_fails<'a>(heap: Global) -> Options<'a> {
-    let strict = flag(heap, "strict").help(
-        "A set fails, too, where an inode that the script keeps is lost or a directory has no block",
-    );
-    Ok(Vec::from_array(heap, [strict])?)
-}
-
-/// How many sets are explored, and by whom.
-fn how_far<'a>(heap: Global) -> Options<'a> {
-    let limit = number(heap, "limit", "L", 1, 1_000_000_000)
-        .default_value("4096")
-        .help("Most closed sets to explore, 1 to 1000000000");
-    let explorer = option(heap, "explorer", "E")
-        .value_parser(EXPLORERS.as_slice())
-        .default_value("auto")
-        .help(
-            "Who explores: a board that workers share, up to a limit of 32768, or a sweep that keeps no table",
-        );
-    let workers = number(heap, "workers", "W", 1, 16)
-        .default_value("1")
-        .help("Threads that explore, 1 to 16");
-    Ok(Vec::from_array(heap, [limit, explorer, workers])?)
-}
-
-/// What the report tells, and in which form.
-fn how_to_read_it<'a>(heap: Global) -> Options<'a> {
-    let needs = flag(heap, "needs").conflicts_with("summary")?.help(
-        "Tell what goes wrong without each rule of the ordering, in place of the failing sets",
-    );
-    let explain = flag(heap, "explain").help(
-        "Tell what each patch is, why it waits for others, and what replay changes",
-    );
-    let summary = flag(heap, "summary").help(
-        "Tell each fault once, with the first set that has it, in place of the failing sets",
-    );
-    let json = flag(heap, "json").help("Report as JSON in place of text");
-    Ok(Vec::from_array(heap, [explain, summary, needs, json])?)
-}
-
-/// An option that takes a number, from `from` to `until`.
-fn number<'a>(
-    heap: Global,
-    name: &'static str,
-    symbol: &'static str,
-    from: i64,
-    until: i64,
-) -> Arg<'a> {
-    option(heap, name, symbol).value_parser(value_parser!(usize).range(from..=until))
-}
-
-/// An option that takes a value, which help calls by the symbol.
-fn option<'a>(heap: Global, name: &'static str, symbol: &'static str) -> Arg<'a> {
-    Arg::new(heap, name)
-        .long(name)
-        .value_name(symbol)
-        .action(ArgAction::Set)
-}
-
-/// An option that takes no value.
-fn flag<'a>(heap: Global, name: &'static str) -> Arg<'a> {
-    Arg::new(heap, name).long(name).action(ArgAction::SetTrue)
 }

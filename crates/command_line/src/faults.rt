@@ -4,43 +4,49 @@ use crash_model::rules::Rule;
 use std::fmt;
 
 /// What is wrong with the value of an option.
-#[derive(Debug, Drop)]
-pub(crate) enum WordFault<'a> {
-    /// The word is no rule.
-    NoRule {
-        option: &'static str,
-        word: &'a str,
-    },
-    /// The rule is one that the option does not take, as `why` says.
-    Refused {
-        option: &'static str,
-        rule: Rule,
-        why: &'static str,
-    },
-    /// The board cannot hold so many sets.
-    PastTheBoard {
-        limit: usize,
-    },
+#[derive(Clone, Copy)]
+pub(crate) struct WordFault<'a> {
+    pub option: &'static str,
+    pub value: Value<'a>,
+    pub why: &'static str,
+}
+
+/// A value that is refused.
+#[derive(Clone, Copy)]
+pub(crate) enum Value<'a> {
+    /// A word where a rule stands.
+    Word(&'a str),
+    Rule(Rule),
+    Limit(usize),
+}
+
+impl Value<'_> {
+    /// What help calls a value of this kind.
+    fn symbol(&self) -> &'static str {
+        match self {
+            Value::Limit(_) => "L",
+            _ => "RULE",
+        }
+    }
+}
+
+impl fmt::Display for Value<'_> {
+    fn fmt<W: fmt::Write>(&self, f: &mut fmt::Formatter<W>) -> fmt::Result {
+        match self {
+            Value::Word(word) => word.fmt(f),
+            Value::Rule(rule) => rule.fmt(f),
+            Value::Limit(limit) => limit.fmt(f),
+        }
+    }
 }
 
 impl fmt::Display for WordFault<'_> {
     fn fmt<W: fmt::Write>(&self, f: &mut fmt::Formatter<W>) -> fmt::Result {
-        match self {
-            WordFault::NoRule { option, word } => {
-                write!(
-                    f,
-                    "invalid value '{word}' for '--{option} <RULE>': it is no rule"
-                )
-            }
-            WordFault::Refused { option, rule, why } => {
-                write!(f, "invalid value '{rule}' for '--{option} <RULE>': {why}")
-            }
-            WordFault::PastTheBoard { limit } => {
-                write!(
-                    f,
-                    "invalid value '{limit}' for '--limit <L>': the board holds at most 32768 sets"
-                )
-            }
-        }
+        let WordFault { option, value, why } = self;
+        let symbol = value.symbol();
+        write!(
+            f,
+            "invalid value '{value}' for '--{option} <{symbol}>': {why}"
+        )
     }
 }

@@ -1,10 +1,11 @@
 //! The rules to take out of an ordering and to put in.
 
-ghost use Rattle.std.specs.Prelude.{◌≡◌, IfOk, OnOk, eqb};
+ghost use Rattle.std.specs.Prelude.{◌≡◌, ◌<◌, true, IfOk, OnOk, eqb, length};
 ghost use Rattle.std.specs.List.{ends_with};
+ghost use Rattle.crash_model.specs.Rules.{rule_text};
 ghost use Rattle.command_line.specs.Given.{AreWrittenIn, is_written_in, AreAllIn, AreNoneIn};
 
-use crate::faults::WordFault;
+use crate::faults::{Value, WordFault};
 use clap::ArgMatches;
 use crash_model::rule_lists::{RuleList, has_rule};
 use crash_model::rules::Rule;
@@ -19,27 +20,33 @@ pub(crate) fn given_rules<'a>(
 {
     let mut rules = RuleList::new();
     for word in matches.get_strs(option).unwrap_or(&[]) {
-        let rule = match Rule::read(word) {
-            Some(rule) if is_written_in(words, word) => rule,
-            _ => return Err(WordFault::NoRule { option, word }),
-        };
-        if has_rule(rules.as_slice(), rule) {
-            return Err(WordFault::Refused {
-                option,
-                rule,
-                why: "it is given twice",
-            });
+        match next_rule(words, &rules, word) {
+            Ok(rule) => rules.push(rule),
+            Err(why) => {
+                let value = Value::Word(word);
+                return Err(WordFault { option, value, why });
+            }
         }
-        if rules.is_full() {
-            return Err(WordFault::Refused {
-                option,
-                rule,
-                why: "more than 16 rules are given",
-            });
-        }
-        rules.push(rule);
     }
     Ok(rules)
+}
+
+/// The rule that the word spells, which can follow these rules, or why none can.
+fn next_rule(words: &[&str], rules: &RuleList, word: &str) -> Result<Rule, &'static str>
+    ensures written { IfOk result (λ rule. is_written_in words.now (rule_text rule) ≡ true) }
+    ensures room { OnOk result (length rules.now.items < 16) }
+{
+    let rule = match Rule::read(word) {
+        Some(rule) if is_written_in(words, word) => rule,
+        _ => return Err("it is no rule"),
+    };
+    if has_rule(rules.as_slice(), rule) {
+        return Err("it is given twice");
+    }
+    if rules.is_full() {
+        return Err("more than 16 rules are given");
+    }
+    Ok(rule)
 }
 
 /// Whether the text is one of the words, or ends one.
@@ -62,9 +69,9 @@ pub(crate) fn check_without<'a>(without: &[Rule], rules: &[Rule]) -> Result<(), 
 {
     for rule in without {
         if !has_rule(rules, *rule) {
-            return Err(WordFault::Refused {
+            return Err(WordFault {
                 option: "without",
-                rule: *rule,
+                value: Value::Rule(*rule),
                 why: "the module has no such rule",
             });
         }
@@ -78,9 +85,9 @@ pub(crate) fn check_with<'a>(with: &[Rule], without: &[Rule]) -> Result<(), Word
 {
     for rule in with {
         if has_rule(without, *rule) {
-            return Err(WordFault::Refused {
+            return Err(WordFault {
                 option: "with",
-                rule: *rule,
+                value: Value::Rule(*rule),
                 why: "'--without' takes it out",
             });
         }

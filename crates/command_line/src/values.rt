@@ -3,7 +3,7 @@
 ghost use Rattle.std.specs.Prelude.{◌≡◌, ◌≤◌, IfOk};
 ghost use Rattle.command_line.specs.Ranges.{IsLimitUnder};
 
-use crate::faults::WordFault;
+use crate::faults::{Value, WordFault};
 use clap::ArgMatches;
 use crash_model::modules::Module;
 use crash_model::settings::{Explorer, ReportBy};
@@ -35,7 +35,11 @@ pub(crate) fn limit_under<'a>(
 {
     let limit = number_of(matches, "limit", 1, MAX_LIMIT);
     if explorer == Explorer::Board && limit > MAX_BOARD {
-        return Err(WordFault::PastTheBoard { limit });
+        return Err(WordFault {
+            option: "limit",
+            value: Value::Limit(limit),
+            why: "the board holds at most 32768 sets",
+        });
     }
     Ok(limit)
 }

@@ -57,14 +57,23 @@ pub fn read_to_end<A: Allocator + Copy, S: Source>(
     let mut chunk = [0; 4096];
     while bytes.len() <= MAX_SCRIPT_BYTES {
         let room = chunk.len().min(MAX_SCRIPT_BYTES + 1 - bytes.len());
-        let count = match source.read(&mut chunk[..room]) {
-            Ok(count) => count,
-            Err(DeviceFault) => return Err(RunFault::CannotRead),
-        };
+        let count = read_some(source, &mut chunk[..room])?;
         if count == 0 {
             return Ok(bytes);
         }
         bytes.extend_from_slice(&chunk[..count])?;
     }
     Err(RunFault::ScriptTooLong)
+}
+
+/// Reads once, with a failure as an unreadable script.
+fn read_some<S: Source>(source: &mut S, into: &mut [u8]) -> Result<usize, RunFault>
+    requires some { 0 < length into.old }
+    requires room { S.failures source.old < 2 ^ 64 - 1 }
+    ensures bound { ReadsAtMost result into.new }
+    ensures bytes { ReadConsumes (S.coming source.old) (S.coming source.new) result into.new }
+    ensures counted { Counts result (S.failures source.old) (S.failures source.new) }
+    ensures kind { IfErr result (λ fault. fault ≡ RunFault.CannotRead) }
+{
+    source.read(into).or(Err(RunFault::CannotRead))
 }

@@ -45,9 +45,10 @@ pub(crate) fn two_paths(operands: &[&str]) -> Result<(Path, Path), LineFault>
     if old.is_empty() || new.is_empty() {
         return Err(LineFault::BadLine);
     }
-    let old = Path::read(old).ok_or(LineFault::BadPath)?;
-    let new = Path::read(new).ok_or(LineFault::BadPath)?;
-    Ok((old, new))
+    match (Path::read(old), Path::read(new)) {
+        (Some(old), Some(new)) => Ok((old, new)),
+        _ => Err(LineFault::BadPath),
+    }
 }
 
 /// One name of a group.
