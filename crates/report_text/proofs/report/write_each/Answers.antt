@@ -1,4 +1,4 @@
-use Rattle.std.proofs.Common.{List, [], ◌∷◌, get_or, string_bytes, refl, subst, ◌∙◌}
+use Rattle.std.proofs.Common.{[], ◌∷◌, get_or, string_bytes, refl, subst, ◌∙◌}
 use Rattle.section_maker.specs.Maker.{Reported}
 use Rattle.report_text.specs.TextReport.{WritesSections}
 use Rattle.report_text.proofs.JoinedParts.{sections_none}
