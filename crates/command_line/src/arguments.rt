@@ -6,6 +6,12 @@ use std::alloc::{AllocError, Global};
 /// What `--version` shows behind the program's name.
 const VERSION: &str = "1.0.0";
 
+/// A head in help, and the options under it.
+struct Head {
+    name: &'static str,
+    entries: &'static [Entry],
+}
+
 /// An option in the table of its head.
 struct Entry {
     name: &'static str,
@@ -29,6 +35,17 @@ enum Takes {
     OneOf(&'static str, &'static [&'static str], &'static str),
 }
 
+impl Takes {
+    /// What an option does with what stands behind it.
+    fn action(&self) -> ArgAction {
+        match self {
+            Takes::Nothing | Takes::NothingWithout(_) => ArgAction::SetTrue,
+            Takes::Rule => ArgAction::Append,
+            Takes::Itself | Takes::Number(..) | Takes::OneOf(..) => ArgAction::Set,
+        }
+    }
+}
+
 /// The program so far, unless memory ran out.
 type Made<'a> = Result<Command<'a>, AllocError>;
 
@@ -49,112 +66,121 @@ end, depend B A), comments (#) and one line `start`: the lines before it build t
 
 Exit status: 0 no failing set, 1 at least one, 2 a refusal (one line on standard error).";
 
-/// The script and the size of its disk.
-static WHAT_TO_RUN: [Entry; 3] = [
-    Entry {
-        name: "SCRIPT",
-        takes: Takes::Itself,
-        help: "The script to read; standard input where it is left out",
+/// The options, in the order of help.
+static HEADS: [Head; 5] = [
+    // The script and the size of its disk.
+    Head {
+        name: "What to run",
+        entries: &[
+            Entry {
+                name: "SCRIPT",
+                takes: Takes::Itself,
+                help: "The script to read; standard input where it is left out",
+            },
+            Entry {
+                name: "blocks",
+                takes: Takes::Number("N", 16, 128, "16"),
+                help: "Blocks of the disk, 16 to 128",
+            },
+            Entry {
+                name: "journal",
+                takes: Takes::Number("JL", 0, 122, "0"),
+                help: "Blocks of the journal, 0 to N - 6",
+            },
+        ],
     },
-    Entry {
-        name: "blocks",
-        takes: Takes::Number("N", 16, 128, "16"),
-        help: "Blocks of the disk, 16 to 128",
+    // The module, and the rules to take out of it and to put in.
+    Head {
+        name: "The ordering",
+        entries: &[
+            Entry {
+                name: "module",
+                takes: Takes::OneOf("M", &["async", "soft", "meta", "full"], "soft"),
+                help: "What orders the writes: nothing, soft updates, a metadata journal, a full journal",
+            },
+            Entry {
+                name: "without",
+                takes: Takes::Rule,
+                help: "A rule to take out of the module's, up to 16 times",
+            },
+            Entry {
+                name: "with",
+                takes: Takes::Rule,
+                help: "A rule to put in, up to 16 times",
+            },
+        ],
     },
-    Entry {
-        name: "journal",
-        takes: Takes::Number("JL", 0, 122, "0"),
-        help: "Blocks of the journal, 0 to N - 6",
+    // What the checker asks for.
+    Head {
+        name: "What fails",
+        entries: &[Entry {
+            name: "strict",
+            takes: Takes::Nothing,
+            help: "A set fails, too, where an inode that the script keeps is lost or a directory has no block",
+        }],
+    },
+    // How many sets are explored, and by whom.
+    Head {
+        name: "How far",
+        entries: &[
+            Entry {
+                name: "limit",
+                takes: Takes::Number("L", 1, 1_000_000_000, "4096"),
+                help: "Most closed sets to explore, 1 to 1000000000",
+            },
+            Entry {
+                name: "explorer",
+                takes: Takes::OneOf("E", &["auto", "board", "sweep"], "auto"),
+                help: "Who explores: a board that workers share, up to a limit of 32768, or a sweep that keeps no table",
+            },
+            Entry {
+                name: "workers",
+                takes: Takes::Number("W", 1, 16, "1"),
+                help: "Threads that explore, 1 to 16",
+            },
+        ],
+    },
+    // What the report tells, and in which form.
+    Head {
+        name: "How to read it",
+        entries: &[
+            Entry {
+                name: "explain",
+                takes: Takes::Nothing,
+                help: "Tell what each patch is, why it waits for others, and what replay changes",
+            },
+            Entry {
+                name: "summary",
+                takes: Takes::Nothing,
+                help: "Tell each fault once, with the first set that has it, in place of the failing sets",
+            },
+            Entry {
+                name: "needs",
+                takes: Takes::NothingWithout("summary"),
+                help: "Tell what goes wrong without each rule of the ordering, in place of the failing sets",
+            },
+            Entry {
+                name: "json",
+                takes: Takes::Nothing,
+                help: "Report as JSON in place of text",
+            },
+        ],
     },
 ];
 
-/// The module, and the rules to take out of it and to put in.
-static THE_ORDERING: [Entry; 3] = [
-    Entry {
-        name: "module",
-        takes: Takes::OneOf("M", &["async", "soft", "meta", "full"], "soft"),
-        help: "What orders the writes: nothing, soft updates, a metadata journal, a full journal",
-    },
-    Entry {
-        name: "without",
-        takes: Takes::Rule,
-        help: "A rule to take out of the module's, up to 16 times",
-    },
-    Entry {
-        name: "with",
-        takes: Takes::Rule,
-        help: "A rule to put in, up to 16 times",
-    },
-];
-
-/// What the checker asks for.
-static WHAT_FAILS: [Entry; 1] = [Entry {
-    name: "strict",
-    takes: Takes::Nothing,
-    help: "A set fails, too, where an inode that the script keeps is lost or a directory has no block",
-}];
-
-/// How many sets are explored, and by whom.
-static HOW_FAR: [Entry; 3] = [
-    Entry {
-        name: "limit",
-        takes: Takes::Number("L", 1, 1_000_000_000, "4096"),
-        help: "Most closed sets to explore, 1 to 1000000000",
-    },
-    Entry {
-        name: "explorer",
-        takes: Takes::OneOf("E", &["auto", "board", "sweep"], "auto"),
-        help: "Who explores: a board that workers share, up to a limit of 32768, or a sweep that keeps no table",
-    },
-    Entry {
-        name: "workers",
-        takes: Takes::Number("W", 1, 16, "1"),
-        help: "Threads that explore, 1 to 16",
-    },
-];
-
-/// What the report tells, and in which form.
-static HOW_TO_READ_IT: [Entry; 4] = [
-    Entry {
-        name: "explain",
-        takes: Takes::Nothing,
-        help: "Tell what each patch is, why it waits for others, and what replay changes",
-    },
-    Entry {
-        name: "summary",
-        takes: Takes::Nothing,
-        help: "Tell each fault once, with the first set that has it, in place of the failing sets",
-    },
-    Entry {
-        name: "needs",
-        takes: Takes::NothingWithout("summary"),
-        help: "Tell what goes wrong without each rule of the ordering, in place of the failing sets",
-    },
-    Entry {
-        name: "json",
-        takes: Takes::Nothing,
-        help: "Report as JSON in place of text",
-    },
-];
-
-/// The program's options, in help under five heads.
+/// The program's options, in help under their heads.
 pub(crate) fn command<'a>(heap: Global) -> Made<'a> {
-    let command = add(heap, the_program(heap), "What to run", &WHAT_TO_RUN)?;
-    let command = add(heap, command, "The ordering", &THE_ORDERING)?;
-    let command = add(heap, command, "What fails", &WHAT_FAILS)?;
-    let command = add(heap, command, "How far", &HOW_FAR)?;
-    add(heap, command, "How to read it", &HOW_TO_READ_IT)
+    let mut command = the_program(heap);
+    for head in &HEADS {
+        command = add(heap, command, head)?;
+    }
+    Ok(command)
 }
 
-/// Adds options, in help under the head, in this order.
-fn add<'a>(
-    heap: Global,
-    command: Command<'a>,
-    head: &'static str,
-    entries: &'static [Entry],
-) -> Made<'a> {
-    let mut command = command.next_help_heading(head);
-    for (place, entry) in entries.iter().enumerate() {
+/// Adds the options under a head, in this order.
+fn add<'a>(heap: Global, command: Command<'a>, head: &'static Head) -> Made<'a> {
+    let mut command = command.next_help_heading(head.name);
+    for (place, entry) in head.entries.iter().enumerate() {
         command = add_one(heap, command, place, entry)?;
     }
     Ok(command)
@@ -173,9 +199,11 @@ fn add_one<'a>(
 
 /// The option as `clap` knows it.
 fn argument<'a>(heap: Global, entry: &'static Entry) -> Result<Arg<'a>, AllocError> {
-    let arg = Arg::new(heap, entry.name).help(entry.help);
+    let arg = Arg::new(heap, entry.name)
+        .help(entry.help)
+        .action(entry.takes.action());
     if let Takes::Itself = entry.takes {
-        return Ok(arg.action(ArgAction::Set));
+        return Ok(arg);
     }
     taking(arg.long(entry.name), &entry.takes)
 }
@@ -183,9 +211,9 @@ fn argument<'a>(heap: Global, entry: &'static Entry) -> Result<Arg<'a>, AllocErr
 /// The option with what stands behind it.
 fn taking<'a>(arg: Arg<'a>, takes: &'static Takes) -> Result<Arg<'a>, AllocError> {
     match takes {
-        Takes::Nothing => Ok(arg.action(ArgAction::SetTrue)),
-        Takes::NothingWithout(other) => arg.action(ArgAction::SetTrue).conflicts_with(other),
-        Takes::Rule => Ok(arg.value_name("RULE").action(ArgAction::Append)),
+        Takes::Nothing | Takes::Itself => Ok(arg),
+        Takes::NothingWithout(other) => arg.conflicts_with(other),
+        Takes::Rule => Ok(arg.value_name("RULE")),
         Takes::Number(symbol, from, until, default) => {
             let among = value_parser!(usize).range(*from..=*until);
             Ok(set(arg, symbol, default).value_parser(among))
@@ -193,15 +221,12 @@ fn taking<'a>(arg: Arg<'a>, takes: &'static Takes) -> Result<Arg<'a>, AllocError
         Takes::OneOf(symbol, words, default) => {
             Ok(set(arg, symbol, default).value_parser(*words))
         }
-        Takes::Itself => Ok(arg),
     }
 }
 
 /// The option with one value, else the default.
 fn set<'a>(arg: Arg<'a>, symbol: &'static str, default: &'static str) -> Arg<'a> {
-    arg.value_name(symbol)
-        .action(ArgAction::Set)
-        .default_value(default)
+    arg.value_name(symbol).default_value(default)
 }
 
 /// The program without its options.

@@ -42,13 +42,14 @@ pub fn settings_of<'a>(heap: Global, words: &'a [&'a str]) -> Result<Call<'a>, E
     ensures with { IfOk result (λ call. AreWrittenIn words.now call.settings.with.items) }
     ensures lawful { IfOk result (λ call. AreLawful call.settings) }
 {
-    call_by(heap, command(heap)?, words)
+    let mut command = command(heap)?;
+    call_by(heap, &mut command, words)
 }
 
 /// What the command reads in the words.
 fn call_by<'a>(
     heap: Global,
-    mut command: Command<'a>,
+    command: &mut Command<'a>,
     words: &'a [&'a str],
 ) -> Result<Call<'a>, Error>
     ensures ranges { IfOk result IsInRanges }
@@ -59,7 +60,7 @@ fn call_by<'a>(
     let matches = command.try_get_matches_from_mut(words)?;
     match call_of(&matches, words) {
         Ok(call) => Ok(call),
-        Err(fault) => Err(refusal(heap, &mut command, &fault)?),
+        Err(fault) => Err(refusal(heap, command, &fault)?),
     }
 }
 
