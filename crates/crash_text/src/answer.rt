@@ -1,6 +1,6 @@
 //! All that the program does, over any reader and writers.
 
-ghost use Rattle.std.specs.Prelude.{◌≡◌, ◌+◌, ◌-◌, ◌^◌, ◌<◌, ◌≤◌, ◌⊎◌, IsSome, IfOk, OnErr};
+ghost use Rattle.std.specs.Prelude.{◌≡◌, ◌+◌, ◌-◌, ◌^◌, ◌<◌, ◌≤◌, ◌⊎◌, IsSome, IfOk, OnErr, min};
 ghost use Rattle.std.specs.Io.KnownBytes.{Keeps};
 ghost use Rattle.command_line.specs.Ranges.{IsInRanges};
 ghost use Rattle.crash_text.specs.Served.{IsServed};
@@ -116,13 +116,19 @@ where
     ensures unread { IsSome call.now.script → source.new ≡ source.old }
 {
     match serve_call(rt, heap, alloc, call, source, sink, gate) {
-        Ok(0) => 0,
-        Ok(_) => 1,
+        Ok(failing) => status_of(failing),
         Err(fault) => {
             gate.ended();
             refuse(err, fault)
         }
     }
+}
+
+/// The exit status of a report with so many failing sets.
+fn status_of(failing: usize) -> u8
+    ensures { result ≡ min failing 1 }
+{
+    if failing == 0 { 0 } else { 1 }
 }
 
 /// Serves the script that the call names, else the source. It gives the number of failing sets.
