@@ -85,17 +85,6 @@ fn moves_through_asked<R: Abort + AllocGlobal>(
     moves_through(rt, rt.alloc(), &trace_of_asked(rt.alloc(), asked)?, closed)
 }
 
-/// Moves to the set of four patches and back. The file of inode 1 has one link again then.
-fn undoes_a_link(rt: &impl Abort, script: &Trace) -> Result<(), Fail>
-    requires fits { All (λ patch. patch.block < script.now.base.blocks) script.now.graph }
-    requires undo { AreUndo script.now.base script.now.graph }
-{
-    let mut mover = Mover::new(script.base.try_copy()?, &script.graph);
-    moves_along(rt, &mut mover, script, &[15, 0])?;
-    assert!(rt; mover.set() == 0 && mover.image().byte(2, 17) == 1);
-    Ok(())
-}
-
 #[test]
 fn undo_of_every_patch_gives_the_link_count_back(rt: HostRuntime) -> Result<(), Fail> {
     let script = trace_of(
@@ -105,7 +94,10 @@ fn undo_of_every_patch_gives_the_link_count_back(rt: HostRuntime) -> Result<(), 
         0,
         Module::Soft,
     )?;
-    undoes_a_link(&rt, &script)
+    let mut mover = Mover::new(script.base.try_copy()?, &script.graph);
+    moves_along(&rt, &mut mover, &script, &[15, 0])?;
+    assert!(rt; mover.set() == 0 && mover.image().byte(2, 17) == 1);
+    Ok(())
 }
 
 #[test]
