@@ -17,12 +17,20 @@ pub fn closed_sets(
 ) -> Result<Vec<u128>, AllocError>
     ensures { IfOk result (λ sets. All (IsClosed (deps_of graph.now)) sets.items) }
 {
-    let mut sets = Vec::new(alloc);
-    sets.push(0)?;
-    for id in 0..graph.len() {
-        add_sets_with(&mut sets, graph, id, limit)?;
-    }
+    let mut sets = vec![in alloc; 0]?;
+    add_sets(&mut sets, graph, limit)?;
     Ok(sets)
+}
+
+/// Adds to the empty set the others, one patch after another.
+fn add_sets(sets: &mut Vec<u128>, graph: &Graph<Global>, limit: usize) -> Result<(), AllocError>
+    requires closed { All (IsClosed (deps_of graph.now)) sets.old.items }
+    ensures { OnOk result (All (IsClosed (deps_of graph.now)) sets.new.items) }
+{
+    for id in 0..graph.len() {
+        add_sets_with(sets, graph, id, limit)?;
+    }
+    Ok(())
 }
 
 /// Adds each set with a patch more where the set has all dependencies of the patch.

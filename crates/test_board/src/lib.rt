@@ -1,19 +1,12 @@
-//! Trials of the board: three small spaces, a worker that expands what it claims, and tests with one thread and with
-//! several.
+//! What the trials of the board share: three small spaces, and a worker that expands what it claims.
 #![tactic(auto)]
 
 mod diamond;
 mod ended;
 mod fan;
-#[cfg(test)]
-mod finishing;
 mod ladder;
 mod small;
 mod start;
-#[cfg(test)]
-mod tests;
-#[cfg(test)]
-mod trials;
 mod worker;
 
 pub use diamond::Diamond;

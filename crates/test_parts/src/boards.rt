@@ -1,5 +1,5 @@
-//! Seats on the board of a script's own space, whose limit is just enough: its first word is the empty set, and the
-//! word 1 the set of patch 0.
+//! A seat on a board of four words, whose limit is just enough, and a second seat beside it: on the diamond, and on a
+//! script's own space, whose first word is the empty set and whose word 1 is the set of patch 0.
 
 ghost use Rattle.std.specs.Prelude.{◌≡◌};
 ghost use Rattle.seen_board.specs.Clauses.{IsOf, HasClaim, HasPlace};
@@ -7,23 +7,28 @@ ghost use Rattle.test_board.specs.Worker.{IsIdle};
 
 use crate::traces::trace_of_asked;
 use crash_image::PatchSpace;
-use seen_board::{Board, BoardSeat, Contents, Got, Life, Place, Put};
+use seen_board::{Board, BoardSeat, Got, Place, Put};
 use state_space::Space;
 use std::alloc::Global;
 use std::process::Abort;
 use std::sync::Wait;
 use std::test::Fail;
-use test_board::{FIRST, START, expand, put_after_start};
+use test_board::{Diamond, FIRST, START, Small, expand, is_explored, put_after_start};
 use test_support::asked::CREATE;
 
-/// Where the set of patch 1 comes to stand.
+/// Where the word 2 comes to stand, the set of patch 1.
 const SECOND: Place = Place { shard: 2, at: 0 };
 
-/// Where the set of both patches comes to stand.
+/// Where the word 3 comes to stand, the set of both patches.
 const BOTH: Place = Place { shard: 3, at: 0 };
 
-/// The set of patch 0 is found once it was put in, without a right.
-fn find_first<S: Space>(rt: &impl Abort, board: &Board<S, Global>, space: &S, seat: &mut BoardSeat)
+/// The word 1 is found once it was put in, without a right.
+pub fn find_first<S: Space>(
+    rt: &impl Abort,
+    board: &Board<S, Global>,
+    space: &S,
+    seat: &mut BoardSeat,
+)
     requires board { IsOf board.now seat.old × (board.now.space ≡ space.now) }
     requires free { seat.old.right ≡ 0 }
     requires claim { HasClaim seat.old START × HasPlace seat.old.seen START }
@@ -38,7 +43,7 @@ fn find_first<S: Space>(rt: &impl Abort, board: &Board<S, Global>, space: &S, se
     assert!(rt; seat.has_seen(START));
 }
 
-/// While another seat writes the shard of the set of patch 0, this one gets no right there.
+/// While another seat writes the shard of the word 1, this one gets no right there.
 fn gets_no_right<S: Space>(rt: &impl Abort, board: &Board<S, Global>, seat: &mut BoardSeat)
     requires board { IsOf board.now seat.old }
     requires free { seat.old.right ≡ 0 }
@@ -48,8 +53,13 @@ fn gets_no_right<S: Space>(rt: &impl Abort, board: &Board<S, Global>, seat: &mut
     assert!(rt; board.try_write(seat, FIRST.shard) == Got::Busy);
 }
 
-/// The set of patch 0 is found and known, without a right.
-fn knows_first<S: Space>(rt: &impl Abort, board: &Board<S, Global>, space: &S, seat: &mut BoardSeat)
+/// The word 1 is found and known, without a right.
+pub fn knows_first<S: Space>(
+    rt: &impl Abort,
+    board: &Board<S, Global>,
+    space: &S,
+    seat: &mut BoardSeat,
+)
     requires board { IsOf board.now seat.old × (board.now.space ≡ space.now) }
     requires free { seat.old.right ≡ 0 }
     requires claim { HasClaim seat.old START × HasPlace seat.old.seen START }
@@ -61,8 +71,7 @@ fn knows_first<S: Space>(rt: &impl Abort, board: &Board<S, Global>, space: &S, s
     assert!(rt; put_after_start(board, space, seat, 0) == Some(Put::Known(FIRST)));
 }
 
-/// While another seat writes the shard of the set of patch 0, this one gets no right there, and finds the set without
-/// one.
+/// While another seat writes the shard of the word 1, this one gets no right there, and finds the word without one.
 fn meet_a_writer<S: Space>(
     rt: &impl Abort,
     board: &Board<S, Global>,
@@ -84,7 +93,7 @@ fn meet_a_writer<S: Space>(
     assert!(rt; seat.has_seen(START));
 }
 
-/// Claims the empty set, and puts its first successor in.
+/// Claims the first word and puts its first successor in, before the end has come.
 fn claim_start<S: Space>(rt: &impl Abort, board: &Board<S, Global>, space: &S, seat: &mut BoardSeat)
     requires board { IsIdle board.now seat.old × (board.now.space ≡ space.now) }
     requires seen { HasPlace seat.old.seen START }
@@ -92,7 +101,9 @@ fn claim_start<S: Space>(rt: &impl Abort, board: &Board<S, Global>, space: &S, s
     ensures claim { HasClaim seat.new START × HasPlace seat.new.seen START }
 {
     assert!(rt; board.claim(seat, START));
+    assert!(rt; !board.finished(seat));
     find_first(rt, board, space, seat);
+    assert!(rt; !board.finished(seat));
     assert!(rt; put_after_start(board, space, seat, 0) == Some(Put::Known(FIRST)));
     meet_a_writer(rt, board, space, seat);
 }
@@ -117,7 +128,8 @@ fn settle_entry<S: Space, R: Abort + Wait>(
     assert!(rt; matches!(expand(rt, board, space, scratch, seat, place), Ok(true)));
 }
 
-/// Settles the empty set, which the seat has claimed before the end has come, and then the other three.
+/// Settles the first word, which the seat has claimed, and then the other three. Before each of them neither this seat
+/// nor another reads that all is finished, and then both do.
 fn settle_four<S: Space, R: Abort + Wait>(
     rt: &R,
     board: &Board<S, Global>,
@@ -131,25 +143,19 @@ fn settle_four<S: Space, R: Abort + Wait>(
     requires own { S.is_own space.now scratch.old }
     ensures idle { IsIdle board.now seat.new }
 {
+    let mut other = board.split(seat);
     assert!(rt; !board.finished(seat));
+    assert!(rt; !board.finished(&mut other));
     assert!(rt; matches!(expand(rt, board, space, scratch, seat, START), Ok(true)));
-    settle_entry(rt, board, space, scratch, seat, FIRST);
-    settle_entry(rt, board, space, scratch, seat, SECOND);
-    settle_entry(rt, board, space, scratch, seat, BOTH);
+    for place in [FIRST, SECOND, BOTH] {
+        assert!(rt; !board.finished(&mut other));
+        settle_entry(rt, board, space, scratch, seat, place);
+    }
+    assert!(rt; board.finished(&mut other));
     assert!(rt; board.finished(seat));
 }
 
-/// Whether the set of patch 1 alone was found broken, and the set of both good.
-fn are_settled(contents: &Contents<Global>) -> bool {
-    contents.len(2) == 1
-        && contents.len(3) == 1
-        && contents.word(SECOND) == 2
-        && contents.word(BOTH) == 3
-        && contents.life(SECOND) == Life::Broken
-        && contents.life(BOTH) == Life::Clean
-}
-
-/// Explores a space of four sets, whose start is the empty set, with one seat.
+/// Explores a space of four words of which the word 2 is not good, with one seat.
 fn explores<S: Space, R: Abort + Wait + AllocGlobal>(
     rt: &R,
     space: &S,
@@ -161,8 +167,13 @@ fn explores<S: Space, R: Abort + Wait + AllocGlobal>(
     assert!(rt; seat.has_seen(START));
     claim_start(rt, &board, space, &mut seat);
     settle_four(rt, &board, space, scratch, &mut seat);
-    assert!(rt; are_settled(&board.close(seat)));
+    assert!(rt; is_explored(&board.close(seat)));
     Ok(())
+}
+
+#[test]
+fn finished_comes_with_the_last_verdict(rt: HostRuntime) -> Result<(), Fail> {
+    explores(&rt, &Small(Diamond), &mut ())
 }
 
 #[test]

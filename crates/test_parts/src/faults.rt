@@ -174,12 +174,11 @@ fn put_into(rt: &impl Abort, image: &mut Image<Global>, &Put(block, offset, byte
 
 /// Whether faults are written as these texts.
 fn are_written(alloc: Global, found: &[Fault], texts: &[&str]) -> Result<bool, Fail> {
+    let mut are_same = found.len() == texts.len();
     for (fault, text) in found.iter().zip(texts) {
-        if fault.to_string(alloc)?.as_str() != *text {
-            return Ok(false);
-        }
+        are_same &= fault.to_string(alloc)?.as_str() == *text;
     }
-    Ok(found.len() == texts.len())
+    Ok(are_same)
 }
 
 /// Whether an image has the faults with these texts, and is clean where there are none.

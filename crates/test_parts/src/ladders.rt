@@ -10,7 +10,7 @@ use std::sync::Wait;
 use std::sync::atomic::{AtomicU64, Ordering};
 use std::test::Fail;
 use std::thread::Threads;
-use test_board::{Fan, Ladder, Small};
+use test_board::{Fan, Ladder, Shape, Small};
 use test_support::gates::Meeting;
 
 /// Counts the claims.
@@ -38,10 +38,10 @@ fn in_canonical_order(alloc: Global, first: u128, last: u128) -> Result<Vec<u128
     Ok(words)
 }
 
-/// Whether so many workers find a ladder of so many words, which is the limit too, with these broken words.
-fn is_found<R: Threads + Wait + AllocGlobal + Sync>(
+/// Whether so many workers find a space of so many words, which is the limit too, with these broken words.
+fn is_found<K: Shape + Sync, R: Threads + Wait + AllocGlobal + Sync>(
     rt: &R,
-    ladder: &Small<Ladder>,
+    space: &Small<K>,
     total: usize,
     workers: usize,
     broken: &[u128],
@@ -49,21 +49,21 @@ fn is_found<R: Threads + Wait + AllocGlobal + Sync>(
     requires total { (1 ≤ total) × (total ≤ 32768) }
     requires workers { (1 ≤ workers) × (workers ≤ 16) }
 {
-    let found = explore(rt, rt.alloc(), ladder, total, workers, &OpenGate)?;
+    let found = explore(rt, rt.alloc(), space, total, workers, &OpenGate)?;
     Ok(found.total == total && found.broken.as_slice() == broken)
 }
 
-/// Whether a ladder is refused that has more words than this limit.
-fn is_refused<R: Threads + Wait + AllocGlobal + Sync>(
+/// Whether a space is refused that has more words than this limit.
+fn is_refused<K: Shape + Sync, R: Threads + Wait + AllocGlobal + Sync>(
     rt: &R,
-    ladder: &Small<Ladder>,
+    space: &Small<K>,
     limit: usize,
     workers: usize,
 ) -> bool
     requires limit { (1 ≤ limit) × (limit ≤ 32768) }
     requires workers { (1 ≤ workers) × (workers ≤ 16) }
 {
-    let refused = explore(rt, rt.alloc(), ladder, limit, workers, &OpenGate);
+    let refused = explore(rt, rt.alloc(), space, limit, workers, &OpenGate);
     matches!(&refused, Err(ExploreFault::TooMany))
 }
 
@@ -108,10 +108,8 @@ fn one_shard_may_have_all_words(rt: HostRuntime) -> Result<(), Fail> {
     let after = words_of_one_shard();
     let fan = Small(Fan { after: &after });
     for workers in [1, 2, 8, 16] {
-        let found = explore(&rt, rt.alloc(), &fan, 100, workers, &OpenGate)?;
-        assert!(rt; found.total == 100 && found.broken.is_empty());
-        let refused = explore(&rt, rt.alloc(), &fan, 99, workers, &OpenGate);
-        assert!(rt; matches!(&refused, Err(ExploreFault::TooMany)));
+        assert!(rt; is_found(&rt, &fan, 100, workers, &[])?);
+        assert!(rt; is_refused(&rt, &fan, 99, workers));
     }
     Ok(())
 }

@@ -1,8 +1,11 @@
-//! Tests alone: the parts of the product that make, explore and judge what a crash can leave, on whole scripts.
+//! Tests alone: the board on small spaces, and the parts of the product that make, explore and judge what a crash can
+//! leave, on whole scripts.
 //!
 //! Each expected value comes from the specification or from an independent reference program.
 #![tactic(auto)]
 
+#[cfg(test)]
+mod board_ends;
 #[cfg(test)]
 mod boards;
 #[cfg(test)]
@@ -27,6 +30,8 @@ mod patches;
 mod replays;
 #[cfg(test)]
 mod script_lines;
+#[cfg(test)]
+mod seats;
 #[cfg(test)]
 mod sets;
 #[cfg(test)]

@@ -11,7 +11,7 @@ use disk_image::Image;
 use std::alloc::Global;
 use std::process::Abort;
 use std::test::Fail;
-use test_support::asked::{JOURNAL, REUSE, WRITE};
+use test_support::asked::{Asked, JOURNAL, REUSE, WRITE};
 use test_support::traces::trace_of;
 
 /// Whether two images have the same bytes.
@@ -76,6 +76,15 @@ fn moves_through(rt: &impl Abort, alloc: Global, script: &Trace, closed: usize) 
     moves_to_and_fro(rt, &mut mover, script, &mut sets)
 }
 
+/// The same of a script with its settings.
+fn moves_through_asked<R: Abort + AllocGlobal>(
+    rt: &R,
+    asked: &Asked,
+    closed: usize,
+) -> Result<(), Fail> {
+    moves_through(rt, rt.alloc(), &trace_of_asked(rt.alloc(), asked)?, closed)
+}
+
 #[test]
 fn undo_of_every_patch_gives_the_link_count_back(rt: HostRuntime) -> Result<(), Fail> {
     let script = trace_of(
@@ -93,18 +102,15 @@ fn undo_of_every_patch_gives_the_link_count_back(rt: HostRuntime) -> Result<(), 
 
 #[test]
 fn a_create_and_a_write_under_no_order(rt: HostRuntime) -> Result<(), Fail> {
-    let script = trace_of_asked(rt.alloc(), &WRITE)?;
-    moves_through(&rt, rt.alloc(), &script, 24)
+    moves_through_asked(&rt, &WRITE, 24)
 }
 
 #[test]
 fn a_block_that_is_freed_and_used_again(rt: HostRuntime) -> Result<(), Fail> {
-    let script = trace_of_asked(rt.alloc(), &REUSE)?;
-    moves_through(&rt, rt.alloc(), &script, 48)
+    moves_through_asked(&rt, &REUSE, 48)
 }
 
 #[test]
 fn a_directory_block_that_becomes_file_data_behind_a_journal(rt: HostRuntime) -> Result<(), Fail> {
-    let script = trace_of_asked(rt.alloc(), &JOURNAL)?;
-    moves_through(&rt, rt.alloc(), &script, 629)
+    moves_through_asked(&rt, &JOURNAL, 629)
 }
