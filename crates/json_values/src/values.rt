@@ -93,10 +93,9 @@ pub(crate) fn replay_value(heap: Global, replay: &[ReplayedBlock]) -> Result<Val
 /// A block that replay changes, and its bytes after replay.
 fn replayed_value(heap: Global, replayed: &ReplayedBlock) -> Result<Value, AllocError>
     ensures value { IfOk result (λ value. view value ≡ replayed_data (told_block replayed.now)) }
-    ensures bytes { IsBytes replayed.now.bytes }
+    ensures bytes { OnOk result (IsBytes replayed.now.bytes) }
 {
-    let bytes = hex_value(heap, replayed.bytes.as_slice())?;
-    json!(in heap; {"block": replayed.block, "bytes": bytes})
+    json!(in heap; {"block": replayed.block, "bytes": hex_value(heap, replayed.bytes.as_slice())?})
 }
 
 /// Bytes as two hexadecimal digits each. It fails only when out of memory.
@@ -147,8 +146,7 @@ pub(crate) fn write_value(
 ) -> Result<Value, AllocError>
     ensures { IfOk result (λ value. view value ≡ write_data patches write) }
 {
-    let ids = ids_value(heap, patches, write.ids)?;
-    json!(in heap; {"block": write.block, "patches": ids})
+    json!(in heap; {"block": write.block, "patches": ids_value(heap, patches, write.ids)?})
 }
 
 /// The ids of the set, ascending.
