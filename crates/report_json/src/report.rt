@@ -1,6 +1,6 @@
 //! Whole reports.
 
-ghost use Rattle.std.specs.Prelude.{◌≡◌, ◌++◌, [], map, string_bytes, IfOk, OnOk};
+ghost use Rattle.std.specs.Prelude.{◌≡◌, ◌++◌, [], length, map, string_bytes, IfOk, OnOk};
 ghost use Rattle.patch_sets.specs.Closed.{IsClosed};
 ghost use Rattle.crash_model.specs.Patches.{deps_of};
 ghost use Rattle.crash_model.specs.Explain.{base_json, trace_json};
@@ -184,8 +184,23 @@ pub(crate) fn write_sections<A: Allocator + Copy>(
     let graph = report.traced.graph();
     let mut known = KnownTexts::new(*out.allocator(), graph.len())?;
     let mut maker = SectionMaker::new(alloc, report.base, graph, report.detail)?;
+    write_each_section(out, &mut known, &mut maker, sets)
+}
+
+/// The objects of the sets, with a comma between two, by a maker of their sections.
+fn write_each_section<A: Allocator + Copy>(
+    out: &mut String,
+    known: &mut KnownTexts,
+    maker: &mut SectionMaker<'_, A>,
+    sets: &[u128],
+) -> Result<(), AllocError>
+    requires known { known.old ≡ length maker.old.patches }
+    requires closed { AreClosed maker.old.patches sets.now }
+    ensures { OnOk result (WritesSections maker.old.detail maker.old.base maker.old.patches sets.now
+        (string_bytes out.old) (string_bytes out.new)) }
+{
     for (at, set) in sets.iter().enumerate() {
-        write_section(out, at, &mut known, &mut maker, *set)?;
+        write_section(out, at, known, maker, *set)?;
     }
     Ok(())
 }
@@ -206,10 +221,9 @@ fn write_section<A: Allocator + Copy>(
     ensures known { known.new ≡ known.old }
     ensures maker { maker.new ≡ maker.old }
 {
-    let section = maker.section(set)?;
     write_comma(out, at)?;
-    known.push_section(out, &section)?;
-    Ok(())
+    let section = maker.section(set)?;
+    known.push_section(out, &section)
 }
 
 /// The objects of the faults, with a comma between two.
@@ -225,10 +239,24 @@ fn write_faults<A: Allocator + Copy>(
         report.now.traced.now.patches rows.now (string_bytes out.old) (string_bytes out.new)) }
 {
     let graph = report.traced.graph();
-    let patches = graph.len();
     let mut maker = SectionMaker::new(alloc, report.base, graph, report.detail)?;
+    write_each_fault(out, &mut maker, graph.len(), rows)
+}
+
+/// The objects of the faults, with a comma between two, by a maker of their sections. The graph has `patches` patches.
+fn write_each_fault<A: Allocator + Copy>(
+    out: &mut String,
+    maker: &mut SectionMaker<'_, A>,
+    patches: usize,
+    rows: &[FaultRow],
+) -> Result<(), AllocError>
+    requires patches { patches ≡ length maker.old.patches }
+    requires closed { AreClosed maker.old.patches (map (λ row. row.first) rows.now) }
+    ensures { OnOk result (WritesFaults maker.old.detail maker.old.base maker.old.patches rows.now
+        (string_bytes out.old) (string_bytes out.new)) }
+{
     for (at, row) in rows.iter().enumerate() {
-        write_fault(out, at, &mut maker, patches, row)?;
+        write_fault(out, at, maker, patches, row)?;
     }
     Ok(())
 }
@@ -250,8 +278,7 @@ fn write_fault<A: Allocator + Copy>(
 {
     let first = maker.section(row.first)?;
     let value = told_fault_value(*out.allocator(), patches, row, &first)?;
-    write_item(out, at, &value)?;
-    Ok(())
+    write_item(out, at, &value)
 }
 
 /// The objects of the rules, with a comma between two. The graph has `patches` patches.
