@@ -12,7 +12,7 @@ ghost use Rattle.report_sections.specs.Bodies.{CanTell, TellsBody, AreOnBase, Ar
 ghost use Rattle.report_sections.specs.Sections.{section_of, IsSection};
 ghost use Rattle.report_sections.specs.declared.section.Section.{Section};
 ghost use Rattle.json_values.specs.Items.{comma_before};
-ghost use Rattle.report_json.specs.JsonReport.{WritesEarly, WritesLate};
+ghost use Rattle.report_json.specs.JsonReport.{WritesEarly, WritesLate, WritesFromModule};
 ghost use Rattle.report_json.specs.JsonReport.{WritesSections, WritesFaults, WritesRules};
 
 use crate::head::{write_module, write_rule_key, write_strict_key};
@@ -69,19 +69,30 @@ where
         body
         × (string_bytes out.new ≡ json_report report.now.settings.now (whole_of report.now body))) }
 {
-    let settings = report.settings;
     out.push_str("{")?;
     write_explained_base(out, report)?;
     let closed = report.closed;
     write!(out, "\"closed\":{closed}")?;
     write_early(out, rt, alloc, report, workers)?;
+    write_from_module(out, report)?;
+    out.push_str("}\n")?;
+    Ok(())
+}
+
+/// The keys from `module` on.
+fn write_from_module<A: Allocator + Copy>(
+    out: &mut String,
+    report: &Report<'_, '_, '_, '_, A>,
+) -> Result<(), AllocError>
+    ensures { OnOk result (WritesFromModule report.now (string_bytes out.old) (string_bytes out.new)) }
+{
+    let settings = report.settings;
     write_module(out, settings.module, report.traced.graph().len())?;
     write_late(out, report)?;
     write_strict_key(out, settings.strict)?;
     write_explained_trace(out, report)?;
     write_rule_key(out, "with", settings.put_in().as_slice())?;
     write_rule_key(out, "without", settings.taken_out().as_slice())?;
-    out.push_str("}\n")?;
     Ok(())
 }
 
