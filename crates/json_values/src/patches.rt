@@ -71,7 +71,8 @@ fn put_label(
     ensures act { OnOk result (IsAct (Do label.now.origin.op.now)) }
 {
     put(members, heap, "line", Value::from(label.origin.line))?;
-    put(members, heap, "part", Value::try_from_str(heap, label.part.name())?)?;
+    let part = Value::try_from_str(heap, label.part.name())?;
+    put(members, heap, "part", part)?;
     put(members, heap, "step", step_value(heap, label.origin.op)?)
 }
 
@@ -88,9 +89,11 @@ fn put_place(
     ensures undo { OnOk result (IsBytes patch.now.undo.items) }
 {
     put(members, heap, "block", Value::from(patch.block))?;
-    put(members, heap, "new", hex_value(heap, patch.new.as_slice())?)?;
+    let new = hex_value(heap, patch.new.as_slice())?;
+    put(members, heap, "new", new)?;
     put(members, heap, "offset", Value::from(patch.offset))?;
-    put(members, heap, "undo", hex_value(heap, patch.undo.as_slice())?)
+    let undo = hex_value(heap, patch.undo.as_slice())?;
+    put(members, heap, "undo", undo)
 }
 
 /// The text of an operation.

@@ -94,7 +94,10 @@ fn put_first<A: Allocator>(
         × (members_view members.new.entries ≡ first_put value (members_view members.old.entries))) }
 {
     match first {
-        Some(section) => put(members, heap, "first", section_value(heap, patches, section)?),
+        Some(section) => {
+            let value = section_value(heap, patches, section)?;
+            put(members, heap, "first", value)
+        }
         None => Ok(()),
     }
 }

@@ -42,7 +42,8 @@ fn put_section<A: Allocator>(
         ≡ section_put patches (section_of section.now) (members_view members.old.entries)) }
     ensures bytes { OnOk result (AreReplayedBytes (told_replay section.now.replay)) }
 {
-    put(members, heap, "faults", faults_value(heap, &section.faults)?)?;
+    let faults = faults_value(heap, &section.faults)?;
+    put(members, heap, "faults", faults)?;
     put_set(members, heap, patches, section)
 }
 
@@ -58,8 +59,10 @@ pub(crate) fn put_set<A: Allocator>(
     ensures bytes { OnOk result (AreReplayedBytes (told_replay section.now.replay)) }
 {
     put_replay(members, heap, &section.replay)?;
-    put(members, heap, "set", ids_value(heap, patches, section.set)?)?;
-    put(members, heap, "writes", writes_value(heap, patches, &section.writes)?)
+    let ids = ids_value(heap, patches, section.set)?;
+    put(members, heap, "set", ids)?;
+    let writes = writes_value(heap, patches, &section.writes)?;
+    put(members, heap, "writes", writes)
 }
 
 /// The blocks that replay changes, where they are told.
