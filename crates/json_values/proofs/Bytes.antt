@@ -12,7 +12,7 @@ use Rattle.hex.specs.Hex.{encode_with, encode_lower, lower_digits, IsBytes}
 use Rattle.json.specs.Print.{escape, escape_byte}
 use Rattle.patch_sets.specs.Sets.{ids_of}
 use Rattle.patch_sets.specs.declared.write.BlockWrite.{BlockWrite}
-use Rattle.serde_json.specs.Data.{Data, string, array}
+use Rattle.serde_json.specs.Data.{Data, string, array, object, no_members}
 use Rattle.serde_json.specs.View.{items_of}
 use Rattle.serde_json.specs.Written.{compact_text, items_text, has_float, items_have_float}
 use Rattle.crash_model.specs.Lists.{join_of}
@@ -21,7 +21,7 @@ use Rattle.crash_model.specs.declared.fault.Fault.{Fault}
 use Rattle.crash_model.specs.declared.fault.Fault.TheVariants.{Dangling, Twice, Unwritten, LowLinks, MarkedFree, Wild, Lost, NoBlock}
 use Rattle.json_values.specs.Known.{fault_json}
 use Rattle.json_values.specs.Written.{IsWritten}
-use Rattle.json_values.specs.Values.{number_data, ids_data, write_data, writes_data, fault_data, faults_data, hex_data, replayed_data, replay_data, section_data, AreReplayedBytes}
+use Rattle.json_values.specs.Values.{number_data, ids_data, write_data, writes_data, fault_data, faults_data, hex_data, replayed_data, replay_data, section_data, section_put, AreReplayedBytes}
 
 -- ---- text that needs no escapes
 
@@ -228,12 +228,18 @@ section_no_float patches s = with_replay_no_float patches s.set s.writes s.repla
     with_replay_no_float patches set writes (Some replay) found =
         rw (none_float fault_data (λ _. refl) found, replay_no_float replay, none_float number_data (λ _. refl) (ids_of patches set), none_float (write_data patches) (write_no_float patches) writes) refl
 
--- a value that tells of the set is written so
-pub section_written : (patches set : ℕ) (writes : List BlockWrite) (found : List Fault) (replay : Option (List ReplayedBlock)) (value : Data) → AreReplayedBytes replay → value ≡ section_data patches (record { set = set; writes = writes; replay = replay; found = found })
-    → IsWritten value (section_json patches (record { set = set; writes = writes; replay = replay; found = found }))
-section_written patches set writes found replay value are is =
-    let s : Section = record { set = set; writes = writes; replay = replay; found = found } in
+-- the members of a section, put into an empty object
+section_is : (patches set : ℕ) (writes : List BlockWrite) (replay : Option (List ReplayedBlock)) (found : List Fault)
+    → object (section_put patches (record { set = set; writes = writes; replay = replay; found = found }) no_members)
+    ≡ section_data patches (record { set = set; writes = writes; replay = replay; found = found })
+section_is patches set writes None found = refl
+section_is patches set writes (Some replay) found = refl
+
+-- an object of these members is written as the section
+pub section_written : (patches : ℕ) (s : Section) (value : Data) → AreReplayedBytes s.replay → value ≡ object (section_put patches s no_members) → IsWritten value (section_json patches s)
+section_written patches s value are is =
+    let whole : value ≡ section_data patches s = is ∙ section_is patches s.set s.writes s.replay s.found in
     record {
-      whole = ap compact_text is ∙ section_bytes patches s are;
-      plain = ap has_float is ∙ section_no_float patches s;
+      whole = ap compact_text whole ∙ section_bytes patches s are;
+      plain = ap has_float whole ∙ section_no_float patches s;
     }

@@ -1,9 +1,9 @@
 -- The bytes of the values of rules.
-use Rattle.std.proofs.Common.{◌≡◌, ℕ, List, [], ◌++◌, codes, decimal, refl, ap, ◌∙◌, append_assoc}
+use Rattle.std.proofs.Common.{◌≡◌, ℕ, List, [], ◌++◌, codes, decimal, refl, sym, ap, subst, ◌∙◌, append_assoc}
 use Rattle.std.specs.Fmt.{digits}
 use Rattle.std.specs.Prelude.{Option, Some, None}
 use Rattle.json.specs.Print.{escape_byte}
-use Rattle.serde_json.specs.Data.{Data, string}
+use Rattle.serde_json.specs.Data.{Data, string, object, no_members}
 use Rattle.serde_json.specs.Written.{compact_text}
 use Rattle.crash_model.specs.Needs.{RuleUsage, Unused, TooMany, Used, ToldRule, told_rule_json}
 use Rattle.crash_model.specs.Report.{Section, json_string, section_json}
@@ -16,7 +16,7 @@ use Rattle.crash_model.specs.declared.rules.RulePart.TheVariants.{Change, InPlac
 use Rattle.crash_model.specs.declared.rules.Scope.{Scope}
 use Rattle.crash_model.specs.declared.rules.Scope.TheVariants.{Same, Previous}
 use Rattle.json_values.specs.Written.{IsWritten}
-use Rattle.json_values.specs.RuleValues.{first_section, told_rule_data, IsFirst}
+use Rattle.json_values.specs.RuleValues.{first_section, told_rule_data, rule_put, IsFirst}
 use Rattle.json_values.proofs.Bytes.{IsPlain, plain-append, string_bytes}
 
 -- ---- a rule's text needs no escapes
@@ -139,6 +139,18 @@ module _ (patches : ℕ) (rule : Rule) where
   usage_written (TooMany pairs) first is = too_many_written pairs first
   usage_written (Used pairs w) first is = used_written pairs w.closed w.failing w.first first is
 
-pub told_rule_written : (patches : ℕ) (t : ToldRule) (first : Option Data) → IsFirst patches (first_section t.usage) first → IsWritten (told_rule_data t first) (told_rule_json patches t)
+told_rule_bytes : (patches : ℕ) (t : ToldRule) (first : Option Data) → IsFirst patches (first_section t.usage) first → IsWritten (told_rule_data t first) (told_rule_json patches t)
 unfolding told
-told_rule_written patches t first is = usage_written patches t.rule t.usage first is
+told_rule_bytes patches t first is = usage_written patches t.rule t.usage first is
+
+-- the members that tell of a rule, put into an empty object
+members_are : (rule : Rule) (usage : RuleUsage) (first : Option Data) → object (rule_put (record { rule = rule; usage = usage }) first no_members) ≡ told_rule_data (record { rule = rule; usage = usage }) first
+members_are rule Unused first = refl
+members_are rule (TooMany pairs) first = refl
+members_are rule (Used pairs w) None = refl
+members_are rule (Used pairs w) (Some first) = refl
+
+-- an object of these members is written so
+pub told_rule_written : (patches : ℕ) (t : ToldRule) (first : Option Data) (value : Data) → IsFirst patches (first_section t.usage) first → value ≡ object (rule_put t first no_members) → IsWritten value (told_rule_json patches t)
+told_rule_written patches t first value told is =
+    subst (λ (d : Data). IsWritten d (told_rule_json patches t)) (sym (is ∙ members_are t.rule t.usage first)) (told_rule_bytes patches t first told)

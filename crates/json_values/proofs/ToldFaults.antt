@@ -1,15 +1,17 @@
 -- The bytes of the value of a fault.
-use Rattle.std.proofs.Common.{◌≡◌, ℕ, false, Result, Ok, Err, IfOk, OnOk, Option, Some, None, List, [], ◌++◌, map, codes, decimal, refl, ap, ◌∙◌, append_assoc}
+use Rattle.std.proofs.Common.{◌≡◌, ℕ, false, Option, Some, None, List, [], ◌++◌, map, codes, decimal, refl, ap, ◌∙◌, append_assoc}
 use Rattle.std.proofs.lemmas.List.{append-nil}
 use Rattle.patch_sets.specs.Sets.{ids_of}
 use Rattle.patch_sets.specs.declared.write.BlockWrite.{BlockWrite}
 use Rattle.json.specs.Print.{escape_byte}
-use Rattle.serde_json.specs.Data.{Data}
+use Rattle.serde_json.specs.Data.{Data, object, no_members}
 use Rattle.serde_json.specs.Written.{compact_text, has_float}
-use Rattle.crash_model.specs.Report.{ReplayedBlock, fault_text, json_string, json_array, ids_json, write_json, writes_json, replayed_json, replay_json}
+use Rattle.crash_model.specs.Report.{Section, ReplayedBlock, fault_text, json_string, json_array, ids_json, write_json, writes_json, replayed_json, replay_json}
+use Rattle.crash_model.specs.Summary.{told_fault_json}
 use Rattle.crash_model.specs.declared.fault.Fault.{Fault}
+use Rattle.crash_model.specs.declared.fault.FaultRow.{FaultRow}
 use Rattle.json_values.specs.Written.{IsWritten}
-use Rattle.json_values.specs.ToldFaults.{told_fault_data}
+use Rattle.json_values.specs.ToldFaults.{told_fault_data, fault_put}
 use Rattle.json_values.specs.Values.{number_data, ids_data, write_data, writes_data, fault_data, replay_data, AreReplayedBytes}
 use Rattle.json_values.proofs.Bytes.{array_bytes, ids_bytes, write_bytes, fault_bytes, replay_bytes, none_float, write_no_float, replay_no_float}
 
@@ -20,7 +22,7 @@ regroup_13 : (a b c k l m d e f g h i j : List ℕ) → a ++ (b ++ ((c ++ k) ++ 
 regroup_13 a b c k l m d e f g h i j = simp append_assoc
 
 -- the text of the object, by its parts
-abbrev pub object_text : ℕ → Fault → ℕ → ℕ → List BlockWrite → Option (List ReplayedBlock) → List ℕ
+abbrev object_text : ℕ → Fault → ℕ → ℕ → List BlockWrite → Option (List ReplayedBlock) → List ℕ
 object_text patches fault sets set writes replay =
     codes "{\"fault\":" ++ json_string (fault_text fault) ++ codes ","
     ++ replay_json replay
@@ -59,13 +61,18 @@ object_no_float patches fault sets set writes None =
 object_no_float patches fault sets set writes (Some replay) =
     rw (replay_no_float replay, none_float number_data (λ _. refl) (ids_of patches set), none_float (write_data patches) (write_no_float patches) writes) refl
 
--- a value that tells of the fault is written so
-pub is_written : (patches : ℕ) (fault : Fault) (sets set : ℕ) (writes : List BlockWrite) (replay : Option (List ReplayedBlock)) (value : Data) → AreReplayedBytes replay → value ≡ told_fault_data patches fault sets set writes replay → IsWritten value (object_text patches fault sets set writes replay)
-is_written patches fault sets set writes replay value are is = record {
-  whole = ap compact_text is ∙ object_bytes patches fault sets set writes replay are;
-  plain = ap has_float is ∙ object_no_float patches fault sets set writes replay;
-}
+-- the members that tell of a fault, put into an empty object
+members_are : (patches : ℕ) (row : FaultRow) (set : ℕ) (writes : List BlockWrite) (replay : Option (List ReplayedBlock)) (found : List Fault)
+    → object (fault_put patches row (record { set = set; writes = writes; replay = replay; found = found }) no_members)
+    ≡ told_fault_data patches row.fault row.sets set writes replay
+members_are patches row set writes None found = refl
+members_are patches row set writes (Some replay) found = refl
 
-pub both_ok : {X E : Type 0} (r : Result X E) (B : Type 0) (P Q : X → Type 0) → (B → (x : X) → P x → Q x) → OnOk r B → IfOk r P → IfOk r Q
-both_ok (Ok x) B P Q f b p = f b x p
-both_ok (Err e) B P Q f b p = tt
+-- an object of these members is written so
+pub fault_written : (patches : ℕ) (row : FaultRow) (first : Section) (value : Data) → AreReplayedBytes first.replay → value ≡ object (fault_put patches row first no_members) → IsWritten value (told_fault_json patches (record { row = row; first = first }))
+fault_written patches row first value are is =
+    let whole : value ≡ told_fault_data patches row.fault row.sets first.set first.writes first.replay = is ∙ members_are patches row first.set first.writes first.replay first.found in
+    record {
+      whole = ap compact_text whole ∙ object_bytes patches row.fault row.sets first.set first.writes first.replay are;
+      plain = ap has_float whole ∙ object_no_float patches row.fault row.sets first.set first.writes first.replay;
+    }

@@ -1,9 +1,10 @@
 -- The JSON values of the patches of a trace. Keys stand in ascending order.
 use Rattle.std.specs.Prelude.{ℕ, List, map, codes}
 use Rattle.hex.specs.Hex.{IsBytes}
-use Rattle.serde_json.specs.Data.{Data, string, array, object, member, no_members}
+use Rattle.serde_json.specs.Data.{Data, Members, string, array, object, member, no_members, put}
 use Rattle.serde_json.specs.View.{items_of}
 use Rattle.crash_model.specs.Explain.{Dependency, ToldPatch, op_text}
+use Rattle.crash_model.specs.Patches.{Place}
 use Rattle.crash_model.specs.Rules.{part_text}
 use Rattle.crash_model.specs.Script.{IsAct}
 use Rattle.crash_model.specs.Trace.{Emitted}
@@ -31,6 +32,18 @@ patch_data after e undo =
     (member (codes "part") (string (part_text e.part))
     (member (codes "step") (string (op_text e.origin.op))
     (member (codes "undo") (hex_data undo) no_members))))))))
+
+-- members with what tells of the operation that a patch is of
+abbrev pub label_put : Emitted → Members → Members
+label_put e members =
+    put (codes "step") (string (op_text e.origin.op))
+    (put (codes "part") (string (part_text e.part)) (put (codes "line") (number_data e.origin.line) members))
+
+-- and with what tells where it is, of its bytes and of those before it
+abbrev pub place_put : Place → List ℕ → Members → Members
+place_put p undo members =
+    put (codes "undo") (hex_data undo) (put (codes "offset") (number_data p.offset)
+    (put (codes "new") (hex_data p.new) (put (codes "block") (number_data p.block) members)))
 
 abbrev pub told_data : ToldPatch → Data
 told_data t = patch_data (dependencies_data t.after) t.emitted t.undo

@@ -1,13 +1,11 @@
 -- The JSON values of what is told of rules. Keys stand in ascending order.
 use Rattle.std.specs.Prelude.{ℕ, List, true, Option, Some, None, codes}
-use Rattle.serde_json.specs.Data.{Data, Members, boolean, string, object, member, no_members}
+use Rattle.serde_json.specs.Data.{Data, Members, boolean, string, object, member, no_members, put}
 use Rattle.crash_model.specs.Needs.{RuleUsage, Unused, TooMany, Used, ToldRule}
 use Rattle.crash_model.specs.Report.{Section, section_json}
 use Rattle.crash_model.specs.Rules.{rule_text}
-use Rattle.crash_model.specs.declared.rules.Rule.{Rule}
 use Rattle.json_values.specs.Written.{IsWritten}
 use Rattle.json_values.specs.Values.{number_data}
-use Rattle.json_values.specs.declared.rules.Numbers.{Numbers}
 
 -- the first section that a rule's usage tells, if it tells one
 abbrev pub first_section : RuleUsage → Option Section
@@ -41,10 +39,21 @@ usage_members rule (Used pairs w) first =
 abbrev pub told_rule_data : ToldRule → Option Data → Data
 told_rule_data t first = object (usage_members (rule_text t.rule) t.usage first)
 
--- what is told of a rule with these numbers, with the value of the first section
-abbrev pub used_data : Rule → Numbers → Option Data → Data
-used_data rule n first =
-    told_rule_data (record {
-      rule = rule;
-      usage = Used n.pairs (record { closed = n.closed; failing = n.failing; first = None });
-    }) first
+-- members with the first section put among them, where there is one
+abbrev pub first_put : Option Data → Members → Members
+first_put None members = members
+first_put (Some first) members = put (codes "first") first members
+
+-- with what is told of a rule's usage
+abbrev pub usage_put : RuleUsage → Option Data → Members → Members
+usage_put Unused first members = put (codes "pairs") (number_data 0) members
+usage_put (TooMany pairs) first members =
+    put (codes "too_many") (boolean true) (put (codes "pairs") (number_data pairs) members)
+usage_put (Used pairs w) first members =
+    first_put first
+    (put (codes "failing") (number_data w.failing) (put (codes "closed") (number_data w.closed)
+    (put (codes "pairs") (number_data pairs) members)))
+
+-- and with all that is told of a rule
+abbrev pub rule_put : ToldRule → Option Data → Members → Members
+rule_put t first members = usage_put t.usage first (put (codes "rule") (string (rule_text t.rule)) members)

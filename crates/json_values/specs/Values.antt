@@ -4,7 +4,7 @@ use Rattle.std.specs.List.{All}
 use Rattle.hex.specs.Hex.{encode_lower, IsBytes}
 use Rattle.patch_sets.specs.Sets.{ids_of}
 use Rattle.patch_sets.specs.declared.write.BlockWrite.{BlockWrite}
-use Rattle.serde_json.specs.Data.{Data, Members, number, unsigned, string, array, object, member, no_members}
+use Rattle.serde_json.specs.Data.{Data, Members, number, unsigned, string, array, object, member, no_members, put}
 use Rattle.serde_json.specs.View.{items_of}
 use Rattle.crash_model.specs.Report.{Section, ReplayedBlock, fault_text}
 use Rattle.crash_model.specs.declared.fault.Fault.{Fault}
@@ -43,15 +43,27 @@ abbrev pub with_replay : Option (List ReplayedBlock) → Members → Members
 with_replay None members = members
 with_replay (Some replay) members = member (codes "replay") (replay_data replay) members
 
--- a set, with its block writes, the faults that it leaves and what replay changes
-abbrev pub set_data : ℕ → ℕ → List BlockWrite → List Fault → Option (List ReplayedBlock) → Data
-set_data patches set writes found replay =
-    object (member (codes "faults") (faults_data found)
-    (with_replay replay (member (codes "set") (ids_data patches set)
-    (member (codes "writes") (writes_data patches writes) no_members))))
-
+-- a section as an object
 abbrev pub section_data : ℕ → Section → Data
-section_data patches s = set_data patches s.set s.writes s.found s.replay
+section_data patches s =
+    object (member (codes "faults") (faults_data s.found)
+    (with_replay s.replay (member (codes "set") (ids_data patches s.set)
+    (member (codes "writes") (writes_data patches s.writes) no_members))))
+
+-- members with what replay changes put among them, where that is told
+abbrev pub replay_put : Option (List ReplayedBlock) → Members → Members
+replay_put None members = members
+replay_put (Some replay) members = put (codes "replay") (replay_data replay) members
+
+-- with what tells of the set itself
+abbrev pub set_put : ℕ → Section → Members → Members
+set_put patches s members =
+    put (codes "writes") (writes_data patches s.writes)
+    (put (codes "set") (ids_data patches s.set) (replay_put s.replay members))
+
+-- and with all that tells of a section
+abbrev pub section_put : ℕ → Section → Members → Members
+section_put patches s members = set_put patches s (put (codes "faults") (faults_data s.found) members)
 
 -- what is told of replay are bytes
 abbrev pub AreReplayedBytes : Option (List ReplayedBlock) → Type 0

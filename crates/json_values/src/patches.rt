@@ -8,18 +8,18 @@ ghost use Rattle.crash_model.specs.Script.{IsAct};
 ghost use Rattle.crash_model.specs.Trace.{Emitted};
 ghost use Rattle.crash_model.specs.declared.steps.Act.TheVariants.{Do};
 ghost use Rattle.hex.specs.Hex.{IsBytes};
-ghost use Rattle.traced_patches.specs.Labels.{emitted_at};
+ghost use Rattle.traced_patches.specs.Labels.{emitted_at, emitted_of};
 ghost use Rattle.traced_patches.specs.Reasons.{reason_text};
 ghost use Rattle.traced_patches.specs.Traced.{told_at, dependency_at};
 ghost use Rattle.json_values.specs.Written.{IsWritten};
-ghost use Rattle.json_values.specs.Patches.{texts_data, dependency_data, dependencies_data, patch_data};
+ghost use Rattle.json_values.specs.Patches.{texts_data, dependency_data, dependencies_data, patch_data, label_put, place_put};
 ghost use Rattle.serde_json.specs.Data.{string};
-ghost use Rattle.serde_json.specs.View.{view};
+ghost use Rattle.serde_json.specs.View.{view, members_view};
 
 use crate::values::hex_value;
 use crash_model::operations::Op;
 use crash_model::patches::Patch;
-use serde_json::{Value, json};
+use serde_json::{Map, Value, json, put};
 use std::alloc::{AllocError, Allocator, Global};
 use traced_patches::{Label, Reason, Traced};
 
@@ -53,40 +53,47 @@ fn patch_object(
     ensures act { OnOk result (IsAct (Do (emitted_at (place patch.now.block patch.now.offset patch.now.new.items)
         label.now).origin.op)) }
 {
-    has_bytes(patch.new.as_slice());
-    has_bytes(patch.undo.as_slice());
-    label.origin.op.has_paths();
-    object_of(heap, after, label, patch)
+    let mut members = Map::new(heap);
+    put(&mut members, heap, "after", after)?;
+    put_label(&mut members, heap, label)?;
+    put_place(&mut members, heap, patch)?;
+    Ok(Value::Object(members))
 }
 
-/// Bytes are below 256. This reads them, and changes nothing.
-fn has_bytes(bytes: &[u8])
-    ensures { IsBytes bytes.now }
-{
-    let _length = bytes.len();
-}
-
-/// The object alone.
-fn object_of(
+/// The members that tell of the operation and the part of it.
+fn put_label(
+    members: &mut Map<String, Value>,
     heap: Global,
-    after: Value,
     label: &Label<'_>,
-    patch: &Patch,
-) -> Result<Value, AllocError>
-    ensures { IfOk result (λ value.
-        view value ≡ patch_data (view after) (emitted_at (place patch.now.block patch.now.offset patch.now.new.items)
-        label.now) patch.now.undo.items) }
+) -> Result<(), AllocError>
+    ensures members { OnOk result (members_view members.new.entries
+        ≡ label_put (emitted_of label.now) (members_view members.old.entries)) }
+    ensures act { OnOk result (IsAct (Do label.now.origin.op.now)) }
 {
-    json!(in heap; {
-        "after": after,
-        "block": patch.block,
-        "line": label.origin.line,
-        "new": hex_value(heap, patch.new.as_slice())?,
-        "offset": patch.offset,
-        "part": label.part.name(),
-        "step": step_value(heap, label.origin.op)?,
-        "undo": hex_value(heap, patch.undo.as_slice())?
-    })
+    put(members, heap, "line", Value::from(label.origin.line))?;
+    let part = Value::try_from_str(heap, label.part.name())?;
+    put(members, heap, "part", part)?;
+    put(members, heap, "step", step_value(heap, label.origin.op)?)
+}
+
+/// The members that tell where the patch is, of its bytes and of those before it.
+fn put_place(
+    members: &mut Map<String, Value>,
+    heap: Global,
+    patch: &Patch,
+) -> Result<(), AllocError>
+    ensures members { OnOk result (members_view members.new.entries
+        ≡ place_put (place patch.now.block patch.now.offset patch.now.new.items) patch.now.undo.items
+        (members_view members.old.entries)) }
+    ensures new { OnOk result (IsBytes patch.now.new.items) }
+    ensures undo { OnOk result (IsBytes patch.now.undo.items) }
+{
+    put(members, heap, "block", Value::from(patch.block))?;
+    let new = hex_value(heap, patch.new.as_slice())?;
+    put(members, heap, "new", new)?;
+    put(members, heap, "offset", Value::from(patch.offset))?;
+    let undo = hex_value(heap, patch.undo.as_slice())?;
+    put(members, heap, "undo", undo)
 }
 
 /// The text of an operation.

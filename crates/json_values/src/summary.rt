@@ -1,19 +1,18 @@
 //! JSON values of what is told of faults.
 
-ghost use Rattle.std.specs.Prelude.{◌≡◌, Some, None, map, IfOk, OnOk};
-ghost use Rattle.std.specs.List.{All};
+ghost use Rattle.std.specs.Prelude.{◌≡◌, IfOk, OnOk};
 ghost use Rattle.crash_model.specs.Summary.{told_fault_json};
-ghost use Rattle.hex.specs.Hex.{IsBytes};
 ghost use Rattle.json_values.specs.Written.{IsWritten};
-ghost use Rattle.json_values.specs.ToldFaults.{told_fault_data};
-ghost use Rattle.report_sections.specs.Replay.{told_block};
+ghost use Rattle.json_values.specs.ToldFaults.{fault_put};
+ghost use Rattle.json_values.specs.Values.{AreReplayedBytes};
+ghost use Rattle.report_sections.specs.Replay.{told_replay};
 ghost use Rattle.report_sections.specs.Sections.{section_of};
-ghost use Rattle.serde_json.specs.View.{view};
+ghost use Rattle.serde_json.specs.View.{view, members_view};
 
-use crate::values::{fault_value, ids_value, replay_value, writes_value};
+use crate::values::{fault_value, put_set};
 use crash_model::fault::FaultRow;
-use report_sections::{ReplayedBlock, Section};
-use serde_json::{Value, json};
+use report_sections::Section;
+use serde_json::{Map, Value, put};
 use std::alloc::{AllocError, Allocator, Global};
 
 /// What is told of a fault: its text, how many failing sets have it, and the first of them, of which the section
@@ -27,48 +26,24 @@ pub fn told_fault_value<A: Allocator>(
     ensures { IfOk result (λ value.
         IsWritten (view value) (told_fault_json patches (record { row = row.now; first = section_of first.now }))) }
 {
-    match &first.replay {
-        None => plain_value(heap, patches, row, first),
-        Some(replay) => explained_value(heap, patches, row, first, replay),
-    }
+    let mut members = Map::new(heap);
+    put_fault(&mut members, heap, patches, row, first)?;
+    Ok(Value::Object(members))
 }
 
-/// What is told of a fault, without what replay changes.
-fn plain_value<A: Allocator>(
+/// The members of what is told of a fault.
+fn put_fault<A: Allocator>(
+    members: &mut Map<String, Value>,
     heap: Global,
     patches: usize,
     row: &FaultRow,
     first: &Section<A>,
-) -> Result<Value, AllocError>
-    ensures { IfOk result (λ value.
-        view value ≡ told_fault_data patches row.now.fault row.now.sets first.now.set first.now.writes.items None) }
+) -> Result<(), AllocError>
+    ensures members { OnOk result (members_view members.new.entries
+        ≡ fault_put patches row.now (section_of first.now) (members_view members.old.entries)) }
+    ensures bytes { OnOk result (AreReplayedBytes (told_replay first.now.replay)) }
 {
-    json!(in heap; {
-        "fault": fault_value(heap, row.fault)?,
-        "set": ids_value(heap, patches, first.set)?,
-        "sets": row.sets,
-        "writes": writes_value(heap, patches, &first.writes)?
-    })
-}
-
-/// What is told of a fault, with the blocks that replay changes.
-fn explained_value<A: Allocator>(
-    heap: Global,
-    patches: usize,
-    row: &FaultRow,
-    first: &Section<A>,
-    replay: &[ReplayedBlock],
-) -> Result<Value, AllocError>
-    ensures value { IfOk result (λ value.
-        view value ≡ told_fault_data patches row.now.fault row.now.sets first.now.set first.now.writes.items
-        (Some (map told_block replay.now))) }
-    ensures bytes { OnOk result (All (λ r. IsBytes r.bytes) (map told_block replay.now)) }
-{
-    json!(in heap; {
-        "fault": fault_value(heap, row.fault)?,
-        "replay": replay_value(heap, replay)?,
-        "set": ids_value(heap, patches, first.set)?,
-        "sets": row.sets,
-        "writes": writes_value(heap, patches, &first.writes)?
-    })
+    put(members, heap, "fault", fault_value(heap, row.fault)?)?;
+    put(members, heap, "sets", Value::from(row.sets))?;
+    put_set(members, heap, patches, first)
 }

@@ -1,20 +1,21 @@
 //! JSON values of the parts of a section.
 
-ghost use Rattle.std.specs.Prelude.{◌≡◌, Some, None, map, IfOk, OnOk};
+ghost use Rattle.std.specs.Prelude.{◌≡◌, map, IfOk, OnOk};
 ghost use Rattle.std.specs.List.{All};
 ghost use Rattle.crash_model.specs.Report.{section_json};
 ghost use Rattle.hex.specs.Hex.{IsBytes};
-ghost use Rattle.serde_json.specs.View.{view};
-ghost use Rattle.report_sections.specs.Replay.{told_block};
+ghost use Rattle.serde_json.specs.View.{view, members_view};
+ghost use Rattle.report_sections.specs.Replay.{told_block, told_replay};
 ghost use Rattle.report_sections.specs.Sections.{section_of};
 ghost use Rattle.json_values.specs.Written.{IsWritten};
-ghost use Rattle.json_values.specs.Values.{set_data, ids_data, write_data, writes_data, fault_data, faults_data, hex_data, replayed_data, replay_data};
+ghost use Rattle.json_values.specs.Values.{ids_data, write_data, writes_data, fault_data, faults_data, hex_data, replayed_data, replay_data};
+ghost use Rattle.json_values.specs.Values.{section_put, set_put, replay_put, AreReplayedBytes};
 
 use crash_model::fault::Fault;
 use patch_sets::iter::Ids;
 use patch_sets::write::BlockWrite;
 use report_sections::{ReplayedBlock, Section};
-use serde_json::{Value, json};
+use serde_json::{Map, Value, json, put};
 use std::alloc::{AllocError, Allocator, Global};
 
 /// A failing set of a graph with `patches` patches, as it was made a section. It fails only when out of memory.
@@ -25,46 +26,59 @@ pub(crate) fn section_value<A: Allocator>(
 ) -> Result<Value, AllocError>
     ensures { IfOk result (λ value. IsWritten (view value) (section_json patches (section_of section.now))) }
 {
-    match &section.replay {
-        None => plain_section(heap, patches, section),
-        Some(replay) => explained_section(heap, patches, section, replay),
+    let mut members = Map::new(heap);
+    put_section(&mut members, heap, patches, section)?;
+    Ok(Value::Object(members))
+}
+
+/// The members of a failing set.
+fn put_section<A: Allocator>(
+    members: &mut Map<String, Value>,
+    heap: Global,
+    patches: usize,
+    section: &Section<A>,
+) -> Result<(), AllocError>
+    ensures members { OnOk result (members_view members.new.entries
+        ≡ section_put patches (section_of section.now) (members_view members.old.entries)) }
+    ensures bytes { OnOk result (AreReplayedBytes (told_replay section.now.replay)) }
+{
+    let faults = faults_value(heap, &section.faults)?;
+    put(members, heap, "faults", faults)?;
+    put_set(members, heap, patches, section)
+}
+
+/// The members that tell of a set itself: its ids, its block writes, and what replay changes where that is told.
+pub(crate) fn put_set<A: Allocator>(
+    members: &mut Map<String, Value>,
+    heap: Global,
+    patches: usize,
+    section: &Section<A>,
+) -> Result<(), AllocError>
+    ensures members { OnOk result (members_view members.new.entries
+        ≡ set_put patches (section_of section.now) (members_view members.old.entries)) }
+    ensures bytes { OnOk result (AreReplayedBytes (told_replay section.now.replay)) }
+{
+    put_replay(members, heap, &section.replay)?;
+    let ids = ids_value(heap, patches, section.set)?;
+    put(members, heap, "set", ids)?;
+    let writes = writes_value(heap, patches, &section.writes)?;
+    put(members, heap, "writes", writes)
+}
+
+/// The blocks that replay changes, where they are told.
+fn put_replay<A: Allocator>(
+    members: &mut Map<String, Value>,
+    heap: Global,
+    replay: &Option<Vec<ReplayedBlock, A>>,
+) -> Result<(), AllocError>
+    ensures members { OnOk result (members_view members.new.entries
+        ≡ replay_put (told_replay replay.now) (members_view members.old.entries)) }
+    ensures bytes { OnOk result (AreReplayedBytes (told_replay replay.now)) }
+{
+    match replay {
+        Some(blocks) => put(members, heap, "replay", replay_value(heap, blocks)?),
+        None => Ok(()),
     }
-}
-
-/// A failing set, without what replay changes.
-fn plain_section<A: Allocator>(
-    heap: Global,
-    patches: usize,
-    section: &Section<A>,
-) -> Result<Value, AllocError>
-    ensures { IfOk result (λ value.
-        view value ≡ set_data patches section.now.set section.now.writes.items section.now.faults.items None) }
-{
-    json!(in heap; {
-        "faults": faults_value(heap, &section.faults)?,
-        "set": ids_value(heap, patches, section.set)?,
-        "writes": writes_value(heap, patches, &section.writes)?
-    })
-}
-
-/// A failing set, with the blocks that replay changes.
-fn explained_section<A: Allocator>(
-    heap: Global,
-    patches: usize,
-    section: &Section<A>,
-    replay: &[ReplayedBlock],
-) -> Result<Value, AllocError>
-    ensures value { IfOk result (λ value.
-        view value ≡ set_data patches section.now.set section.now.writes.items section.now.faults.items
-        (Some (map told_block replay.now))) }
-    ensures bytes { OnOk result (All (λ r. IsBytes r.bytes) (map told_block replay.now)) }
-{
-    json!(in heap; {
-        "faults": faults_value(heap, &section.faults)?,
-        "replay": replay_value(heap, replay)?,
-        "set": ids_value(heap, patches, section.set)?,
-        "writes": writes_value(heap, patches, &section.writes)?
-    })
 }
 
 /// The blocks that replay changes.
@@ -82,10 +96,9 @@ pub(crate) fn replay_value(heap: Global, replay: &[ReplayedBlock]) -> Result<Val
 /// A block that replay changes, and its bytes after replay.
 fn replayed_value(heap: Global, replayed: &ReplayedBlock) -> Result<Value, AllocError>
     ensures value { IfOk result (λ value. view value ≡ replayed_data (told_block replayed.now)) }
-    ensures bytes { IsBytes replayed.now.bytes }
+    ensures bytes { OnOk result (IsBytes replayed.now.bytes) }
 {
-    let bytes = hex_value(heap, replayed.bytes.as_slice())?;
-    json!(in heap; {"block": replayed.block, "bytes": bytes})
+    json!(in heap; {"block": replayed.block, "bytes": hex_value(heap, replayed.bytes.as_slice())?})
 }
 
 /// Bytes as two hexadecimal digits each. It fails only when out of memory.
@@ -136,8 +149,7 @@ pub(crate) fn write_value(
 ) -> Result<Value, AllocError>
     ensures { IfOk result (λ value. view value ≡ write_data patches write) }
 {
-    let ids = ids_value(heap, patches, write.ids)?;
-    json!(in heap; {"block": write.block, "patches": ids})
+    json!(in heap; {"block": write.block, "patches": ids_value(heap, patches, write.ids)?})
 }
 
 /// The ids of the set, ascending.

@@ -16,7 +16,7 @@ use Rattle.report_sections.specs.declared.section.Section as code
 use Rattle.report_sections.specs.Sections.{section_of, IsSection}
 use Rattle.report_sections.proofs.Joined.{rows_more, firsts_more}
 use Rattle.report_sections.proofs.Pushed.{sections_more, length-sections}
-use Rattle.report_json.specs.JsonReport.{WritesSections, WritesFaults, base_key, trace_key, module_key, strict_key}
+use Rattle.report_json.specs.JsonReport.{WritesSections, WritesFaults, base_key, trace_key, module_key, strict_key, from_module}
 use Rattle.json_values.specs.Items.{comma_before}
 use Rattle.json_values.proofs.Commas.{mapped_more}
 
@@ -59,43 +59,53 @@ trace_explained report explain first second is more = more ∙ ap (λ (e : Bool)
 pub trace_unexplained : {A : Type 0} (report : Report A) (explain : Bool) (first second : List ℕ) → explain ≡ false → second ≡ first → second ≡ first ++ trace_json (when explain (explanation_by report.base.now report.traced.now))
 trace_unexplained report explain first second is same = same ∙ (sym (append-nil first) ∙ ap (λ (e : Bool). first ++ trace_json (when e (explanation_by report.base.now report.traced.now))) (sym is))
 
+-- the keys from the module on, one behind another
+pub keys_from_module : {A : Type 0} (report : Report A) (n : ℕ) (body : Body) (before one two three four five last : List ℕ) → n ≡ length report.traced.now.patches
+    → one ≡ before ++ module_key report.settings.now.module n
+    → two ≡ one ++ late_json (length report.traced.now.patches) report.failing body
+    → three ≡ two ++ strict_key report.settings.now.strict
+    → four ≡ three ++ trace_json (when report.settings.now.explain (explanation_by report.base.now report.traced.now))
+    → five ≡ four ++ rules_json (codes "with") (told_with report.settings.now)
+    → last ≡ five ++ rules_json (codes "without") (told_without report.settings.now)
+    → last ≡ before ++ from_module report body
+keys_from_module report n body before one two three four five last number first second third fourth fifth sixth =
+    let late = late_json (length report.traced.now.patches) report.failing body in
+    let strict = strict_key report.settings.now.strict in
+    let trace = trace_json (when report.settings.now.explain (explanation_by report.base.now report.traced.now)) in
+    let with = rules_json (codes "with") (told_with report.settings.now) in
+    let without = rules_json (codes "without") (told_without report.settings.now) in
+    let kind = report.settings.now.module in
+    let name = first ∙ ap (λ (k : ℕ). before ++ module_key kind k) number in
+    sixth ∙ (ap (λ (t : List ℕ). t ++ without) (fifth ∙ ap (λ (t : List ℕ). t ++ with) (fourth ∙ ap (λ (t : List ℕ). t ++ trace) (third ∙ ap (λ (t : List ℕ). t ++ strict) (second ∙ ap (λ (t : List ℕ). t ++ late) name))))
+    ∙ regroup before (module_key kind (length report.traced.now.patches)) late strict trace with without)
+  where
+    regroup : (a b c d e f g : List ℕ) → a ++ b ++ c ++ d ++ e ++ f ++ g ≡ a ++ (b ++ c ++ d ++ e ++ f ++ g)
+    regroup a b c d e f g = simp append_assoc
+
 -- the pieces of the whole, one behind another
-pub whole_text : {A : Type 0} (report : Report A) (n : ℕ) (body : Body) (empty one two three four five six seven eight nine ten last : List ℕ) → empty ≡ [] → n ≡ length report.traced.now.patches
+pub whole_text : {A : Type 0} (report : Report A) (body : Body) (empty one two three four five last : List ℕ) → empty ≡ []
     → one ≡ empty ++ codes "{"
     → two ≡ one ++ base_json (when report.settings.now.explain (explanation_by report.base.now report.traced.now))
     → three ≡ two ++ (codes "\"closed\":" ++ decimal report.closed)
     → four ≡ three ++ early_json (length report.traced.now.patches) report.failing body
-    → five ≡ four ++ module_key report.settings.now.module n
-    → six ≡ five ++ late_json (length report.traced.now.patches) report.failing body
-    → seven ≡ six ++ strict_key report.settings.now.strict
-    → eight ≡ seven ++ trace_json (when report.settings.now.explain (explanation_by report.base.now report.traced.now))
-    → nine ≡ eight ++ rules_json (codes "with") (told_with report.settings.now)
-    → ten ≡ nine ++ rules_json (codes "without") (told_without report.settings.now)
-    → last ≡ ten ++ codes "}\n"
+    → five ≡ four ++ from_module report body
+    → last ≡ five ++ codes "}\n"
     → last ≡ json_report report.settings.now (whole_of report body)
 unfolding json_report
-whole_text report n body empty one two three four five six seven eight nine ten last none number first second third fourth fifth sixth seventh eighth ninth tenth eleventh =
-    let explain = report.settings.now.explain in
-    let told = when explain (explanation_by report.base.now report.traced.now) in
+whole_text report body empty one two three four five last none first second third fourth fifth sixth =
+    let told = when report.settings.now.explain (explanation_by report.base.now report.traced.now) in
     let patches = length report.traced.now.patches in
     let base = base_json told in
     let early = early_json patches report.failing body in
-    let late = late_json patches report.failing body in
-    let strict = strict_key report.settings.now.strict in
-    let trace = trace_json told in
-    let with = rules_json (codes "with") (told_with report.settings.now) in
-    let without = rules_json (codes "without") (told_without report.settings.now) in
-    let name = module_text report.settings.now.module in
+    let rest = from_module report body in
     let start : three ≡ codes "{" ++ base ++ (codes "\"closed\":" ++ decimal report.closed) =
     third ∙ ap (λ (t : List ℕ). t ++ (codes "\"closed\":" ++ decimal report.closed)) (second ∙ ap (λ (t : List ℕ). t ++ base) (first ∙ ap (λ (t : List ℕ). t ++ codes "{") none)) in
-    let middle : six ≡ three ++ early ++ module_key report.settings.now.module patches ++ late =
-    sixth ∙ ap (λ (t : List ℕ). t ++ late) (fifth ∙ (ap (λ (k : ℕ). four ++ module_key report.settings.now.module k) number ∙ ap (λ (t : List ℕ). t ++ module_key report.settings.now.module patches) fourth)) in
-    let end : last ≡ six ++ strict ++ trace ++ with ++ without ++ codes "}\n" =
-    eleventh ∙ ap (λ (t : List ℕ). t ++ codes "}\n") (tenth ∙ ap (λ (t : List ℕ). t ++ without) (ninth ∙ ap (λ (t : List ℕ). t ++ with) (eighth ∙ ap (λ (t : List ℕ). t ++ trace) seventh))) in
-    end ∙ (ap (λ (t : List ℕ). t ++ strict ++ trace ++ with ++ without ++ codes "}\n") (middle ∙ ap (λ (t : List ℕ). t ++ early ++ module_key report.settings.now.module patches ++ late) start)
-    ∙ regroup (codes "{") base (codes "\"closed\":") (decimal report.closed) early (codes ",\"module\":") (codes "\"") name (codes "\"") (codes ",\"patches\":") (decimal patches) late strict trace with without (codes "}\n"))
+    let end : last ≡ three ++ early ++ rest ++ codes "}\n" = sixth ∙ ap (λ (t : List ℕ). t ++ codes "}\n") (fifth ∙ ap (λ (t : List ℕ). t ++ rest) fourth) in
+    end ∙ (ap (λ (t : List ℕ). t ++ early ++ rest ++ codes "}\n") start
+    ∙ regroup (codes "{") base (codes "\"closed\":") (decimal report.closed) early (codes ",\"module\":") (codes "\"") (module_text report.settings.now.module) (codes "\"") (codes ",\"patches\":") (decimal patches)
+    (late_json patches report.failing body) (strict_key report.settings.now.strict) (trace_json told) (rules_json (codes "with") (told_with report.settings.now)) (rules_json (codes "without") (told_without report.settings.now)) (codes "}\n"))
   where
     regroup : (a b c d e f g h i j k l m n o p q : List ℕ)
-        → a ++ b ++ (c ++ d) ++ e ++ ((f ++ g) ++ h ++ (i ++ j) ++ k) ++ l ++ m ++ n ++ o ++ p ++ q
+        → a ++ b ++ (c ++ d) ++ e ++ ((f ++ g) ++ h ++ (i ++ j) ++ k ++ l ++ m ++ n ++ o ++ p) ++ q
         ≡ a ++ b ++ c ++ d ++ e ++ f ++ (g ++ h ++ i) ++ j ++ k ++ l ++ m ++ n ++ o ++ p ++ q
     regroup a b c d e f g h i j k l m n o p q = simp append_assoc

@@ -1,19 +1,19 @@
 -- Reports as JSON.
 use Rattle.std.specs.Prelude.{◌≡◌, ℕ, List, [], ◌++◌, length, map, if◌then◌else◌, Bool, codes, decimal}
-use Rattle.crash_model.specs.Lists.{join_of}
+use Rattle.crash_model.specs.Lists.{join_of, when}
 use Rattle.crash_model.specs.Disk.{Disk}
-use Rattle.crash_model.specs.Explain.{blocks_of, hex_json, told_patches, told_json}
+use Rattle.crash_model.specs.Explain.{blocks_of, hex_json, told_patches, told_json, trace_json}
 use Rattle.crash_model.specs.Report.{Section, AreSections, json_array, module_text, section_json}
 use Rattle.crash_model.specs.Summary.{ToldFault, told_fault_json}
 use Rattle.crash_model.specs.Needs.{told_rule_json}
 use Rattle.crash_model.specs.Whole as whole
-use Rattle.crash_model.specs.Whole.{early_json, late_json}
+use Rattle.crash_model.specs.Whole.{early_json, late_json, rules_json, told_with, told_without}
 use Rattle.crash_model.specs.declared.fault.FaultRow.{FaultRow}
 use Rattle.crash_model.specs.declared.patches.Patch.{Patch}
 use Rattle.crash_model.specs.declared.settings.Detail.{Detail}
 use Rattle.crash_model.specs.declared.modules.Module.{Module}
 use Rattle.traced_patches.specs.Traced.{TracedPatches}
-use Rattle.report_sections.specs.Bodies.{TellsBody}
+use Rattle.report_sections.specs.Bodies.{TellsBody, explanation_by}
 use Rattle.report_sections.specs.ToldRules.{told_rule}
 use Rattle.report_sections.specs.declared.report.Report.{Report}
 use Rattle.report_sections.specs.declared.rules.ToldRule.{ToldRule}
@@ -44,6 +44,22 @@ abbrev pub WritesLate : {A : Type 0} → Report A → List ℕ → List ℕ → 
 WritesLate report old new =
     (body : whole.Body) → TellsBody report.detail report.base.now report.traced.now.patches report.body body
     → new ≡ old ++ late_json (length report.traced.now.patches) report.failing body
+
+-- the keys from the module on
+abbrev pub from_module : {A : Type 0} → Report A → whole.Body → List ℕ
+from_module report body =
+    module_key report.settings.now.module (length report.traced.now.patches)
+    ++ late_json (length report.traced.now.patches) report.failing body
+    ++ strict_key report.settings.now.strict
+    ++ trace_json (when report.settings.now.explain (explanation_by report.base.now report.traced.now))
+    ++ rules_json (codes "with") (told_with report.settings.now)
+    ++ rules_json (codes "without") (told_without report.settings.now)
+
+-- behind what stood there the text has those
+abbrev pub WritesFromModule : {A : Type 0} → Report A → List ℕ → List ℕ → Type 0
+WritesFromModule report old new =
+    (body : whole.Body) → TellsBody report.detail report.base.now report.traced.now.patches report.body body
+    → new ≡ old ++ from_module report body
 
 -- behind what stood there the text has the objects of these sets, with a comma between two
 pub record WritesSections (detail : Detail) (base : Disk) (patches : List Patch) (sets old new : List ℕ) : Type 0 where

@@ -1,6 +1,6 @@
 //! Whole reports.
 
-ghost use Rattle.std.specs.Prelude.{◌≡◌, ◌++◌, [], map, string_bytes, IfOk, OnOk};
+ghost use Rattle.std.specs.Prelude.{◌≡◌, ◌++◌, [], length, map, string_bytes, IfOk, OnOk};
 ghost use Rattle.patch_sets.specs.Closed.{IsClosed};
 ghost use Rattle.crash_model.specs.Patches.{deps_of};
 ghost use Rattle.crash_model.specs.Explain.{base_json, trace_json};
@@ -12,7 +12,7 @@ ghost use Rattle.report_sections.specs.Bodies.{CanTell, TellsBody, AreOnBase, Ar
 ghost use Rattle.report_sections.specs.Sections.{section_of, IsSection};
 ghost use Rattle.report_sections.specs.declared.section.Section.{Section};
 ghost use Rattle.json_values.specs.Items.{comma_before};
-ghost use Rattle.report_json.specs.JsonReport.{WritesEarly, WritesLate};
+ghost use Rattle.report_json.specs.JsonReport.{WritesEarly, WritesLate, WritesFromModule};
 ghost use Rattle.report_json.specs.JsonReport.{WritesSections, WritesFaults, WritesRules};
 
 use crate::head::{write_module, write_rule_key, write_strict_key};
@@ -69,19 +69,30 @@ where
         body
         × (string_bytes out.new ≡ json_report report.now.settings.now (whole_of report.now body))) }
 {
-    let settings = report.settings;
     out.push_str("{")?;
     write_explained_base(out, report)?;
     let closed = report.closed;
     write!(out, "\"closed\":{closed}")?;
     write_early(out, rt, alloc, report, workers)?;
+    write_from_module(out, report)?;
+    out.push_str("}\n")?;
+    Ok(())
+}
+
+/// The keys from `module` on.
+fn write_from_module<A: Allocator + Copy>(
+    out: &mut String,
+    report: &Report<'_, '_, '_, '_, A>,
+) -> Result<(), AllocError>
+    ensures { OnOk result (WritesFromModule report.now (string_bytes out.old) (string_bytes out.new)) }
+{
+    let settings = report.settings;
     write_module(out, settings.module, report.traced.graph().len())?;
     write_late(out, report)?;
     write_strict_key(out, settings.strict)?;
     write_explained_trace(out, report)?;
     write_rule_key(out, "with", settings.put_in().as_slice())?;
     write_rule_key(out, "without", settings.taken_out().as_slice())?;
-    out.push_str("}\n")?;
     Ok(())
 }
 
@@ -184,8 +195,23 @@ pub(crate) fn write_sections<A: Allocator + Copy>(
     let graph = report.traced.graph();
     let mut known = KnownTexts::new(*out.allocator(), graph.len())?;
     let mut maker = SectionMaker::new(alloc, report.base, graph, report.detail)?;
+    write_each_section(out, &mut known, &mut maker, sets)
+}
+
+/// The objects of the sets, with a comma between two, by a maker of their sections.
+fn write_each_section<A: Allocator + Copy>(
+    out: &mut String,
+    known: &mut KnownTexts,
+    maker: &mut SectionMaker<'_, A>,
+    sets: &[u128],
+) -> Result<(), AllocError>
+    requires known { known.old ≡ length maker.old.patches }
+    requires closed { AreClosed maker.old.patches sets.now }
+    ensures { OnOk result (WritesSections maker.old.detail maker.old.base maker.old.patches sets.now
+        (string_bytes out.old) (string_bytes out.new)) }
+{
     for (at, set) in sets.iter().enumerate() {
-        write_section(out, at, &mut known, &mut maker, *set)?;
+        write_section(out, at, known, maker, *set)?;
     }
     Ok(())
 }
@@ -206,10 +232,9 @@ fn write_section<A: Allocator + Copy>(
     ensures known { known.new ≡ known.old }
     ensures maker { maker.new ≡ maker.old }
 {
-    let section = maker.section(set)?;
     write_comma(out, at)?;
-    known.push_section(out, &section)?;
-    Ok(())
+    let section = maker.section(set)?;
+    known.push_section(out, &section)
 }
 
 /// The objects of the faults, with a comma between two.
@@ -225,10 +250,24 @@ fn write_faults<A: Allocator + Copy>(
         report.now.traced.now.patches rows.now (string_bytes out.old) (string_bytes out.new)) }
 {
     let graph = report.traced.graph();
-    let patches = graph.len();
     let mut maker = SectionMaker::new(alloc, report.base, graph, report.detail)?;
+    write_each_fault(out, &mut maker, graph.len(), rows)
+}
+
+/// The objects of the faults, with a comma between two, by a maker of their sections. The graph has `patches` patches.
+fn write_each_fault<A: Allocator + Copy>(
+    out: &mut String,
+    maker: &mut SectionMaker<'_, A>,
+    patches: usize,
+    rows: &[FaultRow],
+) -> Result<(), AllocError>
+    requires patches { patches ≡ length maker.old.patches }
+    requires closed { AreClosed maker.old.patches (map (λ row. row.first) rows.now) }
+    ensures { OnOk result (WritesFaults maker.old.detail maker.old.base maker.old.patches rows.now
+        (string_bytes out.old) (string_bytes out.new)) }
+{
     for (at, row) in rows.iter().enumerate() {
-        write_fault(out, at, &mut maker, patches, row)?;
+        write_fault(out, at, maker, patches, row)?;
     }
     Ok(())
 }
@@ -250,8 +289,7 @@ fn write_fault<A: Allocator + Copy>(
 {
     let first = maker.section(row.first)?;
     let value = told_fault_value(*out.allocator(), patches, row, &first)?;
-    write_item(out, at, &value)?;
-    Ok(())
+    write_item(out, at, &value)
 }
 
 /// The objects of the rules, with a comma between two. The graph has `patches` patches.

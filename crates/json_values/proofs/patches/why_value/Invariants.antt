@@ -5,4 +5,4 @@ use Rattle.serde_json.specs.View.{view}
 use Rattle.json_values.proofs.patches.why_value.Given as goal
 
 abbrev pub invariant-loop-reason : goal.invariant-loop-reason
-invariant-loop-reason l = map view l.texts.items ≡ map string (map reason_text (take l.reason-index l.reasons))
+invariant-loop-reason l = map view l.texts.items ≡ map (λ r. string (reason_text r)) (take l.reason-index l.reasons)

@@ -1,20 +1,11 @@
-use Rattle.std.proofs.Common.{◌≡◌, ◌++◌, length, codes, string_bytes, ap, ◌∙◌}
-use Rattle.crash_model.specs.Whole.{rules_json, told_with, told_without}
 use Rattle.report_json.proofs.Reports.{whole_text}
 use Rattle.report_json.proofs.report.write_report.Goals as goal
 
 pub returns : goal.returns
 returns g c =
-    let report = c.args.report.now in
-    let number : c.len.result ≡ length report.traced.now.patches = cc in
-    let early = c.in_ok-write_early.ensures in
-    let traced = string_bytes c.write_explained_trace.new.out in
-    let with : string_bytes c.write_rule_key.new.out ≡ traced ++ rules_json (codes "with") (told_with report.settings.now) =
-    c.in_ok-write_rule_key.ensures ∙ ap (λ rs. traced ++ rules_json (codes "with") rs) (c.as_slice.ensures.value ∙ c.put_in.ensures) in
-    let without : string_bytes c.write_rule_key-2.new.out ≡ string_bytes c.write_rule_key.new.out ++ rules_json (codes "without") (told_without report.settings.now) =
-    c.in_ok-write_rule_key-2.ensures ∙ ap (λ rs. string_bytes c.write_rule_key.new.out ++ rules_json (codes "without") rs) (c.as_slice-2.ensures.value ∙ c.taken_out.ensures) in (
+    let early = c.in_ok-write_early.ensures in (
       early.0,
       early.1,
-      whole_text report c.len.result early.0 _ _ _ _ _ _ _ _ _ _ _ _ c.requires.empty number c.in_ok-push_str.ensures.bytes c.in_ok-write_explained_base.ensures c.in_ok-write.ensures.bytes early.2
-          c.in_ok-write_module.ensures (c.in_ok-write_late.ensures early.0 early.1) c.in_ok-write_strict_key.ensures c.in_ok-write_explained_trace.ensures with without c.in_ok-push_str-2.ensures.bytes,
+      whole_text c.args.report.now early.0 _ _ _ _ _ _ _ c.requires.empty c.in_ok-push_str.ensures.bytes c.in_ok-write_explained_base.ensures c.in_ok-write.ensures.bytes early.2
+          (c.in_ok-write_from_module.ensures early.0 early.1) c.in_ok-push_str-2.ensures.bytes,
     )
