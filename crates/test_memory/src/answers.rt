@@ -20,20 +20,24 @@ const LIMIT: usize = 4096;
 /// What a run answers that takes its memory from what refuses it.
 type Answer<'m> = Result<Outcome<&'m Refusing<Global>>, RunFault>;
 
-/// Whether the run reported, and then exactly so; else it is out of memory.
+/// Whether the run of so many workers reported, and then exactly so; else it is out of memory.
 fn expect_report<R: Abort + AllocGlobal>(
     rt: &R,
     answer: &Answer<'_>,
     digest: &str,
+    workers: usize,
 ) -> Result<bool, Fail> {
     match answer {
         Ok(outcome) => {
             let told = digest_of(rt.alloc(), outcome.text.as_bytes())?;
-            assert!(rt; told.as_str() == digest);
+            assert!(rt; told.as_str() == digest, "{digest} by {workers} workers");
             Ok(true)
         }
         Err(fault) => {
-            assert!(rt; *fault == RunFault::OutOfMemory);
+            assert!(rt;
+                *fault == RunFault::OutOfMemory,
+                "{digest} by {workers} workers"
+            );
             Ok(false)
         }
     }
@@ -77,7 +81,7 @@ fn reports<R: Abort + AllocGlobal + Threads + Wait + Sync>(
     let settings = asked.settings(LIMIT, json);
     let script = asked.whole_script(heap)?;
     let answer = run(rt, heap, memory, &script, &settings, workers, &OpenGate);
-    expect_report(rt, &answer, asked.report(json))
+    expect_report(rt, &answer, asked.report(json), workers)
 }
 
 /// Whether a run with too low a limit is refused for that; else it is out of memory.
@@ -102,7 +106,7 @@ fn refuses_too_many<R: Abort + AllocGlobal + Threads + Wait + Sync>(
     let too_many = matches!(&answer, Err(RunFault::TooMany));
     assert!(rt;
         too_many || matches!(&answer, Err(RunFault::OutOfMemory)),
-        "24 closed sets are more than 23"
+        "24 closed sets are more than 23, by {workers} workers"
     );
     too_many
 }

@@ -2,7 +2,7 @@
 
 use command_line::settings_of;
 use crash_text::answer::answer;
-use std::alloc::{AllocError, Global};
+use std::alloc::Global;
 use std::process::Abort;
 use std::rt::Files;
 use std::sync::Wait;
@@ -25,38 +25,14 @@ impl Answered {
             && self.out.as_slice() == report.as_bytes()
             && self.err.as_slice() == refusal.as_bytes()
     }
-}
 
-/// The words that stand in these texts, apart by blanks.
-fn words_of<'a>(heap: Global, texts: &[&'a str]) -> Result<Vec<&'a str>, AllocError> {
-    let mut words = Vec::new(heap);
-    for text in texts {
-        add_words(&mut words, text)?;
-    }
-    Ok(words)
-}
-
-fn add_words<'a>(words: &mut Vec<&'a str>, text: &'a str) -> Result<(), AllocError> {
-    for word in text.split(' ') {
-        if !word.is_empty() {
-            words.push(word)?;
+    /// Whether these lines stand in the report.
+    pub fn shows(&self, lines: &str) -> bool {
+        match str::from_utf8(&self.out) {
+            Ok(report) => report.contains(lines),
+            Err(_) => false,
         }
     }
-    Ok(())
-}
-
-/// The program's answer to these words, each of which is one, and this script.
-fn answer_to<R: Files + AllocGlobal + Threads + Wait + Sync>(
-    rt: &R,
-    words: &[&str],
-    script: &[u8],
-) -> Answered {
-    let heap = rt.alloc();
-    let mut out = Vec::new(heap);
-    let mut err = Vec::new(heap);
-    let mut input = script;
-    let status = answer(rt, heap, heap, words, &mut input, &mut out, &mut err);
-    Answered { status, out, err }
 }
 
 /// The program's answer to these words and this script. Several words may stand in one text, apart by blanks.
@@ -65,8 +41,16 @@ pub fn ask<R: Files + AllocGlobal + Threads + Wait + Sync>(
     texts: &[&str],
     script: &[u8],
 ) -> Result<Answered, Fail> {
-    let words = words_of(rt.alloc(), texts)?;
-    Ok(answer_to(rt, &words, script))
+    let heap = rt.alloc();
+    let mut words = Vec::new(heap);
+    for text in texts {
+        words.extend(text.split_whitespace())?;
+    }
+    let mut out = Vec::new(heap);
+    let mut err = Vec::new(heap);
+    let mut input = script;
+    let status = answer(rt, heap, heap, &words, &mut input, &mut out, &mut err);
+    Ok(Answered { status, out, err })
 }
 
 /// The program reports exactly this, with this status.
@@ -102,7 +86,7 @@ pub fn shows<R: Files + Abort + AllocGlobal + Threads + Wait + Sync>(
     lines: &str,
 ) -> Result<(), Fail> {
     let got = ask(rt, words, script)?;
-    assert!(rt; got.status == 1 && stands_in(&got.out, lines.as_bytes()));
+    assert!(rt; got.status == 1 && got.shows(lines));
     Ok(())
 }
 
@@ -145,8 +129,10 @@ pub fn is_a_fault<R: Abort + AllocGlobal>(rt: &R, words: &[&str], named: &str) -
 
 /// The words of each row, apart by blanks, are a fault of the command line, and what stands beside them is in it.
 pub fn each_is_a_fault<R: Abort + AllocGlobal>(rt: &R, rows: &[(&str, &str)]) -> Result<(), Fail> {
-    for (words, named) in rows {
-        is_a_fault(rt, &words_of(rt.alloc(), &[*words])?, named)?;
+    for (text, named) in rows {
+        let mut words = Vec::new(rt.alloc());
+        words.extend(text.split_whitespace())?;
+        is_a_fault(rt, &words, named)?;
     }
     Ok(())
 }
@@ -190,14 +176,4 @@ pub fn reports<R: Files + Abort + AllocGlobal + Threads + Wait + Sync>(
         }
     }
     Ok(())
-}
-
-/// Do the wanted bytes stand in these, one behind the other?
-pub fn stands_in(bytes: &[u8], wanted: &[u8]) -> bool {
-    for window in bytes.windows(wanted.len().max(1)) {
-        if window == wanted {
-            return true;
-        }
-    }
-    wanted.is_empty()
 }

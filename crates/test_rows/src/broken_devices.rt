@@ -4,7 +4,6 @@ ghost use Rattle.std.specs.Prelude.{◌≡◌, ◌-◌, ◌^◌, ◌<◌, Some, 
 
 use crate::asked::{ask, refused};
 use crate::scripts::CREATE;
-use crate::tables::each_row;
 use crash_model::modules::Module;
 use crash_model::refusals::RunFault;
 use crash_text::answer::answer;
@@ -298,7 +297,7 @@ fn help_is_printed_as_a_report_is(rt: HostRuntime) -> Result<(), Fail> {
 }
 
 /// What each row asks, and what it is told.
-const ROWS: &str = r#"
+pub const ROWS: &str = r#"
 # a report is printed
 $ --module async
 start
@@ -318,8 +317,3 @@ $ .
 = exactly 2
 crashmap: 50 cannot read the script
 "#;
-
-#[test]
-fn each_row_is_told(rt: HostRuntime) -> Result<(), Fail> {
-    each_row(&rt, ROWS)
-}

@@ -2,7 +2,6 @@
 
 use crate::asked::{has_digest, shows};
 use crate::scripts::{DIRECTORY_REUSED, WRITE};
-use crate::tables::each_row;
 use std::test::Fail;
 
 /// A patch with what it waits for, behind which the next patch stands.
@@ -56,7 +55,7 @@ fn each_ordering_tells_what_its_patches_are(rt: HostRuntime) -> Result<(), Fail>
 }
 
 /// What each row asks, and what it is told.
-const ROWS: &str = r#"
+pub const ROWS: &str = r#"
 # the patches of a create have their line part and place
 $ --module async --explain
 start
@@ -281,8 +280,3 @@ patch 5 line 6 write /b: Ptr block 2 offset 36 length 1
 after 3: Ptr:MapSet
 after 4: Ptr:InitFile
 "#;
-
-#[test]
-fn each_row_is_told(rt: HostRuntime) -> Result<(), Fail> {
-    each_row(&rt, ROWS)
-}

@@ -1,7 +1,6 @@
 //! Orderings of one's own, on the command line.
 
 use crate::asked::{each_is_a_fault, is_a_fault};
-use crate::tables::each_row;
 use std::test::Fail;
 
 const LACKED: [(&str, &str); 3] = [
@@ -54,7 +53,7 @@ fn a_word_that_is_no_rule_is_a_fault(rt: HostRuntime) -> Result<(), Fail> {
 }
 
 /// What each row asks, and what it is told.
-const ROWS: &str = r#"
+pub const ROWS: &str = r#"
 # file data that wait for the done before are never covered by an old copy
 $ --module=meta --blocks=24 --journal=12 --with FileData:previous-Done < directory-reused
 = exactly 0
@@ -82,8 +81,3 @@ patches 2
 closed 3
 failing 0
 "#;
-
-#[test]
-fn each_row_is_told(rt: HostRuntime) -> Result<(), Fail> {
-    each_row(&rt, ROWS)
-}

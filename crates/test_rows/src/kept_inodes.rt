@@ -1,10 +1,7 @@
 //! Which inodes a script keeps: those that are live in its base and after each operation behind the start line.
 
-use crate::tables::each_row;
-use std::test::Fail;
-
 /// What each row asks, and what it is told.
-const ROWS: &str = r#"
+pub const ROWS: &str = r#"
 # an inode that an operation frees is not kept
 $ --strict
 create /a
@@ -94,8 +91,3 @@ write block 5: 0
 write block 4: 2
 fault 3 unwritten pointer: inode 0 slot 0 block 10
 "#;
-
-#[test]
-fn each_row_is_told(rt: HostRuntime) -> Result<(), Fail> {
-    each_row(&rt, ROWS)
-}

@@ -31,6 +31,8 @@ mod refusals;
 #[cfg(test)]
 mod reports;
 #[cfg(test)]
+mod rows;
+#[cfg(test)]
 mod rule_texts;
 #[cfg(test)]
 mod scripts;

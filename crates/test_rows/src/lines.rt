@@ -1,7 +1,6 @@
 //! Scripts: which lines are read, and which are refused.
 
 use crate::asked::{ask, exactly, refused};
-use crate::tables::each_row;
 use std::process::Abort;
 use std::rt::Files;
 use std::sync::Wait;
@@ -78,7 +77,7 @@ fn comments_and_empty_lines_are_counted(rt: HostRuntime) -> Result<(), Fail> {
 }
 
 /// What each row asks, and what it is told.
-const ROWS: &str = r#"
+pub const ROWS: &str = r#"
 # the script is read before it is run
 $ --module async
 start
@@ -138,8 +137,3 @@ start
 = exactly 2
 crashmap: line 2: 41 bad line
 "#;
-
-#[test]
-fn each_row_is_told(rt: HostRuntime) -> Result<(), Fail> {
-    each_row(&rt, ROWS)
-}

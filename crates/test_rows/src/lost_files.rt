@@ -2,7 +2,6 @@
 
 use crate::asked::shows;
 use crate::scripts::MOVED_IN;
-use crate::tables::each_row;
 use std::test::Fail;
 
 /// A file is lost, and its directory has no block; the next set stands behind these two faults.
@@ -24,7 +23,7 @@ fn the_two_faults_stand_behind_the_others(rt: HostRuntime) -> Result<(), Fail> {
 }
 
 /// What each row asks, and what it is told.
-const ROWS: &str = r#"
+pub const ROWS: &str = r#"
 # the two faults stand behind the others
 $ --module async --strict --summary < moved-in
 = each 1
@@ -273,8 +272,3 @@ patches 7
 closed 14
 failing 0
 "#;
-
-#[test]
-fn each_row_is_told(rt: HostRuntime) -> Result<(), Fail> {
-    each_row(&rt, ROWS)
-}

@@ -2,7 +2,6 @@
 
 use crate::asked::exactly;
 use crate::scripts::DIRECTORY_REUSED;
-use crate::tables::each_row;
 use std::test::Fail;
 
 /// What a metadata journal's rules are needed for where a directory's block becomes file data.
@@ -86,7 +85,7 @@ fn every_number_of_workers_tells_the_same(rt: HostRuntime) -> Result<(), Fail> {
 }
 
 /// What each row asks, and what it is told.
-const ROWS: &str = r#"
+pub const ROWS: &str = r#"
 # each rule of soft updates has its own crash or none
 $ --needs < block-reused
 = exactly 0
@@ -312,8 +311,3 @@ rule InodeFree:EntryClear pairs 0
 rule MapClear:InodeFree pairs 0
 rule EntryClear:EntrySet pairs 0
 "#;
-
-#[test]
-fn each_row_is_told(rt: HostRuntime) -> Result<(), Fail> {
-    each_row(&rt, ROWS)
-}

@@ -1,7 +1,6 @@
 //! What each ordering leaves open.
 
 use crate::asked::{exactly, refused};
-use crate::tables::each_row;
 use std::alloc::{AllocError, Global};
 use std::test::Fail;
 use test_support::asked::{HALF_LINKS, SOFT_LINKS};
@@ -41,7 +40,7 @@ fn a_graph_has_at_most_124_patches(rt: HostRuntime) -> Result<(), Fail> {
 }
 
 /// What each row asks, and what it is told.
-const ROWS: &str = r#"
+pub const ROWS: &str = r#"
 # soft updates keep these scripts safe
 $ --module soft
 start
@@ -323,8 +322,3 @@ depend A A
 = exactly 2
 crashmap: line 4: 21 group fault
 "#;
-
-#[test]
-fn each_row_is_told(rt: HostRuntime) -> Result<(), Fail> {
-    each_row(&rt, ROWS)
-}

@@ -1,10 +1,7 @@
 //! Operations, geometries and limits that are refused.
 
-use crate::tables::each_row;
-use std::test::Fail;
-
 /// What each row asks, and what it is told.
-const ROWS: &str = r#"
+pub const ROWS: &str = r#"
 # a path is walked name by name
 $ --module async
 start
@@ -342,8 +339,3 @@ create /b
 = exactly 2
 crashmap: 30 too many closed sets
 "#;
-
-#[test]
-fn each_row_is_told(rt: HostRuntime) -> Result<(), Fail> {
-    each_row(&rt, ROWS)
-}

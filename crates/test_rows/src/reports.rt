@@ -1,10 +1,7 @@
 //! Reports of whole runs, as text and as JSON.
 
-use crate::tables::each_row;
-use std::test::Fail;
-
 /// What each row asks, and what it is told.
-const ROWS: &str = r#"
+pub const ROWS: &str = r#"
 # a script without operations has one closed set
 $ --module async
 start
@@ -224,8 +221,3 @@ write block 2: 5
 fault 2 block used twice: block 5
 fault 3 unwritten pointer: inode 2 slot 0 block 5
 "#;
-
-#[test]
-fn each_row_is_told(rt: HostRuntime) -> Result<(), Fail> {
-    each_row(&rt, ROWS)
-}

@@ -1,10 +1,7 @@
 //! What a strict checker finds of each operation, where soft updates have all their rules and where one is taken out.
 
-use crate::tables::each_row;
-use std::test::Fail;
-
 /// What each row asks, and what it is told.
-const ROWS: &str = r#"
+pub const ROWS: &str = r#"
 # a rename without an order loses the file
 $ --module async --strict
 create /a
@@ -265,8 +262,3 @@ patches 2
 closed 3
 failing 0
 "#;
-
-#[test]
-fn each_row_is_told(rt: HostRuntime) -> Result<(), Fail> {
-    each_row(&rt, ROWS)
-}

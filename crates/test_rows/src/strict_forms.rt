@@ -1,10 +1,7 @@
 //! What a strict checker finds, told in each way and by both explorers: the reports of the reference program.
 
-use crate::tables::each_row;
-use std::test::Fail;
-
 /// Names in one directory: what each row asks, and what it is told.
-const NAMES: &str = r#"
+pub const NAMES: &str = r#"
 # a rename without an order
 $ --module async --strict
 create /a
@@ -47,7 +44,7 @@ $ --strict < link-then-unlink
 "#;
 
 /// Directories and files that come or go.
-const DIRECTORIES: &str = r#"
+pub const DIRECTORIES: &str = r#"
 # a move into a new directory
 $ --strict < moved-in
 = reports 1
@@ -98,7 +95,7 @@ create /b
 "#;
 
 /// What a journal is replayed over.
-const JOURNALS: &str = r#"
+pub const JOURNALS: &str = r#"
 # a link and an unlink behind a metadata journal
 $ --module meta --journal 6 --strict < link-then-unlink
 = reports 0
@@ -134,18 +131,3 @@ cbdbacb1a97bae66a4d23273c39add7ba4e6c56c bd56d06f4e56dd41a7f62a639f6f40bac6b886c
 6fa1a2c88bed011ce9a36d750b2f92b0d325fdc5 2e9c560cb0b7ae2bb805d2bb013b299af7f7cba4
 9eb93fc018d30ac77f6c93e2859fd5910349821b da49c2b91c3d298fbd39b2a7a7d1a2d3bb0bed84
 "#;
-
-#[test]
-fn names_are_told(rt: HostRuntime) -> Result<(), Fail> {
-    each_row(&rt, NAMES)
-}
-
-#[test]
-fn directories_are_told(rt: HostRuntime) -> Result<(), Fail> {
-    each_row(&rt, DIRECTORIES)
-}
-
-#[test]
-fn journals_are_told(rt: HostRuntime) -> Result<(), Fail> {
-    each_row(&rt, JOURNALS)
-}

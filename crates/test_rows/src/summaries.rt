@@ -1,10 +1,7 @@
 //! What `--summary` tells: each fault once, in how many failing sets, and the first of them.
 
-use crate::tables::each_row;
-use std::test::Fail;
-
 /// What each row asks, and what it is told.
-const ROWS: &str = r#"
+pub const ROWS: &str = r#"
 # one fault of 48 failing sets is told once
 $ --module meta --blocks 24 --journal 12 --summary < directory-reused
 = exactly 1
@@ -164,8 +161,3 @@ sets 4096
 set 13
 write block 4: 13
 "#;
-
-#[test]
-fn each_row_is_told(rt: HostRuntime) -> Result<(), Fail> {
-    each_row(&rt, ROWS)
-}

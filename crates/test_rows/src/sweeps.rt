@@ -1,7 +1,6 @@
 //! The sweep and the board give the same reports, those of the reference program.
 
 use crate::asked::{exactly, refused, reports};
-use crate::tables::each_row;
 use std::test::Fail;
 use test_support::asked::{HALF_LINKS, LINKS};
 
@@ -48,7 +47,7 @@ fn more_sets_than_a_board_holds_with_every_number_of_workers(rt: HostRuntime) ->
 }
 
 /// What each row asks, and what it is told.
-const ROWS: &str = r#"
+pub const ROWS: &str = r#"
 # a script without operations
 $ --module async
 start
@@ -122,8 +121,3 @@ c0498fa3916c4f28b69c721634c011d493fa9dbd 44e43060dac5fd241fd9f0c9c1a036f55f61f78
 8d2f85caf6fd8558e3886f7623ab5e5d71b038d3 41ab1cee420998ac47a211df9252ac5be19a0414
 6b67ee9f15f5e0ce1ced51d2881b9147dd6894fa b9239fc22c531f68742effa3758cc1b8433220c2
 "#;
-
-#[test]
-fn each_row_is_told(rt: HostRuntime) -> Result<(), Fail> {
-    each_row(&rt, ROWS)
-}

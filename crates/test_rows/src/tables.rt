@@ -10,7 +10,7 @@
 //! them, or does so by each (`each-begins`), or `shows` them somewhere. Or they are its SHA-1 `digest`, or the digests
 //! of eight `reports`.
 
-use crate::asked::{Answered, EXPLORED, ask, reports, stands_in};
+use crate::asked::{Answered, EXPLORED, ask, reports};
 use crate::scripts::named;
 use std::process::Abort;
 use std::rt::Files;
@@ -34,23 +34,23 @@ pub fn each_row<R: Files + Abort + AllocGlobal + Threads + Wait + Sync>(
     rt: &R,
     table: &str,
 ) -> Result<(), Fail> {
-    let mut empty = true;
+    assert!(rt; table.contains("\n# "), "a table without a row");
     for text in table.split("\n# ").skip(1) {
-        is_so(rt, text)?;
-        empty = false;
+        let (row, lines) = read_row(text).ok_or("no row")?;
+        let told = filled(rt, joined(rt, lines)?.as_str())?;
+        if row.how == "reports" {
+            reports(
+                rt,
+                row.words,
+                row.script.as_bytes(),
+                row.status,
+                told.as_str(),
+            )?;
+        } else {
+            is_told(rt, row, told.as_str())?;
+        }
     }
-    assert!(rt; !empty, "a table without a row");
     Ok(())
-}
-
-/// The program answers as the row of this text says.
-fn is_so<R: Files + Abort + AllocGlobal + Threads + Wait + Sync>(
-    rt: &R,
-    text: &str,
-) -> Result<(), Fail> {
-    let (row, lines) = read_row(text).ok_or("no row")?;
-    let told = filled(rt, joined(rt, lines)?.as_str())?;
-    is_told(rt, row, told.as_str())
 }
 
 /// The row of this text, and the lines of the answer.
@@ -125,22 +125,24 @@ fn add_zeros(out: &mut String, count: usize) -> Result<(), Fail> {
     Ok(())
 }
 
-/// The program answers as the row says.
+/// Who explores for an answer of this kind.
+fn explorers_of(how: &str) -> &'static [&'static str] {
+    match how {
+        "each" | "each-begins" => &EXPLORED,
+        _ => &[""],
+    }
+}
+
+/// The program answers as the row says, whoever explores.
 fn is_told<R: Files + Abort + AllocGlobal + Threads + Wait + Sync>(
     rt: &R,
     row: Row<'_>,
     told: &str,
 ) -> Result<(), Fail> {
-    match row.how {
-        "each" | "each-begins" => {
-            for explored in EXPLORED {
-                is_told_by(rt, row, explored, told)?;
-            }
-            Ok(())
-        }
-        "reports" => reports(rt, row.words, row.script.as_bytes(), row.status, told),
-        _ => is_told_by(rt, row, "", told),
+    for explored in explorers_of(row.how) {
+        is_told_by(rt, row, explored, told)?;
     }
+    Ok(())
 }
 
 /// The program with these words more answers as the row says.
@@ -173,7 +175,7 @@ fn is_answer<R: AllocGlobal>(
     }
     Ok(match row.how {
         "begins" | "each-begins" => got.out.starts_with(told.as_bytes()),
-        "shows" => stands_in(&got.out, told.as_bytes()),
+        "shows" => got.shows(told),
         "digest" => digest_of(rt.alloc(), &got.out)?.as_str() == told.trim_end(),
         _ => got.out.as_slice() == told.as_bytes(),
     })

@@ -3,7 +3,6 @@
 use crate::asked::{exactly, has_digest, is_a_fault, is_taken};
 use crate::rule_texts::SOFT;
 use crate::scripts::BLOCK_REUSED;
-use crate::tables::each_row;
 use std::alloc::{AllocError, Global};
 use std::process::Abort;
 use std::rt::Files;
@@ -97,7 +96,7 @@ fn sixteen_rules_are_put_in_and_no_more(rt: HostRuntime) -> Result<(), Fail> {
 }
 
 /// What each row asks, and what it is told.
-const ROWS: &str = r#"
+pub const ROWS: &str = r#"
 # the full journal needs no rule on file data
 $ --module full --journal 6 --without FileData:previous-Commit
 start
@@ -352,8 +351,3 @@ write block 2: 5
 write block 4: 6
 fault 3 unwritten pointer: inode 1 slot 0 block 8
 "#;
-
-#[test]
-fn each_row_is_told(rt: HostRuntime) -> Result<(), Fail> {
-    each_row(&rt, ROWS)
-}

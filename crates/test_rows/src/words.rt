@@ -1,9 +1,7 @@
 //! Words of the command line that ask for no run.
 
-use crate::tables::each_row;
 use crash_text::answer::refuse_words;
 use std::io::{Error, ErrorKind};
-use std::test::Fail;
 
 #[test]
 fn a_word_that_is_no_text_is_told_in_one_line(rt: HostRuntime) {
@@ -22,7 +20,7 @@ fn words_for_which_memory_is_refused_are_out_of_memory(rt: HostRuntime) {
 }
 
 /// What each row asks, and what it is told.
-const ROWS: &str = r#"
+pub const ROWS: &str = r#"
 # the version is printed
 $ --version
 = exactly 0
@@ -33,8 +31,3 @@ $ -V
 = exactly 0
 crashmap 1.0.0
 "#;
-
-#[test]
-fn each_row_is_told(rt: HostRuntime) -> Result<(), Fail> {
-    each_row(&rt, ROWS)
-}

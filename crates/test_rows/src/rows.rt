@@ -1,0 +1,50 @@
+//! The program answers as each row of each table says.
+
+use crate::tables::each_row;
+use crate::{
+    broken_devices, explained, given_rules, kept_inodes, lines, lost_files, needed_rules,
+    orderings, refusals, reports, strict, strict_forms, summaries, sweeps, taken_out_rules, words,
+};
+use std::test::Fail;
+
+/// The tables of rows that tell the lines of an answer.
+const TABLES: [&str; 15] = [
+    broken_devices::ROWS,
+    explained::ROWS,
+    given_rules::ROWS,
+    kept_inodes::ROWS,
+    lines::ROWS,
+    lost_files::ROWS,
+    needed_rules::ROWS,
+    orderings::ROWS,
+    refusals::ROWS,
+    reports::ROWS,
+    strict::ROWS,
+    summaries::ROWS,
+    sweeps::ROWS,
+    taken_out_rules::ROWS,
+    words::ROWS,
+];
+
+#[test]
+fn each_row_is_told(rt: HostRuntime) -> Result<(), Fail> {
+    for table in TABLES {
+        each_row(&rt, table)?;
+    }
+    Ok(())
+}
+
+/// The tables of what a strict checker finds, told in each way.
+const STRICT_FORMS: [&str; 3] = [
+    strict_forms::NAMES,
+    strict_forms::DIRECTORIES,
+    strict_forms::JOURNALS,
+];
+
+#[test]
+fn strict_forms_are_told(rt: HostRuntime) -> Result<(), Fail> {
+    for table in STRICT_FORMS {
+        each_row(&rt, table)?;
+    }
+    Ok(())
+}
