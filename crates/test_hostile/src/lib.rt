@@ -1,4 +1,4 @@
-//! Tests alone: images that no operation makes, scripts of noise, and schedules held by gates.
+//! Tests alone: images that no operation makes, scripts of noise, schedules held by gates, and refused memory.
 //!
 //! Images are filled from fixed seeds, from noise to sound images with a few bytes damaged, and all that replay,
 //! checker, planner and reads tell of an image goes into one digest for each kind of image. Each expected value comes
@@ -9,6 +9,8 @@
 
 #[cfg(test)]
 mod images;
+#[cfg(test)]
+mod memory;
 #[cfg(test)]
 mod reports;
 #[cfg(test)]

@@ -2,7 +2,7 @@
 
 ghost use Rattle.std.specs.Prelude.{◌≤◌};
 
-use crate::answers::{Trial, answers};
+use crate::memory::answers::{Trial, answers};
 use std::alloc::Global;
 use std::process::Abort;
 use std::sync::Wait;
@@ -53,10 +53,10 @@ fn run_refused<R: Abort + AllocGlobal + Threads + Wait + Sync>(
     let refused = memory.gauge().refused() > 0;
     memory.gauge().refuse(1, 0);
     if workers == 1 {
-        assert!(rt; answered == !refused, "{name}");
+        assert!(rt; answered == !refused, "{name}, one worker");
     }
-    assert!(rt; answered || refused, "{name}");
-    assert!(rt; !refused || answers(rt, memory, trial, workers)?, "{name}");
+    assert!(rt; answered || refused, "{name}, {workers} workers");
+    assert!(rt; !refused || answers(rt, memory, trial, workers)?, "{name}, {workers} workers");
     Ok(refused)
 }
 
@@ -74,11 +74,11 @@ fn refuse_each<R: Abort + AllocGlobal + Threads + Wait + Sync>(
         let last = if rest { u64::MAX } else { number };
         memory.gauge().refuse(number, last);
         if !run_refused(rt, &memory, row, workers)? {
-            assert!(rt; number > 1, "{}: nothing was refused", row.0);
+            assert!(rt; number > 1, "{}, {workers} workers: nothing was refused", row.0);
             return Ok(());
         }
     }
-    assert!(rt; false, "{}: a run makes more requests than that", row.0);
+    assert!(rt; false, "{}, {workers} workers: a run makes more requests than that", row.0);
     Ok(())
 }
 
