@@ -56,7 +56,10 @@ fn run_refused<R: Abort + AllocGlobal + Threads + Wait + Sync>(
         assert!(rt; answered == !refused, "{name}, one worker");
     }
     assert!(rt; answered || refused, "{name}, {workers} workers");
-    assert!(rt; !refused || answers(rt, memory, trial, workers)?, "{name}, {workers} workers");
+    assert!(rt;
+        !refused || answers(rt, memory, trial, workers)?,
+        "{name}, {workers} workers"
+    );
     Ok(refused)
 }
 
@@ -74,11 +77,19 @@ fn refuse_each<R: Abort + AllocGlobal + Threads + Wait + Sync>(
         let last = if rest { u64::MAX } else { number };
         memory.gauge().refuse(number, last);
         if !run_refused(rt, &memory, row, workers)? {
-            assert!(rt; number > 1, "{}, {workers} workers: nothing was refused", row.0);
+            assert!(rt;
+                number > 1,
+                "{}, {workers} workers: nothing was refused",
+                row.0
+            );
             return Ok(());
         }
     }
-    assert!(rt; false, "{}, {workers} workers: a run makes more requests than that", row.0);
+    assert!(rt;
+        false,
+        "{}, {workers} workers: a run makes more requests than that",
+        row.0
+    );
     Ok(())
 }
 
