@@ -96,9 +96,10 @@ pub(crate) fn replay_value(heap: Global, replay: &[ReplayedBlock]) -> Result<Val
 /// A block that replay changes, and its bytes after replay.
 fn replayed_value(heap: Global, replayed: &ReplayedBlock) -> Result<Value, AllocError>
     ensures value { IfOk result (λ value. view value ≡ replayed_data (told_block replayed.now)) }
-    ensures bytes { OnOk result (IsBytes replayed.now.bytes) }
+    ensures bytes { IsBytes replayed.now.bytes }
 {
-    json!(in heap; {"block": replayed.block, "bytes": hex_value(heap, replayed.bytes.as_slice())?})
+    let bytes = hex_value(heap, replayed.bytes.as_slice())?;
+    json!(in heap; {"block": replayed.block, "bytes": bytes})
 }
 
 /// Bytes as two hexadecimal digits each. It fails only when out of memory.
