@@ -71,12 +71,13 @@ opening_words places start = let q = start % 13 in
     (length_word q) 1) (low_word q 0) (start % half)) (high_word places q 0) (start / half))
     (index_word places q (slot places start 0)) 1
 
-abbrev pub first_view : ℕ → ℕ → ℕ → View
-first_view limit places start = record {
+-- a seat that has seen these rows, with so many parts of the share, no right, no claim and no debt
+abbrev pub idle_view : ℕ → ℕ → List (List ℕ) → ℕ → View
+idle_view limit places seen parts = record {
   limit = limit;
   places = places;
   rows = record {
-    seen = opening_rows start;
+    seen = seen;
     held = 0;
     right = 0;
     low = [];
@@ -88,8 +89,12 @@ first_view limit places start = record {
   lives = record { claims = 0; place = 0; given_up = []; learned = [] };
   pending = record { announced = 0; owed = 0; verdicts = 0; finished = 0 };
   count = record { uncounted = 0; over = 0 };
-  share = record { parts = 1; cuts = 0 };
+  share = record { parts = parts; cuts = 0 };
 }
+
+-- the seat that opens the board has seen the start and has the whole share
+abbrev pub first_view : ℕ → ℕ → ℕ → View
+first_view limit places start = idle_view limit places (opening_rows start) 1
 
 -- half of a share
 abbrev pub half_of : Share → Share
@@ -116,24 +121,7 @@ fresh_seat v = record v {
 
 -- what a seat that was given up leaves. It is one constant, so it knows no board
 abbrev pub spent_view : View
-spent_view = record {
-  limit = 0;
-  places = 0;
-  rows = record {
-    seen = replicate 13 [];
-    held = 0;
-    right = 0;
-    low = [];
-    high = [];
-    marks = [];
-    unfiled = 0;
-    added = [];
-  };
-  lives = record { claims = 0; place = 0; given_up = []; learned = [] };
-  pending = record { announced = 0; owed = 0; verdicts = 0; finished = 0 };
-  count = record { uncounted = 0; over = 0 };
-  share = record { parts = 0; cuts = 0 };
-}
+spent_view = idle_view 0 0 (replicate 13 []) 0
 
 abbrev pub either_one : ℕ → ℕ → ℕ
 either_one a b = cond (a == 1) a b

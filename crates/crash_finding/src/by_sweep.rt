@@ -2,12 +2,13 @@
 //!
 //! Each function refuses where they are more than the limit.
 
-ghost use Rattle.std.specs.Prelude.{◌≡◌, ℕ, List, length, ◌≤◌, IfOk, IfErr};
+ghost use Rattle.std.specs.Prelude.{◌≤◌, IfOk, IfErr};
 ghost use Rattle.patch_sets.specs.Closed.{IsClosed};
 ghost use Rattle.patch_sets.specs.Sets.{AreAllInOrder};
 ghost use Rattle.crash_model.specs.Patches.{deps_of};
 ghost use Rattle.crash_model.specs.Failing.{CountsClosed};
 ghost use Rattle.crash_model.specs.Summary.{HasFault, AreRows};
+ghost use Rattle.fault_summary.specs.Counted.{CountsFailing};
 ghost use Rattle.fault_summary.specs.Prevented.{IsFirstPrevented};
 ghost use Rattle.crash_finding.specs.Kept.{Fails};
 ghost use Rattle.crash_finding.specs.Limits.{SaysTooMany};
@@ -65,8 +66,8 @@ where
     pub(crate) fn swept_faults(&self, crashes: &Crashes<'_, A>) -> Result<SweptFaults<A>, RunFault>
         ensures total { IfOk result (λ found. CountsClosed crashes.now.graph.now found.total) }
         ensures within { IfOk result (λ found. found.total ≤ self.now.settings.now.limit) }
-        ensures failing { IfOk result (λ found. (sets : List ℕ) × AreAllInOrder (Fails crashes.now) sets
-            × (found.failing ≡ length sets)) }
+        ensures failing { IfOk result (λ found.
+            CountsFailing crashes.now.kept crashes.now.base.now crashes.now.graph.now found.failing) }
         ensures rows { IfOk result (λ found.
             AreRows (HasFault crashes.now.kept crashes.now.base.now crashes.now.graph.now) found.rows.items) }
         ensures too_many { IfErr result (SaysTooMany crashes.now.graph.now self.now.settings.now.limit) }
@@ -90,8 +91,8 @@ where
     ) -> Result<FailingCount, RunFault>
         ensures total { IfOk result (λ found. CountsClosed crashes.now.graph.now found.total) }
         ensures within { IfOk result (λ found. found.total ≤ self.now.settings.now.limit) }
-        ensures failing { IfOk result (λ found. (sets : List ℕ) × AreAllInOrder (Fails crashes.now) sets
-            × (found.failing ≡ length sets)) }
+        ensures failing { IfOk result (λ found.
+            CountsFailing crashes.now.kept crashes.now.base.now crashes.now.graph.now found.failing) }
         ensures first { IfOk result (λ found.
             IsFirstPrevented (Fails crashes.now) (IsClosed (deps_of other.now)) found.first) }
         ensures too_many { IfErr result (SaysTooMany crashes.now.graph.now self.now.settings.now.limit) }

@@ -1,13 +1,13 @@
 -- The count of all sets that a crash can leave.
-use Rattle.std.proofs.Common.{◌≡◌, ◌≢◌, ℕ, ◌<◌, ◌^◌, List, length, arith, subst}
+use Rattle.std.proofs.Common.{◌≡◌, ◌≢◌, ℕ, ◌<◌, ◌^◌, List, arith, subst}
 use Rattle.std.specs.Prelude.{◌↔◌, Option, Some, None}
 use Rattle.std.specs.List.{AllPairs}
 use Rattle.std.proofs.lemmas.List.Elements.{All-contains}
 use Rattle.patch_sets.specs.Closed.{IsClosed}
-use Rattle.patch_sets.specs.Sets.{AreAllInOrder}
 use Rattle.set_sweep.specs.Sweeps.{IsAscendingListOf, IsSweep}
 use Rattle.crash_model.specs.Patches.{deps_of}
 use Rattle.crash_model.specs.Strict.{IsFailingUnder}
+use Rattle.fault_summary.specs.Counted.{CountsFailing}
 use Rattle.fault_summary.specs.declared.count.Count.{Count}
 use Rattle.fault_summary.specs.Prevented.{Compared, IsBad, IsAllowed, IsFirstPrevented, FailsAmong, AreCounted, IsCount}
 use Rattle.fault_summary.proofs.Ordered.{all_in_order}
@@ -44,8 +44,7 @@ module _ (v : Compared) (deps : List ℕ) (total : ℕ) (tally : Count) (same : 
     λ is. (closed.every s is.closed, is.unclean),
   )
 
-  pub failing_count : (fail : List ℕ) × AreAllInOrder (IsFailingUnder v.kept v.base v.patches) fail
-      × (tally.failing ≡ length fail)
+  pub failing_count : CountsFailing v.kept v.base v.patches tally.failing
   failing_count =
       all_in_order (IsFailingUnder v.kept v.base v.patches) tally.failing
       (same_numbers (FailsAmong (IsBad v) sets) (IsFailingUnder v.kept v.base v.patches) same_sets tally.failing

@@ -4,7 +4,6 @@ use Rattle.std.specs.Prelude.{Option}
 use Rattle.std.specs.List.{AllPairs, Contains}
 use Rattle.std.proofs.lemmas.List.Elements.{All-contains}
 use Rattle.patch_sets.specs.Closed.{IsClosed}
-use Rattle.patch_sets.specs.Sets.{AreAllInOrder}
 use Rattle.patch_sets.proofs.Lists.{in_none}
 use Rattle.set_sweep.specs.Sweeps.{IsAscendingListOf}
 use Rattle.crash_model.specs.Disk.{Disk}
@@ -15,6 +14,7 @@ use Rattle.crash_model.specs.Summary.{IsFaultBefore, HasFault, AreRows}
 use Rattle.crash_model.specs.declared.fault.Fault.{Fault}
 use Rattle.crash_model.specs.declared.fault.FaultRow.{FaultRow}
 use Rattle.crash_model.specs.declared.patches.Patch.{Patch}
+use Rattle.fault_summary.specs.Counted.{CountsFailing}
 use Rattle.fault_summary.specs.Summed.{TellsOnce, HasAmong, faults_after}
 use Rattle.fault_summary.specs.Tallied.{AreTallied, IsTally}
 use Rattle.fault_summary.proofs.Ordered.{all_in_order}
@@ -42,7 +42,7 @@ module _ (base : Disk) (patches : List Patch) (sets : List ℕ) (closed : IsAsce
     failing_in : (s : ℕ) → IsFailingUnder kept base patches s → FailsIn (faults_after kept base patches) sets s
     failing_in s is = (closed.every s is.closed, λ none. is.unclean (record { faultless = none }))
 
-    pub failing_sets : (all : List ℕ) × AreAllInOrder (IsFailingUnder kept base patches) all × (failing ≡ length all)
+    pub failing_sets : CountsFailing kept base patches failing
     failing_sets =
         all_in_order (IsFailingUnder kept base patches) failing
         (same_numbers (FailsIn (faults_after kept base patches) sets) (IsFailingUnder kept base patches) (λ s. (fails s, failing_in s)) failing tallied.number)

@@ -1,3 +1,4 @@
+pub mod Counted
 pub mod Prevented
 pub mod Summed
 pub mod Tallied

@@ -1,11 +1,11 @@
 //! The number of the sets of a sweep that fail, and the first of them that another graph prevents.
 
-ghost use Rattle.std.specs.Prelude.{◌≡◌, ◌<◌, ◌≤◌, ℕ, List, [], ◌∷◌, length, IfOk, IsErrOf};
+ghost use Rattle.std.specs.Prelude.{◌≡◌, ◌<◌, ◌≤◌, [], ◌∷◌, length, IfOk, IsErrOf};
 ghost use Rattle.patch_sets.specs.Closed.{AreEarlier, IsClosed};
-ghost use Rattle.patch_sets.specs.Sets.{AreAllInOrder};
 ghost use Rattle.crash_model.specs.Failing.{CountsClosed, ExceedsLimit};
 ghost use Rattle.crash_model.specs.Patches.{deps_of};
 ghost use Rattle.crash_model.specs.Strict.{IsFailingUnder};
+ghost use Rattle.fault_summary.specs.Counted.{CountsFailing};
 ghost use Rattle.fault_summary.specs.Prevented.{AreCounted, IsAllowed, IsBad, IsEarlierOf};
 ghost use Rattle.fault_summary.specs.Prevented.{IsFirstPrevented, JoinsCounts};
 
@@ -52,9 +52,8 @@ where
 
     ensures total { IfOk result (λ found. CountsClosed visitor.now.patches found.total) }
     ensures within { IfOk result (λ found. found.total ≤ limit) }
-    ensures failing { IfOk result (λ found. (sets : List ℕ)
-        × AreAllInOrder (IsFailingUnder visitor.now.kept visitor.now.base visitor.now.patches) sets
-        × (found.failing ≡ length sets)) }
+    ensures failing { IfOk result (λ found.
+        CountsFailing visitor.now.kept visitor.now.base visitor.now.patches found.failing) }
     ensures first { IfOk result (λ found.
         IsFirstPrevented (IsFailingUnder visitor.now.kept visitor.now.base visitor.now.patches)
         (IsClosed (deps_of visitor.now.others)) found.first) }

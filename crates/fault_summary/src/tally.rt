@@ -1,13 +1,12 @@
 //! The faults of the sets of a sweep.
 
-ghost use Rattle.std.specs.Prelude.{◌≡◌, ◌<◌, ◌≤◌, ℕ, List, length, IfOk, IsErrOf};
+ghost use Rattle.std.specs.Prelude.{◌≡◌, ◌<◌, ◌≤◌, length, IfOk, IsErrOf};
 ghost use Rattle.std.specs.List.{All};
 ghost use Rattle.patch_sets.specs.Closed.{AreEarlier};
-ghost use Rattle.patch_sets.specs.Sets.{AreAllInOrder};
 ghost use Rattle.crash_model.specs.Failing.{CountsClosed, ExceedsLimit};
 ghost use Rattle.crash_model.specs.Patches.{AreUndo, deps_of};
-ghost use Rattle.crash_model.specs.Strict.{IsFailingUnder};
 ghost use Rattle.crash_model.specs.Summary.{HasFault, AreRows};
+ghost use Rattle.fault_summary.specs.Counted.{CountsFailing};
 
 use crate::summary::Summary;
 use crash_image::Replayer;
@@ -54,9 +53,8 @@ where
 
     ensures total { IfOk result (λ found. CountsClosed visitor.now.patches found.total) }
     ensures within { IfOk result (λ found. found.total ≤ limit) }
-    ensures failing { IfOk result (λ found. (sets : List ℕ)
-        × AreAllInOrder (IsFailingUnder visitor.now.kept visitor.now.base visitor.now.patches) sets
-        × (found.failing ≡ length sets)) }
+    ensures failing { IfOk result (λ found.
+        CountsFailing visitor.now.kept visitor.now.base visitor.now.patches found.failing) }
     ensures rows { IfOk result (λ found.
         AreRows (HasFault visitor.now.kept visitor.now.base visitor.now.patches) found.rows.items) }
 

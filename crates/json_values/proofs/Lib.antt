@@ -1,9 +1,4 @@
-pub mod Bytes
 pub mod Commas
-pub mod Ids
-pub mod ListedValues
-pub mod PatchBytes
-pub mod Replays
 pub mod RuleBytes
 pub mod SectionPieces
 pub mod ToldFaults

@@ -15,9 +15,9 @@ use Rattle.crash_model.specs.declared.rules.RulePart.{RulePart}
 use Rattle.crash_model.specs.declared.rules.RulePart.TheVariants.{Change, InPlace, FileData, Copy, Commit, Done}
 use Rattle.crash_model.specs.declared.rules.Scope.{Scope}
 use Rattle.crash_model.specs.declared.rules.Scope.TheVariants.{Same, Previous}
-use Rattle.json_values.specs.Written.{IsWritten}
+use Rattle.json_parts.specs.Written.{IsWritten}
 use Rattle.json_values.specs.RuleValues.{first_section, told_rule_data, rule_put, IsFirst}
-use Rattle.json_values.proofs.Bytes.{IsPlain, plain-append, string_bytes}
+use Rattle.json_parts.proofs.Bytes.{IsPlain, plain-append, string_bytes}
 
 -- ---- a rule's text needs no escapes
 

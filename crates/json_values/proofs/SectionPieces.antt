@@ -2,7 +2,7 @@
 use Rattle.std.proofs.Common.{◌≡◌, ℕ, List, ◌++◌, map, codes, ap, ◌∙◌, append_assoc}
 use Rattle.crash_model.specs.Lists.{join_of}
 use Rattle.crash_model.specs.Report.{Section, ids_json, replay_json, section_json, write_json}
-use Rattle.json_values.specs.Known.{fault_json}
+use Rattle.json_parts.specs.Values.{fault_json}
 
 pub three_pieces : (before one two after a b c : List ℕ) → one ≡ before ++ a → two ≡ one ++ b → after ≡ two ++ c → after ≡ before ++ (a ++ b ++ c)
 three_pieces before one two after a b c first second third = third ∙ (ap (λ (t : List ℕ). t ++ c) (second ∙ ap (λ (t : List ℕ). t ++ b) first) ∙ simp append_assoc)

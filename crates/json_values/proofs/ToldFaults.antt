@@ -10,10 +10,10 @@ use Rattle.crash_model.specs.Report.{Section, ReplayedBlock, fault_text, json_st
 use Rattle.crash_model.specs.Summary.{told_fault_json}
 use Rattle.crash_model.specs.declared.fault.Fault.{Fault}
 use Rattle.crash_model.specs.declared.fault.FaultRow.{FaultRow}
-use Rattle.json_values.specs.Written.{IsWritten}
+use Rattle.json_parts.specs.Written.{IsWritten}
 use Rattle.json_values.specs.ToldFaults.{told_fault_data, fault_put}
-use Rattle.json_values.specs.Values.{number_data, ids_data, write_data, writes_data, fault_data, replay_data, AreReplayedBytes}
-use Rattle.json_values.proofs.Bytes.{array_bytes, ids_bytes, write_bytes, fault_bytes, replay_bytes, none_float, write_no_float, replay_no_float}
+use Rattle.json_parts.specs.Values.{number_data, ids_data, write_data, writes_data, fault_data, replay_data, AreReplayedBytes}
+use Rattle.json_parts.proofs.Bytes.{array_bytes, ids_bytes, write_bytes, fault_bytes, replay_bytes, none_float, write_no_float, replay_no_float}
 
 regroup_10 : (a b c d e f g h i j : List ℕ) → a ++ (b ++ ((c ++ d) ++ (e ++ (f ++ (g ++ (h ++ (i ++ j))))))) ≡ a ++ b ++ c ++ [] ++ d ++ e ++ f ++ g ++ h ++ i ++ j
 regroup_10 a b c d e f g h i j = simp (append_assoc, append-nil)

@@ -4,8 +4,8 @@ use Rattle.serde_json.specs.Data.{Data, Members, boolean, string, object, member
 use Rattle.crash_model.specs.Needs.{RuleUsage, Unused, TooMany, Used, ToldRule}
 use Rattle.crash_model.specs.Report.{Section, section_json}
 use Rattle.crash_model.specs.Rules.{rule_text}
-use Rattle.json_values.specs.Written.{IsWritten}
-use Rattle.json_values.specs.Values.{number_data}
+use Rattle.json_parts.specs.Written.{IsWritten}
+use Rattle.json_parts.specs.Values.{number_data}
 
 -- the first section that a rule's usage tells, if it tells one
 abbrev pub first_section : RuleUsage → Option Section

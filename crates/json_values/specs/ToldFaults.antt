@@ -5,7 +5,7 @@ use Rattle.serde_json.specs.Data.{Data, Members, object, member, no_members, put
 use Rattle.crash_model.specs.Report.{Section, ReplayedBlock}
 use Rattle.crash_model.specs.declared.fault.Fault.{Fault}
 use Rattle.crash_model.specs.declared.fault.FaultRow.{FaultRow}
-use Rattle.json_values.specs.Values.{number_data, ids_data, writes_data, fault_data, with_replay, set_put}
+use Rattle.json_parts.specs.Values.{number_data, ids_data, writes_data, fault_data, with_replay, set_put}
 
 -- a fault that so many sets have, with the first of them, its block writes and what replay changes
 abbrev pub told_fault_data : ℕ → Fault → ℕ → ℕ → List BlockWrite → Option (List ReplayedBlock) → Data

@@ -1,22 +1,20 @@
 //! Texts that come again: a report has few different block writes and few different faults, and each of them in many
 //! sections.
 
-ghost use Rattle.std.specs.Prelude.{◌≡◌, ◌<◌, ◌++◌, ℕ, length, string_bytes, IfOk, IfSome, OnOk};
+ghost use Rattle.std.specs.Prelude.{◌≡◌, ◌++◌, ℕ, length, string_bytes, IfOk, IfSome, None, OnOk};
 ghost use Rattle.std.specs.List.{All};
 ghost use Rattle.crash_model.specs.Report.{write_json};
-ghost use Rattle.json_values.specs.Known.{IsKnownWrite, IsKnownFault, fault_json};
+ghost use Rattle.json_parts.specs.Values.{fault_json};
 
-use crate::values::{fault_value, write_value};
 use crash_model::fault::Fault;
+use json_parts::values::{fault_value, write_value};
 use patch_sets::write::BlockWrite;
+use report_sections::places::{FAULT_PLACES, place_of_fault, place_of_ids};
 use std::alloc::{AllocError, Global};
 use std::marker::Model;
 
-/// How many texts of block writes are kept.
+/// How many texts of block writes are kept. The ids of a block write tell its block.
 const WRITE_PLACES: usize = 4096;
-
-/// How many texts of faults are kept.
-const FAULT_PLACES: usize = 256;
 
 /// A block write and its text.
 #[derive(Drop)]
@@ -59,8 +57,8 @@ impl KnownTexts {
     pub fn new(heap: Global, patches: usize) -> Result<KnownTexts, AllocError>
         ensures { IfOk result (λ known. known ≡ patches) }
     {
-        let writes = no_writes(heap)?;
-        let faults = no_faults(heap)?;
+        let writes = empty_places(heap, WRITE_PLACES)?;
+        let faults = empty_places(heap, FAULT_PLACES)?;
         Ok(KnownTexts {
             patches,
             writes,
@@ -113,7 +111,7 @@ impl KnownTexts {
     fn known_write(&self, write: BlockWrite) -> Option<&str>
         ensures { IfSome result (λ text. text.now ≡ write_json self.now write) }
     {
-        let known = self.writes[place_of_write(write)].as_ref()?;
+        let known = self.writes[place_of_ids(write.ids, WRITE_PLACES)].as_ref()?;
         if known.write == write {
             Some(known.text.as_str())
         } else {
@@ -138,7 +136,7 @@ impl KnownTexts {
         requires { string_bytes text ≡ write_json self.old write }
         ensures { self.new ≡ self.old }
     {
-        let place = place_of_write(write);
+        let place = place_of_ids(write.ids, WRITE_PLACES);
         self.writes[place] = Some(KnownWrite { write, text });
     }
 
@@ -152,25 +150,13 @@ impl KnownTexts {
     }
 }
 
-/// Places with no block write.
-fn no_writes(heap: Global) -> Result<Vec<Option<KnownWrite>>, AllocError>
-    ensures long { IfOk result (λ places. length places.items ≡ 4096) }
-    ensures each { IfOk result (λ places. (patches : ℕ) → All (IsKnownWrite patches) places.items) }
+/// So many places, all empty.
+fn empty_places<T: Drop>(heap: Global, count: usize) -> Result<Vec<Option<T>>, AllocError>
+    ensures long { IfOk result (λ places. length places.items ≡ count) }
+    ensures empty { IfOk result (λ places. All (λ place. place ≡ None) places.items) }
 {
-    let mut places = Vec::with_capacity(heap, WRITE_PLACES)?;
-    for _ in 0..WRITE_PLACES {
-        places.push(None)?;
-    }
-    Ok(places)
-}
-
-/// Places with no fault.
-fn no_faults(heap: Global) -> Result<Vec<Option<KnownFault>>, AllocError>
-    ensures long { IfOk result (λ places. length places.items ≡ 256) }
-    ensures each { IfOk result (λ places. All IsKnownFault places.items) }
-{
-    let mut places = Vec::with_capacity(heap, FAULT_PLACES)?;
-    for _ in 0..FAULT_PLACES {
+    let mut places = Vec::new(heap);
+    for _ in 0..count {
         places.push(None)?;
     }
     Ok(places)
@@ -190,26 +176,4 @@ fn fault_text(heap: Global, fault: Fault) -> Result<String, AllocError>
 {
     let value = fault_value(heap, fault)?;
     value.to_string(heap)
-}
-
-/// The place of a block write: a multiplicative hash of each half of its ids, of which the highest bits depend on all
-/// others (Knuth, "The Art of Computer Programming", volume 3, section 6.4). The ids tell the block.
-fn place_of_write(write: BlockWrite) -> usize
-    ensures { result < WRITE_PLACES }
-{
-    let low = (write.ids % (1 << 64)) as u64;
-    let high = (write.ids >> 64) as u64;
-    let mixed = low
-        .wrapping_mul(0x9E37_79B9_7F4A_7C15)
-        .wrapping_add(high.wrapping_mul(0xC2B2_AE3D_27D4_EB4F));
-    (mixed >> 52) as usize % WRITE_PLACES
-}
-
-/// The place of a fault.
-fn place_of_fault(fault: Fault) -> usize
-    ensures { result < FAULT_PLACES }
-{
-    let [kind, holder, place, target] = fault.numbers();
-    let mixed: u8 = kind ^ holder.rotate_left(3) ^ place.rotate_left(6) ^ target.rotate_left(5);
-    usize::from(mixed)
 }

@@ -3,15 +3,15 @@
 ghost use Rattle.std.specs.Prelude.{◌≡◌, Option, option_map, IfOk, OnOk};
 ghost use Rattle.crash_model.specs.Needs.{told_rule_json};
 ghost use Rattle.crash_model.specs.Rules.{rule_text};
-ghost use Rattle.json_values.specs.Written.{IsWritten};
+ghost use Rattle.json_parts.specs.Written.{IsWritten};
 ghost use Rattle.json_values.specs.RuleValues.{first_section, IsFirst, first_put, usage_put, rule_put};
 ghost use Rattle.report_sections.specs.Sections.{section_of};
 ghost use Rattle.report_sections.specs.ToldRules.{told_rule, usage_of};
 ghost use Rattle.serde_json.specs.Data.{Data, string};
 ghost use Rattle.serde_json.specs.View.{view, members_view};
 
-use crate::values::section_value;
 use crash_model::rules::Rule;
+use json_parts::values::section_value;
 use report_sections::{RuleUsage, Section, ToldRule};
 use serde_json::{Map, Value, put};
 use std::alloc::{AllocError, Allocator, Global};

@@ -3,14 +3,14 @@
 ghost use Rattle.std.specs.Prelude.{◌≡◌, ◌++◌, map, string_bytes, OnOk};
 ghost use Rattle.crash_model.specs.Lists.{join_of};
 ghost use Rattle.crash_model.specs.Report.{ids_json, replay_json, section_json, write_json};
-ghost use Rattle.json_values.specs.Known.{fault_json};
+ghost use Rattle.json_parts.specs.Values.{fault_json};
 ghost use Rattle.report_sections.specs.Replay.{told_replay};
 ghost use Rattle.report_sections.specs.Sections.{section_of};
 
 use crate::items::{write_comma, write_value};
 use crate::known::KnownTexts;
-use crate::values::{ids_value, replay_value};
 use crash_model::fault::Fault;
+use json_parts::values::{ids_value, replay_value};
 use patch_sets::write::BlockWrite;
 use report_sections::{ReplayedBlock, Section};
 use std::alloc::{AllocError, Allocator};

@@ -2,15 +2,15 @@
 
 ghost use Rattle.std.specs.Prelude.{◌≡◌, IfOk, OnOk};
 ghost use Rattle.crash_model.specs.Summary.{told_fault_json};
-ghost use Rattle.json_values.specs.Written.{IsWritten};
+ghost use Rattle.json_parts.specs.Written.{IsWritten};
 ghost use Rattle.json_values.specs.ToldFaults.{fault_put};
-ghost use Rattle.json_values.specs.Values.{AreReplayedBytes};
+ghost use Rattle.json_parts.specs.Values.{AreReplayedBytes};
 ghost use Rattle.report_sections.specs.Replay.{told_replay};
 ghost use Rattle.report_sections.specs.Sections.{section_of};
 ghost use Rattle.serde_json.specs.View.{view, members_view};
 
-use crate::values::{fault_value, put_set};
 use crash_model::fault::FaultRow;
+use json_parts::values::{fault_value, put_set};
 use report_sections::Section;
 use serde_json::{Map, Value, put};
 use std::alloc::{AllocError, Allocator, Global};

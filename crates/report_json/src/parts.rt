@@ -2,8 +2,9 @@
 
 ghost use Rattle.std.specs.Prelude.{◌≡◌, ◌<◌, ◌+◌, ◌/◌, ◌%◌, [], length, min, string_bytes, vec_len, IfOk, OnOk};
 ghost use Rattle.report_sections.specs.Bodies.{AreOnBase, AreClosed};
+ghost use Rattle.report_sections.specs.Parts.{ArePartTexts};
 ghost use Rattle.report_json.specs.JsonReport.{WritesSections};
-ghost use Rattle.report_json.specs.PartTexts.{ArePartTexts, AreFullParts};
+ghost use Rattle.report_json.specs.PartTexts.{AreFullParts};
 
 use crate::report::write_sections;
 use json_values::write_comma;
@@ -66,8 +67,8 @@ where
     requires closed { AreClosed report.now.traced.now.patches sets.now }
     ensures len { IfOk result (λ texts. vec_len texts ≡ length sets.now / size + min 1 (length sets.now % size)) }
     ensures each { IfOk result (λ texts.
-        ArePartTexts report.now.detail report.now.base.now report.now.traced.now.patches sets.now size
-        texts.items) }
+        ArePartTexts (λ part text. WritesSections report.now.detail report.now.base.now
+        report.now.traced.now.patches part [] text) sets.now size texts.items) }
     ensures full { IfOk result (λ texts. AreFullParts sets.now size texts.items) }
 {
     let texts = thread::map_chunks(

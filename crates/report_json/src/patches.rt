@@ -7,7 +7,9 @@ ghost use Rattle.traced_patches.specs.Traced.{told_at};
 ghost use Rattle.report_json.specs.JsonReport.{base_key, trace_key};
 
 use disk_image::Image;
-use json_values::{hex_value, patch_value, write_item};
+use json_parts::patch_value;
+use json_parts::values::hex_value;
+use json_values::write_item;
 use std::alloc::{AllocError, Allocator};
 use traced_patches::Traced;
 

@@ -1,6 +1,7 @@
 //! What a report tells of each failing set.
 #![tactic(auto)]
 
+pub mod places;
 pub mod replayed;
 pub mod report;
 pub mod rules;

@@ -24,8 +24,9 @@ use Rattle.report_sections.specs.declared.section.Outcome.{Outcome}
 use Rattle.report_sections.specs.Replay.{told_replay}
 use Rattle.report_sections.specs.Sections.{section_of, IsSection, IsOutcome}
 use Rattle.report_sections.proofs.Joined.{rows_more, firsts_more}
-use Rattle.report_text.specs.Cache.{fault_line}
-use Rattle.report_text.specs.TextReport.{WritesSections, WritesFaults, WritesRuns}
+use Rattle.section_lines.specs.Cache.{fault_line}
+use Rattle.report_text.specs.TextReport.{WritesSections, WritesFaults}
+use Rattle.section_lines.specs.Runs.{WritesRuns}
 use Rattle.report_text.proofs.JoinedParts.{sections_after}
 
 -- one item's text more

@@ -1,5 +1,2 @@
-pub mod Cache
-pub mod Numbers
-pub mod PartTexts
 pub mod Patches
 pub mod TextReport

@@ -1,10 +1,7 @@
 -- Reports as text.
 use Rattle.std.specs.Prelude.{◌≡◌, ℕ, List, ◌++◌, length, map, flat_map}
 use Rattle.crash_model.specs.Disk.{Disk}
-use Rattle.patch_sets.specs.Writes.{AreRuns}
-use Rattle.patch_sets.specs.declared.write.BlockWrite.{BlockWrite}
-use Rattle.crash_model.specs.Patches.{homes_of}
-use Rattle.crash_model.specs.Report.{Section, AreSections, section_text, write_text}
+use Rattle.crash_model.specs.Report.{Section, AreSections, section_text}
 use Rattle.crash_model.specs.Summary.{ToldFault, told_fault_text}
 use Rattle.crash_model.specs.declared.fault.FaultRow.{FaultRow}
 use Rattle.crash_model.specs.declared.patches.Patch.{Patch}
@@ -23,9 +20,3 @@ pub record WritesFaults (detail : Detail) (base : Disk) (patches : List Patch) (
   pub of_rows : map (λ t. t.row) told ≡ rows
   pub firsts : AreSections detail base patches (map (λ row. row.first) rows) (map (λ t. t.first) told)
   pub whole : new ≡ old ++ flat_map (told_fault_text (length patches)) told
-
--- behind what stood there the text has the lines of block writes that lead to a set
-pub record WritesRuns (patches : List Patch) (set : ℕ) (old new : List ℕ) : Type 0 where
-  pub writes : List BlockWrite
-  pub runs : AreRuns (homes_of patches) set writes
-  pub whole : new ≡ old ++ flat_map (write_text (length patches)) writes

@@ -2,8 +2,8 @@
 
 ghost use Rattle.std.specs.Prelude.{◌≡◌, ◌<◌, ◌+◌, ◌/◌, ◌%◌, [], length, min, string_bytes, vec_len, IfOk, OnOk};
 ghost use Rattle.report_sections.specs.Bodies.{AreOnBase, AreClosed};
+ghost use Rattle.report_sections.specs.Parts.{ArePartTexts};
 ghost use Rattle.report_text.specs.TextReport.{WritesSections};
-ghost use Rattle.report_text.specs.PartTexts.{ArePartTexts};
 
 use crate::report::write_sections;
 use report_sections::Report;
@@ -62,8 +62,8 @@ where
     requires closed { AreClosed report.now.traced.now.patches sets.now }
     ensures len { IfOk result (λ texts. vec_len texts ≡ length sets.now / size + min 1 (length sets.now % size)) }
     ensures each { IfOk result (λ texts.
-        ArePartTexts report.now.detail report.now.base.now report.now.traced.now.patches sets.now size
-        texts.items) }
+        ArePartTexts (λ part text. WritesSections report.now.detail report.now.base.now
+        report.now.traced.now.patches part [] text) sets.now size texts.items) }
 {
     thread::map_chunks(
         rt,

@@ -12,15 +12,15 @@ ghost use Rattle.report_sections.specs.Sections.{section_of, IsSection};
 ghost use Rattle.report_sections.specs.declared.section.Section.{Section};
 ghost use Rattle.report_text.specs.TextReport.{WritesSections, WritesFaults};
 
-use crate::cache::LineCache;
 use crate::head::write_head;
-use crate::lines::{write_replay, write_set};
 use crate::parts::write_together;
 use crate::patches::write_patches;
 use crate::rules::write_rules;
 use crate::summary::write_told_fault;
 use crash_model::fault::FaultRow;
 use report_sections::{Body, Outcome, Report};
+use section_lines::LineCache;
+use section_lines::lines::{write_replay, write_set};
 use section_maker::SectionMaker;
 use std::alloc::{AllocError, Allocator};
 use std::thread::Threads;

@@ -5,8 +5,8 @@ ghost use Rattle.crash_model.specs.Needs.{first_text, usage_text, told_rule_text
 ghost use Rattle.report_sections.specs.Sections.{section_of};
 ghost use Rattle.report_sections.specs.ToldRules.{usage_of, told_rule};
 
-use crate::lines::write_section;
 use report_sections::{RuleUsage, Section, ToldRule};
+use section_lines::lines::write_section;
 use std::alloc::{AllocError, Allocator};
 
 /// What is told of each rule. The graph has `patches` patches.

@@ -4,9 +4,9 @@ ghost use Rattle.std.specs.Prelude.{◌≡◌, ◌++◌, string_bytes, OnOk};
 ghost use Rattle.crash_model.specs.Summary.{told_fault_text};
 ghost use Rattle.report_sections.specs.Sections.{section_of};
 
-use crate::lines::write_crash;
 use crash_model::fault::FaultRow;
 use report_sections::Section;
+use section_lines::lines::write_crash;
 use std::alloc::{AllocError, Allocator};
 
 /// The lines of a fault: its text, how many failing sets have it, and the crash that leaves the first of them, of

@@ -5,7 +5,11 @@ use crate::{
     broken_devices, explained, given_rules, kept_inodes, lines, lost_files, needed_rules,
     orderings, refusals, reports, strict, strict_forms, summaries, sweeps, taken_out_rules, words,
 };
+use std::process::Abort;
+use std::rt::Files;
+use std::sync::Wait;
 use std::test::Fail;
+use std::thread::Threads;
 
 /// The tables of rows that tell the lines of an answer.
 const TABLES: [&str; 15] = [
@@ -28,10 +32,7 @@ const TABLES: [&str; 15] = [
 
 #[test]
 fn each_row_is_told(rt: HostRuntime) -> Result<(), Fail> {
-    for table in TABLES {
-        each_row(&rt, table)?;
-    }
-    Ok(())
+    each_row_of(&rt, &TABLES)
 }
 
 /// The tables of what a strict checker finds, told in each way.
@@ -43,8 +44,16 @@ const STRICT_FORMS: [&str; 3] = [
 
 #[test]
 fn strict_forms_are_told(rt: HostRuntime) -> Result<(), Fail> {
-    for table in STRICT_FORMS {
-        each_row(&rt, table)?;
+    each_row_of(&rt, &STRICT_FORMS)
+}
+
+/// Each row of each of the tables is told.
+fn each_row_of<R: Files + Abort + AllocGlobal + Threads + Wait + Sync>(
+    rt: &R,
+    tables: &[&str],
+) -> Result<(), Fail> {
+    for table in tables {
+        each_row(rt, table)?;
     }
     Ok(())
 }

@@ -2,8 +2,8 @@ use Rattle.std.proofs.Common.{◌≡◌, false, string_bytes, refl, ap, ◌∙�
 use Rattle.std.proofs.lemmas.Result.{IfOk-weaker}
 use Rattle.serde_json.specs.View.{view}
 use Rattle.serde_json.specs.Written.{compact_text, has_float}
-use Rattle.json_values.specs.Known.{fault_json}
-use Rattle.json_values.proofs.Bytes.{fault_bytes}
+use Rattle.json_parts.specs.Values.{fault_json}
+use Rattle.json_parts.proofs.Bytes.{fault_bytes}
 use Rattle.json_values.proofs.known.fault_text.Goals as goal
 
 pub returns : goal.returns

@@ -2,7 +2,7 @@ use Rattle.std.proofs.Common.{◌≡◌, ◌++◌, List, ℕ, Some, codes, map, 
 use Rattle.crash_model.specs.Report.{json_array, replay_json, replayed_json}
 use Rattle.report_sections.specs.Replay.{told_block, told_replay}
 use Rattle.serde_json.specs.Written.{compact_text, has_float}
-use Rattle.json_values.proofs.Bytes.{replay_bytes, replay_no_float}
+use Rattle.json_parts.proofs.Bytes.{replay_bytes, replay_no_float}
 use Rattle.json_values.proofs.SectionPieces.{three_pieces}
 use Rattle.json_values.proofs.sections.push_replay.Goals as goal
 

@@ -1,7 +1,7 @@
 use Rattle.std.proofs.Common.{◌≡◌, ◌++◌, List, ℕ, string_bytes, ap, subst, ◌∙◌}
 use Rattle.std.specs.Prelude.{OnOk}
 use Rattle.serde_json.specs.Written.{compact_text, has_float}
-use Rattle.json_values.proofs.Bytes.{ids_bytes, ids_no_float}
+use Rattle.json_parts.proofs.Bytes.{ids_bytes, ids_no_float}
 use Rattle.json_values.proofs.sections.push_set.Goals as goal
 
 pub write_value-requires : goal.write_value-requires

@@ -7,7 +7,7 @@ use Rattle.crash_model.specs.Explain.{hex_json}
 use Rattle.crash_model.specs.Lists.{join_of}
 use Rattle.serde_json.specs.Written.{compact_text, has_float}
 use Rattle.json_values.specs.Items.{comma_before}
-use Rattle.json_values.proofs.Bytes.{hex_bytes}
+use Rattle.json_parts.proofs.Bytes.{hex_bytes}
 use Rattle.json_values.proofs.Commas.{item_more}
 use Rattle.report_json.proofs.patches.write_blocks.Goals as goal
 

@@ -3,8 +3,8 @@ use Rattle.std.proofs.lemmas.List.{length-map}
 use Rattle.std.specs.List.{flat_map}
 use Rattle.crash_model.specs.declared.fault.Fault.{Fault}
 use Rattle.crash_model.specs.declared.patches.Patch.{Patch}
-use Rattle.report_text.specs.Cache.{fault_line}
-use Rattle.report_text.specs.TextReport.{WritesRuns}
+use Rattle.section_lines.specs.Cache.{fault_line}
+use Rattle.section_lines.specs.Runs.{WritesRuns}
 use Rattle.report_text.proofs.Reports.{section_one}
 use Rattle.report_text.proofs.report.write_one.Goals as goal
 

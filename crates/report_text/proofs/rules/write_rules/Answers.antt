@@ -2,7 +2,7 @@ use Rattle.std.proofs.Common.{List, ℕ, ◌++◌, string_bytes, ap, ◌∙◌}
 use Rattle.crash_model.specs.Needs.{told_rule_text}
 use Rattle.report_sections.specs.ToldRules.{told_rule}
 use Rattle.report_sections.specs.declared.rules.ToldRule.{ToldRule}
-use Rattle.report_text.proofs.Told.{item_told}
+use Rattle.section_lines.proofs.Told.{item_told}
 use Rattle.report_text.proofs.rules.write_rules.Goals as goal
 
 pub loop-rule-preserved : goal.loop-rule-preserved

@@ -1,0 +1,10 @@
+use Rattle.std.proofs.Common.{◌≡◌, length}
+use Rattle.std.specs.Prelude.{None}
+use Rattle.std.specs.List.{All}
+use Rattle.json_values.proofs.known.empty_places.Given as goal
+
+abbrev pub invariant-loop : goal.invariant-loop
+invariant-loop g l = record {
+  long : length l.places.items ≡ l.counter;
+  empty : All (λ place. place ≡ None) l.places.items;
+}

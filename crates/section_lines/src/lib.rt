@@ -1,0 +1,9 @@
+//! The text of a section: its set, the block writes that lead to it, what replay changes and its faults.
+#![tactic(auto)]
+
+pub mod cache;
+pub mod lines;
+mod numbers;
+mod tables;
+
+pub use cache::LineCache;
