@@ -1,13 +1,16 @@
 -- What each kind of step tells: of the step, the seat before, the number found (at a store the number stored) and the
 -- seat after. The shard or the place of a step is known by its address. A play reads no key of the table, so the load
 -- of an entry is told which words are reached.
-use Rattle.std.specs.Prelude.{◌≡◌, ◌≢◌, ℕ, ◌+◌, ◌/◌, ◌%◌, ◌<◌, ◌≤◌, List, [], ◌∷◌, length, slice_index, slice_set, max, Contains}
+use Rattle.std.specs.Prelude.{◌≡◌, ◌≢◌, ℕ, ◌+◌, ◌/◌, ◌%◌, ◌<◌, ◌≤◌, List, [], ◌∷◌, length, slice_index, slice_set, max}
+use Rattle.std.specs.Prelude.{Contains}
 use Rattle.atomic_table.specs.Table.{Me, Step}
-use Rattle.board_rule.specs.Layout.{writer, half, lock_word, length_word, low_word, high_word, life_word, index_word, place_of}
+use Rattle.board_rule.specs.Layout.{writer, half, lock_word, length_word, low_word, high_word, life_word, index_word}
+use Rattle.board_rule.specs.Layout.{place_of}
 use Rattle.board_rule.specs.Lists.{row_of, StartsWith}
 use Rattle.board_rule.specs.Lives.{life_of}
 use Rattle.board_rule.specs.Rule.{Complete}
-use Rattle.board_rule.specs.Changes.{with_seen, with_right, without_right, with_entry, with_learned, with_claim, without_claim, with_given_up}
+use Rattle.board_rule.specs.Changes.{with_seen, with_right, without_right, with_entry, with_learned, with_claim}
+use Rattle.board_rule.specs.Changes.{without_claim, with_given_up}
 use Rattle.board_rule.specs.declared.life.Life.TheVariants.{Claimed}
 use Rattle.board_rule.specs.declared.view.View.{View}
 

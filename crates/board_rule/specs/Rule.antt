@@ -1,12 +1,14 @@
 -- The rule of a board's table: one fact a subject, side by side.
-use Rattle.std.specs.Prelude.{◌≡◌, ℕ, ◌+◌, ◌*◌, ◌/◌, ◌%◌, ◌^◌, ◌<◌, ◌≤◌, ◌⊎◌, List, [], ◌∷◌, length, slice_index, cond, ◌==◌, nat_lt, Contains}
+use Rattle.std.specs.Prelude.{◌≡◌, ℕ, ◌+◌, ◌*◌, ◌/◌, ◌%◌, ◌^◌, ◌<◌, ◌≤◌, ◌⊎◌, List, [], ◌∷◌, length, slice_index, cond}
+use Rattle.std.specs.Prelude.{◌==◌, nat_lt, Contains}
 use Rattle.std.specs.List.{All}
 use mathlib.Core.Option.{some}
 use lib.ListN.{get_elem?}
 use Rattle.atomic_table.specs.Table.{State}
 use Rattle.state_space.specs.Reach.{IsReached}
 use Rattle.state_space.specs.Counts.{Outnumbers}
-use Rattle.board_rule.specs.Layout.{writer, half, lock_word, length_word, low_word, high_word, life_word, index_word, size_for, place_of, slot, window}
+use Rattle.board_rule.specs.Layout.{writer, half, lock_word, length_word, low_word, high_word, life_word, index_word}
+use Rattle.board_rule.specs.Layout.{size_for, place_of, slot, window}
 use Rattle.board_rule.specs.Lists.{row_of, StartsWith, Has, total}
 use Rattle.board_rule.specs.Lives.{life_of, life_at, is_claimed, is_unsettled, is_settled, Passes}
 use Rattle.board_rule.specs.Views.{Told, OnRows, Share, portion}

@@ -50,7 +50,8 @@ impl Takes {
 type Made<'a> = Result<Command<'a>, AllocError>;
 
 const ABOUT: &str =
-    "Explores every state that a crash can leave a small file system in, and reports those that its checker refuses after journal replay";
+    "Explores every state that a crash can leave a small file system in, and reports those that its checker refuses \
+     after journal replay";
 
 const AFTER: &str = "\
 A rule LATER:EARLIER says that a patch waits for an earlier one of its operation, LATER:previous-EARLIER for one of the
@@ -131,7 +132,8 @@ static HEADS: [Head; 5] = [
             Entry {
                 name: "explorer",
                 takes: Takes::OneOf("E", &["auto", "board", "sweep"], "auto"),
-                help: "Who explores: a board that workers share, up to a limit of 32768, or a sweep that keeps no table",
+                help: "Who explores: a board that workers share, up to a limit of 32768, or a sweep that keeps no \
+                       table",
             },
             Entry {
                 name: "workers",

@@ -1,5 +1,6 @@
 -- What the patches of a trace are, and why each depends on others.
-use Rattle.std.specs.Prelude.{ℕ, List, [], ◌∷◌, ◌++◌, length, map, flat_map, if◌then◌else◌, Option, Some, None, slice_get, codes, decimal}
+use Rattle.std.specs.Prelude.{ℕ, List, [], ◌∷◌, ◌++◌, length, map, flat_map, if◌then◌else◌, Option, Some, None}
+use Rattle.std.specs.Prelude.{slice_get, codes, decimal}
 use Rattle.std.specs.List.{range_with_len}
 use Rattle.hex.specs.Hex.{encode_lower}
 use Rattle.crash_model.specs.Lists.{join_of, some_below, when}

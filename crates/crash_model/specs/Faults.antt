@@ -2,7 +2,8 @@
 use Rattle.std.specs.Prelude.{◌≡◌, ℕ, List, [], ◌++◌, length, Bool, ◌&&◌, ◌||◌, ◌==◌, not, nat_lt, Option}
 use Rattle.crash_model.specs.DiskBytes.{file_kind, directory_kind, file_mark, directory_mark}
 use Rattle.crash_model.specs.Disk.{Disk, byte}
-use Rattle.crash_model.specs.Layout.{kind_of, links_of, pointer_of, map_of, is_live, is_data, is_entry, target_of, is_pointer}
+use Rattle.crash_model.specs.Layout.{kind_of, links_of, pointer_of, map_of, is_live, is_data, is_entry, target_of}
+use Rattle.crash_model.specs.Layout.{is_pointer}
 use Rattle.crash_model.specs.Lists.{each_below, some_below, when}
 use Rattle.crash_model.specs.declared.fault.Fault.{Fault}
 use Rattle.crash_model.specs.declared.fault.Fault.TheVariants.{Dangling, Twice, Unwritten, LowLinks, MarkedFree, Wild}

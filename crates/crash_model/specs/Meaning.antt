@@ -6,7 +6,9 @@ use Rattle.crash_model.specs.declared.names.Path.{Path}
 use Rattle.crash_model.specs.declared.operations.Op.{Op}
 use Rattle.crash_model.specs.declared.operations.Op.TheVariants.{Create, Write, Link, Unlink, Rename, Mkdir, Rmdir}
 use Rattle.crash_model.specs.declared.refusals.FsFault.{FsFault}
-use Rattle.crash_model.specs.declared.refusals.FsFault.TheVariants.{NotFound, NotADirectory, Exists, NotAFile, NotEmpty, NoInode, NoBlock, DirectoryFull, FileFull, LinksFull}
+use Rattle.crash_model.specs.declared.refusals.FsFault.TheVariants.{NotFound, NotADirectory, Exists, NotAFile, NotEmpty}
+use Rattle.crash_model.specs.declared.refusals.FsFault.TheVariants.{NoInode, NoBlock, DirectoryFull, FileFull}
+use Rattle.crash_model.specs.declared.refusals.FsFault.TheVariants.{LinksFull}
 
 -- ---- what is gained and lost
 

@@ -1,17 +1,23 @@
 -- What each operation changes, and when it is refused.
-use Rattle.std.specs.Prelude.{ℕ, ◌+◌, ◌-◌, ◌*◌, ◌/◌, ◌%◌, List, [], ◌∷◌, ◌++◌, length, replicate, Bool, ◌&&◌, ◌==◌, not, nat_le, nat_lt, if◌then◌else◌, Option, Some, None, is_some, option_to_list, Result, Ok, Err, bytes_eq}
+use Rattle.std.specs.Prelude.{ℕ, ◌+◌, ◌-◌, ◌*◌, ◌/◌, ◌%◌, List, [], ◌∷◌, ◌++◌, length, replicate, Bool, ◌&&◌, ◌==◌, not}
+use Rattle.std.specs.Prelude.{nat_le, nat_lt, if◌then◌else◌, Option, Some, None, is_some, option_to_list, Result, Ok}
+use Rattle.std.specs.Prelude.{Err, bytes_eq}
 use Rattle.crash_model.specs.DiskBytes.{free_kind, file_kind, directory_kind, file_mark, directory_mark}
 use Rattle.crash_model.specs.Lists.{first_below, some_below, when}
 use Rattle.crash_model.specs.Disk.{Disk, with_bytes}
-use Rattle.crash_model.specs.Layout.{kind_of, links_of, pointer_of, map_of, is_live, is_data, counts, entry_of, is_entry, target_of, spelling_of, entry_offset}
+use Rattle.crash_model.specs.Layout.{kind_of, links_of, pointer_of, map_of, is_live, is_data, counts, entry_of}
+use Rattle.crash_model.specs.Layout.{is_entry, target_of, spelling_of, entry_offset}
 use Rattle.crash_model.specs.declared.operations.Op.{Op}
 use Rattle.crash_model.specs.declared.names.Path.{Path}
 use Rattle.crash_model.specs.declared.operations.Op.TheVariants.{Create, Write, Link, Unlink, Rename, Mkdir, Rmdir}
 use Rattle.crash_model.specs.declared.refusals.FsFault.{FsFault}
-use Rattle.crash_model.specs.declared.refusals.FsFault.TheVariants.{NotFound, NotADirectory, Exists, NotAFile, NotEmpty, NoInode, NoBlock, DirectoryFull, FileFull, LinksFull}
+use Rattle.crash_model.specs.declared.refusals.FsFault.TheVariants.{NotFound, NotADirectory, Exists, NotAFile, NotEmpty}
+use Rattle.crash_model.specs.declared.refusals.FsFault.TheVariants.{NoInode, NoBlock, DirectoryFull, FileFull}
+use Rattle.crash_model.specs.declared.refusals.FsFault.TheVariants.{LinksFull}
 use Rattle.crash_model.specs.declared.plans.Change.{Change}
 use Rattle.crash_model.specs.declared.plans.Role.{Role}
-use Rattle.crash_model.specs.declared.plans.Role.TheVariants.{InodeInit, EntrySet, EntryClear, MapSet, MapClear, InitFile, InitDir, Ptr, LinkUp, LinkDown, InodeFree}
+use Rattle.crash_model.specs.declared.plans.Role.TheVariants.{InodeInit, EntrySet, EntryClear, MapSet, MapClear}
+use Rattle.crash_model.specs.declared.plans.Role.TheVariants.{InitFile, InitDir, Ptr, LinkUp, LinkDown, InodeFree}
 
 -- ---- answers, which may be refusals
 

@@ -1,5 +1,6 @@
 -- What replay of the journal makes of a disk.
-use Rattle.std.specs.Prelude.{ℕ, zero, suc, ◌+◌, List, [], ◌∷◌, flat_map, take, drop, slice_index, Bool, true, ◌&&◌, ◌||◌, ◌==◌, nat_le, nat_lt, if◌then◌else◌, Option, None, unwrap_or, option_map, position}
+use Rattle.std.specs.Prelude.{ℕ, zero, suc, ◌+◌, List, [], ◌∷◌, flat_map, take, drop, slice_index, Bool, true, ◌&&◌}
+use Rattle.std.specs.Prelude.{◌||◌, ◌==◌, nat_le, nat_lt, if◌then◌else◌, Option, None, unwrap_or, option_map, position}
 use Rattle.std.specs.List.{range_with_len, list_all}
 use Rattle.crash_model.specs.DiskBytes.{committed_mark, done_mark}
 use Rattle.crash_model.specs.Disk.{Disk, block_of}

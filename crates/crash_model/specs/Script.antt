@@ -1,5 +1,6 @@
 -- Scripts: their lines, what a line says, and which line is refused first.
-use Rattle.std.specs.Prelude.{◌≡◌, ◌≢◌, ℕ, ◌+◌, ◌≤◌, ◌⊎◌, List, [], ◌∷◌, ◌++◌, length, codes, IsUtf8, Some, map, flat_map, slice_get, All, Contains}
+use Rattle.std.specs.Prelude.{◌≡◌, ◌≢◌, ℕ, ◌+◌, ◌≤◌, ◌⊎◌, List, [], ◌∷◌, ◌++◌, length, codes, IsUtf8, Some, map}
+use Rattle.std.specs.Prelude.{flat_map, slice_get, All, Contains}
 use Rattle.crash_model.specs.Lists.{join_of}
 use Rattle.crash_model.specs.Names.{IsName, IsGroupName}
 use Rattle.crash_model.specs.declared.names.Path.{Path}

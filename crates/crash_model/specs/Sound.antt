@@ -3,7 +3,8 @@ use Rattle.std.specs.Prelude.{◌≡◌, ◌≢◌, ℕ, zero, suc, ◌+◌, ◌
 use Rattle.crash_model.specs.DiskBytes.{file_kind, directory_kind}
 use Rattle.crash_model.specs.Disk.{Disk, byte}
 use Rattle.crash_model.specs.Names.{IsName}
-use Rattle.crash_model.specs.Layout.{kind_of, links_of, pointer_of, map_of, is_live, counts, is_entry, target_of, spelling_of}
+use Rattle.crash_model.specs.Layout.{kind_of, links_of, pointer_of, map_of, is_live, counts, is_entry, target_of}
+use Rattle.crash_model.specs.Layout.{spelling_of}
 use Rattle.crash_model.specs.Faults.{IsClean, entries_to}
 use Rattle.crash_model.specs.Plan.{name_spelling}
 use Rattle.crash_model.specs.View.{HasName, HasInode, HasPointer}

@@ -1,7 +1,8 @@
 -- What a disk holds, without positions and bytes: four sets.
 use Rattle.std.specs.Prelude.{◌≡◌, ◌≢◌, ℕ, ◌<◌, List, IsTrue}
 use Rattle.crash_model.specs.Disk.{Disk}
-use Rattle.crash_model.specs.Layout.{kind_of, links_of, pointer_of, map_of, is_live, is_data, is_entry, target_of, spelling_of, is_pointer}
+use Rattle.crash_model.specs.Layout.{kind_of, links_of, pointer_of, map_of, is_live, is_data, is_entry, target_of}
+use Rattle.crash_model.specs.Layout.{spelling_of, is_pointer}
 use Rattle.crash_model.specs.Plan.{name_spelling}
 
 -- a name of a directory leads to an inode

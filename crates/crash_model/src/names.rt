@@ -1,6 +1,7 @@
 //! Names and paths.
 
-ghost use Rattle.std.specs.Prelude.{◌≡◌, ℕ, ◌-◌, ◌≤◌, ◌<◌, ◌++◌, ◌↔◌, replicate, length, IsTrue, MatchOption, slice_index, ◌≢◌};
+ghost use Rattle.std.specs.Prelude.{◌≡◌, ℕ, ◌-◌, ◌≤◌, ◌<◌, ◌++◌, ◌↔◌, replicate, length, IsTrue, MatchOption};
+ghost use Rattle.std.specs.Prelude.{slice_index, ◌≢◌};
 ghost use Rattle.std.specs.List.{list_all};
 ghost use Rattle.crash_model.specs.Names.{IsName, IsGroupName, is_name_byte, is_group_byte};
 ghost use Rattle.crash_model.specs.FirstNames.{IsShort, BeginsWith, HasFirstName};

@@ -1,7 +1,8 @@
 //! Rules that order patches.
 
 ghost use Rattle.std.specs.Prelude.{◌≡◌, MatchOption};
-ghost use Rattle.crash_model.specs.Rules.{has_part, are_scoped, part_text, rule_part_text, IsNoRulePart, is_same_part, is_same_scope, is_same_rule};
+ghost use Rattle.crash_model.specs.Rules.{has_part, are_scoped, part_text, rule_part_text, IsNoRulePart, is_same_part};
+ghost use Rattle.crash_model.specs.Rules.{is_same_scope, is_same_rule};
 
 use crate::plans::Role;
 use std::fmt;

@@ -4,7 +4,8 @@ use Rattle.std.specs.Io.KnownBytes.{Appends}
 use Rattle.crash_model.specs.Answer.{IsAnswer, Reported, Refused}
 use Rattle.crash_model.specs.declared.settings.Settings.{Settings}
 use Rattle.crash_model.specs.declared.refusals.RunFault.{RunFault}
-use Rattle.crash_model.specs.declared.refusals.RunFault.TheVariants.{CannotRead, CannotWrite, ScriptTooLong, OutOfMemory}
+use Rattle.crash_model.specs.declared.refusals.RunFault.TheVariants.{CannotRead, CannotWrite, ScriptTooLong}
+use Rattle.crash_model.specs.declared.refusals.RunFault.TheVariants.{OutOfMemory}
 
 -- all bytes that were still to come, where those are known
 abbrev pub IsWhole : Option (List ℕ) → List ℕ → Type 0

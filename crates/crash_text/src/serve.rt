@@ -1,6 +1,7 @@
 //! The product between a source and a sink.
 
-ghost use Rattle.std.specs.Prelude.{◌≡◌, ℕ, ◌+◌, ◌-◌, ◌^◌, ◌<◌, ◌≤◌, List, length, IfOk, IfErr, OnErr, IfSome, IsErrOf, IsErrAnd};
+ghost use Rattle.std.specs.Prelude.{◌≡◌, ℕ, ◌+◌, ◌-◌, ◌^◌, ◌<◌, ◌≤◌, List, length, IfOk, IfErr, OnErr, IfSome, IsErrOf};
+ghost use Rattle.std.specs.Prelude.{IsErrAnd};
 ghost use Rattle.std.specs.Io.KnownBytes.{Consumes, Keeps};
 ghost use Rattle.devices.specs.Counted.{IsReadFault};
 ghost use Rattle.crash_finding.specs.Limits.{IsExplorable};

@@ -4,7 +4,8 @@
 //! link count, two zeros and its four pointers. Block 1 is the allocation map.
 
 ghost use Rattle.std.specs.Prelude.{◌≡◌, ◌<◌, IsTrue, IfSome, bytes_eq};
-ghost use Rattle.crash_model.specs.Layout.{kind_of, links_of, pointer_of, map_of, is_live, is_data, counts, entry_of, spelling_of};
+ghost use Rattle.crash_model.specs.Layout.{kind_of, links_of, pointer_of, map_of, is_live, is_data, counts, entry_of};
+ghost use Rattle.crash_model.specs.Layout.{spelling_of};
 ghost use Rattle.crash_model.specs.Plan.{free_entry};
 
 use crate::image::Image;

@@ -3,7 +3,8 @@ use Rattle.std.specs.Prelude.{◌≡◌, ℕ, ◌<◌, ◌≤◌, List, length, 
 use Rattle.crash_model.specs.Disk.{Disk, byte}
 use Rattle.crash_model.specs.Layout.{kind_of, links_of, map_of, is_data}
 use Rattle.crash_model.specs.Lists.{when}
-use Rattle.crash_model.specs.Faults.{is_dangling, is_twice, is_unwritten, has_low_links, is_marked_free, is_wild, is_right_mark, names_block, leads_to}
+use Rattle.crash_model.specs.Faults.{is_dangling, is_twice, is_unwritten, has_low_links, is_marked_free, is_wild}
+use Rattle.crash_model.specs.Faults.{is_right_mark, names_block, leads_to}
 use Rattle.fs_check.specs.Tally.{IsTally}
 
 -- no fault of a pointer holds

@@ -3,7 +3,8 @@ use Rattle.std.specs.Prelude.{ℕ, List, length, not, ◌&&◌, ◌==◌, Option
 use Rattle.crash_model.specs.Disk.{Disk}
 use Rattle.crash_model.specs.Layout.{links_of, map_of, pointer_of, is_live, is_data, is_pointer, target_of}
 use Rattle.crash_model.specs.Lists.{when}
-use Rattle.crash_model.specs.Faults.{each_slot, each_entry, is_dangling, is_twice, has_low_links, names_block, leads_to, entries_to}
+use Rattle.crash_model.specs.Faults.{each_slot, each_entry, is_dangling, is_twice, has_low_links, names_block, leads_to}
+use Rattle.crash_model.specs.Faults.{entries_to}
 use Rattle.crash_model.specs.declared.fault.Fault.{Fault}
 use Rattle.crash_model.specs.declared.fault.Fault.TheVariants.{Dangling, Twice, Unwritten, LowLinks, MarkedFree, Wild}
 use Rattle.fs_check.specs.Passed.{is_marked, is_right_block}

@@ -4,7 +4,8 @@ ghost use Rattle.std.specs.Prelude.{◌≡◌, ◌+◌, ◌<◌, ◌↔◌, IsTr
 ghost use Rattle.patch_sets.specs.Sets.{with_id};
 ghost use Rattle.crash_model.specs.Layout.{is_live, counts};
 ghost use Rattle.crash_model.specs.Faults.{IsClean};
-ghost use Rattle.fs_check.specs.Passed.{HasCleanPointers, HasCleanEntries, HavePassed, slots_of, entries_of, is_marked, is_right_block};
+ghost use Rattle.fs_check.specs.Passed.{HasCleanPointers, HasCleanEntries, HavePassed, slots_of, entries_of, is_marked};
+ghost use Rattle.fs_check.specs.Passed.{is_right_block};
 ghost use Rattle.fs_check.specs.Strict.{IsNamedBy, AreDirectories};
 
 use crash_model::disk_bytes::{DIRECTORY, DIRECTORY_MARK, FILE, FILE_MARK};

@@ -2,7 +2,8 @@
 
 ghost use Rattle.std.specs.Prelude.{◌≡◌, ◌<◌, ◌≤◌, ◌+◌, ◌-◌, ◌*◌, ◌++◌, length, replicate};
 ghost use Rattle.crash_model.specs.Names.{IsName};
-ghost use Rattle.crash_model.specs.Plan.{at_inode, inode_init, inode_free, link_count, pointer_set, entry_set, entry_clear, map_set, map_clear, init_block};
+ghost use Rattle.crash_model.specs.Plan.{at_inode, inode_init, inode_free, link_count, pointer_set, entry_set};
+ghost use Rattle.crash_model.specs.Plan.{entry_clear, map_set, map_clear, init_block};
 
 use arrayvec::ArrayVec;
 use crash_model::names::Name;

@@ -4,7 +4,8 @@
 
 ghost use Rattle.std.specs.Prelude.{ℕ, List, Result, Err, ◌≡◌, ◌<◌, ◌&&◌, IsTrue, bytes_eq, IfSome, IfOk, MatchResult};
 ghost use Rattle.crash_model.specs.Layout.{kind_of, is_live, is_entry, target_of, spelling_of};
-ghost use Rattle.crash_model.specs.Plan.{is_named, entry_named, directory_named, walk_end, at_entry, free_inode, free_block, free_slot, has_entries};
+ghost use Rattle.crash_model.specs.Plan.{is_named, entry_named, directory_named, walk_end, at_entry, free_inode};
+ghost use Rattle.crash_model.specs.Plan.{free_block, free_slot, has_entries};
 ghost use Rattle.crash_model.specs.declared.plans.Change.{Change};
 ghost use Rattle.crash_model.specs.declared.refusals.FsFault.{FsFault};
 

@@ -1,16 +1,19 @@
 //! The plan of each operation: its changes in the order in which they are emitted, or the first refusal.
 
-ghost use Rattle.std.specs.Prelude.{ℕ, List, ◌≡◌, ◌<◌, ◌≤◌, ◌↔◌, ◌+◌, ◌++◌, ◌∷◌, length, option_to_list, All, IfOk, MatchResult, Ok, Err, Some};
+ghost use Rattle.std.specs.Prelude.{ℕ, List, ◌≡◌, ◌<◌, ◌≤◌, ◌↔◌, ◌+◌, ◌++◌, ◌∷◌, length, option_to_list, All, IfOk};
+ghost use Rattle.std.specs.Prelude.{MatchResult, Ok, Err, Some};
 ghost use Rattle.crash_model.specs.Names.{IsName};
 ghost use Rattle.crash_model.specs.Layout.{links_of};
-ghost use Rattle.crash_model.specs.Plan.{plan_of, relink_plan, free_entry, link_count, entry_set, map_clear_at, map_clears, with_changes};
+ghost use Rattle.crash_model.specs.Plan.{plan_of, relink_plan, free_entry, link_count, entry_set, map_clear_at};
+ghost use Rattle.crash_model.specs.Plan.{map_clears, with_changes};
 ghost use Rattle.crash_model.specs.declared.plans.Change.{Change};
 ghost use Rattle.crash_model.specs.Sound.{IsSound};
 ghost use Rattle.crash_model.specs.View.{view_of};
 ghost use Rattle.crash_model.specs.Meaning.{IsRefused, Means};
 ghost use Rattle.crash_model.specs.declared.refusals.FsFault.{FsFault};
 ghost use Rattle.inode_fs.specs.Inside.{LiesInside, HasSameJournal, GivesName};
-ghost use Rattle.crash_model.specs.declared.operations.Op.TheVariants.{Create, Write, Link, Unlink, Rename, Mkdir, Rmdir};
+ghost use Rattle.crash_model.specs.declared.operations.Op.TheVariants.{Create, Write, Link, Unlink, Rename, Mkdir};
+ghost use Rattle.crash_model.specs.declared.operations.Op.TheVariants.{Rmdir};
 ghost use Rattle.crash_model.specs.declared.plans.Role.TheVariants.{LinkUp};
 
 use crate::changes::{

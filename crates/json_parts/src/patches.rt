@@ -1,6 +1,7 @@
 //! JSON values of the patches of a trace.
 
-ghost use Rattle.std.specs.Prelude.{◌≡◌, ◌++◌, ◌<◌, length, map, IfOk, OnOk, Some, option_map, option_to_list, slice_get};
+ghost use Rattle.std.specs.Prelude.{◌≡◌, ◌++◌, ◌<◌, length, map, IfOk, OnOk, Some};
+ghost use Rattle.std.specs.Prelude.{option_map, option_to_list, slice_get};
 ghost use Rattle.crash_model.specs.Explain.{ToldPatch, told_json, op_text};
 ghost use Rattle.crash_model.specs.Lists.{some_below};
 ghost use Rattle.crash_model.specs.Patches.{place};
@@ -12,7 +13,8 @@ ghost use Rattle.traced_patches.specs.Labels.{emitted_at, emitted_of};
 ghost use Rattle.traced_patches.specs.Reasons.{reason_text};
 ghost use Rattle.traced_patches.specs.Traced.{told_at, dependency_at};
 ghost use Rattle.json_parts.specs.Written.{IsWritten};
-ghost use Rattle.json_parts.specs.Patches.{texts_data, dependency_data, dependencies_data, patch_data, label_put, place_put};
+ghost use Rattle.json_parts.specs.Patches.{texts_data, dependency_data, dependencies_data, patch_data};
+ghost use Rattle.json_parts.specs.Patches.{label_put, place_put};
 ghost use Rattle.serde_json.specs.Data.{string};
 ghost use Rattle.serde_json.specs.View.{view, members_view};
 

@@ -8,7 +8,8 @@ ghost use Rattle.serde_json.specs.View.{view, members_view};
 ghost use Rattle.report_sections.specs.Replay.{told_block, told_replay};
 ghost use Rattle.report_sections.specs.Sections.{section_of};
 ghost use Rattle.json_parts.specs.Written.{IsWritten};
-ghost use Rattle.json_parts.specs.Values.{ids_data, write_data, writes_data, fault_data, faults_data, hex_data, replayed_data, replay_data};
+ghost use Rattle.json_parts.specs.Values.{ids_data, write_data, writes_data, fault_data, faults_data, hex_data};
+ghost use Rattle.json_parts.specs.Values.{replayed_data, replay_data};
 ghost use Rattle.json_parts.specs.Values.{section_put, set_put, replay_put, AreReplayedBytes};
 
 use crash_model::fault::Fault;

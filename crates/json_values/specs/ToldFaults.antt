@@ -17,4 +17,5 @@ told_fault_data patches fault sets set writes replay =
 -- members with those of a fault's row and of its first set put among them
 abbrev pub fault_put : ℕ → FaultRow → Section → Members → Members
 fault_put patches row first members =
-    set_put patches first (put (codes "sets") (number_data row.sets) (put (codes "fault") (fault_data row.fault) members))
+    set_put patches first
+    (put (codes "sets") (number_data row.sets) (put (codes "fault") (fault_data row.fault) members))

@@ -1,4 +1,5 @@
-ghost use Rattle.std.specs.Prelude.{◌≡◌, ℕ, ◌<◌, ◌≤◌, ◌↔◌, [], ◌∷◌, ◌++◌, length, slice_index, IsTrue, IfOk, IfSome, OnOk, OnErr, IsErrOf, MatchOption};
+ghost use Rattle.std.specs.Prelude.{◌≡◌, ℕ, ◌<◌, ◌≤◌, ◌↔◌, [], ◌∷◌, ◌++◌, length, slice_index, IsTrue, IfOk, IfSome};
+ghost use Rattle.std.specs.Prelude.{OnOk, OnErr, IsErrOf, MatchOption};
 ghost use Rattle.std.specs.List.{All};
 ghost use Rattle.state_space.specs.Walks.{IsNextOf};
 ghost use Rattle.patch_sets.specs.Sets.{Has, IsSubset};

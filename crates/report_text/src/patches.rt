@@ -1,6 +1,7 @@
 //! The lines of the patches of a trace.
 
-ghost use Rattle.std.specs.Prelude.{◌≡◌, ◌++◌, ◌<◌, length, string_bytes, OnOk, flat_map, map, slice_get, option_to_list, Some};
+ghost use Rattle.std.specs.Prelude.{◌≡◌, ◌++◌, ◌<◌, length, string_bytes, OnOk, flat_map, map, slice_get};
+ghost use Rattle.std.specs.Prelude.{option_to_list, Some};
 ghost use Rattle.crash_model.specs.Explain.{told_patches, told_text, dependency_text, list_text};
 ghost use Rattle.crash_model.specs.Patches.{place};
 ghost use Rattle.crash_model.specs.Trace.{Emitted};

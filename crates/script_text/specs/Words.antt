@@ -1,6 +1,7 @@
 -- What words and lines say, and why they are refused.
 use Rattle.std.specs.Prelude.{◌≡◌, ◌≢◌, ℕ, List, [], ◌∷◌, codes, Option, Some, None, IsUtf8}
-use Rattle.crash_model.specs.Script.{Operand, said, Fits, HasPaths, HasForm, IsAct, words_of, Reads, IsSkipped, IsBadPath}
+use Rattle.crash_model.specs.Script.{Operand, said, Fits, HasPaths, HasForm, IsAct, words_of, Reads, IsSkipped}
+use Rattle.crash_model.specs.Script.{IsBadPath}
 use Rattle.crash_model.specs.Script as script
 use Rattle.crash_model.specs.declared.names.Path.{Path}
 use Rattle.crash_model.specs.declared.operations.Op.TheVariants as operations
@@ -11,7 +12,8 @@ use Rattle.crash_model.specs.declared.steps.Act.TheVariants as acts
 use Rattle.script_text.specs.declared.line.Line.{Line}
 use Rattle.script_text.specs.declared.line.Line.TheVariants.{Skipped, Start, Says}
 use Rattle.script_text.specs.declared.verb.Verb.{Verb}
-use Rattle.script_text.specs.declared.verb.Verb.TheVariants.{Create, Write, Link, Unlink, Rename, Mkdir, Rmdir, Group, End, Depend}
+use Rattle.script_text.specs.declared.verb.Verb.TheVariants.{Create, Write, Link, Unlink, Rename, Mkdir, Rmdir, Group}
+use Rattle.script_text.specs.declared.verb.Verb.TheVariants.{End, Depend}
 use Rattle.script_text.specs.declared.verb.Verb.TheVariants as verb
 use Rattle.script_text.specs.declared.line.LineFault.{LineFault}
 use Rattle.script_text.specs.declared.line.LineFault.TheVariants.{BadUtf8, BadLine, BadPath}

@@ -1,5 +1,6 @@
 -- What clauses say of seats and places.
-use Rattle.std.specs.Prelude.{◌≡◌, ◌≢◌, ◌⊎◌, ℕ, ◌+◌, ◌<◌, Bool, cond, List, [], ◌∷◌, ◌++◌, length, slice_index, replicate, ◌%◌, Contains}
+use Rattle.std.specs.Prelude.{◌≡◌, ◌≢◌, ◌⊎◌, ℕ, ◌+◌, ◌<◌, Bool, cond, List, [], ◌∷◌, ◌++◌, length, slice_index}
+use Rattle.std.specs.Prelude.{replicate, ◌%◌, Contains}
 use Rattle.board_rule.specs.Layout.{writer, place_of}
 use Rattle.board_rule.specs.Changes.{either_one, both_shares}
 use Rattle.board_rule.specs.declared.life.Life.{Life}

@@ -1,7 +1,8 @@
 //! Where the words of a board lie in its table, which shard a word belongs to, and at which index words it is looked
 //! for.
 ghost use Rattle.std.specs.Prelude.{◌≡◌, ◌%◌, ◌<◌, ◌≤◌};
-ghost use Rattle.board_rule.specs.Layout.{lock_word, length_word, low_word, high_word, life_word, index_word, size_for, slot, window};
+ghost use Rattle.board_rule.specs.Layout.{lock_word, length_word, low_word, high_word, life_word, index_word, size_for};
+ghost use Rattle.board_rule.specs.Layout.{slot, window};
 ghost use Rattle.seen_board.specs.Seats.{IsProbe};
 
 use crate::entries::halves_of;

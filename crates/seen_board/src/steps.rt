@@ -3,7 +3,9 @@ ghost use Rattle.std.specs.Prelude.{ℕ};
 ghost use Rattle.board_rule.specs.Rule.{Kept};
 ghost use Rattle.board_rule.specs.Changes.{first_view, with_half_share, fresh_seat};
 ghost use Rattle.board_rule.specs.Changes.{both_views, impossible_view, spent_view};
-ghost use Rattle.board_rule.specs.Plays.{Peeks, never, IsAtShard, Enters, Seizes, Leaves, Measures, ReadsLow, ReadsHigh, LaysLow, LaysHigh, Publishes, ReadsMark, ScansIndex, Files, Claims, Settles, Announces, Repays, Ends, CountsEntry, Stops, Overflows};
+ghost use Rattle.board_rule.specs.Plays.{Peeks, never, IsAtShard, Enters, Seizes, Leaves, Measures, ReadsLow};
+ghost use Rattle.board_rule.specs.Plays.{ReadsHigh, LaysLow, LaysHigh, Publishes, ReadsMark, ScansIndex, Files, Claims};
+ghost use Rattle.board_rule.specs.Plays.{Settles, Announces, Repays, Ends, CountsEntry, Stops, Overflows};
 
 use atomic_table::{Join, Play, Split, TableRule};
 use board_rule::View;

@@ -1,5 +1,6 @@
 -- Sweeping over the closed sets of a graph in ascending number.
-use Rattle.std.specs.Prelude.{◌≡◌, ◌↔◌, ℕ, ◌+◌, ◌<◌, ◌≤◌, ◌^◌, ◌*◌, ◌/◌, List, Option, length, slice_index, slice_index_or, IfSome, count_ones}
+use Rattle.std.specs.Prelude.{◌≡◌, ◌↔◌, ℕ, ◌+◌, ◌<◌, ◌≤◌, ◌^◌, ◌*◌, ◌/◌, List, Option, length, slice_index}
+use Rattle.std.specs.Prelude.{slice_index_or, IfSome, count_ones}
 use Rattle.std.specs.List.{All, AllPairs, Contains}
 use Rattle.patch_sets.specs.Sets.{Has, IsSubset}
 use Rattle.patch_sets.specs.Closed.{IsClosed}

@@ -1,5 +1,6 @@
 -- What an image says, as functions of numbers: no bytes and no offsets.
-use Rattle.std.specs.Prelude.{◌≡◌, ◌≢◌, ℕ, zero, suc, ◌+◌, ◌<◌, ◌≤◌, ◌↔◌, List, Bool, true, false, ◌&&◌, ◌==◌, not, nat_lt, if◌then◌else◌}
+use Rattle.std.specs.Prelude.{◌≡◌, ◌≢◌, ℕ, zero, suc, ◌+◌, ◌<◌, ◌≤◌, ◌↔◌, List, Bool, true, false, ◌&&◌, ◌==◌, not}
+use Rattle.std.specs.Prelude.{nat_lt, if◌then◌else◌}
 use Rattle.crash_model.specs.DiskBytes.{free_kind, file_kind, directory_kind, file_mark, directory_mark}
 use Rattle.crash_model.specs.Disk.{Disk, byte}
 use Rattle.crash_model.specs.Names.{IsName}

@@ -1,6 +1,8 @@
 -- The graph of a trace, its closed sets and those that fail, computed. That these are the defined ones is proved for
 -- every trace; a worked example then only computes.
-use Rattle.std.specs.Prelude.{◌≡◌, ℕ, zero, suc, ◌+◌, ◌*◌, ◌/◌, ◌%◌, List, [], ◌∷◌, ◌++◌, length, map, filter, Bool, true, false, not, ◌==◌, ◌&&◌, ◌||◌, nat_lt, nat_le, if◌then◌else◌, Option, Some, None, Result, Ok, Err, slice_get, slice_index, slice_range, bit_and, bytes_eq, flat_map, ◌^◌}
+use Rattle.std.specs.Prelude.{◌≡◌, ℕ, zero, suc, ◌+◌, ◌*◌, ◌/◌, ◌%◌, List, [], ◌∷◌, ◌++◌, length, map, filter, Bool}
+use Rattle.std.specs.Prelude.{true, false, not, ◌==◌, ◌&&◌, ◌||◌, nat_lt, nat_le, if◌then◌else◌, Option, Some, None}
+use Rattle.std.specs.Prelude.{Result, Ok, Err, slice_get, slice_index, slice_range, bit_and, bytes_eq, flat_map, ◌^◌}
 use Rattle.std.specs.List.{list_any, list_all}
 use Rattle.crash_model.specs.DiskBytes.{directory_kind}
 use Rattle.state_space.specs.Counts.{HoldsOf}

@@ -1,5 +1,6 @@
 -- Scripts that are written down as acts, and tests of what a script's words are.
-use Rattle.std.specs.Prelude.{ℕ, ◌+◌, List, [], ◌∷◌, ◌++◌, length, map, codes, Bool, true, false, not, ◌&&◌, ◌==◌, nat_lt, nat_le, Result, Ok, Err}
+use Rattle.std.specs.Prelude.{ℕ, ◌+◌, List, [], ◌∷◌, ◌++◌, length, map, codes, Bool, true, false, not, ◌&&◌, ◌==◌}
+use Rattle.std.specs.Prelude.{nat_lt, nat_le, Result, Ok, Err}
 use Rattle.std.specs.List.{list_all, list_any}
 use Rattle.crash_model.specs.Answer.{ordering_rules}
 use Rattle.crash_model.specs.Disk.{Disk, empty_disk}
@@ -13,7 +14,8 @@ use Rattle.crash_model.specs.declared.settings.Explorer.TheVariants.{Auto}
 use Rattle.crash_model.specs.declared.settings.ReportBy.TheVariants.{BySet}
 use Rattle.crash_model.specs.declared.modules.Module.{Module}
 use Rattle.crash_model.specs.declared.steps.Step.{Step}
-use Rattle.worked_example_laws.specs.Computed.{closed_sets, failing_under, kept_of, are_in_order, graph_of, trace_of, is_accepted, have_runs}
+use Rattle.worked_example_laws.specs.Computed.{closed_sets, failing_under, kept_of, are_in_order, graph_of, trace_of}
+use Rattle.worked_example_laws.specs.Computed.{is_accepted, have_runs}
 use Rattle.worked_example_laws.specs.Examples.{numbered_steps}
 use Rattle.crash_model.specs.Names.{is_name_byte, is_group_byte}
 use Rattle.crash_model.specs.Script.{text_of_lines, Operand, PathOperand, GroupOperand, said, words_of}

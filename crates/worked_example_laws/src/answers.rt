@@ -1,6 +1,6 @@
 //! Whole answers, from a script's bytes to the report's.
 
-ghost use Rattle.std.specs.Prelude.{◌≡◌, [], ◌∷◌, true, false, codes};
+ghost use Rattle.std.specs.Prelude.{◌≡◌, [], ◌∷◌, ◌++◌, true, false, codes};
 ghost use Rattle.patch_sets.specs.Writes.{AreRuns};
 ghost use Rattle.crash_model.specs.Answer.{Refused, Reported, IsAnswer};
 ghost use Rattle.crash_model.specs.declared.refusals.RunFault.TheVariants as run;
@@ -17,7 +17,8 @@ pub fn an_empty_trace_is_reported()
 /// A new file, in text.
 pub fn a_new_file_is_reported_in_text()
     ensures unordered { IsAnswer (codes "start\ncreate /a\n") (settings_of Async 16 0 4096 false)
-        (Reported (codes "module async\npatches 2\nclosed 4\nfailing 1\nset 1\nwrite block 4: 1\nfault 1 dangling entry: directory 0 entry 0 inode 1\n") 1) }
+        (Reported (codes "module async\npatches 2\nclosed 4\nfailing 1\nset 1\nwrite block 4: 1\n"
+        ++ codes "fault 1 dangling entry: directory 0 entry 0 inode 1\n") 1) }
     ensures soft { IsAnswer (codes "start\ncreate /a\n") (settings_of Soft 16 0 4096 false)
         (Reported (codes "module soft\npatches 2\nclosed 3\nfailing 0\n") 0) }
 {}
@@ -25,28 +26,45 @@ pub fn a_new_file_is_reported_in_text()
 /// A new file, in JSON.
 pub fn a_new_file_is_reported_in_json()
     ensures { IsAnswer (codes "start\ncreate /a\n") (settings_of Async 16 0 4096 true)
-        (Reported (codes "{\"closed\":4,\"failing\":[{\"faults\":[\"1 dangling entry: directory 0 entry 0 inode 1\"],\"set\":[1],\"writes\":[{\"block\":4,\"patches\":[1]}]}],\"module\":\"async\",\"patches\":2}\n") 1) }
+        (Reported (codes "{\"closed\":4,"
+        ++ codes "\"failing\":[{\"faults\":[\"1 dangling entry: directory 0 entry 0 inode 1\"],"
+        ++ codes "\"set\":[1],\"writes\":[{\"block\":4,\"patches\":[1]}]}],\"module\":\"async\","
+        ++ codes "\"patches\":2}\n") 1) }
 {}
 
 /// A second link, in text and in JSON.
 pub fn a_second_link_is_reported()
     ensures text { IsAnswer (codes "create /a\nstart\nlink /a /b\n") (settings_of Async 16 0 4096 false)
-        (Reported (codes "module async\npatches 2\nclosed 4\nfailing 1\nset 1\nwrite block 4: 1\nfault 4 low link count: inode 1 entries 2 links 1\n") 1) }
+        (Reported (codes "module async\npatches 2\nclosed 4\nfailing 1\nset 1\nwrite block 4: 1\n"
+        ++ codes "fault 4 low link count: inode 1 entries 2 links 1\n") 1) }
     ensures json { IsAnswer (codes "create /a\nstart\nlink /a /b\n") (settings_of Async 16 0 4096 true)
-        (Reported (codes "{\"closed\":4,\"failing\":[{\"faults\":[\"4 low link count: inode 1 entries 2 links 1\"],\"set\":[1],\"writes\":[{\"block\":4,\"patches\":[1]}]}],\"module\":\"async\",\"patches\":2}\n") 1) }
+        (Reported (codes "{\"closed\":4,"
+        ++ codes "\"failing\":[{\"faults\":[\"4 low link count: inode 1 entries 2 links 1\"],"
+        ++ codes "\"set\":[1],\"writes\":[{\"block\":4,\"patches\":[1]}]}],\"module\":\"async\","
+        ++ codes "\"patches\":2}\n") 1) }
 {}
 
 /// A rename: two sets fail, and the second takes three writes, of two blocks.
 pub fn a_rename_is_reported()
     ensures { IsAnswer (codes "create /a\nstart\nrename /a /b\n") (settings_of Async 16 0 4096 false)
-        (Reported (codes "module async\npatches 4\nclosed 12\nfailing 2\nset 1\nwrite block 4: 1\nfault 4 low link count: inode 1 entries 2 links 1\nset 0 1 3\nwrite block 2: 0\nwrite block 4: 1\nwrite block 2: 3\nfault 4 low link count: inode 1 entries 2 links 1\n") 2) }
+        (Reported (codes "module async\npatches 4\nclosed 12\nfailing 2\nset 1\nwrite block 4: 1\n"
+        ++ codes "fault 4 low link count: inode 1 entries 2 links 1\nset 0 1 3\nwrite block 2: 0\n"
+        ++ codes "write block 4: 1\nwrite block 2: 3\n"
+        ++ codes "fault 4 low link count: inode 1 entries 2 links 1\n") 2) }
 {}
 
-/// A link and an unlink are two operations, and soft updates do not order the new name before the old one's removal: the
-/// file is kept, and three sets lose it. Nothing else fails.
+/// A link and an unlink are two operations, and soft updates do not order the new name before the old one's removal:
+/// the file is kept, and three sets lose it. Nothing else fails.
 pub fn a_file_that_loses_its_names_is_reported()
-    ensures strict { IsAnswer (codes "create /a\nstart\nlink /a /b\nunlink /a\n") (strict_settings_of Soft 16 0 4096 true)
-        (Reported (codes "{\"closed\":8,\"failing\":[{\"faults\":[\"7 lost inode: inode 1\"],\"set\":[2],\"writes\":[{\"block\":4,\"patches\":[2]}]},{\"faults\":[\"7 lost inode: inode 1\"],\"set\":[0,2],\"writes\":[{\"block\":2,\"patches\":[0]},{\"block\":4,\"patches\":[2]}]},{\"faults\":[\"7 lost inode: inode 1\"],\"set\":[0,2,3],\"writes\":[{\"block\":2,\"patches\":[0]},{\"block\":4,\"patches\":[2]},{\"block\":2,\"patches\":[3]}]}],\"module\":\"soft\",\"patches\":4,\"strict\":true}\n") 3) }
+    ensures strict { IsAnswer (codes "create /a\nstart\nlink /a /b\nunlink /a\n")
+        (strict_settings_of Soft 16 0 4096 true)
+        (Reported (codes "{\"closed\":8,\"failing\":[{\"faults\":[\"7 lost inode: inode 1\"],\"set\":[2],"
+        ++ codes "\"writes\":[{\"block\":4,\"patches\":[2]}]},{\"faults\":[\"7 lost inode: inode 1\"],"
+        ++ codes "\"set\":[0,2],\"writes\":[{\"block\":2,\"patches\":[0]},{\"block\":4,\"patches\":[2]"
+        ++ codes "}]},{\"faults\":[\"7 lost inode: inode 1\"],\"set\":[0,2,3],"
+        ++ codes "\"writes\":[{\"block\":2,\"patches\":[0]},{\"block\":4,\"patches\":[2]},"
+        ++ codes "{\"block\":2,\"patches\":[3]}]}],\"module\":\"soft\",\"patches\":4,\"strict\":true}"
+        ++ codes "\n") 3) }
     ensures unasked { IsAnswer (codes "create /a\nstart\nlink /a /b\nunlink /a\n") (settings_of Soft 16 0 4096 true)
         (Reported (codes "{\"closed\":8,\"failing\":[],\"module\":\"soft\",\"patches\":4}\n") 0) }
 {}
@@ -60,36 +78,56 @@ pub fn an_inode_that_is_freed_is_not_kept()
 /// A set is cut where the block changes, and not put together by block.
 pub fn writes_are_cut_where_the_block_changes()
     ensures { AreRuns (2 ∷ 4 ∷ 4 ∷ 2 ∷ []) (set_of (0 ∷ 1 ∷ 3 ∷ []))
-        (record { block = 2; ids = set_of (0 ∷ []) } ∷ record { block = 4; ids = set_of (1 ∷ []) } ∷ record { block = 2; ids = set_of (3 ∷ []) } ∷ []) }
+        (record { block = 2; ids = set_of (0 ∷ []) } ∷ record { block = 4; ids = set_of (1 ∷ []) }
+        ∷ record { block = 2; ids = set_of (3 ∷ []) } ∷ []) }
 {}
 
 /// An operation that is refused is told by its line, in the base and in the trace.
 pub fn a_refused_operation_is_told_by_its_line()
-    ensures not_found { IsAnswer (codes "start\ncreate /x/y\n") (settings_of Async 16 0 4096 false) (Refused (run.NotFound 2)) }
-    ensures no_directory { IsAnswer (codes "start\ncreate /a\ncreate /a/b\n") (settings_of Async 16 0 4096 false) (Refused (run.NotADirectory 3)) }
-    ensures itself { IsAnswer (codes "start\ncreate /a\nlink /a /a\n") (settings_of Async 16 0 4096 false) (Refused (run.Exists 3)) }
-    ensures links { IsAnswer (codes "create /a\nlink /a /b\nlink /a /c\nlink /a /d\nlink /a /e\nlink /a /f\nlink /a /g\nlink /a /h\nstart\nlink /a /i\n") (settings_of Async 16 0 4096 false) (Refused (run.LinksFull 10)) }
-    ensures file { IsAnswer (codes "create /a\nwrite /a\nwrite /a\nwrite /a\nwrite /a\nstart\nwrite /a\n") (settings_of Async 16 0 4096 false) (Refused (run.FileFull 7)) }
-    ensures block { IsAnswer (codes "create /a\nwrite /a\nstart\nwrite /a\n") (settings_of Async 16 10 4096 false) (Refused (run.NoBlock 4)) }
-    ensures base { IsAnswer (codes "create /x/y\nstart\n") (settings_of Async 16 0 4096 false) (Refused (run.NotFound 1)) }
+    ensures not_found { IsAnswer (codes "start\ncreate /x/y\n") (settings_of Async 16 0 4096 false)
+        (Refused (run.NotFound 2)) }
+    ensures no_directory { IsAnswer (codes "start\ncreate /a\ncreate /a/b\n") (settings_of Async 16 0 4096 false)
+        (Refused (run.NotADirectory 3)) }
+    ensures itself { IsAnswer (codes "start\ncreate /a\nlink /a /a\n") (settings_of Async 16 0 4096 false)
+        (Refused (run.Exists 3)) }
+    ensures links { IsAnswer (codes "create /a\nlink /a /b\nlink /a /c\nlink /a /d\nlink /a /e\nlink /a /f\n"
+        ++ codes "link /a /g\nlink /a /h\nstart\nlink /a /i\n") (settings_of Async 16 0 4096 false)
+        (Refused (run.LinksFull 10)) }
+    ensures file { IsAnswer (codes "create /a\nwrite /a\nwrite /a\nwrite /a\nwrite /a\nstart\nwrite /a\n")
+        (settings_of Async 16 0 4096 false)
+        (Refused (run.FileFull 7)) }
+    ensures block { IsAnswer (codes "create /a\nwrite /a\nstart\nwrite /a\n") (settings_of Async 16 10 4096 false)
+        (Refused (run.NoBlock 4)) }
+    ensures base { IsAnswer (codes "create /x/y\nstart\n") (settings_of Async 16 0 4096 false)
+        (Refused (run.NotFound 1)) }
 {}
 
 /// A journal that is too small, and groups in the wrong order.
 pub fn journals_and_groups_are_refused_by_their_line()
-    ensures journal { IsAnswer (codes "start\ncreate /a\n") (settings_of Meta 16 2 4096 false) (Refused (run.JournalFull 2)) }
-    ensures no_journal { IsAnswer (codes "start\ncreate /a\n") (settings_of Meta 16 0 4096 false) (Refused (run.JournalFull 2)) }
-    ensures second { IsAnswer (codes "start\ncreate /a\nwrite /a\n") (settings_of Meta 16 5 4096 false) (Refused (run.JournalFull 3)) }
-    ensures full { IsAnswer (codes "start\ncreate /a\nwrite /a\n") (settings_of Full 16 6 4096 false) (Refused (run.JournalFull 3)) }
-    ensures open { IsAnswer (codes "start\ngroup A\ncreate /a\ndepend B A\n") (settings_of Async 16 0 4096 false) (Refused (run.GroupFault 4)) }
-    ensures unknown { IsAnswer (codes "start\ndepend B A\n") (settings_of Async 16 0 4096 false) (Refused (run.GroupFault 2)) }
-    ensures late { IsAnswer (codes "start\ngroup A\nend\ndepend B A\ngroup B\ncreate /b\ndepend B A\n") (settings_of Async 16 0 4096 false) (Refused (run.GroupFault 7)) }
-    ensures base { IsAnswer (codes "group A\nstart\n") (settings_of Async 16 0 4096 false) (Refused (run.GroupFault 1)) }
+    ensures journal { IsAnswer (codes "start\ncreate /a\n") (settings_of Meta 16 2 4096 false)
+        (Refused (run.JournalFull 2)) }
+    ensures no_journal { IsAnswer (codes "start\ncreate /a\n") (settings_of Meta 16 0 4096 false)
+        (Refused (run.JournalFull 2)) }
+    ensures second { IsAnswer (codes "start\ncreate /a\nwrite /a\n") (settings_of Meta 16 5 4096 false)
+        (Refused (run.JournalFull 3)) }
+    ensures full { IsAnswer (codes "start\ncreate /a\nwrite /a\n") (settings_of Full 16 6 4096 false)
+        (Refused (run.JournalFull 3)) }
+    ensures open { IsAnswer (codes "start\ngroup A\ncreate /a\ndepend B A\n") (settings_of Async 16 0 4096 false)
+        (Refused (run.GroupFault 4)) }
+    ensures unknown { IsAnswer (codes "start\ndepend B A\n") (settings_of Async 16 0 4096 false)
+        (Refused (run.GroupFault 2)) }
+    ensures late { IsAnswer (codes "start\ngroup A\nend\ndepend B A\ngroup B\ncreate /b\ndepend B A\n")
+        (settings_of Async 16 0 4096 false)
+        (Refused (run.GroupFault 7)) }
+    ensures base { IsAnswer (codes "group A\nstart\n") (settings_of Async 16 0 4096 false)
+        (Refused (run.GroupFault 1)) }
 {}
 
 /// A disk that is too small for its journal, and more closed sets than the limit.
 pub fn settings_are_refused()
     ensures room { IsAnswer (codes "start\n") (settings_of Async 16 11 4096 false) (Refused run.BadGeometry) }
-    ensures limit { IsAnswer (codes "start\ncreate /a\nwrite /a\n") (settings_of Async 16 0 23 false) (Refused run.TooMany) }
+    ensures limit { IsAnswer (codes "start\ncreate /a\nwrite /a\n") (settings_of Async 16 0 23 false)
+        (Refused run.TooMany) }
     ensures one { IsAnswer (codes "start\ncreate /a\n") (settings_of Async 16 0 1 false) (Refused run.TooMany) }
 {}
 

@@ -5,7 +5,8 @@ ghost use Rattle.state_space.specs.Counts.{HoldsOf};
 ghost use Rattle.crash_model.specs.Failing.{CountsClosed, IsFailing};
 ghost use Rattle.crash_model.specs.declared.modules.Module.TheVariants.{Async, Soft};
 ghost use Rattle.worked_example_laws.specs.Computed.{HasGraph, Explored, sets, set_of};
-ghost use Rattle.worked_example_laws.specs.Examples.{fresh_disk, one_file, two_files, written_file, grouped_files, with_file, second_link, renamed_file, with_files, reused_block};
+ghost use Rattle.worked_example_laws.specs.Examples.{fresh_disk, one_file, two_files, written_file, grouped_files};
+ghost use Rattle.worked_example_laws.specs.Examples.{with_file, second_link, renamed_file, with_files, reused_block};
 
 /// `create /a`: with no order among its changes, the entry without the inode fails. Soft updates order them.
 pub fn an_entry_without_its_inode_fails()

@@ -7,7 +7,8 @@ ghost use Rattle.crash_model.specs.Disk.{Disk, block_of, with_bytes, empty_disk}
 ghost use Rattle.crash_model.specs.Faults.{faults};
 ghost use Rattle.crash_model.specs.Replay.{image_after_replay};
 ghost use Rattle.crash_model.specs.Sound.{IsSound, HasZeroJournal};
-ghost use Rattle.crash_model.specs.declared.fault.Fault.TheVariants.{Dangling, Twice, Unwritten, LowLinks, MarkedFree, Wild};
+ghost use Rattle.crash_model.specs.declared.fault.Fault.TheVariants.{Dangling, Twice, Unwritten, LowLinks, MarkedFree};
+ghost use Rattle.crash_model.specs.declared.fault.Fault.TheVariants.{Wild};
 ghost use Rattle.worked_example_laws.specs.Examples.{fresh_disk, fresh_with_journal, with_inode_bytes};
 
 /// New disks are sound, without a journal and with one, and their journals are zero.

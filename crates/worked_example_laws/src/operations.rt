@@ -4,10 +4,17 @@
 ghost use Rattle.std.specs.Prelude.{◌≡◌, [], ◌∷◌, ◌++◌, replicate, codes, Ok, Err, take};
 ghost use Rattle.crash_model.specs.Disk.{Disk, block_of, with_bytes, empty_disk};
 ghost use Rattle.crash_model.specs.Plan.{plan_of, change};
-ghost use Rattle.crash_model.specs.declared.operations.Op.TheVariants.{Create, Write, Link, Unlink, Rename, Mkdir, Rmdir};
-ghost use Rattle.crash_model.specs.declared.plans.Role.TheVariants.{InodeInit, EntrySet, EntryClear, MapSet, MapClear, InitFile, InitDir, Ptr, LinkUp, LinkDown, InodeFree};
-ghost use Rattle.crash_model.specs.declared.refusals.FsFault.TheVariants.{NotFound, NotADirectory, Exists, NotAFile, NotEmpty, NoInode, NoBlock, DirectoryFull, FileFull, LinksFull};
-ghost use Rattle.worked_example_laws.specs.Examples.{a, b, c, d, f, x, d_x, root, inside, after, fresh_disk, with_file, with_files, full_links, full_directory, few_inodes, no_blocks, full_file, unmarked_root};
+ghost use Rattle.crash_model.specs.declared.operations.Op.TheVariants.{Create, Write, Link, Unlink, Rename, Mkdir};
+ghost use Rattle.crash_model.specs.declared.operations.Op.TheVariants.{Rmdir};
+ghost use Rattle.crash_model.specs.declared.plans.Role.TheVariants.{InodeInit, EntrySet, EntryClear, MapSet, MapClear};
+ghost use Rattle.crash_model.specs.declared.plans.Role.TheVariants.{InitFile, InitDir, Ptr, LinkUp, LinkDown};
+ghost use Rattle.crash_model.specs.declared.plans.Role.TheVariants.{InodeFree};
+ghost use Rattle.crash_model.specs.declared.refusals.FsFault.TheVariants.{NotFound, NotADirectory, Exists, NotAFile};
+ghost use Rattle.crash_model.specs.declared.refusals.FsFault.TheVariants.{NotEmpty, NoInode, NoBlock, DirectoryFull};
+ghost use Rattle.crash_model.specs.declared.refusals.FsFault.TheVariants.{FileFull, LinksFull};
+ghost use Rattle.worked_example_laws.specs.Examples.{a, b, c, d, f, x, d_x, root, inside, after, fresh_disk, with_file};
+ghost use Rattle.worked_example_laws.specs.Examples.{with_files, full_links, full_directory, few_inodes, no_blocks};
+ghost use Rattle.worked_example_laws.specs.Examples.{full_file, unmarked_root};
 
 /// A new disk of 16 blocks without a journal: the superblock, the map with the blocks up to the root's in use, the
 /// root's inode and its empty directory block.

@@ -10,7 +10,8 @@ ghost use Rattle.crash_model.specs.declared.fault.Fault.TheVariants.{Unwritten};
 ghost use Rattle.crash_model.specs.declared.operations.Op.TheVariants.{Create};
 ghost use Rattle.crash_model.specs.declared.modules.Module.TheVariants.{Meta};
 ghost use Rattle.worked_example_laws.specs.Computed.{HasGraph, Explored, CountsWith, new_bytes, set_of, table};
-ghost use Rattle.worked_example_laws.specs.Examples.{a, after, fresh_with_journal, one_file, written_file, with_directory, reused_directory};
+ghost use Rattle.worked_example_laws.specs.Examples.{a, after, fresh_with_journal, one_file, written_file};
+ghost use Rattle.worked_example_laws.specs.Examples.{with_directory, reused_directory};
 
 /// `create /a` with a journal of metadata: copies of the two blocks, the commit record, the changes in place, and the
 /// mark that the transaction is done.
@@ -37,8 +38,10 @@ pub fn a_new_file_is_safe_with_a_journal_of_metadata()
 pub fn three_transactions_wait_for_one_another()
     ensures { HasGraph Meta with_directory reused_directory (λ patches. table patches ≡
         (5, 0, []) ∷ (6, 0, []) ∷ (4, 0, 0 ∷ 1 ∷ []) ∷ (17, 8, 2 ∷ []) ∷ (2, 32, 2 ∷ []) ∷ (4, 0, 2 ∷ 3 ∷ 4 ∷ [])
-        ∷ (8, 0, []) ∷ (9, 0, []) ∷ (10, 0, []) ∷ (7, 0, 2 ∷ 6 ∷ 7 ∷ 8 ∷ []) ∷ (16, 8, 9 ∷ []) ∷ (2, 16, 9 ∷ []) ∷ (1, 17, 9 ∷ [])
-        ∷ (7, 0, 5 ∷ 9 ∷ 10 ∷ 11 ∷ 12 ∷ []) ∷ (17, 0, 3 ∷ 9 ∷ []) ∷ (12, 0, []) ∷ (13, 0, []) ∷ (11, 0, 9 ∷ 14 ∷ 15 ∷ 16 ∷ [])
+        ∷ (8, 0, []) ∷ (9, 0, []) ∷ (10, 0, []) ∷ (7, 0, 2 ∷ 6 ∷ 7 ∷ 8 ∷ []) ∷ (16, 8, 9 ∷ []) ∷ (2, 16, 9 ∷ [])
+        ∷ (1, 17, 9 ∷ [])
+        ∷ (7, 0, 5 ∷ 9 ∷ 10 ∷ 11 ∷ 12 ∷ []) ∷ (17, 0, 3 ∷ 9 ∷ []) ∷ (12, 0, []) ∷ (13, 0, [])
+        ∷ (11, 0, 9 ∷ 14 ∷ 15 ∷ 16 ∷ [])
         ∷ (1, 17, 12 ∷ 17 ∷ []) ∷ (2, 52, 17 ∷ []) ∷ (11, 0, 13 ∷ 17 ∷ 18 ∷ 19 ∷ []) ∷ []) }
 {}
 
