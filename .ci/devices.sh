@@ -1,5 +1,6 @@
 #!/usr/bin/env bash
-# devices.sh PROGRAM: what the program answers to words, files and devices of a system. The last line is 'N passed, M failed'.
+# devices.sh PROGRAM: what the program answers to words, files and devices of a system. The last line is 'N passed, M
+# failed'.
 set -u
 program=$(realpath "$1")
 work=$(mktemp -d)

@@ -1,7 +1,7 @@
 #!/usr/bin/env bash
-# page.sh PROGRAM: the page over the built program. Does the page show reports rightly in a browser, are the reports that
-# this is tried on those of the program, and does crashmap-page stitch them and pass its answers on? Debian's chromium is
-# installed where there is none. The last line is 'N passed, M failed'.
+# page.sh PROGRAM: the page over the built program. Does the page show reports rightly in a browser, are the reports
+# that this is tried on those of the program, and does crashmap-page stitch them and pass its answers on? Debian's
+# chromium is installed where there is none. The last line is 'N passed, M failed'.
 set -u
 program=$(realpath "$1")
 top=$(cd "$(dirname "${BASH_SOURCE[0]}")/.." && pwd)

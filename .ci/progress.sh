@@ -1,5 +1,6 @@
 #!/usr/bin/env bash
-# progress.sh PROGRAM: the line that tells how far a run is comes on a terminal alone. The last line is 'N passed, M failed'.
+# progress.sh PROGRAM: the line that tells how far a run is comes on a terminal alone. The last line is 'N passed, M
+# failed'.
 set -u
 python3 - "$(realpath "$1")" <<'P'
 import os, pty, re, subprocess, sys, time

@@ -1,19 +1,20 @@
 #!/usr/bin/env bash
-# refused.sh PROGRAM [SCRIPT [OPTION..]]: runs crashmap again and again, with its first request for memory refused, then its
-# second, and so on until none is refused, and checks each answer: `crashmap: 99 out of memory`, status 2 and nothing on standard
-# output, or what it answers where no request was refused. These are all requests of the program, those of the command line, of
-# clap and of JSON too. With `--workers 2` and more the report may come in place of a refusal, as where a thread cannot start and
-# its worker runs on the first one's. Without a script it takes one with a failing set, in text and in JSON, from a file and from
-# standard input, and command lines that clap answers; not an unknown option, which clap answers as ever
-# though one of its requests is refused. The last line is 'N passed, M failed'.
+# refused.sh PROGRAM [SCRIPT [OPTION..]]: runs crashmap again and again, with its first request for memory refused,
+# then its second, and so on until none is refused, and checks each answer: `crashmap: 99 out of memory`, status 2 and
+# nothing on standard output, or what it answers where no request was refused. These are all requests of the program,
+# those of the command line, of clap and of JSON too. With `--workers 2` and more the report may come in place of a
+# refusal, as where a thread cannot start and its worker runs on the first one's. Without a script it takes one with a
+# failing set, in text and in JSON, from a file and from standard input, and command lines that clap answers; not an
+# unknown option, which clap answers as ever though one of its requests is refused. The last line is 'N passed, M
+# failed'.
 set -u
 program=$(realpath "$1")
 shift
 work=$(mktemp -d)
 trap 'rm -rf "$work"' EXIT
 
-# A malloc and a realloc that refuse the request of the number REFUSED_REQUEST, and say so in the file REFUSED_MARK. No header is
-# needed, so that the kit's own compiler takes it.
+# A malloc and a realloc that refuse the request of the number REFUSED_REQUEST, and say so in the file REFUSED_MARK. No
+# header is needed, so that the kit's own compiler takes it.
 cat >"$work/refuse.c" <<'C'
 typedef unsigned long size_t;
 void *dlsym(void *handle, const char *name);
