@@ -1,5 +1,6 @@
 -- What steps make of a view.
 use Rattle.std.specs.Prelude.{ℕ, ◌+◌, max, List, [], ◌∷◌, ◌++◌, length, slice_set, replicate, cond, ◌==◌, ◌/◌, ◌%◌}
+use Rattle.board_rule.specs.declared.shards.TheConstants.{SHARDS}
 use Rattle.board_rule.specs.Layout.{half, length_word, low_word, high_word, index_word, size_for, place_of, slot}
 use Rattle.board_rule.specs.Lists.{row_of, longer_rows, agree}
 use Rattle.board_rule.specs.declared.life.Life.{Life}
@@ -62,11 +63,11 @@ with_given_up v =
 
 -- a board with the start as its one entry
 abbrev pub opening_rows : ℕ → List (List ℕ)
-opening_rows start = slice_set (replicate 13 []) (start % 13) (start ∷ [])
+opening_rows start = slice_set (replicate SHARDS []) (start % SHARDS) (start ∷ [])
 
 -- its words
 abbrev pub opening_words : ℕ → ℕ → List ℕ
-opening_words places start = let q = start % 13 in
+opening_words places start = let q = start % SHARDS in
     slice_set (slice_set (slice_set (slice_set (slice_set (slice_set (replicate (size_for places) 0) 0 1) 1 1)
     (length_word q) 1) (low_word q 0) (start % half)) (high_word places q 0) (start / half))
     (index_word places q (slot places start 0)) 1
@@ -121,7 +122,7 @@ fresh_seat v = record v {
 
 -- what a seat that was given up leaves. It is one constant, so it knows no board
 abbrev pub spent_view : View
-spent_view = idle_view 0 0 (replicate 13 []) 0
+spent_view = idle_view 0 0 (replicate SHARDS []) 0
 
 abbrev pub either_one : ℕ → ℕ → ℕ
 either_one a b = cond (a == 1) a b
@@ -132,7 +133,7 @@ abbrev pub both_views : View → View → View
 both_views v w = record v {
   rows = record v.rows {
     seen = longer_rows v.rows.seen w.rows.seen;
-    held = cond (agree v.rows.seen w.rows.seen) v.rows.held 13;
+    held = cond (agree v.rows.seen w.rows.seen) v.rows.held SHARDS;
     added = v.rows.added ++ w.rows.added;
   };
   lives = record v.lives {
@@ -150,4 +151,4 @@ both_views v w = record v {
 
 -- two seats that cannot be side by side
 abbrev pub impossible_view : View → View → View
-impossible_view v w = record v { rows = record v.rows { held = 13 } }
+impossible_view v w = record v { rows = record v.rows { held = SHARDS } }

@@ -1,6 +1,7 @@
 -- Rows of words, and sums over lists.
 use Rattle.std.specs.Prelude.{◌≡◌, ℕ, zero, suc, ◌+◌, ◌%◌, ◌<◌, Bool, true, false, List, [], ◌∷◌, ◌++◌, length}
 use Rattle.std.specs.Prelude.{slice_index, slice_index_or, cond, ◌==◌, nat_lt}
+use Rattle.board_rule.specs.declared.shards.TheConstants.{SHARDS}
 
 -- the row of shard q
 abbrev pub row_of : List (List ℕ) → ℕ → List ℕ
@@ -12,7 +13,7 @@ StartsWith row seen = (rest : List ℕ) × (row ≡ seen ++ rest)
 
 -- the word is an entry: it stands in the row of its shard
 abbrev pub Has : List (List ℕ) → ℕ → Type 0
-Has rows y = (j : ℕ) × (j < length (row_of rows (y % 13))) × (slice_index (row_of rows (y % 13)) j ≡ y)
+Has rows y = (j : ℕ) × (j < length (row_of rows (y % SHARDS))) × (slice_index (row_of rows (y % SHARDS)) j ≡ y)
 
 abbrev pub total : {A : Type 0} → (A → ℕ) → List A → ℕ
 total f [] = 0

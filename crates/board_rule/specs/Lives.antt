@@ -1,5 +1,6 @@
 -- The life of an entry, as a word: 0 waiting, 1 claimed, 2 clean, 3 broken.
 use Rattle.std.specs.Prelude.{◌≡◌, ◌≢◌, ℕ, ◌/◌, ◌%◌, Bool, List, slice_index, cond, ◌==◌, nat_lt}
+use Rattle.board_rule.specs.declared.shards.TheConstants.{SHARDS}
 use Rattle.board_rule.specs.Lists.{row_of}
 use Rattle.board_rule.specs.declared.life.Life.{Life}
 use Rattle.board_rule.specs.declared.life.Life.TheVariants.{Waiting, Claimed, Clean, Broken}
@@ -30,4 +31,4 @@ Passes Broken b = b ≡ Broken
 
 -- the life of a place, given by its one number
 abbrev pub life_at : List (List ℕ) → ℕ → ℕ
-life_at lives p = slice_index (row_of lives (p % 13)) (p / 13)
+life_at lives p = slice_index (row_of lives (p % SHARDS)) (p / SHARDS)

@@ -3,6 +3,7 @@
 -- of an entry is told which words are reached.
 use Rattle.std.specs.Prelude.{◌≡◌, ◌≢◌, ℕ, ◌+◌, ◌/◌, ◌%◌, ◌<◌, ◌≤◌, List, [], ◌∷◌, length, slice_index, slice_set, max}
 use Rattle.std.specs.Prelude.{Contains}
+use Rattle.board_rule.specs.declared.shards.TheConstants.{SHARDS}
 use Rattle.atomic_table.specs.Table.{Me, Step}
 use Rattle.board_rule.specs.Layout.{writer, half, lock_word, length_word, low_word, high_word, life_word, index_word}
 use Rattle.board_rule.specs.Layout.{place_of}
@@ -49,7 +50,7 @@ module _ {S : Type 0} where
 
   -- the seat is at one of the 13 shards
   abbrev pub IsAtShard : Step S → Me S View → ℕ → Me S View → Type 0
-  IsAtShard st m r n = (n ≡ m) × (m.0.rows.held < 13)
+  IsAtShard st m r n = (n ≡ m) × (m.0.rows.held < SHARDS)
 
   abbrev pub TakesRight : ℕ → Step S → Me S View → ℕ → Me S View → Type 0
   TakesRight right st m r n = (n.1 ≡ m.1) × (r ≡ st.first → (q : ℕ) → st.word ≡ lock_word q → Takes m.0 right q n.0)
@@ -71,12 +72,12 @@ module _ {S : Type 0} where
 
   abbrev pub ReadsLow : (ℕ → Type 0) → Step S → Me S View → ℕ → Me S View → Type 0
   ReadsLow reached st m r n = (n ≡ m)
-      × ((q k : ℕ) → st.word ≡ low_word q k → q < 13 → k < length (row_of m.0.rows.seen q)
+      × ((q k : ℕ) → st.word ≡ low_word q k → q < SHARDS → k < length (row_of m.0.rows.seen q)
       → (r ≡ slice_index (row_of m.0.rows.seen q) k % half) × reached (slice_index (row_of m.0.rows.seen q) k))
 
   abbrev pub ReadsHigh : Step S → Me S View → ℕ → Me S View → Type 0
   ReadsHigh st m r n = (n ≡ m)
-      × ((q k : ℕ) → st.word ≡ high_word m.0.places q k → q < 13 → k < length (row_of m.0.rows.seen q)
+      × ((q k : ℕ) → st.word ≡ high_word m.0.places q k → q < SHARDS → k < length (row_of m.0.rows.seen q)
       → r ≡ slice_index (row_of m.0.rows.seen q) k / half)
 
   abbrev pub LaysLow : Step S → Me S View → ℕ → Me S View → Type 0
@@ -99,14 +100,14 @@ module _ {S : Type 0} where
   -- with no right
   abbrev pub ScansIndex : Step S → Me S View → ℕ → Me S View → Type 0
   ScansIndex st m r n = (n.1 ≡ m.1)
-      × ((q j : ℕ) → st.word ≡ index_word m.0.places q j → q < 13 → j < m.0.places → Scans m.0 q r n.0)
+      × ((q j : ℕ) → st.word ≡ index_word m.0.places q j → q < SHARDS → j < m.0.places → Scans m.0 q r n.0)
 
   abbrev pub Files : Step S → Me S View → ℕ → Me S View → Type 0
   Files st m r n = (marks : List ℕ) × (n ≡ (record m.0 { rows = record m.0.rows { marks = marks; unfiled = 0 } }, m.1))
 
   abbrev pub Claims : Step S → Me S View → ℕ → Me S View → Type 0
   Claims st m r n = (n.1 ≡ m.1)
-      × ((q k : ℕ) → st.word ≡ life_word m.0.places q k → q < 13
+      × ((q k : ℕ) → st.word ≡ life_word m.0.places q k → q < SHARDS
       → (r ≡ 0 → (n.0 ≡ with_claim m.0 (place_of q k) Claimed) × (Contains m.0.lives.given_up (place_of q k) → ⊥))
       × (r ≢ 0 → n.0 ≡ with_learned m.0 (place_of q k) Claimed))
 

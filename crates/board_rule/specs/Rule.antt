@@ -2,6 +2,7 @@
 use Rattle.std.specs.Prelude.{◌≡◌, ℕ, ◌+◌, ◌*◌, ◌/◌, ◌%◌, ◌^◌, ◌<◌, ◌≤◌, ◌⊎◌, List, [], ◌∷◌, length, slice_index, cond}
 use Rattle.std.specs.Prelude.{◌==◌, nat_lt, Contains}
 use Rattle.std.specs.List.{All}
+use Rattle.board_rule.specs.declared.shards.TheConstants.{SHARDS}
 use mathlib.Core.Option.{some}
 use lib.ListN.{get_elem?}
 use Rattle.atomic_table.specs.Table.{State}
@@ -25,22 +26,22 @@ weight q v = cond (v.rows.held == q) v.rows.right 0
 -- Locks: all rights of a shard weigh no more than its lock word, and that no more than one writer.
 abbrev pub LocksOk : List ℕ → List View → Type 0
 LocksOk words views =
-    (q : ℕ) → q < 13 → (total (weight q) views ≤ slice_index words (lock_word q))
+    (q : ℕ) → q < SHARDS → (total (weight q) views ≤ slice_index words (lock_word q))
     × (slice_index words (lock_word q) ≤ writer)
 
 -- Rows: the words have them, with entries that are reached, each once, in the shard of its number.
 pub record RowsOk (t : Told) (rows : List (List ℕ)) (words : List ℕ) : Type 0 where
-  pub all : length rows ≡ 13
-  pub short : (q : ℕ) → q < 13 → length (row_of rows q) ≤ t.places
-  pub stored : (q : ℕ) → q < 13 → slice_index words (length_word q) ≡ length (row_of rows q)
-  pub lows : (q k : ℕ) → q < 13 → k < length (row_of rows q)
+  pub all : length rows ≡ SHARDS
+  pub short : (q : ℕ) → q < SHARDS → length (row_of rows q) ≤ t.places
+  pub stored : (q : ℕ) → q < SHARDS → slice_index words (length_word q) ≡ length (row_of rows q)
+  pub lows : (q k : ℕ) → q < SHARDS → k < length (row_of rows q)
       → slice_index words (low_word q k) ≡ slice_index (row_of rows q) k % half
-  pub highs : (q k : ℕ) → q < 13 → k < length (row_of rows q)
+  pub highs : (q k : ℕ) → q < SHARDS → k < length (row_of rows q)
       → slice_index words (high_word t.places q k) ≡ slice_index (row_of rows q) k / half
-  pub at_home : (q k : ℕ) → q < 13 → k < length (row_of rows q) → slice_index (row_of rows q) k % 13 ≡ q
-  pub apart : (q j k : ℕ) → q < 13 → j < length (row_of rows q) → k < length (row_of rows q)
+  pub at_home : (q k : ℕ) → q < SHARDS → k < length (row_of rows q) → slice_index (row_of rows q) k % SHARDS ≡ q
+  pub apart : (q j k : ℕ) → q < SHARDS → j < length (row_of rows q) → k < length (row_of rows q)
       → slice_index (row_of rows q) j ≡ slice_index (row_of rows q) k → j ≡ k
-  pub reached : (q k : ℕ) → q < 13 → k < length (row_of rows q)
+  pub reached : (q k : ℕ) → q < SHARDS → k < length (row_of rows q)
       → IsReached t.next t.origin (slice_index (row_of rows q) k)
 
 -- a half of a word lies behind the row, and only a writer puts it there
@@ -50,9 +51,9 @@ Behind places row right words part address =
 
 -- Seats: what one has seen is a beginning of each row, under a right the whole row and the index.
 pub record SeatOk (places : ℕ) (rows : List (List ℕ)) (words : List ℕ) (r : OnRows) : Type 0 where
-  pub all : length r.seen ≡ 13
-  pub saw : (q : ℕ) → q < 13 → StartsWith (row_of rows q) (row_of r.seen q)
-  pub near : r.held < 13
+  pub all : length r.seen ≡ SHARDS
+  pub saw : (q : ℕ) → q < SHARDS → StartsWith (row_of rows q) (row_of r.seen q)
+  pub near : r.held < SHARDS
   pub whole : 0 < r.right → row_of r.seen r.held ≡ row_of rows r.held
   pub low : Behind places (row_of rows r.held) r.right words r.low (low_word r.held (length (row_of rows r.held)))
   pub high : Behind places (row_of rows r.held) r.right words r.high
@@ -71,11 +72,11 @@ times p v = times_among p v.rows.added
 
 -- 1 for a place that is published, else 0
 abbrev pub is_published : List (List ℕ) → ℕ → ℕ
-is_published rows p = cond (nat_lt (p / 13) (length (row_of rows (p % 13)))) 1 0
+is_published rows p = cond (nat_lt (p / SHARDS) (length (row_of rows (p % SHARDS)))) 1 0
 
 -- the place of the start
 abbrev pub start_place : ℕ → ℕ
-start_place origin = place_of (origin % 13) 0
+start_place origin = place_of (origin % SHARDS) 0
 
 -- Authors: each place that is published but the start's was published by one seat, once, and no other place was. So
 -- there is one entry more than there are such places.
@@ -96,18 +97,18 @@ claims_on p v = claims_at p v + times_among p v.lives.given_up
 -- true.
 pub record LivesOk (t : Told) (good : ℕ → Type 0) (rows lives : List (List ℕ)) (words : List ℕ)
     (views : List View) : Type 0 where
-  pub all : length lives ≡ 13
-  pub even : (q : ℕ) → q < 13 → length (row_of lives q) ≡ length (row_of rows q)
-  pub shown : (q k : ℕ) → q < 13 → k < length (row_of lives q)
+  pub all : length lives ≡ SHARDS
+  pub even : (q : ℕ) → q < SHARDS → length (row_of lives q) ≡ length (row_of rows q)
+  pub shown : (q k : ℕ) → q < SHARDS → k < length (row_of lives q)
       → slice_index words (life_word t.places q k) ≡ slice_index (row_of lives q) k
-  pub fresh : (q k : ℕ) → q < 13 → length (row_of lives q) ≤ k → k < t.places
+  pub fresh : (q k : ℕ) → q < SHARDS → length (row_of lives q) ≤ k → k < t.places
       → slice_index words (life_word t.places q k) ≡ 0
-  pub claimed : (q k : ℕ) → q < 13
+  pub claimed : (q k : ℕ) → q < SHARDS
       → total (claims_on (place_of q k)) views ≡ is_claimed (slice_index (row_of lives q) k)
-  pub four : (q k : ℕ) → q < 13 → slice_index (row_of lives q) k ≤ 3
-  pub clean : (q k : ℕ) → q < 13 → slice_index (row_of lives q) k ≡ 2 → good (slice_index (row_of rows q) k)
-  pub broken : (q k : ℕ) → q < 13 → slice_index (row_of lives q) k ≡ 3 → good (slice_index (row_of rows q) k) → ⊥
-  pub closed : (q k y : ℕ) → q < 13 → 2 ≤ slice_index (row_of lives q) k
+  pub four : (q k : ℕ) → q < SHARDS → slice_index (row_of lives q) k ≤ 3
+  pub clean : (q k : ℕ) → q < SHARDS → slice_index (row_of lives q) k ≡ 2 → good (slice_index (row_of rows q) k)
+  pub broken : (q k : ℕ) → q < SHARDS → slice_index (row_of lives q) k ≡ 3 → good (slice_index (row_of rows q) k) → ⊥
+  pub closed : (q k y : ℕ) → q < SHARDS → 2 ≤ slice_index (row_of lives q) k
       → Contains (t.next (slice_index (row_of rows q) k)) y → Has rows y
   pub learned : EachSeat (λ v. All (λ met. Passes met.1 (life_of (life_at lives met.0))) v.lives.learned) views
 
@@ -129,7 +130,7 @@ pub record PendingOk (lives : List (List ℕ)) (words : List ℕ) (views : List 
 
 -- P holds of more words than a limit, or of more words of one shard than a row has places
 abbrev pub Overfills : (ℕ → Type 0) → ℕ → ℕ → Type 0
-Overfills P limit places = Outnumbers P limit ⊎ (q : ℕ) × Outnumbers (λ word. P word × (word % 13 ≡ q)) places
+Overfills P limit places = Outnumbers P limit ⊎ (q : ℕ) × Outnumbers (λ word. P word × (word % SHARDS ≡ q)) places
 
 -- Count: with what is to be counted yet it is the number of entries, and a seat that knows over is right.
 pub record CountOk (t : Told) (rows : List (List ℕ)) (words : List ℕ) (views : List View) : Type 0 where
@@ -150,8 +151,8 @@ Unfiled views q k =
 -- Index: each word of it is 0 or 1 more than a published place, and each published place stands in it but one whose
 -- writer is still at it.
 pub record IndexOk (places : ℕ) (rows : List (List ℕ)) (words : List ℕ) (views : List View) : Type 0 where
-  pub named : (q j : ℕ) → q < 13 → j < places → slice_index words (index_word places q j) ≤ length (row_of rows q)
-  pub stands : (q k : ℕ) → q < 13 → k < length (row_of rows q)
+  pub named : (q j : ℕ) → q < SHARDS → j < places → slice_index words (index_word places q j) ≤ length (row_of rows q)
+  pub stands : (q k : ℕ) → q < SHARDS → k < length (row_of rows q)
       → Stands places (λ j. slice_index words (index_word places q j)) (slice_index (row_of rows q) k) k
       ⊎ Unfiled views q k
 

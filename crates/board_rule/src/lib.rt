@@ -7,7 +7,9 @@
 #![tactic(auto)]
 
 mod life;
+mod shards;
 mod view;
 
 pub use life::Life;
+pub use shards::SHARDS;
 pub use view::View;

@@ -1,5 +1,6 @@
 -- The entries of a closed board, shard by shard.
 use Rattle.std.specs.Prelude.{◌≡◌, ℕ, ◌+◌, ◌*◌, ◌<◌, ◌≤◌, List, length, slice_index}
+use Rattle.board_rule.specs.declared.shards.TheConstants.{SHARDS}
 use Rattle.board_rule.specs.Lists.{row_of}
 use Rattle.board_rule.specs.declared.life.Life.TheVariants.{Broken}
 use Rattle.seen_board.specs.Ended.{Ended, life_of_entry}
@@ -8,7 +9,7 @@ use Rattle.seen_board.specs.Ended.{Ended, life_of_entry}
 pub record IsBrokenBefore (e : Ended) (q k word : ℕ) : Type 0 where
   pub shard : ℕ
   pub at : ℕ
-  pub near : shard < 13
+  pub near : shard < SHARDS
   pub inside : at < length (row_of e.rows shard)
   pub before : shard * 65536 + at < q * 65536 + k
   pub is : slice_index (row_of e.rows shard) at ≡ word
@@ -17,8 +18,8 @@ pub record IsBrokenBefore (e : Ended) (q k word : ℕ) : Type 0 where
 -- no word stands at two places
 abbrev pub AreDistinct : List (List ℕ) → Type 0
 AreDistinct rows =
-    (p q j k : ℕ) → p < 13 → q < 13 → j < length (row_of rows p) → k < length (row_of rows q)
+    (p q j k : ℕ) → p < SHARDS → q < SHARDS → j < length (row_of rows p) → k < length (row_of rows q)
     → slice_index (row_of rows p) j ≡ slice_index (row_of rows q) k → (p ≡ q) × (j ≡ k)
 
 abbrev pub AreShort : List (List ℕ) → Type 0
-AreShort rows = (q : ℕ) → q < 13 → length (row_of rows q) ≤ 32768
+AreShort rows = (q : ℕ) → q < SHARDS → length (row_of rows q) ≤ 32768

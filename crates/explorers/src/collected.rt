@@ -43,7 +43,7 @@ pub(crate) fn collect<S: Space, A: Allocator + Copy>(
 
 /// The number of entries.
 fn count_entries<A: Allocator>(contents: &Contents<A>) -> usize
-    requires thirteen { length contents.now.rows ≡ 13 }
+    requires thirteen { length contents.now.rows ≡ SHARDS }
     requires short { AreShort contents.now.rows }
     ensures { result ≡ length (concat contents.now.rows) }
 {
@@ -61,7 +61,7 @@ fn broken_words<A: Allocator + Copy>(
 ) -> Result<Vec<u128, A>, AllocError>
     requires distinct { AreDistinct contents.now.rows }
     requires short { AreShort contents.now.rows }
-    ensures { IfOk result (λ broken. IsListOf (IsBrokenBefore contents.now 13 0) broken.items) }
+    ensures { IfOk result (λ broken. IsListOf (IsBrokenBefore contents.now SHARDS 0) broken.items) }
 {
     let mut broken = Vec::new(alloc);
     for shard in 0..SHARDS as u8 {
@@ -76,7 +76,7 @@ fn push_broken<A: Allocator>(
     shard: u8,
     broken: &mut Vec<u128, A>,
 ) -> Result<(), AllocError>
-    requires shard { shard < 13 }
+    requires shard { shard < SHARDS }
     requires distinct { AreDistinct contents.now.rows }
     requires short { AreShort contents.now.rows }
     requires before { IsListOf (IsBrokenBefore contents.now shard 0) broken.old.items }

@@ -40,7 +40,7 @@ impl<S: Space, G: Gate, A: Allocator + Copy> Exploration<'_, S, G, A> {
         shard: u8,
     ) -> Result<Turn, AllocError>
         requires ready { IsReady self.now.board.now self.now.space.now S.is_own mine.old }
-        requires shard { shard < 13 }
+        requires shard { shard < SHARDS }
         ensures ready { IsReady self.now.board.now self.now.space.now S.is_own mine.new }
         ensures over { IfOk result (λ t. t ≡ turn.Over → mine.new.seat.over ≡ 1) }
     {
@@ -63,7 +63,7 @@ pub(crate) fn count_of<R: Wait, S: Space, A: Allocator>(
     shard: u8,
 ) -> u16
     requires idle { IsIdle board.now seat.old }
-    requires shard { shard < 13 }
+    requires shard { shard < SHARDS }
     ensures idle { IsIdle board.now seat.new }
     ensures sees { SeesOn seat.old.seen seat.new.seen }
     ensures seen { result ≤ length (row_of seat.new.seen shard) }

@@ -9,7 +9,7 @@ use crate::jobs::Job;
 use crate::met::Met;
 use crate::stealing::learn;
 use crate::tasks::Tasks;
-use seen_board::{BoardSeat, Place};
+use seen_board::{BoardSeat, Place, SHARDS};
 use state_space::Space;
 use std::alloc::{AllocError, Allocator};
 use std::sync::Wait;
@@ -28,7 +28,7 @@ pub(crate) struct Worker<C, A: Allocator> {
     pub tasks: Tasks<A>,
     pub met: Met<A>,
     pub empty_rounds: u8,
-    pub tried: [u16; 13],
+    pub tried: [u16; SHARDS],
 }
 
 impl<C, A: Allocator> Worker<C, A> {
@@ -46,7 +46,7 @@ impl<C, A: Allocator> Worker<C, A> {
             tasks,
             met,
             empty_rounds: 0,
-            tried: [0; 13],
+            tried: [0; SHARDS],
         }
     }
 }

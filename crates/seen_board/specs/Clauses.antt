@@ -1,6 +1,7 @@
 -- What clauses say of seats and places.
 use Rattle.std.specs.Prelude.{◌≡◌, ◌≢◌, ◌⊎◌, ℕ, ◌+◌, ◌<◌, Bool, cond, List, [], ◌∷◌, ◌++◌, length, slice_index}
 use Rattle.std.specs.Prelude.{replicate, ◌%◌, Contains}
+use Rattle.board_rule.specs.declared.shards.TheConstants.{SHARDS}
 use Rattle.board_rule.specs.Layout.{writer, place_of}
 use Rattle.board_rule.specs.Changes.{either_one, both_shares}
 use Rattle.board_rule.specs.declared.life.Life.{Life}
@@ -43,7 +44,7 @@ with_given_up s = record s { claims = 0; given_up = s.given_up ++ replicate s.cl
 
 -- what was seen is a beginning of what is seen now
 abbrev pub SeesOn : List (List ℕ) → List (List ℕ) → Type 0
-SeesOn seen rows = (q : ℕ) → q < 13 → StartsWith (row_of rows q) (row_of seen q)
+SeesOn seen rows = (q : ℕ) → q < SHARDS → StartsWith (row_of rows q) (row_of seen q)
 
 -- the seat has a right of shard q, may have seen more, and is as it was in all else
 abbrev pub Gains : Known → ℕ → ℕ → Known → Type 0
@@ -80,11 +81,11 @@ both_known s u seen =
 
 -- the rows have the place
 abbrev pub HasPlace : List (List ℕ) → Place → Type 0
-HasPlace rows place = (place.shard < 13) × (place.at < length (row_of rows place.shard))
+HasPlace rows place = (place.shard < SHARDS) × (place.at < length (row_of rows place.shard))
 
 abbrev pub word_at : List (List ℕ) → Place → ℕ
 word_at rows place = slice_index (row_of rows place.shard) place.at
 
 -- the word stands at the place, in the shard of its number
 abbrev pub Names : List (List ℕ) → Place → ℕ → Type 0
-Names rows place word = HasPlace rows place × (word_at rows place ≡ word) × (place.shard ≡ word % 13)
+Names rows place word = HasPlace rows place × (word_at rows place ≡ word) × (place.shard ≡ word % SHARDS)

@@ -1,6 +1,7 @@
 -- What a closed board holds.
 use Rattle.std.specs.Prelude.{◌≡◌, ◌⊎◌, ℕ, ◌+◌, ◌/◌, ◌%◌, ◌<◌, ◌≤◌, List, length, slice_index, cond, ◌==◌, Contains}
 use Rattle.std.specs.List.{concat}
+use Rattle.board_rule.specs.declared.shards.TheConstants.{SHARDS}
 use Rattle.state_space.specs.Reach.{IsReached}
 use Rattle.state_space.specs.Counts.{IsSome, IsListOf}
 use Rattle.board_rule.specs.Layout.{size_for, length_word, place_of}
@@ -34,38 +35,39 @@ life_of_entry e q k = life_of (slice_index (row_of e.lives q) k)
 
 -- the life of the place with this one number
 abbrev pub life_in : Ended → ℕ → Life
-life_in e p = life_of_entry e (p % 13) (p / 13)
+life_in e p = life_of_entry e (p % SHARDS) (p / SHARDS)
 
 pub record IsReadable (places : ℕ) (words : List ℕ) : Type 0 where
   pub sized : length words ≡ size_for places
   pub small : places ≤ 32768
-  pub short : (q : ℕ) → q < 13 → slice_index words (length_word q) ≤ places
+  pub short : (q : ℕ) → q < SHARDS → slice_index words (length_word q) ≤ places
 
 -- the entries are the initial word and other words that are reached, none of them twice in all shards, and each in the
 -- shard of its number
 pub record Entries (next : ℕ → List ℕ) (origin places : ℕ) (rows : List (List ℕ)) : Type 0 where
-  pub thirteen : length rows ≡ 13
+  pub thirteen : length rows ≡ SHARDS
   pub start : Has rows origin
   pub some : IsSome (IsReached next origin) (concat rows)
-  pub at_home : (q k : ℕ) → q < 13 → k < length (row_of rows q) → slice_index (row_of rows q) k % 13 ≡ q
-  pub reached : (q k : ℕ) → q < 13 → k < length (row_of rows q) → IsReached next origin (slice_index (row_of rows q) k)
-  pub distinct : (p q j k : ℕ) → p < 13 → q < 13 → j < length (row_of rows p) → k < length (row_of rows q)
+  pub at_home : (q k : ℕ) → q < SHARDS → k < length (row_of rows q) → slice_index (row_of rows q) k % SHARDS ≡ q
+  pub reached : (q k : ℕ) → q < SHARDS → k < length (row_of rows q)
+      → IsReached next origin (slice_index (row_of rows q) k)
+  pub distinct : (p q j k : ℕ) → p < SHARDS → q < SHARDS → j < length (row_of rows p) → k < length (row_of rows q)
       → slice_index (row_of rows p) j ≡ slice_index (row_of rows q) k → (p ≡ q) × (j ≡ k)
-  pub short : (q : ℕ) → q < 13 → length (row_of rows q) ≤ places
+  pub short : (q : ℕ) → q < SHARDS → length (row_of rows q) ≤ places
 
 abbrev pub IsSettled : Life → Type 0
 IsSettled life = (life ≡ Clean) ⊎ (life ≡ Broken)
 
 -- a settled life is the space's verdict, and the successors of its entry are entries
 pub record Settled (next : ℕ → List ℕ) (good : ℕ → Type 0) (e : Ended) : Type 0 where
-  pub clean : (q k : ℕ) → q < 13 → life_of_entry e q k ≡ Clean → good (slice_index (row_of e.rows q) k)
-  pub broken : (q k : ℕ) → q < 13 → life_of_entry e q k ≡ Broken → good (slice_index (row_of e.rows q) k) → ⊥
-  pub closed : (q k y : ℕ) → q < 13 → IsSettled (life_of_entry e q k)
+  pub clean : (q k : ℕ) → q < SHARDS → life_of_entry e q k ≡ Clean → good (slice_index (row_of e.rows q) k)
+  pub broken : (q k : ℕ) → q < SHARDS → life_of_entry e q k ≡ Broken → good (slice_index (row_of e.rows q) k) → ⊥
+  pub closed : (q k y : ℕ) → q < SHARDS → IsSettled (life_of_entry e q k)
       → Contains (next (slice_index (row_of e.rows q) k)) y → Has e.rows y
 
 -- every entry is settled, and the entries are the words that are reached
 pub record Done (next : ℕ → List ℕ) (origin : ℕ) (e : Ended) : Type 0 where
-  pub settled : (q k : ℕ) → q < 13 → k < length (row_of e.rows q) → IsSettled (life_of_entry e q k)
+  pub settled : (q k : ℕ) → q < SHARDS → k < length (row_of e.rows q) → IsSettled (life_of_entry e q k)
   pub every : (x : ℕ) → IsReached next origin x → Has e.rows x
   pub list : IsListOf (IsReached next origin) (concat e.rows)
 
@@ -76,7 +78,7 @@ pub record Accounts (origin : ℕ) (s : Known) (e : Ended) : Type 0 where
   pub entries : total length e.rows ≡ length s.added + 1
   pub count : e.count ≡ length s.added + 1
   -- an entry is claimed exactly where its claim is had or given up, and that by one call
-  pub claimed : (q k : ℕ) → q < 13 → cond (s.place == place_of q k) s.claims 0
+  pub claimed : (q k : ℕ) → q < SHARDS → cond (s.place == place_of q k) s.claims 0
       + times_among (place_of q k) s.given_up ≡ is_claimed (slice_index (row_of e.lives q) k)
   -- as many are settled as it has settled, and pending is the number of the others
   pub settled : total (total is_settled) e.lives ≡ s.verdicts
@@ -84,6 +86,6 @@ pub record Accounts (origin : ℕ) (s : Known) (e : Ended) : Type 0 where
 
 -- the start waits, and pending and the count are 1
 pub record IsOpening (start : ℕ) (e : Ended) : Type 0 where
-  pub waiting : life_of_entry e (start % 13) 0 ≡ Waiting
+  pub waiting : life_of_entry e (start % SHARDS) 0 ≡ Waiting
   pub pending : e.pending ≡ 1
   pub count : e.count ≡ 1

@@ -1,6 +1,7 @@
 -- What putting a word in leaves.
 use Rattle.std.specs.Prelude.{◌≡◌, ◌≢◌, ℕ, ◌+◌, ◌/◌, ◌%◌, ◌<◌, List, [], ◌∷◌, ◌++◌, length, slice_index}
 use Rattle.std.specs.List.{Contains}
+use Rattle.board_rule.specs.declared.shards.TheConstants.{SHARDS}
 use Rattle.board_rule.specs.Layout.{slot, window}
 use Rattle.board_rule.specs.Lists.{row_of}
 use Rattle.board_rule.specs.Changes.{with_entry}
@@ -14,11 +15,12 @@ use Rattle.seen_board.specs.declared.answers.Looked.TheVariants.{Taken, At, Abse
 
 -- the word that stands at the place with this one number
 abbrev pub word_of_place : List (List ℕ) → ℕ → ℕ
-word_of_place seen p = slice_index (row_of seen (p % 13)) (p / 13)
+word_of_place seen p = slice_index (row_of seen (p % SHARDS)) (p / SHARDS)
 
 -- the word is a successor of one that the seat has seen, at the place p
 abbrev pub Follows : (ℕ → List ℕ) → List (List ℕ) → ℕ → ℕ → Type 0
-Follows next seen p word = (p / 13 < length (row_of seen (p % 13))) × Contains (next (word_of_place seen p)) word
+Follows next seen p word =
+    (p / SHARDS < length (row_of seen (p % SHARDS))) × Contains (next (word_of_place seen p)) word
 
 -- the word is a successor of the word that the seat has claimed
 abbrev pub IsSuccessor : (ℕ → List ℕ) → Known → ℕ → Type 0
@@ -36,7 +38,7 @@ Returns v w = (w ≡ record v { seen = w.seen; held = w.held; right = 0 }) × Se
 abbrev pub PutOk : ℕ → Known → Known → Put → Type 0
 PutOk word v w (New place) =
     (w ≡ record v { seen = w.seen; held = w.held; right = 0; added = v.added ++ number place ∷ [] })
-    × SeesOn v.seen w.seen × Names w.seen place word × Lacks (row_of v.seen (word % 13)) word
+    × SeesOn v.seen w.seen × Names w.seen place word × Lacks (row_of v.seen (word % SHARDS)) word
 PutOk word v w (Found place) = Returns v w × Names w.seen place word
 PutOk word v w Busy = Returns v w
 PutOk word v w Over =

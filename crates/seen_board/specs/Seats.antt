@@ -1,5 +1,6 @@
 -- What private calls ask of a seat of the table, and of a word that is looked for.
 use Rattle.std.specs.Prelude.{◌≡◌, ℕ, ◌%◌, ◌<◌}
+use Rattle.board_rule.specs.declared.shards.TheConstants.{SHARDS}
 use Rattle.atomic_table.specs.declared.shared.Seat.{Seat}
 use Rattle.board_rule.specs.Layout.{writer, slot}
 use Rattle.board_rule.specs.declared.view.View.{View}
@@ -20,12 +21,12 @@ IsSame t u = (u.table_id ≡ t.table_id) × (u.id ≡ t.id) × (u.me ≡ t.me)
 
 -- a right of the shard
 abbrev pub HasRightOf : View → ℕ → Type 0
-HasRightOf v q = (q < 13) × (v.rows.held ≡ q) × (0 < v.rows.right)
+HasRightOf v q = (q < SHARDS) × (v.rows.held ≡ q) × (0 < v.rows.right)
 
 -- the write right of the shard
 abbrev pub HasWriteRightOf : View → ℕ → Type 0
-HasWriteRightOf v q = (q < 13) × (v.rows.held ≡ q) × (v.rows.right ≡ writer)
+HasWriteRightOf v q = (q < SHARDS) × (v.rows.held ≡ q) × (v.rows.right ≡ writer)
 
 -- the shard is the word's, and the index word its first
 abbrev pub IsProbe : ℕ → Probe → Type 0
-IsProbe places s = (s.shard ≡ s.word % 13) × (s.first ≡ slot places s.word 0) × (s.first < places)
+IsProbe places s = (s.shard ≡ s.word % SHARDS) × (s.first ≡ slot places s.word 0) × (s.first < places)

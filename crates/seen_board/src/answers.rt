@@ -1,6 +1,6 @@
 //! What calls answer.
 
-/// A place on a board: a shard, below 13, and a number in the shard's row.
+/// A place on a board: a shard, below `SHARDS`, and a number in the shard's row.
 #[derive(Clone, Copy, Debug, PartialEq, Eq, Drop)]
 pub struct Place {
     pub shard: u8,

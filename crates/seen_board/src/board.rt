@@ -7,11 +7,11 @@ ghost use Rattle.seen_board.specs.Ended.{Ended, Accounts, IsOpening};
 
 use crate::answers::Place;
 use crate::entries::halves_of;
-use crate::layout::{COUNT, Layout, PENDING, Probe, SHARDS};
+use crate::layout::{COUNT, Layout, PENDING, Probe};
 use crate::seat::BoardSeat;
 use crate::steps::{About, Order};
 use atomic_table::Table;
-use board_rule::View;
+use board_rule::{SHARDS, View};
 use state_space::Space;
 use std::alloc::{AllocError, Allocator};
 use std::marker::Model;

@@ -8,7 +8,7 @@ use crate::answers::Place;
 use crate::entries::HALF;
 use crate::layout::Layout;
 use atomic_table::Closed;
-use board_rule::Life;
+use board_rule::{Life, SHARDS};
 use std::alloc::Allocator;
 use std::marker::Model;
 
@@ -32,9 +32,9 @@ impl<A: Allocator> Model for Contents<A> {
 }
 
 impl<A: Allocator> Contents<A> {
-    /// The number of entries of a shard, which is below 13.
+    /// The number of entries of a shard, which is below `SHARDS`.
     pub fn len(&self, shard: u8) -> usize
-        requires { shard < 13 }
+        requires { shard < SHARDS }
         ensures { result ≡ length (row_of self.now.rows shard) }
     {
         self.closed.word(self.layout.length(shard)) as usize

@@ -11,7 +11,7 @@ use crate::board::Board;
 use crate::seat::BoardSeat;
 use crate::steps::{EntryFact, ReadHigh, ReadLow};
 use atomic_table::Seat;
-use board_rule::View;
+use board_rule::{SHARDS, View};
 use state_space::Space;
 use std::alloc::Allocator;
 use std::marker::Brand;
@@ -30,7 +30,8 @@ impl<S: Space, A: Allocator> Board<S, A> {
     /// The low half of an entry that was seen, and what is said of each entry.
     fn low_half<F: EntryFact>(&self, seat: &mut Seat<(), View>, shard: u8, at: usize) -> u64
         requires seat { SitsAt self.now seat.old }
-        requires seen { (shard < 13) × (at < length (row_of seat.old.me.0.rows.seen shard)) × (at < self.now.places) }
+        requires seen { (shard < SHARDS) × (at < length (row_of seat.old.me.0.rows.seen shard))
+            × (at < self.now.places) }
         requires fact { (x : ℕ) → IsReached (S.successors self.now.space) (S.initial self.now.space) x → F.holds_of x }
         ensures same { IsSame seat.old seat.new }
         ensures low { result ≡ slice_index (row_of seat.old.me.0.rows.seen shard) at % half }
@@ -44,7 +45,8 @@ impl<S: Space, A: Allocator> Board<S, A> {
     /// An entry that was seen.
     pub(crate) fn entry(&self, seat: &mut Seat<(), View>, shard: u8, at: usize) -> u128
         requires seat { SitsAt self.now seat.old }
-        requires seen { (shard < 13) × (at < length (row_of seat.old.me.0.rows.seen shard)) × (at < self.now.places) }
+        requires seen { (shard < SHARDS) × (at < length (row_of seat.old.me.0.rows.seen shard))
+            × (at < self.now.places) }
         ensures same { IsSame seat.old seat.new }
         ensures word { result ≡ slice_index (row_of seat.old.me.0.rows.seen shard) at }
         ensures reached { IsReached (S.successors self.now.space) (S.initial self.now.space) result }

@@ -6,9 +6,7 @@ ghost use Rattle.board_rule.specs.Layout.{slot, window};
 ghost use Rattle.seen_board.specs.Seats.{IsProbe};
 
 use crate::entries::halves_of;
-
-/// The number of shards of a board.
-pub const SHARDS: usize = 13;
+use board_rule::SHARDS;
 
 /// The number of entries that are not settled, and of the words that are on their way.
 pub(crate) const PENDING: usize = 0;
@@ -31,7 +29,7 @@ const BLOCKS: usize = LENGTHS + APART * SHARDS;
 
 /// The shard of a word: its remainder by the number of shards.
 pub fn shard_of(word: u128) -> u8
-    ensures { result ≡ word % 13 }
+    ensures { result ≡ word % SHARDS }
 {
     // 2^64 leaves 3, so that no word takes a division of 128 bits.
     let (low, high) = halves_of(word);
@@ -57,7 +55,7 @@ impl Layout {
 
     /// The lock of a shard.
     pub fn lock(&self, shard: u8) -> usize
-        requires shard { shard < 13 }
+        requires shard { shard < SHARDS }
         ensures { result ≡ lock_word shard }
     {
         LOCKS + APART * shard as usize
@@ -65,7 +63,7 @@ impl Layout {
 
     /// The length of a shard's row.
     pub fn length(&self, shard: u8) -> usize
-        requires shard { shard < 13 }
+        requires shard { shard < SHARDS }
         ensures { result ≡ length_word shard }
     {
         LENGTHS + APART * shard as usize
@@ -73,7 +71,7 @@ impl Layout {
 
     /// The low half of the entry at a place.
     pub fn low(&self, shard: u8, at: usize) -> usize
-        requires place { (shard < 13) × (at < 65536) × (self.now.places ≤ 32768) }
+        requires place { (shard < SHARDS) × (at < 65536) × (self.now.places ≤ 32768) }
         ensures { result ≡ low_word shard at }
     {
         BLOCKS + SHARDS * at + shard as usize
@@ -81,7 +79,7 @@ impl Layout {
 
     /// The high half of the entry at a place.
     pub fn high(&self, shard: u8, at: usize) -> usize
-        requires place { (shard < 13) × (at < 65536) × (self.now.places ≤ 32768) }
+        requires place { (shard < SHARDS) × (at < 65536) × (self.now.places ≤ 32768) }
         ensures { result ≡ high_word self.now.places shard at }
     {
         BLOCKS + SHARDS * self.places + SHARDS * at + shard as usize
@@ -89,7 +87,7 @@ impl Layout {
 
     /// The life of the entry at a place.
     pub fn life(&self, shard: u8, at: usize) -> usize
-        requires place { (shard < 13) × (at < 65536) × (self.now.places ≤ 32768) }
+        requires place { (shard < SHARDS) × (at < 65536) × (self.now.places ≤ 32768) }
         ensures { result ≡ life_word self.now.places shard at }
     {
         BLOCKS + 2 * SHARDS * self.places + SHARDS * at + shard as usize
@@ -97,7 +95,7 @@ impl Layout {
 
     /// A word of a shard's index, which has as many as the row has places.
     pub fn mark(&self, shard: u8, slot: usize) -> usize
-        requires place { (shard < 13) × (slot < self.now.places) × (self.now.places ≤ 32768) }
+        requires place { (shard < SHARDS) × (slot < self.now.places) × (self.now.places ≤ 32768) }
         ensures { result ≡ index_word self.now.places shard slot }
     {
         BLOCKS + 3 * SHARDS * self.places + SHARDS * slot + shard as usize

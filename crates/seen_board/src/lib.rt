@@ -20,8 +20,8 @@ mod waiting_calls;
 
 pub use answers::{Got, Place, Put};
 pub use board::Board;
-pub use board_rule::Life;
+pub use board_rule::{Life, SHARDS};
 pub use contents::Contents;
-pub use layout::{SHARDS, shard_of};
+pub use layout::shard_of;
 pub use seat::BoardSeat;
 pub use steps::{About, Order};

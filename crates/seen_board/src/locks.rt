@@ -10,7 +10,7 @@ use crate::board::Board;
 use crate::seat::BoardSeat;
 use crate::steps::{Enter, Leave, Measure, Seize};
 use atomic_table::Seat;
-use board_rule::View;
+use board_rule::{SHARDS, View};
 use state_space::Space;
 use std::alloc::Allocator;
 
@@ -34,7 +34,7 @@ impl<S: Space, A: Allocator> Board<S, A> {
     /// Tries for the read right of a shard, beside which other seats may read and none may write.
     pub fn try_read(&self, seat: &mut BoardSeat, shard: u8) -> Got
         requires seat { IsAtRest self.now seat.old }
-        requires shard { shard < 13 }
+        requires shard { shard < SHARDS }
         ensures seat { IsOf self.now seat.new }
         ensures right { result ≡ Got.Right → Gains seat.old 1 shard seat.new }
         ensures busy { result ≡ Got.Busy → seat.new ≡ seat.old }
@@ -55,7 +55,7 @@ impl<S: Space, A: Allocator> Board<S, A> {
     /// Tries for the write right of a shard, beside which no other seat has a right.
     pub fn try_write(&self, seat: &mut BoardSeat, shard: u8) -> Got
         requires seat { IsAtRest self.now seat.old }
-        requires shard { shard < 13 }
+        requires shard { shard < SHARDS }
         ensures seat { IsOf self.now seat.new }
         ensures right { result ≡ Got.Right → Gains seat.old writer shard seat.new }
         ensures busy { result ≡ Got.Busy → seat.new ≡ seat.old }
@@ -72,7 +72,7 @@ impl<S: Space, A: Allocator> Board<S, A> {
     /// Gives the read right up.
     pub fn leave(&self, seat: &mut BoardSeat, shard: u8)
         requires seat { IsOf self.now seat.old }
-        requires reads { (shard < 13) × Reads seat.old shard }
+        requires reads { (shard < SHARDS) × Reads seat.old shard }
         ensures { seat.new ≡ record seat.old { right = 0 } }
     {
         self.table
@@ -83,7 +83,7 @@ impl<S: Space, A: Allocator> Board<S, A> {
     /// Gives the write right up.
     pub fn give(&self, seat: &mut BoardSeat, shard: u8)
         requires seat { IsOf self.now seat.old }
-        requires writes { (shard < 13) × Writes seat.old shard }
+        requires writes { (shard < SHARDS) × Writes seat.old shard }
         ensures { seat.new ≡ record seat.old { right = 0 } }
     {
         self.table
@@ -94,7 +94,7 @@ impl<S: Space, A: Allocator> Board<S, A> {
     /// The number of entries of a shard of which the seat has a right. It has seen them all.
     pub fn see(&self, seat: &mut BoardSeat, shard: u8) -> u16
         requires seat { IsOf self.now seat.old }
-        requires right { (shard < 13) × HasRight seat.old shard }
+        requires right { (shard < SHARDS) × HasRight seat.old shard }
         ensures same { seat.new ≡ seat.old }
         ensures count { result ≡ length (row_of seat.old.seen shard) }
         ensures within { result ≤ self.now.places }

@@ -11,7 +11,7 @@ use crate::layout::Probe;
 use crate::seat::BoardSeat;
 use crate::steps::{Mark, Scan};
 use atomic_table::Seat;
-use board_rule::View;
+use board_rule::{SHARDS, View};
 use state_space::Space;
 use std::alloc::Allocator;
 
@@ -54,7 +54,7 @@ impl<S: Space, A: Allocator> Board<S, A> {
     /// The place of a word among those from `from` up to `to`.
     fn walk(&self, seat: &mut BoardSeat, shard: u8, from: u16, to: u16, word: u128) -> Option<u16>
         requires seat { IsOf self.now seat.old }
-        requires range { (shard < 13) × (to ≤ length (row_of seat.old.seen shard)) }
+        requires range { (shard < SHARDS) × (to ≤ length (row_of seat.old.seen shard)) }
         ensures same { seat.new ≡ seat.old }
         ensures found { MatchOption result ((k : ℕ) → from ≤ k → k < to
             → slice_index (row_of seat.old.seen shard) k ≢ word) (λ k. (k < to)
@@ -92,9 +92,9 @@ impl<S: Space, A: Allocator> Board<S, A> {
     /// The place of a word under a right of its shard, or `None` where the shard lacks it.
     pub fn look(&self, seat: &mut BoardSeat, word: u128) -> Option<Place>
         requires seat { IsOf self.now seat.old }
-        requires right { HasRight seat.old (word % 13) }
+        requires right { HasRight seat.old (word % SHARDS) }
         ensures same { seat.new ≡ seat.old }
-        ensures found { MatchOption result (Lacks (row_of seat.old.seen (word % 13)) word) (λ place.
+        ensures found { MatchOption result (Lacks (row_of seat.old.seen (word % SHARDS)) word) (λ place.
             Names seat.old.seen place word) }
     {
         let probe = self.probe(word);
@@ -105,7 +105,7 @@ impl<S: Space, A: Allocator> Board<S, A> {
     /// Loads an index word. The places up to the one that it names are published, so the seat has seen them.
     fn scan(&self, seat: &mut BoardSeat, shard: u8, slot: usize) -> u64
         requires seat { IsOf self.now seat.old }
-        requires range { (shard < 13) × (slot < self.now.places) }
+        requires range { (shard < SHARDS) × (slot < self.now.places) }
         ensures sees { Sees seat.old seat.new }
         ensures named { result ≤ length (row_of seat.new.seen shard) }
         ensures within { result ≤ self.now.places }

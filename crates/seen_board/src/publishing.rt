@@ -13,7 +13,7 @@ use crate::layout::{COUNT, PENDING, Probe};
 use crate::seat::BoardSeat;
 use crate::steps::{Announce, Count, File, LayHigh, LayLow, Leave, Mark, Publish};
 use atomic_table::Seat;
-use board_rule::View;
+use board_rule::{SHARDS, View};
 use state_space::Space;
 use std::alloc::Allocator;
 
@@ -70,7 +70,7 @@ impl<S: Space, A: Allocator> Board<S, A> {
         requires seat { SitsAt self.now seat.old }
         requires probe { IsProbe self.now.places probe }
         requires writes { HasWriteRightOf seat.old.me.0 probe.shard }
-        requires rest { (length seat.old.me.0.rows.seen ≡ 13) × (seat.old.me.0.rows.unfiled ≡ 0)
+        requires rest { (length seat.old.me.0.rows.seen ≡ SHARDS) × (seat.old.me.0.rows.unfiled ≡ 0)
             × (seat.old.me.0.pending.announced ≡ 0) × (seat.old.me.0.count.uncounted ≡ 0) }
         requires room { (at ≡ length (row_of seat.old.me.0.rows.seen probe.shard)) × (at < self.now.places) }
         requires claim { IsNext (S.successors self.now.space) seat.old.me.0 probe.word }

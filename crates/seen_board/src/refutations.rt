@@ -9,6 +9,7 @@ use crate::board::Board;
 use crate::layout::PENDING;
 use crate::seat::BoardSeat;
 use crate::steps::{Clash, Never};
+use board_rule::SHARDS;
 use state_space::Space;
 use std::alloc::Allocator;
 
@@ -52,7 +53,7 @@ impl<S: Space, A: Allocator> Board<S, A> {
 
     /// No two seats have the claim of one entry, and none has one that another has given up, or two have given up.
     pub fn refute_two_claims(&self, claiming: BoardSeat, other: BoardSeat, place: Place)
-        requires place { place.shard < 13 }
+        requires place { place.shard < SHARDS }
         requires claiming { IsOf self.now claiming × HasOrGaveUp claiming place }
         requires other { IsOf self.now other × HasOrGaveUp other place }
         ensures { ⊥ }

@@ -3,9 +3,8 @@ ghost use Rattle.std.specs.Prelude.{◌↔◌, IsTrue};
 ghost use Rattle.seen_board.specs.Clauses.{HasPlace};
 
 use crate::answers::Place;
-use crate::layout::SHARDS;
 use atomic_table::Seat;
-use board_rule::View;
+use board_rule::{SHARDS, View};
 use std::marker::Model;
 
 /// What a thread steps with on a board. What clauses see of it is its `Known`.
@@ -32,6 +31,6 @@ impl BoardSeat {
     pub fn has_seen(&self, place: Place) -> bool
         ensures { IsTrue result ↔ HasPlace self.now.seen place }
     {
-        place.shard < 13 && place.at < self.counts[place.shard as usize]
+        (place.shard as usize) < SHARDS && place.at < self.counts[place.shard as usize]
     }
 }

@@ -12,15 +12,16 @@ ghost use Rattle.seen_board.specs.Clauses.{IsOf, SeesOn, both_known};
 
 use crate::board::Board;
 use crate::contents::Contents;
-use crate::layout::{PENDING, SHARDS};
+use crate::layout::PENDING;
 use crate::seat::BoardSeat;
 use crate::steps::{Both, Fresh, Placed};
+use board_rule::SHARDS;
 use state_space::Space;
 use std::alloc::Allocator;
 
 /// The larger number at each place.
 fn larger_counts(first: &[u16; SHARDS], second: &[u16; SHARDS]) -> [u16; SHARDS]
-    ensures { (q : ℕ) → q < 13 → slice_index result q ≡ max (slice_index first.now q) (slice_index second.now q) }
+    ensures { (q : ℕ) → q < SHARDS → slice_index result q ≡ max (slice_index first.now q) (slice_index second.now q) }
 {
     let mut counts = *first;
     for q in 0..SHARDS {
@@ -83,7 +84,7 @@ impl<S: Space, A: Allocator> Board<S, A> {
         ensures claimed { seat.claims ≡ 1 → life_in result seat.place ≡ Claimed }
         ensures given_up { All (λ p. life_in result p ≡ Claimed) seat.given_up }
         ensures learned { All (λ met. Passes met.1 (life_in result met.0)) seat.learned }
-        ensures added { All (λ p. p / 13 < length (row_of result.rows (p % 13))) seat.added }
+        ensures added { All (λ p. p / SHARDS < length (row_of result.rows (p % SHARDS))) seat.added }
         ensures accounts { IsWhole seat.share → Accounts (S.initial self.space) seat result }
         ensures finished { seat.finished ≡ 1 → Done (S.successors self.space) (S.initial self.space) result }
         ensures over { seat.over ≡ 1

@@ -7,6 +7,7 @@ ghost use Rattle.seen_board.specs.Inserts.{IsSuccessor, PutOk};
 use crate::answers::{Got, Put};
 use crate::board::Board;
 use crate::seat::BoardSeat;
+use board_rule::SHARDS;
 use state_space::Space;
 use std::alloc::Allocator;
 use std::sync::Wait;
@@ -16,7 +17,7 @@ impl<S: Space, A: Allocator> Board<S, A> {
     /// Waits for the read right of a shard.
     pub fn read<R: Wait>(&self, rt: &R, seat: &mut BoardSeat, shard: u8)
         requires seat { IsAtRest self.now seat.old }
-        requires shard { shard < 13 }
+        requires shard { shard < SHARDS }
         ensures right { Gains seat.old 1 shard seat.new }
     {
         for _ in rt.forever() {
@@ -30,7 +31,7 @@ impl<S: Space, A: Allocator> Board<S, A> {
     /// Waits for the write right of a shard.
     pub fn write<R: Wait>(&self, rt: &R, seat: &mut BoardSeat, shard: u8)
         requires seat { IsAtRest self.now seat.old }
-        requires shard { shard < 13 }
+        requires shard { shard < SHARDS }
         ensures right { Gains seat.old writer shard seat.new }
     {
         for _ in rt.forever() {

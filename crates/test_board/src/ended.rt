@@ -2,12 +2,12 @@
 
 ghost use Rattle.std.specs.Prelude.{◌<◌};
 
-use seen_board::{Contents, Life, Place};
+use seen_board::{Contents, Life, Place, SHARDS};
 use std::alloc::Allocator;
 
 /// Whether a shard has its word of the diamond with its verdict, or nothing where it has no word.
 fn is_settled<A: Allocator>(contents: &Contents<A>, shard: u8) -> bool
-    requires { shard < 13 }
+    requires { shard < SHARDS }
 {
     if shard > 3 {
         return contents.len(shard) == 0;

@@ -6,7 +6,7 @@ ghost use Rattle.seen_board.specs.Clauses.{IsOf, SeesOn, HasClaim, HasPlace, wor
 ghost use Rattle.seen_board.specs.Inserts.{PutOk};
 ghost use Rattle.test_board.specs.Worker.{IsIdle, IsAt, HasSettled, Tries};
 
-use seen_board::{Board, BoardSeat, Place, Put};
+use seen_board::{Board, BoardSeat, Place, Put, SHARDS};
 use state_space::Space;
 use std::alloc::{AllocError, Allocator, Global};
 use std::sync::Wait;
@@ -64,7 +64,7 @@ pub fn visit<S: Space, A: Allocator, R: Wait>(
     ensures own { S.is_own space.now scratch.new }
     ensures over { IfOk result (λ within. within ≡ false → seat.new.over ≡ 1) }
 {
-    for shard in 0..13 {
+    for shard in 0..SHARDS as u8 {
         board.read(rt, seat, shard);
         let count = board.see(seat, shard);
         board.leave(seat, shard);

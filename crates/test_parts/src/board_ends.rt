@@ -5,7 +5,7 @@ ghost use Rattle.test_board.specs.Diamond.{diamond};
 ghost use Rattle.test_board.specs.Worker.{IsIdle};
 
 use crate::seats::{DiamondBoard, waits_for};
-use seen_board::{Board, BoardSeat, Contents, Life, Place};
+use seen_board::{Board, BoardSeat, Contents, Life, Place, SHARDS};
 use std::alloc::Global;
 use std::process::Abort;
 use std::sync::Wait;
@@ -188,13 +188,13 @@ fn finished_is_false_amid_an_expansion(rt: HostRuntime) -> Result<(), Fail> {
 /// Ticks the words of a row off, each a bit of a number. Fails where one is no word of the shard, was ticked off
 /// before or is not clean.
 fn tick_row(rt: &impl Abort, contents: &Contents<Global>, shard: u8, mut ticked: u128) -> u128
-    requires { shard < 13 }
+    requires { shard < SHARDS }
 {
     let count = contents.len(shard);
     assert!(rt; count <= 41);
     for at in 0..count as u16 {
         let word = contents.word(Place { shard, at });
-        assert!(rt; word < 41 && word % 13 == u128::from(shard));
+        assert!(rt; word < 41 && word % SHARDS as u128 == u128::from(shard));
         assert!(rt; ticked >> word & 1 == 0);
         assert!(rt; contents.life(Place { shard, at }) == Life::Clean);
         ticked |= 1 << word;
