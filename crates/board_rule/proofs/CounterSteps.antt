@@ -11,7 +11,7 @@ use Rattle.board_rule.specs.Layout.{writer, place_of}
 use Rattle.board_rule.specs.Lists.{row_of, total}
 use Rattle.board_rule.specs.Lives.{is_unsettled}
 use Rattle.board_rule.specs.Views.{Told, OnLives, OnPending, OnCount}
-use Rattle.board_rule.specs.Rule.{claims_on, open_lives, PendingOk, CountOk, IsBare, Kept, Overfills}
+use Rattle.board_rule.specs.Rule.{claims_on, open_lives, PendingOk, CountOk, IsBare, IsKept, Overfills}
 use Rattle.board_rule.specs.Changes.{with_given_up}
 use Rattle.board_rule.specs.Plays.{Announces, Repays, Ends, CountsEntry, Stops, Overflows}
 use Rattle.board_rule.specs.declared.view.View.{View}
@@ -25,7 +25,7 @@ use Rattle.board_rule.proofs.LifeSteps.{claimed_life}
 
 module _ (t : Told) (good : ℕ → Type 0) (S : Type 0) where
   abbrev Rule : State S View → Type 0
-  Rule = Kept t good
+  Rule = IsKept t good
 
   -- a step on one of the words 0 to 2
   counter_turn : (s : State S View) (o : Rule s) (id i n : ℕ) (l : OnLives) (p : OnPending) (c : OnCount) (m : Me S View) → i < 3 → get_elem? s.views id ≡ some m.0

@@ -8,7 +8,7 @@ use lib.ListN.{get_elem?}
 use Rattle.atomic_table.proofs.Lists.{set_here, set_else}
 use Rattle.board_rule.specs.Layout.{writer, index_word, slot, window}
 use Rattle.board_rule.specs.Lists.{row_of}
-use Rattle.board_rule.specs.Rule.{Stands, Unfiled, IndexOk, Complete}
+use Rattle.board_rule.specs.Rule.{Stands, IsUnfiled, IndexOk, IsComplete}
 use Rattle.board_rule.specs.declared.view.View.{View}
 use Rattle.board_rule.proofs.Sums.{rows_cases, snoc_cases}
 
@@ -22,7 +22,7 @@ slot_lt places x t h = mod-lt (x / 13 + t) h
 
 -- a debt after the step of a seat: paid, or still there
 unfiled_turn : (P : Type 0) (views : List View) (i q k : ℕ) (v w : View) → get_elem? views i ≡ some v → (v.rows.held ≡ q → v.rows.right ≡ writer → v.rows.unfiled ≡ k + 1 → P ⊎ ((w.rows.held ≡ q) × (w.rows.right ≡ writer) × (w.rows.unfiled ≡ k + 1)))
-    → Unfiled views q k → P ⊎ Unfiled (set views i w) q k
+    → IsUnfiled views q k → P ⊎ IsUnfiled (set views i w) q k
 unfiled_turn P views i q k v w me mine d = let j = d.0 in let u = d.1 in dite (ℕ_discrete j i)
     (λ e. let same : u ≡ v = some-injective u v (sym d.2 ∙ ap (get_elem? views) e ∙ me) in
     ⊎_elim (λ p. inl p) (λ t. inr (i, w, set_here views i w (index_within views i v me), t.0, t.1, t.2)) (mine (ap (λ (x : View). x.rows.held) (sym same) ∙ d.3) (ap (λ (x : View). x.rows.right) (sym same) ∙ d.4) (ap (λ (x : View). x.rows.unfiled) (sym same) ∙ d.5)))
@@ -52,7 +52,7 @@ index_stay places rows words words' views i v w wide o me same debt = record {
   named = λ q j h b. omega (arith, same q j h b, o.named q j h b);
   stands = λ q k h b. let x = get_or (row_of rows q) k 0 in let F = λ (j : ℕ). get_or words (index_word places q j) 0 in let G = λ (j : ℕ). get_or words' (index_word places q j) 0 in
       ⊎_elim (λ st. inl (stands_same places F G x k wide (λ j c. same q j h c) st)) (λ d. inr d)
-      (⊎_elim {C = Stands places F x k ⊎ Unfiled (set views i w) q k} (λ st. inl st) (λ d. unfiled_turn (Stands places F x k) views i q k v w me (debt q k h b) d) (o.stands q k h b));
+      (⊎_elim {C = Stands places F x k ⊎ IsUnfiled (set views i w) q k} (λ st. inl st) (λ d. unfiled_turn (Stands places F x k) views i q k v w me (debt q k h b) d) (o.stands q k h b));
 }
 
 -- the writer stores its place + 1 at the first zero of its word's window
@@ -73,7 +73,7 @@ index_mark places rows words views i v w q k0 t0 wide long o me near inside held
           let on : Stands places (F p) x k → Stands places (G p) x k = λ st. dite (ℕ_discrete p q)
           (λ e. stands_on places (F p) (G p) x k j0 (k0 + 1) (ap (λ (z : ℕ). F z j0) e ∙ empty) (ap (λ (z : ℕ). G z j0) e ∙ here) (omega arith) (λ a nd. else p a h (λ _. nd)) st)
           (λ ne. stands_same places (F p) (G p) x k wide (λ a c. else p a h (λ e. absurd (ne e))) st) in
-          ⊎_elim {C = Stands places (G p) x k ⊎ Unfiled (set views i w) p k} (λ st. inl (on st))
+          ⊎_elim {C = Stands places (G p) x k ⊎ IsUnfiled (set views i w) p k} (λ st. inl (on st))
           (λ d. unfiled_turn (Stands places (G p) x k) views i p k v w me
           (λ hp r ow. inl (let e : p ≡ q = sym hp ∙ held in let same : k ≡ k0 = omega (arith, ow, owes) in
           subst (λ (z : ℕ). Stands places (G z) (get_or (row_of rows z) k 0) k) (sym e) (subst (λ (z : ℕ). Stands places (G q) (get_or (row_of rows q) z 0) z) (sym same)
@@ -88,18 +88,18 @@ pub index_grow : (places : ℕ) (rows : List (List ℕ)) (words words' : List �
     → IndexOk places (set rows q (row_of rows q ++ x ∷ [])) words' (set views i w)
 index_grow places rows words words' views i v w q x wide near all o me same none-unfiled held writes owes = let row = row_of rows q in let r' = row ++ x ∷ [] in
     let F : ℕ → ℕ → ℕ = λ p j. get_or words (index_word places p j) 0 in let G : ℕ → ℕ → ℕ = λ p j. get_or words' (index_word places p j) 0 in
-    let before : (p k : ℕ) → p < 13 → k < length (row_of rows p) → Stands places (G p) (get_or (row_of rows p) k 0) k ⊎ Unfiled (set views i w) p k = λ p k h b.
-    ⊎_elim {C = Stands places (G p) (get_or (row_of rows p) k 0) k ⊎ Unfiled (set views i w) p k} (λ st. inl (stands_same places (F p) (G p) (get_or (row_of rows p) k 0) k wide (λ j c. same p j h c) st))
+    let before : (p k : ℕ) → p < 13 → k < length (row_of rows p) → Stands places (G p) (get_or (row_of rows p) k 0) k ⊎ IsUnfiled (set views i w) p k = λ p k h b.
+    ⊎_elim {C = Stands places (G p) (get_or (row_of rows p) k 0) k ⊎ IsUnfiled (set views i w) p k} (λ st. inl (stands_same places (F p) (G p) (get_or (row_of rows p) k 0) k wide (λ j c. same p j h c) st))
     (λ d. unfiled_turn (Stands places (G p) (get_or (row_of rows p) k 0) k) views i p k v w me (λ hp r ow. absurd (omega (arith, ow, none-unfiled))) d) (o.stands p k h b) in record {
       named = λ p j h b. rows_cases rows q r' (λ p r. get_or words' (index_word places p j) 0 ≤ length r) all near
           (omega (arith, same q j near b, o.named q j near b, length-append row (x ∷ []))) (λ p h ne. omega (arith, same p j h b, o.named p j h b)) p h;
-      stands = λ p k h. rows_cases rows q r' (λ p r. (k : ℕ) → k < length r → Stands places (G p) (get_or r k 0) k ⊎ Unfiled (set views i w) p k) all near
-          (snoc_cases row x (λ k y. Stands places (G q) y k ⊎ Unfiled (set views i w) q k) (λ k b. before q k near b) (inr (i, w, set_here views i w (index_within views i v me), held, writes, owes)))
+      stands = λ p k h. rows_cases rows q r' (λ p r. (k : ℕ) → k < length r → Stands places (G p) (get_or r k 0) k ⊎ IsUnfiled (set views i w) p k) all near
+          (snoc_cases row x (λ k y. Stands places (G q) y k ⊎ IsUnfiled (set views i w) q k) (λ k b. before q k near b) (inr (i, w, set_here views i w (index_within views i v me), held, writes, owes)))
           (λ p h ne k b. before p k h b) p h k;
     }
 
 -- what a window that ends in a zero shows
-pub lacks : (places : ℕ) (row index : List ℕ) (x t : ℕ) → Complete places row index → t < window places → get_or index (slot places x t) 0 ≡ 0
+pub lacks : (places : ℕ) (row index : List ℕ) (x t : ℕ) → IsComplete places row index → t < window places → get_or index (slot places x t) 0 ≡ 0
     → ((u k : ℕ) → u < t → get_or index (slot places x u) 0 ≡ k + 1 → get_or row k 0 ≢ x) → (k : ℕ) → k < length row → get_or row k 0 ≢ x
 lacks places row index x t whole tw empty missed k b e = let s = whole k b t tw (ap (λ (y : ℕ). get_or index (slot places y t) 0) e ∙ empty) in
     missed s.0 k s.1 (ap (λ (y : ℕ). get_or index (slot places y s.0) 0) (sym e) ∙ s.2) e

@@ -10,7 +10,7 @@ use Rattle.atomic_table.specs.Table.{State, Me, step, keeps, Allows}
 use Rattle.board_rule.specs.Layout.{writer, lock_word, length_word, low_word, high_word, index_word, slot}
 use Rattle.board_rule.specs.Lists.{row_of, StartsWith}
 use Rattle.board_rule.specs.Views.{Told}
-use Rattle.board_rule.specs.Rule.{IndexOk, Complete, Kept}
+use Rattle.board_rule.specs.Rule.{IndexOk, IsComplete, IsKept}
 use Rattle.board_rule.specs.Changes.{with_seen}
 use Rattle.board_rule.specs.Plays.{Scans, ReadsMark, ScansIndex, Files}
 use Rattle.board_rule.specs.declared.view.View.{View}
@@ -22,11 +22,11 @@ use Rattle.board_rule.proofs.Turns.{unmoved, rows_turn}
 
 module _ (t : Told) (good : ℕ → Type 0) (S : Type 0) where
   abbrev Rule : State S View → Type 0
-  Rule = Kept t good
+  Rule = IsKept t good
 
   -- under a right, and with no debt, the index is complete
-  covers : (s : State S View) (o : Rule s) (id : ℕ) (v : View) → get_elem? s.views id ≡ some v → 0 < v.rows.right → v.rows.unfiled ≡ 0 → Complete t.places (row_of v.rows.seen v.rows.held) v.rows.marks
-  covers s o id v me some-right none-unfiled = let k = o.seats id v me in let q = v.rows.held in subst (λ (r : List ℕ). Complete t.places r v.rows.marks) (sym (k.whole some-right))
+  covers : (s : State S View) (o : Rule s) (id : ℕ) (v : View) → get_elem? s.views id ≡ some v → 0 < v.rows.right → v.rows.unfiled ≡ 0 → IsComplete t.places (row_of v.rows.seen v.rows.held) v.rows.marks
+  covers s o id v me some-right none-unfiled = let k = o.seats id v me in let q = v.rows.held in subst (λ (r : List ℕ). IsComplete t.places r v.rows.marks) (sym (k.whole some-right))
       (λ p b. ⊎_elim (λ st. stands_same t.places (λ j. get_or s.words (index_word t.places q j) 0) (λ j. get_or v.rows.marks j 0) (get_or (row_of o.rows q) p 0) p o.wide (λ j c. sym (k.marks some-right j c)) st)
       (λ d. absurd (dite (ℕ_discrete d.0 id)
       (λ e. omega (arith, none-unfiled, d.5, ap (λ (x : View). x.rows.unfiled) (some-injective d.1 v (sym d.2 ∙ ap (get_elem? s.views) e ∙ me))))
@@ -44,7 +44,7 @@ module _ (t : Told) (good : ℕ → Type 0) (S : Type 0) where
       refl,
       (λ j at low. let here : get_or s.words i 0 ≡ get_or s.words (index_word t.places q j) 0 = ap (λ (x : ℕ). get_or s.words x 0) (at ∙ ap (λ (l : ℕ). index_word l q j) told) in let inside : j < t.places = omega (arith, low, told) in
           (here ∙ k.marks right j inside, omega (arith, here, o.index.named q j k.near inside, ap length (k.whole right)))),
-      λ none-unfiled. subst (λ (l : ℕ). Complete l (row_of m.0.rows.seen q) m.0.rows.marks) (sym told) (covers s o id m.0 me right none-unfiled),
+      λ none-unfiled. subst (λ (l : ℕ). IsComplete l (row_of m.0.rows.seen q) m.0.rows.marks) (sym told) (covers s o id m.0 me right none-unfiled),
     ),
   )
 

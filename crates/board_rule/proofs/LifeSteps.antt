@@ -12,7 +12,7 @@ use Rattle.board_rule.specs.Layout.{life_word, place_of}
 use Rattle.board_rule.specs.Lists.{row_of, Has}
 use Rattle.board_rule.specs.Lives.{life_of, is_claimed, is_unsettled, is_settled, verdict_of, Passes}
 use Rattle.board_rule.specs.Views.{Told, OnLives}
-use Rattle.board_rule.specs.Rule.{times_among, claims_at, claims_on, IsBare, Kept}
+use Rattle.board_rule.specs.Rule.{times_among, claims_at, claims_on, IsBare, IsKept}
 use Rattle.board_rule.specs.Changes.{with_learned, with_claim}
 use Rattle.board_rule.specs.Plays as Plays
 use Rattle.board_rule.specs.Plays.{Claims}
@@ -29,7 +29,7 @@ broken_else n a b c = ap {B = Life} (λ x. cond x Waiting (cond (eqb n 1) Claime
 
 module _ (t : Told) (good : ℕ → Type 0) (S : Type 0) where
   abbrev Rule : State S View → Type 0
-  Rule = Kept t good
+  Rule = IsKept t good
 
   -- a step on the life of a published place, which may change the claim and what is owed to pending
   life_turn : (s : State S View) (o : Rule s) (id q k n : ℕ) (new_life : Life) (l : OnLives) (owed verdicts : ℕ) (m : Me S View) → q < 13 → k < length (row_of o.rows q) → get_elem? s.views id ≡ some m.0

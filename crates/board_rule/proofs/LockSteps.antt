@@ -8,7 +8,7 @@ use Rattle.atomic_table.proofs.Lists.{exchanged}
 use Rattle.board_rule.specs.Layout.{writer, lock_word, length_word, low_word, high_word, index_word, slot, window}
 use Rattle.board_rule.specs.Lists.{row_of, StartsWith, first_values}
 use Rattle.board_rule.specs.Views.{Told, OnRows}
-use Rattle.board_rule.specs.Rule.{weight, Stands, SeatOk, Kept}
+use Rattle.board_rule.specs.Rule.{weight, Stands, SeatOk, IsKept}
 use Rattle.board_rule.specs.Changes.{with_right, without_right}
 use Rattle.board_rule.specs.Plays.{Takes, Peeks, IsAtShard, TakesRight, Leaves, Measures}
 use Rattle.board_rule.specs.declared.view.View.{View}
@@ -32,7 +32,7 @@ ap_bound i j words e h = subst (λ (x : ℕ). get_or words x 0 < 184467440737095
 
 module _ (t : Told) (good : ℕ → Type 0) (S : Type 0) where
   abbrev Rule : State S View → Type 0
-  Rule = Kept t good
+  Rule = IsKept t good
 
   pub peeks : (n id : ℕ) (m : Me S View) (i : ℕ) → Allows Rule n id m i (λ y. y) (Peeks (step n i 0 0 none) m)
   peeks n id m i s o wide me _ = (m.0, keeps, tt, unmoved t good S s o i id m me, refl)
@@ -112,10 +112,10 @@ module _ (t : Told) (good : ℕ → Type 0) (S : Type 0) where
   seizes n id m i q at near told none-yet none-on-way = takes writer n id m i q 0 writer at near told none-yet none-on-way (omega arith) (omega arith)
 
   -- it owes nothing to the index, or its word's index words are full
-  abbrev pub Paid : View → Type 0
-  Paid v = (k u : ℕ) → v.rows.unfiled ≡ k + 1 → u < window v.places → get_or v.rows.marks (slot v.places (get_or (row_of v.rows.seen v.rows.held) k 0) u) 0 ≢ 0
+  abbrev pub HasPaid : View → Type 0
+  HasPaid v = (k u : ℕ) → v.rows.unfiled ≡ k + 1 → u < window v.places → get_or v.rows.marks (slot v.places (get_or (row_of v.rows.seen v.rows.held) k 0) u) 0 ≢ 0
 
-  drops : (s : State S View) (o : Rule s) (id n : ℕ) (m : Me S View) → get_elem? s.views id ≡ some m.0 → m.0.places ≡ t.places → m.0.pending.announced ≡ 0 → n ≤ writer → get_or s.words (lock_word m.0.rows.held) 0 ≤ n + m.0.rows.right → Paid m.0
+  drops : (s : State S View) (o : Rule s) (id n : ℕ) (m : Me S View) → get_elem? s.views id ≡ some m.0 → m.0.places ≡ t.places → m.0.pending.announced ≡ 0 → n ≤ writer → get_or s.words (lock_word m.0.rows.held) 0 ≤ n + m.0.rows.right → HasPaid m.0
       → Rule (stepped s (lock_word m.0.rows.held) n id m.1 (without_right m.0) keeps)
   drops s o id n m me told none-on-way top gain paid = let q = m.0.rows.held in let w = without_right m.0 in let k = o.seats id m.0 me in
       lock_turn s o id q n m w.rows k.near me refl (omega (arith, none-on-way)) top (omega (arith, gain, weight_here m.0, weight_idle q w refl)) (λ p ne. omega (arith, weight_idle p w refl))
@@ -134,7 +134,7 @@ module _ (t : Told) (good : ℕ → Type 0) (S : Type 0) where
       (without_right m.0, keeps, tt, drops s o id ((x + (2 ^ 64 - 1)) % 2 ^ 64) m me told none-on-way (omega (arith, down, (o.locks q k.near).1)) (omega (arith, down, reads)) (λ c u owes. absurd (omega (arith, owes, none-unfiled))), refl))
 
   -- a writer stores 0
-  pub gives : (n id : ℕ) (m : Me S View) (i : ℕ) → i ≡ lock_word m.0.rows.held → m.0.places ≡ t.places → m.0.rows.right ≡ writer → m.0.pending.announced ≡ 0 → Paid m.0
+  pub gives : (n id : ℕ) (m : Me S View) (i : ℕ) → i ≡ lock_word m.0.rows.held → m.0.places ≡ t.places → m.0.rows.right ≡ writer → m.0.pending.announced ≡ 0 → HasPaid m.0
       → Allows Rule n id m i (λ _. 0) (λ _. Leaves (step n i 0 0 none) m 0)
   gives n id m i at told writes none-on-way paid s o wide me _ = rw at (let k = o.seats id m.0 me in
       (without_right m.0, keeps, tt, drops s o id 0 m me told none-on-way (omega arith) (omega (arith, writes, (o.locks m.0.rows.held k.near).1)) paid, refl))

@@ -13,7 +13,7 @@ use Rattle.board_rule.specs.Layout.{half, writer, lock_word, length_word, low_wo
 use Rattle.board_rule.specs.Lists.{row_of, total}
 use Rattle.board_rule.specs.Lives.{life_of, life_at, is_claimed, is_unsettled, is_settled, Passes}
 use Rattle.board_rule.specs.Views.{Told}
-use Rattle.board_rule.specs.Rule.{EachSeat, start_place, open_lives, SeatOk, Stands, Unfiled, IsBare, Kept, Overfills}
+use Rattle.board_rule.specs.Rule.{EachSeat, start_place, open_lives, SeatOk, Stands, IsUnfiled, IsBare, IsKept, Overfills}
 use Rattle.board_rule.specs.Changes.{opening_rows, opening_words, first_view}
 use Rattle.board_rule.specs.declared.view.View.{View}
 use Rattle.board_rule.proofs.Sums.{rows_cases, starts-refl, total_set_or}
@@ -78,7 +78,7 @@ opened places start wide = let q = start % 13 in let near : q < 13 = omega arith
     let t = sets (size_for places) (length_word q) (low_word q 0) (high_word places q 0) (index_word places q (slot places start 0)) (start % half) (start / half) (omega arith) (omega (arith, near)) (omega (arith, wide)) (omega (arith, wide)) (omega (arith, near, low)) in
     record { sized = t.0; pending = t.1; count = t.2; one = t.3; low = t.4; high = t.5; mark = t.6; blank = t.7 }
 
-pub opens : (t : Told) (good : ℕ → Type 0) (S : Type 0) → 0 < t.places → Kept t good {S = S} (opening (opening_words t.places t.origin) [] (first_view t.limit t.places t.origin))
+pub opens : (t : Told) (good : ℕ → Type 0) (S : Type 0) → 0 < t.places → IsKept t good {S = S} (opening (opening_words t.places t.origin) [] (first_view t.limit t.places t.origin))
 opens t good S wide = let start = t.origin in let places = t.places in let q = start % 13 in let near : q < 13 = omega arith in let words = opening_words places start in let w = opened places start wide in
     let nils : List (List ℕ) = replicate 13 [] in let rows = opening_rows start in let lives = set nils q (0 ∷ []) in let v = first_view t.limit places start in let j0 = slot places start 0 in let low : j0 < places = slot_lt places start 0 wide in
     let only : (F : View → Type 0) → F v → EachSeat F (v ∷ []) = λ F h a u e. subst F (first_only v a u e) h in
@@ -140,7 +140,7 @@ opens t good S wide = let start = t.origin in let places = t.places in let q = s
       index = record {
         named = λ p j h b. dite (ℕ_discrete p q)
             (λ e. dite (ℕ_discrete j j0) (λ d. rw e (rw d (omega (arith, w.mark, ap length row)))) (λ nd. omega (arith, marks p j h b (λ _. nd)))) (λ ne. omega (arith, marks p j h b (λ e. absurd (ne e))));
-        stands = each (λ p k x. Stands places (λ j. get_or words (index_word places p j) 0) x k ⊎ Unfiled (v ∷ []) p k) (inl (λ u uw z. dite (ℕ_discrete u 0) (λ e. absurd (omega (arith, w.mark, z, ap (λ (y : ℕ). get_or words (index_word places q (slot places start y)) 0) e))) (λ ne. (0, omega (arith, ne), w.mark))));
+        stands = each (λ p k x. Stands places (λ j. get_or words (index_word places p j) 0) x k ⊎ IsUnfiled (v ∷ []) p k) (inl (λ u uw z. dite (ℕ_discrete u 0) (λ e. absurd (omega (arith, w.mark, z, ap (λ (y : ℕ). get_or words (index_word places q (slot places start y)) 0) e))) (λ ne. (0, omega (arith, ne), w.mark))));
       };
       shares = record {
         from = 0;

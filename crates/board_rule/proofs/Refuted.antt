@@ -7,7 +7,7 @@ use Rattle.atomic_table.proofs.Lists.{at_set}
 use Rattle.board_rule.specs.Layout.{writer, place_of}
 use Rattle.board_rule.specs.Lists.{row_of}
 use Rattle.board_rule.specs.Views.{Told}
-use Rattle.board_rule.specs.Rule.{claims_on, times, Kept}
+use Rattle.board_rule.specs.Rule.{claims_on, times, IsKept}
 use Rattle.board_rule.specs.Changes.{impossible_view, spent_view}
 use Rattle.board_rule.specs.Plays.{never}
 use Rattle.board_rule.specs.declared.view.View.{View}
@@ -18,7 +18,7 @@ use Rattle.board_rule.proofs.Added.{published_low}
 
 module _ (t : Told) (good : ℕ → Type 0) (S : Type 0) where
   abbrev Rule : State S View → Type 0
-  Rule = Kept t good
+  Rule = IsKept t good
 
   -- no seat is at a shard 13, so none takes a step there
   pub nowhere : (n id : ℕ) (m : Me S View) (i : ℕ) → 13 ≤ m.0.rows.held → Allows Rule n id m i (λ y. y) (never (step n i 0 0 none) m)

@@ -13,7 +13,7 @@ use Rattle.board_rule.specs.Layout.{writer, half, lock_word, length_word, low_wo
 use Rattle.board_rule.specs.Lists.{row_of, StartsWith, Has, total}
 use Rattle.board_rule.specs.Lives.{is_unsettled, is_settled}
 use Rattle.board_rule.specs.Views.{Told, OnRows}
-use Rattle.board_rule.specs.Rule.{weight, Behind, SeatOk, Kept}
+use Rattle.board_rule.specs.Rule.{weight, Behind, SeatOk, IsKept}
 use Rattle.board_rule.specs.Changes.{with_entry}
 use Rattle.board_rule.specs.Plays.{ReadsLow, ReadsHigh, LaysLow, LaysHigh, Publishes}
 use Rattle.board_rule.specs.declared.view.View.{View}
@@ -32,7 +32,7 @@ lighter p v w held right = let e : weight p w ≡ weight p v = ap (λ (h : ℕ).
 
 module _ (t : Told) (good : ℕ → Type 0) (S : Type 0) where
   abbrev Rule : State S View → Type 0
-  Rule = Kept t good
+  Rule = IsKept t good
 
   -- an entry that was seen is one of the row
   seen_inside : (s : State S View) (o : Rule s) (id q k : ℕ) (m : Me S View) → get_elem? s.views id ≡ some m.0 → q < 13 → k < length (row_of m.0.rows.seen q)

@@ -14,7 +14,7 @@ use Rattle.board_rule.specs.Layout.{writer, place_of}
 use Rattle.board_rule.specs.Lists.{row_of, StartsWith, total, is_start, longer_row, longer_rows, agree}
 use Rattle.board_rule.specs.Lives.{life_of, life_at, Passes}
 use Rattle.board_rule.specs.Views.{Told}
-use Rattle.board_rule.specs.Rule.{EachSeat, weight, times, claims_on, open_lives, SeatOk, Unfiled, Kept, Overfills}
+use Rattle.board_rule.specs.Rule.{EachSeat, weight, times, claims_on, open_lives, SeatOk, IsUnfiled, IsKept, Overfills}
 use Rattle.board_rule.specs.Changes.{either_one, both_views, with_half_share, fresh_seat, spent_view}
 use Rattle.board_rule.specs.declared.view.View.{View}
 use Rattle.board_rule.proofs.Sums.{starts-refl, starts-length, total-set, total-append, seats_turn}
@@ -113,7 +113,7 @@ one_of_two a b e = dite (ℕ_discrete a 1) (λ h. inl h) (λ n. inr (sym (ap {B 
 
 -- a debt to the index is still there, where the seat that is given up has no right
 unfiled_on : (views : List View) (q k i j : ℕ) (v w both gone : View) → get_elem? views i ≡ some v → get_elem? views j ≡ some w → ¬ (j ≡ i) → both.rows.held ≡ v.rows.held → both.rows.right ≡ v.rows.right → both.rows.unfiled ≡ v.rows.unfiled → w.rows.right ≡ 0
-    → Unfiled views q k → Unfiled (set (set views i both) j gone) q k
+    → IsUnfiled views q k → IsUnfiled (set (set views i both) j gone) q k
 unfiled_on views q k i j v w both gone me at-w apart held right unfiled no-right d = dite (ℕ_discrete d.0 i)
     (λ e. let same : d.1 ≡ v = some-injective d.1 v (sym d.2 ∙ ap (get_elem? views) e ∙ me) in
     (i, both, set_else (set views i both) j i gone (λ h. apart (sym h)) ∙ set_here views i both (index_within views i v me), held ∙ ap (λ (x : View). x.rows.held) (sym same) ∙ d.3, right ∙ ap (λ (x : View). x.rows.right) (sym same) ∙ d.4, unfiled ∙ ap (λ (x : View). x.rows.unfiled) (sym same) ∙ d.5))
@@ -135,7 +135,7 @@ joined_at v w h = record (both_views v w) { rows = record (both_views v w).rows 
 
 module _ (t : Told) (good : ℕ → Type 0) (S : Type 0) where
   abbrev Rule : State S View → Type 0
-  Rule = Kept t good
+  Rule = IsKept t good
 
   pub splits : (id : ℕ) (v : View) → Splits Rule id v (with_half_share v) (fresh_seat v)
   splits id v s o me = let w = with_half_share v in let u = fresh_seat v in let k = o.seats id v me in let left = set s.views id w in let vs = left ++ u ∷ [] in

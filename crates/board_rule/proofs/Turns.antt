@@ -7,7 +7,7 @@ use Rattle.atomic_table.specs.Table.{State, Me, keeps, stepped}
 use Rattle.atomic_table.proofs.Lists.{set_again}
 use Rattle.board_rule.specs.Layout.{writer, lock_word, length_word, low_word, high_word, index_word}
 use Rattle.board_rule.specs.Views.{Told, OnRows, OnLives, OnPending, OnCount}
-use Rattle.board_rule.specs.Rule.{LocksOk, RowsOk, SeatOk, LivesOk, PendingOk, CountOk, IndexOk, IsBare, Kept}
+use Rattle.board_rule.specs.Rule.{LocksOk, RowsOk, SeatOk, LivesOk, PendingOk, CountOk, IndexOk, IsBare, IsKept}
 use Rattle.board_rule.specs.declared.view.View.{View}
 use Rattle.board_rule.proofs.Sums.{seats_turn}
 use Rattle.board_rule.proofs.Locks.{locks_stay}
@@ -20,7 +20,7 @@ use Rattle.board_rule.proofs.Shares.{shares_turn}
 
 module _ (t : Told) (good : ℕ → Type 0) (S : Type 0) where
   abbrev pub Rule : State S View → Type 0
-  Rule = Kept t good
+  Rule = IsKept t good
 
   -- a load that changes no view
   pub unmoved : (s : State S View) → Rule s → (i id : ℕ) (m : Me S View) → get_elem? s.views id ≡ some m.0 → Rule (stepped s i (get_or s.words i 0) id m.1 m.0 keeps)

@@ -9,7 +9,7 @@ use Rattle.board_rule.specs.Layout.{writer, half, lock_word, length_word, low_wo
 use Rattle.board_rule.specs.Layout.{place_of}
 use Rattle.board_rule.specs.Lists.{row_of, StartsWith}
 use Rattle.board_rule.specs.Lives.{life_of}
-use Rattle.board_rule.specs.Rule.{Complete}
+use Rattle.board_rule.specs.Rule.{IsComplete}
 use Rattle.board_rule.specs.Changes.{with_seen, with_right, without_right, with_entry, with_learned, with_claim}
 use Rattle.board_rule.specs.Changes.{without_claim, with_given_up}
 use Rattle.board_rule.specs.declared.life.Life.TheVariants.{Claimed}
@@ -95,7 +95,7 @@ module _ {S : Type 0} where
   ReadsMark st m r n = (n ≡ m)
       × ((j : ℕ) → st.word ≡ index_word m.0.places m.0.rows.held j → j < m.0.places → (r ≡ slice_index m.0.rows.marks j)
       × (r ≤ length (row_of m.0.rows.seen m.0.rows.held)))
-      × (m.0.rows.unfiled ≡ 0 → Complete m.0.places (row_of m.0.rows.seen m.0.rows.held) m.0.rows.marks)
+      × (m.0.rows.unfiled ≡ 0 → IsComplete m.0.places (row_of m.0.rows.seen m.0.rows.held) m.0.rows.marks)
 
   -- with no right
   abbrev pub ScansIndex : Step S → Me S View → ℕ → Me S View → Type 0

@@ -143,8 +143,8 @@ Stands places mark x k =
     (t : ℕ) → t < window places → mark (slot places x t) ≡ 0 → (u : ℕ) × (u < t) × (mark (slot places x u) ≡ k + 1)
 
 -- a writer has published the place and not put it into the index yet
-abbrev pub Unfiled : List View → ℕ → ℕ → Type 0
-Unfiled views q k =
+abbrev pub IsUnfiled : List View → ℕ → ℕ → Type 0
+IsUnfiled views q k =
     (j : ℕ) × (v : View) × (get_elem? views j ≡ some v) × (v.rows.held ≡ q) × (v.rows.right ≡ writer)
     × (v.rows.unfiled ≡ k + 1)
 
@@ -154,12 +154,12 @@ pub record IndexOk (places : ℕ) (rows : List (List ℕ)) (words : List ℕ) (v
   pub named : (q j : ℕ) → q < SHARDS → j < places → slice_index words (index_word places q j) ≤ length (row_of rows q)
   pub stands : (q k : ℕ) → q < SHARDS → k < length (row_of rows q)
       → Stands places (λ j. slice_index words (index_word places q j)) (slice_index (row_of rows q) k) k
-      ⊎ Unfiled views q k
+      ⊎ IsUnfiled views q k
 
 -- what a seat with a right knows of the index: a zero among a word's index words shows that the row lacks the word,
 -- where none before it names its place
-abbrev pub Complete : ℕ → List ℕ → List ℕ → Type 0
-Complete places row marks = (k : ℕ) → k < length row → Stands places (slice_index marks) (slice_index row k) k
+abbrev pub IsComplete : ℕ → List ℕ → List ℕ → Type 0
+IsComplete places row marks = (k : ℕ) → k < length row → Stands places (slice_index marks) (slice_index row k) k
 
 -- nothing of it counts in a sum over the seats
 pub record IsBare (v : View) : Type 0 where
@@ -183,7 +183,7 @@ pub record SharesOk (views : List View) : Type 0 where
   pub positive : EachSeat (λ v. 0 < v.places → 0 < v.share.parts) views
   pub bare : EachSeat (λ v. v.places ≡ 0 → IsBare v) views
 
-pub record Kept (t : Told) (good : ℕ → Type 0) {S : Type 0} (s : State S View) : Type 0 where
+pub record IsKept (t : Told) (good : ℕ → Type 0) {S : Type 0} (s : State S View) : Type 0 where
   pub rows : List (List ℕ)
   pub lives : List (List ℕ)
   pub wide : 0 < t.places

@@ -9,7 +9,7 @@ use Rattle.state_space.specs.Counts.{IsListOf}
 use Rattle.board_rule.specs.Lists.{row_of}
 use Rattle.board_rule.specs.declared.life.Life.TheVariants.{Broken}
 use Rattle.patch_sets.proofs.DistinctWords.{some_push}
-use Rattle.seen_board.specs.Ended.{Ended, life_of_entry, Entries, Settled, Done}
+use Rattle.seen_board.specs.Ended.{Ended, life_of_entry, Entries, AreSettled, IsDone}
 use Rattle.explorers.specs.Entries.{IsBrokenBefore, AreDistinct, AreShort}
 
 -- the rows so far, with one more
@@ -97,7 +97,7 @@ module _ (e : Ended) where
         omega (arith, s, inside))))
 
   -- on a finished board the broken entries are the words that are reached and not good
-  pub broken_all : (next : ℕ → List ℕ) (origin limit : ℕ) (good : ℕ → Type 0) (l : List ℕ) → Entries next origin limit e.rows → Settled next good e → Done next origin e → AreShort e.rows → IsListOf (IsBrokenBefore e 13 0) l → IsListOf (λ w. IsReached next origin w × (good w → ⊥)) l
+  pub broken_all : (next : ℕ → List ℕ) (origin limit : ℕ) (good : ℕ → Type 0) (l : List ℕ) → Entries next origin limit e.rows → AreSettled next good e → IsDone next origin e → AreShort e.rows → IsListOf (IsBrokenBefore e 13 0) l → IsListOf (λ w. IsReached next origin w × (good w → ⊥)) l
   broken_all next origin limit good l entries settled done short = same_list (IsBrokenBefore e 13 0) (λ w. IsReached next origin w × (good w → ⊥)) l
       (λ w b. (subst (IsReached next origin) b.is (entries.reached b.shard b.at b.near b.inside), λ well. settled.broken b.shard b.at b.near b.life (subst good (sym b.is) well)))
       (λ w r. let has = done.every w r.0 in let near : w % 13 < 13 = omega arith in let small = short (w % 13) near in

@@ -4,7 +4,7 @@ ghost use Rattle.std.specs.List.{concat};
 ghost use Rattle.state_space.specs.Counts.{IsListOf};
 ghost use Rattle.patch_sets.specs.Explored.{IsExplored, ReachExceeds};
 ghost use Rattle.seen_board.specs.Clauses.{HasPlace};
-ghost use Rattle.seen_board.specs.Ended.{Entries, Settled, Done};
+ghost use Rattle.seen_board.specs.Ended.{Entries, AreSettled, IsDone};
 ghost use Rattle.explorers.specs.Entries.{IsBrokenBefore, AreDistinct, AreShort};
 
 use crate::rows::Room;
@@ -23,8 +23,8 @@ pub(crate) fn collect<S: Space, A: Allocator + Copy>(
 ) -> Result<Explored<A>, ExploreFault>
     requires small { room.places ≤ 32768 }
     requires entries { Entries (S.successors _space.now) (S.initial _space.now) room.places contents.now.rows }
-    requires settled { Settled (S.successors _space.now) (S.is_good _space.now) contents.now }
-    requires done { Done (S.successors _space.now) (S.initial _space.now) contents.now }
+    requires settled { AreSettled (S.successors _space.now) (S.is_good _space.now) contents.now }
+    requires done { IsDone (S.successors _space.now) (S.initial _space.now) contents.now }
     ensures found { IfOk result (IsExplored (S.successors _space.now) (S.initial _space.now) (S.is_good _space.now)
         room.limit) }
     ensures too_many { IsErrOf result ExploreFault.TooMany

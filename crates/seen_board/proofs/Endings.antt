@@ -15,7 +15,7 @@ use Rattle.board_rule.specs.Lists.{row_of, Has, first_values, total}
 use Rattle.board_rule.specs.Lives.{life_of, is_unsettled, is_settled, Passes}
 use Rattle.board_rule.specs.Readings.{entry_of, rows_of, lives_of}
 use Rattle.board_rule.specs.Views.{Told}
-use Rattle.board_rule.specs.Rule.{times, times_among, claims_on, IsBare, IsWhole, Kept, Overfills}
+use Rattle.board_rule.specs.Rule.{times, times_among, claims_on, IsBare, IsWhole, IsKept, Overfills}
 use Rattle.board_rule.specs.Plays.{IsIdle}
 use Rattle.board_rule.specs.declared.life.Life.{Life}
 use Rattle.board_rule.specs.declared.life.Life.TheVariants.{Waiting, Claimed, Clean, Broken}
@@ -30,7 +30,7 @@ use Rattle.board_rule.proofs.Sums.{among_at}
 use Rattle.board_rule.proofs.Shares.{alone_total, bare_claims, bare_times}
 use Rattle.atomic_table.specs.Seated.{TableId}
 use Rattle.seen_board.specs.Known.{known_of}
-use Rattle.seen_board.specs.Ended.{Ended, end_of, life_of_entry, life_in, IsReadable, IsSettled, Entries, Settled, Accounts, Done}
+use Rattle.seen_board.specs.Ended.{Ended, end_of, life_of_entry, life_in, IsReadable, IsSettled, Entries, AreSettled, Accounts, IsDone}
 use Rattle.seen_board.specs.Clauses.{SeesOn}
 
 pub found : (l : List ℕ) (i x : ℕ) → get_elem? l i ≡ some x → get_or l i 0 ≡ x
@@ -75,11 +75,11 @@ life_cases (suc zero) h = inl (omega arith, (λ e. cc e), λ e. cc e)
 life_cases (suc (suc zero)) h = inr (inl (refl, refl))
 life_cases (suc (suc (suc n))) h = inr (inr (omega (arith, h), ap life_of (let z : suc (suc (suc n)) ≡ 3 = omega (arith, h) in z)))
 
-module _ (t : Told) (good : ℕ → Type 0) (S : Type 0) (id : ℕ) (v : View) (words : List ℕ) (xs : List S) (e : Final (Seen (Kept t good) id v) words xs) where
+module _ (t : Told) (good : ℕ → Type 0) (S : Type 0) (id : ℕ) (v : View) (words : List ℕ) (xs : List S) (e : Final (Seen (IsKept t good) id v) words xs) where
   abbrev s : State S View
   s = e.0
 
-  abbrev o : Kept t good s
+  abbrev o : IsKept t good s
   o = e.1.0
 
   rows_are : rows_of t.places words ≡ o.rows
@@ -124,8 +124,8 @@ module _ (t : Told) (good : ℕ → Type 0) (S : Type 0) (id : ℕ) (v : View) (
   settled_two : (q k : ℕ) → q < 13 → IsSettled (life_of_entry shown q k) → 2 ≤ get_or (row_of o.lives q) k 0
   settled_two q k near h = ⊎_elim (λ c. ⊎_elim (λ f. absurd (c.1 f)) (λ f. absurd (c.2 f)) h) (λ c. ⊎_elim (λ d. omega (arith, d.0)) (λ d. omega (arith, d.0)) c) (life_cases (get_or (row_of o.lives q) k 0) (o.life.four q k near))
 
-  pub end_settled : Settled t.next good (end_of t.places words)
-  end_settled = over (Settled t.next good) record {
+  pub end_settled : AreSettled t.next good (end_of t.places words)
+  end_settled = over (AreSettled t.next good) record {
     clean = λ q k near f. o.life.clean q k near (⊎_elim (λ c. absurd (c.1 f)) (λ c. ⊎_elim (λ d. d.0) (λ d. absurd (cc (sym d.1 ∙ f))) c) (life_cases (get_or (row_of o.lives q) k 0) (o.life.four q k near)));
     broken = λ q k near f. o.life.broken q k near (⊎_elim (λ c. absurd (c.2 f)) (λ c. ⊎_elim (λ d. absurd (cc (sym d.1 ∙ f))) (λ d. d.0) c) (life_cases (get_or (row_of o.lives q) k 0) (o.life.four q k near)));
     closed = λ q k y near h. o.life.closed q k y near (settled_two q k near h);
@@ -178,8 +178,8 @@ module _ (t : Told) (good : ℕ → Type 0) (S : Type 0) (id : ℕ) (v : View) (
     every : (x : ℕ) → IsReached t.next t.origin x → Has o.rows x
     every = along t.next t.origin (Has o.rows) o.rooted (λ w has y succ. o.life.closed (w % 13) has.0 y (omega arith) (all_settled (w % 13) has.0 (omega arith) has.1) (subst (λ (a : ℕ). Contains (t.next a) y) (sym has.2) succ))
 
-    pub end_done : Done t.next t.origin (end_of t.places words)
-    end_done = over (Done t.next t.origin) record {
+    pub end_done : IsDone t.next t.origin (end_of t.places words)
+    end_done = over (IsDone t.next t.origin) record {
       settled = λ q k near inside. ⊎_elim (λ c. absurd (omega (arith, c.0, all_settled q k near inside))) (λ c. ⊎_elim (λ d. inl d.1) (λ d. inr d.1) c) (life_cases (get_or (row_of o.lives q) k 0) (o.life.four q k near));
       every = every;
       list = record { distinct = entries.distinct; each = entries.each; every = λ x r. let h = every x r in flat_has o.rows (x % 13) h.0 x (omega (arith, o.row.all)) h.1 h.2 };

@@ -59,14 +59,14 @@ abbrev pub IsSettled : Life → Type 0
 IsSettled life = (life ≡ Clean) ⊎ (life ≡ Broken)
 
 -- a settled life is the space's verdict, and the successors of its entry are entries
-pub record Settled (next : ℕ → List ℕ) (good : ℕ → Type 0) (e : Ended) : Type 0 where
+pub record AreSettled (next : ℕ → List ℕ) (good : ℕ → Type 0) (e : Ended) : Type 0 where
   pub clean : (q k : ℕ) → q < SHARDS → life_of_entry e q k ≡ Clean → good (slice_index (row_of e.rows q) k)
   pub broken : (q k : ℕ) → q < SHARDS → life_of_entry e q k ≡ Broken → good (slice_index (row_of e.rows q) k) → ⊥
   pub closed : (q k y : ℕ) → q < SHARDS → IsSettled (life_of_entry e q k)
       → Contains (next (slice_index (row_of e.rows q) k)) y → Has e.rows y
 
 -- every entry is settled, and the entries are the words that are reached
-pub record Done (next : ℕ → List ℕ) (origin : ℕ) (e : Ended) : Type 0 where
+pub record IsDone (next : ℕ → List ℕ) (origin : ℕ) (e : Ended) : Type 0 where
   pub settled : (q k : ℕ) → q < SHARDS → k < length (row_of e.rows q) → IsSettled (life_of_entry e q k)
   pub every : (x : ℕ) → IsReached next origin x → Has e.rows x
   pub list : IsListOf (IsReached next origin) (concat e.rows)

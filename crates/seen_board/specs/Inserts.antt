@@ -62,8 +62,8 @@ LookedOk row word (At k) = (k < length row) × (slice_index row k ≡ word)
 LookedOk row word Absent = Lacks row word
 
 -- the place is in the index, or none of its word's index words is zero
-abbrev pub Paid : View → Type 0
-Paid v =
+abbrev pub HasPaid : View → Type 0
+HasPaid v =
     (k t : ℕ) → v.rows.unfiled ≡ k + 1 → t < window v.places
     → slice_index v.rows.marks (slot v.places (slice_index (row_of v.rows.seen v.rows.held) k) t) ≢ 0
 

@@ -3,7 +3,7 @@ ghost use Rattle.std.specs.Prelude.{◌≡◌, true, false, ◌+◌, ◌<◌, le
 ghost use Rattle.board_rule.specs.Lists.{row_of};
 ghost use Rattle.board_rule.specs.Changes.{with_entry};
 ghost use Rattle.seen_board.specs.Clauses.{IsOf, Lacks, Writes};
-ghost use Rattle.seen_board.specs.Inserts.{IsSuccessor, IsNext, AddOk, Paid, Filed, Appends};
+ghost use Rattle.seen_board.specs.Inserts.{IsSuccessor, IsNext, AddOk, HasPaid, Filed, Appends};
 ghost use Rattle.seen_board.specs.Seats.{SitsAt, StaysAt, HasWriteRightOf, IsProbe};
 
 use crate::answers::{Place, Put};
@@ -50,7 +50,7 @@ impl<S: Space, A: Allocator> Board<S, A> {
             × (slice_index (row_of seat.old.me.0.rows.seen probe.shard) at ≡ probe.word) }
         ensures seat { StaysAt seat.old seat.new × (seat.new.me.1 ≡ seat.old.me.1) }
         ensures rest { Filed seat.old.me.0 seat.new.me.0 }
-        ensures paid { Paid seat.new.me.0 }
+        ensures paid { HasPaid seat.new.me.0 }
     {
         for t in 0..self.layout.window() {
             let slot = self.layout.slot(probe, t);

@@ -7,7 +7,7 @@ ghost use Rattle.board_rule.specs.Lives.{Passes};
 ghost use Rattle.board_rule.specs.declared.life.Life.TheVariants.{Claimed};
 ghost use Rattle.board_rule.specs.Changes.{half_of};
 ghost use Rattle.board_rule.specs.Rule.{IsWhole, Overfills};
-ghost use Rattle.seen_board.specs.Ended.{Entries, Settled, Accounts, Done, life_in};
+ghost use Rattle.seen_board.specs.Ended.{Entries, AreSettled, Accounts, IsDone, life_in};
 ghost use Rattle.seen_board.specs.Clauses.{IsOf, SeesOn, both_known};
 
 use crate::board::Board;
@@ -80,13 +80,13 @@ impl<S: Space, A: Allocator> Board<S, A> {
         ensures seen { SeesOn seat.seen result.rows }
         ensures whole { 0 < seat.right → row_of seat.seen seat.held ≡ row_of result.rows seat.held }
         ensures entries { Entries (S.successors self.space) (S.initial self.space) self.places result.rows }
-        ensures settled { Settled (S.successors self.space) (S.is_good self.space) result }
+        ensures settled { AreSettled (S.successors self.space) (S.is_good self.space) result }
         ensures claimed { seat.claims ≡ 1 → life_in result seat.place ≡ Claimed }
         ensures given_up { All (λ p. life_in result p ≡ Claimed) seat.given_up }
         ensures learned { All (λ met. Passes met.1 (life_in result met.0)) seat.learned }
         ensures added { All (λ p. p / SHARDS < length (row_of result.rows (p % SHARDS))) seat.added }
         ensures accounts { IsWhole seat.share → Accounts (S.initial self.space) seat result }
-        ensures finished { seat.finished ≡ 1 → Done (S.successors self.space) (S.initial self.space) result }
+        ensures finished { seat.finished ≡ 1 → IsDone (S.successors self.space) (S.initial self.space) result }
         ensures over { seat.over ≡ 1
             → Overfills (IsReached (S.successors self.space) (S.initial self.space)) self.limit self.places }
     {

@@ -1,6 +1,6 @@
 //! The rule of a board's table, and the names of the steps on it.
 ghost use Rattle.std.specs.Prelude.{ℕ};
-ghost use Rattle.board_rule.specs.Rule.{Kept};
+ghost use Rattle.board_rule.specs.Rule.{IsKept};
 ghost use Rattle.board_rule.specs.Changes.{first_view, with_half_share, fresh_seat};
 ghost use Rattle.board_rule.specs.Changes.{both_views, impossible_view, spent_view};
 ghost use Rattle.board_rule.specs.Plays.{Peeks, never, IsAtShard, Enters, Seizes, Leaves, Measures, ReadsLow};
@@ -28,7 +28,7 @@ pub struct Order<S> {
 
 impl<S: Space> TableRule<(), View, About<S>> for Order<S> {
     ghost holds = { λ about.
-        Kept (record {
+        IsKept (record {
           limit = about.limit;
           places = about.places;
           next = S.successors about.space.value;

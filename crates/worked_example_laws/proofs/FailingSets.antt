@@ -27,7 +27,7 @@ use Rattle.crash_model.specs.declared.refusals.TraceFault.{TraceFault}
 use Rattle.crash_model.specs.declared.modules.Module.{Module}
 use Rattle.crash_model.specs.declared.steps.Step.{Step}
 use Rattle.worked_example_laws.proofs.Graphs.{graph_is}
-use Rattle.worked_example_laws.specs.Computed.{closed_sets, is_none_found, fails, failing_sets, fails_under, failing_under, ones_below, is_before, is_ordered, is_in, are_in_order, graph_of, HasGraph, Explored, is_accepted, trace_or_start, CountsWith}
+use Rattle.worked_example_laws.specs.Computed.{closed_sets, is_none_found, fails, failing_sets, fails_under, failing_under, ones_below, is_before, is_ordered, is_in, are_in_order, graph_of, HasGraph, ExploresTo, is_accepted, trace_or_start, CountsWith}
 use Rattle.worked_example_laws.proofs.QuickFaults.{replayed, quick_faults, quick_faults_are}
 use Rattle.worked_example_laws.proofs.ClosedSets.{AreApart, closed_are_all, pairs_apart, apart_filter, from_filter, to_filter}
 
@@ -319,7 +319,7 @@ are_explored base closed failing patches =
 
 pub explored_if : (kind : Module) (base : Disk) (steps : List Step) (closed : ℕ) (failing : List ℕ)
     → at_graph kind base (are_explored base closed failing) (trace_from kind (trace_start base) steps) ≡ Some true
-    → Explored kind base steps closed failing
+    → ExploresTo kind base steps closed failing
 explored_if kind base steps closed failing e =
     graph_then kind base steps (λ patches. are_explored base closed failing patches ≡ true)
     (λ patches. CountsClosed patches closed × AreAllInOrder (IsFailing base patches) failing)

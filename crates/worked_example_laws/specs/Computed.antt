@@ -143,8 +143,8 @@ pub record HasGraph (kind : Module) (base : Disk) (steps : List Step) (P : List 
   pub holds : P patches
 
 -- the steps are accepted, so many sets are closed, and these are all that fail, in canonical order
-abbrev pub Explored : Module → Disk → List Step → ℕ → List ℕ → Type 0
-Explored kind base steps closed failing =
+abbrev pub ExploresTo : Module → Disk → List Step → ℕ → List ℕ → Type 0
+ExploresTo kind base steps closed failing =
     HasGraph kind base steps (λ patches. CountsClosed patches closed × AreAllInOrder (IsFailing base patches) failing)
 
 -- so many closed sets have exactly `many` of these ids

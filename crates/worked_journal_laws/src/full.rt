@@ -4,18 +4,18 @@ ghost use Rattle.std.specs.Prelude.{◌≡◌, [], ◌∷◌};
 ghost use Rattle.crash_model.specs.Disk.{empty_disk};
 ghost use Rattle.crash_model.specs.Failing.{CountsClosed};
 ghost use Rattle.crash_model.specs.declared.modules.Module.TheVariants.{Full};
-ghost use Rattle.worked_example_laws.specs.Computed.{HasGraph, Explored, CountsWith, table};
+ghost use Rattle.worked_example_laws.specs.Computed.{HasGraph, ExploresTo, CountsWith, table};
 ghost use Rattle.worked_example_laws.specs.Examples.{fresh_with_journal, one_file, written_file, with_directory};
 ghost use Rattle.worked_example_laws.specs.Examples.{reused_directory};
 
 /// `create /a` with a journal of metadata and file data.
 pub fn a_full_journal_of_one_file_never_fails()
-    ensures { Explored Full fresh_with_journal one_file 9 [] }
+    ensures { ExploresTo Full fresh_with_journal one_file 9 [] }
 {}
 
 /// `create /a`, `write /a` with a journal of metadata and file data, of seven blocks.
 pub fn a_full_journal_of_a_written_file_never_fails()
-    ensures { Explored Full (empty_disk 16 7) written_file 105 [] }
+    ensures { ExploresTo Full (empty_disk 16 7) written_file 105 [] }
 {}
 
 /// The three transactions with a journal of metadata and file data: each patch's block, offset and dependencies.

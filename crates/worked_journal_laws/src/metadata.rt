@@ -9,7 +9,7 @@ ghost use Rattle.crash_model.specs.Replay.{headers, image_after_replay};
 ghost use Rattle.crash_model.specs.declared.fault.Fault.TheVariants.{Unwritten};
 ghost use Rattle.crash_model.specs.declared.operations.Op.TheVariants.{Create};
 ghost use Rattle.crash_model.specs.declared.modules.Module.TheVariants.{Meta};
-ghost use Rattle.worked_example_laws.specs.Computed.{HasGraph, Explored, CountsWith, new_bytes, set_of, table};
+ghost use Rattle.worked_example_laws.specs.Computed.{HasGraph, ExploresTo, CountsWith, new_bytes, set_of, table};
 ghost use Rattle.worked_example_laws.specs.Examples.{a, after, fresh_with_journal, one_file, written_file};
 ghost use Rattle.worked_example_laws.specs.Examples.{with_directory, reused_directory};
 
@@ -25,12 +25,12 @@ pub fn a_transaction_is_copies_commit_changes_and_done()
         ∷ (0xC7 ∷ 1 ∷ 2 ∷ 2 ∷ 0x0A ∷ []) ∷ (1 ∷ 1 ∷ replicate 14 0) ∷ (2 ∷ 1 ∷ 97 ∷ replicate 9 0) ∷ (0xC8 ∷ []) ∷ []) }
     ensures undo { HasGraph Meta fresh_with_journal one_file (λ patches. map (λ p. p.undo.items) patches ≡
         replicate 128 0 ∷ replicate 128 0 ∷ replicate 5 0 ∷ replicate 16 0 ∷ replicate 12 0 ∷ (0xC7 ∷ []) ∷ []) }
-    ensures explored { Explored Meta fresh_with_journal one_file 9 [] }
+    ensures explored { ExploresTo Meta fresh_with_journal one_file 9 [] }
 {}
 
 /// `create /a`, `write /a` with a journal of metadata: no crash leaves a set that fails.
 pub fn a_new_file_is_safe_with_a_journal_of_metadata()
-    ensures { Explored Meta fresh_with_journal written_file 73 [] }
+    ensures { ExploresTo Meta fresh_with_journal written_file 73 [] }
 {}
 
 /// `unlink /d/x`, `rmdir /d`, `write /f` with a journal of metadata: each patch's block, offset and dependencies. The
