@@ -3,8 +3,7 @@ use Rattle.std.specs.Prelude.{◌≡◌, ℕ, ◌≤◌, List, length, Option}
 use Rattle.patch_sets.specs.Closed.{IsClosed}
 use Rattle.patch_sets.specs.Sets.{AreAllInOrder}
 use Rattle.crash_model.specs.Disk.{Disk}
-use Rattle.crash_model.specs.Failing.{CountsClosed}
-use Rattle.crash_model.specs.Patches.{deps_of}
+use Rattle.crash_model.specs.Patches.{CountsClosed, deps_of}
 use Rattle.crash_model.specs.Strict.{IsFailingUnder}
 use Rattle.crash_model.specs.Summary.{HasFault, AreRows}
 use Rattle.crash_model.specs.declared.patches.Patch.{Patch}

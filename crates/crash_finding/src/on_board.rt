@@ -2,7 +2,7 @@
 
 ghost use Rattle.std.specs.Prelude.{◌≤◌, IfOk, IfErr};
 ghost use Rattle.patch_sets.specs.Sets.{AreAllInOrder};
-ghost use Rattle.crash_model.specs.Failing.{CountsClosed};
+ghost use Rattle.crash_model.specs.Patches.{CountsClosed};
 ghost use Rattle.crash_finding.specs.Kept.{Fails};
 ghost use Rattle.crash_finding.specs.Limits.{SaysTooMany};
 

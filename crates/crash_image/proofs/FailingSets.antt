@@ -5,11 +5,11 @@ use Rattle.state_space.specs.Reach.{IsReached}
 use Rattle.state_space.specs.Counts.{HoldsOf, Outnumbers}
 use Rattle.state_space.proofs.Counting.{number_like, outnumbers_like}
 use Rattle.patch_sets.specs.Sets.{AreAllInOrder}
-use Rattle.patch_sets.specs.Closed.{AreEarlier, IsClosed, successors_of}
+use Rattle.patch_sets.specs.Closed.{AreEarlier, IsClosed}
+use Rattle.patch_sets.specs.Ready.{successors_of}
 use Rattle.patch_sets.proofs.Successors.{reached_closed, closed_reached}
 use Rattle.crash_model.specs.Disk.{Disk}
-use Rattle.crash_model.specs.Patches.{deps_of}
-use Rattle.crash_model.specs.Failing.{CountsClosed, ExceedsLimit}
+use Rattle.crash_model.specs.Patches.{deps_of, CountsClosed, ExceedsLimit}
 use Rattle.crash_model.specs.Strict.{IsFailingUnder}
 use Rattle.crash_model.specs.declared.patches.Patch.{Patch}
 use Rattle.crash_image.specs.Moves.{AreOver, Crashes, IsGood}

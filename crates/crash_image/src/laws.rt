@@ -6,8 +6,7 @@ ghost use Rattle.patch_sets.specs.Sets.{AreAllInOrder};
 ghost use Rattle.patch_sets.specs.Closed.{IsClosed};
 ghost use Rattle.state_space.specs.Reach.{IsReached};
 ghost use Rattle.state_space.specs.Counts.{HoldsOf, Outnumbers};
-ghost use Rattle.crash_model.specs.Patches.{deps_of};
-ghost use Rattle.crash_model.specs.Failing.{CountsClosed, ExceedsLimit};
+ghost use Rattle.crash_model.specs.Patches.{deps_of, CountsClosed, ExceedsLimit};
 ghost use Rattle.crash_model.specs.Strict.{IsFailingUnder};
 
 use crate::space::PatchSpace;

@@ -85,7 +85,8 @@ impl<'a, A: Allocator + Copy> Space for PatchSpace<'a, A> {
     ghost use Rattle.crash_image.specs.Moves.{IsGood};
     ghost use Rattle.crash_model.specs.Patches.{deps_of};
     ghost use Rattle.patch_graph.specs.Fronts.{Leaves};
-    ghost use Rattle.patch_sets.specs.Closed.{IsClosed, successors_of};
+    ghost use Rattle.patch_sets.specs.Closed.{IsClosed};
+    ghost use Rattle.patch_sets.specs.Ready.{successors_of};
     ghost use Rattle.patch_sets.proofs.Successors.{empty_closed, successor_closed};
 
     type Scratch = Scratch<'a, A>;

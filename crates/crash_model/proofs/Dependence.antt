@@ -4,7 +4,7 @@ use Rattle.std.specs.List.{Contains, list_any}
 use Rattle.std.proofs.lemmas.List.Elements.{All-contains}
 use Rattle.std.proofs.lemmas.List.Folds.{Any-from_list_any, list_any_at}
 use Rattle.crash_model.specs.Patches.{overlap}
-use Rattle.crash_model.specs.Rules.{AreAmong}
+use Rattle.crash_model.specs.RuleFacts.{AreAmong}
 use Rattle.crash_model.specs.Trace.{Emitted, applies, depends, groups_depend}
 use Rattle.crash_model.specs.declared.rules.Rule.{Rule}
 

@@ -3,11 +3,10 @@ use Rattle.std.specs.Prelude.{◌≡◌, ℕ, ◌≤◌, List, length, Option, O
 use Rattle.patch_sets.specs.Machine.{CanLeave}
 use Rattle.patch_sets.specs.Sets.{AreAllInOrder}
 use Rattle.crash_model.specs.Disk.{Disk, empty_disk, IsGeometry}
-use Rattle.crash_model.specs.Patches.{deps_of, homes_of}
+use Rattle.crash_model.specs.Patches.{deps_of, homes_of, CountsClosed, ExceedsLimit}
 use Rattle.crash_model.specs.Refusals.{run_of_script, run_of_trace}
 use Rattle.crash_model.specs.Rules.{rules_under}
 use Rattle.crash_model.specs.Trace.{Tracing, trace_start, trace_from, base_from, IsGraphOf}
-use Rattle.crash_model.specs.Failing.{CountsClosed, ExceedsLimit}
 use Rattle.crash_model.specs.Strict.{IsToldKept, IsFailingUnder}
 use Rattle.crash_model.specs.Lists.{when}
 use Rattle.crash_model.specs.Report.{AreSections, IsLed}

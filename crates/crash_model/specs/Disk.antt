@@ -1,6 +1,6 @@
 -- A disk image as a value: its numbers of blocks, and its bytes, block after block.
 use Rattle.std.specs.Prelude.{◌≡◌, ℕ, ◌+◌, ◌*◌, ◌≤◌, List, [], ◌∷◌, ◌++◌, length, take, drop, slice_index, replicate}
-use Rattle.crash_model.specs.DiskBytes.{directory_kind, directory_mark}
+use Rattle.crash_model.specs.declared.disk_bytes.TheConstants.{DIRECTORY_KIND, DIRECTORY_MARK}
 
 pub record Disk : Type 0 where
   pub blocks : ℕ
@@ -47,5 +47,5 @@ empty_disk blocks journal =
     with_bytes (with_bytes (with_bytes (with_bytes (zero_disk blocks journal)
     0 0 (0x53 ∷ blocks ∷ journal ∷ []))
     1 0 (replicate (5 + journal) 1))
-    2 0 (directory_kind ∷ 1 ∷ 0 ∷ 0 ∷ (4 + journal) ∷ []))
-    (4 + journal) 0 (directory_mark ∷ 0 ∷ [])
+    2 0 (DIRECTORY_KIND ∷ 1 ∷ 0 ∷ 0 ∷ (4 + journal) ∷ []))
+    (4 + journal) 0 (DIRECTORY_MARK ∷ 0 ∷ [])

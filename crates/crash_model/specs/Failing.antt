@@ -1,6 +1,5 @@
--- The sets that a crash can leave and that fail.
+-- The sets that fail by a checker that is not strict.
 use Rattle.std.specs.Prelude.{ℕ, List}
-use Rattle.state_space.specs.Counts.{HoldsOf, Outnumbers}
 use Rattle.patch_sets.specs.Closed.{IsClosed}
 use Rattle.crash_model.specs.Disk.{Disk}
 use Rattle.crash_model.specs.Patches.{deps_of, image_of}
@@ -12,11 +11,3 @@ use Rattle.crash_model.specs.declared.patches.Patch.{Patch}
 pub record IsFailing (base : Disk) (patches : List Patch) (set : ℕ) : Type 0 where
   pub closed : IsClosed (deps_of patches) set
   pub unclean : ¬ (IsClean (image_after_replay (image_of base patches set)))
-
--- there are so many closed sets
-abbrev pub CountsClosed : List Patch → ℕ → Type 0
-CountsClosed patches total = HoldsOf (IsClosed (deps_of patches)) total
-
--- there are more closed sets than the limit
-abbrev pub ExceedsLimit : List Patch → ℕ → Type 0
-ExceedsLimit patches limit = Outnumbers (IsClosed (deps_of patches)) limit

@@ -1,6 +1,6 @@
 -- The six faults of an image, and their order.
 use Rattle.std.specs.Prelude.{◌≡◌, ℕ, List, [], ◌++◌, length, Bool, ◌&&◌, ◌||◌, ◌==◌, not, nat_lt, Option}
-use Rattle.crash_model.specs.DiskBytes.{file_kind, directory_kind, file_mark, directory_mark}
+use Rattle.crash_model.specs.declared.disk_bytes.TheConstants.{FILE_KIND, DIRECTORY_KIND, FILE_MARK, DIRECTORY_MARK}
 use Rattle.crash_model.specs.Disk.{Disk, byte}
 use Rattle.crash_model.specs.Layout.{kind_of, links_of, pointer_of, map_of, is_live, is_data, is_entry, target_of}
 use Rattle.crash_model.specs.Layout.{is_pointer}
@@ -42,7 +42,7 @@ is_twice d block = nat_lt 1 (length (namers d block))
 
 -- the mark that is right for the block of an inode of a kind
 abbrev pub is_right_mark : ℕ → ℕ → Bool
-is_right_mark kind mark = (kind == file_kind && mark == file_mark) || (kind == directory_kind && mark == directory_mark)
+is_right_mark kind mark = (kind == FILE_KIND && mark == FILE_MARK) || (kind == DIRECTORY_KIND && mark == DIRECTORY_MARK)
 
 -- 3: a pointer, not wild, to a block that is not marked as the inode's
 abbrev pub is_unwritten : Disk → ℕ → ℕ → Bool

@@ -1,6 +1,6 @@
 -- What the bytes of a disk mean. Inodes are in blocks 2 and 3, 16 bytes each, so inode i begins at byte 256 + 16 * i.
 use Rattle.std.specs.Prelude.{ℕ, ◌+◌, ◌-◌, ◌*◌, List, take, drop, slice_index, Bool, ◌&&◌, ◌==◌, not, nat_le, nat_lt}
-use Rattle.crash_model.specs.DiskBytes.{free_kind, directory_kind, directory_mark}
+use Rattle.crash_model.specs.declared.disk_bytes.TheConstants.{FREE_KIND, DIRECTORY_KIND, DIRECTORY_MARK}
 use Rattle.crash_model.specs.Disk.{Disk, byte}
 
 -- 0 free, 1 file, 2 directory
@@ -20,7 +20,7 @@ map_of d block = slice_index d.bytes (128 + block)
 
 -- inodes 0 to 15 whose kind is not 0
 abbrev pub is_live : Disk → ℕ → Bool
-is_live d inode = nat_lt inode 16 && not (kind_of d inode == free_kind)
+is_live d inode = nat_lt inode 16 && not (kind_of d inode == FREE_KIND)
 
 -- a block of the data area
 abbrev pub is_data : Disk → ℕ → Bool
@@ -30,7 +30,7 @@ is_data d block = nat_le (4 + d.journal) block && nat_lt block d.blocks
 abbrev pub counts : Disk → ℕ → Bool
 counts d dir =
     let block = pointer_of d dir 0 in
-    kind_of d dir == directory_kind && is_data d block && byte d block 0 == directory_mark && byte d block 1 == dir
+    kind_of d dir == DIRECTORY_KIND && is_data d block && byte d block 0 == DIRECTORY_MARK && byte d block 1 == dir
 
 -- where entry k of a directory begins in its block
 abbrev pub entry_offset : ℕ → ℕ

@@ -3,7 +3,6 @@ pub mod Names
 pub mod FirstNames
 pub mod Refusals
 pub mod RefusalLine
-pub mod DiskBytes
 pub mod Disk
 pub mod Layout
 pub mod Faults
@@ -14,6 +13,7 @@ pub mod Meaning
 pub mod Patches
 pub mod Replay
 pub mod Rules
+pub mod RuleFacts
 pub mod Trace
 pub mod Failing
 pub mod Strict

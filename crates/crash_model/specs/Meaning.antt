@@ -1,6 +1,6 @@
 -- What each operation means for a disk's view, and when it is refused.
 use Rattle.std.specs.Prelude.{◌≡◌, ◌≢◌, ℕ, ◌+◌, ◌<◌, ◌≤◌, ◌⊎◌, ◌↔◌, List, [], ◌∷◌}
-use Rattle.crash_model.specs.DiskBytes.{file_kind, directory_kind}
+use Rattle.crash_model.specs.declared.disk_bytes.TheConstants.{FILE_KIND, DIRECTORY_KIND}
 use Rattle.crash_model.specs.View.{View}
 use Rattle.crash_model.specs.declared.names.Path.{Path}
 use Rattle.crash_model.specs.declared.operations.Op.{Op}
@@ -65,7 +65,7 @@ IsFreeSlot v i s = (s < 4) × ((b : ℕ) → ¬ (v.pointer i s b))
 pub record MeansCreate (old new : View) (dir : ℕ) (name : List ℕ) : Type 0 where
   pub inode : ℕ
   pub lowest : IsLowest (IsFreeInode old) inode
-  pub becomes : Becomes old new (with_inode (with_name nothing dir name inode) inode file_kind 1) nothing
+  pub becomes : Becomes old new (with_inode (with_name nothing dir name inode) inode FILE_KIND 1) nothing
 
 pub record MeansWrite (blocks journal : ℕ) (old new : View) (target : ℕ) : Type 0 where
   pub slot : ℕ
@@ -76,21 +76,21 @@ pub record MeansWrite (blocks journal : ℕ) (old new : View) (target : ℕ) : T
 
 pub record MeansLink (old new : View) (target dir : ℕ) (name : List ℕ) : Type 0 where
   pub links : ℕ
-  pub had : old.inode target file_kind links
-  pub becomes : Becomes old new (with_inode (with_name nothing dir name target) target file_kind (links + 1))
-      (with_inode nothing target file_kind links)
+  pub had : old.inode target FILE_KIND links
+  pub becomes : Becomes old new (with_inode (with_name nothing dir name target) target FILE_KIND (links + 1))
+      (with_inode nothing target FILE_KIND links)
 
 -- `unlink` where other names are left
 pub record MeansUnlinkOne (old new : View) (dir : ℕ) (name : List ℕ) (target : ℕ) : Type 0 where
   pub left : ℕ
   pub some : 0 < left
-  pub had : old.inode target file_kind (left + 1)
-  pub becomes : Becomes old new (with_inode nothing target file_kind left)
-      (with_inode (with_name nothing dir name target) target file_kind (left + 1))
+  pub had : old.inode target FILE_KIND (left + 1)
+  pub becomes : Becomes old new (with_inode nothing target FILE_KIND left)
+      (with_inode (with_name nothing dir name target) target FILE_KIND (left + 1))
 
 -- `unlink` of the last name
 pub record MeansUnlinkLast (old new : View) (dir : ℕ) (name : List ℕ) (target : ℕ) : Type 0 where
-  pub had : old.inode target file_kind 1
+  pub had : old.inode target FILE_KIND 1
   pub becomes : Becomes old new nothing (with_all_of (with_name nothing dir name target) old target)
 
 pub record MeansRename (old new : View) (old_dir : ℕ) (old_name : List ℕ) (target dir : ℕ)
@@ -103,10 +103,10 @@ pub record MeansMkdir (blocks journal : ℕ) (old new : View) (dir : ℕ) (name 
   pub lowest_inode : IsLowest (IsFreeInode old) inode
   pub lowest_block : IsLowest (IsFreeBlock blocks journal old) block
   pub becomes : Becomes old new
-      (with_block (with_inode (with_name nothing dir name inode) inode directory_kind 1) inode 0 block) nothing
+      (with_block (with_inode (with_name nothing dir name inode) inode DIRECTORY_KIND 1) inode 0 block) nothing
 
 pub record MeansRmdir (old new : View) (dir : ℕ) (name : List ℕ) (target : ℕ) : Type 0 where
-  pub had : old.inode target directory_kind 1
+  pub had : old.inode target DIRECTORY_KIND 1
   pub becomes : Becomes old new nothing (with_all_of (with_name nothing dir name target) old target)
 
 -- ---- where paths lead
@@ -120,7 +120,7 @@ LeadsTo v dir name = (i : ℕ) × v.name dir name i
 abbrev pub Walks : View → ℕ → List (List ℕ) → ℕ → Type 0
 Walks v from [] to = to ≡ from
 Walks v from (name ∷ names) to =
-    (child : ℕ) × v.name from name child × IsKind v child directory_kind × Walks v child names to
+    (child : ℕ) × v.name from name child × IsKind v child DIRECTORY_KIND × Walks v child names to
 
 -- the first name that fails decides
 abbrev pub WalkFails : View → ℕ → List (List ℕ) → FsFault → Type 0
@@ -128,8 +128,8 @@ WalkFails v from [] fault = ⊥
 WalkFails v from (name ∷ names) fault =
     ((¬ (LeadsTo v from name)) × (fault ≡ NotFound))
     ⊎ ((child : ℕ) × v.name from name child
-    × (((¬ (IsKind v child directory_kind)) × (fault ≡ NotADirectory))
-    ⊎ (IsKind v child directory_kind × WalkFails v child names fault)))
+    × (((¬ (IsKind v child DIRECTORY_KIND)) × (fault ≡ NotADirectory))
+    ⊎ (IsKind v child DIRECTORY_KIND × WalkFails v child names fault)))
 
 -- ---- what an operation means, from the directories that its paths lead to
 
@@ -195,21 +195,21 @@ AtName v path Then fault =
 
 abbrev pub Relinks : View → Path → Path → FsFault → Type 0
 Relinks v old new = AtName v old (λ _ i. AtPath v new (λ dir. RefusedBy
-    (test (LeadsTo v dir new.last) Exists ∷ test (¬ (IsKind v i file_kind)) NotAFile ∷ test (IsFull v dir) DirectoryFull
-    ∷ test (v.inode i file_kind 8) LinksFull ∷ [])))
+    (test (LeadsTo v dir new.last) Exists ∷ test (¬ (IsKind v i FILE_KIND)) NotAFile ∷ test (IsFull v dir) DirectoryFull
+    ∷ test (v.inode i FILE_KIND 8) LinksFull ∷ [])))
 
 abbrev pub IsRefused : ℕ → ℕ → View → Op → FsFault → Type 0
 IsRefused blocks journal v (Create path) = AtPath v path (λ dir. RefusedBy
     (test (LeadsTo v dir path.last) Exists ∷ test (NoInodeLeft v) NoInode ∷ test (IsFull v dir) DirectoryFull ∷ []))
 IsRefused blocks journal v (Write path) = AtName v path (λ _ i. RefusedBy
-    (test (¬ (IsKind v i file_kind)) NotAFile ∷ test (NoBlockLeft blocks journal v) NoBlock
+    (test (¬ (IsKind v i FILE_KIND)) NotAFile ∷ test (NoBlockLeft blocks journal v) NoBlock
     ∷ test ((s : ℕ) → ¬ (IsFreeSlot v i s)) FileFull ∷ []))
 IsRefused blocks journal v (Link old new) = Relinks v old new
 IsRefused blocks journal v (Unlink path) =
-    AtName v path (λ _ i. RefusedBy (test (¬ (IsKind v i file_kind)) NotAFile ∷ []))
+    AtName v path (λ _ i. RefusedBy (test (¬ (IsKind v i FILE_KIND)) NotAFile ∷ []))
 IsRefused blocks journal v (Rename old new) = Relinks v old new
 IsRefused blocks journal v (Mkdir path) = AtPath v path (λ dir. RefusedBy
     (test (LeadsTo v dir path.last) Exists ∷ test (NoInodeLeft v) NoInode ∷ test (NoBlockLeft blocks journal v) NoBlock
     ∷ test (IsFull v dir) DirectoryFull ∷ []))
 IsRefused blocks journal v (Rmdir path) = AtName v path (λ _ i. RefusedBy
-    (test (¬ (IsKind v i directory_kind)) NotADirectory ∷ test ((name : List ℕ) × LeadsTo v i name) NotEmpty ∷ []))
+    (test (¬ (IsKind v i DIRECTORY_KIND)) NotADirectory ∷ test ((name : List ℕ) × LeadsTo v i name) NotEmpty ∷ []))

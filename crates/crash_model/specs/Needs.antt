@@ -4,10 +4,9 @@ use Rattle.std.specs.List.{All}
 use Rattle.patch_sets.specs.Closed.{IsClosed}
 use Rattle.patch_sets.specs.Sets.{AreAllInOrder}
 use Rattle.crash_model.specs.Disk.{Disk}
-use Rattle.crash_model.specs.Patches.{deps_of}
+use Rattle.crash_model.specs.Patches.{deps_of, CountsClosed, ExceedsLimit}
 use Rattle.crash_model.specs.Rules.{rules_in_first, rule_text}
 use Rattle.crash_model.specs.Trace.{Emitted, Tracing, IsGraphOf, applies}
-use Rattle.crash_model.specs.Failing.{CountsClosed, ExceedsLimit}
 use Rattle.crash_model.specs.Strict.{IsFailingUnder}
 use Rattle.crash_model.specs.Report.{Section, AreSections, IsLed, line, section_text, json_string, section_json}
 use Rattle.crash_model.specs.declared.patches.Patch.{Patch}

@@ -1,7 +1,9 @@
 -- Patches, and the disk that a set of them leaves.
 use Rattle.std.specs.Prelude.{◌≡◌, ℕ, ◌+◌, ◌*◌, List, [], ◌∷◌, length, map, slice_range, Bool, ◌&&◌, ◌==◌, nat_lt}
 use Rattle.std.specs.Prelude.{if◌then◌else◌}
+use Rattle.state_space.specs.Counts.{HoldsOf, Outnumbers}
 use Rattle.patch_sets.specs.Sets.{has}
+use Rattle.patch_sets.specs.Closed.{IsClosed}
 use Rattle.crash_model.specs.Disk.{Disk, with_bytes}
 use Rattle.crash_model.specs.declared.patches.Patch.{Patch}
 
@@ -11,6 +13,14 @@ deps_of patches = map (λ p. p.deps) patches
 
 abbrev pub homes_of : List Patch → List ℕ
 homes_of patches = map (λ p. p.block) patches
+
+-- there are so many closed sets
+abbrev pub CountsClosed : List Patch → ℕ → Type 0
+CountsClosed patches total = HoldsOf (IsClosed (deps_of patches)) total
+
+-- there are more closed sets than the limit
+abbrev pub ExceedsLimit : List Patch → ℕ → Type 0
+ExceedsLimit patches limit = Outnumbers (IsClosed (deps_of patches)) limit
 
 -- new bytes for a range of one block
 pub record Place : Type 0 where

@@ -2,7 +2,7 @@
 use Rattle.std.specs.Prelude.{ℕ, ◌+◌, ◌-◌, ◌*◌, ◌/◌, ◌%◌, List, [], ◌∷◌, ◌++◌, length, replicate, Bool, ◌&&◌, ◌==◌, not}
 use Rattle.std.specs.Prelude.{nat_le, nat_lt, if◌then◌else◌, Option, Some, None, is_some, option_to_list, Result, Ok}
 use Rattle.std.specs.Prelude.{Err, bytes_eq}
-use Rattle.crash_model.specs.DiskBytes.{free_kind, file_kind, directory_kind, file_mark, directory_mark}
+use Rattle.crash_model.specs.declared.disk_bytes.TheConstants.{FREE_KIND, FILE_KIND, DIRECTORY_KIND, FILE_MARK, DIRECTORY_MARK}
 use Rattle.crash_model.specs.Lists.{first_below, some_below, when}
 use Rattle.crash_model.specs.Disk.{Disk, with_bytes}
 use Rattle.crash_model.specs.Layout.{kind_of, links_of, pointer_of, map_of, is_live, is_data, counts, entry_of}
@@ -54,7 +54,7 @@ entry_named d dir name = first_below 10 (is_named d dir name)
 abbrev pub directory_named : Disk → ℕ → List ℕ → Result ℕ FsFault
 directory_named d dir name =
     with_found (entry_named d dir name) NotFound (λ k.
-    unless (not (kind_of d (target_of d dir k) == directory_kind)) NotADirectory (Ok (target_of d dir k)))
+    unless (not (kind_of d (target_of d dir k) == DIRECTORY_KIND)) NotADirectory (Ok (target_of d dir k)))
 
 -- the directory that these names lead to
 abbrev pub walk_end : Disk → ℕ → List (List ℕ) → Result ℕ FsFault
@@ -74,7 +74,7 @@ at_entry d path plan =
 
 -- an inode, a block, an entry and a slot that are free, and the lowest of each
 abbrev pub is_free_inode : Disk → ℕ → Bool
-is_free_inode d i = kind_of d i == free_kind
+is_free_inode d i = kind_of d i == FREE_KIND
 
 abbrev pub free_inode : Disk → Option ℕ
 free_inode d = first_below 16 (is_free_inode d)
@@ -150,7 +150,7 @@ abbrev pub relink_plan : Disk → Path → Path → (ℕ → ℕ → ℕ → Lis
 relink_plan d old new more =
     at_entry d old (λ old_dir old_k target. at_path d new (λ dir name.
     unless (is_some (entry_named d dir name)) Exists
-    (unless (not (kind_of d target == file_kind)) NotAFile
+    (unless (not (kind_of d target == FILE_KIND)) NotAFile
     (with_found (free_entry d dir) DirectoryFull (λ k.
     unless (nat_le 8 (links_of d target)) LinksFull
     (Ok (link_count LinkUp target (links_of d target + 1) ∷ entry_set d dir k target name
@@ -163,17 +163,17 @@ plan_of d (Create path) =
     unless (is_some (entry_named d dir name)) Exists
     (with_found (free_inode d) NoInode (λ inode.
     with_found (free_entry d dir) DirectoryFull (λ k.
-    Ok (inode_init inode file_kind ∷ entry_set d dir k inode name ∷ [])))))
+    Ok (inode_init inode FILE_KIND ∷ entry_set d dir k inode name ∷ [])))))
 plan_of d (Write path) =
     at_entry d path (λ dir k target.
-    unless (not (kind_of d target == file_kind)) NotAFile
+    unless (not (kind_of d target == FILE_KIND)) NotAFile
     (with_found (free_block d) NoBlock (λ block.
     with_found (free_slot d target) FileFull (λ slot.
-    Ok (map_set block ∷ init_block InitFile block file_mark target ∷ pointer_set target slot block ∷ [])))))
+    Ok (map_set block ∷ init_block InitFile block FILE_MARK target ∷ pointer_set target slot block ∷ [])))))
 plan_of d (Link old new) = relink_plan d old new (λ dir k target. [])
 plan_of d (Unlink path) =
     at_entry d path (λ dir k target.
-    unless (not (kind_of d target == file_kind)) NotAFile
+    unless (not (kind_of d target == FILE_KIND)) NotAFile
     (Ok (entry_clear d dir k ∷ (if nat_lt 1 (links_of d target)
     then link_count LinkDown target (links_of d target - 1) ∷ []
     else (inode_free target ∷ map_clears d target)))))
@@ -185,11 +185,11 @@ plan_of d (Mkdir path) =
     (with_found (free_inode d) NoInode (λ inode.
     with_found (free_block d) NoBlock (λ block.
     with_found (free_entry d dir) DirectoryFull (λ k.
-    Ok (inode_init inode directory_kind ∷ map_set block ∷ init_block InitDir block directory_mark inode
+    Ok (inode_init inode DIRECTORY_KIND ∷ map_set block ∷ init_block InitDir block DIRECTORY_MARK inode
     ∷ pointer_set inode 0 block ∷ entry_set d dir k inode name ∷ []))))))
 plan_of d (Rmdir path) =
     at_entry d path (λ dir k target.
-    unless (not (kind_of d target == directory_kind)) NotADirectory
+    unless (not (kind_of d target == DIRECTORY_KIND)) NotADirectory
     (unless (has_entries d target) NotEmpty
     (Ok (entry_clear d dir k ∷ inode_free target ∷ option_to_list (map_clear_at d target 0)))))
 

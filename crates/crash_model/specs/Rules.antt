@@ -1,6 +1,6 @@
 -- Rules that order patches, and the ordering modules as lists of them.
-use Rattle.std.specs.Prelude.{◌≢◌, ℕ, ◌+◌, List, [], ◌∷◌, ◌++◌, filter, Bool, true, false, ◌==◌, ◌&&◌, not, codes}
-use Rattle.std.specs.List.{All, Contains, list_any}
+use Rattle.std.specs.Prelude.{ℕ, ◌+◌, List, [], ◌∷◌, ◌++◌, filter, Bool, true, false, ◌==◌, ◌&&◌, not, codes, bytes_eq}
+use Rattle.std.specs.List.{list_any}
 use Rattle.crash_model.specs.declared.plans.Role.{Role}
 use Rattle.crash_model.specs.declared.plans.Role.TheVariants.{InodeInit, EntrySet, EntryClear, MapSet, MapClear}
 use Rattle.crash_model.specs.declared.plans.Role.TheVariants.{InitFile, InitDir, Ptr, LinkUp, LinkDown, InodeFree}
@@ -13,22 +13,6 @@ use Rattle.crash_model.specs.declared.rules.Scope.TheVariants.{Same, Previous}
 use Rattle.crash_model.specs.declared.rules.Rule.{Rule}
 use Rattle.crash_model.specs.declared.modules.Module.{Module}
 use Rattle.crash_model.specs.declared.modules.Module.TheVariants.{Async, Soft, Meta, Full}
-
--- ---- roles
-
--- roles by their places in their list
-abbrev pub role_number : Role → ℕ
-role_number InodeInit = 0
-role_number EntrySet = 1
-role_number EntryClear = 2
-role_number MapSet = 3
-role_number MapClear = 4
-role_number InitFile = 5
-role_number InitDir = 6
-role_number Ptr = 7
-role_number LinkUp = 8
-role_number LinkDown = 9
-role_number InodeFree = 10
 
 -- ---- words
 
@@ -60,10 +44,6 @@ rule_part_text Copy = codes "Copy"
 rule_part_text Commit = codes "Commit"
 rule_part_text Done = codes "Done"
 
--- the text is no part of a rule
-abbrev pub IsNoRulePart : List ℕ → Type 0
-IsNoRulePart text = (part : RulePart) → text ≢ rule_part_text part
-
 abbrev pub scope_text : Scope → List ℕ
 scope_text Same = []
 scope_text Previous = codes "previous-"
@@ -72,15 +52,11 @@ scope_text Previous = codes "previous-"
 abbrev pub rule_text : Rule → List ℕ
 rule_text rule = rule_part_text rule.later ++ codes ":" ++ scope_text rule.scope ++ rule_part_text rule.earlier
 
--- the text is no rule
-abbrev pub IsNoRule : List ℕ → Type 0
-IsNoRule text = (rule : Rule) → text ≢ rule_text rule
-
 -- ---- what a rule speaks of
 
 -- a patch with this part is one that the rule speaks of
 abbrev pub has_part : RulePart → Part → Bool
-has_part (Change role) (part.InPlace other) = role_number role == role_number other
+has_part (Change role) (part.InPlace other) = bytes_eq (role_text role) (role_text other)
 has_part InPlace (part.InPlace other) = true
 has_part FileData part.FileData = true
 has_part Copy part.Copy = true
@@ -138,24 +114,12 @@ rules_of Full = journal_rules
 
 -- ---- an ordering of one's own
 
-abbrev pub is_same_part : RulePart → RulePart → Bool
-is_same_part (Change role) (Change other) = role_number role == role_number other
-is_same_part InPlace InPlace = true
-is_same_part FileData FileData = true
-is_same_part Copy Copy = true
-is_same_part Commit Commit = true
-is_same_part Done Done = true
-is_same_part _ _ = false
-
-abbrev pub is_same_scope : Scope → Scope → Bool
-is_same_scope Same Same = true
-is_same_scope Previous Previous = true
-is_same_scope _ _ = false
-
+-- two rules are one: their parts and scopes are written the same
 abbrev pub is_same_rule : Rule → Rule → Bool
 is_same_rule rule other =
-    is_same_part rule.later other.later
-    && (is_same_part rule.earlier other.earlier && is_same_scope rule.scope other.scope)
+    bytes_eq (rule_part_text rule.later) (rule_part_text other.later)
+    && (bytes_eq (rule_part_text rule.earlier) (rule_part_text other.earlier)
+    && bytes_eq (scope_text rule.scope) (scope_text other.scope))
 
 abbrev pub has_rule : List Rule → Rule → Bool
 has_rule rules rule = list_any (is_same_rule rule) rules
@@ -181,7 +145,3 @@ rules_put_in kind without with = rules_in_first with (kept_rules kind without)
 -- the rules of the module with some taken out and some put in at the end
 abbrev pub rules_under : Module → List Rule → List Rule → List Rule
 rules_under kind without with = kept_rules kind without ++ rules_put_in kind without with
-
--- each of some rules is among all of them
-abbrev pub AreAmong : List Rule → List Rule → Type 0
-AreAmong some all = All (Contains all) some

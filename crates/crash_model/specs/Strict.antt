@@ -2,7 +2,7 @@
 use Rattle.std.specs.Prelude.{◌≡◌, ℕ, zero, suc, ◌<◌, List, [], ◌∷◌, ◌++◌, Bool, true, false, ◌&&◌, ◌||◌, ◌==◌, not}
 use Rattle.std.specs.Prelude.{Option, Some, None}
 use Rattle.std.specs.List.{range_with_len, list_any}
-use Rattle.crash_model.specs.DiskBytes.{directory_kind}
+use Rattle.crash_model.specs.declared.disk_bytes.TheConstants.{DIRECTORY_KIND}
 use Rattle.patch_sets.specs.Sets.{has, ids_below}
 use Rattle.patch_sets.specs.Closed.{IsClosed}
 use Rattle.crash_model.specs.Disk.{Disk}
@@ -51,7 +51,7 @@ is_named d dir inode = list_any (λ k. leads_to d dir k inode) (range_with_len 0
 
 -- the inodes to which entries lead from inode 0, a directory, in at most so many steps, each to a live inode
 unfoldable pub reach_in : Disk → ℕ → List ℕ
-reach_in d zero = ids_below 16 (λ inode. inode == 0 && kind_of d 0 == directory_kind)
+reach_in d zero = ids_below 16 (λ inode. inode == 0 && kind_of d 0 == DIRECTORY_KIND)
 reach_in d (suc n) =
     let before = reach_in d n in
     ids_below 16 (λ inode. is_in before inode || (is_live d inode && list_any (λ dir. is_named d dir inode) before))
@@ -68,7 +68,7 @@ is_lost d kept inode = has kept inode && not (is_reached d inode)
 
 -- 8: a directory is reached and has no block
 abbrev pub lacks_block : Disk → ℕ → Bool
-lacks_block d inode = is_reached d inode && kind_of d inode == directory_kind && pointer_of d inode 0 == 0
+lacks_block d inode = is_reached d inode && kind_of d inode == DIRECTORY_KIND && pointer_of d inode 0 == 0
 
 -- the two by inode
 unfoldable pub strict_faults : ℕ → Disk → List Fault

@@ -3,7 +3,7 @@ use Rattle.std.specs.Prelude.{◌≡◌, ℕ, ◌+◌, ◌<◌, List, [], ◌∷
 use Rattle.std.specs.Prelude.{◌==◌, not, nat_lt, if◌then◌else◌, Option, Some, None, is_some, Result, Ok, Err, bytes_eq}
 use Rattle.std.specs.Prelude.{◌↔◌, slice_get, slice_index, IsTrue}
 use Rattle.std.specs.List.{range_with_len, list_any}
-use Rattle.crash_model.specs.DiskBytes.{committed_mark, done_mark}
+use Rattle.crash_model.specs.declared.disk_bytes.TheConstants.{COMMITTED_MARK, DONE_MARK}
 use Rattle.patch_sets.specs.Sets.{Has}
 use Rattle.patch_sets.specs.Closed.{AreEarlier}
 use Rattle.crash_model.specs.Disk.{Disk, block_of}
@@ -101,9 +101,9 @@ copies after turn j origin (b ∷ bs) =
 abbrev pub journal_patches : Disk → ℕ → ℕ → Origin → List ℕ → List Change → List Emitted
 journal_patches after turn j origin targets changes =
     copies after turn (j + 1) origin targets
-    ++ (part_of turn origin Commit j 0 (committed_mark ∷ turn ∷ length targets ∷ targets)
+    ++ (part_of turn origin Commit j 0 (COMMITTED_MARK ∷ turn ∷ length targets ∷ targets)
     ∷ (map (in_place_patch turn origin) changes
-    ++ (part_of turn origin Done j 0 (done_mark ∷ []) ∷ [])))
+    ++ (part_of turn origin Done j 0 (DONE_MARK ∷ []) ∷ [])))
 
 -- the operation with the file data that go ahead of it
 abbrev pub transaction : Disk → ℕ → ℕ → Origin → List Change → List Emitted

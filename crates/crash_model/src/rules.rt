@@ -1,8 +1,8 @@
 //! Rules that order patches.
 
-ghost use Rattle.std.specs.Prelude.{◌≡◌, MatchOption};
-ghost use Rattle.crash_model.specs.Rules.{has_part, are_scoped, part_text, rule_part_text, IsNoRulePart, is_same_part};
-ghost use Rattle.crash_model.specs.Rules.{is_same_scope, is_same_rule};
+ghost use Rattle.std.specs.Prelude.{◌≡◌, MatchOption, bytes_eq};
+ghost use Rattle.crash_model.specs.Rules.{has_part, are_scoped, part_text, rule_part_text, scope_text, is_same_rule};
+ghost use Rattle.crash_model.specs.RuleFacts.{IsNoRulePart};
 
 use crate::plans::Role;
 use std::fmt;
@@ -91,7 +91,7 @@ impl RulePart {
 
     /// Whether it is the same part.
     fn same(self, other: RulePart) -> bool
-        ensures { result ≡ is_same_part self other }
+        ensures { result ≡ bytes_eq (rule_part_text self) (rule_part_text other) }
     {
         self == other
     }
@@ -123,7 +123,7 @@ pub enum Scope {
 impl Scope {
     /// Whether it is the same scope.
     fn same(self, other: Scope) -> bool
-        ensures { result ≡ is_same_scope self other }
+        ensures { result ≡ bytes_eq (scope_text self) (scope_text other) }
     {
         self == other
     }
@@ -149,7 +149,8 @@ pub struct Rule {
 }
 
 impl Rule {
-    ghost use Rattle.crash_model.specs.Rules.{rule_text, IsNoRule};
+    ghost use Rattle.crash_model.specs.Rules.{rule_text};
+    ghost use Rattle.crash_model.specs.RuleFacts.{IsNoRule};
 
     /// The rule that is written so: `LATER:EARLIER`, or `LATER:previous-EARLIER`. `None` for any other text.
     pub fn read(text: &str) -> Option<Rule>

@@ -5,7 +5,7 @@ ghost use Rattle.crash_model.specs.Disk.{with_bytes, empty_disk, IsGeometry};
 ghost use Rattle.crash_model.specs.Sound.{IsSound, HasZeroJournal};
 
 use crate::image::Image;
-use crash_model::disk_bytes::{DIRECTORY, DIRECTORY_MARK};
+use crash_model::disk_bytes::{DIRECTORY_KIND, DIRECTORY_MARK};
 use std::alloc::{AllocError, Allocator};
 use thiserror::Error;
 
@@ -52,7 +52,7 @@ impl<A: Allocator + Copy> Image<A> {
         };
         image.put(0, 0, &[0x53, blocks as u8, journal as u8]);
         image.mark_used(5 + journal);
-        image.put(2, 0, &[DIRECTORY, 1, 0, 0, 4 + journal as u8]);
+        image.put(2, 0, &[DIRECTORY_KIND, 1, 0, 0, 4 + journal as u8]);
         image.put(4 + journal, 0, &[DIRECTORY_MARK, 0]);
         Ok(image)
     }

@@ -9,7 +9,7 @@ ghost use Rattle.crash_model.specs.Layout.{spelling_of};
 ghost use Rattle.crash_model.specs.Plan.{free_entry};
 
 use crate::image::Image;
-use crash_model::disk_bytes::{DIRECTORY, DIRECTORY_MARK, FREE};
+use crash_model::disk_bytes::{DIRECTORY_KIND, DIRECTORY_MARK, FREE_KIND};
 use std::alloc::Allocator;
 
 impl<A: Allocator + Copy> Image<A> {
@@ -42,7 +42,7 @@ impl<A: Allocator + Copy> Image<A> {
     pub fn is_live(&self, inode: u8) -> bool
         ensures { result ≡ is_live self.now inode }
     {
-        inode < 16 && self.kind(inode) != FREE
+        inode < 16 && self.kind(inode) != FREE_KIND
     }
 
     /// Whether a number is that of a block of the data area, which begins behind the journal.
@@ -67,7 +67,7 @@ impl<A: Allocator + Copy> Image<A> {
         ensures { result ≡ counts self.now dir }
     {
         let block = self.pointer(dir, 0);
-        self.kind(dir) == DIRECTORY
+        self.kind(dir) == DIRECTORY_KIND
             && self.is_data(block)
             && self.byte(block as usize, 0) == DIRECTORY_MARK
             && self.byte(block as usize, 1) == dir

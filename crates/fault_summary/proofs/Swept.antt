@@ -7,8 +7,7 @@ use Rattle.patch_sets.specs.Closed.{IsClosed}
 use Rattle.patch_sets.proofs.Lists.{in_none}
 use Rattle.set_sweep.specs.Sweeps.{IsAscendingListOf}
 use Rattle.crash_model.specs.Disk.{Disk}
-use Rattle.crash_model.specs.Failing.{CountsClosed}
-use Rattle.crash_model.specs.Patches.{deps_of}
+use Rattle.crash_model.specs.Patches.{CountsClosed, deps_of}
 use Rattle.crash_model.specs.Strict.{IsFailingUnder}
 use Rattle.crash_model.specs.Summary.{IsFaultBefore, HasFault, AreRows}
 use Rattle.crash_model.specs.declared.fault.Fault.{Fault}

@@ -2,8 +2,7 @@
 
 ghost use Rattle.std.specs.Prelude.{◌≡◌, ◌<◌, ◌≤◌, [], ◌∷◌, length, IfOk, IsErrOf};
 ghost use Rattle.patch_sets.specs.Closed.{AreEarlier, IsClosed};
-ghost use Rattle.crash_model.specs.Failing.{CountsClosed, ExceedsLimit};
-ghost use Rattle.crash_model.specs.Patches.{deps_of};
+ghost use Rattle.crash_model.specs.Patches.{CountsClosed, ExceedsLimit, deps_of};
 ghost use Rattle.crash_model.specs.Strict.{IsFailingUnder};
 ghost use Rattle.fault_summary.specs.Counted.{CountsFailing};
 ghost use Rattle.fault_summary.specs.Prevented.{AreCounted, IsAllowed, IsBad, IsEarlierOf};

@@ -8,7 +8,7 @@ ghost use Rattle.fs_check.specs.Passed.{HasCleanPointers, HasCleanEntries, HaveP
 ghost use Rattle.fs_check.specs.Passed.{is_right_block};
 ghost use Rattle.fs_check.specs.Strict.{IsNamedBy, AreDirectories};
 
-use crash_model::disk_bytes::{DIRECTORY, DIRECTORY_MARK, FILE, FILE_MARK};
+use crash_model::disk_bytes::{DIRECTORY_KIND, DIRECTORY_MARK, FILE_KIND, FILE_MARK};
 use disk_image::Image;
 use std::alloc::Allocator;
 
@@ -70,8 +70,8 @@ pub(crate) fn is_marked<A: Allocator + Copy>(image: &Image<A>, inode: u8, block:
 {
     let mark = image.byte(block as usize, 0);
     let is_right_mark = match image.kind(inode) {
-        FILE => mark == FILE_MARK,
-        DIRECTORY => mark == DIRECTORY_MARK,
+        FILE_KIND => mark == FILE_MARK,
+        DIRECTORY_KIND => mark == DIRECTORY_MARK,
         _ => false,
     };
     is_right_mark && image.byte(block as usize, 1) == inode
@@ -102,7 +102,7 @@ pub(crate) fn clean_directories<A: Allocator + Copy>(image: &Image<A>) -> Option
     let mut named = [0; 16];
     let mut inodes = 0;
     for dir in 0..16u8 {
-        if image.kind(dir) == DIRECTORY {
+        if image.kind(dir) == DIRECTORY_KIND {
             inodes = with_inode(inodes, dir);
             if image.counts(dir) {
                 named[dir as usize] = clean_directory(image, dir, &mut entries)?;

@@ -9,7 +9,7 @@ ghost use Rattle.fs_check.specs.Strict.{lost_at, bare_at, IsNamedBy, AreDirector
 
 use crate::clean::{Directories, clean_directories, has_clean_pointers, is_clean};
 use crate::list::push_some;
-use crash_model::disk_bytes::DIRECTORY;
+use crash_model::disk_bytes::DIRECTORY_KIND;
 use crash_model::fault::Fault;
 use disk_image::Image;
 use patch_sets::ends::{lowest, without};
@@ -45,7 +45,11 @@ fn loses_nothing<A: Allocator + Copy>(image: &Image<A>, found: &Directories, kep
     requires { AreDirectories image.now found.now }
     ensures { IsTrue result ↔ LosesNothing kept image.now }
 {
-    let mut reached = if image.kind(0) == DIRECTORY { 1 } else { 0 };
+    let mut reached = if image.kind(0) == DIRECTORY_KIND {
+        1
+    } else {
+        0
+    };
     let mut unread = u128::from(found.inodes);
     while let Some(next) = lowest(reached & unread) {
         if image.pointer(next as u8, 0) == 0 {
@@ -61,7 +65,11 @@ fn loses_nothing<A: Allocator + Copy>(image: &Image<A>, found: &Directories, kep
 pub(crate) fn reached<A: Allocator + Copy>(image: &Image<A>) -> u128
     ensures { (inode : ℕ) → has result inode ≡ is_reached image.now inode }
 {
-    let mut reached = if image.kind(0) == DIRECTORY { 1 } else { 0 };
+    let mut reached = if image.kind(0) == DIRECTORY_KIND {
+        1
+    } else {
+        0
+    };
     let mut unread = 0xFFFF;
     while let Some(dir) = lowest(reached & unread) {
         unread = without(unread, dir);
@@ -142,7 +150,7 @@ fn bare_at<A: Allocator + Copy>(image: &Image<A>, reached: u128, inode: u8) -> O
     ensures { result ≡ bare_at image.now inode }
 {
     let is_bare = has(reached, usize::from(inode))
-        && image.kind(inode) == DIRECTORY
+        && image.kind(inode) == DIRECTORY_KIND
         && image.pointer(inode, 0) == 0;
     is_bare.then_some(Fault::NoBlock { inode })
 }

@@ -16,7 +16,8 @@ use Rattle.crash_model.specs.declared.refusals.FsFault.{FsFault}
 use Rattle.inode_fs.specs.Inside.{GivesName}
 use Rattle.crash_model.specs.Replay.{is_header, headers_from, headers, copy_in, copy_after, count_of, targets_of, image_after_replay}
 use Rattle.crash_model.specs.Trace.{Emitted, Origin, Tracing, trace_start, trace_from, journal_patches, copies, in_place_patch, part_of, touched_blocks, IsGraphOf}
-use Rattle.crash_model.specs.Rules.{AreAmong, journal_rules}
+use Rattle.crash_model.specs.Rules.{journal_rules}
+use Rattle.crash_model.specs.RuleFacts.{AreAmong}
 use Rattle.crash_model.specs.declared.rules.Part.TheVariants.{Commit, Done}
 use Rattle.crash_model.specs.declared.rules.Rule.{Rule}
 use Rattle.crash_model.proofs.Dependence.{depends-among}

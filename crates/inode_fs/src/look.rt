@@ -9,7 +9,7 @@ ghost use Rattle.crash_model.specs.Plan.{free_block, free_slot, has_entries};
 ghost use Rattle.crash_model.specs.declared.plans.Change.{Change};
 ghost use Rattle.crash_model.specs.declared.refusals.FsFault.{FsFault};
 
-use crash_model::disk_bytes::{DIRECTORY, FREE};
+use crash_model::disk_bytes::{DIRECTORY_KIND, FREE_KIND};
 use crash_model::names::{Name, Path};
 use crash_model::refusals::FsFault;
 use disk_image::Image;
@@ -59,7 +59,7 @@ fn enter<A: Allocator + Copy>(image: &Image<A>, dir: u8, name: &Name) -> Result<
         None => Err(FsFault::NotFound),
         Some(k) => {
             let inode = image.entry(dir, k) - 1;
-            if image.kind(inode) == DIRECTORY {
+            if image.kind(inode) == DIRECTORY_KIND {
                 Ok(inode)
             } else {
                 Err(FsFault::NotADirectory)
@@ -110,7 +110,7 @@ pub fn free_inode<A: Allocator + Copy>(image: &Image<A>) -> Option<u8>
     ensures within { IfSome result (λ i. i < 16) }
 {
     for i in 0..16u8 {
-        if image.kind(i) == FREE {
+        if image.kind(i) == FREE_KIND {
             return Some(i);
         }
     }

@@ -22,7 +22,7 @@ use crate::changes::{
 };
 use crate::look::{Entry, entry_named, find, free_block, free_inode, free_slot, has_entries, walk};
 use arrayvec::ArrayVec;
-use crash_model::disk_bytes::{DIRECTORY, DIRECTORY_MARK, FILE, FILE_MARK};
+use crash_model::disk_bytes::{DIRECTORY_KIND, DIRECTORY_MARK, FILE_KIND, FILE_MARK};
 use crash_model::names::Path;
 use crash_model::operations::Op;
 use crash_model::plans::{Plan, Role};
@@ -89,7 +89,7 @@ fn create<A: Allocator + Copy>(image: &Image<A>, path: &Path) -> Result<Plan, Fs
     let inode = free_inode(image).ok_or(FsFault::NoInode)?;
     let place = image.free_entry(dir).ok_or(FsFault::DirectoryFull)?;
     let mut plan = ArrayVec::new();
-    plan.push(inode_init(inode, FILE));
+    plan.push(inode_init(inode, FILE_KIND));
     plan.push(entry_set(image, dir, place, inode, &path.last));
     Ok(plan)
 }
@@ -101,7 +101,7 @@ fn write<A: Allocator + Copy>(image: &Image<A>, path: &Path) -> Result<Plan, FsF
         plan_of image.now (Write path.now) ≡ Err fault) }
 {
     let target = find(image, path)?.target;
-    if image.kind(target) != FILE {
+    if image.kind(target) != FILE_KIND {
         return Err(FsFault::NotAFile);
     }
     let block = free_block(image).ok_or(FsFault::NoBlock)?;
@@ -144,7 +144,7 @@ fn further_name<A: Allocator + Copy>(
     if entry_named(image, dir, &new.last).is_some() {
         return Err(FsFault::Exists);
     }
-    if image.kind(old.target) != FILE {
+    if image.kind(old.target) != FILE_KIND {
         return Err(FsFault::NotAFile);
     }
     let place = image.free_entry(dir).ok_or(FsFault::DirectoryFull)?;
@@ -181,7 +181,7 @@ fn unlink<A: Allocator + Copy>(image: &Image<A>, path: &Path) -> Result<Plan, Fs
         plan_of image.now (Unlink path.now) ≡ Err fault) }
 {
     let Entry { dir, place, target } = find(image, path)?;
-    if image.kind(target) != FILE {
+    if image.kind(target) != FILE_KIND {
         return Err(FsFault::NotAFile);
     }
     let mut plan = ArrayVec::new();
@@ -227,7 +227,7 @@ fn mkdir<A: Allocator + Copy>(image: &Image<A>, path: &Path) -> Result<Plan, FsF
     let block = free_block(image).ok_or(FsFault::NoBlock)?;
     let place = image.free_entry(dir).ok_or(FsFault::DirectoryFull)?;
     let mut plan = ArrayVec::new();
-    plan.push(inode_init(inode, DIRECTORY));
+    plan.push(inode_init(inode, DIRECTORY_KIND));
     plan.push(map_set(block));
     plan.push(init_block(Role::InitDir, block, DIRECTORY_MARK, inode));
     plan.push(pointer_set(inode, 0, block));
@@ -242,7 +242,7 @@ fn rmdir<A: Allocator + Copy>(image: &Image<A>, path: &Path) -> Result<Plan, FsF
         plan_of image.now (Rmdir path.now) ≡ Err fault) }
 {
     let Entry { dir, place, target } = find(image, path)?;
-    if image.kind(target) != DIRECTORY {
+    if image.kind(target) != DIRECTORY_KIND {
         return Err(FsFault::NotADirectory);
     }
     if has_entries(image, target) {

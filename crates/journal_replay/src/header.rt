@@ -6,7 +6,7 @@ ghost use Rattle.crash_model.specs.Disk.{block_of};
 ghost use Rattle.crash_model.specs.Replay.{is_ascending, is_header, is_target};
 ghost use Rattle.journal_replay.specs.Header.{IsHeaderAt};
 
-use crash_model::disk_bytes::{COMMITTED, DONE};
+use crash_model::disk_bytes::{COMMITTED_MARK, DONE_MARK};
 use disk_image::Image;
 use std::alloc::Allocator;
 use std::marker::Model;
@@ -62,7 +62,7 @@ pub fn header_at<A: Allocator + Copy>(image: &Image<A>, at: usize, turn: usize) 
     let mut numbers = [0; 8];
     numbers.copy_from_slice(&row[3..11]);
     Some(Header {
-        committed: row[0] == COMMITTED,
+        committed: row[0] == COMMITTED_MARK,
         count: usize::from(row[2]),
         numbers,
     })
@@ -76,7 +76,7 @@ fn is_header<A: Allocator + Copy>(image: &Image<A>, row: &[u8], at: usize, turn:
 {
     let count = usize::from(row[2]);
     at < 4 + image.journal()
-        && (row[0] == COMMITTED || row[0] == DONE)
+        && (row[0] == COMMITTED_MARK || row[0] == DONE_MARK)
         && usize::from(row[1]) == turn
         && 1 <= count
         && count <= 8

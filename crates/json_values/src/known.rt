@@ -57,8 +57,20 @@ impl KnownTexts {
     pub fn new(heap: Global, patches: usize) -> Result<KnownTexts, AllocError>
         ensures { IfOk result (λ known. known ≡ patches) }
     {
-        let writes = empty_places(heap, WRITE_PLACES)?;
-        let faults = empty_places(heap, FAULT_PLACES)?;
+        let mut writes = Vec::new(heap);
+        writes.resize_with(
+            WRITE_PLACES,
+            ||
+                ensures { result ≡ None }
+            { None },
+        )?;
+        let mut faults = Vec::new(heap);
+        faults.resize_with(
+            FAULT_PLACES,
+            ||
+                ensures { result ≡ None }
+            { None },
+        )?;
         Ok(KnownTexts {
             patches,
             writes,
@@ -148,18 +160,6 @@ impl KnownTexts {
         let place = place_of_fault(fault);
         self.faults[place] = Some(KnownFault { fault, text });
     }
-}
-
-/// So many places, all empty.
-fn empty_places<T: Drop>(heap: Global, count: usize) -> Result<Vec<Option<T>>, AllocError>
-    ensures long { IfOk result (λ places. length places.items ≡ count) }
-    ensures empty { IfOk result (λ places. All (λ place. place ≡ None) places.items) }
-{
-    let mut places = Vec::new(heap);
-    for _ in 0..count {
-        places.push(None)?;
-    }
-    Ok(places)
 }
 
 /// The object of a block write: its block, and the ids of its patches.

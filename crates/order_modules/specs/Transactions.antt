@@ -1,7 +1,7 @@
 -- The patches of a transaction of the journal, for both journals.
 use Rattle.std.specs.Prelude.{ℕ, ◌+◌, ◌==◌, List, [], ◌∷◌, ◌++◌, length, map, Bool, false, not}
 use Rattle.std.specs.List.{filter, list_any, range_with_len}
-use Rattle.crash_model.specs.DiskBytes.{committed_mark, done_mark}
+use Rattle.crash_model.specs.declared.disk_bytes.TheConstants.{COMMITTED_MARK, DONE_MARK}
 use Rattle.crash_model.specs.Disk.{Disk}
 use Rattle.crash_model.specs.Trace.{Emitted, Origin, is_file_data, in_place_patch, part_of, copies}
 use Rattle.crash_model.specs.declared.rules.Part.TheVariants.{FileData, Commit, Done}
@@ -38,6 +38,6 @@ abbrev pub transaction_of : Module → Disk → ℕ → ℕ → Origin → List 
 transaction_of kind after turn j origin targets changes =
     map (file_data turn origin) (changes_ahead kind changes)
     ++ (copies after turn (j + 1) origin targets
-    ++ (part_of turn origin Commit j 0 (committed_mark ∷ turn ∷ length targets ∷ targets)
+    ++ (part_of turn origin Commit j 0 (COMMITTED_MARK ∷ turn ∷ length targets ∷ targets)
     ∷ (map (in_place_patch turn origin) (changes_in_place kind changes)
-    ++ (part_of turn origin Done j 0 (done_mark ∷ []) ∷ []))))
+    ++ (part_of turn origin Done j 0 (DONE_MARK ∷ []) ∷ []))))

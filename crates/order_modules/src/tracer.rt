@@ -4,7 +4,8 @@ ghost use Rattle.std.specs.Prelude.{◌≡◌, ◌≢◌, ℕ, ◌+◌, ◌<◌,
 ghost use Rattle.crash_model.specs.Trace.{Tracing, trace_start, trace_of_plan, step as step_of, trace_from, IsGraphOf};
 ghost use Rattle.crash_model.specs.Disk.{IsDisk};
 ghost use Rattle.crash_model.specs.Plan.{plan_of};
-ghost use Rattle.crash_model.specs.Rules.{AreAmong, rules_of};
+ghost use Rattle.crash_model.specs.Rules.{rules_of};
+ghost use Rattle.crash_model.specs.RuleFacts.{AreAmong};
 ghost use Rattle.crash_model.specs.declared.refusals.TraceFault.TheVariants as fault;
 ghost use Rattle.crash_model.specs.Sound.{IsSound, HasZeroJournal};
 ghost use Rattle.crash_model.specs.declared.modules.Module.TheVariants.{Full};

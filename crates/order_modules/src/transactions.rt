@@ -2,7 +2,7 @@
 
 ghost use Rattle.std.specs.Prelude.{◌≡◌, ℕ, ◌+◌, ◌<◌, ◌≤◌, ◌==◌, [], ◌∷◌, ◌++◌, length, map, IsTrue, OnOk};
 ghost use Rattle.std.specs.List.{All, list_any, filter, range_with_len};
-ghost use Rattle.crash_model.specs.DiskBytes.{committed_mark, done_mark};
+ghost use Rattle.crash_model.specs.declared.disk_bytes.TheConstants.{COMMITTED_MARK, DONE_MARK};
 ghost use Rattle.crash_model.specs.Trace.{in_place_patch, part_of, copies};
 ghost use Rattle.crash_model.specs.declared.rules.Part.TheVariants as part;
 ghost use Rattle.inode_fs.specs.Inside.{LiesInside};
@@ -13,7 +13,7 @@ ghost use Rattle.order_modules.specs.Transactions.{targets_of, transaction_of};
 
 use crate::log::PatchLog;
 use arrayvec::ArrayVec;
-use crash_model::disk_bytes::{COMMITTED, DONE};
+use crash_model::disk_bytes::{COMMITTED_MARK, DONE_MARK};
 use crash_model::modules::Module;
 use crash_model::plans::{Change, Role};
 use crash_model::rules::Part;
@@ -154,11 +154,11 @@ impl<'a, A: Allocator + Copy> PatchLog<'a, A> {
         requires room { length self.old.emitted < 124 }
         ensures ok { OnOk result (Adds self.old self.new
             (part_of turn (origin_by origin.entry) part.Commit header 0
-            (committed_mark ∷ turn ∷ length targets.now ∷ targets.now) ∷ [])) }
+            (COMMITTED_MARK ∷ turn ∷ length targets.now ∷ targets.now) ∷ [])) }
         ensures kept { Keeps self.old self.new }
     {
         let mut bytes: ArrayVec<u8, 128> = ArrayVec::new();
-        bytes.push(COMMITTED);
+        bytes.push(COMMITTED_MARK);
         bytes.push(turn as u8);
         bytes.push(targets.len() as u8);
         for target in targets {
@@ -203,7 +203,7 @@ impl<'a, A: Allocator + Copy> PatchLog<'a, A> {
         requires block { header < self.old.base.blocks }
         requires room { length self.old.emitted < 124 }
         ensures ok { OnOk result (Adds self.old self.new
-            (part_of turn (origin_by origin.entry) part.Done header 0 (done_mark ∷ []) ∷ [])) }
+            (part_of turn (origin_by origin.entry) part.Done header 0 (DONE_MARK ∷ []) ∷ [])) }
         ensures kept { Keeps self.old self.new }
     {
         let label = Label {
@@ -211,6 +211,6 @@ impl<'a, A: Allocator + Copy> PatchLog<'a, A> {
             turn,
             origin,
         };
-        self.emit(label, header, 0, &[DONE])
+        self.emit(label, header, 0, &[DONE_MARK])
     }
 }

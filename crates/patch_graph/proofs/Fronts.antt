@@ -6,7 +6,8 @@ use Rattle.std.proofs.lemmas.List.{length-map}
 use Rattle.std.proofs.lemmas.Nat.{and_le_l}
 use Rattle.std.proofs.lemmas.Nat.Bits.{bit_at_and, bit_at-lt}
 use Rattle.patch_sets.specs.Sets.{Has, with_id, ids_below}
-use Rattle.patch_sets.specs.Closed.{AreEarlier, IsClosed, IsReady, is_ready, successors_of}
+use Rattle.patch_sets.specs.Closed.{AreEarlier, IsClosed}
+use Rattle.patch_sets.specs.Ready.{IsReady, is_ready, successors_of}
 use Rattle.patch_sets.specs.Ends.{IsLowest, IsWithout, IsDifference}
 use Rattle.patch_sets.proofs.Bits.{eq_or_not, none_in_empty}
 use Rattle.patch_sets.proofs.Ids.{fewer_before}

@@ -3,7 +3,7 @@ use Rattle.std.proofs.Common.{◌≡◌, ℕ, ◌+◌, ◌<◌, Bool, true, fals
 use Rattle.std.specs.Prelude.{◌↔◌, slice_index}
 use Rattle.std.proofs.lemmas.List.{get_or-map, length-map}
 use Rattle.patch_sets.specs.Sets.{Has, IsSubset, with_id, ids_below}
-use Rattle.patch_sets.specs.Closed.{IsReady, is_ready, successors_of}
+use Rattle.patch_sets.specs.Ready.{IsReady, is_ready, successors_of}
 use Rattle.patch_sets.proofs.Bits.{eq_or_not, none_in_empty, in_with_same, in_with_old, in_with_cases}
 use Rattle.patch_sets.proofs.Ids.{ids_more, ids_push, id_at, fewer_before}
 

@@ -1,7 +1,7 @@
 -- What a walk over the ready ids of a closed set keeps.
 use Rattle.std.specs.Prelude.{◌≡◌, ℕ, ◌<◌, ◌≤◌, ◌⊎◌, List, length, slice_index}
 use Rattle.patch_sets.specs.Sets.{Has, ids_below}
-use Rattle.patch_sets.specs.Closed.{IsReady, is_ready}
+use Rattle.patch_sets.specs.Ready.{IsReady, is_ready}
 
 -- What is left of the ids outside a set: none is below `from`, each dependency of one is in the set or is left, and
 -- each ready id from there on is left.

@@ -10,3 +10,4 @@ pub mod Stepped
 pub mod Successors
 pub mod Writes
 pub mod Parts
+pub mod Results

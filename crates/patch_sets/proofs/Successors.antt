@@ -7,7 +7,8 @@ use Rattle.std.proofs.Math.Nat.{mod-eq_of_lt}
 use Rattle.state_space.specs.Reach.{IsReached}
 use Rattle.state_space.proofs.Runs.{reached_start, reached_next, along}
 use Rattle.patch_sets.specs.Sets.{Has, has, with_id, ids_below}
-use Rattle.patch_sets.specs.Closed.{AreEarlier, IsClosed, IsReady, is_ready, successors_of}
+use Rattle.patch_sets.specs.Closed.{AreEarlier, IsClosed}
+use Rattle.patch_sets.specs.Ready.{IsReady, is_ready, successors_of}
 use Rattle.patch_sets.proofs.Bits.{eq_or_not, none_in_empty, same_set, subset_from_and, and_from_subset, in_with_same, in_with_old, in_with_cases, in_low, from_low, small_from_below}
 use Rattle.patch_sets.proofs.Ids.{true_from_eq, eq_from_true, false_from_ne, ne_from_false, from_ids, to_ids}
 

@@ -1,5 +1,6 @@
 pub mod Sets
 pub mod Closed
+pub mod Ready
 pub mod Machine
 pub mod Writes
 pub mod Ends

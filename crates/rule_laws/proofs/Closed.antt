@@ -8,7 +8,7 @@ use Rattle.crash_model.specs.Failing.{IsFailing}
 use Rattle.crash_model.specs.Faults.{IsClean}
 use Rattle.crash_model.specs.Patches.{Place, place, places_of, deps_of, image_from}
 use Rattle.crash_model.specs.Replay.{image_after_replay}
-use Rattle.crash_model.specs.Rules.{AreAmong}
+use Rattle.crash_model.specs.RuleFacts.{AreAmong}
 use Rattle.crash_model.specs.Strict.{IsCleanUnder, IsFailingUnder}
 use Rattle.crash_model.specs.Trace.{Emitted, Tracing, IsGraphOf}
 use Rattle.crash_model.specs.declared.patches.Patch.{Patch}

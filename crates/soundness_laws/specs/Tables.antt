@@ -1,7 +1,7 @@
 -- What an image says, as functions of numbers: no bytes and no offsets.
 use Rattle.std.specs.Prelude.{◌≡◌, ◌≢◌, ℕ, zero, suc, ◌+◌, ◌<◌, ◌≤◌, ◌↔◌, List, Bool, true, false, ◌&&◌, ◌==◌, not}
 use Rattle.std.specs.Prelude.{nat_lt, if◌then◌else◌}
-use Rattle.crash_model.specs.DiskBytes.{free_kind, file_kind, directory_kind, file_mark, directory_mark}
+use Rattle.crash_model.specs.declared.disk_bytes.TheConstants.{FREE_KIND, FILE_KIND, DIRECTORY_KIND, FILE_MARK, DIRECTORY_MARK}
 use Rattle.crash_model.specs.Disk.{Disk, byte}
 use Rattle.crash_model.specs.Names.{IsName}
 use Rattle.crash_model.specs.Layout.{kind_of, links_of, pointer_of, map_of, is_data, counts, entry_of, spelling_of}
@@ -38,8 +38,8 @@ place_at true (suc inode) spelling = Leads inode spelling
 
 abbrev pub mark_at : Bool → ℕ → ℕ → Mark
 mark_at test first second =
-    if test && first == file_mark then FileOf second else if test
-    && first == directory_mark then DirectoryOf second else Plain
+    if test && first == FILE_MARK then FileOf second else if test
+    && first == DIRECTORY_MARK then DirectoryOf second else Plain
 
 -- f below n, and above it nothing
 abbrev pub within : {X : Type 0} → X → ℕ → (ℕ → X) → ℕ → X
@@ -97,11 +97,11 @@ abbrev pub NameIn : Tables → ℕ → List ℕ → ℕ → Type 0
 NameIn t dir name inode = (place : ℕ) × (t.entry dir place ≡ Leads inode (name_spelling name))
 
 abbrev pub InodeIn : Tables → ℕ → ℕ → ℕ → Type 0
-InodeIn t inode kind links = (t.kind inode ≡ kind) × (t.links inode ≡ links) × (kind ≢ free_kind)
+InodeIn t inode kind links = (t.kind inode ≡ kind) × (t.links inode ≡ links) × (kind ≢ FREE_KIND)
 
 -- a slot of a live inode names a block
 abbrev pub HasPointer : (ℕ → ℕ) → (ℕ → ℕ → ℕ) → ℕ → ℕ → ℕ → Type 0
-HasPointer kind pointer i s b = (kind i ≢ free_kind) × (pointer i s ≡ b) × (b ≢ 0)
+HasPointer kind pointer i s b = (kind i ≢ FREE_KIND) × (pointer i s ≡ b) × (b ≢ 0)
 
 abbrev pub UsedIn : Tables → ℕ → Type 0
 UsedIn t block = (4 + t.journal ≤ block) × (t.used block ≡ true)
@@ -119,7 +119,7 @@ pub record SameView (v w : View) : Type 0 where
 -- ---- what operations make of them
 
 abbrev pub tables_after_create : Tables → ℕ → ℕ → ℕ → List ℕ → Tables
-tables_after_create t dir k i name = with_entry (with_inode t i file_kind 1) dir k (Leads i (name_spelling name))
+tables_after_create t dir k i name = with_entry (with_inode t i FILE_KIND 1) dir k (Leads i (name_spelling name))
 
 -- a file has one more block
 abbrev pub tables_after_write : Tables → ℕ → ℕ → ℕ → Tables
@@ -136,7 +136,7 @@ tables_after_unlink t dir k i links = with_links (with_entry t dir k Free) i lin
 -- an inode is gone with its name, and these blocks are in use
 abbrev pub tables_after_removal : Tables → ℕ → ℕ → ℕ → (ℕ → Bool) → Tables
 tables_after_removal t dir k i used = record t {
-  kind = with_value t.kind i free_kind;
+  kind = with_value t.kind i FREE_KIND;
   links = with_value t.links i 0;
   pointer = with_value t.pointer i (λ _. 0);
   used = used;
@@ -147,7 +147,7 @@ tables_after_removal t dir k i used = record t {
 abbrev pub tables_after_mkdir : Tables → ℕ → ℕ → ℕ → ℕ → List ℕ → Tables
 tables_after_mkdir t dir k i b name =
     with_entry
-    (with_pointer (with_mark (with_used (with_inode t i directory_kind 1) b true) b (DirectoryOf i)) i 0 b)
+    (with_pointer (with_mark (with_used (with_inode t i DIRECTORY_KIND 1) b true) b (DirectoryOf i)) i 0 b)
     dir k (Leads i (name_spelling name))
 
 -- ---- sound tables: four groups of facts, each said of the tables that it needs and of no other
@@ -175,36 +175,36 @@ pub record SoundBlocks (blocks journal : ℕ) (kind : ℕ → ℕ) (pointer : �
     (used : ℕ → Bool) : Type 0 where
   pub slots : (i s : ℕ) → pointer i s ≢ 0 → s < 4
   pub once : (b i s j r : ℕ) → HasPointer kind pointer i s b → HasPointer kind pointer j r b → (i ≡ j) × (s ≡ r)
-  pub file_blocks : (i s b : ℕ) → HasPointer kind pointer i s b → kind i ≡ file_kind → mark b ≡ FileOf i
-  pub directory_blocks : (i s b : ℕ) → HasPointer kind pointer i s b → kind i ≡ directory_kind → mark b ≡ DirectoryOf i
+  pub file_blocks : (i s b : ℕ) → HasPointer kind pointer i s b → kind i ≡ FILE_KIND → mark b ≡ FileOf i
+  pub directory_blocks : (i s b : ℕ) → HasPointer kind pointer i s b → kind i ≡ DIRECTORY_KIND → mark b ≡ DirectoryOf i
   pub in_data_area : (i s b : ℕ) → HasPointer kind pointer i s b → (4 + journal ≤ b) × (b < blocks)
   pub root_block : pointer 0 0 ≡ 4 + journal
-  pub one_block : (i : ℕ) → kind i ≡ directory_kind → (pointer i 0 ≢ 0) × ((s : ℕ) → s ≢ 0 → pointer i s ≡ 0)
-  pub packed : (i s : ℕ) → kind i ≡ file_kind → pointer i s ≡ 0 → pointer i (s + 1) ≡ 0
+  pub one_block : (i : ℕ) → kind i ≡ DIRECTORY_KIND → (pointer i 0 ≢ 0) × ((s : ℕ) → s ≢ 0 → pointer i s ≡ 0)
+  pub packed : (i s : ℕ) → kind i ≡ FILE_KIND → pointer i s ≡ 0 → pointer i (s + 1) ≡ 0
   pub low_used : (b : ℕ) → b < 4 + journal → used b ≡ true
   pub named_used : (i s b : ℕ) → HasPointer kind pointer i s b → used b ≡ true
   pub used_named : (b : ℕ) → 4 + journal ≤ b → used b ≡ true → (i : ℕ) × (s : ℕ) × HasPointer kind pointer i s b
 
 pub record SoundInodes (kind links : ℕ → ℕ) : Type 0 where
-  pub below : (i : ℕ) → kind i ≢ free_kind → i < 16
-  pub root : (kind 0 ≡ directory_kind) × (links 0 ≡ 1)
+  pub below : (i : ℕ) → kind i ≢ FREE_KIND → i < 16
+  pub root : (kind 0 ≡ DIRECTORY_KIND) × (links 0 ≡ 1)
   pub kinds : (i : ℕ) → kind i < 3
-  pub one_name : (i : ℕ) → kind i ≡ directory_kind → links i ≡ 1
-  pub few_names : (i : ℕ) → kind i ≡ file_kind → (1 ≤ links i) × (links i ≤ 8)
+  pub one_name : (i : ℕ) → kind i ≡ DIRECTORY_KIND → links i ≡ 1
+  pub few_names : (i : ℕ) → kind i ≡ FILE_KIND → (1 ≤ links i) × (links i ≤ 8)
 
 pub record SoundNames (kind : ℕ → ℕ) (entry : ℕ → ℕ → Place) : Type 0 where
   pub places : (dir k i : ℕ) (spelling : List ℕ) → entry dir k ≡ Leads i spelling → (dir < 16) × (k < 10)
-  pub parents : (dir k i : ℕ) (spelling : List ℕ) → entry dir k ≡ Leads i spelling → kind dir ≡ directory_kind
-  pub no_dangling : (dir k i : ℕ) (spelling : List ℕ) → entry dir k ≡ Leads i spelling → kind i ≢ free_kind
+  pub parents : (dir k i : ℕ) (spelling : List ℕ) → entry dir k ≡ Leads i spelling → kind dir ≡ DIRECTORY_KIND
+  pub no_dangling : (dir k i : ℕ) (spelling : List ℕ) → entry dir k ≡ Leads i spelling → kind i ≢ FREE_KIND
   pub no_way_up : (dir k i : ℕ) (spelling : List ℕ) → entry dir k ≡ Leads i spelling → i ≢ 0
   pub named : (dir k i : ℕ) (spelling : List ℕ) → entry dir k ≡ Leads i spelling → (name : List ℕ) × IsName name
       × (spelling ≡ name_spelling name)
   pub distinct : (dir j k i h : ℕ) (spelling : List ℕ) → entry dir j ≡ Leads i spelling → entry dir k ≡ Leads h spelling
       → j ≡ k
-  pub reached : (i : ℕ) → kind i ≢ free_kind → (n : ℕ) × ReachedIn entry n i
+  pub reached : (i : ℕ) → kind i ≢ FREE_KIND → (n : ℕ) × ReachedIn entry n i
 
 pub record SoundCounts (kind links : ℕ → ℕ) (entry : ℕ → ℕ → Place) : Type 0 where
-  pub counted : (i : ℕ) → i ≢ 0 → kind i ≢ free_kind → count_to entry i ≡ links i
+  pub counted : (i : ℕ) → i ≢ 0 → kind i ≢ FREE_KIND → count_to entry i ≡ links i
 
 pub record Sound (t : Tables) : Type 0 where
   pub blocks : SoundBlocks t.blocks t.journal t.kind t.pointer t.mark t.used

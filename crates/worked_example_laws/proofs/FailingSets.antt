@@ -15,10 +15,10 @@ use Rattle.patch_sets.proofs.Canonical.{ordered_from_next}
 use Rattle.patch_sets.proofs.Ids.{eq_from_true, true_from_eq}
 use Rattle.crash_model.specs.Rules.{rules_of}
 use Rattle.crash_model.specs.Disk.{Disk}
-use Rattle.crash_model.specs.Patches.{deps_of, image_of}
+use Rattle.crash_model.specs.Patches.{deps_of, image_of, CountsClosed}
 use Rattle.crash_model.specs.Replay.{image_after_replay}
 use Rattle.crash_model.specs.Faults.{faults}
-use Rattle.crash_model.specs.Failing.{IsFailing, CountsClosed}
+use Rattle.crash_model.specs.Failing.{IsFailing}
 use Rattle.crash_model.specs.Strict.{faults_under, strict_faults, IsFailingUnder}
 use Rattle.crash_model.specs.declared.fault.Fault.{Fault}
 use Rattle.crash_model.specs.Trace.{Tracing, trace_start, trace_from}

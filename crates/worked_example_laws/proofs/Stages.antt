@@ -3,7 +3,7 @@ use Rattle.std.proofs.Common.{◌≡◌, ℕ, List, refl, sym, subst, inl, inr}
 use Rattle.std.specs.Prelude.{◌⊎◌, Option, Result, Ok, Err}
 use Rattle.crash_model.specs.Answer.{Answer, Refused, Reported, HasBase, HasGraph, IsReport, IsAnswer, ordering_rules, bad_script, bad_geometry, bad_base, bad_trace, too_many, reported}
 use Rattle.crash_model.specs.Disk.{Disk, empty_disk, IsGeometry}
-use Rattle.crash_model.specs.Failing.{ExceedsLimit}
+use Rattle.crash_model.specs.Patches.{ExceedsLimit}
 use Rattle.crash_model.specs.Refusals.{run_of_script, run_of_trace}
 use Rattle.crash_model.specs.Script.{IsScript, IsScriptRefusal}
 use Rattle.crash_model.specs.Strict.{IsToldKept}

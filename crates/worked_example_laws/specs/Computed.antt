@@ -4,17 +4,17 @@ use Rattle.std.specs.Prelude.{◌≡◌, ℕ, zero, suc, ◌+◌, ◌*◌, ◌/�
 use Rattle.std.specs.Prelude.{true, false, not, ◌==◌, ◌&&◌, ◌||◌, nat_lt, nat_le, if◌then◌else◌, Option, Some, None}
 use Rattle.std.specs.Prelude.{Result, Ok, Err, slice_get, slice_index, slice_range, bit_and, bytes_eq, flat_map, ◌^◌}
 use Rattle.std.specs.List.{list_any, list_all}
-use Rattle.crash_model.specs.DiskBytes.{directory_kind}
+use Rattle.crash_model.specs.declared.disk_bytes.TheConstants.{DIRECTORY_KIND}
 use Rattle.state_space.specs.Counts.{HoldsOf}
 use Rattle.patch_sets.specs.Sets.{has, with_id, ids_of, AreAllInOrder}
 use Rattle.patch_sets.specs.Closed.{IsClosed}
-use Rattle.crash_model.specs.Failing.{IsFailing, CountsClosed}
+use Rattle.crash_model.specs.Failing.{IsFailing}
+use Rattle.crash_model.specs.Patches.{CountsClosed, deps_of, homes_of, image_of}
 use Rattle.patch_sets.specs.declared.write.BlockWrite.{BlockWrite}
 use Rattle.crash_model.specs.Report.{replay_of, Section}
 use Rattle.crash_model.specs.Strict.{faults_under, stays_live}
 use Rattle.crash_model.specs.Disk.{Disk, byte, with_bytes}
 use Rattle.crash_model.specs.Layout.{kind_of, links_of, pointer_of, map_of, is_live, counts, is_entry}
-use Rattle.crash_model.specs.Patches.{deps_of, homes_of, image_of}
 use Rattle.crash_model.specs.Faults.{faults}
 use Rattle.crash_model.specs.Replay.{image_after_replay}
 use Rattle.crash_model.specs.Rules.{rules_of}
@@ -176,7 +176,7 @@ has_no_entries d = all_below 16 (λ dir. all_below 10 (λ k. not (is_entry d dir
 -- no inode is live but the root's, which is a directory with one link
 abbrev pub has_root_alone : Disk → Bool
 has_root_alone d =
-    all_below 16 (λ i. not (is_live d i) || i == 0) && (kind_of d 0 == directory_kind && links_of d 0 == 1)
+    all_below 16 (λ i. not (is_live d i) || i == 0) && (kind_of d 0 == DIRECTORY_KIND && links_of d 0 == 1)
 
 -- the root has its block alone
 abbrev pub has_root_block : Disk → Bool

@@ -2,7 +2,8 @@
 
 ghost use Rattle.std.specs.Prelude.{◌≡◌, [], ◌∷◌};
 ghost use Rattle.state_space.specs.Counts.{HoldsOf};
-ghost use Rattle.crash_model.specs.Failing.{CountsClosed, IsFailing};
+ghost use Rattle.crash_model.specs.Failing.{IsFailing};
+ghost use Rattle.crash_model.specs.Patches.{CountsClosed};
 ghost use Rattle.crash_model.specs.declared.modules.Module.TheVariants.{Async, Soft};
 ghost use Rattle.worked_example_laws.specs.Computed.{HasGraph, ExploresTo, sets, set_of};
 ghost use Rattle.worked_example_laws.specs.Examples.{fresh_disk, one_file, two_files, written_file, grouped_files};

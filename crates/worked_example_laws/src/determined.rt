@@ -4,7 +4,8 @@ ghost use Rattle.std.specs.Prelude.{◌≡◌, ◌⊎◌, ℕ, List, Option, Boo
 ghost use Rattle.patch_sets.specs.Sets.{AreAllInOrder};
 ghost use Rattle.crash_model.specs.Answer.{Answer, IsAnswer};
 ghost use Rattle.crash_model.specs.Disk.{Disk};
-ghost use Rattle.crash_model.specs.Failing.{CountsClosed, IsFailing};
+ghost use Rattle.crash_model.specs.Failing.{IsFailing};
+ghost use Rattle.crash_model.specs.Patches.{CountsClosed};
 ghost use Rattle.crash_model.specs.Script.{IsScript, IsScriptRefusal};
 ghost use Rattle.crash_model.specs.Strict.{IsToldKept, IsFailingUnder};
 ghost use Rattle.crash_model.specs.Trace.{Tracing, IsGraphOf};

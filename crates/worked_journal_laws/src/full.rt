@@ -2,7 +2,7 @@
 
 ghost use Rattle.std.specs.Prelude.{◌≡◌, [], ◌∷◌};
 ghost use Rattle.crash_model.specs.Disk.{empty_disk};
-ghost use Rattle.crash_model.specs.Failing.{CountsClosed};
+ghost use Rattle.crash_model.specs.Patches.{CountsClosed};
 ghost use Rattle.crash_model.specs.declared.modules.Module.TheVariants.{Full};
 ghost use Rattle.worked_example_laws.specs.Computed.{HasGraph, ExploresTo, CountsWith, table};
 ghost use Rattle.worked_example_laws.specs.Examples.{fresh_with_journal, one_file, written_file, with_directory};

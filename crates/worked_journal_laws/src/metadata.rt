@@ -2,9 +2,9 @@
 
 ghost use Rattle.std.specs.Prelude.{◌≡◌, [], ◌∷◌, replicate, map};
 ghost use Rattle.crash_model.specs.Disk.{block_of};
-ghost use Rattle.crash_model.specs.Failing.{CountsClosed, IsFailing};
+ghost use Rattle.crash_model.specs.Failing.{IsFailing};
+ghost use Rattle.crash_model.specs.Patches.{CountsClosed, image_of};
 ghost use Rattle.crash_model.specs.Faults.{faults};
-ghost use Rattle.crash_model.specs.Patches.{image_of};
 ghost use Rattle.crash_model.specs.Replay.{headers, image_after_replay};
 ghost use Rattle.crash_model.specs.declared.fault.Fault.TheVariants.{Unwritten};
 ghost use Rattle.crash_model.specs.declared.operations.Op.TheVariants.{Create};

@@ -1,5 +1,5 @@
 use Rattle.std.proofs.Common.{rules, ◌≡◌, ℕ, ◌≤◌, refl, subst, ap}
-use Rattle.crash_model.specs.Failing.{ExceedsLimit}
+use Rattle.crash_model.specs.Patches.{ExceedsLimit}
 use Rattle.crash_model.specs.declared.settings.Settings.{Settings}
 use Rattle.crash_text.proofs.needs.usage_without.Goals as goal
 

@@ -2,7 +2,8 @@ use Rattle.std.proofs.Common.{rules, ◌≡◌, List, [], Ok, inr, sym, subst, a
 use Rattle.std.proofs.lemmas.Result.{IfErr-weaker, IfOk-weaker}
 use Rattle.crash_model.specs.Answer.{ordering_rules}
 use Rattle.crash_model.specs.Disk.{Disk, IsDisk}
-use Rattle.crash_model.specs.Rules.{AreAmong, rules_of, rules_under}
+use Rattle.crash_model.specs.Rules.{rules_of, rules_under}
+use Rattle.crash_model.specs.RuleFacts.{AreAmong}
 use Rattle.crash_model.specs.Trace.{Tracing, trace_start, trace_from, IsGraphOf}
 use Rattle.crash_model.specs.declared.rules.Rule.{Rule}
 use Rattle.crash_model.specs.declared.patches.Patch.{Patch}

@@ -5,16 +5,16 @@ use Rattle.crash_model.specs.Layout.{pointer_of}
 use Rattle.fs_check.specs.Strict.{IsNamedBy}
 use Rattle.fs_check.proofs.Reaching.{AreDirectoriesBelow, and_in, reaching-root, reaching-none, walking-start, walking-below, walking-step, walked, bare_found}
 use Rattle.fs_check.proofs.strict.loses_nothing.Goals as goal
-use Rattle.fs_check.proofs.strict.loses_nothing.Goals.{then-kind-eq-DIRECTORY, else-kind-eq-DIRECTORY}
+use Rattle.fs_check.proofs.strict.loses_nothing.Goals.{then-kind-eq-DIRECTORY_KIND, else-kind-eq-DIRECTORY_KIND}
 
 pub loop-next-init : goal.loop-next-init
 loop-next-init g c =
     let d = c.args.image.now in
     let inodes = c.from-unread.result in
     let are = subst (λ (s : ℕ). AreDirectoriesBelow d 16 s) (sym c.from-unread.ensures) c.requires.inodes in
-    elim c.if-kind-eq-DIRECTORY.branch [
-      | then-kind-eq-DIRECTORY w ↦ rw w.reached-is (walking-start d 1 inodes are (reaching-root d (sym c.kind.ensures ∙ w.if-kind-eq-DIRECTORY.true)))
-      | else-kind-eq-DIRECTORY w ↦ rw w.reached-is (walking-start d 0 inodes are (reaching-none d (λ e. w.if-kind-eq-DIRECTORY.false (c.kind.ensures ∙ e))))
+    elim c.if-kind-eq-DIRECTORY_KIND.branch [
+      | then-kind-eq-DIRECTORY_KIND w ↦ rw w.reached-is (walking-start d 1 inodes are (reaching-root d (sym c.kind.ensures ∙ w.if-kind-eq-DIRECTORY_KIND.true)))
+      | else-kind-eq-DIRECTORY_KIND w ↦ rw w.reached-is (walking-start d 0 inodes are (reaching-none d (λ e. w.if-kind-eq-DIRECTORY_KIND.false (c.kind.ensures ∙ e))))
     ]
 
 pub pointer-requires-clause-inode : goal.pointer-requires-clause-inode

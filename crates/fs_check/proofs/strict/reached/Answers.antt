@@ -2,12 +2,12 @@ use Rattle.std.proofs.Common.{sym, ◌∙◌}
 use Rattle.patch_sets.proofs.Ids.{has_true}
 use Rattle.fs_check.proofs.Reaching.{and_in, reaching-root, reaching-none, reaching-step, reached-all}
 use Rattle.fs_check.proofs.strict.reached.Goals as goal
-use Rattle.fs_check.proofs.strict.reached.Goals.{then-kind-eq-DIRECTORY, else-kind-eq-DIRECTORY}
+use Rattle.fs_check.proofs.strict.reached.Goals.{then-kind-eq-DIRECTORY_KIND, else-kind-eq-DIRECTORY_KIND}
 
 pub loop-dir-init : goal.loop-dir-init
-loop-dir-init g c = elim c.if-kind-eq-DIRECTORY.branch [
-  | then-kind-eq-DIRECTORY w ↦ rw w.reached-is (reaching-root c.args.image.now (sym c.kind.ensures ∙ w.if-kind-eq-DIRECTORY.true))
-  | else-kind-eq-DIRECTORY w ↦ rw w.reached-is (reaching-none c.args.image.now (λ e. w.if-kind-eq-DIRECTORY.false (c.kind.ensures ∙ e)))
+loop-dir-init g c = elim c.if-kind-eq-DIRECTORY_KIND.branch [
+  | then-kind-eq-DIRECTORY_KIND w ↦ rw w.reached-is (reaching-root c.args.image.now (sym c.kind.ensures ∙ w.if-kind-eq-DIRECTORY_KIND.true))
+  | else-kind-eq-DIRECTORY_KIND w ↦ rw w.reached-is (reaching-none c.args.image.now (λ e. w.if-kind-eq-DIRECTORY_KIND.false (c.kind.ensures ∙ e)))
 ]
 
 pub named_by-reached-requires : goal.named_by-reached-requires

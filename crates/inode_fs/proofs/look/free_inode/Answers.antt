@@ -4,8 +4,8 @@ use Rattle.crash_model.proofs.EachBelow.{first_below-none, first_below-lowest}
 use Rattle.crash_model.specs.Plan.{is_free_inode}
 use Rattle.inode_fs.proofs.look.free_inode.Goals as goal
 
-pub returns-then-kind-eq-FREE-clause-value : goal.returns-then-kind-eq-FREE-clause-value
-returns-then-kind-eq-FREE-clause-value g c =
+pub returns-then-kind-eq-FREE_KIND-clause-value : goal.returns-then-kind-eq-FREE_KIND-clause-value
+returns-then-kind-eq-FREE_KIND-clause-value g c =
     sym (first_below-lowest 16 c.loop-i.i (is_free_inode c.args.image.now) (omega arith) c.loop-i.invariant (grind (arith, common_steps)))
 
 pub returns-clause-value : goal.returns-clause-value

@@ -3,8 +3,7 @@ use Rattle.state_space.specs.Counts.{HoldsOf}
 use Rattle.state_space.proofs.Counting.{not_more}
 use Rattle.patch_sets.specs.Sets.{AreAllInOrder}
 use Rattle.patch_sets.specs.Closed.{IsClosed}
-use Rattle.crash_model.specs.Patches.{deps_of}
-use Rattle.crash_model.specs.Failing.{CountsClosed, ExceedsLimit}
+use Rattle.crash_model.specs.Patches.{deps_of, CountsClosed, ExceedsLimit}
 use Rattle.crash_model.specs.Strict.{IsFailingUnder}
 use Rattle.crash_finding.proofs.finder.Finder.explored_on_board.Goals as goal
 

@@ -1,6 +1,6 @@
 use Rattle.std.proofs.Common.{◌≡◌, List, ℕ, ◌++◌, Some, None, Bor, codes, ap, sym, subst, ◌∙◌}
 use Rattle.std.proofs.lemmas.Str.Pattern.{split_text_parts}
-use Rattle.crash_model.specs.Rules.{IsNoRulePart}
+use Rattle.crash_model.specs.RuleFacts.{IsNoRulePart}
 use Rattle.crash_model.specs.declared.rules.Scope.{Scope}
 use Rattle.crash_model.proofs.RuleTexts.{needs_colon, needs_later, needs_earlier, needs_part}
 use Rattle.crash_model.proofs.rules.Rule.read.Goals.{in-Some, in-None}

@@ -1,6 +1,6 @@
 use Rattle.std.proofs.Common.{◌≡◌, ◌+◌, ◌<◌, true, false, List, length, get_or, arith, sym, subst, ap, ◌∙◌}
 use Rattle.std.proofs.lemmas.List.{length-map}
-use Rattle.patch_sets.specs.Closed.{IsReady}
+use Rattle.patch_sets.specs.Ready.{IsReady}
 use Rattle.crash_model.specs.declared.patches.Patch.{Patch}
 use Rattle.crash_model.specs.Patches.{deps_of}
 use Rattle.patch_graph.proofs.Patches.{deps_read}

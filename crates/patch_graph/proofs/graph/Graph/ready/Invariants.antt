@@ -1,5 +1,5 @@
 use Rattle.std.proofs.Common.{◌≡◌}
-use Rattle.patch_sets.specs.Closed.{IsReady}
+use Rattle.patch_sets.specs.Ready.{IsReady}
 use Rattle.crash_model.specs.Patches.{deps_of}
 use Rattle.patch_graph.proofs.Steps.{Collects}
 use Rattle.patch_graph.proofs.graph.Graph.ready.Given as goal

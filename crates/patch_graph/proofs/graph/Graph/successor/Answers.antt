@@ -1,6 +1,6 @@
 use Rattle.std.proofs.Common.{arith, sym, ap, ◌∙◌}
 use Rattle.std.specs.Prelude.{slice_index}
-use Rattle.patch_sets.specs.Closed.{successors_of}
+use Rattle.patch_sets.specs.Ready.{successors_of}
 use Rattle.crash_model.specs.Patches.{deps_of}
 use Rattle.patch_graph.proofs.Fronts.{readies_start, readies_next, leaves_all, lowest_successor}
 use Rattle.patch_graph.proofs.graph.Graph.successor.Goals as goal

@@ -1,0 +1,228 @@
+"""Proves the crates that the program stands on, as many side by side as there are processors.
+
+`rt lib` keeps others out of the crate that it proves and of all crates below it, so two of them can't work in one copy
+of the repository. So each processor has a lane: a copy of the sources of its own, in which one crate is proved at a
+time. What is proved goes back to the repository, and from there as links into the lanes that need it. Of the crates
+that can be proved, the one with the longest way up to the program is taken first.
+"""
+import argparse
+import os
+import shutil
+import subprocess
+import sys
+import tempfile
+import threading
+
+PROGRAM = "crashmap"
+SOURCES = ("src", "specs", "proofs")
+
+# What a processor needs for a line of source, specs or proofs, and what building the program takes, in seconds: in the
+# middle between measured runs on a slow machine and on a fast one.
+OF_A_LINE = 0.06
+OF_THE_BUILD = 90
+
+# Free memory in kilobytes that a crate needs while it is proved.
+OF_A_CRATE = 3_000_000
+
+
+def say(text):
+    print(f"crashmap: {text}", file=sys.stderr, flush=True)
+
+
+class Crate:
+    """A library of the repository: its row of crates.txt, its name, the crates that it stands on, and its lines of source,
+    specs and proofs."""
+
+    def __init__(self, top, row, name, below):
+        self.row, self.name, self.below, self.folder = row, name, below, f"{top}/crates/{name}"
+        self.lines = sum(count_lines(f"{self.folder}/{part}") for part in SOURCES)
+        self.way = 0
+
+
+def count_lines(folder):
+    """Returns how many lines the files in and below a folder have."""
+    count = 0
+    for above, _, names in os.walk(folder):
+        for name in names:
+            with open(f"{above}/{name}", "rb") as it:
+                count += it.read().count(b"\n")
+    return count
+
+
+def read_crates(top):
+    """Returns the libraries that the program stands on, each behind those that it stands on, with the lines of the longest way
+    from each up to the program."""
+    with open(f"{top}/crates.txt", encoding="utf-8") as it:
+        rows = [line for line in it if line[:1].isalpha()]
+    listed = {row.replace(":", " ").split()[0]: row for row in rows}
+    crates = {}
+
+    def visit(name):
+        if name in listed and name not in crates:
+            below = [it for it in listed[name].partition(":")[2].split() if it in listed]
+            for it in below:
+                visit(it)
+            crates[name] = Crate(top, listed[name], name, below)
+
+    visit(PROGRAM)
+    for crate in reversed(list(crates.values())):
+        crate.way += crate.lines
+        for name in crate.below:
+            crates[name].way = max(crates[name].way, crate.way)
+    del crates[PROGRAM]
+    return crates
+
+
+def all_below(crates, crate):
+    """Returns the names of the crates below one, near and far."""
+    found = set(crate.below)
+    for name in crate.below:
+        found |= all_below(crates, crates[name])
+    return found
+
+
+def lanes_here():
+    """Returns how many crates can be proved at a time."""
+    with open("/proc/meminfo", encoding="utf-8") as it:
+        free = [int(line.split()[1]) for line in it if line.startswith("MemAvailable:")]
+    return max(1, min(len(os.sched_getaffinity(0)), free[0] // OF_A_CRATE))
+
+
+def link(file, there):
+    """Has a file at a second place, as a copy where the file system has no links."""
+    try:
+        os.link(file, there)
+    except OSError:
+        shutil.copy2(file, there)
+
+
+class Lane:
+    """A copy of the sources in which one crate is proved at a time."""
+
+    def __init__(self, top, folder, crates):
+        self.folder = folder
+        os.mkdir(folder)
+        shutil.copy(f"{top}/HANDLES", folder)
+        with open(f"{folder}/crates.txt", "w", encoding="utf-8") as it:
+            it.writelines(crate.row for crate in crates.values())
+        for crate in crates.values():
+            for part in SOURCES:
+                if os.path.isdir(f"{crate.folder}/{part}"):
+                    shutil.copytree(f"{crate.folder}/{part}", f"{folder}/crates/{crate.name}/{part}")
+
+    def bring(self, crate):
+        """Has here what was proved of a crate below."""
+        here = f"{self.folder}/crates/{crate.name}/out/rlib"
+        if not os.path.isdir(here):
+            shutil.copytree(f"{crate.folder}/out/rlib", here, copy_function=link)
+
+    def prove(self, crate, jobs):
+        """Proves a crate over what earlier runs kept of it, by so many processes. Returns the process and its output."""
+        here = f"{self.folder}/crates/{crate.name}"
+        shutil.rmtree(f"{here}/out", ignore_errors=True)
+        if os.path.isdir(f"{crate.folder}/out"):
+            os.rename(f"{crate.folder}/out", f"{here}/out")
+        words = ["rt", "lib", "--jobs", str(jobs)]
+        pipes = {"stdin": subprocess.DEVNULL, "stdout": subprocess.PIPE, "stderr": subprocess.STDOUT}
+        return subprocess.Popen(words, cwd=here, errors="replace", **pipes)
+
+    def give_back(self, crate):
+        """Gives the repository what was kept of a crate."""
+        here = f"{self.folder}/crates/{crate.name}/out"
+        if os.path.isdir(here):
+            os.rename(here, f"{crate.folder}/out")
+
+
+class Run:
+    """The crates that are yet to be proved, those at work, and the lanes that are free."""
+
+    def __init__(self, top, room, processors):
+        self.crates = read_crates(top)
+        self.lanes = [Lane(top, f"{room}/{number}", self.crates) for number in range(processors)]
+        self.processors, self.turn = processors, threading.Condition()
+        self.proved, self.working, self.failed = set(), {}, None
+
+    def ready(self):
+        """Returns the crates that can be begun, the one with the longest way first."""
+        waiting = [it for name, it in self.crates.items() if name not in self.proved and name not in self.working]
+        ready = [it for it in waiting if self.proved.issuperset(it.below)]
+        return sorted(ready, key=lambda it: -it.way)
+
+    def minutes_left(self):
+        """Returns how long the rest is likely to take, in minutes."""
+        lines = sum(it.lines for name, it in self.crates.items() if name not in self.proved)
+        return round((lines * OF_A_LINE / self.processors + OF_THE_BUILD) / 60 + 0.5)
+
+    def begin(self, crate, jobs):
+        """Begins to prove a crate in a free lane."""
+        lane = self.lanes.pop()
+        for name in all_below(self.crates, crate):
+            lane.bring(self.crates[name])
+        process = lane.prove(crate, jobs)
+        self.working[crate.name] = process, jobs
+        threading.Thread(target=self.follow, args=(crate, lane, process), daemon=True).start()
+
+    def follow(self, crate, lane, process):
+        """Waits for the end of a crate's proof, and tells of it."""
+        said, _ = process.communicate()
+        with self.turn:
+            lane.give_back(crate)
+            self.lanes.append(lane)
+            del self.working[crate.name]
+            if process.returncode:
+                self.failed = self.failed or f"{crate.name}: {said}"
+            else:
+                self.proved.add(crate.name)
+                done = f"{len(self.proved)} of {len(self.crates) + 1}"
+                say(f"checked {crate.name}, {done}; about {self.minutes_left()} minutes left")
+            self.turn.notify_all()
+
+    def begin_some(self):
+        """Begins as many crates as there are free processors. Those that are left over go to the one with the longest way."""
+        free = self.processors - sum(jobs for _, jobs in self.working.values())
+        ready = self.ready()[: max(free, 0)]
+        for crate in ready:
+            jobs = max(1, free - len(ready) + 1) if crate is ready[0] else 1
+            self.begin(crate, jobs)
+
+    def to_the_end(self):
+        """Proves all crates. Returns what a failed proof said, if one failed."""
+        with self.turn:
+            while not self.failed and len(self.proved) < len(self.crates):
+                self.begin_some()
+                self.turn.wait()
+            return self.failed
+
+    def stop(self):
+        """Ends what is at work, and gives back what was kept."""
+        with self.turn:
+            for process, _ in self.working.values():
+                process.terminate()
+            self.turn.wait_for(lambda: not self.working, timeout=10)
+
+
+def what_failed(said):
+    """Returns the lines of a check that tell what it could not prove or read."""
+    return [it for it in said.splitlines() if not it.startswith(("library ", "statements ")) and not it.endswith(": proved")]
+
+
+def main():
+    parser = argparse.ArgumentParser(description=__doc__.splitlines()[0])
+    parser.add_argument("top", help="the folder of the repository")
+    top = os.path.abspath(parser.parse_args().top)
+    os.makedirs(f"{top}/crates/{PROGRAM}/out", exist_ok=True)
+    # On one file system with the repository, so that what is proved is moved and linked, and not copied.
+    with tempfile.TemporaryDirectory(dir=f"{top}/crates/{PROGRAM}/out") as room:
+        run = Run(top, room, lanes_here())
+        say(f"proving and building the program: {len(run.crates) + 1} crates, about {run.minutes_left()} minutes")
+        try:
+            failed = run.to_the_end()
+        finally:
+            run.stop()
+    if failed:
+        print("\n".join(what_failed(failed)[-20:]), file=sys.stderr)
+    return 1 if failed else 0
+
+
+if __name__ == "__main__":
+    sys.exit(main())
