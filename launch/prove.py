@@ -178,12 +178,16 @@ class Run:
             self.turn.notify_all()
 
     def begin_some(self):
-        """Begins as many crates as there are free processors. Those that are left over go to the one with the longest way."""
+        """Begins as many crates as there are free processors.
+
+        Where none is left that could be begun, the one with the longest way gets the processors that are left over, and
+        one more, since others will be free before it is done.
+        """
         free = self.processors - sum(jobs for _, jobs in self.working.values())
-        ready = self.ready()[: max(free, 0)]
-        for crate in ready:
-            jobs = max(1, free - len(ready) + 1) if crate is ready[0] else 1
-            self.begin(crate, jobs)
+        ready = self.ready()
+        for number, crate in enumerate(ready[: max(free, 0)]):
+            spare = free - len(ready) + 1 if number == 0 else 0
+            self.begin(crate, min(spare + 1, self.processors) if spare > 0 else 1)
 
     def to_the_end(self):
         """Proves all crates. Returns what a failed proof said, if one failed."""
