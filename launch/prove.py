@@ -3,11 +3,15 @@
 `rt lib` keeps others out of the crate that it proves and of all crates below it, so two of them can't work in one copy
 of the repository. So each processor has a lane: a copy of the sources of its own, in which one crate is proved at a
 time. What is proved goes back to the repository, and from there as links into the lanes that need it. Of the crates
-that can be proved, the one with the longest way up to the program is taken first.
+that can be begun, the one with the longest way up to the program is taken first.
 """
 import argparse
+import contextlib
+import fcntl
+import glob
 import os
 import shutil
+import signal
 import subprocess
 import sys
 import tempfile
@@ -17,11 +21,11 @@ PROGRAM = "crashmap"
 SOURCES = ("src", "specs", "proofs")
 
 # What a processor needs for a line of source, specs or proofs, and what building the program takes, in seconds: in the
-# middle between measured runs on a slow machine and on a fast one.
-OF_A_LINE = 0.06
-OF_THE_BUILD = 90
+# middle between a run on a slow machine and one on a fast one.
+OF_A_LINE = 0.05
+OF_THE_BUILD = 130
 
-# Free memory in kilobytes that a crate needs while it is proved.
+# The free memory in kilobytes that a crate needs while it is proved.
 OF_A_CRATE = 3_000_000
 
 
@@ -30,8 +34,8 @@ def say(text):
 
 
 class Crate:
-    """A library of the repository: its row of crates.txt, its name, the crates that it stands on, and its lines of source,
-    specs and proofs."""
+    """A library of the repository: its row of crates.txt, its name, the crates that it names there and its folder; its
+    lines, and those of the longest way from it up to the program."""
 
     def __init__(self, top, row, name, below):
         self.row, self.name, self.below, self.folder = row, name, below, f"{top}/crates/{name}"
@@ -50,15 +54,14 @@ def count_lines(folder):
 
 
 def read_crates(top):
-    """Returns the libraries that the program stands on, each behind those that it stands on, with the lines of the longest way
-    from each up to the program."""
+    """Returns the libraries that the program stands on by name, each behind those that it stands on."""
     with open(f"{top}/crates.txt", encoding="utf-8") as it:
         rows = [line for line in it if line[:1].isalpha()]
     listed = {row.replace(":", " ").split()[0]: row for row in rows}
     crates = {}
 
     def visit(name):
-        if name in listed and name not in crates:
+        if name not in crates:
             below = [it for it in listed[name].partition(":")[2].split() if it in listed]
             for it in below:
                 visit(it)
@@ -82,10 +85,31 @@ def all_below(crates, crate):
 
 
 def lanes_here():
-    """Returns how many crates can be proved at a time."""
+    """Returns how many crates can be proved at a time: one for each processor, where there is memory for it."""
     with open("/proc/meminfo", encoding="utf-8") as it:
         free = [int(line.split()[1]) for line in it if line.startswith("MemAvailable:")]
     return max(1, min(len(os.sched_getaffinity(0)), free[0] // OF_A_CRATE))
+
+
+@contextlib.contextmanager
+def kept_out(folders):
+    """Keeps other runs, and rt itself, out of these folders, as rt does it."""
+    held = []
+    try:
+        for folder in sorted(folders):
+            held.append(os.open(folder, os.O_RDONLY))
+            try:
+                fcntl.flock(held[-1], fcntl.LOCK_EX | fcntl.LOCK_NB)
+            except BlockingIOError:
+                say(f"waiting for another run to finish in {folder}")
+                fcntl.flock(held[-1], fcntl.LOCK_EX)
+            except OSError:
+                # Some file systems have no locks.
+                pass
+        yield
+    finally:
+        for it in held:
+            os.close(it)
 
 
 def link(file, there):
@@ -111,15 +135,14 @@ class Lane:
                     shutil.copytree(f"{crate.folder}/{part}", f"{folder}/crates/{crate.name}/{part}")
 
     def bring(self, crate):
-        """Has here what was proved of a crate below."""
+        """Has here what was proved of a crate below the one that is next."""
         here = f"{self.folder}/crates/{crate.name}/out/rlib"
         if not os.path.isdir(here):
             shutil.copytree(f"{crate.folder}/out/rlib", here, copy_function=link)
 
     def prove(self, crate, jobs):
-        """Proves a crate over what earlier runs kept of it, by so many processes. Returns the process and its output."""
+        """Begins to prove a crate by so many processes, over what earlier runs kept of it. Returns what runs."""
         here = f"{self.folder}/crates/{crate.name}"
-        shutil.rmtree(f"{here}/out", ignore_errors=True)
         if os.path.isdir(f"{crate.folder}/out"):
             os.rename(f"{crate.folder}/out", f"{here}/out")
         words = ["rt", "lib", "--jobs", str(jobs)]
@@ -127,19 +150,18 @@ class Lane:
         return subprocess.Popen(words, cwd=here, errors="replace", **pipes)
 
     def give_back(self, crate):
-        """Gives the repository what was kept of a crate."""
+        """Gives the repository what is kept of a crate."""
         here = f"{self.folder}/crates/{crate.name}/out"
         if os.path.isdir(here):
             os.rename(here, f"{crate.folder}/out")
 
 
 class Run:
-    """The crates that are yet to be proved, those at work, and the lanes that are free."""
+    """The crates that are proved and those at work, with the lanes that are free."""
 
-    def __init__(self, top, room, processors):
-        self.crates = read_crates(top)
-        self.lanes = [Lane(top, f"{room}/{number}", self.crates) for number in range(processors)]
-        self.processors, self.turn = processors, threading.Condition()
+    def __init__(self, top, room, crates, processors):
+        self.crates, self.processors, self.turn = crates, processors, threading.Condition()
+        self.lanes = [Lane(top, f"{room}/{number}", crates) for number in range(processors)]
         self.proved, self.working, self.failed = set(), {}, None
 
     def ready(self):
@@ -149,7 +171,7 @@ class Run:
         return sorted(ready, key=lambda it: -it.way)
 
     def minutes_left(self):
-        """Returns how long the rest is likely to take, in minutes."""
+        """Returns how many minutes the rest is likely to take."""
         lines = sum(it.lines for name, it in self.crates.items() if name not in self.proved)
         return round((lines * OF_A_LINE / self.processors + OF_THE_BUILD) / 60 + 0.5)
 
@@ -190,7 +212,7 @@ class Run:
             self.begin(crate, min(spare + 1, self.processors) if spare > 0 else 1)
 
     def to_the_end(self):
-        """Proves all crates. Returns what a failed proof said, if one failed."""
+        """Proves all crates. Returns what a check said that failed, if one did."""
         with self.turn:
             while not self.failed and len(self.proved) < len(self.crates):
                 self.begin_some()
@@ -198,33 +220,48 @@ class Run:
             return self.failed
 
     def stop(self):
-        """Ends what is at work, and gives back what was kept."""
+        """Ends what is at work, and has the repository get back what was kept."""
         with self.turn:
             for process, _ in self.working.values():
                 process.terminate()
-            self.turn.wait_for(lambda: not self.working, timeout=10)
+            self.turn.wait_for(lambda: not self.working, timeout=20)
+
+
+def prove_all(top):
+    """Proves all crates below the program. Returns what a check said that failed, if one did."""
+    crates = read_crates(top)
+    out = f"{top}/crates/{PROGRAM}/out"
+    os.makedirs(out, exist_ok=True)
+    with kept_out(it.folder for it in crates.values()):
+        # What a run left that was killed.
+        for old in glob.glob(f"{out}/lanes-*"):
+            shutil.rmtree(old, ignore_errors=True)
+        # On one file system with the repository, so that what is proved is moved and linked, and not copied.
+        with tempfile.TemporaryDirectory(prefix="lanes-", dir=out) as room:
+            run = Run(top, room, crates, lanes_here())
+            say(f"proving and building the program: {len(crates) + 1} crates, about {run.minutes_left()} minutes")
+            try:
+                return run.to_the_end()
+            finally:
+                run.stop()
 
 
 def what_failed(said):
-    """Returns the lines of a check that tell what it could not prove or read."""
-    return [it for it in said.splitlines() if not it.startswith(("library ", "statements ")) and not it.endswith(": proved")]
+    """Returns the lines of a check that tell what it could not prove or read, twenty at most."""
+    passed = ("library ", "statements ", "logic ")
+    lines = [it for it in said.splitlines() if not it.startswith(passed) and not it.endswith(": proved")]
+    return "\n".join(lines[-20:])
 
 
 def main():
     parser = argparse.ArgumentParser(description=__doc__.splitlines()[0])
     parser.add_argument("top", help="the folder of the repository")
     top = os.path.abspath(parser.parse_args().top)
-    os.makedirs(f"{top}/crates/{PROGRAM}/out", exist_ok=True)
-    # On one file system with the repository, so that what is proved is moved and linked, and not copied.
-    with tempfile.TemporaryDirectory(dir=f"{top}/crates/{PROGRAM}/out") as room:
-        run = Run(top, room, lanes_here())
-        say(f"proving and building the program: {len(run.crates) + 1} crates, about {run.minutes_left()} minutes")
-        try:
-            failed = run.to_the_end()
-        finally:
-            run.stop()
+    for number in (signal.SIGINT, signal.SIGTERM):
+        signal.signal(number, lambda number, _: sys.exit(128 + number))
+    failed = prove_all(top)
     if failed:
-        print("\n".join(what_failed(failed)[-20:]), file=sys.stderr)
+        print(what_failed(failed), file=sys.stderr)
     return 1 if failed else 0
 
 
