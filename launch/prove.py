@@ -39,18 +39,29 @@ class Crate:
 
     def __init__(self, top, row, name, below):
         self.row, self.name, self.below, self.folder = row, name, below, f"{top}/crates/{name}"
-        self.lines = sum(count_lines(f"{self.folder}/{part}") for part in SOURCES)
+        self.lines = sum(read(file).count(b"\n") for file in self.files() if os.path.isfile(file))
         self.way = 0
 
+    def files(self):
+        """Yields the paths of its files, each behind that of its folder."""
+        for part in SOURCES:
+            for above, _, names in os.walk(f"{self.folder}/{part}"):
+                yield above
+                yield from (f"{above}/{name}" for name in names)
 
-def count_lines(folder):
-    """Returns how many lines the files in and below a folder have."""
-    count = 0
-    for above, _, names in os.walk(folder):
-        for name in names:
-            with open(f"{above}/{name}", "rb") as it:
-                count += it.read().count(b"\n")
-    return count
+    def changed(self):
+        """Returns when one of its files was changed last, or came or went."""
+        return max(map(os.path.getmtime, self.files()))
+
+    def proved(self):
+        """Returns when it was proved, or 0."""
+        stamp = f"{self.folder}/out/rlib/stamp"
+        return os.path.getmtime(stamp) if os.path.isfile(stamp) else 0
+
+
+def read(file):
+    with open(file, "rb") as it:
+        return it.read()
 
 
 def read_crates(top):
@@ -82,6 +93,17 @@ def all_below(crates, crate):
     for name in crate.below:
         found |= all_below(crates, crates[name])
     return found
+
+
+def proved_since(top, crates):
+    """Returns the names of the crates that were proved since they or what is below them changed.
+
+    It goes by times alone. Where these mislead, rt finds it: it compares what the files hold of all crates below one.
+    """
+    start, changed = os.path.getmtime(f"{top}/crates.txt"), {}
+    for name, crate in crates.items():
+        changed[name] = max(start, crate.changed(), *(changed[it] for it in crate.below))
+    return {name for name, crate in crates.items() if crate.proved() > changed[name]}
 
 
 def lanes_here():
@@ -162,7 +184,7 @@ class Run:
     def __init__(self, top, room, crates, processors):
         self.crates, self.processors, self.turn = crates, processors, threading.Condition()
         self.lanes = [Lane(top, f"{room}/{number}", crates) for number in range(processors)]
-        self.proved, self.working, self.failed = set(), {}, None
+        self.proved, self.working, self.failed = proved_since(top, crates), {}, None
 
     def ready(self):
         """Returns the crates that can be begun, the one with the longest way first."""
