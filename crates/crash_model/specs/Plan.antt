@@ -22,16 +22,16 @@ use Rattle.crash_model.specs.declared.plans.Role.TheVariants.{InitFile, InitDir,
 -- ---- answers, which may be refusals
 
 -- the second answer, made of the first where that is Ok
-abbrev pub then_ok : {A B : Type 0} → Result A FsFault → (A → Result B FsFault) → Result B FsFault
+abbrev pub then_ok : {A B E : Type 0} → Result A E → (A → Result B E) → Result B E
 then_ok (Err e) next = Err e
 then_ok (Ok x) next = next x
 
 -- the answer, unless the test holds: then it is refused
-abbrev pub unless : {B : Type 0} → Bool → FsFault → Result B FsFault → Result B FsFault
+abbrev pub unless : {A E : Type 0} → Bool → E → Result A E → Result A E
 unless test fault answer = if test then Err fault else answer
 
 -- the answer made of what is found; where nothing is, it is refused
-abbrev pub with_found : {A B : Type 0} → Option A → FsFault → (A → Result B FsFault) → Result B FsFault
+abbrev pub with_found : {A B E : Type 0} → Option A → E → (A → Result B E) → Result B E
 with_found None fault answer = Err fault
 with_found (Some x) fault answer = answer x
 

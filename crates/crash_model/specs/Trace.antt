@@ -7,7 +7,7 @@ use Rattle.crash_model.specs.declared.disk_bytes.TheConstants.{COMMITTED_MARK, D
 use Rattle.patch_sets.specs.Sets.{Has}
 use Rattle.patch_sets.specs.Closed.{AreEarlier}
 use Rattle.crash_model.specs.Disk.{Disk, block_of}
-use Rattle.crash_model.specs.Plan.{plan_of, with_changes}
+use Rattle.crash_model.specs.Plan.{then_ok, unless, with_found, plan_of, with_changes}
 use Rattle.crash_model.specs.Patches.{Place, place, places_of, deps_of, overlap, AreUndo}
 use Rattle.crash_model.specs.Refusals.{trace_fault}
 use Rattle.crash_model.specs.Rules.{has_part, are_scoped}
@@ -131,13 +131,6 @@ abbrev pub trace_start : Disk → Tracing
 trace_start base =
     record { disk = base; emitted = []; turn = 1; journal = 4; current = None; opened = []; ended = []; links = [] }
 
-abbrev pub refuse_if : {A : Type 0} → Bool → TraceFault → A → Result A TraceFault
-refuse_if test fault answer = if test then Err fault else Ok answer
-
-abbrev pub then_trace : {A B : Type 0} → Result A TraceFault → (A → Result B TraceFault) → Result B TraceFault
-then_trace (Err e) next = Err e
-then_trace (Ok x) next = next x
-
 -- how many journal blocks an operation takes, and its patches
 abbrev pub journal_blocks : Module → ℕ → List Change → ℕ
 journal_blocks Meta blocks changes = 1 + length (touched_blocks blocks (metadata_changes changes))
@@ -156,32 +149,29 @@ trace_of_plan kind line op s (Ok changes) =
     let after = with_changes s.disk changes in
     let more = patches_by kind after s.turn s.journal (origin_at line op s.current) changes in
     let next = s.journal + journal_blocks kind s.disk.blocks changes in
-    if nat_lt (4 + s.disk.journal) next then Err (no.JournalFull line)
-    else refuse_if (nat_lt 124 (length s.emitted + length more)) (no.TooManyPatches line)
-    (record s { disk = after; emitted = s.emitted ++ more; turn = s.turn + 1; journal = next })
+    unless (nat_lt (4 + s.disk.journal) next) (no.JournalFull line)
+    (unless (nat_lt 124 (length s.emitted + length more)) (no.TooManyPatches line)
+    (Ok (record s { disk = after; emitted = s.emitted ++ more; turn = s.turn + 1; journal = next })))
 
 abbrev pub is_among : List ℕ → List (List ℕ) → Bool
 is_among name names = list_any (bytes_eq name) names
 
-abbrev pub ended_group : Tracing → ℕ → Option (List ℕ) → Result Tracing TraceFault
-ended_group s line None = Err (no.GroupFault line)
-ended_group s line (Some a) = Ok (record s { current = None; ended = s.ended ++ a ∷ [] })
-
 abbrev pub step : Module → Tracing → ℕ → Act → Result Tracing TraceFault
 step kind s line (Do op) = trace_of_plan kind line op s (plan_of s.disk op)
 step kind s line (Group a) =
-    refuse_if (is_some s.current || is_among a s.opened) (no.GroupFault line)
-    (record s { current = Some a; opened = s.opened ++ a ∷ [] })
-step kind s line End = ended_group s line s.current
+    unless (is_some s.current || is_among a s.opened) (no.GroupFault line)
+    (Ok (record s { current = Some a; opened = s.opened ++ a ∷ [] }))
+step kind s line End =
+    with_found s.current (no.GroupFault line) (λ a. Ok (record s { current = None; ended = s.ended ++ a ∷ [] }))
 step kind s line (Depend b a) =
-    refuse_if (not (is_among a s.ended) || bytes_eq b a
+    unless (not (is_among a s.ended) || bytes_eq b a
     || list_any (λ e. is_same_group e.origin.group b) s.emitted) (no.GroupFault line)
-    (record s { links = s.links ++ (b, a) ∷ [] })
+    (Ok (record s { links = s.links ++ (b, a) ∷ [] }))
 
 -- all steps, up to the first refused one
 abbrev pub trace_from : Module → Tracing → List Step → Result Tracing TraceFault
 trace_from kind s [] = Ok s
-trace_from kind s (x ∷ xs) = then_trace (step kind s x.line x.act) (λ next. trace_from kind next xs)
+trace_from kind s (x ∷ xs) = then_ok (step kind s x.line x.act) (λ next. trace_from kind next xs)
 
 -- ---- the base
 

@@ -4,8 +4,8 @@ use Rattle.std.specs.Prelude.{All, is_some, bytes_eq}
 use Rattle.std.specs.List.{list_any}
 use Rattle.std.proofs.lemmas.List.Elements.{All-nil, All-cons, All-head, All-tail}
 use Rattle.crash_model.specs.Disk.{Disk}
-use Rattle.crash_model.specs.Plan.{plan_of, with_changes}
-use Rattle.crash_model.specs.Trace.{Emitted, Origin, origin_at, Tracing, trace_from, step, trace_of_plan, ended_group, refuse_if, then_trace, journal_patches, touched_blocks, is_among, is_same_group}
+use Rattle.crash_model.specs.Plan.{then_ok, unless, with_found, plan_of, with_changes}
+use Rattle.crash_model.specs.Trace.{Emitted, Origin, origin_at, Tracing, trace_from, step, trace_of_plan, journal_patches, touched_blocks, is_among, is_same_group}
 use Rattle.crash_model.specs.Refusals.{trace_fault}
 use Rattle.crash_model.specs.declared.operations.Op.{Op}
 use Rattle.crash_model.specs.declared.refusals.FsFault.{FsFault}
@@ -48,7 +48,7 @@ IsRest n jl xs r = (next : Tracing) → IsGood n jl next.disk → trace_from Ful
 -- an operation
 operation : (n jl : ℕ) (line : ℕ) (s r : Tracing) (xs : List Step) (op : Op) (plan : Result (List Change) FsFault)
     → IsGood n jl s.disk → GivesName op → plan_of s.disk op ≡ plan → IsRest n jl xs r
-    → then_trace (trace_of_plan Full line op s plan) (λ next. trace_from Full next xs) ≡ Ok r → IsLogged n jl (op ∷ ops_of xs) s r
+    → then_ok (trace_of_plan Full line op s plan) (λ next. trace_from Full next xs) ≡ Ok r → IsLogged n jl (op ∷ ops_of xs) s r
 operation n jl line s r xs op (Err e) good name is rest h = absurd (no_ok (trace_fault line e) r _ refl h)
 operation n jl line s r xs op (Ok cs) good name is rest h =
     let after : Disk = with_changes s.disk cs in
@@ -104,19 +104,20 @@ same_log n jl ops s next r d e t j ih = record {
 -- a step that refuses by a test
 on_test : (n jl : ℕ) (b : Bool) (e : TraceFault) (ops : List Op) (s next r : Tracing) (xs : List Step)
     → (trace_from Full next xs ≡ Ok r → IsLogged n jl ops s r)
-    → then_trace (refuse_if b e next) (λ more. trace_from Full more xs) ≡ Ok r → IsLogged n jl ops s r
+    → then_ok (unless b e (Ok next)) (λ more. trace_from Full more xs) ≡ Ok r → IsLogged n jl ops s r
 on_test n jl true e ops s next r xs rest h = absurd (no_ok e r _ refl h)
 on_test n jl false e ops s next r xs rest h = rest h
 
 on_end : (n jl : ℕ) (line : ℕ) (s r : Tracing) (xs : List Step) (open_group : Option (List ℕ)) → IsGood n jl s.disk → IsRest n jl xs r
-    → then_trace (ended_group s line open_group) (λ next. trace_from Full next xs) ≡ Ok r → IsLogged n jl (ops_of xs) s r
+    → then_ok (with_found open_group (fault.GroupFault line) (λ a. Ok (record s { current = None; ended = s.ended ++ a ∷ [] })))
+    (λ next. trace_from Full next xs) ≡ Ok r → IsLogged n jl (ops_of xs) s r
 on_end n jl line s r xs None good rest h = absurd (no_ok (fault.GroupFault line) r _ refl h)
 on_end n jl line s r xs (Some a) good rest h =
     let next : Tracing = record s { current = None; ended = s.ended ++ a ∷ [] } in
     same_log n jl (ops_of xs) s next r refl refl refl refl (rest next good h)
 
 act_logged : (n jl : ℕ) (line : ℕ) (act : Act) (s r : Tracing) (xs : List Step) → IsGood n jl s.disk → All GivesName (ops_at act) → IsRest n jl xs r
-    → then_trace (step Full s line act) (λ next. trace_from Full next xs) ≡ Ok r → IsLogged n jl (ops_at act ++ ops_of xs) s r
+    → then_ok (step Full s line act) (λ next. trace_from Full next xs) ≡ Ok r → IsLogged n jl (ops_at act ++ ops_of xs) s r
 act_logged n jl line (Do op) s r xs good names rest h = operation n jl line s r xs op (plan_of s.disk op) good (All-head GivesName op [] names) refl rest h
 act_logged n jl line (Group a) s r xs good names rest h =
     let next : Tracing = record s { current = Some a; opened = s.opened ++ a ∷ [] } in

@@ -4,15 +4,16 @@ use Rattle.std.specs.Prelude.{Option, Some, None, is_some, Ok, Err, bytes_eq}
 use Rattle.std.specs.Borrow.{Bor}
 use Rattle.std.specs.List.{list_any}
 use Rattle.std.proofs.lemmas.List.{map_push}
-use Rattle.crash_model.specs.Trace.{refuse_if, is_among}
+use Rattle.crash_model.specs.Plan.{unless}
+use Rattle.crash_model.specs.Trace.{is_among}
 use Rattle.crash_model.specs.declared.refusals.TraceFault.{TraceFault}
 use Rattle.traced_patches.specs.Labels.{group_by}
 use Rattle.order_modules.specs.Tracer.{Trace, names_by}
 
-pub refused : {A : Type 0} (test : Bool) (f : TraceFault) (x : A) → test ≡ true → refuse_if test f x ≡ Err f
+pub refused : {A : Type 0} (test : Bool) (f : TraceFault) (x : A) → test ≡ true → unless test f (Ok x) ≡ Err f
 refused test f x t = rw t refl
 
-pub accepted : {A : Type 0} (test : Bool) (f : TraceFault) (x : A) → test ≡ false → refuse_if test f x ≡ Ok x
+pub accepted : {A : Type 0} (test : Bool) (f : TraceFault) (x : A) → test ≡ false → unless test f (Ok x) ≡ Ok x
 accepted test f x t = rw t refl
 
 pub or_first : (a b : Bool) → a ≡ true → (a || b) ≡ true

@@ -5,7 +5,8 @@ use Rattle.std.proofs.lemmas.List.{take_more, take-append-drop, take_all}
 use Rattle.std.proofs.lemmas.List.Elements.{All-nil, All-append}
 use Rattle.std.proofs.lemmas.Grind.{flat_map-append}
 use Rattle.crash_model.specs.Disk.{Disk}
-use Rattle.crash_model.specs.Trace.{Tracing, trace_start, step, trace_from, then_trace}
+use Rattle.crash_model.specs.Plan.{then_ok}
+use Rattle.crash_model.specs.Trace.{Tracing, trace_start, step, trace_from}
 use Rattle.crash_model.specs.declared.refusals.TraceFault.{TraceFault}
 use Rattle.crash_model.specs.declared.rules.Rule.{Rule}
 use Rattle.crash_model.specs.declared.modules.Module.{Module}
@@ -15,12 +16,12 @@ use Rattle.inode_fs.specs.Inside.{GivesName}
 use Rattle.full_journal_laws.specs.Full.{ops_at, ops_of}
 use Rattle.order_modules.specs.Tracer.{Trace, Moves}
 
-then_then : (kind : Module) (ys : List Step) (r : Result Tracing TraceFault) (f g : Tracing → Result Tracing TraceFault) → ((next : Tracing) → f next ≡ then_trace (g next) (λ end. trace_from kind end ys))
-    → then_trace r f ≡ then_trace (then_trace r g) (λ end. trace_from kind end ys)
+then_then : (kind : Module) (ys : List Step) (r : Result Tracing TraceFault) (f g : Tracing → Result Tracing TraceFault) → ((next : Tracing) → f next ≡ then_ok (g next) (λ end. trace_from kind end ys))
+    → then_ok r f ≡ then_ok (then_ok r g) (λ end. trace_from kind end ys)
 then_then kind ys (Ok next) f g each = each next
 then_then kind ys (Err e) f g each = refl
 
-trace_from-append : (kind : Module) (s : Tracing) (xs ys : List Step) → trace_from kind s (xs ++ ys) ≡ then_trace (trace_from kind s xs) (λ next. trace_from kind next ys)
+trace_from-append : (kind : Module) (s : Tracing) (xs ys : List Step) → trace_from kind s (xs ++ ys) ≡ then_ok (trace_from kind s xs) (λ next. trace_from kind next ys)
 trace_from-append kind s [] ys = refl
 trace_from-append kind s (x ∷ xs) ys = then_then kind ys (step kind s x.line x.act) (λ next. trace_from kind next (xs ++ ys)) (λ next. trace_from kind next xs) (λ next. trace_from-append kind next xs ys)
 
@@ -38,8 +39,8 @@ module _ (kind : Module) (rules : List Rule) (base : Disk) (steps : List Step) (
   with_next = take_more steps i x inside ∙ ap (λ (y : Step). take i steps ++ y ∷ []) (sym read)
 
   -- the steps taken with one more, and those after it
-  after_step : (ys : List Step) → trace_from kind (trace_start base) (take i steps ++ x ∷ ys) ≡ then_trace (step kind t.tracing x.line x.act) (λ next. trace_from kind next ys)
-  after_step ys = trace_from-append kind (trace_start base) (take i steps) (x ∷ ys) ∙ ap (λ (r : Result Tracing TraceFault). then_trace r (λ next. trace_from kind next (x ∷ ys))) is.so_far
+  after_step : (ys : List Step) → trace_from kind (trace_start base) (take i steps ++ x ∷ ys) ≡ then_ok (step kind t.tracing x.line x.act) (λ next. trace_from kind next ys)
+  after_step ys = trace_from-append kind (trace_start base) (take i steps) (x ∷ ys) ∙ ap (λ (r : Result Tracing TraceFault). then_ok r (λ next. trace_from kind next (x ∷ ys))) is.so_far
 
   same_step : step t.log.kind t.tracing x.line x.act ≡ step kind t.tracing x.line x.act
   same_step = ap (λ (k : Module). step k t.tracing x.line x.act) is.same_kind
@@ -51,7 +52,7 @@ module _ (kind : Module) (rules : List Rule) (base : Disk) (steps : List Step) (
     same_rules = moves.rules ∙ is.same_rules;
     turns = omega (arith, moves.turns, is.turns);
     so_far = ap (λ (xs : List Step). trace_from kind (trace_start base) xs) with_next ∙ after_step []
-        ∙ ap (λ (r : Result Tracing TraceFault). then_trace r (λ next. trace_from kind next [])) (sym same_step ∙ moves.answered);
+        ∙ ap (λ (r : Result Tracing TraceFault). then_ok r (λ next. trace_from kind next [])) (sym same_step ∙ moves.answered);
     names = subst (λ (xs : List Step). All GivesName (ops_of xs)) (sym with_next)
         (subst (λ (ops : List Op). All GivesName ops) (sym (flat_map-append (λ (y : Step). ops_at y.act) (take i steps) (x ∷ [])))
         (All-append GivesName (ops_of (take i steps)) (ops_of (x ∷ [])) is.names (subst (λ (ops : List Op). All GivesName ops) (sym (append-nil (ops_at x.act))) named)));
@@ -62,7 +63,7 @@ module _ (kind : Module) (rules : List Rule) (base : Disk) (steps : List Step) (
       let all : steps ≡ take i steps ++ x ∷ drop (i + 1) steps =
       sym (take-append-drop (i + 1) steps) ∙ ap (λ (xs : List Step). xs ++ drop (i + 1) steps) with_next ∙ append_assoc (take i steps) (x ∷ []) (drop (i + 1) steps) in
       ap (λ (xs : List Step). trace_from kind (trace_start base) xs) all ∙ after_step (drop (i + 1) steps)
-      ∙ ap (λ (r : Result Tracing TraceFault). then_trace r (λ next. trace_from kind next (drop (i + 1) steps))) (sym same_step ∙ why)
+      ∙ ap (λ (r : Result Tracing TraceFault). then_ok r (λ next. trace_from kind next (drop (i + 1) steps))) (sym same_step ∙ why)
 
 pub traced_start : (kind : Module) (rules : List Rule) (base : Disk) (steps : List Step) (t : Trace) → t.tracing ≡ trace_start base → t.log.base ≡ base → t.log.kind ≡ kind → t.log.rules ≡ rules → IsTraced kind rules base steps 0 t
 traced_start kind rules base steps t began same_base same_kind same_rules = record {

@@ -1,7 +1,8 @@
 use Rattle.std.proofs.Common.{[], ◌∷◌, ◌++◌, Bool, not, ◌||◌, refl, sym, ap, subst, ◌∙◌, arith}
 use Rattle.std.specs.Prelude.{Ok, bytes_eq}
 use Rattle.std.specs.List.{list_any}
-use Rattle.crash_model.specs.Trace.{refuse_if, is_among, is_same_group}
+use Rattle.crash_model.specs.Plan.{unless}
+use Rattle.crash_model.specs.Trace.{is_among, is_same_group}
 use Rattle.crash_model.specs.declared.refusals.TraceFault.TheVariants as fault
 use Rattle.traced_patches.specs.Labels.{group_by}
 use Rattle.order_modules.specs.Log.{Log}
@@ -40,7 +41,8 @@ returns-clause-ok g c =
     let among = among_read old earlier i.ended.items c.as_slice.result.now c.is_among.result (names_by i.ended.items) c.is_among.ensures c.as_slice.ensures.value refl in
     let linked = c.in_ok-link.ensures.ok in
     subst (λ (t : Trace). Moves t (trace_of c.link.new.self i.disk i.turn i.next (group_by i.current) (names_by i.opened.items) (names_by i.ended.items))
-    (refuse_if (not (is_among earlier t.tracing.ended) || bytes_eq later earlier || list_any (λ e. is_same_group e.origin.group later) t.tracing.emitted) (fault.GroupFault line) (record t.tracing { links = t.tracing.links ++ (later, earlier) ∷ [] }))) c.self.view_is
+    (unless (not (is_among earlier t.tracing.ended) || bytes_eq later earlier || list_any (λ e. is_same_group e.origin.group later) t.tracing.emitted) (fault.GroupFault line)
+        (Ok (record t.tracing { links = t.tracing.links ++ (later, earlier) ∷ [] })))) c.self.view_is
     (record {
       base = ap (λ (l : Log). l.base) linked;
       kind = ap (λ (l : Log). l.kind) linked;

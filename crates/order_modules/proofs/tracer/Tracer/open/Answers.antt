@@ -1,6 +1,7 @@
 use Rattle.std.proofs.Common.{◌≡◌, ℕ, List, [], ◌∷◌, ◌++◌, false, ◌||◌, refl, sym, ap, subst, ◌∙◌, arith}
 use Rattle.std.specs.Prelude.{Some, is_some, Ok}
-use Rattle.crash_model.specs.Trace.{refuse_if, is_among}
+use Rattle.crash_model.specs.Plan.{unless}
+use Rattle.crash_model.specs.Trace.{is_among}
 use Rattle.crash_model.specs.declared.refusals.TraceFault.TheVariants as fault
 use Rattle.traced_patches.specs.Labels.{group_by}
 use Rattle.order_modules.specs.Tracer.{Trace, Moves, names_by, trace_of}
@@ -32,7 +33,8 @@ returns-clause-ok g c =
     let among : is_among name (names_by i.opened.items) ≡ false =
     among_read old name i.opened.items c.as_slice.result.now c.is_among.result (names_by i.opened.items) c.is_among.ensures c.as_slice.ensures.value refl ∙ c.if-is_among.false in
     subst (λ (t : Trace). Moves t (trace_of i.log i.disk i.turn i.next (Some name) (names_by c.push.new.self.items) (names_by i.ended.items))
-    (refuse_if (is_some t.tracing.current || is_among name t.tracing.opened) (fault.GroupFault line) (record t.tracing { current = Some name; opened = t.tracing.opened ++ name ∷ [] }))) c.self.view_is
+    (unless (is_some t.tracing.current || is_among name t.tracing.opened) (fault.GroupFault line)
+        (Ok (record t.tracing { current = Some name; opened = t.tracing.opened ++ name ∷ [] })))) c.self.view_is
     (record {
       base = refl;
       kind = refl;
