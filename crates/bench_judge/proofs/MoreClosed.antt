@@ -18,14 +18,16 @@ long : (ps : List Patch) → length (deps_of ps) ≡ length ps
 long [] = refl
 long (x ∷ ps) = ap suc (long ps)
 
-pub more_closed : (ps : List Patch) (id set : ℕ) (p : Patch) → slice_get ps id ≡ Some p → IsClosed (deps_of ps) set → IsSubset p.deps set → IsClosed (deps_of ps) (with_id set id)
+pub more_closed : (ps : List Patch) (id set : ℕ) (p : Patch) → slice_get ps id ≡ Some p → IsClosed (deps_of ps) set
+    → IsSubset p.deps set → IsClosed (deps_of ps) (with_id set id)
 more_closed ps id set p is closed within = record {
   known = λ q inside. elim (in_with_cases set id q inside) [
     | inl new ↦ let there = slice_get_within ps id p is in omega (arith, there, new, long ps)
     | inr old ↦ closed.known q old
   ];
   whole = λ q r inside dep. in_with_old set id r (elim (in_with_cases set id q inside) [
-    | inl new ↦ within r (subst (λ (s : ℕ). Has s r) (ap (λ (k : ℕ). slice_index (deps_of ps) k) new ∙ deps-at ps id p is) dep)
+    | inl new ↦ within r (subst (λ (s : ℕ). Has s r) (ap (λ (k : ℕ). slice_index (deps_of ps) k) new
+        ∙ deps-at ps id p is) dep)
     | inr old ↦ closed.whole q r old dep
   ]);
 }

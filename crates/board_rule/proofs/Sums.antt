@@ -1,5 +1,7 @@
 -- Sums over the views, where one of them changes, and rows where one of them grows.
-use Rattle.std.proofs.Common.{◌≡◌, ℕ, zero, suc, ◌+◌, ◌<◌, ◌≤◌, ◌≢◌, List, [], ◌∷◌, ◌++◌, length, set, get_or, take, cond, eqb, eq-eqb, sym, refl, ap, ◌∙◌, subst, arith, ⊎_elim, append_assoc, length-append, get_or-set_same, get_or-set_other}
+use Rattle.std.proofs.Common.{◌≡◌, ℕ, zero, suc, ◌+◌, ◌<◌, ◌≤◌, ◌≢◌, List, [], ◌∷◌, ◌++◌, length, set, get_or, take}
+use Rattle.std.proofs.Common.{cond, eqb, eq-eqb, sym, refl, ap, ◌∙◌, subst, arith, ⊎_elim, append_assoc, length-append}
+use Rattle.std.proofs.Common.{get_or-set_same, get_or-set_other}
 use Rattle.std.specs.List.{Contains}
 use mathlib.Core.Logic.{dite}
 use native.Mathlib.Decide.{ℕ_discrete, dec_le}
@@ -26,7 +28,8 @@ module _ {A : Type 0} (g : A → ℕ) where
   term_le (x ∷ xs) zero v e = omega (arith, ap g (some-injective x v e))
   term_le (x ∷ xs) (suc j) v e = omega (arith, term_le xs j v e)
 
-  pub terms_le : (l : List A) (j k : ℕ) (v u : A) → k ≢ j → get_elem? l j ≡ some v → get_elem? l k ≡ some u → g v + g u ≤ total g l
+  pub terms_le : (l : List A) (j k : ℕ) (v u : A) → k ≢ j → get_elem? l j ≡ some v → get_elem? l k ≡ some u
+      → g v + g u ≤ total g l
   terms_le [] j k v u n e d = absurd (some-ne-none v (sym e))
   terms_le (x ∷ xs) zero zero v u n e d = absurd (n refl)
   terms_le (x ∷ xs) zero (suc k) v u n e d = omega (arith, ap g (some-injective x v e), term_le xs k u d)
@@ -54,15 +57,19 @@ last-here [] x = refl
 last-here (y ∷ row) x = last-here row x
 
 -- a fact of each element, after one more
-pub snoc_cases : (row : List ℕ) (x : ℕ) (G : ℕ → ℕ → Type 0) → ((k : ℕ) → k < length row → G k (get_or row k 0)) → G (length row) x → (k : ℕ) → k < length (row ++ x ∷ []) → G k (get_or (row ++ x ∷ []) k 0)
+pub snoc_cases : (row : List ℕ) (x : ℕ) (G : ℕ → ℕ → Type 0) → ((k : ℕ) → k < length row → G k (get_or row k 0))
+    → G (length row) x → (k : ℕ) → k < length (row ++ x ∷ []) → G k (get_or (row ++ x ∷ []) k 0)
 snoc_cases row x G before last k h = dite (dec_le (suc k) (length row))
     (λ b. subst (G k) (sym (get_or_append_left row (x ∷ []) 0 k b)) (before k b))
-    (λ n. let e : length row ≡ k = omega (arith, n, h, length-append row (x ∷ [])) in subst (λ (j : ℕ). G j (get_or (row ++ x ∷ []) j 0)) e (subst (G (length row)) (sym (last-here row x)) last))
+    (λ n. let e : length row ≡ k = omega (arith, n, h, length-append row (x ∷ [])) in
+    subst (λ (j : ℕ). G j (get_or (row ++ x ∷ []) j 0)) e (subst (G (length row)) (sym (last-here row x)) last))
 
 -- a fact of each row, after a change of one
-pub rows_cases : (rows : List (List ℕ)) (q : ℕ) (new : List ℕ) (F : ℕ → List ℕ → Type 0) → length rows ≡ 13 → q < 13 → F q new → ((p : ℕ) → p < 13 → p ≢ q → F p (row_of rows p)) → (p : ℕ) → p < 13 → F p (row_of (set rows q new) p)
+pub rows_cases : (rows : List (List ℕ)) (q : ℕ) (new : List ℕ) (F : ℕ → List ℕ → Type 0) → length rows ≡ 13 → q < 13
+    → F q new → ((p : ℕ) → p < 13 → p ≢ q → F p (row_of rows p)) → (p : ℕ) → p < 13 → F p (row_of (set rows q new) p)
 rows_cases rows q new F all near here others p h = dite (ℕ_discrete p q)
-    (λ e. subst (λ (y : ℕ). F y (row_of (set rows q new) y)) (sym e) (subst (F q) (sym (get_or-set_same rows q new [] (omega (arith, all)))) here))
+    (λ e. subst (λ (y : ℕ). F y (row_of (set rows q new) y)) (sym e)
+    (subst (F q) (sym (get_or-set_same rows q new [] (omega (arith, all)))) here))
     (λ ne. subst (F p) (sym (get_or-set_other rows q p new [] ne)) (others p h ne))
 
 -- a last 0 is read as nothing is
@@ -73,7 +80,8 @@ snoc_zero (x ∷ l) zero = refl
 snoc_zero (x ∷ l) (suc j) = snoc_zero l j
 
 -- the sum, where one element changes
-pub total_set_or : {A : Type 0} (g : A → ℕ) (l : List A) (k : ℕ) (n d : A) → k < length l → total g (set l k n) + g (get_or l k d) ≡ total g l + g n
+pub total_set_or : {A : Type 0} (g : A → ℕ) (l : List A) (k : ℕ) (n d : A) → k < length l
+    → total g (set l k n) + g (get_or l k d) ≡ total g l + g n
 total_set_or g [] k n d h = absurd (omega arith)
 total_set_or g (x ∷ xs) zero n d h = omega arith
 total_set_or g (x ∷ xs) (suc k) n d h = omega (arith, total_set_or g xs k n d (omega arith))
@@ -85,14 +93,18 @@ total_term g (x ∷ xs) (suc k) d h = omega (arith, total_term g xs k d (omega (
 
 -- a place that is among these is counted
 pub among_at : (places : List ℕ) (k d : ℕ) → k < length places → 1 ≤ times_among (get_or places k d) places
-among_at places k d h = let p = get_or places k d in let one : cond (eqb p p) 1 0 ≡ 1 = ap {B = ℕ} (λ b. cond b 1 0) (eq-eqb p p refl) in omega (arith, one, total_term (λ x. cond (eqb x p) 1 0) places k d h)
+among_at places k d h = let p = get_or places k d in let one : cond (eqb p p) 1 0 ≡ 1 =
+    ap {B = ℕ} (λ b. cond b 1 0) (eq-eqb p p refl) in omega
+    (arith, one, total_term (λ x. cond (eqb x p) 1 0) places k d h)
 
 pub among : (p : ℕ) (places : List ℕ) → Contains places p → 1 ≤ times_among p places
 among p places has = subst (λ (x : ℕ). 1 ≤ times_among x places) has.2 (among_at places has.0 p has.1)
 
 -- a fact of each seat, after the step of one
-pub seats_turn : (F : View → Type 0) (views : List View) (i : ℕ) (w : View) → F w → ((j : ℕ) (u : View) → j ≢ i → get_elem? views j ≡ some u → F u) → EachSeat F (set views i w)
-seats_turn F views i w here others j u e = ⊎_elim (λ t. subst F t.1 here) (λ t. others j u t.0 t.1) (at_set views i j w u e)
+pub seats_turn : (F : View → Type 0) (views : List View) (i : ℕ) (w : View) → F w
+    → ((j : ℕ) (u : View) → j ≢ i → get_elem? views j ≡ some u → F u) → EachSeat F (set views i w)
+seats_turn F views i w here others j u e = ⊎_elim (λ t. subst F t.1 here) (λ t. others j u t.0 t.1)
+    (at_set views i j w u e)
 
 -- the first n words of a row
 pub take_beginning : (n : ℕ) (row : List ℕ) → StartsWith row (take n row)
@@ -103,7 +115,8 @@ take_beginning (suc n) (x ∷ row) = let t = take_beginning n row in (t.0, ap (�
 take_goes_on : (seen rest : List ℕ) (n : ℕ) → length seen ≤ n → StartsWith (take n (seen ++ rest)) seen
 take_goes_on [] rest n h = (take n rest, refl)
 take_goes_on (x ∷ seen) rest zero h = absurd (omega (arith, h))
-take_goes_on (x ∷ seen) rest (suc n) h = let t = take_goes_on seen rest n (omega (arith, h)) in (t.0, ap (λ (l : List ℕ). x ∷ l) t.1)
+take_goes_on (x ∷ seen) rest (suc n) h = let t = take_goes_on seen rest n (omega (arith, h)) in
+    (t.0, ap (λ (l : List ℕ). x ∷ l) t.1)
 
 -- at least those that were seen begin with them
 pub take_starts : (row seen : List ℕ) (n : ℕ) → StartsWith row seen → length seen ≤ n → StartsWith (take n row) seen

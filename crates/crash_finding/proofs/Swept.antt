@@ -11,7 +11,8 @@ use Rattle.crash_image.specs.Moves.{IsGood}
 
 -- the closed sets that are not good are those that fail
 pub all_failing : (kept : Option ℕ) (base : Disk) (patches : List Patch) (sets : List ℕ)
-    → AreAllInOrder (λ set. IsClosed (deps_of patches) set × ¬ (IsGood (record { base = base; patches = patches; kept = kept }) set)) sets
+    → AreAllInOrder (λ set. IsClosed (deps_of patches) set
+    × ¬ (IsGood (record { base = base; patches = patches; kept = kept }) set)) sets
     → AreAllInOrder (IsFailingUnder kept base patches) sets
 all_failing kept base patches sets all = record {
   ordered = all.ordered;

@@ -15,10 +15,12 @@ use Rattle.crash_image.proofs.Moved.{without_patches-shape, moved_image, unmoved
 
 module _ (base : Disk) (ps : List Patch) where
   pub started_base : applied_set base ps 0 ≡ record { base = base; patches = ps; set = 0 }
-  started_base = ap (λ (d : Disk). let a : Applied = record { base = d; patches = ps; set = 0 } in a) (without_patches-empty base ps)
+  started_base = ap (λ (d : Disk). let a : Applied = record { base = d; patches = ps; set = 0 } in a)
+      (without_patches-empty base ps)
 
   pub started : AreOver base ps → IsApplied (applied_set base ps 0) base
-  started over = subst (λ (d : Disk). IsApplied record { base = d; patches = ps; set = 0 } base) (sym (without_patches-empty base ps))
+  started over = subst (λ (d : Disk). IsApplied record { base = d; patches = ps; set = 0 } base)
+      (sym (without_patches-empty base ps))
       record { over = over; closed = empty_closed (deps_of ps); holds = sym (image-empty base ps) }
 
 -- ---- another set
@@ -29,7 +31,8 @@ fits_again m n ps same fits = subst (λ (k : ℕ). All (λ p. p.block < k) ps) s
 
 pub fits_image : (image : Disk) (ps : List Patch) (set : ℕ) → All (λ p. p.block < (without_set image ps set).blocks) ps
     → All (λ p. p.block < image.blocks) ps
-fits_image image ps set fits = fits_again (without_set image ps set).blocks image.blocks ps (without_patches-shape 0 image ps set).blocks fits
+fits_image image ps set fits = fits_again (without_set image ps set).blocks image.blocks ps
+    (without_patches-shape 0 image ps set).blocks fits
 
 module _ (image after : Disk) (ps : List Patch) (set next back on : ℕ)
     (now : IsApplied (applied_set image ps set) image) (closed : IsClosed (deps_of ps) next)
@@ -42,7 +45,8 @@ module _ (image after : Disk) (ps : List Patch) (set next back on : ℕ)
       ∙ moved_image (without_set image ps set) ps now.over set next back on now.closed closed less more
 
   same_base : without_set after ps next ≡ without_set image ps set
-  same_base = ap (λ (d : Disk). without_set d ps next) is_image ∙ unmoved_image (without_set image ps set) ps now.over next closed
+  same_base = ap (λ (d : Disk). without_set d ps next) is_image
+      ∙ unmoved_image (without_set image ps set) ps now.over next closed
 
   pub moved_base : applied_set after ps next ≡ record { base = without_set image ps set; patches = ps; set = next }
   moved_base = ap (λ (d : Disk). let a : Applied = record { base = d; patches = ps; set = next } in a) same_base

@@ -1,6 +1,7 @@
 -- One byte of an image under the patches of a set, and what undoing and redoing leave of it. A patch has one cell:
 -- what it puts at the byte, or nothing.
-use Rattle.std.proofs.Common.{◌≡◌, ℕ, suc, ◌+◌, ◌<◌, ◌⊎◌, inl, inr, List, [], ◌∷◌, length, get_or, Bool, true, false, cond, not, ◌&&◌, Option, Some, None, arith, refl, sym, ◌∙◌, ap}
+use Rattle.std.proofs.Common.{◌≡◌, ℕ, suc, ◌+◌, ◌<◌, ◌⊎◌, inl, inr, List, [], ◌∷◌, length, get_or, Bool, true, false}
+use Rattle.std.proofs.Common.{cond, not, ◌&&◌, Option, Some, None, arith, refl, sym, ◌∙◌, ap}
 use Rattle.std.specs.Prelude.{unwrap_or, is_some}
 use Rattle.patch_sets.specs.Sets.{has}
 
@@ -23,7 +24,8 @@ abbrev pub HasNone : ℕ → List (Option ℕ) → ℕ → Type 0
 HasNone id [] set = Unit {0}
 HasNone id (c ∷ cs) set = ((has set id && is_some c) ≡ false) × HasNone (id + 1) cs set
 
--- each such cell of the set has all such cells before it in the set: the set has them up to some place, and none from there on
+-- each such cell of the set has all such cells before it in the set: the set has them up to some place, and none from
+-- there on
 abbrev pub HasFront : ℕ → List (Option ℕ) → ℕ → Type 0
 HasFront id [] set = Unit {0}
 HasFront id (c ∷ cs) set =
@@ -65,7 +67,8 @@ none_less id (c ∷ cs) a b d less none = (
     still false y z h = refl
 
 -- where a has none of the cells, b and b without a put the same
-value_same : (id v : ℕ) (cs : List (Option ℕ)) (a b d : ℕ) → IsLess b a d → HasNone id cs a → value_from id v cs d ≡ value_from id v cs b
+value_same : (id v : ℕ) (cs : List (Option ℕ)) (a b d : ℕ) → IsLess b a d → HasNone id cs a
+    → value_from id v cs d ≡ value_from id v cs b
 value_same id v [] a b d less none = refl
 value_same id v (c ∷ cs) a b d less none =
     value_same (id + 1) (cond (has d id) (unwrap_or c v) v) cs a b d less none.1
@@ -89,7 +92,11 @@ none_front id (Some y ∷ cs) set none = inr (inr (and_true (has set id) none.0,
     and_true false h = h
 
 front_tail : (id : ℕ) (cs : List (Option ℕ)) (set : ℕ) → HasFront id (None ∷ cs) set → HasFront (id + 1) cs set
-front_tail id cs set p = elim p [ inl t ↦ t.1 | inr r ↦ elim r [ inl m ↦ m.1 | inr f ↦ none_front (id + 1) cs set f.1 ] ]
+front_tail id cs set p = elim p [
+  | inl t ↦ t.1
+  | inr r ↦
+      elim r [ inl m ↦ m.1 | inr f ↦ none_front (id + 1) cs set f.1 ]
+]
 
 cond_same : (b : Bool) (v : ℕ) → cond b v v ≡ v
 cond_same true v = refl
@@ -114,7 +121,8 @@ module _ (a b back on : ℕ) (less : IsLess a b back) (more : IsLess b a on) whe
   pub moved : (id v : ℕ) (cs : List (Option ℕ)) → HasFront id cs a → HasFront id cs b
       → value_from id (undo_from id v (value_from id v cs a) cs back) cs on ≡ value_from id v cs b
   moved id v [] p q = refl
-  moved id v (None ∷ cs) p q = simp (cond_same, and_false) (moved (id + 1) v cs (front_tail id cs a p) (front_tail id cs b q))
+  moved id v (None ∷ cs) p q = simp (cond_same, and_false)
+      (moved (id + 1) v cs (front_tail id cs a p) (front_tail id cs b q))
   moved id v (Some y ∷ cs) (inl t) (inl u) =
       rw (t.0, u.0, back_is id true true t.0 u.0, on_is id true true t.0 u.0) (moved (id + 1) y cs t.1 u.1)
   moved id v (Some y ∷ cs) (inl t) (inr (inl n)) = absurd (cc)
@@ -122,19 +130,23 @@ module _ (a b back on : ℕ) (less : IsLess a b back) (more : IsLess b a on) whe
       rw (f.0, back_is id true false t.0 f.0, on_is id true false t.0 f.0)
       (value-none (id + 1) v cs on (none_less (id + 1) cs b a on more f.1) ∙ sym (value-none (id + 1) v cs b f.1))
   moved id v (Some y ∷ cs) (inr (inl n)) q = absurd (cc)
-  moved id v (Some y ∷ cs) (inr (inr g)) (inl u) = rw (u.0, on_is id false true g.0 u.0) (value_same (id + 1) y cs a b on more g.1)
+  moved id v (Some y ∷ cs) (inr (inr g)) (inl u) = rw (u.0, on_is id false true g.0 u.0)
+      (value_same (id + 1) y cs a b on more g.1)
   moved id v (Some y ∷ cs) (inr (inr g)) (inr (inl n)) = absurd (cc)
   moved id v (Some y ∷ cs) (inr (inr g)) (inr (inr f)) =
       let stays : undo_from (id + 1) y (value_from (id + 1) v cs a) cs back ≡ v =
-      undo-none (id + 1) y (value_from (id + 1) v cs a) cs back (none_less (id + 1) cs a b back less g.1) ∙ value-none (id + 1) v cs a g.1 in
+      undo-none (id + 1) y (value_from (id + 1) v cs a) cs back (none_less (id + 1) cs a b back less g.1)
+      ∙ value-none (id + 1) v cs a g.1 in
       rw (g.0, f.0, back_is id false false g.0 f.0, on_is id false false g.0 f.0)
-      (rw stays (value-none (id + 1) v cs on (none_less (id + 1) cs b a on more f.1) ∙ sym (value-none (id + 1) v cs b f.1)))
+      (rw stays (value-none (id + 1) v cs on (none_less (id + 1) cs b a on more f.1)
+      ∙ sym (value-none (id + 1) v cs b f.1)))
 
 -- ---- sets with fronts
 
 -- each cell of the set that puts something has those before it in the set
 pub record HasEarlier (id : ℕ) (cs : List (Option ℕ)) (set : ℕ) : Type 0 where
-  pub earlier : (q r : ℕ) → q < r → r < length cs → is_some (get_or cs q None) ≡ true → is_some (get_or cs r None) ≡ true
+  pub earlier : (q r : ℕ) → q < r → r < length cs → is_some (get_or cs q None) ≡ true
+      → is_some (get_or cs r None) ≡ true
       → has set (id + r) ≡ true → has set (id + q) ≡ true
 
 -- the id of a cell, counted from the next one
@@ -144,13 +156,16 @@ next_id id set k = let same : id + 1 + k ≡ id + suc k = omega arith in ap (λ 
 first_id : (id set : ℕ) → has set (id + 0) ≡ has set id
 first_id id set = let same : id + 0 ≡ id = omega arith in ap (λ (m : ℕ). has set m) same
 
-earlier_tail : (id : ℕ) (c : Option ℕ) (cs : List (Option ℕ)) (set : ℕ) → HasEarlier id (c ∷ cs) set → HasEarlier (id + 1) cs set
+earlier_tail : (id : ℕ) (c : Option ℕ) (cs : List (Option ℕ)) (set : ℕ) → HasEarlier id (c ∷ cs) set
+    → HasEarlier (id + 1) cs set
 earlier_tail id c cs set h = record {
-  earlier = λ q r less long first second is. next_id id set q ∙ h.earlier (suc q) (suc r) (omega arith) (omega arith) first second (sym (next_id id set r) ∙ is);
+  earlier = λ q r less long first second is. next_id id set q
+      ∙ h.earlier (suc q) (suc r) (omega arith) (omega arith) first second (sym (next_id id set r) ∙ is);
 }
 
 -- a set has none where each cell that puts something is outside
-none_from : (cs : List (Option ℕ)) (id set : ℕ) → ((r : ℕ) → r < length cs → is_some (get_or cs r None) ≡ true → has set (id + r) ≡ true → ⊥) → HasNone id cs set
+none_from : (cs : List (Option ℕ)) (id set : ℕ) → ((r : ℕ) → r < length cs → is_some (get_or cs r None) ≡ true
+    → has set (id + r) ≡ true → ⊥) → HasNone id cs set
 none_from [] id set out = tt
 none_from (c ∷ cs) id set out = (
   not_both (has set id) (is_some c) (λ is some. out 0 (omega arith) some (first_id id set ∙ is)),
@@ -170,7 +185,8 @@ front_from (Some y ∷ cs) id set h = elim (bool_is (has set id)) [
   | inr out ↦ inr (inr (
     out,
     none_from cs (id + 1) set (λ r less some later.
-        let is : has set id ≡ true = sym (first_id id set) ∙ h.earlier 0 (suc r) (omega arith) (omega arith) refl some (sym (next_id id set r) ∙ later) in
+        let is : has set id ≡ true = sym (first_id id set) ∙ h.earlier 0 (suc r) (omega arith) (omega arith) refl some
+        (sym (next_id id set r) ∙ later) in
         absurd (cc)),
   ))
 ]

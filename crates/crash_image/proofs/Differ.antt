@@ -1,5 +1,6 @@
 -- In which blocks the images of two sets differ, and what copying them leaves.
-use Rattle.std.proofs.Common.{◌≡◌, ℕ, suc, ◌+◌, ◌*◌, ◌<◌, ◌≤◌, ◌⊎◌, inl, inr, List, [], ◌∷◌, length, get_or, Bool, true, false, cond, Some, arith, refl, sym, ◌∙◌, ap, subst}
+use Rattle.std.proofs.Common.{◌≡◌, ℕ, suc, ◌+◌, ◌*◌, ◌<◌, ◌≤◌, ◌⊎◌, inl, inr, List, [], ◌∷◌, length, get_or, Bool, true}
+use Rattle.std.proofs.Common.{false, cond, Some, arith, refl, sym, ◌∙◌, ap, subst}
 use Rattle.std.specs.Prelude.{slice_get, bit_or}
 use Rattle.std.specs.List.{All}
 use Rattle.std.proofs.lemmas.Bool.{cases_eq}
@@ -15,8 +16,10 @@ use Rattle.crash_model.specs.Replay.{image_after_replay}
 use Rattle.crash_model.specs.declared.patches.Patch.{Patch}
 use Rattle.patch_graph.specs.Graph.{IsAt, IsPatch}
 use Rattle.journal_replay.specs.Changed.{DifferAtMost}
-use Rattle.journal_replay.proofs.Blocks.{IsShaped, shaped-inside, shaped-with_bytes, length-block, block-put_other, block-put_same, overwrite-all, joined_blocks}
-use Rattle.crash_image.specs.Moves.{with_patch, without_patches_from, without_set, AreOver, Applied, HasBlocks, IsReplayed}
+use Rattle.journal_replay.proofs.Blocks.{IsShaped, shaped-inside, shaped-with_bytes, length-block, block-put_other}
+use Rattle.journal_replay.proofs.Blocks.{block-put_same, overwrite-all, joined_blocks}
+use Rattle.crash_image.specs.Moves.{with_patch, without_patches_from, without_set, AreOver, Applied, HasBlocks}
+use Rattle.crash_image.specs.Moves.{IsReplayed}
 use Rattle.crash_image.proofs.PutSteps.{image-empty}
 use Rattle.crash_image.proofs.Moved.{SameShape, disk-same, image-shape, moved_image}
 
@@ -38,11 +41,14 @@ abbrev pub RestHas : ℕ → List Patch → ℕ → ℕ → Type 0
 RestHas id [] set blocks = Unit {0}
 RestHas id (p ∷ ps) set blocks = (has set id ≡ true → Has blocks p.block) × RestHas (id + 1) ps set blocks
 
-rest_has : (id : ℕ) (ps : List Patch) (set blocks : ℕ) → ((q : ℕ) (patch : Patch) → slice_get ps q ≡ Some patch → Has set (id + q) → Has blocks patch.block) → RestHas id ps set blocks
+rest_has : (id : ℕ) (ps : List Patch) (set blocks : ℕ)
+    → ((q : ℕ) (patch : Patch) → slice_get ps q ≡ Some patch → Has set (id + q) → Has blocks patch.block)
+    → RestHas id ps set blocks
 rest_has id [] set blocks each = tt
 rest_has id (p ∷ ps) set blocks each = (
   λ is. each 0 p refl (subst (λ (k : ℕ). Has set k) (plus id) (from_has set id is)),
-  rest_has (id + 1) ps set blocks (λ q patch at is. each (suc q) patch at (subst (λ (k : ℕ). Has set k) (next id q) is)),
+  rest_has (id + 1) ps set blocks (λ q patch at is. each (suc q) patch
+      at (subst (λ (k : ℕ). Has set k) (next id q) is)),
 )
   where
     plus : (id : ℕ) → id ≡ id + 0
@@ -52,14 +58,19 @@ rest_has id (p ∷ ps) set blocks each = (
     next id q = omega arith
 
 has_rest : (ps : List Patch) (set blocks : ℕ) → HasBlocks ps set blocks → RestHas 0 ps set blocks
-has_rest ps set blocks has_blocks = rest_has 0 ps set blocks (λ q patch at is. has_blocks.each q patch (subst (λ (k : ℕ). Has set k) (plus q) is) at)
+has_rest ps set blocks has_blocks = rest_has 0 ps set blocks
+    (λ q patch at is. has_blocks.each q patch (subst (λ (k : ℕ). Has set k) (plus q) is) at)
   where
     plus : (q : ℕ) → 0 + q ≡ q
     plus q = omega arith
 
 -- more blocks
-has_more : (ps : List Patch) (set blocks more : ℕ) → IsSubset blocks more → HasBlocks ps set blocks → HasBlocks ps set more
-has_more ps set blocks more sub has_blocks = record { each = λ id patch is at. sub patch.block (has_blocks.each id patch is at) }
+has_more : (ps : List Patch) (set blocks more : ℕ) → IsSubset blocks more → HasBlocks ps set blocks
+    → HasBlocks ps set more
+has_more ps set blocks more sub has_blocks = record {
+  each =
+      λ id patch is at. sub patch.block (has_blocks.each id patch is at);
+}
 
 -- ---- a block that none of a set's patches changes
 
@@ -69,7 +80,8 @@ pub record IsKept (n jl x : ℕ) (start d : Disk) : Type 0 where
   pub same : block_of d x ≡ block_of start x
 
 module _ (n jl x blocks : ℕ) (within : x < n) (out : Has blocks x → ⊥) where
-  with_bytes-kept : (start d : Disk) (b off : ℕ) (new : List ℕ) (taken : Bool) → off + length new ≤ 128 → b < n → (taken ≡ true → Has blocks b)
+  with_bytes-kept : (start d : Disk) (b off : ℕ) (new : List ℕ) (taken : Bool) → off + length new ≤ 128 → b < n
+      → (taken ≡ true → Has blocks b)
       → IsKept n jl x start d → IsKept n jl x start (cond taken (with_bytes d b off new) d)
   with_bytes-kept start d b off new false inside below changed kept = kept
   with_bytes-kept start d b off new true inside below changed kept = record {
@@ -78,37 +90,48 @@ module _ (n jl x blocks : ℕ) (within : x < n) (out : Has blocks x → ⊥) whe
         (shaped-inside n jl d b kept.shaped below) (shaped-inside n jl d x kept.shaped within) ∙ kept.same;
   }
 
-  image-kept : (id : ℕ) (start d : Disk) (ps : List Patch) (set : ℕ) → All IsPatch ps → All (λ p. p.block < n) ps → RestHas id ps set blocks
+  image-kept : (id : ℕ) (start d : Disk) (ps : List Patch) (set : ℕ) → All IsPatch ps → All (λ p. p.block < n) ps
+      → RestHas id ps set blocks
       → IsKept n jl x start d → IsKept n jl x start (image_from id d (places_of ps) set)
   image-kept id start d [] set each known has_all kept = kept
   image-kept id start d (p ∷ ps) set each known has_all kept =
-      image-kept (id + 1) start (cond (has set id) (with_patch p d) d) ps set (All-tail IsPatch p ps each) (All-tail (λ q. q.block < n) p ps known) has_all.1
-      (with_bytes-kept start d p.block p.offset p.new.items (has set id) (All-head IsPatch p ps each).inside (All-head (λ q. q.block < n) p ps known) has_all.0 kept)
+      image-kept (id + 1) start (cond (has set id) (with_patch p d) d) ps set (All-tail IsPatch p ps each)
+      (All-tail (λ q. q.block < n) p ps known) has_all.1
+      (with_bytes-kept start d p.block p.offset p.new.items (has set id) (All-head IsPatch p ps each).inside
+      (All-head (λ q. q.block < n) p ps known) has_all.0 kept)
 
-  without_patches-kept : (id : ℕ) (start d : Disk) (ps : List Patch) (set : ℕ) → All IsPatch ps → All (λ p. p.block < n) ps → RestHas id ps set blocks
+  without_patches-kept : (id : ℕ) (start d : Disk) (ps : List Patch) (set : ℕ) → All IsPatch ps
+      → All (λ p. p.block < n) ps → RestHas id ps set blocks
       → IsKept n jl x start d → IsKept n jl x start (without_patches_from id d ps set)
   without_patches-kept id start d [] set each known has_all kept = kept
   without_patches-kept id start d (p ∷ ps) set each known has_all kept =
       let here = All-head IsPatch p ps each in
-      with_bytes-kept start (without_patches_from (id + 1) d ps set) p.block p.offset p.undo.items (has set id) (omega (arith, here.inside, here.undone))
+      with_bytes-kept start (without_patches_from (id + 1) d ps set) p.block p.offset p.undo.items (has set id)
+      (omega (arith, here.inside, here.undone))
       (All-head (λ q. q.block < n) p ps known) has_all.0
-      (without_patches-kept (id + 1) start d ps set (All-tail IsPatch p ps each) (All-tail (λ q. q.block < n) p ps known) has_all.1 kept)
+      (without_patches-kept (id + 1) start d ps set (All-tail IsPatch p ps each)
+      (All-tail (λ q. q.block < n) p ps known) has_all.1 kept)
 
-shaped-choice : (n jl : ℕ) (d : Disk) (p : Patch) (taken : Bool) → IsPatch p → p.block < n → IsShaped n jl d → IsShaped n jl (cond taken (with_patch p d) d)
+shaped-choice : (n jl : ℕ) (d : Disk) (p : Patch) (taken : Bool) → IsPatch p → p.block < n → IsShaped n jl d
+    → IsShaped n jl (cond taken (with_patch p d) d)
 shaped-choice n jl d p true whole below s = shaped-with_bytes n jl d p.block p.offset p.new.items s whole.inside below
 shaped-choice n jl d p false whole below s = s
 
-shaped-image : (n jl id : ℕ) (d : Disk) (ps : List Patch) (set : ℕ) → All IsPatch ps → All (λ p. p.block < n) ps → IsShaped n jl d → IsShaped n jl (image_from id d (places_of ps) set)
+shaped-image : (n jl id : ℕ) (d : Disk) (ps : List Patch) (set : ℕ) → All IsPatch ps → All (λ p. p.block < n) ps
+    → IsShaped n jl d → IsShaped n jl (image_from id d (places_of ps) set)
 shaped-image n jl id d [] set each known s = s
 shaped-image n jl id d (p ∷ ps) set each known s =
-    shaped-image n jl (id + 1) (cond (has set id) (with_patch p d) d) ps set (All-tail IsPatch p ps each) (All-tail (λ q. q.block < n) p ps known)
+    shaped-image n jl (id + 1) (cond (has set id) (with_patch p d) d) ps set (All-tail IsPatch p ps each)
+    (All-tail (λ q. q.block < n) p ps known)
     (shaped-choice n jl d p (has set id) (All-head IsPatch p ps each) (All-head (λ q. q.block < n) p ps known) s)
 
 -- ---- from set to set
 
 -- the images of two closed sets differ at most in the blocks of the patches that one of them has
-pub sets_differ : (base : Disk) (ps : List Patch) (a b back on first blocks : ℕ) → AreOver base ps → IsClosed (deps_of ps) a → IsClosed (deps_of ps) b
-    → IsDifference a b back → IsDifference b a on → HasBlocks ps back first → IsSubset first blocks → HasBlocks ps on blocks
+pub sets_differ : (base : Disk) (ps : List Patch) (a b back on first blocks : ℕ) → AreOver base ps
+    → IsClosed (deps_of ps) a → IsClosed (deps_of ps) b
+    → IsDifference a b back → IsDifference b a on → HasBlocks ps back first → IsSubset first blocks
+    → HasBlocks ps on blocks
     → DifferAtMost blocks (image_of base ps a) (image_of base ps b)
 sets_differ base ps a b back on first blocks over from to less more undone_blocks sub redone_blocks =
     let start : Disk = image_of base ps a in
@@ -116,10 +139,14 @@ sets_differ base ps a b back on first blocks over from to less more undone_block
     record {
       same = λ x below out.
           let within : x < base.blocks = subst (λ (n : ℕ). x < n) same.blocks below in
-          let whole : IsShaped base.blocks base.journal start = shaped-image base.blocks base.journal 0 base ps a over.graph.each over.fits (disk-shape base over.disk) in
-          let taken_back = without_patches-kept base.blocks base.journal x blocks within out 0 start start ps back over.graph.each over.fits
-          (has_rest ps back blocks (has_more ps back first blocks sub undone_blocks)) record { shaped = whole; same = refl } in
-          let put_on = image-kept base.blocks base.journal x blocks within out 0 start (without_set start ps back) ps on over.graph.each over.fits
+          let whole : IsShaped base.blocks base.journal start = shaped-image base.blocks base.journal 0 base ps a
+          over.graph.each over.fits (disk-shape base over.disk) in
+          let taken_back = without_patches-kept base.blocks base.journal x blocks within out 0 start start ps back
+          over.graph.each over.fits
+          (has_rest ps back blocks (has_more ps back first blocks sub undone_blocks))
+          record { shaped = whole; same = refl } in
+          let put_on = image-kept base.blocks base.journal x blocks within out 0 start (without_set start ps back) ps on
+          over.graph.each over.fits
           (has_rest ps on blocks redone_blocks) taken_back in
           ap (λ (d : Disk). block_of d x) (sym (moved_image base ps over a b back on from to less more)) ∙ put_on.same;
     }
@@ -137,14 +164,16 @@ pub record HasOrLeft (patches : List Patch) (set left all : ℕ) : Type 0 where
 pub all_left : (ps : List Patch) (set blocks : ℕ) → HasOrLeft ps set set blocks
 all_left ps set blocks = record { each = λ id patch is at. inl is }
 
-pub one_added : (ps : List Patch) (set left rest all next k : ℕ) (p : Patch) → IsAt ps k p → IsWithout left k rest → next ≡ with_id all p.block
+pub one_added : (ps : List Patch) (set left rest all next k : ℕ) (p : Patch) → IsAt ps k p → IsWithout left k rest
+    → next ≡ with_id all p.block
     → HasOrLeft ps set left all → HasOrLeft ps set rest next
 one_added ps set left rest all next k p here without is before = record {
   each = λ id patch member at. elim (cases_eq id k) [
     | inl same ↦
         let one : Some p ≡ Some patch = sym here ∙ ap (λ (j : ℕ). slice_get ps j) (sym same) ∙ at in
         let which : p ≡ patch = cc in
-        inr (subst (λ (q : Patch). Has next q.block) which (subst (λ (s : ℕ). Has s p.block) (sym is) (in_with_same all p.block)))
+        inr (subst (λ (q : Patch). Has next q.block) which (subst (λ (s : ℕ). Has s p.block) (sym is)
+        (in_with_same all p.block)))
     | inr other ↦ elim (before.each id patch member at) [
       | inl still ↦ inl ((without.others id other).1 still)
       | inr there ↦ inr (subst (λ (s : ℕ). Has s patch.block) (sym is) (in_with_old all p.block patch.block there))
@@ -161,12 +190,14 @@ none_left ps set left all none before = record {
 }
 
 pub subset_with : (from set next b : ℕ) → next ≡ with_id set b → IsSubset from set → IsSubset from next
-subset_with from set next b is sub = λ id member. subst (λ (s : ℕ). Has s id) (sym is) (in_with_old set b id (sub id member))
+subset_with from set next b is sub = λ id member. subst (λ (s : ℕ). Has s id) (sym is)
+    (in_with_old set b id (sub id member))
 
 -- ---- copying blocks
 
 -- the images before and after one move differ in what differed before and what the move changed
-pub differ_both : (before now after : Disk) (stale changed : ℕ) → now.blocks ≡ before.blocks → DifferAtMost stale before after → DifferAtMost changed before now → DifferAtMost (bit_or stale changed) now after
+pub differ_both : (before now after : Disk) (stale changed : ℕ) → now.blocks ≡ before.blocks
+    → DifferAtMost stale before after → DifferAtMost changed before now → DifferAtMost (bit_or stale changed) now after
 differ_both before now after stale changed size old new = record {
   same = λ x below out.
       old.same x (omega (arith, size)) (λ is. out (in_or_left stale changed x is))
@@ -180,37 +211,49 @@ pub record IsCopying (from into : Disk) (left : ℕ) : Type 0 where
   pub journal : into.journal ≡ from.journal
   pub others : DifferAtMost left from into
 
-pub copied_one : (from into next : Disk) (left rest k : ℕ) → IsDisk from → IsWithout left k rest → k < from.blocks → next ≡ with_bytes into k 0 (block_of from k)
+pub copied_one : (from into next : Disk) (left rest k : ℕ) → IsDisk from → IsWithout left k rest → k < from.blocks
+    → next ≡ with_bytes into k 0 (block_of from k)
     → IsCopying from into left → IsCopying from next rest
 copied_one from into next left rest k i without within is c =
     let whole : IsShaped from.blocks from.journal from = disk-shape from i in
     let s : IsShaped into.blocks into.journal into = disk-shape into c.disk in
-    let long : length (block_of from k) ≡ 128 = length-block from k (shaped-inside from.blocks from.journal from k whole within) in
+    let long : length (block_of from k) ≡ 128 = length-block from k
+    (shaped-inside from.blocks from.journal from k whole within) in
     let below : k < into.blocks = omega (arith, c.blocks) in
-    let put_shape : IsShaped into.blocks into.journal (with_bytes into k 0 (block_of from k)) = shaped-with_bytes into.blocks into.journal into k 0 (block_of from k) s (omega arith) below in
-    let next_shape : IsShaped into.blocks into.journal next = subst (λ (d : Disk). IsShaped into.blocks into.journal d) (sym is) put_shape in
+    let put_shape : IsShaped into.blocks into.journal (with_bytes into k 0 (block_of from k)) =
+    shaped-with_bytes into.blocks into.journal into k 0 (block_of from k) s (omega arith) below in
+    let next_shape : IsShaped into.blocks into.journal next = subst (λ (d : Disk). IsShaped into.blocks into.journal d)
+    (sym is) put_shape in
     record {
       disk = shape-disk into next c.disk next_shape;
       blocks = next_shape.blocks ∙ c.blocks;
       journal = next_shape.journal ∙ c.journal;
       others = record {
         same = λ x less out. ap (λ (d : Disk). block_of d x) is ∙ elim (cases_eq x k) [
-          | inl same ↦ subst (λ (y : ℕ). block_of (with_bytes into k 0 (block_of from k)) y ≡ block_of from y) (sym same)
-              (block-put_same into k 0 (block_of from k) (omega arith) (shaped-inside into.blocks into.journal into k s below)
-              ∙ overwrite-all (block_of into k) (block_of from k) (omega (arith, length-block into k (shaped-inside into.blocks into.journal into k s below))))
-          | inr other ↦ block-put_other into k 0 (block_of from k) x other (omega arith) (shaped-inside into.blocks into.journal into k s below)
+          | inl same ↦ subst (λ (y : ℕ). block_of (with_bytes into k 0 (block_of from k)) y ≡ block_of from y)
+              (sym same)
+              (block-put_same into k 0 (block_of from k) (omega arith)
+              (shaped-inside into.blocks into.journal into k s below)
+              ∙ overwrite-all (block_of into k) (block_of from k)
+              (omega (arith, length-block into k (shaped-inside into.blocks into.journal into k s below))))
+          | inr other ↦ block-put_other into k 0 (block_of from k) x other (omega arith)
+              (shaped-inside into.blocks into.journal into k s below)
               (shaped-inside into.blocks into.journal into x s (omega (arith, c.blocks)))
               ∙ c.others.same x less (λ had. out ((without.others x other).1 had))
         ];
       };
     }
 
-pub copied_beyond : (from into : Disk) (left rest k : ℕ) → IsWithout left k rest → from.blocks ≤ k → IsCopying from into left → IsCopying from into rest
+pub copied_beyond : (from into : Disk) (left rest k : ℕ) → IsWithout left k rest → from.blocks ≤ k
+    → IsCopying from into left → IsCopying from into rest
 copied_beyond from into left rest k without beyond c = record {
   disk = c.disk;
   blocks = c.blocks;
   journal = c.journal;
-  others = record { same = λ x less out. c.others.same x less (λ had. out ((without.others x (λ e. absurd (omega arith))).1 had)) };
+  others = record {
+    same = λ x less out. c.others.same x less
+        (λ had. out ((without.others x (λ e. absurd (omega arith))).1 had));
+  };
 }
 
 pub copied_all : (from into : Disk) (left : ℕ) → IsDisk from → left ≡ 0 → IsCopying from into left → into ≡ from
@@ -224,7 +267,8 @@ copied_all from into left i none c =
 -- ---- the image after replay, from set to set
 
 -- the image before the first move
-pub replayed_first : (m : Applied) (base copy after : Disk) (ps : List Patch) (stale : ℕ) → m ≡ record { base = base; patches = ps; set = 0 } → copy ≡ base
+pub replayed_first : (m : Applied) (base copy after : Disk) (ps : List Patch) (stale : ℕ)
+    → m ≡ record { base = base; patches = ps; set = 0 } → copy ≡ base
     → after ≡ image_after_replay copy → DifferAtMost stale copy after → IsReplayed m after stale
 replayed_first m base copy after ps stale is same here differ =
     let empty : copy ≡ image_of base ps 0 = same ∙ sym (image-empty base ps) in
@@ -233,7 +277,8 @@ replayed_first m base copy after ps stale is same here differ =
       differ = subst (λ (d : Disk). DifferAtMost stale d after) empty differ;
     }
 
-module _ (a m : Applied) (after image : Disk) (set stale changed : ℕ) (was : IsReplayed a after stale) (to : m ≡ record a { set = set })
+module _ (a m : Applied) (after image : Disk) (set stale changed : ℕ) (was : IsReplayed a after stale)
+    (to : m ≡ record a { set = set })
     (is : image ≡ image_of m.base m.patches m.set) where
   -- the image of the next set
   next_image : image ≡ image_of a.base a.patches set
@@ -254,6 +299,7 @@ module _ (a m : Applied) (after image : Disk) (set stale changed : ℕ) (was : I
   pub next_journal : after.journal ≡ image.journal
   next_journal = ap (λ (d : Disk). d.journal) was.is ∙ sym next_shape.journal
 
-  pub next_differ : DifferAtMost changed (image_of a.base a.patches a.set) (image_of a.base a.patches set) → DifferAtMost (bit_or stale changed) image after
+  pub next_differ : DifferAtMost changed (image_of a.base a.patches a.set) (image_of a.base a.patches set)
+      → DifferAtMost (bit_or stale changed) image after
   next_differ new = differ_both (image_of a.base a.patches a.set) image after stale changed next_shape.blocks was.differ
       (subst (λ (d : Disk). DifferAtMost changed (image_of a.base a.patches a.set) d) (sym next_image) new)

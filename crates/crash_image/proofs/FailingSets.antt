@@ -20,7 +20,8 @@ Reached c = IsReached (successors_of (deps_of c.patches)) 0
 
 -- the patches of a space depend on earlier ones
 pub earlier_of : (c : Crashes) (base : Disk) (patches : List Patch) (kept : Option ℕ)
-    → (let d : Crashes = record { base = base; patches = patches; kept = kept } in d) ≡ c → AreOver base patches → AreEarlier (deps_of c.patches)
+    → (let d : Crashes = record { base = base; patches = patches; kept = kept } in d) ≡ c → AreOver base patches
+    → AreEarlier (deps_of c.patches)
 earlier_of c base patches kept is over = subst (λ (d : Crashes). AreEarlier (deps_of d.patches)) is over.graph.earlier
 
 module _ (c : Crashes) (earlier : AreEarlier (deps_of c.patches)) where
@@ -28,10 +29,12 @@ module _ (c : Crashes) (earlier : AreEarlier (deps_of c.patches)) where
   reach_closed set = (reached_closed (deps_of c.patches) set, closed_reached (deps_of c.patches) earlier set)
 
   pub closed_number : (n : ℕ) → HoldsOf (Reached c) n → CountsClosed c.patches n
-  closed_number = number_like (Reached c) (IsClosed (deps_of c.patches)) (λ set. (reach_closed set).0) (λ set. (reach_closed set).1)
+  closed_number = number_like (Reached c) (IsClosed (deps_of c.patches)) (λ set. (reach_closed set).0)
+      (λ set. (reach_closed set).1)
 
   pub closed_more : (limit : ℕ) → Outnumbers (Reached c) limit → ExceedsLimit c.patches limit
-  closed_more = outnumbers_like (Reached c) (IsClosed (deps_of c.patches)) (λ set. (reach_closed set).0) (λ set. (reach_closed set).1)
+  closed_more = outnumbers_like (Reached c) (IsClosed (deps_of c.patches)) (λ set. (reach_closed set).0)
+      (λ set. (reach_closed set).1)
 
   bad_failing : (set : ℕ) → (Reached c set × ¬ (IsGood c set)) ↔ IsFailingUnder c.kept c.base c.patches set
   bad_failing set = (
@@ -40,12 +43,15 @@ module _ (c : Crashes) (earlier : AreEarlier (deps_of c.patches)) where
   )
 
 -- a list of all sets with a property is one of all sets with a property that holds of the same
-all_like : (P Q : ℕ → Type 0) → ((set : ℕ) → P set ↔ Q set) → (sets : List ℕ) → AreAllInOrder P sets → AreAllInOrder Q sets
+all_like : (P Q : ℕ → Type 0) → ((set : ℕ) → P set ↔ Q set) → (sets : List ℕ) → AreAllInOrder P sets
+    → AreAllInOrder Q sets
 all_like P Q same sets all = record {
   ordered = all.ordered;
   exactly = λ set. (λ is. (same set).0 ((all.exactly set).0 is), λ q. (all.exactly set).1 ((same set).1 q));
 }
 
 pub bad_list : (c : Crashes) → AreEarlier (deps_of c.patches) → (sets : List ℕ)
-    → AreAllInOrder (λ set. Reached c set × ¬ (IsGood c set)) sets → AreAllInOrder (IsFailingUnder c.kept c.base c.patches) sets
-bad_list c earlier = all_like (λ set. Reached c set × ¬ (IsGood c set)) (IsFailingUnder c.kept c.base c.patches) (bad_failing c earlier)
+    → AreAllInOrder (λ set. Reached c set × ¬ (IsGood c set)) sets
+    → AreAllInOrder (IsFailingUnder c.kept c.base c.patches) sets
+bad_list c earlier = all_like (λ set. Reached c set × ¬ (IsGood c set)) (IsFailingUnder c.kept c.base c.patches)
+    (bad_failing c earlier)

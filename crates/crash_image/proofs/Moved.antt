@@ -42,11 +42,13 @@ image-shape id d (p ∷ ps) set =
     like (image-shape (id + 1) (cond (has set id) (with_patch p d) d) ps set)
     (either_shape (has set id) (with_patch p d) d d record { blocks = refl; journal = refl } (same_shape d))
 
-pub without_patches-shape : (id : ℕ) (d : Disk) (ps : List Patch) (set : ℕ) → SameShape (without_patches_from id d ps set) d
+pub without_patches-shape : (id : ℕ) (d : Disk) (ps : List Patch) (set : ℕ)
+    → SameShape (without_patches_from id d ps set) d
 without_patches-shape id d [] set = same_shape d
 without_patches-shape id d (p ∷ ps) set =
     let rest = without_patches-shape (id + 1) d ps set in
-    either_shape (has set id) (without_patch p (without_patches_from (id + 1) d ps set)) (without_patches_from (id + 1) d ps set) d
+    either_shape (has set id) (without_patch p (without_patches_from (id + 1) d ps set))
+    (without_patches_from (id + 1) d ps set) d
     record { blocks = rest.blocks; journal = rest.journal } rest
 
 pub disk-same : (d e : Disk) → SameShape d e → d.bytes ≡ e.bytes → d ≡ e
@@ -63,11 +65,13 @@ disk-same d e shape bytes =
 less_of : (a b d : ℕ) → IsDifference a b d → IsLess a b d
 less_of a b d difference = record {
   is = λ q. by_bits (has a q) (has b q) (has d q)
-      (λ is. let it = (difference.exactly q).0 (from_has d q is) in (has_true a q it.0, λ also. it.1 (from_has b q also)))
+      (λ is. let it = (difference.exactly q).0 (from_has d q is) in
+      (has_true a q it.0, λ also. it.1 (from_has b q also)))
       (λ is alone. has_true d q ((difference.exactly q).1 (from_has a q is, λ also. alone (has_true b q also))));
 }
   where
-    by_bits : (x y z : Bool) → (z ≡ true → (x ≡ true) × (y ≡ true → ⊥)) → (x ≡ true → (y ≡ true → ⊥) → z ≡ true) → z ≡ (x && not y)
+    by_bits : (x y z : Bool) → (z ≡ true → (x ≡ true) × (y ≡ true → ⊥)) → (x ≡ true → (y ≡ true → ⊥) → z ≡ true)
+        → z ≡ (x && not y)
     by_bits true true true to from = absurd ((to refl).1 refl)
     by_bits true true false to from = refl
     by_bits true false z to from = from refl (λ e. cc)
@@ -78,17 +82,21 @@ less_of a b d difference = record {
 
 module _ (base : Disk) (ps : List Patch) (over : AreOver base ps) where
   -- undo of a without b and redo of b without a make of the image of a that of b
-  pub moved_image : (a b back on : ℕ) → IsClosed (deps_of ps) a → IsClosed (deps_of ps) b → IsDifference a b back → IsDifference b a on
+  pub moved_image : (a b back on : ℕ) → IsClosed (deps_of ps) a → IsClosed (deps_of ps) b → IsDifference a b back
+      → IsDifference b a on
       → image_of (without_set (image_of base ps a) ps back) ps on ≡ image_of base ps b
   moved_image a b back on from to less more =
       let n : ℕ = 128 * base.blocks in
       let fit : AllFit n ps = all_fit base.blocks n ps refl over.graph.each over.fits in
-      let bytes = λ (i : ℕ). moved-byte n base ps a b back on i over.disk.whole fit over.undo (less_of a b back less) (less_of b a on more)
+      let bytes = λ (i : ℕ). moved-byte n base ps a b back on i over.disk.whole fit over.undo (less_of a b back less)
+      (less_of b a on more)
       (front_of base ps a i over from) (front_of base ps b i over to) in
       disk-same _ _
-      (like (image-shape 0 (without_set (image_of base ps a) ps back) ps on) (like (without_patches-shape 0 (image_of base ps a) ps back)
+      (like (image-shape 0 (without_set (image_of base ps a) ps back) ps on)
+      (like (without_patches-shape 0 (image_of base ps a) ps back)
       (like (image-shape 0 base ps a) (unlike (image-shape 0 base ps b)))))
-      (same_number_lists _ _ ((bytes 0).1.long ∙ sym (bytes 0).2.long) (λ i below. (bytes i).1.byte ∙ sym (bytes i).2.byte))
+      (same_number_lists _ _ ((bytes 0).1.long ∙ sym (bytes 0).2.long)
+      (λ i below. (bytes i).1.byte ∙ sym (bytes i).2.byte))
 
   -- the base is what is left where all of the set is taken back
   pub unmoved_image : (set : ℕ) → IsClosed (deps_of ps) set → without_set (image_of base ps set) ps set ≡ base

@@ -1,5 +1,6 @@
 -- The patches of a set, put on a disk and taken back one at a time.
-use Rattle.std.proofs.Common.{◌≡◌, ◌≢◌, ℕ, zero, suc, ◌+◌, ◌<◌, ◌≤◌, List, [], ◌∷◌, Bool, true, false, cond, Some, arith, refl, sym, ◌∙◌, ap, subst, inl, inr}
+use Rattle.std.proofs.Common.{◌≡◌, ◌≢◌, ℕ, zero, suc, ◌+◌, ◌<◌, ◌≤◌, List, [], ◌∷◌, Bool, true, false, cond, Some}
+use Rattle.std.proofs.Common.{arith, refl, sym, ◌∙◌, ap, subst, inl, inr}
 use Rattle.std.specs.Prelude.{slice_get}
 use Rattle.patch_sets.specs.Sets.{Has, has}
 use Rattle.patch_sets.specs.Ends.{IsLowest, IsHighest, IsWithout}
@@ -19,9 +20,11 @@ image-none id d (p ∷ ps) set none =
     ap (λ (b : Bool). image_from (id + 1) (cond b (with_patch p d) d) (places_of ps) set) (none id (omega arith))
     ∙ image-none (id + 1) d ps set (λ q from. none q (omega arith))
 
-pub without_patches-none : (id : ℕ) (d : Disk) (ps : List Patch) (set : ℕ) → ((q : ℕ) → id ≤ q → has set q ≡ false) → without_patches_from id d ps set ≡ d
+pub without_patches-none : (id : ℕ) (d : Disk) (ps : List Patch) (set : ℕ) → ((q : ℕ) → id ≤ q → has set q ≡ false)
+    → without_patches_from id d ps set ≡ d
 without_patches-none id d [] set none = refl
-without_patches-none id d (p ∷ ps) set none = rw (none id (omega arith)) (without_patches-none (id + 1) d ps set (λ q from. none q (omega arith)))
+without_patches-none id d (p ∷ ps) set none = rw (none id (omega arith))
+    (without_patches-none (id + 1) d ps set (λ q from. none q (omega arith)))
 
 image-same : (id : ℕ) (d : Disk) (ps : List Patch) (a b : ℕ) → ((q : ℕ) → id ≤ q → has a q ≡ has b q)
     → image_from id d (places_of ps) a ≡ image_from id d (places_of ps) b
@@ -56,7 +59,8 @@ found : (x p : Patch) → Some x ≡ Some p → x ≡ p
 found x p e = cc
 
 -- the lowest goes first, and then the rest
-pub image-lowest : (r id : ℕ) (d : Disk) (ps : List Patch) (set k rest : ℕ) (p : Patch) → k ≡ id + r → slice_get ps r ≡ Some p
+pub image-lowest : (r id : ℕ) (d : Disk) (ps : List Patch) (set k rest : ℕ) (p : Patch) → k ≡ id + r
+    → slice_get ps r ≡ Some p
     → IsRest set k rest → ((q : ℕ) → q < k → has set q ≡ false)
     → image_from id d (places_of ps) set ≡ image_from id (with_patch p d) (places_of ps) rest
 image-lowest r id d [] set k rest p at is less low = absurd (cc)
@@ -79,7 +83,8 @@ image-lowest (suc r) id d (x ∷ ps) set k rest p at is less low =
     ∙ ap (λ (b : Bool). image_from (id + 1) (cond b (with_patch x after) after) (places_of ps) rest) (sym still)
 
 -- the highest is taken back first, and then the rest
-pub without_patches-highest : (r id : ℕ) (d : Disk) (ps : List Patch) (set k rest : ℕ) (p : Patch) → k ≡ id + r → slice_get ps r ≡ Some p
+pub without_patches-highest : (r id : ℕ) (d : Disk) (ps : List Patch) (set k rest : ℕ) (p : Patch) → k ≡ id + r
+    → slice_get ps r ≡ Some p
     → IsRest set k rest → ((q : ℕ) → k < q → has set q ≡ false)
     → without_patches_from id d ps set ≡ without_patches_from id (without_patch p d) ps rest
 without_patches-highest r id d [] set k rest p at is less high = absurd (cc)
@@ -88,17 +93,22 @@ without_patches-highest zero id d (x ∷ ps) set k rest p at is less high =
     let had : has set id ≡ true = ap (has set) here ∙ less.had in
     let gone : has rest id ≡ false = ap (has rest) here ∙ less.gone in
     let same : x ≡ p = found x p is in
-    let before : without_patches_from (id + 1) d ps set ≡ d = without_patches-none (id + 1) d ps set (λ q from. high q (omega arith)) in
+    let before : without_patches_from (id + 1) d ps set ≡ d =
+    without_patches-none (id + 1) d ps set (λ q from. high q (omega arith)) in
     let after : without_patches_from (id + 1) (without_patch p d) ps rest ≡ without_patch p d =
-    without_patches-none (id + 1) (without_patch p d) ps rest (λ q from. less.others q (omega arith) ∙ high q (omega arith)) in
+    without_patches-none (id + 1) (without_patch p d) ps rest
+    (λ q from. less.others q (omega arith) ∙ high q (omega arith)) in
     rw (had, gone, same, before, after) refl
 without_patches-highest (suc r) id d (x ∷ ps) set k rest p at is less high =
-    rw (less.others id (omega arith)) (ap (λ (e : Disk). cond (has set id) (without_patch x e) e) (without_patches-highest r (id + 1) d ps set k rest p (omega arith) is less high))
+    rw (less.others id (omega arith)) (ap (λ (e : Disk). cond (has set id) (without_patch x e) e)
+    (without_patches-highest r (id + 1) d ps set k rest p (omega arith) is less high))
 
 -- ---- the loops' steps
 
--- what a set makes of a disk, its lowest patch and then the rest make of it, and taken back its highest and then the rest
-module _ (d after whole : Disk) (ps : List Patch) (set k rest : ℕ) (p : Patch) (is : slice_get ps k ≡ Some p) (without : IsWithout set k rest) where
+-- what a set makes of a disk, its lowest patch and then the rest make of it, and taken back its highest and then the
+-- rest
+module _ (d after whole : Disk) (ps : List Patch) (set k rest : ℕ) (p : Patch) (is : slice_get ps k ≡ Some p)
+    (without : IsWithout set k rest) where
   pub redo_step : IsLowest set k → after ≡ with_patch p d → image_of d ps set ≡ whole → image_of after ps rest ≡ whole
   redo_step lowest put_is was =
       ap (λ (e : Disk). image_of e ps rest) put_is
@@ -124,7 +134,8 @@ pub without_patches-empty : (d : Disk) (ps : List Patch) → without_set d ps 0 
 without_patches-empty d ps = without_patches-none 0 d ps 0 (λ q from. none_has q)
 
 -- what holds of each id of a set holds of each that is left
-pub still_below : (n set k rest : ℕ) → IsWithout set k rest → ((id : ℕ) → Has set id → id < n) → (id : ℕ) → Has rest id → id < n
+pub still_below : (n set k rest : ℕ) → IsWithout set k rest → ((id : ℕ) → Has set id → id < n) → (id : ℕ) → Has rest id
+    → id < n
 still_below n set k rest without below id is = elim (eq_or_not id k) [
   | inl e ↦ absurd (without.gone (subst (Has rest) e is))
   | inr ne ↦ below id ((without.others id ne).0 is)

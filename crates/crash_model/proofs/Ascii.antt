@@ -13,7 +13,8 @@ low c e = grind (arith, nat_tests)
 
 ascii : (word : List ℕ) → list_all is_name_byte word ≡ true → IsAscii word
 ascii [] e = IsAscii-nil
-ascii (c ∷ cs) e = let both = and_parts (is_name_byte c) (list_all is_name_byte cs) e in IsAscii-cons c cs (low c both.0) (ascii cs both.1)
+ascii (c ∷ cs) e = let both = and_parts (is_name_byte c) (list_all is_name_byte cs) e in
+    IsAscii-cons c cs (low c both.0) (ascii cs both.1)
 
 pub name_utf8 : (name : List ℕ) → IsName name → IsUtf8 name
 name_utf8 name is = IsUtf8-from_ascii name (ascii name is.plain)

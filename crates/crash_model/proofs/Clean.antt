@@ -1,5 +1,6 @@
 -- An image is clean exactly where no test finds a fault.
-use Rattle.std.proofs.Common.{◌≡◌, ℕ, zero, suc, ◌<◌, ◌⊎◌, inl, inr, List, [], ◌∷◌, ◌++◌, Bool, true, false, arith, refl, subst, sym, length}
+use Rattle.std.proofs.Common.{◌≡◌, ℕ, zero, suc, ◌<◌, ◌⊎◌, inl, inr, List, [], ◌∷◌, ◌++◌, Bool, true, false, arith}
+use Rattle.std.proofs.Common.{refl, subst, sym, length}
 use Rattle.std.specs.Prelude.{option_to_list}
 use Rattle.crash_model.specs.Lists.{each_below, some_below, when}
 use Rattle.crash_model.specs.Disk.{Disk}
@@ -7,7 +8,8 @@ use Rattle.crash_model.proofs.EachBelow.{each_below-none, some_below-none}
 use Rattle.crash_model.specs.Layout.{target_of, pointer_of, links_of}
 use Rattle.crash_model.specs.declared.fault.Fault.{Fault}
 use Rattle.crash_model.specs.declared.fault.Fault.TheVariants.{Dangling, Twice, Unwritten, LowLinks, MarkedFree, Wild}
-use Rattle.crash_model.specs.Faults.{IsClean, is_dangling, is_twice, is_unwritten, has_low_links, is_marked_free, is_wild, each_slot, each_entry, entries_to, faults}
+use Rattle.crash_model.specs.Faults.{IsClean, is_dangling, is_twice, is_unwritten, has_low_links, is_marked_free}
+use Rattle.crash_model.specs.Faults.{is_wild, each_slot, each_entry, entries_to, faults}
 
 -- what the tests say of a clean image
 pub record HasNoFault (d : Disk) : Type 0 where
@@ -54,26 +56,33 @@ module _ (test : ℕ → Bool) (make : ℕ → Fault) where
   some_none zero e k below = absurd (omega arith)
   some_none (suc n) e k below = elim (below_suc k n below) [
     | inl less ↦ some_none n (nil_left _ (option_to_list (when (test n) (make n))) e) k less
-    | inr same ↦ subst (λ (m : ℕ). test m ≡ false) (sym same) (no_option (test n) (make n) (nil_right (some_below n (λ k. when (test k) (make k))) _ e))
+    | inr same ↦ subst (λ (m : ℕ). test m ≡ false) (sym same)
+        (no_option (test n) (make n) (nil_right (some_below n (λ k. when (test k) (make k))) _ e))
   ]
 
   pub none_some : (n : ℕ) → ((k : ℕ) → k < n → test k ≡ false) → some_below n (λ k. when (test k) (make k)) ≡ []
   none_some n h = some_below-none n _ (λ k below. rw (h k below) refl)
 
 module _ (test : ℕ → ℕ → Bool) (make : ℕ → ℕ → Fault) where
-  slots_none : each_slot (λ i s. when (test i s) (make i s)) ≡ [] → (i : ℕ) → i < 16 → (s : ℕ) → s < 4 → test i s ≡ false
+  slots_none : each_slot (λ i s. when (test i s) (make i s)) ≡ [] → (i : ℕ) → i < 16 → (s : ℕ) → s < 4
+      → test i s ≡ false
   unfolding each_slot
-  slots_none e i a = some_none (test i) (make i) 4 (each_none 16 (λ j. some_below 4 (λ s. when (test j s) (make j s))) e i a)
+  slots_none e i a = some_none (test i) (make i) 4 (each_none 16 (λ j. some_below 4 (λ s. when (test j s) (make j s))) e
+      i a)
 
-  none_slots : ((i : ℕ) → i < 16 → (s : ℕ) → s < 4 → test i s ≡ false) → each_slot (λ i s. when (test i s) (make i s)) ≡ []
+  none_slots : ((i : ℕ) → i < 16 → (s : ℕ) → s < 4 → test i s ≡ false)
+      → each_slot (λ i s. when (test i s) (make i s)) ≡ []
   unfolding each_slot
   none_slots h = each_below-none 16 _ (λ i a. none_some (test i) (make i) 4 (h i a))
 
-  entries_none : each_entry (λ dir k. when (test dir k) (make dir k)) ≡ [] → (dir : ℕ) → dir < 16 → (k : ℕ) → k < 10 → test dir k ≡ false
+  entries_none : each_entry (λ dir k. when (test dir k) (make dir k)) ≡ [] → (dir : ℕ) → dir < 16 → (k : ℕ) → k < 10
+      → test dir k ≡ false
   unfolding each_entry
-  entries_none e dir a = some_none (test dir) (make dir) 10 (each_none 16 (λ j. some_below 10 (λ k. when (test j k) (make j k))) e dir a)
+  entries_none e dir a = some_none (test dir) (make dir) 10
+      (each_none 16 (λ j. some_below 10 (λ k. when (test j k) (make j k))) e dir a)
 
-  none_entries : ((dir : ℕ) → dir < 16 → (k : ℕ) → k < 10 → test dir k ≡ false) → each_entry (λ dir k. when (test dir k) (make dir k)) ≡ []
+  none_entries : ((dir : ℕ) → dir < 16 → (k : ℕ) → k < 10 → test dir k ≡ false)
+      → each_entry (λ dir k. when (test dir k) (make dir k)) ≡ []
   unfolding each_entry
   none_entries h = each_below-none 16 _ (λ dir a. none_some (test dir) (make dir) 10 (h dir a))
 
@@ -116,8 +125,10 @@ module _ (d : Disk) where
       let e3 = nil_left _ (some_below 16 (λ i. when (has_low_links d i) (low_links i))) e4 in
       let e2 = nil_left _ (each_slot (λ i s. when (is_unwritten d i s) (unwritten i s))) e3 in
       record {
-        no_dangling = entries_none (is_dangling d) dangling (nil_left _ (some_below d.blocks (λ b. when (is_twice d b) (Twice b))) e2);
-        no_twice = some_none (is_twice d) Twice d.blocks (nil_right (each_entry (λ dir k. when (is_dangling d dir k) (dangling dir k))) _ e2);
+        no_dangling = entries_none (is_dangling d) dangling
+            (nil_left _ (some_below d.blocks (λ b. when (is_twice d b) (Twice b))) e2);
+        no_twice = some_none (is_twice d) Twice d.blocks (nil_right
+            (each_entry (λ dir k. when (is_dangling d dir k) (dangling dir k))) _ e2);
         no_unwritten = slots_none (is_unwritten d) unwritten (nil_right _ _ e3);
         no_low_links = some_none (has_low_links d) low_links 16 (nil_right _ _ e4);
         no_marked_free = slots_none (is_marked_free d) marked_free (nil_right _ _ e5);

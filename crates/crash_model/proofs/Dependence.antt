@@ -8,7 +8,8 @@ use Rattle.crash_model.specs.RuleFacts.{AreAmong}
 use Rattle.crash_model.specs.Trace.{Emitted, applies, depends, groups_depend}
 use Rattle.crash_model.specs.declared.rules.Rule.{Rule}
 
-any-among : (p : Rule → Bool) (some all : List Rule) → AreAmong some all → list_any p some ≡ true → list_any p all ≡ true
+any-among : (p : Rule → Bool) (some all : List Rule) → AreAmong some all → list_any p some ≡ true
+    → list_any p all ≡ true
 any-among p some all among any =
     let found = Any-from_list_any p some any in
     let there : Contains all found.1 = All-contains (Contains all) some found.1 among (found.0, found.2, found.3) in
@@ -19,7 +20,9 @@ or-more true b c more h = refl
 or-more false b c more h = more h
 
 -- what depends on an earlier patch by some of the rules does so by all of them
-pub depends-among : (some all : List Rule) (links : List (List ℕ × List ℕ)) (q p : Emitted) → AreAmong some all → depends some links q p ≡ true → depends all links q p ≡ true
+pub depends-among : (some all : List Rule) (links : List (List ℕ × List ℕ)) (q p : Emitted) → AreAmong some all
+    → depends some links q p ≡ true → depends all links q p ≡ true
 depends-among some all links q p among =
-    or-more (overlap q.place p.place || groups_depend links q p) (list_any (λ rule. applies rule q p) some) (list_any (λ rule. applies rule q p) all)
+    or-more (overlap q.place p.place || groups_depend links q p) (list_any (λ rule. applies rule q p) some)
+    (list_any (λ rule. applies rule q p) all)
     (any-among (λ rule. applies rule q p) some all among)

@@ -2,7 +2,8 @@
 use Rattle.std.proofs.Common.{◌≡◌, ℕ, zero, suc, List, [], ◌∷◌, refl, sym, ap, ◌∙◌}
 use Rattle.crash_model.specs.Summary.{numbers_of}
 use Rattle.crash_model.specs.declared.fault.Fault.{Fault}
-use Rattle.crash_model.specs.declared.fault.Fault.TheVariants.{Dangling, Twice, Unwritten, LowLinks, MarkedFree, Wild, Lost, NoBlock}
+use Rattle.crash_model.specs.declared.fault.Fault.TheVariants.{Dangling, Twice, Unwritten, LowLinks, MarkedFree, Wild}
+use Rattle.crash_model.specs.declared.fault.Fault.TheVariants.{Lost, NoBlock}
 
 fault_with : List ℕ → Fault
 fault_with (suc zero ∷ d ∷ k ∷ i ∷ []) = Dangling d k i

@@ -13,17 +13,25 @@ use Rattle.crash_model.specs.Report.{Section, AreSections, IsLed}
 use Rattle.crash_model.specs.declared.patches.Patch.{Patch}
 use Rattle.crash_model.specs.declared.settings.Detail.{Detail}
 
-pub failing_closed : (kept : Option ℕ) (base : Disk) (patches : List Patch) (sets : List ℕ) → AreAllInOrder (IsFailingUnder kept base patches) sets → All (IsClosed (deps_of patches)) sets
-failing_closed kept base patches sets are k d within = ((are.exactly (get_or sets k d)).0 (Contains-get_or sets k d within)).closed
+pub failing_closed : (kept : Option ℕ) (base : Disk) (patches : List Patch) (sets : List ℕ)
+    → AreAllInOrder (IsFailingUnder kept base patches) sets → All (IsClosed (deps_of patches)) sets
+failing_closed kept base patches sets are k d within =
+    ((are.exactly (get_or sets k d)).0 (Contains-get_or sets k d within)).closed
 
 module _ (base : Disk) (patches : List Patch) (earlier : AreEarlier (deps_of patches)) where
-  pub closed_are_left : (sets : List ℕ) → All (IsClosed (deps_of patches)) sets → All (CanLeave (deps_of patches) (homes_of patches)) sets
-  closed_are_left sets closed k d within = closed_left (deps_of patches) (homes_of patches) (get_or sets k d) earlier (closed k d within)
+  pub closed_are_left : (sets : List ℕ) → All (IsClosed (deps_of patches)) sets
+      → All (CanLeave (deps_of patches) (homes_of patches)) sets
+  closed_are_left sets closed k d within = closed_left (deps_of patches) (homes_of patches) (get_or sets k d) earlier
+      (closed k d within)
 
-  pub sections_lead : (detail : Detail) (sets : List ℕ) (sections : List Section) → All (IsClosed (deps_of patches)) sets → AreSections detail base patches sets sections → All (IsLed patches) sections
+  pub sections_lead : (detail : Detail) (sets : List ℕ) (sections : List Section)
+      → All (IsClosed (deps_of patches)) sets → AreSections detail base patches sets sections
+      → All (IsLed patches) sections
   sections_lead detail [] sections closed are = subst (λ ss. All (IsLed patches) ss) (sym are) (All-nil (IsLed patches))
   sections_lead detail (set ∷ sets) sections closed are =
-      let long : length (homes_of patches) ≡ length (deps_of patches) = length-map patches (λ p. p.block) ∙ sym (length-map patches (λ p. p.deps)) in
-      let first = runs_lead (deps_of patches) (homes_of patches) long set earlier (All-head (IsClosed (deps_of patches)) set sets closed) are.0 are.2 in
+      let long : length (homes_of patches) ≡ length (deps_of patches) = length-map patches (λ p. p.block)
+      ∙ sym (length-map patches (λ p. p.deps)) in
+      let first = runs_lead (deps_of patches) (homes_of patches) long set earlier
+      (All-head (IsClosed (deps_of patches)) set sets closed) are.0 are.2 in
       let rest = sections_lead detail sets are.1 (All-tail (IsClosed (deps_of patches)) set sets closed) are.3 in
       subst (λ ss. All (IsLed patches) ss) (sym are.4) (All-cons (IsLed patches) _ _ first rest)

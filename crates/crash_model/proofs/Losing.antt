@@ -1,4 +1,5 @@
--- Where a script keeps inodes, an image is clean exactly where none of the six faults holds and neither of the two others.
+-- Where a script keeps inodes, an image is clean exactly where none of the six faults holds and neither of the two
+-- others.
 use Rattle.std.proofs.Common.{◌≡◌, ℕ, []}
 use Rattle.crash_model.specs.Disk.{Disk}
 use Rattle.crash_model.specs.Lists.{some_below, when}
@@ -12,16 +13,22 @@ module _ (kept : ℕ) (d : Disk) where
   pub loses_from_none : strict_faults kept d ≡ [] → LosesNothing kept d
   unfolding strict_faults
   loses_from_none none = record {
-    no_lost = some_none (is_lost d kept) Lost 16 (nil_left _ (some_below 16 (λ i. when (lacks_block d i) (NoBlock i))) none);
-    no_bare = some_none (lacks_block d) NoBlock 16 (nil_right (some_below 16 (λ i. when (is_lost d kept i) (Lost i))) _ none);
+    no_lost = some_none (is_lost d kept) Lost 16 (nil_left _ (some_below 16 (λ i. when (lacks_block d i) (NoBlock i)))
+        none);
+    no_bare = some_none (lacks_block d) NoBlock 16 (nil_right (some_below 16 (λ i. when (is_lost d kept i) (Lost i)))
+        _ none);
   }
 
   pub none_from_loses : LosesNothing kept d → strict_faults kept d ≡ []
   unfolding strict_faults
-  none_from_loses loses = nil_both _ _ (none_some (is_lost d kept) Lost 16 loses.no_lost) (none_some (lacks_block d) NoBlock 16 loses.no_bare)
+  none_from_loses loses = nil_both _ _ (none_some (is_lost d kept) Lost 16 loses.no_lost)
+      (none_some (lacks_block d) NoBlock 16 loses.no_bare)
 
   pub clean_under : IsClean d → LosesNothing kept d → IsCleanUnder (Some kept) d
-  clean_under clean loses = record { faultless = nil_both (faults d) (strict_faults kept d) clean.faultless (none_from_loses loses) }
+  clean_under clean loses = record {
+    faultless = nil_both (faults d) (strict_faults kept d) clean.faultless
+        (none_from_loses loses);
+  }
 
   pub clean_from_under : IsCleanUnder (Some kept) d → IsClean d
   clean_from_under under = record { faultless = nil_left (faults d) (strict_faults kept d) under.faultless }

@@ -13,8 +13,10 @@ all_stay (rule ∷ rules) = ap (λ (rest : List Rule). rule ∷ rest) (all_stay 
 
 pub put_in_among : (kind : Module) (with : List Rule) → AreAmong (rules_of kind) (rules_under kind [] with)
 put_in_among kind with =
-    subst (λ (kept : List Rule). AreAmong (rules_of kind) (kept ++ rules_put_in kind [] with)) (sym (all_stay (rules_of kind)))
-    (λ k d within. Contains-append_left (rules_of kind) (rules_put_in kind [] with) _ (All-contains_itself (rules_of kind) k d within))
+    subst (λ (kept : List Rule). AreAmong (rules_of kind) (kept ++ rules_put_in kind [] with))
+    (sym (all_stay (rules_of kind)))
+    (λ k d within. Contains-append_left (rules_of kind) (rules_put_in kind [] with)
+    _ (All-contains_itself (rules_of kind) k d within))
 
 pub none_put_in : (kind : Module) → rules_under kind [] [] ≡ rules_of kind
 none_put_in kind = append-nil (kept_rules kind []) ∙ all_stay (rules_of kind)

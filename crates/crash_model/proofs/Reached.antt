@@ -1,6 +1,7 @@
--- The inodes that are reached are the least set with inode 0, where it is a directory, and with each live inode to which an
--- entry of one of its directories leads.
-use Rattle.std.proofs.Common.{◌≡◌, ℕ, zero, suc, ◌+◌, ◌-◌, ◌<◌, ◌≤◌, ◌⊎◌, inl, inr, List, [], ◌∷◌, length, Bool, true, false, cond, ◌&&◌, ◌||◌, ◌==◌, arith, refl, sym, subst, ap, length-append}
+-- The inodes that are reached are the least set with inode 0, where it is a directory, and with each live inode to
+-- which an entry of one of its directories leads.
+use Rattle.std.proofs.Common.{◌≡◌, ℕ, zero, suc, ◌+◌, ◌-◌, ◌<◌, ◌≤◌, ◌⊎◌, inl, inr, List, [], ◌∷◌, length, Bool, true}
+use Rattle.std.proofs.Common.{false, cond, ◌&&◌, ◌||◌, ◌==◌, arith, refl, sym, subst, ap, length-append}
 use Rattle.std.specs.List.{list_any, Contains}
 use Rattle.std.proofs.lemmas.Bool.{false≢true, cases_lt, and_parts, or_cases}
 use Rattle.std.proofs.lemmas.Cmp.{nat_eq_equiv}
@@ -48,14 +49,16 @@ any_to p (y ∷ ys) x e h = elim (or_cases (x == y) (is_in ys x) e) [
 
 -- ---- tests of the numbers below m, of which one holds wherever another does
 
-holds_still : (p q : ℕ → Bool) (m : ℕ) → ((i : ℕ) → i < suc m → p i ≡ true → q i ≡ true) → (i : ℕ) → i < m → p i ≡ true → q i ≡ true
+holds_still : (p q : ℕ → Bool) (m : ℕ) → ((i : ℕ) → i < suc m → p i ≡ true → q i ≡ true) → (i : ℕ) → i < m → p i ≡ true
+    → q i ≡ true
 holds_still p q m more i below = more i (omega arith)
 
 one_more : (b c : Bool) (n : ℕ) → (b ≡ true → c ≡ true) → length (cond b (n ∷ []) []) ≤ length (cond c (n ∷ []) [])
 one_more true c n more = rw (more refl) (omega arith)
 one_more false c n more = omega arith
 
-ids_grow : (p q : ℕ → Bool) (m : ℕ) → ((i : ℕ) → i < m → p i ≡ true → q i ≡ true) → length (ids_below m p) ≤ length (ids_below m q)
+ids_grow : (p q : ℕ → Bool) (m : ℕ) → ((i : ℕ) → i < m → p i ≡ true → q i ≡ true)
+    → length (ids_below m p) ≤ length (ids_below m q)
 ids_grow p q zero more = omega arith
 ids_grow p q (suc m) more = rw (ids_suc m p, ids_suc m q) (omega (
   arith,
@@ -74,13 +77,22 @@ same_here false false m few e = e
 below_or_last : (i m : ℕ) → i < suc m → (i < m) ⊎ (i ≡ m)
 below_or_last i m h = grind arith
 
-ids_same : (p q : ℕ → Bool) (m : ℕ) → ((i : ℕ) → i < m → p i ≡ true → q i ≡ true) → length (ids_below m q) ≤ length (ids_below m p)
+ids_same : (p q : ℕ → Bool) (m : ℕ) → ((i : ℕ) → i < m → p i ≡ true → q i ≡ true)
+    → length (ids_below m q) ≤ length (ids_below m p)
     → (i : ℕ) → i < m → q i ≡ true → p i ≡ true
 ids_same p q zero more few i below e = absurd (omega arith)
 ids_same p q (suc m) more few i below e =
     let old = holds_still p q m more in
-    let all : length (ids_below m q) + length (cond (q m) (m ∷ []) []) ≤ length (ids_below m p) + length (cond (p m) (m ∷ []) []) =
-    omega (arith, few, ap length (ids_suc m p), ap length (ids_suc m q), length-append (ids_below m p) (cond (p m) (m ∷ []) []), length-append (ids_below m q) (cond (q m) (m ∷ []) [])) in
+    let all : length (ids_below m q) + length (cond (q m) (m ∷ []) []) ≤ length (ids_below m p)
+    + length (cond (p m) (m ∷ []) []) =
+    omega (
+      arith,
+      few,
+      ap length (ids_suc m p),
+      ap length (ids_suc m q),
+      length-append (ids_below m p) (cond (p m) (m ∷ []) []),
+      length-append (ids_below m q) (cond (q m) (m ∷ []) []),
+    ) in
     elim (below_or_last i m below) [
       | inl less ↦ ids_same p q m old (omega (arith, all, one_more (p m) (q m) m (more m (omega arith)))) i less e
       | inr same ↦ subst (λ (j : ℕ). p j ≡ true) (sym same)
@@ -89,7 +101,12 @@ ids_same p q (suc m) more few i below e =
 
 at_most : (p : ℕ → Bool) (m : ℕ) → length (ids_below m p) ≤ m
 at_most p zero = omega arith
-at_most p (suc m) = rw (ids_suc m p) (omega (arith, length-append (ids_below m p) (cond (p m) (m ∷ []) []), at_most p m, one_more (p m) true m (λ e. refl)))
+at_most p (suc m) = rw (ids_suc m p) (omega (
+  arith,
+  length-append (ids_below m p) (cond (p m) (m ∷ []) []),
+  at_most p m,
+  one_more (p m) true m (λ e. refl),
+))
 
 zero_more : (n : ℕ) → n ≡ zero + n
 zero_more n = omega arith
@@ -103,7 +120,8 @@ module _ (d : Disk) where
   -- which inodes are reached in at most n steps
   abbrev passes : ℕ → ℕ → Bool
   passes zero inode = inode == 0 && kind_of d 0 == 2
-  passes (suc n) inode = is_in (reach_in d n) inode || (is_live d inode && list_any (λ dir. is_named d dir inode) (reach_in d n))
+  passes (suc n) inode = is_in (reach_in d n) inode || (is_live d inode
+      && list_any (λ dir. is_named d dir inode) (reach_in d n))
 
   reached-ids : (n : ℕ) → reach_in d n ≡ ids_below 16 (passes n)
   unfolding reach_in
@@ -111,10 +129,12 @@ module _ (d : Disk) where
   reached-ids (suc n) = refl
 
   from_reached : (n i : ℕ) → is_in (reach_in d n) i ≡ true → (i < 16) × (passes n i ≡ true)
-  from_reached n i is = from_ids 16 (passes n) i (subst (λ (xs : List ℕ). Contains xs i) (reached-ids n) (in_from (reach_in d n) i is))
+  from_reached n i is = from_ids 16 (passes n) i (subst (λ (xs : List ℕ). Contains xs i) (reached-ids n)
+      (in_from (reach_in d n) i is))
 
   to_reached : (n i : ℕ) → i < 16 → passes n i ≡ true → is_in (reach_in d n) i ≡ true
-  to_reached n i below is = in_to (reach_in d n) i (subst (λ (xs : List ℕ). Contains xs i) (sym (reached-ids n)) (to_ids 16 (passes n) i below is))
+  to_reached n i below is = in_to (reach_in d n) i (subst (λ (xs : List ℕ). Contains xs i) (sym (reached-ids n))
+      (to_ids 16 (passes n) i below is))
 
   -- what is reached stays so
   kept_more : (n i : ℕ) → is_in (reach_in d n) i ≡ true → is_in (reach_in d (suc n)) i ≡ true
@@ -122,13 +142,15 @@ module _ (d : Disk) where
 
   kept_on : (n m i : ℕ) → is_in (reach_in d n) i ≡ true → is_in (reach_in d (m + n)) i ≡ true
   kept_on n zero i is = subst (λ (k : ℕ). is_in (reach_in d k) i ≡ true) (zero_more n) is
-  kept_on n (suc m) i is = subst (λ (k : ℕ). is_in (reach_in d k) i ≡ true) (one_more_in m n) (kept_more (m + n) i (kept_on n m i is))
+  kept_on n (suc m) i is = subst (λ (k : ℕ). is_in (reach_in d k) i ≡ true) (one_more_in m n)
+      (kept_more (m + n) i (kept_on n m i is))
 
   live_below : (i : ℕ) → is_live d i ≡ true → i < 16
   live_below i live = grind (arith, live)
 
   -- an entry leads one step further
-  step_in : (n dir i : ℕ) → is_in (reach_in d n) dir ≡ true → is_named d dir i ≡ true → is_live d i ≡ true → is_in (reach_in d (suc n)) i ≡ true
+  step_in : (n dir i : ℕ) → is_in (reach_in d n) dir ≡ true → is_named d dir i ≡ true → is_live d i ≡ true
+      → is_in (reach_in d (suc n)) i ≡ true
   step_in n dir i is names live = to_reached (suc n) i (live_below i live) (or_right (is_in (reach_in d n) i) _
       (and_both (is_live d i) _ live (any_to (λ (x : ℕ). is_named d x i) (reach_in d n) dir is names)))
 
@@ -178,13 +200,16 @@ module _ (d : Disk) where
 
   pub reached-root : kind_of d 0 ≡ 2 → is_reached d 0 ≡ true
   unfolding is_reached
-  reached-root is = kept_on 0 16 0 (to_reached 0 0 (omega arith) (and_both (0 == 0) (kind_of d 0 == 2) refl (true_from_eq (kind_of d 0) 2 is)))
+  reached-root is = kept_on 0 16 0 (to_reached 0 0 (omega arith)
+      (and_both (0 == 0) (kind_of d 0 == 2) refl (true_from_eq (kind_of d 0) 2 is)))
 
-  pub reached-step : (dir i : ℕ) → is_reached d dir ≡ true → is_named d dir i ≡ true → is_live d i ≡ true → is_reached d i ≡ true
+  pub reached-step : (dir i : ℕ) → is_reached d dir ≡ true → is_named d dir i ≡ true → is_live d i ≡ true
+      → is_reached d i ≡ true
   unfolding is_reached
   reached-step dir i is names live = still_at_last i (step_in 16 dir i is names live)
 
-  module _ (P : ℕ → Type 0) (root : kind_of d 0 ≡ 2 → P 0) (step : (dir i : ℕ) → P dir → is_named d dir i ≡ true → is_live d i ≡ true → P i) where
+  module _ (P : ℕ → Type 0) (root : kind_of d 0 ≡ 2 → P 0)
+      (step : (dir i : ℕ) → P dir → is_named d dir i ≡ true → is_live d i ≡ true → P i) where
     least_in : (n i : ℕ) → is_in (reach_in d n) i ≡ true → P i
     least_in zero i is =
         let parts = and_parts (i == 0) (kind_of d 0 == 2) (from_reached 0 i is).1 in

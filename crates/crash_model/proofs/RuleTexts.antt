@@ -1,11 +1,13 @@
 -- The text of a rule is read in one way.
-use Rattle.std.proofs.Common.{◌≡◌, ◌≢◌, ℕ, List, [], ◌∷◌, ◌++◌, Bool, true, false, not, ◌&&◌, ◌==◌, nat_lt, get_or, drop, refl, sym, ap, ◌∙◌, subst, codes, arith, append_assoc}
+use Rattle.std.proofs.Common.{◌≡◌, ◌≢◌, ℕ, List, [], ◌∷◌, ◌++◌, Bool, true, false, not, ◌&&◌, ◌==◌, nat_lt, get_or}
+use Rattle.std.proofs.Common.{drop, refl, sym, ap, ◌∙◌, subst, codes, arith, append_assoc}
 use Rattle.std.specs.List.{list_all}
 use Rattle.std.proofs.lemmas.Bool.{and_parts}
 use Rattle.std.proofs.lemmas.Bool.Decides.{nat_tests}
 use Rattle.crash_model.specs.Rules.{rule_part_text, scope_text, rule_text}
 use Rattle.crash_model.specs.RuleFacts.{IsNoRulePart, IsNoRule}
-use Rattle.crash_model.specs.declared.plans.Role.TheVariants.{InodeInit, EntrySet, EntryClear, MapSet, MapClear, InitFile, InitDir, Ptr, LinkUp, LinkDown, InodeFree}
+use Rattle.crash_model.specs.declared.plans.Role.TheVariants.{InodeInit, EntrySet, EntryClear, MapSet, MapClear}
+use Rattle.crash_model.specs.declared.plans.Role.TheVariants.{InitFile, InitDir, Ptr, LinkUp, LinkDown, InodeFree}
 use Rattle.crash_model.specs.declared.rules.RulePart.{RulePart}
 use Rattle.crash_model.specs.declared.rules.RulePart.TheVariants.{Change, InPlace, FileData, Copy, Commit, Done}
 use Rattle.crash_model.specs.declared.rules.Scope.{Scope}
@@ -20,7 +22,8 @@ lacks_none s [] us lacks = lacks.0 refl
 lacks_none s (x ∷ xs) us lacks = lacks_none s xs us lacks.1
 
 -- a list that has the byte once is cut there in one way
-pub cut_at_only : (s : ℕ) (xs ys us vs : List ℕ) → Lacks s ys → Lacks s vs → xs ++ s ∷ us ≡ ys ++ s ∷ vs → (xs ≡ ys) × (us ≡ vs)
+pub cut_at_only : (s : ℕ) (xs ys us vs : List ℕ) → Lacks s ys → Lacks s vs → xs ++ s ∷ us ≡ ys ++ s ∷ vs → (xs ≡ ys)
+    × (us ≡ vs)
 cut_at_only s [] [] us vs lacks others e = (refl, cc)
 cut_at_only s [] (y ∷ ys) us vs lacks others e = absurd (lacks.0 (let head : y ≡ s = cc in head))
 cut_at_only s (x ∷ xs) [] us vs lacks others e =
@@ -65,10 +68,12 @@ no_colon c e = grind (arith, nat_tests)
 
 plain_lacks : (text : List ℕ) → list_all (λ c. not (c == 58)) text ≡ true → Lacks 58 text
 plain_lacks [] e = tt
-plain_lacks (c ∷ cs) e = let both = and_parts (not (c == 58)) (list_all (λ c. not (c == 58)) cs) e in (no_colon c both.0, plain_lacks cs both.1)
+plain_lacks (c ∷ cs) e = let both = and_parts (not (c == 58)) (list_all (λ c. not (c == 58)) cs) e in
+    (no_colon c both.0, plain_lacks cs both.1)
 
 part_lacks : (part : RulePart) → Lacks 58 (rule_part_text part)
-part_lacks part = plain_lacks (rule_part_text part) (and_parts (nat_lt (get_or (rule_part_text part) 0 0) 112) _ (parts_are_plain part)).1
+part_lacks part = plain_lacks (rule_part_text part) (and_parts (nat_lt (get_or (rule_part_text part) 0 0) 112)
+    _ (parts_are_plain part)).1
 
 scope_lacks : (scope : Scope) → Lacks 58 (scope_text scope)
 scope_lacks Same = tt
@@ -84,20 +89,25 @@ no_previous part rest e =
 
 -- ---- the texts of rules
 
-regroup : (later colon scope earlier : List ℕ) → later ++ colon ++ scope ++ earlier ≡ later ++ (colon ++ (scope ++ earlier))
+regroup : (later colon scope earlier : List ℕ) → later ++ colon ++ scope ++ earlier ≡ later
+    ++ (colon ++ (scope ++ earlier))
 regroup later colon scope earlier = simp append_assoc
 
 -- a text without a colon is no rule
 pub needs_colon : (text : List ℕ) → ((xs ys : List ℕ) → text ≢ xs ++ (codes ":" ++ ys)) → IsNoRule text
 needs_colon text none rule e =
-    none (rule_part_text rule.later) (scope_text rule.scope ++ rule_part_text rule.earlier) (e ∙ regroup (rule_part_text rule.later) (codes ":") (scope_text rule.scope) (rule_part_text rule.earlier))
+    none (rule_part_text rule.later) (scope_text rule.scope ++ rule_part_text rule.earlier)
+    (e ∙ regroup (rule_part_text rule.later) (codes ":") (scope_text rule.scope) (rule_part_text rule.earlier))
 
 module _ (text later rest : List ℕ) (whole : text ≡ later ++ (codes ":" ++ rest)) where
-  parts : (rule : Rule) → text ≡ rule_text rule → (later ≡ rule_part_text rule.later) × (rest ≡ scope_text rule.scope ++ rule_part_text rule.earlier)
+  parts : (rule : Rule) → text ≡ rule_text rule → (later ≡ rule_part_text rule.later)
+      × (rest ≡ scope_text rule.scope ++ rule_part_text rule.earlier)
   parts rule e =
       cut_at_only 58 later (rule_part_text rule.later) rest (scope_text rule.scope ++ rule_part_text rule.earlier)
-      (part_lacks rule.later) (lacks_append 58 (scope_text rule.scope) (rule_part_text rule.earlier) (scope_lacks rule.scope) (part_lacks rule.earlier))
-      (sym whole ∙ (e ∙ regroup (rule_part_text rule.later) (codes ":") (scope_text rule.scope) (rule_part_text rule.earlier)))
+      (part_lacks rule.later) (lacks_append 58 (scope_text rule.scope) (rule_part_text rule.earlier)
+      (scope_lacks rule.scope) (part_lacks rule.earlier))
+      (sym whole ∙ (e ∙ regroup (rule_part_text rule.later) (codes ":") (scope_text rule.scope)
+      (rule_part_text rule.earlier)))
 
   -- what stands before the colon is a part
   pub needs_later : IsNoRulePart later → IsNoRule text
@@ -108,14 +118,18 @@ module _ (text later rest : List ℕ) (whole : text ≡ later ++ (codes ":" ++ r
   needs_earlier earlier scoped none rule e = by_scope rule.scope refl
     where
       by_scope : (scope : Scope) → rule.scope ≡ scope → ⊥
-      by_scope Same is = no_previous rule.earlier earlier (sym scoped ∙ ((parts rule e).1 ∙ ap (λ (s : Scope). scope_text s ++ rule_part_text rule.earlier) is))
+      by_scope Same is = no_previous rule.earlier earlier (sym scoped
+          ∙ ((parts rule e).1 ∙ ap (λ (s : Scope). scope_text s ++ rule_part_text rule.earlier) is))
       by_scope Previous is =
-          let texts : codes "previous-" ++ earlier ≡ codes "previous-" ++ rule_part_text rule.earlier = sym scoped ∙ ((parts rule e).1 ∙ ap (λ (s : Scope). scope_text s ++ rule_part_text rule.earlier) is) in
+          let texts : codes "previous-" ++ earlier ≡ codes "previous-" ++ rule_part_text rule.earlier = sym scoped
+          ∙ ((parts rule e).1 ∙ ap (λ (s : Scope). scope_text s ++ rule_part_text rule.earlier) is) in
           none rule.earlier (ap (drop 9) texts)
 
   pub needs_part : ((ys : List ℕ) → rest ≢ codes "previous-" ++ ys) → IsNoRulePart rest → IsNoRule text
   needs_part unscoped none rule e = by_scope rule.scope refl
     where
       by_scope : (scope : Scope) → rule.scope ≡ scope → ⊥
-      by_scope Same is = none rule.earlier ((parts rule e).1 ∙ ap (λ (s : Scope). scope_text s ++ rule_part_text rule.earlier) is)
-      by_scope Previous is = unscoped (rule_part_text rule.earlier) ((parts rule e).1 ∙ ap (λ (s : Scope). scope_text s ++ rule_part_text rule.earlier) is)
+      by_scope Same is = none rule.earlier ((parts rule e).1
+          ∙ ap (λ (s : Scope). scope_text s ++ rule_part_text rule.earlier) is)
+      by_scope Previous is = unscoped (rule_part_text rule.earlier)
+          ((parts rule e).1 ∙ ap (λ (s : Scope). scope_text s ++ rule_part_text rule.earlier) is)

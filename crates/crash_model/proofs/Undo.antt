@@ -9,4 +9,5 @@ use Rattle.crash_model.specs.declared.patches.Patch.{Patch}
 
 pub undo_prop : (base : Disk) (patches : List Patch) → IsProp (AreUndo base patches)
 undo_prop base [] = Unit-prop
-undo_prop base (p ∷ ps) = ×_prop (≡_prop (coded_list coded_ℕ) _ _) (undo_prop (with_bytes base p.block p.offset p.new.items) ps)
+undo_prop base (p ∷ ps) = ×_prop (≡_prop (coded_list coded_ℕ) _ _)
+    (undo_prop (with_bytes base p.block p.offset p.new.items) ps)

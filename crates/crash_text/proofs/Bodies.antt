@@ -41,19 +41,27 @@ all_of P f ys all k d within = subst P (get_or-map f ys k d) (all k (f d) (omega
 abbrev IsTextOn : Settings → Option ℕ → Disk → Tracing → List Patch → ℕ → List ℕ → List ℕ → Type 0
 IsTextOn settings kept base last patches total sets text =
     (body : Body) × IsBody settings kept base last patches sets body
-    × (text ≡ report settings (whole settings (explanation (ordering_rules settings) base last patches) patches total (length sets) body))
+    × (text ≡ report settings (whole settings (explanation (ordering_rules settings) base last patches) patches total
+    (length sets) body))
 
 -- ---- a report's data, which are those of the findings
 
-pub can_tell : {A : Type 0} (r : code_report.Report A) (base : Disk) (t : TracedPatches) → r.base.now ≡ base → r.traced.now ≡ t → AreOnBase base t.patches → AreClosed t.patches (sets_of r.body) → CanTell r
+pub can_tell : {A : Type 0} (r : code_report.Report A) (base : Disk) (t : TracedPatches) → r.base.now ≡ base
+    → r.traced.now ≡ t → AreOnBase base t.patches → AreClosed t.patches (sets_of r.body) → CanTell r
 can_tell r base t same_base same_trace on_base closed = record {
-  on_base = subst (λ (d : Disk). AreOnBase d r.traced.now.patches) (sym same_base) (subst (λ (u : TracedPatches). AreOnBase base u.patches) (sym same_trace) on_base);
+  on_base = subst (λ (d : Disk). AreOnBase d r.traced.now.patches) (sym same_base)
+      (subst (λ (u : TracedPatches). AreOnBase base u.patches) (sym same_trace) on_base);
   closed = subst (λ (u : TracedPatches). AreClosed u.patches (sets_of r.body)) (sym same_trace) closed;
 }
 
-pub tells_of : {A : Type 0} (r : code_report.Report A) (settings : Settings) (detail : Detail) (base : Disk) (t : TracedPatches) (closed failing : ℕ) (chosen : code.Body A) (text : List ℕ) → r.settings.now ≡ settings → r.detail ≡ detail → r.base.now ≡ base → r.traced.now ≡ t → r.closed ≡ closed → r.failing ≡ failing → r.body ≡ chosen
-    → Tells r.settings.now r.detail r.base.now r.traced.now r.closed r.failing r.body text → Tells settings detail base t closed failing chosen text
-tells_of r settings detail base t closed failing chosen text same_settings same_detail same_base same_trace same_closed same_failing same_data told =
+pub tells_of : {A : Type 0} (r : code_report.Report A) (settings : Settings) (detail : Detail) (base : Disk)
+    (t : TracedPatches) (closed failing : ℕ) (chosen : code.Body A) (text : List ℕ) → r.settings.now ≡ settings
+    → r.detail ≡ detail → r.base.now ≡ base → r.traced.now ≡ t → r.closed ≡ closed → r.failing ≡ failing
+    → r.body ≡ chosen
+    → Tells r.settings.now r.detail r.base.now r.traced.now r.closed r.failing r.body text
+    → Tells settings detail base t closed failing chosen text
+tells_of r settings detail base t closed failing chosen text same_settings same_detail same_base same_trace same_closed
+    same_failing same_data told =
     subst (λ (s : Settings). Tells s detail base t closed failing chosen text) same_settings
     (subst (λ (k : Detail). Tells r.settings.now k base t closed failing chosen text) same_detail
     (subst (λ (d : Disk). Tells r.settings.now r.detail d t closed failing chosen text) same_base
@@ -63,106 +71,147 @@ tells_of r settings detail base t closed failing chosen text same_settings same_
     (subst (λ b. Tells r.settings.now r.detail r.base.now r.traced.now r.closed r.failing b text) same_data told))))))
 
 -- a crash can leave the first sets of faults
-pub firsts_closed : (kept : Option ℕ) (base : Disk) (patches : List Patch) (rows : List FaultRow) → AreRows (HasFault kept base patches) rows → AreClosed patches (map (λ row. row.first) rows)
-firsts_closed kept base patches rows are = All-map (IsClosed (deps_of patches)) (λ (row : FaultRow). row.first) rows (λ k d within. (are.each k d within).first.among.failing.closed)
+pub firsts_closed : (kept : Option ℕ) (base : Disk) (patches : List Patch) (rows : List FaultRow)
+    → AreRows (HasFault kept base patches) rows → AreClosed patches (map (λ row. row.first) rows)
+firsts_closed kept base patches rows are = All-map (IsClosed (deps_of patches)) (λ (row : FaultRow). row.first) rows
+    (λ k d within. (are.each k d within).first.among.failing.closed)
 
 -- ---- what it tells
 
-module _ (settings : Settings) (kept : Option ℕ) (base : Disk) (t : TracedPatches) (last : Tracing) (is : IsTraceOf settings base t last) where
+module _ (settings : Settings) (kept : Option ℕ) (base : Disk) (t : TracedPatches) (last : Tracing)
+    (is : IsTraceOf settings base t last) where
   same_explanation : explanation_by base t ≡ explanation (ordering_rules settings) base last t.patches
   same_explanation = rw (is.rules, is.links, is.emitted) refl
 
   -- the text makes it the report on the failing sets
   is_report : (total failing : ℕ) (sets text : List ℕ) → AreTotals settings.limit kept base t.patches total failing sets
-      → IsTextOn settings kept base last t.patches total sets text → IsReport settings kept base last t.patches text failing
-  is_report total failing sets text totals told = subst (IsReport settings kept base last t.patches text) (sym totals.number) (record {
-    total = total;
-    counted = totals.counted;
-    within = totals.within;
-    sets = sets;
-    exactly = totals.exactly;
-    left = closed_are_left base t.patches is.graph.earlier sets (failing_closed kept base t.patches sets totals.exactly);
-    number = refl;
-    body = told.0;
-    told = told.1;
-    whole = told.2;
-  })
+      → IsTextOn settings kept base last t.patches total sets text
+      → IsReport settings kept base last t.patches text failing
+  is_report total failing sets text totals told = subst (IsReport settings kept base last t.patches text)
+      (sym totals.number) (record {
+        total = total;
+        counted = totals.counted;
+        within = totals.within;
+        sets = sets;
+        exactly = totals.exactly;
+        left = closed_are_left base t.patches is.graph.earlier sets
+            (failing_closed kept base t.patches sets totals.exactly);
+        number = refl;
+        body = told.0;
+        told = told.1;
+        whole = told.2;
+      })
 
   -- a text with a body of this kind
   text_on : (total : ℕ) (sets text : List ℕ) (body : Body) → IsBody settings kept base last t.patches sets body
       → text ≡ report settings (whole settings (explanation_by base t) t.patches total (length sets) body)
       → IsTextOn settings kept base last t.patches total sets text
-  text_on total sets text body told whole_text =
-      (body, told, whole_text ∙ ap (λ (e : Explanation). report settings (whole settings e t.patches total (length sets) body)) same_explanation)
+  text_on total sets text body told whole_text = (
+    body,
+    told,
+    whole_text ∙ ap (λ (e : Explanation). report settings
+        (whole settings e t.patches total (length sets) body)) same_explanation,
+  )
 
   told_sets : (total : ℕ) (sets text : List ℕ) (body : Body) (sections : List Section) → settings.by ≡ BySet
-      → AreAllInOrder (IsFailingUnder kept base t.patches) sets → AreSections (detail_of settings kept) base t.patches sets sections → body ≡ Sets sections
+      → AreAllInOrder (IsFailingUnder kept base t.patches) sets
+      → AreSections (detail_of settings kept) base t.patches sets sections → body ≡ Sets sections
       → text ≡ report settings (whole settings (explanation_by base t) t.patches total (length sets) body)
       → IsTextOn settings kept base last t.patches total sets text
   told_sets total sets text body sections by exactly are same whole_text =
       let closed = failing_closed kept base t.patches sets exactly in
       let lead = sections_lead base t.patches is.graph.earlier (detail_of settings kept) sets sections closed are in
-      text_on total sets text body (subst (IsBody settings kept base last t.patches sets) (sym same) (by, are, lead)) whole_text
+      text_on total sets text body (subst (IsBody settings kept base last t.patches sets) (sym same) (by, are, lead))
+      whole_text
 
-  told_faults : (total : ℕ) (sets text : List ℕ) (body : Body) (rows : List FaultRow) (told : List ToldFault) → settings.by ≡ ByFault
+  told_faults : (total : ℕ) (sets text : List ℕ) (body : Body) (rows : List FaultRow) (told : List ToldFault)
+      → settings.by ≡ ByFault
       → AreRows (HasFault kept base t.patches) rows → map (λ f. f.row) told ≡ rows
-      → AreSections (detail_of settings kept) base t.patches (map (λ row. row.first) rows) (map (λ f. f.first) told) → body ≡ Faults told
+      → AreSections (detail_of settings kept) base t.patches (map (λ row. row.first) rows) (map (λ f. f.first) told)
+      → body ≡ Faults told
       → text ≡ report settings (whole settings (explanation_by base t) t.patches total (length sets) body)
       → IsTextOn settings kept base last t.patches total sets text
   told_faults total sets text body rows told by are_rows of_rows are same whole_text =
-      text_on total sets text body (subst (IsBody settings kept base last t.patches sets) (sym same) (by, are_told, lead)) whole_text
+      text_on total sets text body (subst (IsBody settings kept base last t.patches sets) (sym same)
+      (by, are_told, lead)) whole_text
     where
       leads : All (IsLed t.patches) (map (λ f. f.first) told)
-      leads = sections_lead base t.patches is.graph.earlier (detail_of settings kept) (map (λ row. row.first) rows) (map (λ f. f.first) told) (firsts_closed kept base t.patches rows are_rows) are
+      leads = sections_lead base t.patches is.graph.earlier (detail_of settings kept) (map (λ row. row.first) rows)
+          (map (λ f. f.first) told) (firsts_closed kept base t.patches rows are_rows) are
 
       same_firsts : map (λ row. row.first) rows ≡ map (λ f. f.row.first) told
-      same_firsts = ap (map (λ (row : FaultRow). row.first)) (sym of_rows) ∙ map-map (λ (row : FaultRow). row.first) (λ (f : ToldFault). f.row) told
+      same_firsts = ap (map (λ (row : FaultRow). row.first)) (sym of_rows)
+          ∙ map-map (λ (row : FaultRow). row.first) (λ (f : ToldFault). f.row) told
 
       are_told : AreToldFaults (detail_of settings kept) base t.patches told
       are_told = record {
         rows = subst (AreRows (HasFault kept base t.patches)) (sym of_rows) are_rows;
-        firsts = subst (λ (firsts : List ℕ). AreSections (detail_of settings kept) base t.patches firsts (map (λ f. f.first) told)) same_firsts are;
+        firsts = subst (λ (firsts : List ℕ). AreSections (detail_of settings kept) base t.patches firsts
+            (map (λ f. f.first) told)) same_firsts are;
       }
 
       lead : All (λ f. IsLed t.patches f.first) told
       lead = all_of (IsLed t.patches) (λ f. f.first) told leads
 
   told_rules : (total : ℕ) (sets text : List ℕ) (body : Body) (told : List ToldRule) → settings.by ≡ ByRule
-      → AreToldRules (detail_of settings kept) settings.limit (ordering_rules settings) base last t.patches (ordering_rules settings) told → body ≡ Rules told
+      → AreToldRules (detail_of settings kept) settings.limit (ordering_rules settings) base last t.patches
+      (ordering_rules settings) told → body ≡ Rules told
       → text ≡ report settings (whole settings (explanation_by base t) t.patches total (length sets) body)
       → IsTextOn settings kept base last t.patches total sets text
   told_rules total sets text body told by are same whole_text =
-      text_on total sets text body (subst (IsBody settings kept base last t.patches sets) (sym same) (by, are)) whole_text
+      text_on total sets text body (subst (IsBody settings kept base last t.patches sets) (sym same) (by, are))
+      whole_text
 
   -- the same from the data of a report, whose number of failing sets is that of the list
   with_number : {A : Type 0} (closed failing : ℕ) (sets text : List ℕ) (chosen : code.Body A) → failing ≡ length sets
-      → Tells settings (detail_of settings kept) base t closed failing chosen text → Tells settings (detail_of settings kept) base t closed (length sets) chosen text
-  with_number closed failing sets text chosen number told = subst (λ (n : ℕ). Tells settings (detail_of settings kept) base t closed n chosen text) number told
+      → Tells settings (detail_of settings kept) base t closed failing chosen text
+      → Tells settings (detail_of settings kept) base t closed (length sets) chosen text
+  with_number closed failing sets text chosen number told =
+      subst (λ (n : ℕ). Tells settings (detail_of settings kept) base t closed n chosen text) number told
 
-  pub by_set : (A : Type 0) (total failing : ℕ) (sets text : List ℕ) (given : Bor (List ℕ)) → AreTotals settings.limit kept base t.patches total failing sets
+  pub by_set : (A : Type 0) (total failing : ℕ) (sets text : List ℕ) (given : Bor (List ℕ))
+      → AreTotals settings.limit kept base t.patches total failing sets
       → settings.by ≡ BySet → AreAllInOrder (IsFailingUnder kept base t.patches) given.now
-      → Tells {A = A} settings (detail_of settings kept) base t total failing (code_body.Sets given) text → IsReport settings kept base last t.patches text failing
-  by_set A total failing sets text given totals by all told = is_report total failing sets text totals (on (with_number {A = A} total failing sets text (code_body.Sets given) totals.number told))
+      → Tells {A = A} settings (detail_of settings kept) base t total failing (code_body.Sets given) text
+      → IsReport settings kept base last t.patches text failing
+  by_set A total failing sets text given totals by all told =
+      is_report total failing sets text totals (on (with_number {A = A} total failing sets text (code_body.Sets given)
+      totals.number told))
     where
       same : given.now ≡ sets
       same = one_list (IsFailingUnder kept base t.patches) given.now sets all totals.exactly
 
-      on : Tells {A = A} settings (detail_of settings kept) base t total (length sets) (code_body.Sets given) text → IsTextOn settings kept base last t.patches total sets text
+      on : Tells {A = A} settings (detail_of settings kept) base t total (length sets) (code_body.Sets given) text
+          → IsTextOn settings kept base last t.patches total sets text
       on (body, (sections, are, is_body), written) =
-          told_sets total sets text body sections by totals.exactly (subst (λ (ss : List ℕ). AreSections (detail_of settings kept) base t.patches ss sections) same are) is_body written
+          told_sets total sets text body sections by totals.exactly
+          (subst (λ (ss : List ℕ). AreSections (detail_of settings kept) base t.patches ss sections) same are)
+          is_body written
 
-  pub by_fault : (A : Type 0) (total failing : ℕ) (sets text : List ℕ) (given : Bor (List FaultRow)) → AreTotals settings.limit kept base t.patches total failing sets
+  pub by_fault : (A : Type 0) (total failing : ℕ) (sets text : List ℕ) (given : Bor (List FaultRow))
+      → AreTotals settings.limit kept base t.patches total failing sets
       → settings.by ≡ ByFault → AreRows (HasFault kept base t.patches) given.now
-      → Tells {A = A} settings (detail_of settings kept) base t total failing (code_body.Faults given) text → IsReport settings kept base last t.patches text failing
-  by_fault A total failing sets text given totals by rows told = is_report total failing sets text totals (on (with_number {A = A} total failing sets text (code_body.Faults given) totals.number told))
+      → Tells {A = A} settings (detail_of settings kept) base t total failing (code_body.Faults given) text
+      → IsReport settings kept base last t.patches text failing
+  by_fault A total failing sets text given totals by rows told =
+      is_report total failing sets text totals (on (with_number {A = A} total failing sets text (code_body.Faults given)
+      totals.number told))
     where
-      on : Tells {A = A} settings (detail_of settings kept) base t total (length sets) (code_body.Faults given) text → IsTextOn settings kept base last t.patches total sets text
-      on (body, (rest, of_rows, firsts, is_body), written) = told_faults total sets text body given.now rest by rows of_rows firsts is_body written
+      on : Tells {A = A} settings (detail_of settings kept) base t total (length sets) (code_body.Faults given) text
+          → IsTextOn settings kept base last t.patches total sets text
+      on (body, (rest, of_rows, firsts, is_body), written) = told_faults total sets text body given.now rest by rows
+          of_rows firsts is_body written
 
-  pub by_rule : (A : Type 0) (total failing : ℕ) (sets text : List ℕ) (given : Bor (List (code_rule.ToldRule A))) → AreTotals settings.limit kept base t.patches total failing sets
-      → settings.by ≡ ByRule → AreToldRules (detail_of settings kept) settings.limit (ordering_rules settings) base last t.patches (ordering_rules settings) (map told_rule given.now)
-      → Tells {A = A} settings (detail_of settings kept) base t total failing (code_body.Rules given) text → IsReport settings kept base last t.patches text failing
-  by_rule A total failing sets text given totals by are told = is_report total failing sets text totals (on (with_number {A = A} total failing sets text (code_body.Rules given) totals.number told))
+  pub by_rule : (A : Type 0) (total failing : ℕ) (sets text : List ℕ) (given : Bor (List (code_rule.ToldRule A)))
+      → AreTotals settings.limit kept base t.patches total failing sets
+      → settings.by ≡ ByRule → AreToldRules (detail_of settings kept) settings.limit (ordering_rules settings) base last
+      t.patches (ordering_rules settings) (map told_rule given.now)
+      → Tells {A = A} settings (detail_of settings kept) base t total failing (code_body.Rules given) text
+      → IsReport settings kept base last t.patches text failing
+  by_rule A total failing sets text given totals by are told =
+      is_report total failing sets text totals (on (with_number {A = A} total failing sets text (code_body.Rules given)
+      totals.number told))
     where
-      on : Tells {A = A} settings (detail_of settings kept) base t total (length sets) (code_body.Rules given) text → IsTextOn settings kept base last t.patches total sets text
+      on : Tells {A = A} settings (detail_of settings kept) base t total (length sets) (code_body.Rules given) text
+          → IsTextOn settings kept base last t.patches total sets text
       on (body, is_body, written) = told_rules total sets text body (map told_rule given.now) by are is_body written

@@ -1,5 +1,6 @@
 -- What is told of the rules of an ordering.
-use Rattle.std.proofs.Common.{◌≡◌, ℕ, ◌+◌, ◌<◌, ◌≤◌, suc, List, [], ◌∷◌, ◌++◌, length, get_or, map, take, drop, Option, All, refl, sym, ap, subst, ◌∙◌, arith, length-take}
+use Rattle.std.proofs.Common.{◌≡◌, ℕ, ◌+◌, ◌<◌, ◌≤◌, suc, List, [], ◌∷◌, ◌++◌, length, get_or, map, take, drop, Option}
+use Rattle.std.proofs.Common.{All, refl, sym, ap, subst, ◌∙◌, arith, length-take}
 use Rattle.std.specs.Prelude.{Some, None}
 use Rattle.std.specs.List.{Contains}
 use Rattle.std.proofs.Math.Seq.{drop-cons}
@@ -9,7 +10,8 @@ use Rattle.patch_sets.specs.Closed.{AreEarlier, IsClosed}
 use Rattle.patch_sets.specs.Sets.{Has, IsBefore, AreAllInOrder}
 use Rattle.crash_model.specs.Disk.{Disk}
 use Rattle.crash_model.specs.Strict.{IsFailingUnder}
-use Rattle.crash_model.specs.Needs.{AreToldRules, IsFirstNew, IsRuleUsage, RuleUsage, Unused, TooMany as PastLimit, Used, ToldRule, pairs_of}
+use Rattle.crash_model.specs.Needs.{AreToldRules, IsFirstNew, IsRuleUsage, RuleUsage, Unused, TooMany as PastLimit}
+use Rattle.crash_model.specs.Needs.{Used, ToldRule, pairs_of}
 use Rattle.crash_model.specs.Patches.{deps_of}
 use Rattle.crash_model.specs.Report.{AreSections, IsLed}
 use Rattle.crash_model.specs.Rules.{rules_in_first}
@@ -28,29 +30,39 @@ use Rattle.report_sections.proofs.Pushed.{is_told}
 use Rattle.crash_text.specs.Telling.{IsUsageBy}
 
 -- the section of the first set that is not closed under the patches
-first_found : {A : Type 0} (detail : Detail) (base : Disk) (patches changed : List Patch) (sets : List ℕ) (i set : ℕ) (s : Section A) → AreEarlier (deps_of changed) → All (IsClosed (deps_of changed)) sets
-    → i < length sets → set ≡ get_or sets i 0 → All (IsClosed (deps_of patches)) (take i sets) → ¬ (IsClosed (deps_of patches) set) → IsSection detail base changed set s
+first_found : {A : Type 0} (detail : Detail) (base : Disk) (patches changed : List Patch) (sets : List ℕ) (i set : ℕ)
+    (s : Section A) → AreEarlier (deps_of changed) → All (IsClosed (deps_of changed)) sets
+    → i < length sets → set ≡ get_or sets i 0 → All (IsClosed (deps_of patches)) (take i sets)
+    → ¬ (IsClosed (deps_of patches) set) → IsSection detail base changed set s
     → IsFirstNew detail base patches changed sets (Some (section_of s))
 first_found detail base patches changed sets i set s earlier closed within read before new is =
     let split : sets ≡ take i sets ++ set ∷ drop (suc i) sets =
-    sym (take-append-drop i sets) ∙ ap (λ (ss : List ℕ). take i sets ++ ss) (drop-cons sets i 0 within ∙ ap (λ (x : ℕ). x ∷ drop (suc i) sets) (sym read)) in
+    sym (take-append-drop i sets) ∙ ap (λ (ss : List ℕ). take i sets ++ ss)
+    (drop-cons sets i 0 within ∙ ap (λ (x : ℕ). x ∷ drop (suc i) sets) (sym read)) in
     let here : IsClosed (deps_of changed) set = subst (IsClosed (deps_of changed)) (sym read) (closed i 0 within) in
-    let alone : All (IsClosed (deps_of changed)) (set ∷ []) = All-cons (IsClosed (deps_of changed)) set [] here (All-nil (IsClosed (deps_of changed))) in
+    let alone : All (IsClosed (deps_of changed)) (set ∷ []) = All-cons (IsClosed (deps_of changed)) set [] here
+    (All-nil (IsClosed (deps_of changed))) in
     let are : AreSections detail base changed (set ∷ []) (section_of s ∷ []) = is_told detail base changed set s is in
-    let led : All (IsLed changed) (section_of s ∷ []) = sections_lead base changed earlier detail (set ∷ []) (section_of s ∷ []) alone are in
+    let led : All (IsLed changed) (section_of s ∷ []) = sections_lead base changed earlier detail (set ∷ [])
+    (section_of s ∷ []) alone are in
     (take i sets, set, drop (suc i) sets, split, before, new, are, All-head (IsLed changed) (section_of s) [] led)
 
 -- no failing set is prevented
-pub none_new : (kept : Option ℕ) (base : Disk) (patches changed : List Patch) (sets : List ℕ) → IsFirstPrevented (IsFailingUnder kept base changed) (IsClosed (deps_of patches)) None
+pub none_new : (kept : Option ℕ) (base : Disk) (patches changed : List Patch) (sets : List ℕ)
+    → IsFirstPrevented (IsFailingUnder kept base changed) (IsClosed (deps_of patches)) None
     → AreAllInOrder (IsFailingUnder kept base changed) sets → All (IsClosed (deps_of patches)) sets
-none_new kept base patches changed sets none all k d within = none (get_or sets k d) ((all.exactly (get_or sets k d)).0 (Contains-get_or sets k d within))
+none_new kept base patches changed sets none all k d within =
+    none (get_or sets k d) ((all.exactly (get_or sets k d)).0 (Contains-get_or sets k d within))
 
 -- the section of the first failing set that the patches prevent
-pub some_new : {A : Type 0} (detail : Detail) (base : Disk) (patches changed : List Patch) (sets : List ℕ) (set : ℕ) (s : Section A) → AreEarlier (deps_of changed)
-    → IsFirstOut (IsFailingUnder detail.kept base changed) (IsClosed (deps_of patches)) set → AreAllInOrder (IsFailingUnder detail.kept base changed) sets → IsSection detail base changed set s
+pub some_new : {A : Type 0} (detail : Detail) (base : Disk) (patches changed : List Patch) (sets : List ℕ) (set : ℕ)
+    (s : Section A) → AreEarlier (deps_of changed)
+    → IsFirstOut (IsFailingUnder detail.kept base changed) (IsClosed (deps_of patches)) set
+    → AreAllInOrder (IsFailingUnder detail.kept base changed) sets → IsSection detail base changed set s
     → IsFirstNew detail base patches changed sets (Some (section_of s))
 some_new detail base patches changed sets set s earlier first all is =
-    first_found detail base patches changed sets at set s earlier (failing_closed detail.kept base changed sets all) within read front first.out is
+    first_found detail base patches changed sets at set s earlier (failing_closed detail.kept base changed sets all)
+    within read front first.out is
   where
     there : Contains sets set
     there = (all.exactly set).1 first.among
@@ -69,37 +81,65 @@ some_new detail base patches changed sets set s earlier first all is =
         let lt : k < at = omega (arith, inside, within, length-take at sets) in
         let known : k < length sets = omega (arith, lt, within) in
         let last : get_or sets at d ≡ set = sym (get_or_default sets at 0 d within) ∙ sym read in
-        let before : IsBefore (get_or sets k d) set = subst (IsBefore (get_or sets k d)) last (all.ordered k at d lt within) in
+        let before : IsBefore (get_or sets k d) set = subst (IsBefore (get_or sets k d)) last
+        (all.ordered k at d lt within) in
         subst (IsClosed (deps_of patches)) (sym (get_or-take at sets k d lt))
         (first.before (get_or sets k d) ((all.exactly (get_or sets k d)).0 (Contains-get_or sets k d known)) before)
 
 -- a rule's usage, which is told by the patches without it
-pub usage_of_pairs : (detail : Detail) (limit : ℕ) (rules : List Rule) (base : Disk) (last : Tracing) (patches changed : List Patch) (rule : Rule) (pairs : ℕ) (usage : RuleUsage) → pairs ≡ pairs_of rule last.emitted → 1 ≤ pairs
-    → IsGraphOf (rules_in_first rules (rule ∷ [])) base last changed → IsUsageBy detail limit base patches changed pairs usage → IsRuleUsage detail limit rules base last patches rule usage
+pub usage_of_pairs : (detail : Detail) (limit : ℕ) (rules : List Rule) (base : Disk) (last : Tracing)
+    (patches changed : List Patch) (rule : Rule) (pairs : ℕ) (usage : RuleUsage) → pairs ≡ pairs_of rule last.emitted
+    → 1 ≤ pairs
+    → IsGraphOf (rules_in_first rules (rule ∷ [])) base last changed
+    → IsUsageBy detail limit base patches changed pairs usage
+    → IsRuleUsage detail limit rules base last patches rule usage
 usage_of_pairs detail limit rules base last patches changed rule pairs Unused same some graph is = absurd is
-usage_of_pairs detail limit rules base last patches changed rule pairs (PastLimit told) same some graph is = (is.0 ∙ same, omega (arith, is.0, some), (changed, graph, is.1))
-usage_of_pairs detail limit rules base last patches changed rule pairs (Used told w) same some graph is = (is.0 ∙ same, omega (arith, is.0, some), (changed, graph, is.1))
+usage_of_pairs detail limit rules base last patches changed rule pairs (PastLimit told) same some graph is =
+    (is.0 ∙ same, omega (arith, is.0, some), (changed, graph, is.1))
+usage_of_pairs detail limit rules base last patches changed rule pairs (Used told w) same some graph is =
+    (is.0 ∙ same, omega (arith, is.0, some), (changed, graph, is.1))
 
 -- closed sets have ids of the graph alone
-pub closed_known : (patches : List Patch) (set : ℕ) → IsClosed (deps_of patches) set → (id : ℕ) → Has set id → id < length patches
+pub closed_known : (patches : List Patch) (set : ℕ) → IsClosed (deps_of patches) set → (id : ℕ) → Has set id
+    → id < length patches
 closed_known patches set closed id has =
     let known = closed.known id has in
     omega (arith, known, length-map patches (λ (p : Patch). p.deps))
 
 module _ (detail : Detail) (limit : ℕ) (rules : List Rule) (base : Disk) (last : Tracing) (patches : List Patch) where
   -- one rule more is told
-  pub rule_pushed : (some : List Rule) (rule : Rule) (told : List ToldRule) (usage : RuleUsage) → AreToldRules detail limit rules base last patches some told → IsRuleUsage detail limit rules base last patches rule usage
-      → AreToldRules detail limit rules base last patches (some ++ rule ∷ []) (told ++ record { rule = rule; usage = usage } ∷ [])
-  rule_pushed [] rule told usage are is = (usage, [], is, refl, ap (λ (ts : List ToldRule). ts ++ record { rule = rule; usage = usage } ∷ []) are)
-  rule_pushed (r ∷ some) rule told usage (first, rest, of_first, more, whole) is =
-      (first, rest ++ record { rule = rule; usage = usage } ∷ [], of_first, rule_pushed some rule rest usage more is, ap (λ (ts : List ToldRule). ts ++ record { rule = rule; usage = usage } ∷ []) whole)
+  pub rule_pushed : (some : List Rule) (rule : Rule) (told : List ToldRule) (usage : RuleUsage)
+      → AreToldRules detail limit rules base last patches some told
+      → IsRuleUsage detail limit rules base last patches rule usage
+      → AreToldRules detail limit rules base last patches (some ++ rule ∷ [])
+      (told ++ record { rule = rule; usage = usage } ∷ [])
+  rule_pushed [] rule told usage are is = (
+    usage,
+    [],
+    is,
+    refl,
+    ap (λ (ts : List ToldRule). ts ++ record { rule = rule; usage = usage } ∷ []) are,
+  )
+  rule_pushed (r ∷ some) rule told usage (first, rest, of_first, more, whole) is = (
+    first,
+    rest ++ record { rule = rule; usage = usage } ∷ [],
+    of_first,
+    rule_pushed some rule rest usage more is,
+    ap (λ (ts : List ToldRule). ts ++ record { rule = rule; usage = usage } ∷ []) whole,
+  )
 
   -- the rules told so far, with the next one
-  pub rule_more : {A : Type 0} (items : List Rule) (i : ℕ) (d : Rule) (told after : List (code_rule.ToldRule A)) (usage : code_usage.RuleUsage A) → i < length items
-      → AreToldRules detail limit rules base last patches (take i items) (map told_rule told) → IsRuleUsage detail limit rules base last patches (get_or items i d) (usage_of usage)
-      → after ≡ told ++ record { rule = get_or items i d; usage = usage } ∷ [] → AreToldRules detail limit rules base last patches (take (i + 1) items) (map told_rule after)
+  pub rule_more : {A : Type 0} (items : List Rule) (i : ℕ) (d : Rule) (told after : List (code_rule.ToldRule A))
+      (usage : code_usage.RuleUsage A) → i < length items
+      → AreToldRules detail limit rules base last patches (take i items) (map told_rule told)
+      → IsRuleUsage detail limit rules base last patches (get_or items i d) (usage_of usage)
+      → after ≡ told ++ record { rule = get_or items i d; usage = usage } ∷ []
+      → AreToldRules detail limit rules base last patches (take (i + 1) items) (map told_rule after)
   rule_more {A} items i d told after usage within are is more =
-      subst (λ (some : List Rule). AreToldRules detail limit rules base last patches some (map told_rule after)) (sym (take_more items i d within))
-      (subst (λ (ts : List ToldRule). AreToldRules detail limit rules base last patches (take i items ++ get_or items i d ∷ []) ts)
-      (sym (ap (λ (ts : List (code_rule.ToldRule A)). map told_rule ts) more ∙ map_push told_rule told (record { rule = get_or items i d; usage = usage })))
+      subst (λ (some : List Rule). AreToldRules detail limit rules base last patches some (map told_rule after))
+      (sym (take_more items i d within))
+      (subst (λ (ts : List ToldRule). AreToldRules detail limit rules base last patches
+      (take i items ++ get_or items i d ∷ []) ts)
+      (sym (ap (λ (ts : List (code_rule.ToldRule A)). map told_rule ts) more
+      ∙ map_push told_rule told (record { rule = get_or items i d; usage = usage })))
       (rule_pushed (take i items) (get_or items i d) (map told_rule told) (usage_of usage) are is))

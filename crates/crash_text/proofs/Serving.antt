@@ -1,11 +1,14 @@
 -- What is served, and which refusals are not a run's.
-use Rattle.std.proofs.Common.{◌≡◌, ℕ, ◌<◌, ◌≤◌, List, ◌++◌, length, Option, Some, None, IfSome, Bool, true, false, refl, sym, subst, ap, ◌∙◌, append-nil, arith}
+use Rattle.std.proofs.Common.{◌≡◌, ℕ, ◌<◌, ◌≤◌, List, ◌++◌, length, Option, Some, None, IfSome, Bool, true, false, refl}
+use Rattle.std.proofs.Common.{sym, subst, ap, ◌∙◌, append-nil, arith}
 use Rattle.std.specs.Prelude.{◌≢◌, Result, Err}
 use Rattle.std.specs.Io.KnownBytes.{Consumes, IsAtEnd}
-use Rattle.crash_model.specs.Answer.{Answer, Refused, Reported, IsAnswer, bad_script, bad_geometry, bad_base, bad_trace, too_many, reported}
+use Rattle.crash_model.specs.Answer.{Answer, Refused, Reported, IsAnswer, bad_script, bad_geometry, bad_base, bad_trace}
+use Rattle.crash_model.specs.Answer.{too_many, reported}
 use Rattle.crash_model.specs.Refusals.{run_of_script, run_of_trace}
 use Rattle.crash_model.specs.declared.refusals.RunFault.{RunFault}
-use Rattle.crash_model.specs.declared.refusals.RunFault.TheVariants.{CannotRead, CannotWrite, ScriptTooLong, OutOfMemory}
+use Rattle.crash_model.specs.declared.refusals.RunFault.TheVariants.{CannotRead, CannotWrite, ScriptTooLong}
+use Rattle.crash_model.specs.declared.refusals.RunFault.TheVariants.{OutOfMemory}
 use Rattle.crash_model.specs.declared.refusals.ScriptFault.{ScriptFault}
 use Rattle.crash_model.specs.declared.refusals.ScriptFault.TheVariants as script
 use Rattle.crash_model.specs.declared.refusals.TraceFault.{TraceFault}
@@ -33,7 +36,8 @@ not_longer P (Some all) new bytes most read few = λ more.
     absurd (omega arith)
 
 -- why a source was not read is no script's answer
-pub unread_refused : (coming : Option (List ℕ)) (settings : Settings) (fault : RunFault) → IsReadFault fault → IsRefusedBy coming settings fault
+pub unread_refused : (coming : Option (List ℕ)) (settings : Settings) (fault : RunFault) → IsReadFault fault
+    → IsRefusedBy coming settings fault
 unread_refused coming settings CannotRead is = λ a b c d. absurd (a refl)
 unread_refused coming settings ScriptTooLong is = λ a b c d. absurd (c refl)
 unread_refused coming settings OutOfMemory is = λ a b c d. absurd (d refl)
@@ -58,7 +62,8 @@ abbrev answer_is_of_run : Answer → Bool
 answer_is_of_run (Refused fault) = is_of_run fault
 answer_is_of_run (Reported text failing) = true
 
-of_run : {bytes : List ℕ} {settings : Settings} {answer : Answer} → IsAnswer bytes settings answer → answer_is_of_run answer ≡ true
+of_run : {bytes : List ℕ} {settings : Settings} {answer : Answer} → IsAnswer bytes settings answer
+    → answer_is_of_run answer ≡ true
 of_run (bad_script fault refused) = script_is_of_run fault
 of_run (bad_geometry before steps read none) = refl
 of_run (bad_base before steps fault read geometry is) = trace_is_of_run fault
@@ -72,6 +77,7 @@ pub not_of_device : {X : Type 0} (result : Result X RunFault) (bytes : List ℕ)
     → is_of_run device ≡ false → result ≡ Err fault → result ≡ Err device → ⊥
 not_of_device result bytes settings fault device answers is ran refused =
     let same : fault ≡ device = cc in
-    let memory : fault ≢ OutOfMemory = λ e. let yes : is_of_run device ≡ true = subst (λ f. is_of_run f ≡ true) (sym e ∙ same) refl in cc in
+    let memory : fault ≢ OutOfMemory = λ e. let yes : is_of_run device ≡ true =
+    subst (λ f. is_of_run f ≡ true) (sym e ∙ same) refl in cc in
     let yes : is_of_run device ≡ true = subst (λ f. is_of_run f ≡ true) same (of_run (answers memory)) in
     cc

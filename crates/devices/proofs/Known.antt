@@ -1,5 +1,6 @@
 -- Bytes that are read or written in several calls, where they are known.
-use Rattle.std.proofs.Common.{◌≡◌, ℕ, ◌-◌, List, [], ◌++◌, length, take, drop, Option, Some, None, refl, sym, ap, ◌∙◌, append_assoc, append-nil, arith}
+use Rattle.std.proofs.Common.{◌≡◌, ℕ, ◌-◌, List, [], ◌++◌, length, take, drop, Option, Some, None, refl, sym, ap, ◌∙◌}
+use Rattle.std.proofs.Common.{append_assoc, append-nil, arith}
 use Rattle.std.proofs.lemmas.List.{take-append-drop}
 use Rattle.std.proofs.lemmas.Grind.{elements}
 use Rattle.std.specs.Io.KnownBytes.{Appends, Consumes, Keeps}
@@ -8,11 +9,13 @@ pub consumes-none : (a : Option (List ℕ)) → Consumes a a []
 consumes-none None = tt
 consumes-none (Some xs) = refl
 
-pub consumes-both : (a b c : Option (List ℕ)) (xs ys : List ℕ) → Consumes a b xs → Consumes b c ys → Consumes a c (xs ++ ys)
+pub consumes-both : (a b c : Option (List ℕ)) (xs ys : List ℕ) → Consumes a b xs → Consumes b c ys
+    → Consumes a c (xs ++ ys)
 consumes-both None b c xs ys first second = tt
 consumes-both (Some a) None c xs ys first second = absurd first
 consumes-both (Some a) (Some b) None xs ys first second = absurd second
-consumes-both (Some a) (Some b) (Some c) xs ys first second = first ∙ ap (λ zs. xs ++ zs) second ∙ sym (append_assoc xs ys c)
+consumes-both (Some a) (Some b) (Some c) xs ys first second = first ∙ ap (λ zs. xs ++ zs) second
+    ∙ sym (append_assoc xs ys c)
 
 pub consumes-kept : (a b c : Option (List ℕ)) (xs : List ℕ) → Consumes a b xs → Keeps b c → Consumes a c xs
 consumes-kept None b c xs first second = tt
@@ -37,7 +40,9 @@ appends-kept (Some a) (Some b) None xs first second = absurd second
 appends-kept (Some a) (Some b) (Some c) xs first second = second ∙ first
 
 -- the seam moves n elements on
-pub seam-moved : (text front rest : List ℕ) (n : ℕ) → text ≡ front ++ rest → text ≡ (front ++ take n rest) ++ take (length rest - n) (drop n rest)
+pub seam-moved : (text front rest : List ℕ) (n : ℕ) → text ≡ front ++ rest
+    → text ≡ (front ++ take n rest) ++ take (length rest - n) (drop n rest)
 seam-moved text front rest n e =
     let behind : take (length rest - n) (drop n rest) ≡ drop n rest = grind (arith, elements) in
-    e ∙ ap (λ xs. front ++ xs) (sym (take-append-drop n rest)) ∙ sym (append_assoc front (take n rest) (drop n rest)) ∙ ap (λ xs. (front ++ take n rest) ++ xs) (sym behind)
+    e ∙ ap (λ xs. front ++ xs) (sym (take-append-drop n rest)) ∙ sym (append_assoc front (take n rest) (drop n rest))
+    ∙ ap (λ xs. (front ++ take n rest) ++ xs) (sym behind)

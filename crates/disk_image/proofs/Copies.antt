@@ -5,7 +5,8 @@ use Rattle.std.specs.List.{copy_within}
 use Rattle.crash_model.specs.Disk.{overwrite}
 
 -- 128 bytes from `from` on, copied to `to`, are an overwrite by them
-pub copy_within-overwrite : (xs : List ℕ) (from to : ℕ) → from + 128 ≤ length xs → copy_within xs from (from + 128) to ≡ overwrite xs to (take 128 (drop from xs))
+pub copy_within-overwrite : (xs : List ℕ) (from to : ℕ) → from + 128 ≤ length xs
+    → copy_within xs from (from + 128) to ≡ overwrite xs to (take 128 (drop from xs))
 unfolding overwrite
 copy_within-overwrite xs from to fits =
     let size : from + 128 - from ≡ 128 = omega arith in

@@ -7,7 +7,8 @@ below_or_not : (a b : ℕ) → (a < b) ⊎ (b ≤ a)
 below_or_not a b = grind arith
 
 -- of two numbers whose product is n, one is no more than its root
-pub no_divisor : (n root : ℕ) → n / root < root → ((d : ℕ) → 1 < d → d < root → n % d ≢ 0) → (d : ℕ) → 1 < d → d < n → n % d ≢ 0
+pub no_divisor : (n root : ℕ) → n / root < root → ((d : ℕ) → 1 < d → d < root → n % d ≢ 0) → (d : ℕ) → 1 < d → d < n
+    → n % d ≢ 0
 no_divisor n root high none d above below divides = elim (below_or_not d root) [
   | inl low ↦ none d above low divides
   | inr up ↦

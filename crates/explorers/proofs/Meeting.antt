@@ -19,7 +19,9 @@ pub met_on : (words : List ℕ) (seen rows : List (List ℕ)) → SeesOn seen ro
 met_on words seen rows sees met = record { has = λ word is. has_on seen rows word sees (met.has word is) }
 
 -- and where a word is kept that was put in
-pub met_more : (words more : List ℕ) (word : ℕ) (s w : Known) → SeesOn s.seen w.seen → Has w.seen word → ((other : ℕ) → Contains more other → (other ≡ word) ⊎ Contains words other) → AreMet words s.seen → AreMet more w.seen
+pub met_more : (words more : List ℕ) (word : ℕ) (s w : Known) → SeesOn s.seen w.seen → Has w.seen word
+    → ((other : ℕ) → Contains more other → (other ≡ word) ⊎ Contains words other) → AreMet words s.seen
+    → AreMet more w.seen
 met_more words more word s w sees has each met = record {
   has = λ other is. elim (each other is) [
     | inl e ↦ subst (Has w.seen) (sym e) has
@@ -28,7 +30,10 @@ met_more words more word s w sees has each met = record {
 }
 
 -- a worker that put a word in, and keeps it
-pub free_after : {S C A : Type 0} (b : Shown S) (space : S) (is_own : S → C → Type 0) (before after : Worker C A) (word : ℕ) (put : Put) → IsFree b space is_own before → PutOk word before.seat after.seat put → put ≢ Over → put ≢ Busy → is_own space after.scratch → ((other : ℕ) → Contains after.met other → (other ≡ word) ⊎ Contains before.met other) → IsFree b space is_own after
+pub free_after : {S C A : Type 0} (b : Shown S) (space : S) (is_own : S → C → Type 0) (before after : Worker C A)
+    (word : ℕ) (put : Put) → IsFree b space is_own before → PutOk word before.seat after.seat put → put ≢ Over
+    → put ≢ Busy → is_own space after.scratch → ((other : ℕ) → Contains after.met other → (other ≡ word)
+    ⊎ Contains before.met other) → IsFree b space is_own after
 free_after b space is_own before after word put free ok not_over not_busy own each =
     let puts = puts_in word before.seat after.seat put ok not_over not_busy in
     record {
@@ -36,7 +41,8 @@ free_after b space is_own before after word put free ok not_over not_busy own ea
       of = (puts.board ∙ free.of.0, puts.limit ∙ free.of.1, puts.places ∙ free.of.2);
       free = puts.free;
       own = own;
-      met = met_more before.met after.met word before.seat after.seat (put_sees word before.seat after.seat put ok) puts.has each free.met;
+      met = met_more before.met after.met word before.seat after.seat (put_sees word before.seat after.seat put ok)
+          puts.has each free.met;
     }
 
 -- a worker that is between two turns stays so where its seat is idle and sees on
@@ -55,5 +61,9 @@ ready_on b space is_own seen worker explored own met idle sees = record {
 }
 
 -- copies of one word
-pub met_copies : (words : List ℕ) (word : ℕ) (seen : List (List ℕ)) → All (λ met. met ≡ word) words → Has seen word → AreMet words seen
-met_copies words word seen all has = record { has = λ other is. subst (Has seen) (sym (All-contains (λ met. met ≡ word) words other all is)) has }
+pub met_copies : (words : List ℕ) (word : ℕ) (seen : List (List ℕ)) → All (λ met. met ≡ word) words → Has seen word
+    → AreMet words seen
+met_copies words word seen all has = record {
+  has = λ other is.
+      subst (Has seen) (sym (All-contains (λ met. met ≡ word) words other all is)) has;
+}

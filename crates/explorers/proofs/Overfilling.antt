@@ -11,7 +11,8 @@ overfills_rows P limit over = elim over [
     of_shard.1.0,
     record {
       distinct = of_shard.1.1.distinct;
-      each = All-weaker (λ word. P word × (word % 13 ≡ of_shard.0)) P (λ word both. both.0) of_shard.1.0 of_shard.1.1.each;
+      each = All-weaker (λ word. P word × (word % 13 ≡ of_shard.0)) P (λ word both. both.0) of_shard.1.0
+          of_shard.1.1.each;
     },
     of_shard.1.2,
   )

@@ -28,15 +28,20 @@ puts_in x s w put ok not-over not-busy =
 
 module _ {S : Type 0} (b : Shown S) where
   -- one more successor is an entry that was seen
-  pub expands_next : (before : List (List ℕ)) (place : Place) (next : List ℕ) (k x : ℕ) (s w : Known) → Expands b before place next k s → x ≡ get_or next k 0 → SeesOn s.seen w.seen → PutsIn x s w → Expands b before place next (k + 1) w
+  pub expands_next : (before : List (List ℕ)) (place : Place) (next : List ℕ) (k x : ℕ) (s w : Known)
+      → Expands b before place next k s → x ≡ get_or next k 0 → SeesOn s.seen w.seen → PutsIn x s w
+      → Expands b before place next (k + 1) w
   expands_next before place next k x s w o is sees put = record {
     of = (put.board ∙ o.of.0, put.limit ∙ o.of.1, put.places ∙ o.of.2);
     free = put.free;
     claim = (put.claims ∙ o.claim.0, put.place ∙ o.claim.1);
     sees = sees_on_trans before s.seen w.seen o.sees sees;
-    has = below_more (λ j. Has w.seen (get_or next j 0)) k (λ j h. has_on s.seen w.seen (get_or next j 0) sees (o.has j h)) (subst (Has w.seen) is put.has);
+    has = below_more (λ j. Has w.seen (get_or next j 0)) k
+        (λ j h. has_on s.seen w.seen (get_or next j 0) sees (o.has j h)) (subst (Has w.seen) is put.has);
   }
 
   -- once all are, the entry can be settled
-  pub expands_all : (before : List (List ℕ)) (place : Place) (next : List ℕ) (k : ℕ) (s : Known) → Expands b before place next k s → k ≡ length next → (y : ℕ) → Contains next y → Has s.seen y
-  expands_all before place next k s o all y has = subst (Has s.seen) (get_or_default next has.0 0 y has.1 ∙ has.2) (o.has has.0 (omega (arith, all, has.1)))
+  pub expands_all : (before : List (List ℕ)) (place : Place) (next : List ℕ) (k : ℕ) (s : Known)
+      → Expands b before place next k s → k ≡ length next → (y : ℕ) → Contains next y → Has s.seen y
+  expands_all before place next k s o all y has = subst (Has s.seen) (get_or_default next has.0 0 y has.1 ∙ has.2)
+      (o.has has.0 (omega (arith, all, has.1)))

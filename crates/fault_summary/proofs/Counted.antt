@@ -10,7 +10,8 @@ use Rattle.crash_model.specs.Patches.{image_of}
 use Rattle.crash_model.specs.Replay.{image_after_replay}
 use Rattle.crash_model.specs.Strict.{IsCleanUnder}
 use Rattle.fault_summary.specs.Summed.{IsEarlier}
-use Rattle.fault_summary.specs.Prevented.{Compared, IsFirstOut, IsFirstPrevented, FailsAmong, AreCounted, IsCount, IsEarlierOf, JoinsCounts}
+use Rattle.fault_summary.specs.Prevented.{Compared, IsFirstOut, IsFirstPrevented, FailsAmong, AreCounted, IsCount}
+use Rattle.fault_summary.specs.Prevented.{IsEarlierOf, JoinsCounts}
 use Rattle.fault_summary.proofs.Summed.{Either, order_of_sets, same_numbers, both_numbers}
 use Rattle.fault_summary.proofs.Tallied.{left_apart, right_apart, parts_apart, last_is, one_word, few_fail}
 
@@ -25,10 +26,21 @@ module _ (fails allowed : ℕ → Type 0) where
   -- ---- one set
 
   no_words : (sets : List ℕ) → ((s : ℕ) → Among sets s → ⊥) → HoldsOf (Among sets) 0
-  no_words sets none = ([], record { distinct = λ i j d before within. absurd (omega arith); each = All-nil (Among sets); every = λ s is. absurd (none s is) }, refl)
+  no_words sets none = (
+    [],
+    record {
+      distinct = λ i j d before within. absurd (omega arith);
+      each = All-nil (Among sets);
+      every = λ s is. absurd (none s is);
+    },
+    refl,
+  )
 
   pub no_count : IsCount fails allowed [] 0 None
-  no_count apart short = record { number = no_words [] (λ s is. in_none s is.0); first = λ s is. absurd (in_none s is.0) }
+  no_count apart short = record {
+    number = no_words [] (λ s is. in_none s is.0);
+    first = λ s is. absurd (in_none s is.0);
+  }
 
   pub good_count : (set : ℕ) → ¬ (fails set) → AreCounted fails allowed (set ∷ []) 0 None
   good_count set good = record { number = no_words (set ∷ []) none; first = λ s is. absurd (none s is) }
@@ -38,7 +50,8 @@ module _ (fails allowed : ℕ → Type 0) where
 
   one_failing : (set : ℕ) → fails set → HoldsOf (Among (set ∷ [])) 1
   one_failing set ill =
-      same_numbers (λ s. s ≡ set) (Among (set ∷ [])) (λ s. (λ e. subst (Among (set ∷ [])) (sym e) (in_front set [], ill), λ is. last_is set s is.0)) 1 (one_word set)
+      same_numbers (λ s. s ≡ set) (Among (set ∷ [])) (λ s.
+      (λ e. subst (Among (set ∷ [])) (sym e) (in_front set [], ill), λ is. last_is set s is.0)) 1 (one_word set)
 
   pub allowed_count : (set : ℕ) → fails set → allowed set → AreCounted fails allowed (set ∷ []) 1 None
   allowed_count set ill closed = record {
@@ -52,7 +65,8 @@ module _ (fails allowed : ℕ → Type 0) where
     first = record {
       among = (in_front set [], ill);
       out = out;
-      before = λ other is sooner. absurd (before_self set (subst (λ (o : ℕ). IsBefore o set) (last_is set other is.0) sooner));
+      before = λ other is sooner. absurd (before_self set (subst (λ (o : ℕ). IsBefore o set) (last_is set other is.0)
+          sooner));
     };
   }
 
@@ -64,26 +78,41 @@ module _ (fails allowed : ℕ → Type 0) where
     to s (inr is) = (Contains-append_right xs ys s is.0, is.1)
 
     from : (s : ℕ) → Among (xs ++ ys) s → Either (Among xs) (Among ys) s
-    from s (there, ill) = elim (Contains-append_cases xs ys s there) [ inl one ↦ inl (one, ill) | inr two ↦ inr (two, ill) ]
+    from s (there, ill) = elim (Contains-append_cases xs ys s there) [
+      | inl one ↦ inl (one, ill)
+      | inr two ↦ inr (two, ill)
+    ]
 
     -- the set of the first list stays the first
-    first_stays : (a : ℕ) → IsFirstOut (Among xs) allowed a → ((other : ℕ) → Among ys other → IsBefore other a → allowed other) → IsFirstOut (Among (xs ++ ys)) allowed a
-    first_stays a one rest = record { among = to a (inl one.among); out = one.out; before = λ other is. sooner other (from other is) }
+    first_stays : (a : ℕ) → IsFirstOut (Among xs) allowed a
+        → ((other : ℕ) → Among ys other → IsBefore other a → allowed other) → IsFirstOut (Among (xs ++ ys)) allowed a
+    first_stays a one rest = record {
+      among = to a (inl one.among);
+      out = one.out;
+      before = λ other is. sooner other (from other is);
+    }
       where
         sooner : (other : ℕ) → Either (Among xs) (Among ys) other → IsBefore other a → allowed other
         sooner other (inl is) = one.before other is
         sooner other (inr is) = rest other is
 
     -- that of the second list is the first
-    first_moves : (b : ℕ) → IsFirstOut (Among ys) allowed b → ((other : ℕ) → Among xs other → IsBefore other b → allowed other) → IsFirstOut (Among (xs ++ ys)) allowed b
-    first_moves b two rest = record { among = to b (inr two.among); out = two.out; before = λ other is. sooner other (from other is) }
+    first_moves : (b : ℕ) → IsFirstOut (Among ys) allowed b
+        → ((other : ℕ) → Among xs other → IsBefore other b → allowed other) → IsFirstOut (Among (xs ++ ys)) allowed b
+    first_moves b two rest = record {
+      among = to b (inr two.among);
+      out = two.out;
+      before = λ other is. sooner other (from other is);
+    }
       where
         sooner : (other : ℕ) → Either (Among xs) (Among ys) other → IsBefore other b → allowed other
         sooner other (inl is) = rest other is
         sooner other (inr is) = two.before other is
 
-    both_firsts : (a b set : ℕ) → IsEarlier a b set → IsFirstOut (Among xs) allowed a → IsFirstOut (Among ys) allowed b → IsFirstOut (Among (xs ++ ys)) allowed set
-    both_firsts a b set (inl (is, later)) one two = subst (IsFirstOut (Among (xs ++ ys)) allowed) (sym is) (first_stays a one rest)
+    both_firsts : (a b set : ℕ) → IsEarlier a b set → IsFirstOut (Among xs) allowed a → IsFirstOut (Among ys) allowed b
+        → IsFirstOut (Among (xs ++ ys)) allowed set
+    both_firsts a b set (inl (is, later)) one two = subst (IsFirstOut (Among (xs ++ ys)) allowed) (sym is)
+        (first_stays a one rest)
       where
         rest : (other : ℕ) → Among ys other → IsBefore other a → allowed other
         rest other there sooner = elim (order_of_sets other b) [
@@ -92,17 +121,25 @@ module _ (fails allowed : ℕ → Type 0) where
           | inr (inr after) ↦ absurd (later (before_trans b other a after sooner))
         ]
     both_firsts a b set (inr (is, sooner)) one two =
-        subst (IsFirstOut (Among (xs ++ ys)) allowed) (sym is) (first_moves b two (λ other there before. one.before other there (before_trans other b a before sooner)))
+        subst (IsFirstOut (Among (xs ++ ys)) allowed) (sym is)
+        (first_moves b two (λ other there before. one.before other there (before_trans other b a before sooner)))
 
-    firsts_joined : (a b c : Option ℕ) → IsEarlierOf a b c → IsFirstPrevented (Among xs) allowed a → IsFirstPrevented (Among ys) allowed b → IsFirstPrevented (Among (xs ++ ys)) allowed c
-    firsts_joined None None c is one two = subst (IsFirstPrevented (Among (xs ++ ys)) allowed) (sym is) (λ s there. elim (from s there) [ inl here ↦ one s here | inr behind ↦ two s behind ])
-    firsts_joined None (Some b) c is one two = subst (IsFirstPrevented (Among (xs ++ ys)) allowed) (sym is) (first_moves b two (λ other there before. one other there))
-    firsts_joined (Some a) None c is one two = subst (IsFirstPrevented (Among (xs ++ ys)) allowed) (sym is) (first_stays a one (λ other there before. two other there))
-    firsts_joined (Some a) (Some b) c (set, earlier, is) one two = subst (IsFirstPrevented (Among (xs ++ ys)) allowed) (sym is) (both_firsts a b set earlier one two)
+    firsts_joined : (a b c : Option ℕ) → IsEarlierOf a b c → IsFirstPrevented (Among xs) allowed a
+        → IsFirstPrevented (Among ys) allowed b → IsFirstPrevented (Among (xs ++ ys)) allowed c
+    firsts_joined None None c is one two = subst (IsFirstPrevented (Among (xs ++ ys)) allowed) (sym is)
+        (λ s there. elim (from s there) [ inl here ↦ one s here | inr behind ↦ two s behind ])
+    firsts_joined None (Some b) c is one two = subst (IsFirstPrevented (Among (xs ++ ys)) allowed) (sym is)
+        (first_moves b two (λ other there before. one other there))
+    firsts_joined (Some a) None c is one two = subst (IsFirstPrevented (Among (xs ++ ys)) allowed) (sym is)
+        (first_stays a one (λ other there before. two other there))
+    firsts_joined (Some a) (Some b) c (set, earlier, is) one two = subst (IsFirstPrevented (Among (xs ++ ys)) allowed)
+        (sym is) (both_firsts a b set earlier one two)
 
-  pub counts_joined : (xs ys : List ℕ) (n k m : ℕ) (a b c : Option ℕ) → JoinsCounts n a k b m c → IsCount fails allowed xs n a → IsCount fails allowed ys k b → IsCount fails allowed (xs ++ ys) m c
+  pub counts_joined : (xs ys : List ℕ) (n k m : ℕ) (a b c : Option ℕ) → JoinsCounts n a k b m c
+      → IsCount fails allowed xs n a → IsCount fails allowed ys k b → IsCount fails allowed (xs ++ ys) m c
   counts_joined xs ys n k m a b c joins told later apart short = record {
-    number = subst (HoldsOf (Among (xs ++ ys))) (sym (joins.number (few_fail (xs ++ ys) (Among (xs ++ ys)) (λ s is. is.0) short (n + k) number))) number;
+    number = subst (HoldsOf (Among (xs ++ ys))) (sym (joins.number
+        (few_fail (xs ++ ys) (Among (xs ++ ys)) (λ s is. is.0) short (n + k) number))) number;
     first = firsts_joined xs ys a b c joins.first one.first two.first;
   }
     where
@@ -114,4 +151,5 @@ module _ (fails allowed : ℕ → Type 0) where
 
       number : HoldsOf (Among (xs ++ ys)) (n + k)
       number = same_numbers (Either (Among xs) (Among ys)) (Among (xs ++ ys)) (λ s. (to xs ys s, from xs ys s)) (n + k)
-          (both_numbers (Among xs) (Among ys) (λ s is also. parts_apart xs ys apart s is.0 also.0) n k one.number two.number)
+          (both_numbers (Among xs) (Among ys) (λ s is also. parts_apart xs ys apart s is.0 also.0) n k one.number
+          two.number)

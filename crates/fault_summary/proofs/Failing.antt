@@ -1,5 +1,6 @@
 -- The faults of the failing sets of a graph.
-use Rattle.std.proofs.Common.{◌≡◌, ◌≢◌, ℕ, ◌+◌, Bool, true, false, List, [], ◌∷◌, get_or, refl, subst, ap, ◌∙◌, IsPermutation}
+use Rattle.std.proofs.Common.{◌≡◌, ◌≢◌, ℕ, ◌+◌, Bool, true, false, List, [], ◌∷◌, get_or, refl, subst, ap, ◌∙◌}
+use Rattle.std.proofs.Common.{IsPermutation}
 use Rattle.std.specs.Prelude.{Option, if◌then◌else◌}
 use Rattle.std.specs.List.{AllPairs}
 use Rattle.patch_sets.specs.Sets.{has, IsBefore, AreAllInOrder}
@@ -20,34 +21,49 @@ use Rattle.fault_summary.proofs.Summed.{same_sums}
 -- the image of a set has as many blocks as the base
 image_size : (id : ℕ) (d : Disk) (places : List Place) (set : ℕ) → (image_from id d places set).blocks ≡ d.blocks
 image_size id d [] set = refl
-image_size id d (p ∷ ps) set = image_size (id + 1) (if has set id then with_bytes d p.block p.offset p.new else d) ps set ∙ one (has set id)
+image_size id d (p ∷ ps) set = image_size (id + 1) (if has set id then with_bytes d p.block p.offset p.new else d) ps
+    set ∙ one (has set id)
   where
     one : (test : Bool) → (if test then with_bytes d p.block p.offset p.new else d).blocks ≡ d.blocks
     one true = refl
     one false = refl
 
-pub still_sized : (base : Disk) (patches : List Patch) (set : ℕ) (built after : Disk) → built ≡ image_of base patches set → after ≡ image_after_replay built → after.blocks ≡ base.blocks
-still_sized base patches set built after made is = ap (λ (d : Disk). d.blocks) is ∙ (ap (λ (d : Disk). d.blocks) made ∙ image_size 0 base (places_of patches) set)
+pub still_sized : (base : Disk) (patches : List Patch) (set : ℕ) (built after : Disk)
+    → built ≡ image_of base patches set → after ≡ image_after_replay built → after.blocks ≡ base.blocks
+still_sized base patches set built after made is = ap (λ (d : Disk). d.blocks) is
+    ∙ (ap (λ (d : Disk). d.blocks) made ∙ image_size 0 base (places_of patches) set)
 
-pub found_faults : (kept : Option ℕ) (base : Disk) (patches : List Patch) (set : ℕ) (built after : Disk) (found : List Fault) → built ≡ image_of base patches set → after ≡ image_after_replay built → found ≡ faults_under kept after → found ≡ faults_after kept base patches set
-found_faults kept base patches set built after found made is listed = listed ∙ ap (faults_under kept) (is ∙ ap image_after_replay made)
+pub found_faults : (kept : Option ℕ) (base : Disk) (patches : List Patch) (set : ℕ) (built after : Disk)
+    (found : List Fault) → built ≡ image_of base patches set → after ≡ image_after_replay built
+    → found ≡ faults_under kept after → found ≡ faults_after kept base patches set
+found_faults kept base patches set built after found made is listed = listed
+    ∙ ap (faults_under kept) (is ∙ ap image_after_replay made)
 
 -- the same of an image that was moved to the set, where the checker is told of the kept inodes
-pub moved_faults : (told kept : Option ℕ) (base : Disk) (patches : List Patch) (before after : Applied) (set : ℕ) (image : Disk) → told ≡ kept → (before.base ≡ base) × (before.patches ≡ patches) → after ≡ record before { set = set } → image ≡ image_after_replay (image_of after.base after.patches after.set) → faults_under told image ≡ faults_after kept base patches set
+pub moved_faults : (told kept : Option ℕ) (base : Disk) (patches : List Patch) (before after : Applied) (set : ℕ)
+    (image : Disk) → told ≡ kept → (before.base ≡ base) × (before.patches ≡ patches)
+    → after ≡ record before { set = set } → image ≡ image_after_replay (image_of after.base after.patches after.set)
+    → faults_under told image ≡ faults_after kept base patches set
 moved_faults told kept base patches before after set image same own moved is =
-    ap (λ (k : Option ℕ). faults_under k image) same ∙ ap (faults_under kept) (is ∙ (ap (λ (a : Applied). image_after_replay (image_of a.base a.patches a.set)) moved
-    ∙ (ap (λ (d : Disk). image_after_replay (image_of d before.patches set)) own.0 ∙ ap (λ (ps : List Patch). image_after_replay (image_of base ps set)) own.1)))
+    ap (λ (k : Option ℕ). faults_under k image) same ∙ ap (faults_under kept)
+    (is ∙ (ap (λ (a : Applied). image_after_replay (image_of a.base a.patches a.set)) moved
+    ∙ (ap (λ (d : Disk). image_after_replay (image_of d before.patches set)) own.0
+    ∙ ap (λ (ps : List Patch). image_after_replay (image_of base ps set)) own.1)))
 
 -- no set stands twice in canonical order
 pub each_once : (sets : List ℕ) → AllPairs IsBefore sets → AllPairs (λ a b. a ≢ b) sets
-each_once sets ordered i j d lt within same = before_self (get_or sets j d) (subst (λ (s : ℕ). IsBefore s (get_or sets j d)) same (ordered i j d lt within))
+each_once sets ordered i j d lt within same = before_self (get_or sets j d)
+    (subst (λ (s : ℕ). IsBefore s (get_or sets j d)) same (ordered i j d lt within))
 
 -- the rows of all failing sets
-pub failing_rows : (kept : Option ℕ) (base : Disk) (patches : List Patch) (sets : List ℕ) (old rows : List FaultRow) → AreAllInOrder (IsFailingUnder kept base patches) sets
-    → AreSummed (HasAmong (faults_after kept base patches) sets) old → IsPermutation old rows → (TellsOnce old → AllPairs (λ a b. IsFaultBefore a.fault b.fault) rows)
+pub failing_rows : (kept : Option ℕ) (base : Disk) (patches : List Patch) (sets : List ℕ) (old rows : List FaultRow)
+    → AreAllInOrder (IsFailingUnder kept base patches) sets
+    → AreSummed (HasAmong (faults_after kept base patches) sets) old → IsPermutation old rows
+    → (TellsOnce old → AllPairs (λ a b. IsFaultBefore a.fault b.fault) rows)
     → AreRows (HasFault kept base patches) rows
 failing_rows kept base patches sets old rows all sums moved up =
-    are_rows (HasFault kept base patches) old rows (same_sums (HasAmong (faults_after kept base patches) sets) (HasFault kept base patches) (λ f s. (to f s, from f s)) old sums) moved up
+    are_rows (HasFault kept base patches) old rows (same_sums (HasAmong (faults_after kept base patches) sets)
+    (HasFault kept base patches) (λ f s. (to f s, from f s)) old sums) moved up
   where
     to : (f : Fault) (s : ℕ) → HasAmong (faults_after kept base patches) sets f s → HasFault kept base patches f s
     to f s is = record { failing = (all.exactly s).0 is.0; found = is.1 }

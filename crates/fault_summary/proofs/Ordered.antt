@@ -1,5 +1,6 @@
 -- A list of sets, put in canonical order.
-use Rattle.std.proofs.Common.{◌≡◌, ◌≢◌, ℕ, zero, suc, ◌↔◌, List, [], ◌∷◌, length, arith, refl, sym, subst, ap, ◌∙◌, inl, inr}
+use Rattle.std.proofs.Common.{◌≡◌, ◌≢◌, ℕ, zero, suc, ◌↔◌, List, [], ◌∷◌, length, arith, refl, sym, subst, ap, ◌∙◌, inl}
+use Rattle.std.proofs.Common.{inr}
 use Rattle.std.specs.List.{AllPairs, Contains}
 use Rattle.std.proofs.lemmas.List.Elements.{All-contains, Contains-get_or}
 use Rattle.state_space.specs.Counts.{HoldsOf}
@@ -8,7 +9,8 @@ use Rattle.patch_sets.proofs.Canonical.{before_trans}
 use Rattle.patch_sets.proofs.Lists.{front_before, rest_ordered, front_or_rest, in_front, in_rest, in_none}
 use Rattle.fault_summary.proofs.Summed.{order_of_sets}
 
-pairs_cons : (x : ℕ) (xs : List ℕ) → ((z : ℕ) → Contains xs z → IsBefore x z) → AllPairs IsBefore xs → AllPairs IsBefore (x ∷ xs)
+pairs_cons : (x : ℕ) (xs : List ℕ) → ((z : ℕ) → Contains xs z → IsBefore x z) → AllPairs IsBefore xs
+    → AllPairs IsBefore (x ∷ xs)
 pairs_cons x xs front up zero zero d lt within = absurd (omega arith)
 pairs_cons x xs front up zero (suc j) d lt within = front _ (Contains-get_or xs j d (omega arith))
 pairs_cons x xs front up (suc i) zero d lt within = absurd (omega arith)
@@ -20,8 +22,16 @@ record IsOrdered (words sets : List ℕ) : Type 0 where
   same : (s : ℕ) → (Contains sets s ↔ Contains words s)
   long : length sets ≡ length words
 
-insert_set : (s : ℕ) (xs : List ℕ) → AllPairs IsBefore xs → (Contains xs s → ⊥) → (sets : List ℕ) × IsOrdered (s ∷ xs) sets
-insert_set s [] up absent = (s ∷ [], record { ordered = pairs_cons s [] (λ z there. absurd (in_none z there)) up; same = λ z. (λ is. is, λ is. is); long = refl })
+insert_set : (s : ℕ) (xs : List ℕ) → AllPairs IsBefore xs → (Contains xs s → ⊥) → (sets : List ℕ)
+    × IsOrdered (s ∷ xs) sets
+insert_set s [] up absent = (
+  s ∷ [],
+  record {
+    ordered = pairs_cons s [] (λ z there. absurd (in_none z there)) up;
+    same = λ z. (λ is. is, λ is. is);
+    long = refl;
+  },
+)
 insert_set s (x ∷ xs) up absent = elim (order_of_sets s x) [
   | inl before ↦ (
     s ∷ x ∷ xs,
@@ -35,7 +45,8 @@ insert_set s (x ∷ xs) up absent = elim (order_of_sets s x) [
     },
   )
   | inr (inl e) ↦ absurd (absent (subst (Contains (x ∷ xs)) (sym e) (in_front x xs)))
-  | inr (inr after) ↦ behind after (insert_set s xs (rest_ordered IsBefore x xs up) (λ there. absent (in_rest x xs s there)))
+  | inr (inr after) ↦ behind after (insert_set s xs (rest_ordered IsBefore x xs up)
+      (λ there. absent (in_rest x xs s there)))
 ]
   where
     behind : IsBefore x s → ((sets : List ℕ) × IsOrdered (s ∷ xs) sets) → (sets : List ℕ) × IsOrdered (s ∷ x ∷ xs) sets
@@ -70,8 +81,16 @@ insert_set s (x ∷ xs) up absent = elim (order_of_sets s x) [
         ]
 
 put_in_order : (words : List ℕ) → AllPairs (λ a b. a ≢ b) words → (sets : List ℕ) × IsOrdered words sets
-put_in_order [] apart = ([], record { ordered = λ i j d lt within. absurd (omega arith); same = λ z. (λ is. is, λ is. is); long = refl })
-put_in_order (x ∷ xs) apart = with_rest (put_in_order xs (λ i j d lt within. apart (suc i) (suc j) d (omega arith) (omega arith)))
+put_in_order [] apart = (
+  [],
+  record {
+    ordered = λ i j d lt within. absurd (omega arith);
+    same = λ z. (λ is. is, λ is. is);
+    long = refl;
+  },
+)
+put_in_order (x ∷ xs) apart = with_rest (put_in_order xs
+    (λ i j d lt within. apart (suc i) (suc j) d (omega arith) (omega arith)))
   where
     absent : Contains xs x → ⊥
     absent (k, within, at_k) = apart zero (suc k) x (omega arith) (omega arith) (sym at_k)
@@ -85,8 +104,16 @@ put_in_order (x ∷ xs) apart = with_rest (put_in_order xs (λ i j d lt within. 
           record {
             ordered = whole.ordered;
             same = λ z. (
-              λ there. elim (front_or_rest x sets z ((whole.same z).0 there)) [ inl e ↦ subst (Contains (x ∷ xs)) e (in_front x xs) | inr inside ↦ in_rest x xs z ((rest.same z).0 inside) ],
-              λ there. (whole.same z).1 (elim (front_or_rest x xs z there) [ inl e ↦ subst (Contains (x ∷ sets)) e (in_front x sets) | inr inside ↦ in_rest x sets z ((rest.same z).1 inside) ]),
+              λ there. elim (front_or_rest x sets z ((whole.same z).0 there)) [
+                | inl e ↦
+                    subst (Contains (x ∷ xs)) e (in_front x xs)
+                | inr inside ↦ in_rest x xs z ((rest.same z).0 inside)
+              ],
+              λ there. (whole.same z).1 (elim (front_or_rest x xs z there) [
+                | inl e ↦
+                    subst (Contains (x ∷ sets)) e (in_front x sets)
+                | inr inside ↦ in_rest x sets z ((rest.same z).1 inside)
+              ]),
             );
             long = whole.long ∙ ap suc rest.long;
           },
@@ -101,7 +128,10 @@ all_in_order P n (words, list, count) = told (put_in_order words list.distinct)
       sets,
       record {
         ordered = is.ordered;
-        exactly = λ s. (λ there. All-contains P words s list.each ((is.same s).0 there), λ holds. (is.same s).1 (list.every s holds));
+        exactly = λ s. (
+          λ there. All-contains P words s list.each ((is.same s).0 there),
+          λ holds. (is.same s).1 (list.every s holds),
+        );
       },
       sym (is.long ∙ count),
     )

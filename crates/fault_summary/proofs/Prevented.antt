@@ -14,7 +14,8 @@ use Rattle.fault_summary.proofs.Ordered.{all_in_order}
 use Rattle.fault_summary.proofs.Summed.{same_numbers}
 
 -- the first is the same where the same sets fail
-pub first_like : (P Q allowed : ℕ → Type 0) → ((s : ℕ) → P s ↔ Q s) → (o : Option ℕ) → IsFirstPrevented P allowed o → IsFirstPrevented Q allowed o
+pub first_like : (P Q allowed : ℕ → Type 0) → ((s : ℕ) → P s ↔ Q s) → (o : Option ℕ) → IsFirstPrevented P allowed o
+    → IsFirstPrevented Q allowed o
 first_like P Q allowed same None is = λ s fails. is s ((same s).1 fails)
 first_like P Q allowed same (Some set) is = record {
   among = (same set).0 is.among;

@@ -1,10 +1,14 @@
 -- What rows tell after the rows of other sets are added.
-use Rattle.std.proofs.Common.{◌≡◌, ◌≢◌, ℕ, zero, suc, ◌+◌, ◌-◌, ◌<◌, ◌^◌, count_ones, ◌⊎◌, ◌↔◌, List, [], ◌∷◌, ◌++◌, length, get_or, map, arith, refl, sym, subst, ap, ◌∙◌, inl, inr, length-append}
+use Rattle.std.proofs.Common.{◌≡◌, ◌≢◌, ℕ, zero, suc, ◌+◌, ◌-◌, ◌<◌, ◌^◌, count_ones, ◌⊎◌, ◌↔◌, List, [], ◌∷◌, ◌++◌}
+use Rattle.std.proofs.Common.{length, get_or, map, arith, refl, sym, subst, ap, ◌∙◌, inl, inr, length-append}
 use Rattle.std.specs.List.{All, AllPairs, Contains}
-use Rattle.std.proofs.lemmas.List.{map-append, get_or-set_same, get_or-set_other, get_or_default, get_or_append_left, get_or-append_right, length-map}
+use Rattle.std.proofs.lemmas.List.{map-append, get_or-set_same, get_or-set_other, get_or_default, get_or_append_left}
+use Rattle.std.proofs.lemmas.List.{get_or-append_right, length-map}
 use Rattle.std.proofs.Math.Seq.{map-set_same}
 use Rattle.std.proofs.Math.ListN.{get_or-map, set as replaced, length-set}
-use Rattle.std.proofs.lemmas.List.Elements.{All-nil, All-cons, All-head, All-tail, All-push, All-append, All-weaker, All-map, All-contains, Contains-get_or, Contains-append_left, Contains-append_right, Contains-push}
+use Rattle.std.proofs.lemmas.List.Elements.{All-nil, All-cons, All-head, All-tail, All-push, All-append, All-weaker}
+use Rattle.std.proofs.lemmas.List.Elements.{All-map, All-contains, Contains-get_or, Contains-append_left}
+use Rattle.std.proofs.lemmas.List.Elements.{Contains-append_right, Contains-push}
 use Rattle.std.proofs.lemmas.Bool.{cases_lt}
 use Rattle.std.proofs.lemmas.List.Quantifiers.{all_pairs_push}
 use Rattle.state_space.specs.Counts.{IsSome, IsListOf, HoldsOf}
@@ -16,7 +20,8 @@ use Rattle.patch_sets.proofs.Lists.{front_or_rest, in_front, in_rest, in_none}
 use Rattle.crash_model.specs.Summary.{IsFirst, IsRow}
 use Rattle.crash_model.specs.declared.fault.Fault.{Fault}
 use Rattle.crash_model.specs.declared.fault.FaultRow.{FaultRow}
-use Rattle.fault_summary.specs.Summed.{fault_of, TellsOnce, AreSummed, IsEarlier, IsNewRow, IsWiderRow, AddsRow, AddsRows, AddsFaults, row_of}
+use Rattle.fault_summary.specs.Summed.{fault_of, TellsOnce, AreSummed, IsEarlier, IsNewRow, IsWiderRow, AddsRow}
+use Rattle.fault_summary.specs.Summed.{AddsRows, AddsFaults, row_of}
 
 -- ---- the same sets by another property
 
@@ -37,13 +42,15 @@ same_firsts P Q both s first = record {
   first = λ other is. first.first other ((both other).1 is);
 }
 
-same_row : (has also : Fault → ℕ → Type 0) (row : FaultRow) → ((s : ℕ) → has row.fault s ↔ also row.fault s) → IsRow has row → IsRow also row
+same_row : (has also : Fault → ℕ → Type 0) (row : FaultRow) → ((s : ℕ) → has row.fault s ↔ also row.fault s)
+    → IsRow has row → IsRow also row
 same_row has also row both is = record {
   number = same_numbers (has row.fault) (also row.fault) both row.sets is.number;
   first = same_firsts (has row.fault) (also row.fault) both row.first is.first;
 }
 
-pub same_sums : (has also : Fault → ℕ → Type 0) → ((f : Fault) (s : ℕ) → has f s ↔ also f s) → (rows : List FaultRow) → AreSummed has rows → AreSummed also rows
+pub same_sums : (has also : Fault → ℕ → Type 0) → ((f : Fault) (s : ℕ) → has f s ↔ also f s) → (rows : List FaultRow)
+    → AreSummed has rows → AreSummed also rows
 same_sums has also both rows sums = record {
   once = sums.once;
   each = All-weaker (IsRow has) (IsRow also) (λ row is. same_row has also row (both row.fault) is) rows sums.each;
@@ -55,7 +62,11 @@ same_sums has also both rows sums = record {
 pub order_of_sets : (a b : ℕ) → IsBefore a b ⊎ ((a ≡ b) ⊎ IsBefore b a)
 order_of_sets a b = elim (order_of (count_ones a) (count_ones b)) [
   | below h ↦ inl (inl h)
-  | equal e ↦ elim (order_of a b) [ below h ↦ inl (inr (e, h)) | equal same ↦ inr (inl same) | above h ↦ inr (inr (inr (sym e, h))) ]
+  | equal e ↦ elim (order_of a b) [
+    | below h ↦ inl (inr (e, h))
+    | equal same ↦ inr (inl same)
+    | above h ↦ inr (inr (inr (sym e, h)))
+  ]
   | above h ↦ inr (inr (inl h))
 ]
 
@@ -71,15 +82,19 @@ module _ (P Q : ℕ → Type 0) (apart : (s : ℕ) → P s → Q s → ⊥) wher
   apart_words xs ys one two i j d lt within same =
       let long = length-append xs ys in
       elim (cases_lt j (length xs)) [
-        | inl high ↦ one.distinct i j d lt high (sym (get_or_append_left xs ys d i (omega arith)) ∙ (same ∙ get_or_append_left xs ys d j high))
+        | inl high ↦ one.distinct i j d lt high (sym (get_or_append_left xs ys d i (omega arith))
+            ∙ (same ∙ get_or_append_left xs ys d j high))
         | inr past ↦
-            let at_j : get_or (xs ++ ys) j d ≡ get_or ys (j - length xs) d = get_or-append_right xs ys (length xs) j d refl past in
+            let at_j : get_or (xs ++ ys) j d ≡ get_or ys (j - length xs) d =
+            get_or-append_right xs ys (length xs) j d refl past in
             elim (cases_lt i (length xs)) [
               | inl low ↦
                   let at_i : get_or (xs ++ ys) i d ≡ get_or xs i d = get_or_append_left xs ys d i low in
-                  apart (get_or xs i d) (one.each i d low) (subst Q (sym at_j ∙ (sym same ∙ at_i)) (two.each (j - length xs) d (omega arith)))
+                  apart (get_or xs i d) (one.each i d low) (subst Q (sym at_j ∙ (sym same ∙ at_i))
+                  (two.each (j - length xs) d (omega arith)))
               | inr beyond ↦
-                  let at_i : get_or (xs ++ ys) i d ≡ get_or ys (i - length xs) d = get_or-append_right xs ys (length xs) i d refl beyond in
+                  let at_i : get_or (xs ++ ys) i d ≡ get_or ys (i - length xs) d =
+                  get_or-append_right xs ys (length xs) i d refl beyond in
                   two.distinct (i - length xs) (j - length xs) d (omega arith) (omega arith) (sym at_i ∙ (same ∙ at_j))
             ]
       ]
@@ -87,7 +102,8 @@ module _ (P Q : ℕ → Type 0) (apart : (s : ℕ) → P s → Q s → ⊥) wher
   both_words : (xs ys : List ℕ) → IsListOf P xs → IsListOf Q ys → IsListOf (Either P Q) (xs ++ ys)
   both_words xs ys one two = record {
     distinct = apart_words xs ys one two;
-    each = All-append (Either P Q) xs ys (All-weaker P (Either P Q) (λ s is. inl is) xs one.each) (All-weaker Q (Either P Q) (λ s is. inr is) ys two.each);
+    each = All-append (Either P Q) xs ys (All-weaker P (Either P Q) (λ s is. inl is) xs one.each)
+        (All-weaker Q (Either P Q) (λ s is. inr is) ys two.each);
     every = every;
   }
     where
@@ -96,10 +112,15 @@ module _ (P Q : ℕ → Type 0) (apart : (s : ℕ) → P s → Q s → ⊥) wher
       every s (inr is) = Contains-append_right xs ys s (two.every s is)
 
   pub both_numbers : (n m : ℕ) → HoldsOf P n → HoldsOf Q m → HoldsOf (Either P Q) (n + m)
-  both_numbers n m (xs, one, count) (ys, two, more) = (xs ++ ys, both_words xs ys one two, omega (arith, length-append xs ys, count, more))
+  both_numbers n m (xs, one, count) (ys, two, more) = (
+    xs ++ ys,
+    both_words xs ys one two,
+    omega (arith, length-append xs ys, count, more),
+  )
 
   both_firsts : (s t earlier : ℕ) → IsEarlier s t earlier → IsFirst P s → IsFirst Q t → IsFirst (Either P Q) earlier
-  both_firsts s t earlier (inl stays) was more = subst (IsFirst (Either P Q)) (sym stays.0) (record { among = inl was.among; first = none })
+  both_firsts s t earlier (inl stays) was more = subst (IsFirst (Either P Q)) (sym stays.0)
+      (record { among = inl was.among; first = none })
     where
       none : (other : ℕ) → Either P Q other → IsBefore other s → ⊥
       none other (inl is) before = was.first other is before
@@ -108,7 +129,8 @@ module _ (P Q : ℕ → Type 0) (apart : (s : ℕ) → P s → Q s → ⊥) wher
         | inr (inl e) ↦ stays.1 (subst (λ (o : ℕ). IsBefore o s) e before)
         | inr (inr later) ↦ stays.1 (before_trans t other s later before)
       ]
-  both_firsts s t earlier (inr moves) was more = subst (IsFirst (Either P Q)) (sym moves.0) (record { among = inr more.among; first = none })
+  both_firsts s t earlier (inr moves) was more = subst (IsFirst (Either P Q)) (sym moves.0)
+      (record { among = inr more.among; first = none })
     where
       none : (other : ℕ) → Either P Q other → IsBefore other t → ⊥
       none other (inl is) before = was.first other is (before_trans other t s before moves.1)
@@ -150,22 +172,29 @@ module _ (has also : Fault → ℕ → Type 0) (row : FaultRow) where
         from (inr more) = inr more.1
 
     few_sets : (n : ℕ) → HoldsOf Both n → n < 2 ^ 64
-    few_sets n (words, list, count) = subst (λ (k : ℕ). k < 2 ^ 64) count (few words (record { distinct = list.distinct; each = list.each }))
+    few_sets n (words, list, count) = subst (λ (k : ℕ). k < 2 ^ 64) count
+        (few words (record { distinct = list.distinct; each = list.each }))
 
     wider_row : (at : ℕ) (old new : List FaultRow) (w : IsWiderRow at old row new) → IsRow has w.was → IsRow Also w.both
     wider_row at old new w is =
-        let number : HoldsOf Both (w.was.sets + row.sets) = both_numbers (has row.fault) (also row.fault) apart w.was.sets row.sets (subst (λ (f : Fault). HoldsOf (has f) w.was.sets) w.same is.number) told.number in
-        let first : IsFirst Both w.both.first = both_firsts (has row.fault) (also row.fault) apart w.was.first row.first w.both.first w.first (subst (λ (f : Fault). IsFirst (has f) w.was.first) w.same is.first) told.first in
+        let number : HoldsOf Both (w.was.sets + row.sets) = both_numbers (has row.fault) (also row.fault) apart
+        w.was.sets row.sets (subst (λ (f : Fault). HoldsOf (has f) w.was.sets) w.same is.number) told.number in
+        let first : IsFirst Both w.both.first = both_firsts (has row.fault) (also row.fault) apart w.was.first row.first
+        w.both.first w.first (subst (λ (f : Fault). IsFirst (has f) w.was.first) w.same is.first) told.first in
         record {
           number = subst (λ (f : Fault). HoldsOf (Also f) w.both.sets) (sym w.still)
-              (same_numbers Both (Also row.fault) same_both w.both.sets (subst (HoldsOf Both) (sym (w.number (few_sets (w.was.sets + row.sets) number))) number));
-          first = subst (λ (f : Fault). IsFirst (Also f) w.both.first) (sym w.still) (same_firsts Both (Also row.fault) same_both w.both.first first);
+              (same_numbers Both (Also row.fault) same_both w.both.sets
+              (subst (HoldsOf Both) (sym (w.number (few_sets (w.was.sets + row.sets) number))) number));
+          first = subst (λ (f : Fault). IsFirst (Also f) w.both.first) (sym w.still)
+              (same_firsts Both (Also row.fault) same_both w.both.first first);
         }
 
     sum_new : (old new : List FaultRow) → AreSummed has old → IsNewRow old row new → AreSummed Also new
     sum_new old new sums adds = subst (AreSummed Also) (sym adds.more) (record {
-      once = subst (AllPairs (λ f g. f ≢ g)) (sym whole) (all_pairs_push (λ f g. f ≢ g) (map fault_of old) row.fault sums.once out);
-      each = All-push (IsRow Also) old row (λ k d within. other_row (get_or old k d) (adds.absent k d within) (sums.each k d within)) (new_row none);
+      once = subst (AllPairs (λ f g. f ≢ g)) (sym whole) (all_pairs_push (λ f g. f ≢ g) (map fault_of old) row.fault
+          sums.once out);
+      each = All-push (IsRow Also) old row (λ k d within. other_row (get_or old k d) (adds.absent k d within)
+          (sums.each k d within)) (new_row none);
       every = there;
     })
       where
@@ -179,8 +208,11 @@ module _ (has also : Fault → ℕ → Type 0) (row : FaultRow) where
         none s is = All-contains (λ f. f ≢ row.fault) (map fault_of old) row.fault out (sums.every row.fault s is) refl
 
         there : (f : Fault) (s : ℕ) → Also f s → Contains (map fault_of (old ++ row ∷ [])) f
-        there f s (inl is) = subst (λ (fs : List Fault). Contains fs f) (sym whole) (Contains-append_left (map fault_of old) (row.fault ∷ []) f (sums.every f s is))
-        there f s (inr more) = subst (λ (fs : List Fault). Contains fs f) (sym whole) (subst (Contains (map fault_of old ++ row.fault ∷ [])) (sym more.0) (Contains-push (map fault_of old) row.fault))
+        there f s (inl is) = subst (λ (fs : List Fault). Contains fs f) (sym whole)
+            (Contains-append_left (map fault_of old) (row.fault ∷ []) f (sums.every f s is))
+        there f s (inr more) = subst (λ (fs : List Fault). Contains fs f) (sym whole)
+            (subst (Contains (map fault_of old ++ row.fault ∷ [])) (sym more.0)
+            (Contains-push (map fault_of old) row.fault))
 
     sum_wider : (at : ℕ) (old new : List FaultRow) → AreSummed has old → IsWiderRow at old row new → AreSummed Also new
     sum_wider at old new sums w = subst (AreSummed Also) (sym w.more) (record {
@@ -199,7 +231,8 @@ module _ (has also : Fault → ℕ → Type 0) (row : FaultRow) where
         other k d within ne is =
             let inside = w.within in
             let long = length-map old fault_of in
-            let at_k : get_or (map fault_of old) k (fault_of w.was) ≡ row.fault = get_or-map fault_of old k w.was ∙ (ap fault_of (get_or_default old k w.was d within) ∙ is) in
+            let at_k : get_or (map fault_of old) k (fault_of w.was) ≡ row.fault = get_or-map fault_of old k w.was
+            ∙ (ap fault_of (get_or_default old k w.was d within) ∙ is) in
             elim (order_of k at) [
               | below h ↦ sums.once k at (fault_of w.was) h (omega arith) (at_k ∙ sym at_place)
               | equal e ↦ ne e
@@ -210,15 +243,19 @@ module _ (has also : Fault → ℕ → Type 0) (row : FaultRow) where
         at_each k d within = elim (eq_or_not k at) [
           | inl e ↦
               let wider = wider_row at old new w (subst (IsRow has) (w.stood w.was) (sums.each at w.was w.within)) in
-              subst (λ (n : ℕ). IsRow Also (get_or (replaced old at w.both) n d)) (sym e) (subst (IsRow Also) (sym (get_or-set_same old at w.both d w.within)) wider)
-          | inr ne ↦ subst (IsRow Also) (sym (get_or-set_other old at k w.both d ne)) (other_row (get_or old k d) (other k d within ne) (sums.each k d within))
+              subst (λ (n : ℕ). IsRow Also (get_or (replaced old at w.both) n d)) (sym e)
+              (subst (IsRow Also) (sym (get_or-set_same old at w.both d w.within)) wider)
+          | inr ne ↦ subst (IsRow Also) (sym (get_or-set_other old at k w.both d ne))
+              (other_row (get_or old k d) (other k d within ne) (sums.each k d within))
         ]
 
         there : (f : Fault) (s : ℕ) → Also f s → Contains (map fault_of (replaced old at w.both)) f
         there f s (inl is) = subst (λ (fs : List Fault). Contains fs f) (sym whole) (sums.every f s is)
         there f s (inr more) =
             let inside : at < length (map fault_of old) = omega (arith, w.within, length-map old fault_of) in
-            subst (λ (fs : List Fault). Contains fs f) (sym whole) (subst (Contains (map fault_of old)) (at_place ∙ sym more.0) (Contains-get_or (map fault_of old) at (fault_of w.was) inside))
+            subst (λ (fs : List Fault). Contains fs f) (sym whole)
+            (subst (Contains (map fault_of old)) (at_place ∙ sym more.0)
+            (Contains-get_or (map fault_of old) at (fault_of w.was) inside))
 
     sum_row : (old new : List FaultRow) → AreSummed has old → AddsRow old row new → AreSummed Also new
     sum_row old new sums (inl adds) = sum_new old new sums adds
@@ -233,25 +270,34 @@ abbrev WithRows : (Fault → ℕ → Type 0) → (Fault → ℕ → Type 0) → 
 WithRows has also rows f s = has f s ⊎ (Contains (map fault_of rows) f × also f s)
 
 sum_rows : (rows : List FaultRow) (has also : Fault → ℕ → Type 0) (old new : List FaultRow)
-    → ((f : Fault) (s : ℕ) → Contains (map fault_of rows) f → has f s → also f s → ⊥) → ((f : Fault) → AreFew (Together has also f))
-    → TellsOnce rows → All (IsRow also) rows → AreSummed has old → AddsRows old rows new → AreSummed (WithRows has also rows) new
+    → ((f : Fault) (s : ℕ) → Contains (map fault_of rows) f → has f s → also f s → ⊥)
+    → ((f : Fault) → AreFew (Together has also f))
+    → TellsOnce rows → All (IsRow also) rows → AreSummed has old → AddsRows old rows new
+    → AreSummed (WithRows has also rows) new
 sum_rows [] has also old new apart few once each sums is =
-    subst (AreSummed (WithRows has also [])) (sym is) (same_sums has (WithRows has also []) (λ f s. (λ is. inl is, back f s)) old sums)
+    subst (AreSummed (WithRows has also [])) (sym is) (same_sums has (WithRows has also [])
+    (λ f s. (λ is. inl is, back f s)) old sums)
   where
     back : (f : Fault) (s : ℕ) → WithRows has also [] f s → has f s
     back f s (inl is) = is
     back f s (inr more) = absurd (in_none f more.0)
 sum_rows (row ∷ rows) has also old new apart few once each sums (mid, one, rest) =
     same_sums (WithRows (Also has also row) also rows) (WithRows has also (row ∷ rows)) (λ f s. (to f s, from f s)) new
-    (sum_rows rows (Also has also row) also mid new left fewer (λ i j d lt within. once (suc i) (suc j) d (omega arith) (omega arith)) (All-tail (IsRow also) row rows each)
-    (sum_row has also row (All-head (IsRow also) row rows each) (λ s. apart row.fault s (in_front row.fault (map fault_of rows))) (few row.fault) old mid sums one) rest)
+    (sum_rows rows (Also has also row) also mid new left fewer
+    (λ i j d lt within. once (suc i) (suc j) d (omega arith) (omega arith)) (All-tail (IsRow also) row rows each)
+    (sum_row has also row (All-head (IsRow also) row rows each)
+    (λ s. apart row.fault s (in_front row.fault (map fault_of rows))) (few row.fault) old mid sums one) rest)
   where
     left : (f : Fault) (s : ℕ) → Contains (map fault_of rows) f → Also has also row f s → also f s → ⊥
     left f s there (inl is) more = apart f s (in_rest row.fault (map fault_of rows) f there) is more
-    left f s (k, within, at_k) (inr again) more = once zero (suc k) f (omega arith) (omega arith) (sym again.0 ∙ sym at_k)
+    left f s (k, within, at_k) (inr again) more = once zero (suc k) f (omega arith) (omega arith)
+        (sym again.0 ∙ sym at_k)
 
     fewer : (f : Fault) → AreFew (Together (Also has also row) also f)
-    fewer f words some = few f words (record { distinct = some.distinct; each = All-weaker (Together (Also has also row) also f) (Together has also f) narrow words some.each })
+    fewer f words some = few f words (record {
+      distinct = some.distinct;
+      each = All-weaker (Together (Also has also row) also f) (Together has also f) narrow words some.each;
+    })
       where
         narrow : (s : ℕ) → Together (Also has also row) also f s → Together has also f s
         narrow s (inl (inl is)) = inl is
@@ -260,7 +306,11 @@ sum_rows (row ∷ rows) has also old new apart few once each sums (mid, one, res
 
     to : (f : Fault) (s : ℕ) → WithRows (Also has also row) also rows f s → WithRows has also (row ∷ rows) f s
     to f s (inl (inl is)) = inl is
-    to f s (inl (inr more)) = inr (subst (Contains (row.fault ∷ map fault_of rows)) (sym more.0) (in_front row.fault (map fault_of rows)), more.1)
+    to f s (inl (inr more)) = inr (
+      subst (Contains (row.fault ∷ map fault_of rows)) (sym more.0)
+          (in_front row.fault (map fault_of rows)),
+      more.1,
+    )
     to f s (inr more) = inr (in_rest row.fault (map fault_of rows) f more.0, more.1)
 
     from : (f : Fault) (s : ℕ) → WithRows has also (row ∷ rows) f s → WithRows (Also has also row) also rows f s
@@ -294,10 +344,12 @@ told_back : (set : ℕ) (faults : List Fault) → map fault_of (map (row_of set)
 told_back set [] = refl
 told_back set (f ∷ fs) = ap (λ (gs : List Fault). f ∷ gs) (told_back set fs)
 
-one_set : (set : ℕ) (faults : List Fault) → AllPairs (λ f g. f ≢ g) faults → AreSummed (Of set faults) (map (row_of set) faults)
+one_set : (set : ℕ) (faults : List Fault) → AllPairs (λ f g. f ≢ g) faults
+    → AreSummed (Of set faults) (map (row_of set) faults)
 one_set set faults once = record {
   once = subst (AllPairs (λ f g. f ≢ g)) (sym (told_back set faults)) once;
-  each = All-map (IsRow (Of set faults)) (row_of set) faults (λ k d within. one_row (get_or faults k d) (Contains-get_or faults k d within));
+  each = All-map (IsRow (Of set faults)) (row_of set) faults
+      (λ k d within. one_row (get_or faults k d) (Contains-get_or faults k d within));
   every = λ f s is. subst (λ (fs : List Fault). Contains fs f) (sym (told_back set faults)) is.0;
 }
   where
@@ -322,5 +374,8 @@ pub sum_set : (has : Fault → ℕ → Type 0) (set : ℕ) (faults : List Fault)
     → ((f : Fault) → has f set → ⊥) → ((f : Fault) → AreFew (Together has (Of set faults) f))
     → AreSummed has old → AddsFaults old set faults new → AreSummed (Together has (Of set faults)) new
 sum_set has set faults old new none few sums adds =
-    sum_together has (Of set faults) old (map (row_of set) adds.told) new (λ f s is of. none f (subst (has f) of.1 is)) few sums
-    (same_sums (Of set adds.told) (Of set faults) (λ f s. (λ is. ((adds.same f).0 is.0, is.1), λ is. ((adds.same f).1 is.0, is.1))) (map (row_of set) adds.told) (one_set set adds.told adds.once)) adds.added
+    sum_together has (Of set faults) old (map (row_of set) adds.told) new (λ f s is of. none f (subst (has f) of.1 is))
+    few sums
+    (same_sums (Of set adds.told) (Of set faults) (λ f s.
+    (λ is. ((adds.same f).0 is.0, is.1), λ is. ((adds.same f).1 is.0, is.1))) (map (row_of set) adds.told)
+    (one_set set adds.told adds.once)) adds.added

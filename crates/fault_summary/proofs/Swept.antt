@@ -21,14 +21,16 @@ use Rattle.fault_summary.proofs.Sorted.{are_rows}
 use Rattle.fault_summary.proofs.Summed.{same_numbers, same_sums}
 use Rattle.fault_summary.proofs.Tallied.{FailsIn}
 
-module _ (base : Disk) (patches : List Patch) (sets : List ℕ) (closed : IsAscendingListOf (IsClosed (deps_of patches)) sets) where
+module _ (base : Disk) (patches : List Patch) (sets : List ℕ)
+    (closed : IsAscendingListOf (IsClosed (deps_of patches)) sets) where
   once : AllPairs (λ a b. a ≢ b) sets
   once i j d lt within same = let up = closed.ascend i j d lt within in omega (arith, up, same)
 
   pub closed_count : (total : ℕ) → length sets ≡ total → CountsClosed patches total
   closed_count total counted = (sets, record { distinct = once; each = closed.each; every = closed.every }, counted)
 
-  module _ (kept : Option ℕ) (failing : ℕ) (old : List FaultRow) (short : length sets < 2 ^ 64) (told : IsTally (faults_after kept base patches) sets failing old) where
+  module _ (kept : Option ℕ) (failing : ℕ) (old : List FaultRow) (short : length sets < 2 ^ 64)
+      (told : IsTally (faults_after kept base patches) sets failing old) where
     tallied : AreTallied (faults_after kept base patches) sets failing old
     tallied = told once short
 
@@ -44,7 +46,8 @@ module _ (base : Disk) (patches : List Patch) (sets : List ℕ) (closed : IsAsce
     pub failing_sets : CountsFailing kept base patches failing
     failing_sets =
         all_in_order (IsFailingUnder kept base patches) failing
-        (same_numbers (FailsIn (faults_after kept base patches) sets) (IsFailingUnder kept base patches) (λ s. (fails s, failing_in s)) failing tallied.number)
+        (same_numbers (FailsIn (faults_after kept base patches) sets) (IsFailingUnder kept base patches)
+        (λ s. (fails s, failing_in s)) failing tallied.number)
 
     has : (f : Fault) (s : ℕ) → HasAmong (faults_after kept base patches) sets f s → HasFault kept base patches f s
     has f s is = record {
@@ -52,9 +55,13 @@ module _ (base : Disk) (patches : List Patch) (sets : List ℕ) (closed : IsAsce
       found = is.1;
     }
 
-    has_among : (f : Fault) (s : ℕ) → HasFault kept base patches f s → HasAmong (faults_after kept base patches) sets f s
+    has_among : (f : Fault) (s : ℕ) → HasFault kept base patches f s
+        → HasAmong (faults_after kept base patches) sets f s
     has_among f s is = (closed.every s is.failing.closed, is.found)
 
-    pub swept_rows : (rows : List FaultRow) → IsPermutation old rows → (TellsOnce old → AllPairs (λ a b. IsFaultBefore a.fault b.fault) rows) → AreRows (HasFault kept base patches) rows
+    pub swept_rows : (rows : List FaultRow) → IsPermutation old rows
+        → (TellsOnce old → AllPairs (λ a b. IsFaultBefore a.fault b.fault) rows)
+        → AreRows (HasFault kept base patches) rows
     swept_rows rows moved up =
-        are_rows (HasFault kept base patches) old rows (same_sums (HasAmong (faults_after kept base patches) sets) (HasFault kept base patches) (λ f s. (has f s, has_among f s)) old tallied.summed) moved up
+        are_rows (HasFault kept base patches) old rows (same_sums (HasAmong (faults_after kept base patches) sets)
+        (HasFault kept base patches) (λ f s. (has f s, has_among f s)) old tallied.summed) moved up

@@ -1,10 +1,12 @@
 -- How many pointers name each block, and how many entries lead to each live inode.
-use Rattle.std.proofs.Common.{◌≡◌, ◌≢◌, ℕ, ◌+◌, ◌<◌, ◌≤◌, ◌*◌, inl, inr, List, [], length, get_or, set, Bool, true, false, ◌&&◌, Some, None, arith, refl, sym, ap, ◌∙◌}
+use Rattle.std.proofs.Common.{◌≡◌, ◌≢◌, ℕ, ◌+◌, ◌<◌, ◌≤◌, ◌*◌, inl, inr, List, [], length, get_or, set, Bool, true}
+use Rattle.std.proofs.Common.{false, ◌&&◌, Some, None, arith, refl, sym, ap, ◌∙◌}
 use Rattle.std.proofs.lemmas.Bool.{false≢true, cases_Bool, cases_eq, eq-eqb, ne_eqb, lt-ltb, le-ltb, and_right}
 use Rattle.crash_model.specs.Lists.{when, some_below}
 use Rattle.crash_model.proofs.EachBelow.{some_below-zero, each_below-none, some_below-none}
 use Rattle.crash_model.specs.Disk.{Disk}
-use Rattle.crash_model.specs.Layout.{is_live, is_data, links_of, pointer_of, is_pointer, counts, entry_of, is_entry, target_of}
+use Rattle.crash_model.specs.Layout.{is_live, is_data, links_of, pointer_of, is_pointer, counts, entry_of, is_entry}
+use Rattle.crash_model.specs.Layout.{target_of}
 use Rattle.crash_model.specs.Faults.{is_tame, each_slot, each_entry, entries_to, namers, leads_to}
 use Rattle.crash_model.specs.declared.fault.Fault.TheVariants.{Twice, LowLinks}
 use Rattle.fs_check.specs.Tally.{count_before, IsTally}
@@ -15,11 +17,13 @@ use Rattle.fs_check.proofs.Counting.{tally-empty_row, tally-none, tally-one, cou
 
 module _ (d : Disk) (inode : ℕ) (named : List ℕ) where
   -- an inode that is not live has no pointers
-  pub named-dead : is_live d inode ≡ false → IsTally 4 (named_at d) inode 0 named → IsTally 4 (named_at d) (inode + 1) 0 named
+  pub named-dead : is_live d inode ≡ false → IsTally 4 (named_at d) inode 0 named
+      → IsTally 4 (named_at d) (inode + 1) 0 named
   named-dead dead = tally-empty_row 4 (named_at d) inode named (λ block s. rw dead refl)
 
   module _ (slot : ℕ) where
-    pub named-none : pointer_of d inode slot ≡ 0 → IsTally 4 (named_at d) inode slot named → IsTally 4 (named_at d) inode (slot + 1) named
+    pub named-none : pointer_of d inode slot ≡ 0 → IsTally 4 (named_at d) inode slot named
+        → IsTally 4 (named_at d) inode (slot + 1) named
     named-none zero = tally-none 4 (named_at d) inode slot named
         (λ block b. rw (eq-eqb (pointer_of d inode slot) 0 zero, and_right (is_live d inode) false refl) refl)
 
@@ -28,12 +32,17 @@ module _ (d : Disk) (inode : ℕ) (named : List ℕ) where
     named-wild block points outside = tally-none 4 (named_at d) inode slot named
         (λ other b. rw (ap (is_data d) points ∙ outside, and_right (is_pointer d inode slot) false refl) refl)
 
-    pub named-tame : (block v : ℕ) → is_live d inode ≡ true → pointer_of d inode slot ≡ block → block ≢ 0 → is_data d block ≡ true
+    pub named-tame : (block v : ℕ) → is_live d inode ≡ true → pointer_of d inode slot ≡ block → block ≢ 0
+        → is_data d block ≡ true
         → block < length named → v ≡ get_or named block 0 + 1
         → IsTally 4 (named_at d) inode slot named → IsTally 4 (named_at d) inode (slot + 1) (set named block v)
-    named-tame block v live points some area within more = tally-one 4 (named_at d) inode slot named block v (inode, slot)
+    named-tame block v live points some area within more = tally-one 4 (named_at d) inode slot named block v
+        (inode, slot)
         (rw (live, points, ne_eqb block 0 some, area, eq-eqb block block refl) refl)
-        (λ other differ. rw (ne_eqb (pointer_of d inode slot) other (λ e. differ (sym e ∙ points)), and_right (is_tame d inode slot) false refl) refl)
+        (λ other differ. rw (
+          ne_eqb (pointer_of d inode slot) other (λ e. differ (sym e ∙ points)),
+          and_right (is_tame d inode slot) false refl,
+        ) refl)
         within more
 
 -- a block in all rows
@@ -42,28 +51,39 @@ unfolding count_before each_slot namers
 named-all d block = omega (arith, ap length (some_below-zero (named_at d block 16)))
 
 -- a block that two pointers name is told
-pub twice-many : (d : Disk) (block : ℕ) (named : List ℕ) → block < length named → IsTally 4 (named_at d) 16 0 named → 1 < get_or named block 0 → twice_at d block ≡ Some (Twice block)
-twice-many d block named within tally many = rw (lt-ltb 1 (length (namers d block)) (rw (← named-all d block, ← tally block within) many)) refl
+pub twice-many : (d : Disk) (block : ℕ) (named : List ℕ) → block < length named → IsTally 4 (named_at d) 16 0 named
+    → 1 < get_or named block 0 → twice_at d block ≡ Some (Twice block)
+twice-many d block named within tally many = rw (lt-ltb 1 (length (namers d block))
+    (rw (← named-all d block, ← tally block within) many)) refl
 
-pub twice-few : (d : Disk) (block : ℕ) (named : List ℕ) → block < length named → IsTally 4 (named_at d) 16 0 named → get_or named block 0 ≤ 1 → twice_at d block ≡ None
-twice-few d block named within tally few = rw (le-ltb 1 (length (namers d block)) (rw (← named-all d block, ← tally block within) few)) refl
+pub twice-few : (d : Disk) (block : ℕ) (named : List ℕ) → block < length named → IsTally 4 (named_at d) 16 0 named
+    → get_or named block 0 ≤ 1 → twice_at d block ≡ None
+twice-few d block named within tally few = rw (le-ltb 1 (length (namers d block))
+    (rw (← named-all d block, ← tally block within) few)) refl
 
 -- where each count is small no block is told
-pub twice-never : (d : Disk) (named : List ℕ) → d.blocks ≤ length named → IsTally 4 (named_at d) 16 0 named → ((at : ℕ) → at < d.blocks → get_or named at 0 ≤ 1)
+pub twice-never : (d : Disk) (named : List ℕ) → d.blocks ≤ length named → IsTally 4 (named_at d) 16 0 named
+    → ((at : ℕ) → at < d.blocks → get_or named at 0 ≤ 1)
     → some_below d.blocks (twice_at d) ≡ []
-twice-never d named most tally few = some_below-none d.blocks (twice_at d) (λ block below. twice-few d block named (omega (arith, most)) tally (few block below))
+twice-never d named most tally few = some_below-none d.blocks (twice_at d)
+    (λ block below. twice-few d block named (omega (arith, most)) tally (few block below))
 
 -- ---- entries
 
 module _ (d : Disk) (dir : ℕ) (led : List ℕ) where
   -- a directory that does not count has no entries
   pub led-uncounted : counts d dir ≡ false → IsTally 10 (led_at d) dir 0 led → IsTally 10 (led_at d) (dir + 1) 0 led
-  led-uncounted uncounted = tally-empty_row 10 (led_at d) dir led (λ inode k. rw (uncounted, and_right (is_live d inode) false refl) refl)
+  led-uncounted uncounted = tally-empty_row 10 (led_at d) dir led
+      (λ inode k. rw (uncounted, and_right (is_live d inode) false refl) refl)
 
   module _ (k : ℕ) where
     pub led-none : entry_of d dir k ≡ 0 → IsTally 10 (led_at d) dir k led → IsTally 10 (led_at d) dir (k + 1) led
     led-none zero = tally-none 10 (led_at d) dir k led
-        (λ inode b. rw (eq-eqb (entry_of d dir k) 0 zero, and_right (counts d dir) false refl, and_right (is_live d inode) false refl) refl)
+        (λ inode b. rw (
+          eq-eqb (entry_of d dir k) 0 zero,
+          and_right (counts d dir) false refl,
+          and_right (is_live d inode) false refl,
+        ) refl)
 
     pub led-dead : (inode : ℕ) → target_of d dir k ≡ inode → is_live d inode ≡ false
         → IsTally 10 (led_at d) dir k led → IsTally 10 (led_at d) dir (k + 1) led
@@ -72,24 +92,40 @@ module _ (d : Disk) (dir : ℕ) (led : List ℕ) where
         nowhere : (other : ℕ) → led_at d other dir k ≡ None
         nowhere other = elim (cases_eq other inode) [
           | inl same ↦ rw (same, dead) refl
-          | inr differ ↦ rw (ne_eqb (target_of d dir k) other (λ e. differ (sym e ∙ leads)), and_right (is_entry d dir k) false refl, and_right (is_live d other) false refl) refl
+          | inr differ ↦ rw (
+            ne_eqb (target_of d dir k) other (λ e. differ (sym e ∙ leads)),
+            and_right (is_entry d dir k) false refl,
+            and_right (is_live d other) false refl,
+          ) refl
         ]
 
-    pub led-live : (inode v : ℕ) → counts d dir ≡ true → entry_of d dir k ≢ 0 → target_of d dir k ≡ inode → is_live d inode ≡ true
+    pub led-live : (inode v : ℕ) → counts d dir ≡ true → entry_of d dir k ≢ 0 → target_of d dir k ≡ inode
+        → is_live d inode ≡ true
         → inode < length led → v ≡ get_or led inode 0 + 1
         → IsTally 10 (led_at d) dir k led → IsTally 10 (led_at d) dir (k + 1) (set led inode v)
     led-live inode v counted some leads live within more = tally-one 10 (led_at d) dir k led inode v (dir, k)
         (rw (live, counted, ne_eqb (entry_of d dir k) 0 some, eq-eqb (target_of d dir k) inode leads) refl)
-        (λ other differ. rw (ne_eqb (target_of d dir k) other (λ e. differ (sym e ∙ leads)), and_right (is_entry d dir k) false refl, and_right (is_live d other) false refl) refl)
+        (λ other differ. rw (
+          ne_eqb (target_of d dir k) other (λ e. differ (sym e ∙ leads)),
+          and_right (is_entry d dir k) false refl,
+          and_right (is_live d other) false refl,
+        ) refl)
         within more
 
 -- an inode in all rows
-led-when : (d : Disk) (inode : ℕ) (live : Bool) → live ≡ true → count_before 10 (λ dir k. when {X = ℕ × ℕ} (live && leads_to d dir k inode) (dir, k)) 16 0 ≡ length (entries_to d inode)
+led-when : (d : Disk) (inode : ℕ) (live : Bool) → live ≡ true
+    → count_before 10 (λ dir k. when {X = ℕ × ℕ} (live && leads_to d dir k inode) (dir, k)) 16 0
+    ≡ length (entries_to d inode)
 unfolding count_before each_entry entries_to
-led-when d inode true e = omega (arith, ap length (some_below-zero (λ k. when {X = ℕ × ℕ} (leads_to d 16 k inode) (16, k))))
+led-when d inode true e = omega (
+  arith,
+  ap length (some_below-zero
+      (λ k. when {X = ℕ × ℕ} (leads_to d 16 k inode) (16, k))),
+)
 led-when d inode false e = absurd (false≢true e)
 
-led-all : (d : Disk) (inode : ℕ) → is_live d inode ≡ true → count_before 10 (led_at d inode) 16 0 ≡ length (entries_to d inode)
+led-all : (d : Disk) (inode : ℕ) → is_live d inode ≡ true
+    → count_before 10 (led_at d inode) 16 0 ≡ length (entries_to d inode)
 led-all d inode live = led-when d inode (is_live d inode) live
 
 led-never : (d : Disk) (inode : ℕ) → is_live d inode ≡ false → count_before 10 (led_at d inode) 16 0 ≡ 0
@@ -101,7 +137,8 @@ led-never d inode dead = omega (
 )
 
 -- more entries than links are told of a live inode alone
-pub low_links-many : (d : Disk) (inode links : ℕ) (led : List ℕ) → inode < length led → IsTally 10 (led_at d) 16 0 led → links ≡ links_of d inode → links < get_or led inode 0
+pub low_links-many : (d : Disk) (inode links : ℕ) (led : List ℕ) → inode < length led → IsTally 10 (led_at d) 16 0 led
+    → links ≡ links_of d inode → links < get_or led inode 0
     → low_links_at d inode ≡ Some (LowLinks inode (get_or led inode 0) links)
 low_links-many d inode links led within tally is many = elim (cases_Bool (is_live d inode)) [
   | inl live ↦
@@ -110,7 +147,8 @@ low_links-many d inode links led within tally is many = elim (cases_Bool (is_liv
   | inr dead ↦ absurd (omega (arith, tally inode within, led-never d inode dead))
 ]
 
-pub low_links-few : (d : Disk) (inode : ℕ) (led : List ℕ) → inode < length led → IsTally 10 (led_at d) 16 0 led → get_or led inode 0 ≤ links_of d inode → low_links_at d inode ≡ None
+pub low_links-few : (d : Disk) (inode : ℕ) (led : List ℕ) → inode < length led → IsTally 10 (led_at d) 16 0 led
+    → get_or led inode 0 ≤ links_of d inode → low_links_at d inode ≡ None
 low_links-few d inode led within tally few = elim (cases_Bool (is_live d inode)) [
   | inl live ↦
       let all : get_or led inode 0 ≡ length (entries_to d inode) = tally inode within ∙ led-all d inode live in
@@ -119,8 +157,11 @@ low_links-few d inode led within tally few = elim (cases_Bool (is_live d inode))
 ]
 
 -- no count is larger than the number of places before
-pub led-most : (d : Disk) (dir k inode : ℕ) (led : List ℕ) → inode < length led → IsTally 10 (led_at d) dir k led → get_or led inode 0 ≤ 10 * dir + k
+pub led-most : (d : Disk) (dir k inode : ℕ) (led : List ℕ) → inode < length led → IsTally 10 (led_at d) dir k led
+    → get_or led inode 0 ≤ 10 * dir + k
 led-most d dir k inode led within tally = omega (arith, tally inode within, count_before-most 10 (led_at d inode) dir k)
 
-pub named-most : (d : Disk) (inode slot block : ℕ) (named : List ℕ) → block < length named → IsTally 4 (named_at d) inode slot named → get_or named block 0 ≤ 4 * inode + slot
-named-most d inode slot block named within tally = omega (arith, tally block within, count_before-most 4 (named_at d block) inode slot)
+pub named-most : (d : Disk) (inode slot block : ℕ) (named : List ℕ) → block < length named
+    → IsTally 4 (named_at d) inode slot named → get_or named block 0 ≤ 4 * inode + slot
+named-most d inode slot block named within tally = omega
+    (arith, tally block within, count_before-most 4 (named_at d block) inode slot)

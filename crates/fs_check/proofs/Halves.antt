@@ -7,7 +7,12 @@ use Rattle.fs_check.specs.Passed.{HasCleanPointers, HasCleanEntries}
 pub clean_halves : (d : Disk) → IsClean d → HasCleanPointers d × HasCleanEntries d
 clean_halves d clean =
     let none = clean_no_fault d clean in (
-      record { no_twice = none.no_twice; no_unwritten = none.no_unwritten; no_marked_free = none.no_marked_free; no_wild = none.no_wild },
+      record {
+        no_twice = none.no_twice;
+        no_unwritten = none.no_unwritten;
+        no_marked_free = none.no_marked_free;
+        no_wild = none.no_wild;
+      },
       record { no_dangling = none.no_dangling; no_low_links = none.no_low_links },
     )
 

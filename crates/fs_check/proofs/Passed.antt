@@ -1,11 +1,13 @@
 -- What the checker knows of the places that it has passed: one more place, one more row, and that a key has too many.
-use Rattle.std.proofs.Common.{◌≡◌, ◌≢◌, ℕ, ◌+◌, ◌<◌, ◌≤◌, inl, inr, List, length, get_or, set, replicate, false, Option, Some, None, arith, sym, ap, ◌∙◌, subst, below_more}
+use Rattle.std.proofs.Common.{◌≡◌, ◌≢◌, ℕ, ◌+◌, ◌<◌, ◌≤◌, inl, inr, List, length, get_or, set, replicate, false, Option}
+use Rattle.std.proofs.Common.{Some, None, arith, sym, ap, ◌∙◌, subst, below_more}
 use Rattle.std.proofs.lemmas.Bool.{cases_eq}
 use Rattle.std.proofs.lemmas.List.{get_or-set_same, get_or-set_other, length-set, get_or-replicate, length-replicate}
 use Rattle.std.specs.Prelude.{option_to_list}
 use Rattle.fs_check.specs.Tally.{count_before}
 use Rattle.fs_check.specs.Passed.{Table, HavePassed}
-use Rattle.fs_check.proofs.Counting.{tally-start, tally-row, tally-empty_row, tally-none, tally-one, count_before-grows, count_before-more}
+use Rattle.fs_check.proofs.Counting.{tally-start, tally-row, tally-empty_row, tally-none, tally-one, count_before-grows}
+use Rattle.fs_check.proofs.Counting.{count_before-more}
 
 module _ (t : Table) where
   pub passed-start : HavePassed t 0 0 (replicate t.keys 0)
@@ -18,7 +20,8 @@ module _ (t : Table) where
   }
 
   -- all places of a row
-  pub passed-row : (row column : ℕ) (counts : List ℕ) → column ≡ t.width → HavePassed t row column counts → HavePassed t (row + 1) 0 counts
+  pub passed-row : (row column : ℕ) (counts : List ℕ) → column ≡ t.width → HavePassed t row column counts
+      → HavePassed t (row + 1) 0 counts
   passed-row row column counts end passed = record {
     rows_right = below_more _ _ passed.rows_right (λ c below. passed.row_right c (omega arith));
     row_right = λ c below. absurd (omega arith);
@@ -28,7 +31,8 @@ module _ (t : Table) where
   }
 
   -- a row that stands for nothing
-  pub passed-empty_row : (row : ℕ) (counts : List ℕ) → ((c : ℕ) → t.is_faulty row c ≡ false) → ((key c : ℕ) → t.element key row c ≡ None)
+  pub passed-empty_row : (row : ℕ) (counts : List ℕ) → ((c : ℕ) → t.is_faulty row c ≡ false)
+      → ((key c : ℕ) → t.element key row c ≡ None)
       → HavePassed t row 0 counts → HavePassed t (row + 1) 0 counts
   passed-empty_row row counts right none passed = record {
     rows_right = below_more _ _ passed.rows_right (λ c below. right c);
@@ -39,7 +43,8 @@ module _ (t : Table) where
   }
 
   -- a place that stands for nothing
-  pub passed-empty : (row column : ℕ) (counts : List ℕ) → t.is_faulty row column ≡ false → ((key : ℕ) → t.element key row column ≡ None)
+  pub passed-empty : (row column : ℕ) (counts : List ℕ) → t.is_faulty row column ≡ false
+      → ((key : ℕ) → t.element key row column ≡ None)
       → HavePassed t row column counts → HavePassed t row (column + 1) counts
   passed-empty row column counts right none passed = record {
     rows_right = passed.rows_right;
@@ -62,7 +67,8 @@ module _ (t : Table) where
         size = length-set counts p v ∙ passed.size;
         tally = tally-one t.width t.element row column counts p v x here none within more passed.tally;
         few = λ key less. elim (cases_eq key p) [
-          | inl same ↦ subst (λ (q : ℕ). get_or (set counts p v) q 0 ≤ t.most q) (sym same) (omega (arith, get_or-set_same counts p v 0 within))
+          | inl same ↦ subst (λ (q : ℕ). get_or (set counts p v) q 0 ≤ t.most q) (sym same)
+              (omega (arith, get_or-set_same counts p v 0 within))
           | inr other ↦ omega (arith, get_or-set_other counts p key v 0 other, passed.few key less)
         ];
       }
@@ -81,5 +87,6 @@ module _ (t : Table) where
       )
 
   -- in all rows a key has no more than its most
-  pub not_many : (rows p : ℕ) (counts : List ℕ) → p < t.keys → HavePassed t rows 0 counts → count_before t.width (t.element p) rows 0 ≤ t.most p
+  pub not_many : (rows p : ℕ) (counts : List ℕ) → p < t.keys → HavePassed t rows 0 counts
+      → count_before t.width (t.element p) rows 0 ≤ t.most p
   not_many rows p counts below passed = omega (arith, passed.tally p (omega (arith, passed.size)), passed.few p below)

@@ -1,15 +1,19 @@
 -- The inodes that the checker finds reached.
-use Rattle.std.proofs.Common.{◌≡◌, ◌≢◌, ℕ, ◌+◌, ◌-◌, ◌<◌, ◌≤◌, inl, inr, List, [], ◌∷◌, ◌++◌, length, get_or, set, replicate, Bool, true, false, ◌&&◌, ◌||◌, ◌==◌, not, map, arith, refl, sym, subst, ap, ◌∙◌, append_assoc}
+use Rattle.std.proofs.Common.{◌≡◌, ◌≢◌, ℕ, ◌+◌, ◌-◌, ◌<◌, ◌≤◌, inl, inr, List, [], ◌∷◌, ◌++◌, length, get_or, set}
+use Rattle.std.proofs.Common.{replicate, Bool, true, false, ◌&&◌, ◌||◌, ◌==◌, not, map, arith, refl, sym, subst, ap}
+use Rattle.std.proofs.Common.{◌∙◌, append_assoc}
 use Rattle.std.specs.Prelude.{◌^◌, ◌↔◌, bit_and, bit_or}
 use Rattle.std.specs.List.{list_any, range_with_len}
 use Rattle.std.proofs.lemmas.Bool.{false≢true, cases_eq, cases_lt, cases_Bool, eq-eqb, ne_eqb, and_parts, and_right}
-use Rattle.std.proofs.lemmas.List.{get_or-set_same, get_or-set_other, length-set, get_or-replicate, length-replicate, get_or_past}
+use Rattle.std.proofs.lemmas.List.{get_or-set_same, get_or-set_other, length-set, get_or-replicate, length-replicate}
+use Rattle.std.proofs.lemmas.List.{get_or_past}
 use Rattle.std.proofs.lemmas.List.Folds.{list_any-append}
 use Rattle.std.proofs.lemmas.List.FromFn.{map-range_with_len_more}
 use Rattle.std.proofs.lemmas.Nat.Bits.{bit_at_and, bit_at_ones, bit_at-lt}
 use Rattle.patch_sets.specs.Sets.{Has, has, with_id, IsSubset}
 use Rattle.patch_sets.specs.Ends.{IsWithout}
-use Rattle.patch_sets.proofs.Bits.{none_in_empty, in_with_same, in_with_cases, in_with_old, in_or_cases, in_or_left, in_or_right, below_from_small}
+use Rattle.patch_sets.proofs.Bits.{none_in_empty, in_with_same, in_with_cases, in_with_old, in_or_cases, in_or_left}
+use Rattle.patch_sets.proofs.Bits.{in_or_right, below_from_small}
 use Rattle.patch_sets.proofs.Ids.{has_true, has_false, from_has}
 use Rattle.crash_model.specs.Disk.{Disk}
 use Rattle.crash_model.specs.Layout.{kind_of, pointer_of, is_live, counts, entry_of}
@@ -54,7 +58,10 @@ has-with_same set id = has_true (with_id set id) id (in_with_same set id)
 
 has-with_other : (set id other : ℕ) → other ≢ id → has (with_id set id) other ≡ has set other
 has-with_other set id other differ = same_test (has (with_id set id) other) (has set other)
-    (λ t. elim (in_with_cases set id other (from_has (with_id set id) other t)) [ inl e ↦ absurd (differ e) | inr old ↦ has_true set other old ])
+    (λ t. elim (in_with_cases set id other (from_has (with_id set id) other t)) [
+      | inl e ↦ absurd (differ e)
+      | inr old ↦ has_true set other old
+    ])
     (λ t. has_true (with_id set id) other (in_with_old set id other (from_has set other t)))
 
 in_and : (a b id : ℕ) → Has a id → Has b id → Has (bit_and a b) id
@@ -73,7 +80,9 @@ map_same [] = refl
 map_same (x ∷ xs) = ap (λ ys. x ∷ ys) (map_same xs)
 
 range-more : (n : ℕ) → range_with_len 0 (n + 1) ≡ range_with_len 0 n ++ n ∷ []
-range-more n = sym (map_same (range_with_len 0 (n + 1))) ∙ (map-range_with_len_more (λ (k : ℕ). k) 0 n n (omega arith) ∙ ap (λ xs. xs ++ n ∷ []) (map_same (range_with_len 0 n)))
+range-more n = sym (map_same (range_with_len 0 (n + 1)))
+    ∙ (map-range_with_len_more (λ (k : ℕ). k) 0 n n (omega arith)
+    ∙ ap (λ xs. xs ++ n ∷ []) (map_same (range_with_len 0 n)))
 
 any-more : (p : ℕ → Bool) (n : ℕ) → list_any p (range_with_len 0 (n + 1)) ≡ (list_any p (range_with_len 0 n) || p n)
 any-more p n = ap (list_any p) (range-more n) ∙ (list_any-append p (range_with_len 0 n) (n ∷ [])
@@ -81,7 +90,8 @@ any-more p n = ap (list_any p) (range-more n) ∙ (list_any-append p (range_with
 
 module _ (d : Disk) (dir : ℕ) where
   abbrev pub AreNamed : ℕ → ℕ → Type 0
-  AreNamed n named = (inode : ℕ) → has named inode ≡ (is_live d inode && list_any (λ k. leads_to d dir k inode) (range_with_len 0 n))
+  AreNamed n named = (inode : ℕ) → has named inode ≡ (is_live d inode
+      && list_any (λ k. leads_to d dir k inode) (range_with_len 0 n))
 
   pub named-start : AreNamed 0 0
   named-start inode = has_false 0 inode (none_in_empty inode) ∙ sym (and_right (is_live d inode) false refl)
@@ -94,30 +104,37 @@ module _ (d : Disk) (dir : ℕ) where
   named-step k named more adds old inode =
       adds inode
       ∙ (ap (λ (b : Bool). b || (is_live d inode && leads_to d dir k inode)) (old inode)
-      ∙ (both_parts (is_live d inode) (list_any (λ j. leads_to d dir j inode) (range_with_len 0 k)) (leads_to d dir k inode)
+      ∙ (both_parts (is_live d inode) (list_any (λ j. leads_to d dir j inode) (range_with_len 0 k))
+      (leads_to d dir k inode)
       ∙ ap (λ (b : Bool). is_live d inode && b) (sym (any-more (λ j. leads_to d dir j inode) k))))
 
-  leads-here : (k entry : ℕ) → counts d dir ≡ true → entry_of d dir k ≡ entry → entry ≢ 0 → leads_to d dir k (entry - 1) ≡ true
+  leads-here : (k entry : ℕ) → counts d dir ≡ true → entry_of d dir k ≡ entry → entry ≢ 0
+      → leads_to d dir k (entry - 1) ≡ true
   leads-here k entry counted is some = rw (counted, is, ne_eqb entry 0 some) (eq-eqb (entry - 1) (entry - 1) refl)
 
   leads-other : (k entry inode : ℕ) → entry_of d dir k ≡ entry → inode ≢ entry - 1 → leads_to d dir k inode ≡ false
-  leads-other k entry inode is differ = rw (is, ne_eqb (entry - 1) inode (λ e. differ (sym e))) (and_right (counts d dir && not (entry == 0)) false refl)
+  leads-other k entry inode is differ = rw (is, ne_eqb (entry - 1) inode (λ e. differ (sym e)))
+      (and_right (counts d dir && not (entry == 0)) false refl)
 
   leads-none : (k inode : ℕ) → entry_of d dir k ≡ 0 → leads_to d dir k inode ≡ false
   leads-none k inode is = rw (eq-eqb (entry_of d dir k) 0 is, and_right (counts d dir) false refl) refl
 
-  pub adds-live : (k entry named : ℕ) → counts d dir ≡ true → entry_of d dir k ≡ entry → entry ≢ 0 → is_live d (entry - 1) ≡ true
+  pub adds-live : (k entry named : ℕ) → counts d dir ≡ true → entry_of d dir k ≡ entry → entry ≢ 0
+      → is_live d (entry - 1) ≡ true
       → Adds k named (with_id named (entry - 1))
   adds-live k entry named counted is some live inode = elim (cases_eq inode (entry - 1)) [
-    | inl same ↦ subst (λ (i : ℕ). has (with_id named (entry - 1)) i ≡ (has named i || (is_live d i && leads_to d dir k i))) (sym same)
+    | inl same ↦ subst (λ (i : ℕ). has (with_id named (entry - 1)) i
+        ≡ (has named i || (is_live d i && leads_to d dir k i))) (sym same)
         (has-with_same named (entry - 1)
-        ∙ sym (or_true (has named (entry - 1)) _ (both_true (is_live d (entry - 1)) _ live (leads-here k entry counted is some))))
+        ∙ sym (or_true (has named (entry - 1)) _ (both_true (is_live d (entry - 1)) _ live
+        (leads-here k entry counted is some))))
     | inr other ↦ has-with_other named (entry - 1) inode other
         ∙ sym (or_false (has named inode) _ (and_right (is_live d inode) _ (leads-other k entry inode is other)))
   ]
 
   pub adds-free : (k named : ℕ) → entry_of d dir k ≡ 0 → Adds k named named
-  adds-free k named is inode = sym (or_false (has named inode) _ (and_right (is_live d inode) _ (leads-none k inode is)))
+  adds-free k named is inode = sym (or_false (has named inode)
+      _ (and_right (is_live d inode) _ (leads-none k inode is)))
 
   pub adds-dead : (k entry named : ℕ) → entry_of d dir k ≡ entry → is_live d (entry - 1) ≡ false → Adds k named named
   adds-dead k entry named is dead inode = sym (or_false (has named inode) _ (elim (cases_eq inode (entry - 1)) [
@@ -131,14 +148,16 @@ module _ (d : Disk) (dir : ℕ) where
   uncounted not_so (k ∷ ks) inode = rw (not_so, uncounted not_so ks inode) refl
 
   pub named-uncounted : counts d dir ≡ false → (inode : ℕ) → has 0 inode ≡ (is_live d inode && is_named d dir inode)
-  named-uncounted not_so inode = has_false 0 inode (none_in_empty inode) ∙ sym (and_right (is_live d inode) _ (uncounted not_so (range_with_len 0 10) inode))
+  named-uncounted not_so inode = has_false 0 inode (none_in_empty inode)
+      ∙ sym (and_right (is_live d inode) _ (uncounted not_so (range_with_len 0 10) inode))
 
 -- ---- what is reached so far, and which inodes' entries have not been read
 
 pub record Reaching (d : Disk) (reached unread : ℕ) : Type 0 where
   pub sound : (i : ℕ) → has reached i ≡ true → is_reached d i ≡ true
   pub root : kind_of d 0 ≡ 2 → has reached 0 ≡ true
-  pub read : (e i : ℕ) → e < 16 → has unread e ≡ false → is_named d e i ≡ true → is_live d i ≡ true → has reached i ≡ true
+  pub read : (e i : ℕ) → e < 16 → has unread e ≡ false → is_named d e i ≡ true → is_live d i ≡ true
+      → has reached i ≡ true
   pub few : (i : ℕ) → has unread i ≡ true → i < 16
 
 all_unread : (i : ℕ) → i < 16 → has 0xFFFF i ≡ true
@@ -148,7 +167,8 @@ few_unread : (i : ℕ) → has 0xFFFF i ≡ true → i < 16
 few_unread i is = below_from_small 0xFFFF 16 i (omega arith) (from_has 0xFFFF i is)
 
 all_read : (reached unread : ℕ) → bit_and reached unread ≡ 0 → (e : ℕ) → has reached e ≡ true → has unread e ≡ false
-all_read reached unread none e is = has_false unread e (λ there. none_in_empty e (subst (λ (s : ℕ). Has s e) none (in_and reached unread e (from_has reached e is) there)))
+all_read reached unread none e is = has_false unread e
+    (λ there. none_in_empty e (subst (λ (s : ℕ). Has s e) none (in_and reached unread e (from_has reached e is) there)))
 
 module _ (d : Disk) where
   pub reaching-root : kind_of d 0 ≡ 2 → Reaching d 1 0xFFFF
@@ -183,10 +203,13 @@ module _ (d : Disk) where
     root = λ e. has_true (bit_or reached named) 0 (in_or_left reached named 0 (from_has reached 0 (old.root e)));
     read = λ e i below gone names live. elim (cases_eq e dir) [
       | inl same ↦ has_true (bit_or reached named) i (in_or_right reached named i (from_has named i
-          (by i ∙ both_true (is_live d i) (is_named d dir i) live (subst (λ (x : ℕ). is_named d x i ≡ true) same names))))
+          (by i ∙ both_true (is_live d i) (is_named d dir i) live
+          (subst (λ (x : ℕ). is_named d x i ≡ true) same names))))
       | inr other ↦
-          let before : has unread e ≡ false = has_false unread e (λ is. false≢true (sym gone ∙ has_true rest e ((without.others e other).1 is))) in
-          has_true (bit_or reached named) i (in_or_left reached named i (from_has reached i (old.read e i below before names live)))
+          let before : has unread e ≡ false = has_false unread e
+          (λ is. false≢true (sym gone ∙ has_true rest e ((without.others e other).1 is))) in
+          has_true (bit_or reached named) i (in_or_left reached named i
+          (from_has reached i (old.read e i below before names live)))
     ];
     few = λ i t. elim (cases_eq i dir) [
       | inl same ↦ absurd (without.gone (subst (Has rest) same (from_has rest i t)))
@@ -195,13 +218,16 @@ module _ (d : Disk) where
   }
 
   pub reached-below : (i : ℕ) → is_reached d i ≡ true → i < 16
-  reached-below i is = reached-least d (λ (j : ℕ). j < 16) (λ e. omega arith) (λ dir j below names live. live-below d j live) i is
+  reached-below i is = reached-least d (λ (j : ℕ). j < 16) (λ e. omega arith)
+      (λ dir j below names live. live-below d j live) i is
 
   -- nothing that is reached is unread
-  pub reached-all : (reached unread : ℕ) → bit_and reached unread ≡ 0 → Reaching d reached unread → (i : ℕ) → has reached i ≡ is_reached d i
+  pub reached-all : (reached unread : ℕ) → bit_and reached unread ≡ 0 → Reaching d reached unread → (i : ℕ)
+      → has reached i ≡ is_reached d i
   reached-all reached unread none all i = same_test (has reached i) (is_reached d i) (all.sound i)
       (reached-least d (λ (j : ℕ). has reached j ≡ true) all.root
-      (λ e j is names live. all.read e j (reached-below e (all.sound e is)) (all_read reached unread none e is) names live) i)
+      (λ e j is names live. all.read e j (reached-below e (all.sound e is)) (all_read reached unread none e is) names
+      live) i)
 
 -- ---- the directories that have been passed
 
@@ -217,7 +243,8 @@ module _ (d : Disk) where
   pub directories-start : AreDirectoriesBelow 0 0
   directories-start i = (λ is. absurd (none_in_empty i is), λ both. absurd (omega (arith, both.0)))
 
-  pub directories-one : (n inodes : ℕ) → kind_of d n ≡ 2 → AreDirectoriesBelow n inodes → AreDirectoriesBelow (n + 1) (with_id inodes n)
+  pub directories-one : (n inodes : ℕ) → kind_of d n ≡ 2 → AreDirectoriesBelow n inodes
+      → AreDirectoriesBelow (n + 1) (with_id inodes n)
   directories-one n inodes is old i = (
     λ there. elim (in_with_cases inodes n i there) [
       | inl same ↦ (omega (arith, same), subst (λ (j : ℕ). kind_of d j ≡ 2) (sym same) is)
@@ -229,7 +256,8 @@ module _ (d : Disk) where
     ],
   )
 
-  pub directories-none : (n inodes : ℕ) → kind_of d n ≢ 2 → AreDirectoriesBelow n inodes → AreDirectoriesBelow (n + 1) inodes
+  pub directories-none : (n inodes : ℕ) → kind_of d n ≢ 2 → AreDirectoriesBelow n inodes
+      → AreDirectoriesBelow (n + 1) inodes
   directories-none n inodes is_not old i = (
     λ there. let both = (old i).0 there in (omega (arith, both.0), both.1),
     λ both. elim (cases_eq i n) [
@@ -257,13 +285,15 @@ module _ (d : Disk) where
         | inr above ↦ get_or_past (replicate 16 0) e 0 (omega (arith, length-replicate {A = ℕ} 16 0))
       ]
 
-  pub sets-one : (n set_of : ℕ) (named : List ℕ) → n < 16 → IsNamedBy d n set_of → AreNamedBelow n named → AreNamedBelow (n + 1) (set named n set_of)
+  pub sets-one : (n set_of : ℕ) (named : List ℕ) → n < 16 → IsNamedBy d n set_of → AreNamedBelow n named
+      → AreNamedBelow (n + 1) (set named n set_of)
   sets-one n set_of named below is old = record {
     size = length-set named n set_of ∙ old.size;
     before = λ e less. elim (cases_eq e n) [
       | inl same ↦ subst (λ (j : ℕ). IsNamedBy d j (get_or (set named n set_of) j 0)) (sym same)
           (subst (λ (s : ℕ). IsNamedBy d n s) (sym (get_or-set_same named n set_of 0 (omega (arith, old.size)))) is)
-      | inr other ↦ subst (λ (s : ℕ). IsNamedBy d e s) (sym (get_or-set_other named n e set_of 0 other)) (old.before e (omega arith))
+      | inr other ↦ subst (λ (s : ℕ). IsNamedBy d e s) (sym (get_or-set_other named n e set_of 0 other))
+          (old.before e (omega arith))
     ];
     behind = λ e above. get_or-set_other named n e set_of 0 (λ same. omega (arith, same)) ∙ old.behind e (omega arith);
   }
@@ -292,7 +322,8 @@ module _ (d : Disk) (kept reached : ℕ) (few : kept < 2 ^ 16) (by : (i : ℕ) �
   three true b c e = e refl
   three false b c e = refl
 
-  loses_nothing_from : IsSubset kept reached → ((i : ℕ) → has reached i ≡ true → is_bare d i ≡ false) → LosesNothing kept d
+  loses_nothing_from : IsSubset kept reached → ((i : ℕ) → has reached i ≡ true → is_bare d i ≡ false)
+      → LosesNothing kept d
   loses_nothing_from within blocks = record {
     no_lost = λ i below. not_lost i within;
     no_bare = λ i below. three (is_reached d i) (kind_of d i == 2) (pointer_of d i 0 == 0) (λ is. blocks i (by i ∙ is));
@@ -301,7 +332,8 @@ module _ (d : Disk) (kept reached : ℕ) (few : kept < 2 ^ 16) (by : (i : ℕ) �
   subset_from : LosesNothing kept d → IsSubset kept reached
   subset_from loses i is = from_has reached i (by i ∙ elim (cases_Bool (is_reached d i)) [
     | inl there ↦ there
-    | inr gone ↦ absurd (false≢true (sym (loses.no_lost i (below_from_small kept 16 i few is)) ∙ rw (has_true kept i is, gone) refl))
+    | inr gone ↦ absurd (false≢true (sym (loses.no_lost i (below_from_small kept 16 i few is))
+        ∙ rw (has_true kept i is, gone) refl))
   ])
 
 -- ---- the directories that are reached and have a block
@@ -319,12 +351,14 @@ module _ (d : Disk) where
   names_none e i is_not = uncounted d e (counts-directory e is_not) (range_with_len 0 10) i
 
   -- what is no directory has no entries to be read
-  pub walking-start : (reached inodes : ℕ) → AreDirectoriesBelow d 16 inodes → Reaching d reached 0xFFFF → Walking d reached inodes
+  pub walking-start : (reached inodes : ℕ) → AreDirectoriesBelow d 16 inodes → Reaching d reached 0xFFFF
+      → Walking d reached inodes
   walking-start reached inodes are old = record {
     reaching = record {
       sound = old.sound;
       root = old.root;
-      read = λ e i below gone names live. absurd (false≢true (sym (names_none e i (no_directory e below gone)) ∙ names));
+      read = λ e i below gone names live. absurd (false≢true
+          (sym (names_none e i (no_directory e below gone)) ∙ names));
       few = λ i is. ((are i).0 (from_has inodes i is)).0;
     };
     directories = λ i is. ((are i).0 (from_has inodes i is)).1;
@@ -335,13 +369,16 @@ module _ (d : Disk) where
       no_directory e below gone is = false≢true (sym gone ∙ has_true inodes e ((are e).1 (below, is)))
 
   pub walking-below : (reached unread dir : ℕ) → Has (bit_and reached unread) dir → Walking d reached unread → dir < 16
-  walking-below reached unread dir there all = all.reaching.few dir (has_true unread dir (and_in reached unread dir there).1)
+  walking-below reached unread dir there all = all.reaching.few dir
+      (has_true unread dir (and_in reached unread dir there).1)
 
   -- a directory more
-  pub walking-step : (reached unread dir rest named : ℕ) → Has (bit_and reached unread) dir → IsWithout unread dir rest → pointer_of d dir 0 ≢ 0
+  pub walking-step : (reached unread dir rest named : ℕ) → Has (bit_and reached unread) dir → IsWithout unread dir rest
+      → pointer_of d dir 0 ≢ 0
       → IsNamedBy d dir named → Walking d reached unread → Walking d (bit_or reached named) rest
   walking-step reached unread dir rest named there without some by old = record {
-    reaching = reaching-step d reached unread dir rest named (has_true reached dir (and_in reached unread dir there).0) without by old.reaching;
+    reaching = reaching-step d reached unread dir rest named (has_true reached dir (and_in reached unread dir there).0)
+        without by old.reaching;
     directories = λ i is. elim (cases_eq i dir) [
       | inl same ↦ absurd (without.gone (subst (Has rest) same (from_has rest i is)))
       | inr other ↦ old.directories i (has_true unread i ((without.others i other).0 (from_has rest i is)))
@@ -349,13 +386,16 @@ module _ (d : Disk) where
     well = λ i below gone. elim (cases_eq i dir) [
       | inl same ↦ subst (λ (j : ℕ). is_bare d j ≡ false) (sym same)
           (rw (ne_eqb (pointer_of d dir 0) 0 some) (and_right (kind_of d dir == 2) false refl))
-      | inr other ↦ old.well i below (has_false unread i (λ is. false≢true (sym gone ∙ has_true rest i ((without.others i other).1 is))))
+      | inr other ↦ old.well i below (has_false unread i (λ is.
+          false≢true (sym gone ∙ has_true rest i ((without.others i other).1 is))))
     ];
   }
 
-  pub walked : (kept reached unread : ℕ) → kept < 2 ^ 16 → bit_and reached unread ≡ 0 → Walking d reached unread → (IsSubset kept reached ↔ LosesNothing kept d)
+  pub walked : (kept reached unread : ℕ) → kept < 2 ^ 16 → bit_and reached unread ≡ 0 → Walking d reached unread
+      → (IsSubset kept reached ↔ LosesNothing kept d)
   walked kept reached unread few none all = (
-    λ within. loses_nothing_from d kept reached few by within (λ i is. all.well i (reached-below d i (all.reaching.sound i is)) (all_read reached unread none i is)),
+    λ within. loses_nothing_from d kept reached few by within
+        (λ i is. all.well i (reached-below d i (all.reaching.sound i is)) (all_read reached unread none i is)),
     subset_from d kept reached few by,
   )
     where
@@ -363,16 +403,20 @@ module _ (d : Disk) where
       by = reached-all d reached unread none all.reaching
 
   -- a directory without one
-  pub bare_found : (kept reached unread dir : ℕ) → Has (bit_and reached unread) dir → pointer_of d dir 0 ≡ 0 → Walking d reached unread → LosesNothing kept d → ⊥
+  pub bare_found : (kept reached unread dir : ℕ) → Has (bit_and reached unread) dir → pointer_of d dir 0 ≡ 0
+      → Walking d reached unread → LosesNothing kept d → ⊥
   bare_found kept reached unread dir there none all loses =
       let both = and_in reached unread dir there in
       let is = all.reaching.sound dir (has_true reached dir both.0) in
       let kind = all.directories dir (has_true unread dir both.1) in
-      false≢true (sym (loses.no_bare dir (reached-below d dir is)) ∙ rw (is, eq-eqb (kind_of d dir) 2 kind, eq-eqb (pointer_of d dir 0) 0 none) refl)
+      false≢true (sym (loses.no_bare dir (reached-below d dir is))
+      ∙ rw (is, eq-eqb (kind_of d dir) 2 kind, eq-eqb (pointer_of d dir 0) 0 none) refl)
 
 -- ---- with the six faults
 
-pub strict_two : (d : Disk) (kept : ℕ) (old lost now : List Fault) → lost ≡ old ++ some_below 16 (lost_at kept d) → now ≡ lost ++ some_below 16 (bare_at d) → now ≡ old ++ strict_faults kept d
+pub strict_two : (d : Disk) (kept : ℕ) (old lost now : List Fault) → lost ≡ old ++ some_below 16 (lost_at kept d)
+    → now ≡ lost ++ some_below 16 (bare_at d) → now ≡ old ++ strict_faults kept d
 unfolding strict_faults
 strict_two d kept old lost now first second =
-    second ∙ (ap (λ (xs : List Fault). xs ++ some_below 16 (bare_at d)) first ∙ append_assoc old (some_below 16 (lost_at kept d)) (some_below 16 (bare_at d)))
+    second ∙ (ap (λ (xs : List Fault). xs ++ some_below 16 (bare_at d)) first
+    ∙ append_assoc old (some_below 16 (lost_at kept d)) (some_below 16 (bare_at d)))

@@ -1,5 +1,6 @@
 -- The slots that the checker has passed.
-use Rattle.std.proofs.Common.{◌≡◌, ◌≢◌, ℕ, ◌+◌, ◌<◌, ◌≤◌, List, length, get_or, set, Bool, true, false, ◌&&◌, ◌||◌, ◌==◌, not, nat_lt, Some, None, arith, refl, sym, ap, ◌∙◌}
+use Rattle.std.proofs.Common.{◌≡◌, ◌≢◌, ℕ, ◌+◌, ◌<◌, ◌≤◌, List, length, get_or, set, Bool, true, false, ◌&&◌, ◌||◌}
+use Rattle.std.proofs.Common.{◌==◌, not, nat_lt, Some, None, arith, refl, sym, ap, ◌∙◌}
 use Rattle.std.proofs.lemmas.Bool.{false≢true, eq-eqb, ne_eqb, lt-ltb, le-ltb, ltb-true, and_parts, and_right}
 use Rattle.crash_model.proofs.EachBelow.{some_below-zero}
 use Rattle.crash_model.specs.Disk.{Disk}
@@ -19,7 +20,8 @@ right-tests pointer false free marked e = absurd (false≢true e)
 right-tests pointer true true marked e = absurd (false≢true e)
 right-tests pointer true false false e = absurd (false≢true e)
 
-wrong-tests : (area free marked : Bool) → (area && not free && marked) ≡ false → (area && not marked) ≡ false → (area && free) ≡ false → not area ≡ false → ⊥
+wrong-tests : (area free marked : Bool) → (area && not free && marked) ≡ false → (area && not marked) ≡ false
+    → (area && free) ≡ false → not area ≡ false → ⊥
 wrong-tests false free marked e unwritten marked_free wild = false≢true (sym wild)
 wrong-tests true true marked e unwritten marked_free wild = false≢true (sym marked_free)
 wrong-tests true false true e unwritten marked_free wild = false≢true (sym e)
@@ -56,35 +58,51 @@ module _ (d : Disk) (inode slot : ℕ) where
 
 -- the right block is one of the data area
 right-area : (d : Disk) (inode block : ℕ) → is_right_block d inode block ≡ true → is_data d block ≡ true
-right-area d inode block right = (and_parts (is_data d block) _ (and_parts (is_data d block && not (map_of d block == 0)) _ right).0).0
+right-area d inode block right = (and_parts (is_data d block)
+    _ (and_parts (is_data d block && not (map_of d block == 0)) _ right).0).0
 
 -- a slot stands for the block that it names
 names-here : (d : Disk) (inode slot block : ℕ) → is_live d inode ≡ true → pointer_of d inode slot ≡ block → block ≢ 0
     → is_right_block d inode block ≡ true → (slots_of d).element block inode slot ≡ Some (inode, slot)
 names-here d inode slot block live points some right =
-    rw (pointer-some d inode slot live (rw points some), points, right-area d inode block right, eq-eqb block block refl) refl
+    rw (
+      pointer-some d inode slot live (rw points some),
+      points,
+      right-area d inode block right,
+      eq-eqb block block refl,
+    ) refl
 
 -- and for no other
-names-other : (d : Disk) (other inode slot block : ℕ) → pointer_of d inode slot ≡ block → other ≢ block → (slots_of d).element other inode slot ≡ None
+names-other : (d : Disk) (other inode slot block : ℕ) → pointer_of d inode slot ≡ block → other ≢ block
+    → (slots_of d).element other inode slot ≡ None
 names-other d other inode slot block points differ =
-    rw (ne_eqb (pointer_of d inode slot) other (λ e. differ (sym e ∙ points)), and_right (is_tame d inode slot) false refl) refl
+    rw (
+      ne_eqb (pointer_of d inode slot) other (λ e. differ (sym e ∙ points)),
+      and_right (is_tame d inode slot) false refl,
+    ) refl
 
 -- ---- the next place
 
 -- an inode that is not live has no pointers
-pub slots-dead : (d : Disk) (inode : ℕ) (named : List ℕ) → is_live d inode ≡ false → HavePassed (slots_of d) inode 0 named → HavePassed (slots_of d) (inode + 1) 0 named
+pub slots-dead : (d : Disk) (inode : ℕ) (named : List ℕ) → is_live d inode ≡ false
+    → HavePassed (slots_of d) inode 0 named → HavePassed (slots_of d) (inode + 1) 0 named
 slots-dead d inode named dead = passed-empty_row (slots_of d) inode named
-    (λ s. clean-empty d inode s (pointer-dead d inode s dead)) (λ block s. none-empty d inode s block (pointer-dead d inode s dead))
+    (λ s. clean-empty d inode s (pointer-dead d inode s dead))
+    (λ block s. none-empty d inode s block (pointer-dead d inode s dead))
 
-pub slots-empty : (d : Disk) (inode slot : ℕ) (named : List ℕ) → pointer_of d inode slot ≡ 0 → HavePassed (slots_of d) inode slot named → HavePassed (slots_of d) inode (slot + 1) named
+pub slots-empty : (d : Disk) (inode slot : ℕ) (named : List ℕ) → pointer_of d inode slot ≡ 0
+    → HavePassed (slots_of d) inode slot named → HavePassed (slots_of d) inode (slot + 1) named
 slots-empty d inode slot named zero = passed-empty (slots_of d) inode slot named
-    (clean-empty d inode slot (pointer-zero d inode slot zero)) (λ block. none-empty d inode slot block (pointer-zero d inode slot zero))
+    (clean-empty d inode slot (pointer-zero d inode slot zero))
+    (λ block. none-empty d inode slot block (pointer-zero d inode slot zero))
 
 -- a slot that names the right block, which none before it names
-pub slots-named : (d : Disk) (inode slot block : ℕ) (named : List ℕ) → is_live d inode ≡ true → pointer_of d inode slot ≡ block → block ≢ 0
+pub slots-named : (d : Disk) (inode slot block : ℕ) (named : List ℕ) → is_live d inode ≡ true
+    → pointer_of d inode slot ≡ block → block ≢ 0
     → is_right_block d inode block ≡ true → block < 128 → get_or named block 0 ≡ 0
     → HavePassed (slots_of d) inode slot named → HavePassed (slots_of d) inode (slot + 1) (set named block 1)
-slots-named d inode slot block named live points some right within unnamed = passed-one (slots_of d) inode slot block 1 named (inode, slot)
+slots-named d inode slot block named live points some right within unnamed =
+    passed-one (slots_of d) inode slot block 1 named (inode, slot)
     (clean-right d inode slot (rw points right)) (names-here d inode slot block live points some right)
     (λ b differ. names-other d b inode slot block points differ) within (omega (arith, unnamed)) (omega arith)
 
@@ -95,10 +113,13 @@ unfolding count_before each_slot namers
 named-all d block = omega (arith, ap length (some_below-zero ((slots_of d).element block 16)))
 
 -- all slots have been passed
-pub slots-all : (d : Disk) (inode : ℕ) (named : List ℕ) → d.blocks ≤ 128 → inode ≡ 16 → HavePassed (slots_of d) inode 0 named → HasCleanPointers d
+pub slots-all : (d : Disk) (inode : ℕ) (named : List ℕ) → d.blocks ≤ 128 → inode ≡ 16
+    → HavePassed (slots_of d) inode 0 named → HasCleanPointers d
 slots-all d inode named most end passed =
-    let none : (i : ℕ) → i < 16 → (s : ℕ) → s < 4 → (is_unwritten d i s ≡ false) × (is_marked_free d i s ≡ false) × (is_wild d i s ≡ false) =
-    λ i a s b. neither (is_unwritten d i s) (is_marked_free d i s) (is_wild d i s) (passed.rows_right i (omega arith) s b) in
+    let none : (i : ℕ) → i < 16 → (s : ℕ) → s < 4 → (is_unwritten d i s ≡ false) × (is_marked_free d i s ≡ false)
+    × (is_wild d i s ≡ false) =
+    λ i a s b. neither (is_unwritten d i s) (is_marked_free d i s) (is_wild d i s)
+    (passed.rows_right i (omega arith) s b) in
     record {
       no_twice = λ block below. le-ltb 1 (length (namers d block))
           (rw (← named-all d block) (rw end at (not_many (slots_of d) inode block named (omega arith) passed)));
@@ -108,18 +129,24 @@ slots-all d inode named most end passed =
     }
 
 -- a slot that names a wrong block is a fault
-pub faulty-wrong : (d : Disk) (inode slot block : ℕ) → inode < 16 → slot < 4 → is_live d inode ≡ true → pointer_of d inode slot ≡ block → block ≢ 0 → is_right_block d inode block ≡ false → HasCleanPointers d → ⊥
+pub faulty-wrong : (d : Disk) (inode slot block : ℕ) → inode < 16 → slot < 4 → is_live d inode ≡ true
+    → pointer_of d inode slot ≡ block → block ≢ 0 → is_right_block d inode block ≡ false → HasCleanPointers d → ⊥
 faulty-wrong d inode slot block a b live points some wrong clean =
     let to : ℕ = pointer_of d inode slot in
     let pointer : is_pointer d inode slot ≡ true = pointer-some d inode slot live (rw points some) in
     wrong-tests (is_data d to) (map_of d to == 0) (is_marked d inode to) (rw points wrong)
-    (rw pointer at (clean.no_unwritten inode a slot b)) (rw pointer at (clean.no_marked_free inode a slot b)) (rw pointer at (clean.no_wild inode a slot b))
+    (rw pointer at (clean.no_unwritten inode a slot b)) (rw pointer at (clean.no_marked_free inode a slot b))
+    (rw pointer at (clean.no_wild inode a slot b))
 
 -- so is one that names a block again
-pub faulty-twice : (d : Disk) (inode slot block : ℕ) (named : List ℕ) → inode < 16 → slot < 4 → is_live d inode ≡ true → pointer_of d inode slot ≡ block → block ≢ 0
-    → is_right_block d inode block ≡ true → block < 128 → get_or named block 0 ≢ 0 → HavePassed (slots_of d) inode slot named → HasCleanPointers d → ⊥
+pub faulty-twice : (d : Disk) (inode slot block : ℕ) (named : List ℕ) → inode < 16 → slot < 4 → is_live d inode ≡ true
+    → pointer_of d inode slot ≡ block → block ≢ 0
+    → is_right_block d inode block ≡ true → block < 128 → get_or named block 0 ≢ 0
+    → HavePassed (slots_of d) inode slot named → HasCleanPointers d → ⊥
 faulty-twice d inode slot block named a b live points some right within again passed clean =
-    let area : block < d.blocks = ltb-true block d.blocks (and_parts _ (nat_lt block d.blocks) (right-area d inode block right)).1 in
+    let area : block < d.blocks = ltb-true block d.blocks
+    (and_parts _ (nat_lt block d.blocks) (right-area d inode block right)).1 in
     let two : 1 < length (namers d block) = rw (← named-all d block)
-    (too_many (slots_of d) 16 inode slot block named (inode, slot) a b within (names-here d inode slot block live points some right) (omega arith) passed) in
+    (too_many (slots_of d) 16 inode slot block named (inode, slot) a b within
+    (names-here d inode slot block live points some right) (omega arith) passed) in
     false≢true (sym (clean.no_twice block area) ∙ lt-ltb 1 (length (namers d block)) two)

@@ -1,5 +1,6 @@
 -- What a closed set has of each transaction, from the dependencies alone.
-use Rattle.std.proofs.Common.{◌≡◌, ℕ, zero, suc, ◌+◌, ◌-◌, ◌<◌, ◌≤◌, ◌⊎◌, inl, inr, List, [], ◌∷◌, ◌++◌, length, map, Bool, true, false, nat_lt, ◌&&◌, ◌||◌, Some, arith, tests, refl, sym, ◌∙◌, ap, subst}
+use Rattle.std.proofs.Common.{◌≡◌, ℕ, zero, suc, ◌+◌, ◌-◌, ◌<◌, ◌≤◌, ◌⊎◌, inl, inr, List, [], ◌∷◌, ◌++◌, length, map}
+use Rattle.std.proofs.Common.{Bool, true, false, nat_lt, ◌&&◌, ◌||◌, Some, arith, tests, refl, sym, ◌∙◌, ap, subst}
 use Rattle.std.specs.Prelude.{slice_get, ◌==◌}
 use Rattle.std.specs.List.{list_any}
 use Rattle.std.proofs.lemmas.List.{length-append, length-map}
@@ -8,7 +9,8 @@ use Rattle.patch_sets.specs.Sets.{has}
 use Rattle.crash_model.specs.Patches.{Place, place, overlap}
 use Rattle.crash_model.specs.Plan.{with_changes}
 use Rattle.crash_model.specs.Rules.{has_part, are_scoped, journal_rules}
-use Rattle.crash_model.specs.Trace.{Emitted, Origin, part_of, in_place_patch, copies, journal_patches, touched_blocks, applies, depends, groups_depend}
+use Rattle.crash_model.specs.Trace.{Emitted, Origin, part_of, in_place_patch, copies, journal_patches, touched_blocks}
+use Rattle.crash_model.specs.Trace.{applies, depends, groups_depend}
 use Rattle.crash_model.specs.declared.rules.Part.{Part}
 use Rattle.crash_model.specs.declared.rules.Part.TheVariants.{InPlace, Copy, Commit, Done}
 use Rattle.crash_model.specs.declared.rules.Rule.{Rule}
@@ -34,12 +36,18 @@ pub record IsPart (kind : Part) (t : ℕ) (x : Emitted) : Type 0 where
   pub part : x.part ≡ kind
   pub turn : x.turn ≡ t
 
-copy_at : (after : Disk) (t j : ℕ) (g : Origin) (bs : List ℕ) (m : ℕ) → m < length bs → (y : Emitted) × (slice_get (copies after t j g bs) m ≡ Some y) × IsPart Copy t y
+copy_at : (after : Disk) (t j : ℕ) (g : Origin) (bs : List ℕ) (m : ℕ) → m < length bs → (y : Emitted)
+    × (slice_get (copies after t j g bs) m ≡ Some y) × IsPart Copy t y
 copy_at after t j g [] m h = absurd (omega arith)
-copy_at after t j g (b ∷ bs) zero h = (part_of t g Copy j 0 (block_of after b), refl, record { part = refl; turn = refl })
+copy_at after t j g (b ∷ bs) zero h = (
+  part_of t g Copy j 0 (block_of after b),
+  refl,
+  record { part = refl; turn = refl },
+)
 copy_at after t j g (b ∷ bs) (suc m) h = copy_at after t (j + 1) g bs m (omega arith)
 
-plain_at : (t : ℕ) (g : Origin) (cs : List Change) (m : ℕ) → m < length cs → (y : Emitted) × (role : Role) × (slice_get (map (in_place_patch t g) cs) m ≡ Some y) × IsPart (InPlace role) t y
+plain_at : (t : ℕ) (g : Origin) (cs : List Change) (m : ℕ) → m < length cs → (y : Emitted) × (role : Role)
+    × (slice_get (map (in_place_patch t g) cs) m ≡ Some y) × IsPart (InPlace role) t y
 plain_at t g [] m h = absurd (omega arith)
 plain_at t g (c ∷ cs) zero h = (in_place_patch t g c, c.role, refl, record { part = refl; turn = refl })
 plain_at t g (c ∷ cs) (suc m) h = plain_at t g cs m (omega arith)
@@ -57,13 +65,15 @@ pub record HasParts (t j : ℕ) (targets : List ℕ) (changes : ℕ) (xs : List 
   pub commit_at : slice_get xs (length targets) ≡ Some commit
   pub commit_is : IsPart Commit t commit
   pub commit_place : commit.place ≡ place j 0 (0xC7 ∷ t ∷ length targets ∷ targets)
-  pub change : (m : ℕ) → m < changes → (y : Emitted) × (role : Role) × (slice_get xs (length targets + 1 + m) ≡ Some y) × IsPart (InPlace role) t y
+  pub change : (m : ℕ) → m < changes → (y : Emitted) × (role : Role) × (slice_get xs (length targets + 1 + m) ≡ Some y)
+      × IsPart (InPlace role) t y
   pub done : Emitted
   pub done_at : slice_get xs (length targets + 1 + changes) ≡ Some done
   pub done_is : IsPart Done t done
   pub done_place : done.place ≡ place j 0 (0xC8 ∷ [])
 
-pub parts_of : (after : Disk) (t j : ℕ) (g : Origin) (targets : List ℕ) (cs : List Change) → HasParts t j targets (length cs) (journal_patches after t j g targets cs)
+pub parts_of : (after : Disk) (t j : ℕ) (g : Origin) (targets : List ℕ) (cs : List Change)
+    → HasParts t j targets (length cs) (journal_patches after t j g targets cs)
 parts_of after t j g targets cs =
     let k : ℕ = length targets in
     let ps : List Emitted = copies after t (j + 1) g targets in
@@ -73,18 +83,26 @@ parts_of after t j g targets cs =
     let l1 : length ps ≡ k = length-copy after t (j + 1) g targets in
     let l2 : length ms ≡ length cs = length-map cs (in_place_patch t g) in
     let l3 : length (ms ++ (done ∷ [])) ≡ length ms + length (done ∷ []) = length-append ms (done ∷ []) in
-    let l4 : length (ps ++ (commit ∷ (ms ++ (done ∷ [])))) ≡ length ps + length (commit ∷ (ms ++ (done ∷ []))) = length-append ps (commit ∷ (ms ++ (done ∷ []))) in
+    let l4 : length (ps ++ (commit ∷ (ms ++ (done ∷ [])))) ≡ length ps + length (commit ∷ (ms ++ (done ∷ []))) =
+    length-append ps (commit ∷ (ms ++ (done ∷ []))) in
     record {
       long = omega arith;
-      copy = λ m h. let y = copy_at after t (j + 1) g targets m h in (y.0, get-left ps (commit ∷ (ms ++ (done ∷ []))) m y.0 y.1, y.2);
+      copy = λ m h. let y = copy_at after t (j + 1) g targets m h in
+          (y.0, get-left ps (commit ∷ (ms ++ (done ∷ []))) m y.0 y.1, y.2);
       commit = commit;
       commit_at = get-right ps (commit ∷ (ms ++ (done ∷ []))) 0 k (omega arith);
       commit_is = record { part = refl; turn = refl };
       commit_place = refl;
-      change = λ m h. let y = plain_at t g cs m h in
-          (y.0, y.1, get-right ps (commit ∷ (ms ++ (done ∷ []))) (suc m) (k + 1 + m) (omega arith) ∙ get-left ms (done ∷ []) m y.0 y.2, y.3);
+      change = λ m h. let y = plain_at t g cs m h in (
+        y.0,
+        y.1,
+        get-right ps (commit ∷ (ms ++ (done ∷ []))) (suc m) (k + 1 + m) (omega arith)
+            ∙ get-left ms (done ∷ []) m y.0 y.2,
+        y.3,
+      );
       done = done;
-      done_at = get-right ps (commit ∷ (ms ++ (done ∷ []))) (suc (length cs)) (k + 1 + length cs) (omega arith) ∙ get-right ms (done ∷ []) 0 (length cs) (omega arith);
+      done_at = get-right ps (commit ∷ (ms ++ (done ∷ []))) (suc (length cs)) (k + 1 + length cs) (omega arith)
+          ∙ get-right ms (done ∷ []) 0 (length cs) (omega arith);
       done_is = record { part = refl; turn = refl };
       done_place = refl;
     }
@@ -104,9 +122,11 @@ same_test t = grind (arith, tests)
 
 -- a rule of the journal orders part a of operation s and part b of operation t
 abbrev is_row : Part → ℕ → Part → ℕ → Bool
-is_row a s b t = list_any (λ (rule : Rule). has_part rule.later a && (has_part rule.earlier b && are_scoped rule.scope s t)) journal_rules
+is_row a s b t = list_any (λ (rule : Rule). has_part rule.later a
+    && (has_part rule.earlier b && are_scoped rule.scope s t)) journal_rules
 
-pub by_row : (links : List (List ℕ × List ℕ)) (x y : Emitted) (a b : Part) (s t : ℕ) → IsPart a s x → IsPart b t y → is_row a s b t ≡ true → depends journal_rules links x y ≡ true
+pub by_row : (links : List (List ℕ × List ℕ)) (x y : Emitted) (a b : Part) (s t : ℕ) → IsPart a s x → IsPart b t y
+    → is_row a s b t ≡ true → depends journal_rules links x y ≡ true
 by_row links x y a b s t p q h =
     or_right (overlap x.place y.place || groups_depend links x y) (list_any (λ rule. applies rule x y) journal_rules)
     (ap (λ (m : Part). is_row m x.turn y.part y.turn) p.part ∙ ap (λ (m : ℕ). is_row a m y.part y.turn) p.turn
@@ -118,14 +138,19 @@ shared j t k targets =
     let e : nat_lt 0 (0 + suc (suc (suc (length targets)))) ≡ true = grind (arith, tests) in
     rw (same_test j, e) refl
 
-pub by_header : (links : List (List ℕ × List ℕ)) (x y : Emitted) (j t k : ℕ) (targets : List ℕ) → x.place ≡ place j 0 (0xC8 ∷ []) → y.place ≡ place j 0 (0xC7 ∷ t ∷ k ∷ targets) → depends journal_rules links x y ≡ true
+pub by_header : (links : List (List ℕ × List ℕ)) (x y : Emitted) (j t k : ℕ) (targets : List ℕ)
+    → x.place ≡ place j 0 (0xC8 ∷ []) → y.place ≡ place j 0 (0xC7 ∷ t ∷ k ∷ targets)
+    → depends journal_rules links x y ≡ true
 by_header links x y j t k targets p q =
-    or_left (overlap x.place y.place || groups_depend links x y) (list_any (λ rule. applies rule x y) journal_rules) (or_left (overlap x.place y.place) (groups_depend links x y)
-    (ap (λ (m : Place). overlap m y.place) p ∙ ap (λ (m : Place). overlap (place j 0 (0xC8 ∷ [])) m) q ∙ shared j t k targets))
+    or_left (overlap x.place y.place || groups_depend links x y) (list_any (λ rule. applies rule x y) journal_rules)
+    (or_left (overlap x.place y.place) (groups_depend links x y)
+    (ap (λ (m : Place). overlap m y.place) p ∙ ap (λ (m : Place). overlap (place j 0 (0xC8 ∷ [])) m) q
+    ∙ shared j t k targets))
 
 -- ---- a closed set
 
-pub closed_log : (ops : List (Origin × List Change)) (n : ℕ) (all : List Emitted) (links : List (List ℕ × List ℕ)) (set : ℕ) (d : Disk) (id t j : ℕ) (c done : Bool) → IsClosedIn links all set
+pub closed_log : (ops : List (Origin × List Change)) (n : ℕ) (all : List Emitted) (links : List (List ℕ × List ℕ))
+    (set : ℕ) (d : Disk) (id t j : ℕ) (c done : Bool) → IsClosedIn links all set
     → ((i : ℕ) (y : Emitted) → slice_get (log_emitted n d t j ops) i ≡ Some y → slice_get all (id + i) ≡ Some y)
     → ((q : ℕ) (x : Emitted) → id ≤ q → slice_get all q ≡ Some x → IsPart Commit t x → has set q ≡ true → c ≡ true)
     → ((q : ℕ) (x : Emitted) → id ≤ q → slice_get all q ≡ Some x → IsPart Done t x → has set q ≡ true → done ≡ true)
@@ -146,29 +171,41 @@ closed_log (o ∷ ops) n all links set d id t j c done closed lies before_commit
       record {
         copied = λ held p from to.
             let y = parts.copy (p - id) (omega arith) in
-            let y_at : slice_get all p ≡ Some y.0 = ap (λ (m : ℕ). slice_get all m) (minus p id from) ∙ lie (p - id) y.0 y.1 in
-            closed (id + k) p parts.commit y.0 commit_at y_at to (by_row links parts.commit y.0 Commit Copy t t parts.commit_is y.2 (rw (same_test t) refl)) held;
+            let y_at : slice_get all p ≡ Some y.0 = ap (λ (m : ℕ). slice_get all m) (minus p id from)
+            ∙ lie (p - id) y.0 y.1 in
+            closed (id + k) p parts.commit y.0 commit_at y_at to
+            (by_row links parts.commit y.0 Commit Copy t t parts.commit_is y.2 (rw (same_test t) refl)) held;
         chained = before_commit (id + k) parts.commit (omega arith) commit_at parts.commit_is;
         after_commit = λ p from to held.
             let y = parts.change (p - (id + k + 1)) (omega arith) in
-            let y_at : slice_get all p ≡ Some y.0 = ap (λ (m : ℕ). slice_get all m) (minus_two p id k from) ∙ lie (k + 1 + (p - (id + k + 1))) y.0 y.2 in
-            closed p (id + k) y.0 parts.commit y_at commit_at from (by_row links y.0 parts.commit (InPlace y.1) Commit t t y.3 parts.commit_is (rw (same_test t) refl)) held;
+            let y_at : slice_get all p ≡ Some y.0 = ap (λ (m : ℕ). slice_get all m) (minus_two p id k from)
+            ∙ lie (k + 1 + (p - (id + k + 1))) y.0 y.2 in
+            closed p (id + k) y.0 parts.commit y_at commit_at from
+            (by_row links y.0 parts.commit (InPlace y.1) Commit t t y.3 parts.commit_is (rw (same_test t) refl))
+            held;
         done_last = λ held p from to. elim (here_or_after p (id + k) from) [
           | inl here ↦ subst (λ (m : ℕ). has set m ≡ true) (sym here)
-              (closed (id + k + 1 + length cs) (id + k) parts.done parts.commit done_at commit_at (omega arith) (by_header links parts.done parts.commit j t k targets parts.done_place parts.commit_place) held)
+              (closed (id + k + 1 + length cs) (id + k) parts.done parts.commit done_at commit_at (omega arith)
+              (by_header links parts.done parts.commit j t k targets parts.done_place parts.commit_place) held)
           | inr later ↦
               let y = parts.change (p - (id + k + 1)) (omega arith) in
-              let y_at : slice_get all p ≡ Some y.0 = ap (λ (m : ℕ). slice_get all m) (minus_two p id k later) ∙ lie (k + 1 + (p - (id + k + 1))) y.0 y.2 in
-              closed (id + k + 1 + length cs) p parts.done y.0 done_at y_at to (by_row links parts.done y.0 Done (InPlace y.1) t t parts.done_is y.3 (rw (same_test t) refl)) held
+              let y_at : slice_get all p ≡ Some y.0 = ap (λ (m : ℕ). slice_get all m) (minus_two p id k later)
+              ∙ lie (k + 1 + (p - (id + k + 1))) y.0 y.2 in
+              closed (id + k + 1 + length cs) p parts.done y.0 done_at y_at to
+              (by_row links parts.done y.0 Done (InPlace y.1) t t parts.done_is y.3 (rw (same_test t) refl)) held
         ];
         done_chained = before_done (id + k + 1 + length cs) parts.done (omega arith) done_at parts.done_is;
       },
-      closed_log ops n all links set d' (id + k + 1 + length cs + 1) (t + 1) (j + 1 + k) (has set (id + k)) (has set (id + k + 1 + length cs)) closed
+      closed_log ops n all links set d' (id + k + 1 + length cs + 1) (t + 1) (j + 1 + k) (has set (id + k))
+          (has set (id + k + 1 + length cs)) closed
           (λ i y h. let long : length xs ≡ k + 1 + length cs + 1 = parts.long in
           ap (λ (m : ℕ). slice_get all m) (plus_all id k (length cs) i)
           ∙ lies (k + 1 + length cs + 1 + i) y (get-right xs rest i (k + 1 + length cs + 1 + i) (omega arith) ∙ h))
-          (λ q x from at is held. closed q (id + k) x parts.commit at commit_at (omega arith) (by_row links x parts.commit Commit Commit (t + 1) t is parts.commit_is (rw (same_test (t + 1)) refl)) held)
-          (λ q x from at is held. closed q (id + k + 1 + length cs) x parts.done at done_at (omega arith) (by_row links x parts.done Done Done (t + 1) t is parts.done_is (rw (same_test (t + 1)) refl)) held),
+          (λ q x from at is held. closed q (id + k) x parts.commit at commit_at (omega arith)
+          (by_row links x parts.commit Commit Commit (t + 1) t is parts.commit_is (rw (same_test (t + 1)) refl))
+          held)
+          (λ q x from at is held. closed q (id + k + 1 + length cs) x parts.done at done_at (omega arith)
+          (by_row links x parts.done Done Done (t + 1) t is parts.done_is (rw (same_test (t + 1)) refl)) held),
     )
   where
     plus : (id k m : ℕ) → id + k + 1 + m ≡ id + (k + 1 + m)

@@ -17,21 +17,30 @@ use Rattle.full_journal_laws.specs.Full.{IsFullSafe}
 use Rattle.full_journal_laws.proofs.Kept.{strictly_clean}
 
 -- what replay leaves is clean, whatever the checker is told
-safe_is_clean : (strict : Bool) (kept : Option ℕ) (base : Disk) (steps : List Step) (patches : List Patch) → IsDisk base → IsToldKept strict base steps kept
-    → IsFullSafe base steps patches → (set : ℕ) → IsClosed (deps_of patches) set → IsCleanUnder kept (image_after_replay (image_of base patches set))
-safe_is_clean strict None base steps patches disk told safe set closed = record { faultless = (safe.2 set closed).sound.clean.faultless }
-safe_is_clean strict (Some kept) base steps patches disk told safe set closed = strictly_clean base steps safe.0 patches set kept disk told.1 (safe.2 set closed)
+safe_is_clean : (strict : Bool) (kept : Option ℕ) (base : Disk) (steps : List Step) (patches : List Patch) → IsDisk base
+    → IsToldKept strict base steps kept
+    → IsFullSafe base steps patches → (set : ℕ) → IsClosed (deps_of patches) set
+    → IsCleanUnder kept (image_after_replay (image_of base patches set))
+safe_is_clean strict None base steps patches disk told safe set closed =
+    record { faultless = (safe.2 set closed).sound.clean.faultless }
+safe_is_clean strict (Some kept) base steps patches disk told safe set closed =
+    strictly_clean base steps safe.0 patches set kept disk told.1 (safe.2 set closed)
 
 -- the list of the failing sets is empty
-pub none-failing : (strict : Bool) (kept : Option ℕ) (base : Disk) (steps : List Step) (patches : List Patch) (sets : List ℕ) → IsDisk base
-    → IsToldKept strict base steps kept → IsFullSafe base steps patches → AreAllInOrder (IsFailingUnder kept base patches) sets → length sets ≡ 0
+pub none-failing : (strict : Bool) (kept : Option ℕ) (base : Disk) (steps : List Step) (patches : List Patch)
+    (sets : List ℕ) → IsDisk base
+    → IsToldKept strict base steps kept → IsFullSafe base steps patches
+    → AreAllInOrder (IsFailingUnder kept base patches) sets → length sets ≡ 0
 none-failing strict kept base steps patches [] disk told safe are = refl
 none-failing strict kept base steps patches (set ∷ sets) disk told safe are =
-    let failing : IsFailingUnder kept base patches set = (are.exactly set).0 (Contains-get_or (set ∷ sets) 0 0 (omega arith)) in
+    let failing : IsFailingUnder kept base patches set = (are.exactly set).0
+    (Contains-get_or (set ∷ sets) 0 0 (omega arith)) in
     absurd (failing.unclean (safe_is_clean strict kept base steps patches disk told safe set failing.closed))
 
 -- a journal that stays is as zero as it was
-pub zero-kept : (old new : Disk) → new.journal ≡ old.journal → HasSameJournal old new → HasZeroJournal old → HasZeroJournal new
+pub zero-kept : (old new : Disk) → new.journal ≡ old.journal → HasSameJournal old new → HasZeroJournal old
+    → HasZeroJournal new
 zero-kept old new size same zeros block low high offset less =
     let high_old : block < 4 + old.journal = subst (λ (m : ℕ). block < 4 + m) size high in
-    sym (block-at new block offset less) ∙ ap (λ (xs : List ℕ). get_or xs offset 0) (same block low high_old) ∙ block-at old block offset less ∙ zeros block low high_old offset less
+    sym (block-at new block offset less) ∙ ap (λ (xs : List ℕ). get_or xs offset 0) (same block low high_old)
+    ∙ block-at old block offset less ∙ zeros block low high_old offset less

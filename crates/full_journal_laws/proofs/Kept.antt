@@ -1,8 +1,10 @@
 -- What is kept stays reached under the full journal.
-use Rattle.std.proofs.Common.{◌≡◌, ℕ, zero, suc, ◌+◌, ◌*◌, ◌-◌, ◌<◌, ◌≤◌, inl, inr, List, [], ◌∷◌, ◌++◌, take, get_or, Bool, true, false, ◌&&◌, ◌==◌, not, nat_lt, arith, refl, sym, ◌∙◌, ap, subst}
+use Rattle.std.proofs.Common.{◌≡◌, ℕ, zero, suc, ◌+◌, ◌*◌, ◌-◌, ◌<◌, ◌≤◌, inl, inr, List, [], ◌∷◌, ◌++◌, take, get_or}
+use Rattle.std.proofs.Common.{Bool, true, false, ◌&&◌, ◌==◌, not, nat_lt, arith, refl, sym, ◌∙◌, ap, subst}
 use Rattle.std.specs.Prelude.{Some}
 use Rattle.std.specs.List.{range_with_len}
-use Rattle.std.proofs.lemmas.Bool.{false≢true, cases_Bool, cases_lt, and_parts, and_right, eq-eqb, eqb-true, ltb-true, leb-true}
+use Rattle.std.proofs.lemmas.Bool.{false≢true, cases_Bool, cases_lt, and_parts, and_right, eq-eqb, eqb-true, ltb-true}
+use Rattle.std.proofs.lemmas.Bool.{leb-true}
 use Rattle.std.proofs.lemmas.List.Folds.{list_any_at}
 use Rattle.std.proofs.lemmas.List.FromFn.{length-range_with_len, get_or-range_with_len}
 use Rattle.patch_sets.specs.Sets.{has}
@@ -34,12 +36,14 @@ not_dead false live e is = absurd (false≢true is)
 
 module _ (d : Disk) (sound : IsSound d) where
   -- the entry at a place leads to its target
-  named-by : (dir k inode : ℕ) → k < 10 → is_entry d dir k ≡ true → target_of d dir k ≡ inode → is_named d dir inode ≡ true
+  named-by : (dir k inode : ℕ) → k < 10 → is_entry d dir k ≡ true → target_of d dir k ≡ inode
+      → is_named d dir inode ≡ true
   named-by dir k inode below used is =
       let at : get_or (range_with_len 0 10) k 0 ≡ 0 + k = get_or-range_with_len 0 10 k 0 below in
       let same : get_or (range_with_len 0 10) k 0 ≡ k = omega (arith, at) in
       list_any_at (λ j. leads_to d dir j inode) (range_with_len 0 10) k 0 (omega (arith, length-range_with_len 0 10))
-      (subst (λ (j : ℕ). leads_to d dir j inode ≡ true) (sym same) (rw (used, eq-eqb (target_of d dir k) inode is) refl))
+      (subst (λ (j : ℕ). leads_to d dir j inode ≡ true) (sym same)
+      (rw (used, eq-eqb (target_of d dir k) inode is) refl))
 
   -- each inode that its names lead to is reached
   all_reached : (n i : ℕ) → ReachedIn d n i → is_reached d i ≡ true
@@ -72,7 +76,8 @@ module _ (d : Disk) (sound : IsSound d) where
     where
       data_zero : is_data d 0 ≡ false
       data_zero = elim (cases_Bool (is_data d 0)) [
-        | inl is ↦ absurd (let low : 4 + d.journal ≤ 0 = leb-true (4 + d.journal) 0 (and_parts _ (nat_lt 0 d.blocks) is).0 in omega arith)
+        | inl is ↦ absurd (let low : 4 + d.journal ≤ 0 = leb-true (4 + d.journal) 0
+            (and_parts _ (nat_lt 0 d.blocks) is).0 in omega arith)
         | inr apart ↦ apart
       ]
 
@@ -118,25 +123,32 @@ stays_after k d (x ∷ xs) i is =
 
 -- ---- inodes stand outside the journal
 
-kind_in_block : (d : Disk) (i block offset : ℕ) → offset < 128 → 128 * block + offset ≡ 256 + 16 * i → kind_of d i ≡ get_or (block_of d block) offset 0
-kind_in_block d i block offset less at = ap (λ (m : ℕ). get_or d.bytes m 0) (sym at) ∙ sym (block-at d block offset less)
+kind_in_block : (d : Disk) (i block offset : ℕ) → offset < 128 → 128 * block + offset ≡ 256 + 16 * i
+    → kind_of d i ≡ get_or (block_of d block) offset 0
+kind_in_block d i block offset less at = ap (λ (m : ℕ). get_or d.bytes m 0) (sym at)
+    ∙ sym (block-at d block offset less)
 
-same_kind : (d e : Disk) (i : ℕ) → i < 16 → block_of d 2 ≡ block_of e 2 → block_of d 3 ≡ block_of e 3 → kind_of d i ≡ kind_of e i
+same_kind : (d e : Disk) (i : ℕ) → i < 16 → block_of d 2 ≡ block_of e 2 → block_of d 3 ≡ block_of e 3
+    → kind_of d i ≡ kind_of e i
 same_kind d e i below two three = elim (cases_lt i 8) [
   | inl low ↦ kind_in_block d i 2 (16 * i) (omega arith) (omega arith)
-      ∙ (ap (λ (xs : List ℕ). get_or xs (16 * i) 0) two ∙ sym (kind_in_block e i 2 (16 * i) (omega arith) (omega arith)))
+      ∙ (ap (λ (xs : List ℕ). get_or xs (16 * i) 0) two ∙ sym
+      (kind_in_block e i 2 (16 * i) (omega arith) (omega arith)))
   | inr high ↦ kind_in_block d i 3 (16 * i - 128) (omega arith) (omega arith)
-      ∙ (ap (λ (xs : List ℕ). get_or xs (16 * i - 128) 0) three ∙ sym (kind_in_block e i 3 (16 * i - 128) (omega arith) (omega arith)))
+      ∙ (ap (λ (xs : List ℕ). get_or xs (16 * i - 128) 0) three
+      ∙ sym (kind_in_block e i 3 (16 * i - 128) (omega arith) (omega arith)))
 ]
 
-same_live : (d e : Disk) (i : ℕ) → block_of d 2 ≡ block_of e 2 → block_of d 3 ≡ block_of e 3 → is_live e i ≡ true → is_live d i ≡ true
+same_live : (d e : Disk) (i : ℕ) → block_of d 2 ≡ block_of e 2 → block_of d 3 ≡ block_of e 3 → is_live e i ≡ true
+    → is_live d i ≡ true
 same_live d e i two three live =
     let below : i < 16 = ltb-true i 16 (and_parts _ (not (kind_of e i == 0)) live).0 in
     rw (same_kind d e i below two three) live
 
 -- ---- the whole
 
-pub strictly_clean : (base : Disk) (steps : List Step) (s : Tracing) (patches : List Patch) (set kept : ℕ) → IsDisk base → IsKept base steps kept
+pub strictly_clean : (base : Disk) (steps : List Step) (s : Tracing) (patches : List Patch) (set kept : ℕ) → IsDisk base
+    → IsKept base steps kept
     → IsRecovered base steps s patches set → IsCleanUnder (Some kept) (image_after_replay (image_of base patches set))
 strictly_clean base steps s patches set kept disk keeps recovered =
     let d : Disk = image_after_replay (image_of base patches set) in

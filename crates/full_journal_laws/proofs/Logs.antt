@@ -18,7 +18,8 @@ log_emitted n d t j (o ∷ ops) =
 
 -- a set that has what its members depend on by the rules of the journal
 abbrev pub IsClosedIn : List (List ℕ × List ℕ) → List Emitted → ℕ → Type 0
-IsClosedIn links emitted set = (q p : ℕ) (x y : Emitted) → slice_get emitted q ≡ Some x → slice_get emitted p ≡ Some y → p < q → depends journal_rules links x y ≡ true → has set q ≡ true → has set p ≡ true
+IsClosedIn links emitted set = (q p : ℕ) (x y : Emitted) → slice_get emitted q ≡ Some x → slice_get emitted p ≡ Some y
+    → p < q → depends journal_rules links x y ≡ true → has set q ≡ true → has set p ≡ true
 
 -- a sound disk of n blocks, jl of them the journal's
 pub record IsGood (n jl : ℕ) (d : Disk) : Type 0 where

@@ -1,5 +1,6 @@
 -- What the plan of an operation keeps on a sound disk.
-use Rattle.std.proofs.Common.{◌≡◌, ℕ, zero, suc, ◌+◌, ◌<◌, ◌≤◌, ◌⊎◌, inl, inr, List, [], ◌∷◌, length, Bool, true, false, cond, Ok, arith, tests, refl, ◌∙◌, subst}
+use Rattle.std.proofs.Common.{◌≡◌, ℕ, zero, suc, ◌+◌, ◌<◌, ◌≤◌, ◌⊎◌, inl, inr, List, [], ◌∷◌, length, Bool, true, false}
+use Rattle.std.proofs.Common.{cond, Ok, arith, tests, refl, ◌∙◌, subst}
 use Rattle.std.specs.Prelude.{◌==◌}
 use Rattle.std.specs.List.{filter, list_any, range_with_len}
 use Rattle.crash_model.specs.Disk.{Disk}
@@ -20,16 +21,22 @@ use Rattle.full_journal_laws.proofs.Targets.{any_filtered}
 -- ---- how many blocks changes touch
 
 -- what passes one test passes one of two others
-filter_split : (p q r : ℕ → Bool) (xs : List ℕ) → ((x : ℕ) → p x ≡ true → (q x ≡ true) ⊎ (r x ≡ true)) → length (filter p xs) ≤ length (filter q xs) + length (filter r xs)
+filter_split : (p q r : ℕ → Bool) (xs : List ℕ) → ((x : ℕ) → p x ≡ true → (q x ≡ true) ⊎ (r x ≡ true))
+    → length (filter p xs) ≤ length (filter q xs) + length (filter r xs)
 filter_split p q r [] h = omega arith
 filter_split p q r (x ∷ xs) h = go (p x) (q x) (r x) (h x) (filter_split p q r xs h)
   where
-    go : (a b c : Bool) → (a ≡ true → (b ≡ true) ⊎ (c ≡ true)) → length (filter p xs) ≤ length (filter q xs) + length (filter r xs)
-        → length (cond a (x ∷ filter p xs) (filter p xs)) ≤ length (cond b (x ∷ filter q xs) (filter q xs)) + length (cond c (x ∷ filter r xs) (filter r xs))
+    go : (a b c : Bool) → (a ≡ true → (b ≡ true) ⊎ (c ≡ true))
+        → length (filter p xs) ≤ length (filter q xs) + length (filter r xs)
+        → length (cond a (x ∷ filter p xs) (filter p xs)) ≤ length (cond b (x ∷ filter q xs) (filter q xs))
+        + length (cond c (x ∷ filter r xs) (filter r xs))
     go true true true k i = omega arith
     go true true false k i = omega arith
     go true false true k i = omega arith
-    go true false false k i = absurd (elim (k refl) [ inl e ↦ (let z : false ≡ true = e in cc) | inr e ↦ (let z : false ≡ true = e in cc) ])
+    go true false false k i = absurd (elim (k refl) [
+      | inl e ↦ (let z : false ≡ true = e in cc)
+      | inr e ↦ (let z : false ≡ true = e in cc)
+    ])
     go false true true k i = omega arith
     go false true false k i = omega arith
     go false false true k i = omega arith
@@ -45,11 +52,14 @@ none_behind c a (suc n) h = let f : (c == a) ≡ false = other c a h in rw f (no
 one_of_range : (c a n : ℕ) → length (filter (λ b. c == b) (range_with_len a n)) ≤ 1
 one_of_range c a zero = omega arith
 one_of_range c a (suc n) = elim (bool_is (c == a)) [
-  | inl here ↦ let at : c ≡ a = same_number c a here in let none : length (filter (λ b. c == b) (range_with_len (a + 1) n)) ≡ 0 = none_behind c (a + 1) n (omega arith) in rw here (omega arith)
+  | inl here ↦ let at : c ≡ a = same_number c a here in let none : length
+      (filter (λ b. c == b) (range_with_len (a + 1) n)) ≡ 0 = none_behind c (a + 1) n (omega arith) in
+      rw here (omega arith)
   | inr other ↦ rw other (one_of_range c (a + 1) n)
 ]
 
-touched_first : (c : Change) (cs : List Change) (b : ℕ) → list_any (λ (x : Change). x.block == b) (c ∷ cs) ≡ true → ((c.block == b) ≡ true) ⊎ (list_any (λ (x : Change). x.block == b) cs ≡ true)
+touched_first : (c : Change) (cs : List Change) (b : ℕ) → list_any (λ (x : Change). x.block == b) (c ∷ cs) ≡ true
+    → ((c.block == b) ≡ true) ⊎ (list_any (λ (x : Change). x.block == b) cs ≡ true)
 touched_first c cs b h = elim (bool_is (c.block == b)) [ inl t ↦ inl t | inr f ↦ inr (rw f at h) ]
 
 none_touched : (xs : List ℕ) → length (filter (λ b. list_any (λ (c : Change). c.block == b) []) xs) ≡ 0
@@ -60,14 +70,16 @@ none_touched (x ∷ xs) = none_touched xs
 pub touched_few : (n : ℕ) (cs : List Change) → length (touched_blocks n cs) ≤ length cs
 touched_few n [] = let none : length (touched_blocks n []) ≡ 0 = none_touched (range_with_len 0 n) in omega arith
 touched_few n (c ∷ cs) =
-    let split = filter_split (λ b. list_any (λ (x : Change). x.block == b) (c ∷ cs)) (λ b. c.block == b) (λ b. list_any (λ (x : Change). x.block == b) cs) (range_with_len 0 n) (touched_first c cs) in
+    let split = filter_split (λ b. list_any (λ (x : Change). x.block == b) (c ∷ cs)) (λ b. c.block == b)
+    (λ b. list_any (λ (x : Change). x.block == b) cs) (range_with_len 0 n) (touched_first c cs) in
     let one = one_of_range c.block 0 n in
     let rest : length (touched_blocks n cs) ≤ length cs = touched_few n cs in
     omega arith
 
 -- and one at least
 pub touched_some : (n : ℕ) (c : Change) (cs : List Change) → c.block < n → 1 ≤ length (touched_blocks n (c ∷ cs))
-touched_some n c cs below = some (touched_blocks n (c ∷ cs)) (any_filtered (λ x. list_any (λ (y : Change). y.block == x) (c ∷ cs)) 0 n c.block (omega arith) (omega arith) here)
+touched_some n c cs below = some (touched_blocks n (c ∷ cs))
+    (any_filtered (λ x. list_any (λ (y : Change). y.block == x) (c ∷ cs)) 0 n c.block (omega arith) (omega arith) here)
   where
     same : (x : ℕ) → (x == x) ≡ true
     same x = grind (arith, tests)
@@ -82,7 +94,10 @@ touched_some n c cs below = some (touched_blocks n (c ∷ cs)) (any_filtered (λ
 -- ---- where they lie
 
 lands-target : (d : Disk) (c : Change) → Lands d c → is_target d c.block ≡ true
-lands-target d c l = elim l.spares [ inl low ↦ low_target d c.block l.behind low | inr high ↦ high_target d c.block high l.block ]
+lands-target d c l = elim l.spares [
+  | inl low ↦ low_target d c.block l.behind low
+  | inr high ↦ high_target d c.block high l.block
+]
   where
     low_target : (d : Disk) (b : ℕ) → 0 < b → b < 4 → is_target d b ≡ true
     low_target d b from to = grind (arith, tests)
@@ -96,25 +111,41 @@ all-aimed d (c ∷ cs) all = (lands-target d c all.0, all-aimed d cs all.1)
 
 all-placed : (n : ℕ) (d : Disk) (cs : List Change) → d.blocks ≡ n → AllLand d cs → ArePlaced n (change_places cs)
 all-placed n d [] e all = tt
-all-placed n d (c ∷ cs) e all = (record { inside = all.0.range; known = subst (λ (m : ℕ). c.block < m) e all.0.block }, all-placed n d cs e all.1)
+all-placed n d (c ∷ cs) e all = (
+  record { inside = all.0.range; known = subst (λ (m : ℕ). c.block < m) e all.0.block },
+  all-placed n d cs e all.1,
+)
 
-all-some : (n : ℕ) (d : Disk) (cs : List Change) → d.blocks ≡ n → 1 ≤ length cs → AllLand d cs → 1 ≤ length (touched_blocks n cs)
+all-some : (n : ℕ) (d : Disk) (cs : List Change) → d.blocks ≡ n → 1 ≤ length cs → AllLand d cs
+    → 1 ≤ length (touched_blocks n cs)
 all-some n d [] e some all = absurd (omega arith)
 all-some n d (c ∷ cs) e some all = touched_some n c cs (subst (λ (m : ℕ). c.block < m) e all.0.block)
 
 -- ---- the plan of an operation
 
-module _ (n jl : ℕ) (d : Disk) (op : Op) (cs : List Change) (good : IsGood n jl d) (name : GivesName op) (is : plan_of d op ≡ Ok cs) where
+module _ (n jl : ℕ) (d : Disk) (op : Op) (cs : List Change) (good : IsGood n jl d) (name : GivesName op)
+    (is : plan_of d op ≡ Ok cs) where
   lands : AllLand d cs
   lands = plan-lands d op cs good.disk name is
 
   pub plan-good : IsGood n jl (with_changes d cs)
   plan-good =
       let size = with_changes-size d cs in
-      record { blocks = size.0 ∙ good.blocks; journal = size.1 ∙ good.journal; disk = with_changes-disk d cs good.disk lands; sound = plan-keeps d op cs good.disk good.sound name is }
+      record {
+        blocks = size.0 ∙ good.blocks;
+        journal = size.1 ∙ good.journal;
+        disk = with_changes-disk d cs good.disk lands;
+        sound = plan-keeps d op cs good.disk good.sound name is;
+      }
 
   pub plan-turn : (j : ℕ) → j + 1 + length (touched_blocks n cs) ≤ 4 + jl → IsTurn n jl d j cs
   plan-turn j room =
       let count = plan-count d op cs is in
       let few : length (touched_blocks n cs) ≤ length cs = touched_few n cs in
-      record { placed = all-placed n d cs good.blocks lands; aimed = all-aimed d cs lands; some = all-some n d cs good.blocks count.0 lands; few = omega (arith, few, count.1); room = room }
+      record {
+        placed = all-placed n d cs good.blocks lands;
+        aimed = all-aimed d cs lands;
+        some = all-some n d cs good.blocks count.0 lands;
+        few = omega (arith, few, count.1);
+        room = room;
+      }

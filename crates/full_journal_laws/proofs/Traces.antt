@@ -1,11 +1,14 @@
 -- What a trace under the full journal emits is a log.
-use Rattle.std.proofs.Common.{◌≡◌, ℕ, ◌+◌, ◌≤◌, inl, inr, List, [], ◌∷◌, ◌++◌, length, map, Bool, true, false, nat_lt, not, ◌||◌, Option, Some, None, Result, Ok, Err, append-nil, append_assoc, arith, tests, refl, sym, ◌∙◌, ap, subst}
+use Rattle.std.proofs.Common.{◌≡◌, ℕ, ◌+◌, ◌≤◌, inl, inr, List, [], ◌∷◌, ◌++◌, length, map, Bool, true, false, nat_lt}
+use Rattle.std.proofs.Common.{not, ◌||◌, Option, Some, None, Result, Ok, Err, append-nil, append_assoc, arith, tests}
+use Rattle.std.proofs.Common.{refl, sym, ◌∙◌, ap, subst}
 use Rattle.std.specs.Prelude.{All, is_some, bytes_eq}
 use Rattle.std.specs.List.{list_any}
 use Rattle.std.proofs.lemmas.List.Elements.{All-nil, All-cons, All-head, All-tail}
 use Rattle.crash_model.specs.Disk.{Disk}
 use Rattle.crash_model.specs.Plan.{then_ok, unless, with_found, plan_of, with_changes}
-use Rattle.crash_model.specs.Trace.{Emitted, Origin, origin_at, Tracing, trace_from, step, trace_of_plan, journal_patches, touched_blocks, is_among, is_same_group}
+use Rattle.crash_model.specs.Trace.{Emitted, Origin, origin_at, Tracing, trace_from, step, trace_of_plan}
+use Rattle.crash_model.specs.Trace.{journal_patches, touched_blocks, is_among, is_same_group}
 use Rattle.crash_model.specs.Refusals.{trace_fault}
 use Rattle.crash_model.specs.declared.operations.Op.{Op}
 use Rattle.crash_model.specs.declared.refusals.FsFault.{FsFault}
@@ -43,12 +46,14 @@ no_ok e r x p h = cc
 
 -- what is known of the steps after a step
 abbrev IsRest : ℕ → ℕ → List Step → Tracing → Type 0
-IsRest n jl xs r = (next : Tracing) → IsGood n jl next.disk → trace_from Full next xs ≡ Ok r → IsLogged n jl (ops_of xs) next r
+IsRest n jl xs r = (next : Tracing) → IsGood n jl next.disk → trace_from Full next xs ≡ Ok r
+    → IsLogged n jl (ops_of xs) next r
 
 -- an operation
 operation : (n jl : ℕ) (line : ℕ) (s r : Tracing) (xs : List Step) (op : Op) (plan : Result (List Change) FsFault)
     → IsGood n jl s.disk → GivesName op → plan_of s.disk op ≡ plan → IsRest n jl xs r
-    → then_ok (trace_of_plan Full line op s plan) (λ next. trace_from Full next xs) ≡ Ok r → IsLogged n jl (op ∷ ops_of xs) s r
+    → then_ok (trace_of_plan Full line op s plan) (λ next. trace_from Full next xs) ≡ Ok r
+    → IsLogged n jl (op ∷ ops_of xs) s r
 operation n jl line s r xs op (Err e) good name is rest h = absurd (no_ok (trace_fault line e) r _ refl h)
 operation n jl line s r xs op (Ok cs) good name is rest h =
     let after : Disk = with_changes s.disk cs in
@@ -68,16 +73,22 @@ operation n jl line s r xs op (Ok cs) good name is rest h =
         | inr few ↦
             let h' : trace_from Full next xs ≡ Ok r = rw (room, few) at h in
             let ih : IsLogged n jl (ops_of xs) next r = rest next (plan-good n jl s.disk op cs good name is) h' in
-            let here : free ≡ s.journal + 1 + k = ap (λ (m : ℕ). s.journal + (1 + length (touched_blocks m cs))) bs ∙ plus s.journal k in
+            let here : free ≡ s.journal + 1 + k = ap (λ (m : ℕ). s.journal + (1 + length (touched_blocks m cs))) bs
+            ∙ plus s.journal k in
             let fits : free ≤ 4 + s.disk.journal = within free (4 + s.disk.journal) room in
             record {
               changes = (origin, cs) ∷ ih.changes;
               plans = (is, ih.plans);
               emits = ih.emits
                   ∙ append_assoc s.emitted more (log_emitted n after (s.turn + 1) free ih.changes)
-                  ∙ ap (λ (m : ℕ). s.emitted ++ (journal_patches after s.turn s.journal origin (touched_blocks m cs) cs ++ log_emitted n after (s.turn + 1) free ih.changes)) ba
-                  ∙ ap (λ (m : ℕ). s.emitted ++ (journal_patches after s.turn s.journal origin (touched_blocks n cs) cs ++ log_emitted n after (s.turn + 1) m ih.changes)) here;
-              log = (plan-turn n jl s.disk op cs good name is s.journal (omega arith), subst (λ (m : ℕ). IsLog n jl after m (changes_of ih.changes)) here ih.log);
+                  ∙ ap (λ (m : ℕ). s.emitted ++ (journal_patches after s.turn s.journal origin (touched_blocks m cs) cs
+                  ++ log_emitted n after (s.turn + 1) free ih.changes)) ba
+                  ∙ ap (λ (m : ℕ). s.emitted ++ (journal_patches after s.turn s.journal origin (touched_blocks n cs) cs
+                  ++ log_emitted n after (s.turn + 1) m ih.changes)) here;
+              log = (
+                plan-turn n jl s.disk op cs good name is s.journal (omega arith),
+                subst (λ (m : ℕ). IsLog n jl after m (changes_of ih.changes)) here ih.log,
+              );
             }
       ]
     ]
@@ -89,7 +100,8 @@ operation n jl line s r xs op (Ok cs) good name is rest h =
     within a b h = grind (arith, tests)
 
 -- from a state with the same disk and patches, at the same turn and journal block
-same_log : (n jl : ℕ) (ops : List Op) (s next r : Tracing) → next.disk ≡ s.disk → next.emitted ≡ s.emitted → next.turn ≡ s.turn → next.journal ≡ s.journal → IsLogged n jl ops next r → IsLogged n jl ops s r
+same_log : (n jl : ℕ) (ops : List Op) (s next r : Tracing) → next.disk ≡ s.disk → next.emitted ≡ s.emitted
+    → next.turn ≡ s.turn → next.journal ≡ s.journal → IsLogged n jl ops next r → IsLogged n jl ops s r
 same_log n jl ops s next r d e t j ih = record {
   changes = ih.changes;
   plans = subst (λ (x : Disk). ArePlans x ops (changes_of ih.changes)) d ih.plans;
@@ -98,7 +110,8 @@ same_log n jl ops s next r d e t j ih = record {
       ∙ ap (λ (x : Disk). s.emitted ++ log_emitted n x next.turn next.journal ih.changes) d
       ∙ ap (λ (x : ℕ). s.emitted ++ log_emitted n s.disk x next.journal ih.changes) t
       ∙ ap (λ (x : ℕ). s.emitted ++ log_emitted n s.disk s.turn x ih.changes) j;
-  log = subst (λ (x : ℕ). IsLog n jl s.disk x (changes_of ih.changes)) j (subst (λ (x : Disk). IsLog n jl x next.journal (changes_of ih.changes)) d ih.log);
+  log = subst (λ (x : ℕ). IsLog n jl s.disk x (changes_of ih.changes)) j
+      (subst (λ (x : Disk). IsLog n jl x next.journal (changes_of ih.changes)) d ih.log);
 }
 
 -- a step that refuses by a test
@@ -108,17 +121,22 @@ on_test : (n jl : ℕ) (b : Bool) (e : TraceFault) (ops : List Op) (s next r : T
 on_test n jl true e ops s next r xs rest h = absurd (no_ok e r _ refl h)
 on_test n jl false e ops s next r xs rest h = rest h
 
-on_end : (n jl : ℕ) (line : ℕ) (s r : Tracing) (xs : List Step) (open_group : Option (List ℕ)) → IsGood n jl s.disk → IsRest n jl xs r
-    → then_ok (with_found open_group (fault.GroupFault line) (λ a. Ok (record s { current = None; ended = s.ended ++ a ∷ [] })))
+on_end : (n jl : ℕ) (line : ℕ) (s r : Tracing) (xs : List Step) (open_group : Option (List ℕ)) → IsGood n jl s.disk
+    → IsRest n jl xs r
+    → then_ok (with_found open_group (fault.GroupFault line)
+    (λ a. Ok (record s { current = None; ended = s.ended ++ a ∷ [] })))
     (λ next. trace_from Full next xs) ≡ Ok r → IsLogged n jl (ops_of xs) s r
 on_end n jl line s r xs None good rest h = absurd (no_ok (fault.GroupFault line) r _ refl h)
 on_end n jl line s r xs (Some a) good rest h =
     let next : Tracing = record s { current = None; ended = s.ended ++ a ∷ [] } in
     same_log n jl (ops_of xs) s next r refl refl refl refl (rest next good h)
 
-act_logged : (n jl : ℕ) (line : ℕ) (act : Act) (s r : Tracing) (xs : List Step) → IsGood n jl s.disk → All GivesName (ops_at act) → IsRest n jl xs r
-    → then_ok (step Full s line act) (λ next. trace_from Full next xs) ≡ Ok r → IsLogged n jl (ops_at act ++ ops_of xs) s r
-act_logged n jl line (Do op) s r xs good names rest h = operation n jl line s r xs op (plan_of s.disk op) good (All-head GivesName op [] names) refl rest h
+act_logged : (n jl : ℕ) (line : ℕ) (act : Act) (s r : Tracing) (xs : List Step) → IsGood n jl s.disk
+    → All GivesName (ops_at act) → IsRest n jl xs r
+    → then_ok (step Full s line act) (λ next. trace_from Full next xs) ≡ Ok r
+    → IsLogged n jl (ops_at act ++ ops_of xs) s r
+act_logged n jl line (Do op) s r xs good names rest h = operation n jl line s r xs op (plan_of s.disk op) good
+    (All-head GivesName op [] names) refl rest h
 act_logged n jl line (Group a) s r xs good names rest h =
     let next : Tracing = record s { current = Some a; opened = s.opened ++ a ∷ [] } in
     on_test n jl (is_some s.current || is_among a s.opened) (fault.GroupFault line) (ops_of xs) s next r xs
@@ -126,7 +144,8 @@ act_logged n jl line (Group a) s r xs good names rest h =
 act_logged n jl line End s r xs good names rest h = on_end n jl line s r xs s.current good rest h
 act_logged n jl line (Depend b a) s r xs good names rest h =
     let next : Tracing = record s { links = s.links ++ (b, a) ∷ [] } in
-    on_test n jl (not (is_among a s.ended) || bytes_eq b a || list_any (λ e. is_same_group e.origin.group b) s.emitted) (fault.GroupFault line) (ops_of xs) s next r xs
+    on_test n jl (not (is_among a s.ended) || bytes_eq b a || list_any (λ e. is_same_group e.origin.group b) s.emitted)
+    (fault.GroupFault line) (ops_of xs) s next r xs
     (λ e. same_log n jl (ops_of xs) s next r refl refl refl refl (rest next good e)) h
 
 all_split : (xs ys : List Op) → All GivesName (xs ++ ys) → All GivesName xs × All GivesName ys
@@ -135,10 +154,16 @@ all_split (x ∷ xs) ys all =
     let rest = all_split xs ys (All-tail GivesName x (xs ++ ys) all) in
     (All-cons GivesName x xs (All-head GivesName x (xs ++ ys) all) rest.0, rest.1)
 
-pub traced_logged : (n jl : ℕ) (steps : List Step) (s r : Tracing) → IsGood n jl s.disk → All GivesName (ops_of steps) → trace_from Full s steps ≡ Ok r → IsLogged n jl (ops_of steps) s r
+pub traced_logged : (n jl : ℕ) (steps : List Step) (s r : Tracing) → IsGood n jl s.disk → All GivesName (ops_of steps)
+    → trace_from Full s steps ≡ Ok r → IsLogged n jl (ops_of steps) s r
 traced_logged n jl [] s r good names h =
     let e : s ≡ r = cc in
-    record { changes = []; plans = tt; emits = ap (λ (m : Tracing). m.emitted) (sym e) ∙ sym (append-nil s.emitted); log = tt }
+    record {
+      changes = [];
+      plans = tt;
+      emits = ap (λ (m : Tracing). m.emitted) (sym e) ∙ sym (append-nil s.emitted);
+      log = tt;
+    }
 traced_logged n jl (x ∷ xs) s r good names h =
     let both = all_split (ops_at x.act) (ops_of xs) names in
     act_logged n jl x.line x.act s r xs good both.0 (λ next ok e. traced_logged n jl xs next r ok both.1 e) h

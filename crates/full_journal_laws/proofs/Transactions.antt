@@ -1,5 +1,6 @@
 -- Transactions of the full journal: their places, and what a closed set has of them.
-use Rattle.std.specs.Prelude.{◌≡◌, ℕ, ◌+◌, ◌≤◌, ◌<◌, List, [], ◌∷◌, ◌++◌, length, map, slice_index, Bool, true, if◌then◌else◌}
+use Rattle.std.specs.Prelude.{◌≡◌, ℕ, ◌+◌, ◌≤◌, ◌<◌, List, [], ◌∷◌, ◌++◌, length, map, slice_index, Bool, true}
+use Rattle.std.specs.Prelude.{if◌then◌else◌}
 use Rattle.crash_model.specs.Disk.{Disk, block_of}
 use Rattle.patch_sets.specs.Sets.{has}
 use Rattle.crash_model.specs.Patches.{Place, place, image_from}
@@ -34,19 +35,24 @@ log_places n d t j (cs ∷ ops) =
 
 -- ---- what a set has of it
 
--- Of a transaction that begins at id, with `copies` copies and `changes` changes. `committed` and `done` tell of the one before it.
+-- Of a transaction that begins at id, with `copies` copies and `changes` changes. `committed` and `done` tell of the
+-- one before it.
 pub record IsTurnClosed (id copies changes : ℕ) (committed done : Bool) (set : ℕ) : Type 0 where
   pub copied : has set (id + copies) ≡ true → (p : ℕ) → id ≤ p → p < id + copies → has set p ≡ true
   pub chained : has set (id + copies) ≡ true → committed ≡ true
-  pub after_commit : (p : ℕ) → id + copies < p → p < id + copies + 1 + changes → has set p ≡ true → has set (id + copies) ≡ true
-  pub done_last : has set (id + copies + 1 + changes) ≡ true → (p : ℕ) → id + copies ≤ p → p < id + copies + 1 + changes → has set p ≡ true
+  pub after_commit : (p : ℕ) → id + copies < p → p < id + copies + 1 + changes → has set p ≡ true
+      → has set (id + copies) ≡ true
+  pub done_last : has set (id + copies + 1 + changes) ≡ true → (p : ℕ) → id + copies ≤ p → p < id + copies + 1 + changes
+      → has set p ≡ true
   pub done_chained : has set (id + copies + 1 + changes) ≡ true → done ≡ true
 
 abbrev pub IsLogClosed : ℕ → ℕ → Bool → Bool → List (List Change) → ℕ → Type 0
 IsLogClosed n id committed done [] set = Unit {0}
 IsLogClosed n id committed done (cs ∷ ops) set =
     IsTurnClosed id (length (touched_blocks n cs)) (length cs) committed done set
-    × IsLogClosed n (id + length (touched_blocks n cs) + 1 + length cs + 1) (has set (id + length (touched_blocks n cs))) (has set (id + length (touched_blocks n cs) + 1 + length cs)) ops set
+    × IsLogClosed n (id + length (touched_blocks n cs) + 1 + length cs + 1)
+    (has set (id + length (touched_blocks n cs))) (has set (id + length (touched_blocks n cs) + 1 + length cs)) ops
+    set
 
 -- the disk after the operations whose commits the set has
 abbrev pub committed_disk : ℕ → Disk → ℕ → List (List Change) → ℕ → Disk
@@ -82,14 +88,19 @@ pub record IsTurn (n jl : ℕ) (d : Disk) (j : ℕ) (cs : List Change) : Type 0 
 
 abbrev pub IsLog : ℕ → ℕ → Disk → ℕ → List (List Change) → Type 0
 IsLog n jl d j [] = Unit {0}
-IsLog n jl d j (cs ∷ ops) = IsTurn n jl d j cs × IsLog n jl (with_changes d cs) (j + 1 + length (touched_blocks n cs)) ops
+IsLog n jl d j (cs ∷ ops) = IsTurn n jl d j cs × IsLog n jl (with_changes d cs) (j + 1 + length (touched_blocks n cs))
+    ops
 
 -- the block after replay
 abbrev pub replayed_block : Disk → ℕ → ℕ → ℕ → ℕ → ℕ → List ℕ
 replayed_block d most j t b found = block_of d (copy_after d b found (headers_from most d j t))
 
--- Of a sound disk whose journal is zero, each block outside the journal is after replay as the committed operations left it.
+-- Of a sound disk whose journal is zero, each block outside the journal is after replay as the committed operations
+-- left it.
 abbrev pub LogSafe : Type 0
-LogSafe = (ops : List (List Change)) (n jl : ℕ) (d : Disk) (set b : ℕ) → IsShaped n jl d → 4 + jl ≤ n → IsLog n jl d 4 ops
-    → IsLogClosed n 0 true true ops set → ((x : ℕ) → 4 ≤ x → x < 4 + jl → slice_index (block_of d x) 0 ≡ 0) → IsOutside jl b → b < n
-    → replayed_block (image_from 0 d (log_places n d 1 4 ops) set) jl 4 1 b b ≡ block_of (committed_disk n d 0 ops set) b
+LogSafe = (ops : List (List Change)) (n jl : ℕ) (d : Disk) (set b : ℕ) → IsShaped n jl d → 4 + jl ≤ n
+    → IsLog n jl d 4 ops
+    → IsLogClosed n 0 true true ops set → ((x : ℕ) → 4 ≤ x → x < 4 + jl → slice_index (block_of d x) 0 ≡ 0)
+    → IsOutside jl b → b < n
+    → replayed_block (image_from 0 d (log_places n d 1 4 ops) set) jl 4 1 b b ≡ block_of (committed_disk n d 0 ops set)
+    b

@@ -1,5 +1,7 @@
 -- What the patches of one transaction do to a disk.
-use Rattle.std.proofs.Common.{◌≡◌, ◌≢◌, ℕ, zero, suc, ◌+◌, ◌*◌, ◌<◌, ◌≤◌, ◌⊎◌, inl, inr, List, [], ◌∷◌, ◌++◌, length, take, drop, get_or, Bool, true, false, cond, nat_lt, nat_le, ◌&&◌, ◌||◌, Option, None, min, arith, tests, refl, sym, ◌∙◌, ap, subst}
+use Rattle.std.proofs.Common.{◌≡◌, ◌≢◌, ℕ, zero, suc, ◌+◌, ◌*◌, ◌<◌, ◌≤◌, ◌⊎◌, inl, inr, List, [], ◌∷◌, ◌++◌, length}
+use Rattle.std.proofs.Common.{take, drop, get_or, Bool, true, false, cond, nat_lt, nat_le, ◌&&◌, ◌||◌, Option, None}
+use Rattle.std.proofs.Common.{min, arith, tests, refl, sym, ◌∙◌, ap, subst}
 use Rattle.std.specs.Prelude.{unwrap_or, option_map, ◌==◌}
 use Rattle.std.specs.List.{list_all, position}
 use Rattle.std.proofs.lemmas.List.{length-append, length-map, length-take, take_at}
@@ -10,11 +12,13 @@ use Rattle.crash_model.specs.Plan.{with_changes}
 use Rattle.crash_model.specs.Trace.{touched_blocks}
 use Rattle.crash_model.specs.Replay.{is_header, copy_in, count_of, is_target, is_ascending}
 use Rattle.crash_model.specs.declared.plans.Change.{Change}
-use Rattle.full_journal_laws.proofs.Transactions.{IsPlaced, ArePlaced, IsTurn, IsTurnClosed, copy_places, change_places, turn_places, log_places, IsLog}
+use Rattle.full_journal_laws.proofs.Transactions.{IsPlaced, ArePlaced, IsTurn, IsTurnClosed, copy_places, change_places}
+use Rattle.full_journal_laws.proofs.Transactions.{turn_places, log_places, IsLog}
 use Rattle.full_journal_laws.specs.Full.{IsOutside}
 use Rattle.journal_replay.proofs.Blocks.{IsShaped, shaped-inside, length-block, overwrite-all, block-put_same}
 use Rattle.journal_replay.proofs.Targets.{bool_is, found_or_not, outside_apart}
-use Rattle.full_journal_laws.proofs.Images.{Avoid, with_places, image-append, image-none, image-all, shaped-with_bytes, shaped-image, shaped-all, kept-with_bytes, kept-image, kept-all, same-all}
+use Rattle.full_journal_laws.proofs.Images.{Avoid, with_places, image-append, image-none, image-all, shaped-with_bytes}
+use Rattle.full_journal_laws.proofs.Images.{shaped-image, shaped-all, kept-with_bytes, kept-image, kept-all, same-all}
 use Rattle.full_journal_laws.proofs.Targets.{touched_targets, touched_ascending, avoid_journal, avoid_untouched}
 
 -- What the patches of a set, of one transaction, make of disk e, where d is the disk that the operation was planned on.
@@ -32,7 +36,8 @@ pub record IsTurned (n jl : ℕ) (d e f : Disk) (t j : ℕ) (cs : List Change) (
   pub found : committed ≡ true → (b cur : ℕ) → b < n → IsOutside jl b
       → (done ≡ true → cur ≡ b) → ((cur ≡ b) ⊎ ((4 ≤ cur) × (cur < j))) → block_of e cur ≡ block_of d b
       → let now = unwrap_or (copy_in (block_of f j) j b) cur in
-      (done ≡ true → now ≡ b) × ((now ≡ b) ⊎ ((4 ≤ now) × (now < j + 1 + length (touched_blocks n cs)))) × (block_of f now ≡ block_of (with_changes d cs) b)
+      (done ≡ true → now ≡ b) × ((now ≡ b) ⊎ ((4 ≤ now) × (now < j + 1 + length (touched_blocks n cs))))
+      × (block_of f now ≡ block_of (with_changes d cs) b)
 
 -- ---- the places of a transaction
 
@@ -40,22 +45,29 @@ pub length-copies : (after : Disk) (j : ℕ) (bs : List ℕ) → length (copy_pl
 length-copies after j [] = refl
 length-copies after j (b ∷ bs) = ap suc (length-copies after (j + 1) bs)
 
-pub length-turn : (after : Disk) (t j : ℕ) (targets : List ℕ) (cs : List Change) → length (turn_places after t j targets cs) ≡ length targets + 1 + length cs + 1
+pub length-turn : (after : Disk) (t j : ℕ) (targets : List ℕ) (cs : List Change)
+    → length (turn_places after t j targets cs) ≡ length targets + 1 + length cs + 1
 length-turn after t j targets cs =
     let commit : Place = place j 0 (0xC7 ∷ t ∷ length targets ∷ targets) in
     let done : Place = place j 0 (0xC8 ∷ []) in
-    let e1 : length (copy_places after (j + 1) targets ++ (commit ∷ (change_places cs ++ (done ∷ [])))) ≡ length (copy_places after (j + 1) targets) + length (commit ∷ (change_places cs ++ (done ∷ []))) = length-append (copy_places after (j + 1) targets) (commit ∷ (change_places cs ++ (done ∷ []))) in
-    let e2 : length (change_places cs ++ (done ∷ [])) ≡ length (change_places cs) + length (done ∷ []) = length-append (change_places cs) (done ∷ []) in
+    let e1 : length (copy_places after (j + 1) targets ++ (commit ∷ (change_places cs ++ (done ∷ []))))
+    ≡ length (copy_places after (j + 1) targets) + length (commit ∷ (change_places cs ++ (done ∷ []))) =
+    length-append (copy_places after (j + 1) targets) (commit ∷ (change_places cs ++ (done ∷ []))) in
+    let e2 : length (change_places cs ++ (done ∷ [])) ≡ length (change_places cs) + length (done ∷ []) =
+    length-append (change_places cs) (done ∷ []) in
     let e3 : length (copy_places after (j + 1) targets) ≡ length targets = length-copies after (j + 1) targets in
-    let e4 : length (change_places cs) ≡ length cs = length-map cs (λ (c : Change). place c.block c.offset c.new.items) in
+    let e4 : length (change_places cs) ≡ length cs = length-map cs
+    (λ (c : Change). place c.block c.offset c.new.items) in
     omega arith
 
 pub with_changes-all : (d : Disk) (cs : List Change) → with_changes d cs ≡ with_places d (change_places cs)
 with_changes-all d [] = refl
 with_changes-all d (c ∷ cs) = with_changes-all (with_bytes d c.block c.offset c.new.items) cs
 
-pub shaped-with_changes : (n jl : ℕ) (d : Disk) (j : ℕ) (cs : List Change) → IsShaped n jl d → IsTurn n jl d j cs → IsShaped n jl (with_changes d cs)
-shaped-with_changes n jl d j cs s turn = subst (IsShaped n jl) (sym (with_changes-all d cs)) (shaped-all n jl d (change_places cs) s turn.placed)
+pub shaped-with_changes : (n jl : ℕ) (d : Disk) (j : ℕ) (cs : List Change) → IsShaped n jl d → IsTurn n jl d j cs
+    → IsShaped n jl (with_changes d cs)
+shaped-with_changes n jl d j cs s turn = subst (IsShaped n jl) (sym (with_changes-all d cs))
+    (shaped-all n jl d (change_places cs) s turn.placed)
 
 placed-append : (n : ℕ) (xs ys : List Place) → ArePlaced n xs → ArePlaced n ys → ArePlaced n (xs ++ ys)
 placed-append n [] ys p q = q
@@ -66,45 +78,68 @@ avoid-append x [] ys p q = q
 avoid-append x (y ∷ xs) ys p q = (p.0, avoid-append x xs ys p.1 q)
 
 row-fits : (d : Disk) (b : ℕ) → length (block_of d b) ≤ 128
-row-fits d b = let e : length (take 128 (drop (128 * b) d.bytes)) ≡ min 128 (length (drop (128 * b) d.bytes)) = length-take 128 (drop (128 * b) d.bytes) in omega arith
+row-fits d b = let e : length (take 128 (drop (128 * b) d.bytes)) ≡ min 128 (length (drop (128 * b) d.bytes)) =
+    length-take 128 (drop (128 * b) d.bytes) in omega arith
 
 placed-copies : (n : ℕ) (after : Disk) (j : ℕ) (bs : List ℕ) → j + length bs ≤ n → ArePlaced n (copy_places after j bs)
 placed-copies n after j [] h = tt
-placed-copies n after j (b ∷ bs) h = (record { inside = (let f : length (block_of after b) ≤ 128 = row-fits after b in omega arith); known = omega arith }, placed-copies n after (j + 1) bs (omega arith))
+placed-copies n after j (b ∷ bs) h = (
+  record {
+    inside =
+        (let f : length (block_of after b) ≤ 128 = row-fits after b in omega arith);
+    known = omega arith;
+  },
+  placed-copies n after (j + 1) bs (omega arith),
+)
 
-avoid-copies : (after : Disk) (j : ℕ) (bs : List ℕ) (x : ℕ) → (x < j) ⊎ (j + length bs ≤ x) → Avoid x (copy_places after j bs)
+avoid-copies : (after : Disk) (j : ℕ) (bs : List ℕ) (x : ℕ) → (x < j) ⊎ (j + length bs ≤ x)
+    → Avoid x (copy_places after j bs)
 avoid-copies after j [] x h = tt
-avoid-copies after j (b ∷ bs) x h = (grind arith, avoid-copies after (j + 1) bs x (elim h [ inl l ↦ inl (omega arith) | inr r ↦ inr (omega arith) ]))
+avoid-copies after j (b ∷ bs) x h = (
+  grind arith,
+  avoid-copies after (j + 1) bs x
+      (elim h [ inl l ↦ inl (omega arith) | inr r ↦ inr (omega arith) ]),
+)
 
 -- the places of a transaction are inside the disk
-pub placed-turn : (n jl : ℕ) (d after : Disk) (t j : ℕ) (cs : List Change) → 4 + jl ≤ n → IsTurn n jl d j cs → ArePlaced n (turn_places after t j (touched_blocks n cs) cs)
+pub placed-turn : (n jl : ℕ) (d after : Disk) (t j : ℕ) (cs : List Change) → 4 + jl ≤ n → IsTurn n jl d j cs
+    → ArePlaced n (turn_places after t j (touched_blocks n cs) cs)
 placed-turn n jl d after t j cs room turn =
     let fits : j + 1 + length (touched_blocks n cs) ≤ 4 + jl = turn.room in
     let few : length (touched_blocks n cs) ≤ 8 = turn.few in
-    placed-append n (copy_places after (j + 1) (touched_blocks n cs)) _ (placed-copies n after (j + 1) (touched_blocks n cs) (omega arith)) (
+    placed-append n (copy_places after (j + 1) (touched_blocks n cs))
+    _ (placed-copies n after (j + 1) (touched_blocks n cs) (omega arith)) (
       record { inside = omega arith; known = omega arith },
       placed-append n (change_places cs) _ turn.placed (record { inside = omega arith; known = omega arith }, tt),
     )
 
 -- and are not in other blocks of the journal than its own
-pub avoid-turn : (after : Disk) (t j : ℕ) (targets : List ℕ) (cs : List Change) (x : ℕ) → (x < j) ⊎ (j + 1 + length targets ≤ x) → Avoid x (change_places cs) → Avoid x (turn_places after t j targets cs)
+pub avoid-turn : (after : Disk) (t j : ℕ) (targets : List ℕ) (cs : List Change) (x : ℕ) → (x < j)
+    ⊎ (j + 1 + length targets ≤ x) → Avoid x (change_places cs) → Avoid x (turn_places after t j targets cs)
 avoid-turn after t j targets cs x h changes =
     let apart : x ≢ j = grind arith in
-    avoid-append x (copy_places after (j + 1) targets) _ (avoid-copies after (j + 1) targets x (elim h [ inl l ↦ inl (omega arith) | inr r ↦ inr (omega arith) ]))
+    avoid-append x (copy_places after (j + 1) targets) _ (avoid-copies after (j + 1) targets x
+    (elim h [ inl l ↦ inl (omega arith) | inr r ↦ inr (omega arith) ]))
     (apart, avoid-append x (change_places cs) _ changes (apart, tt))
 
-pub placed-log : (n jl : ℕ) (d : Disk) (t j : ℕ) (ops : List (List Change)) → IsShaped n jl d → 4 + jl ≤ n → 4 ≤ j → IsLog n jl d j ops → ArePlaced n (log_places n d t j ops)
+pub placed-log : (n jl : ℕ) (d : Disk) (t j : ℕ) (ops : List (List Change)) → IsShaped n jl d → 4 + jl ≤ n → 4 ≤ j
+    → IsLog n jl d j ops → ArePlaced n (log_places n d t j ops)
 placed-log n jl d t j [] s room least log = tt
 placed-log n jl d t j (cs ∷ ops) s room least log =
-    placed-append n (turn_places (with_changes d cs) t j (touched_blocks n cs) cs) _ (placed-turn n jl d (with_changes d cs) t j cs room log.0)
-    (placed-log n jl (with_changes d cs) (t + 1) (j + 1 + length (touched_blocks n cs)) ops (shaped-with_changes n jl d j cs s log.0) room (omega arith) log.1)
+    placed-append n (turn_places (with_changes d cs) t j (touched_blocks n cs) cs)
+    _ (placed-turn n jl d (with_changes d cs) t j cs room log.0)
+    (placed-log n jl (with_changes d cs) (t + 1) (j + 1 + length (touched_blocks n cs)) ops
+    (shaped-with_changes n jl d j cs s log.0) room (omega arith) log.1)
 
-pub avoid-log : (n jl : ℕ) (d : Disk) (t j x : ℕ) (ops : List (List Change)) → IsShaped n jl d → IsLog n jl d j ops → 4 ≤ x → x < j → x < 4 + jl → Avoid x (log_places n d t j ops)
+pub avoid-log : (n jl : ℕ) (d : Disk) (t j x : ℕ) (ops : List (List Change)) → IsShaped n jl d → IsLog n jl d j ops
+    → 4 ≤ x → x < j → x < 4 + jl → Avoid x (log_places n d t j ops)
 avoid-log n jl d t j x [] s log least below inside = tt
 avoid-log n jl d t j x (cs ∷ ops) s log least below inside =
     avoid-append x (turn_places (with_changes d cs) t j (touched_blocks n cs) cs) _
-    (avoid-turn (with_changes d cs) t j (touched_blocks n cs) cs x (inl below) (avoid_journal d jl cs x s.journal log.0.aimed least inside))
-    (avoid-log n jl (with_changes d cs) (t + 1) (j + 1 + length (touched_blocks n cs)) x ops (shaped-with_changes n jl d j cs s log.0) log.1 least (omega arith) inside)
+    (avoid-turn (with_changes d cs) t j (touched_blocks n cs) cs x (inl below)
+    (avoid_journal d jl cs x s.journal log.0.aimed least inside))
+    (avoid-log n jl (with_changes d cs) (t + 1) (j + 1 + length (touched_blocks n cs)) x ops
+    (shaped-with_changes n jl d j cs s log.0) log.1 least (omega arith) inside)
 
 -- ---- what a set has of a transaction
 
@@ -119,8 +154,10 @@ turn_open id e after t j targets cs before done set closed none_yet =
     let k : ℕ = length targets in
     let e1 : Disk = image_from id e (copy_places after (j + 1) targets) set in
     let long : length (copy_places after (j + 1) targets) ≡ k = length-copies after (j + 1) targets in
-    let more : length (change_places cs) ≡ length cs = length-map cs (λ (c : Change). place c.block c.offset c.new.items) in
-    let e2 : length (change_places cs ++ (last ∷ [])) ≡ length (change_places cs) + length (last ∷ []) = length-append (change_places cs) (last ∷ []) in
+    let more : length (change_places cs) ≡ length cs = length-map cs
+    (λ (c : Change). place c.block c.offset c.new.items) in
+    let e2 : length (change_places cs ++ (last ∷ [])) ≡ length (change_places cs) + length (last ∷ []) =
+    length-append (change_places cs) (last ∷ []) in
     image-append id e (copy_places after (j + 1) targets) rest set (id + k) (omega arith)
     ∙ image-none (id + k) e1 rest set (λ q from to. elim (bool_is (has set q)) [
       | inr f ↦ f
@@ -128,7 +165,8 @@ turn_open id e after t j targets cs before done set closed none_yet =
         | inl here ↦ let z : has set (id + k) ≡ true = subst (λ (m : ℕ). has set m ≡ true) here t in absurd (cc)
         | inr rest ↦ elim rest [
           | inl mid ↦ let z : has set (id + k) ≡ true = closed.after_commit q mid.0 mid.1 t in absurd (cc)
-          | inr end ↦ let z : has set (id + k) ≡ true = closed.done_last (subst (λ (m : ℕ). has set m ≡ true) end t) (id + k) (omega arith) (omega arith) in absurd (cc)
+          | inr end ↦ let z : has set (id + k) ≡ true = closed.done_last (subst (λ (m : ℕ). has set m ≡ true) end t)
+              (id + k) (omega arith) (omega arith) in absurd (cc)
         ]
       ]
     ])
@@ -139,9 +177,11 @@ turn_open id e after t j targets cs before done set closed none_yet =
 -- with the commit: all copies, the commit, some of the changes, and perhaps the done
 turn_held : (id : ℕ) (e after : Disk) (t j : ℕ) (targets : List ℕ) (cs : List Change) (before done : Bool) (set : ℕ)
     → IsTurnClosed id (length targets) (length cs) before done set → has set (id + length targets) ≡ true
-    → let e2 = with_bytes (with_places e (copy_places after (j + 1) targets)) j 0 (0xC7 ∷ t ∷ length targets ∷ targets) in
+    → let e2 = with_bytes (with_places e (copy_places after (j + 1) targets)) j 0
+    (0xC7 ∷ t ∷ length targets ∷ targets) in
     let e3 = image_from (id + length targets + 1) e2 (change_places cs) set in
-    image_from id e (turn_places after t j targets cs) set ≡ cond (has set (id + length targets + 1 + length cs)) (with_bytes e3 j 0 (0xC8 ∷ [])) e3
+    image_from id e (turn_places after t j targets cs) set ≡ cond (has set (id + length targets + 1 + length cs))
+    (with_bytes e3 j 0 (0xC8 ∷ [])) e3
 turn_held id e after t j targets cs before done set closed held =
     let commit : Place = place j 0 (0xC7 ∷ t ∷ length targets ∷ targets) in
     let last : Place = place j 0 (0xC8 ∷ []) in
@@ -150,8 +190,10 @@ turn_held id e after t j targets cs before done set closed held =
     let e1 : Disk = with_places e (copy_places after (j + 1) targets) in
     let e2 : Disk = with_bytes e1 j 0 (0xC7 ∷ t ∷ length targets ∷ targets) in
     let long : length (copy_places after (j + 1) targets) ≡ k = length-copies after (j + 1) targets in
-    let more : length (change_places cs) ≡ length cs = length-map cs (λ (c : Change). place c.block c.offset c.new.items) in
-    let all : image_from id e (copy_places after (j + 1) targets) set ≡ e1 = image-all id e (copy_places after (j + 1) targets) set (λ q from to. closed.copied held q from (omega arith)) in
+    let more : length (change_places cs) ≡ length cs = length-map cs
+    (λ (c : Change). place c.block c.offset c.new.items) in
+    let all : image_from id e (copy_places after (j + 1) targets) set ≡ e1 =
+    image-all id e (copy_places after (j + 1) targets) set (λ q from to. closed.copied held q from (omega arith)) in
     image-append id e (copy_places after (j + 1) targets) (commit ∷ rest) set (id + k) (omega arith)
     ∙ ap (λ (g : Disk). image_from (id + k) g (commit ∷ rest) set) all
     ∙ ap (λ (b : Bool). image_from (id + k + 1) (cond b e2 e1) rest set) held
@@ -165,11 +207,19 @@ over-start xs new = let e : 0 + length new ≡ length new = omega arith in ap (�
 
 pub all_at : (p : ℕ → Bool) (xs : List ℕ) (m : ℕ) → list_all p xs ≡ true → m < length xs → p (get_or xs m 0) ≡ true
 all_at p [] m h less = absurd (omega arith)
-all_at p (x ∷ xs) zero h less = elim (bool_is (p x)) [ inl t ↦ t | inr f ↦ (let z : false ≡ true = rw f at h in absurd (cc)) ]
-all_at p (x ∷ xs) (suc m) h less = elim (bool_is (p x)) [ inl t ↦ all_at p xs m (rw t at h) (omega arith) | inr f ↦ (let z : false ≡ true = rw f at h in absurd (cc)) ]
+all_at p (x ∷ xs) zero h less = elim (bool_is (p x)) [
+  | inl t ↦ t
+  | inr f ↦ (let z : false ≡ true = rw f at h in absurd (cc))
+]
+all_at p (x ∷ xs) (suc m) h less = elim (bool_is (p x)) [
+  | inl t ↦ all_at p xs m (rw t at h) (omega arith)
+  | inr f ↦ (let z : false ≡ true = rw f at h in absurd (cc))
+]
 
-copies-at : (n jl : ℕ) (e after : Disk) (j : ℕ) (bs : List ℕ) (m : ℕ) → IsShaped n jl e → IsShaped n jl after → j + length bs ≤ n → m < length bs
-    → ((i : ℕ) → i < length bs → get_or bs i 0 < n) → block_of (with_places e (copy_places after j bs)) (j + m) ≡ block_of after (get_or bs m 0)
+copies-at : (n jl : ℕ) (e after : Disk) (j : ℕ) (bs : List ℕ) (m : ℕ) → IsShaped n jl e → IsShaped n jl after
+    → j + length bs ≤ n → m < length bs
+    → ((i : ℕ) → i < length bs → get_or bs i 0 < n) → block_of (with_places e (copy_places after j bs)) (j + m)
+    ≡ block_of after (get_or bs m 0)
 copies-at n jl e after j [] m r s fits less known = absurd (omega arith)
 copies-at n jl e after j (b ∷ bs) zero r s fits less known =
     let in_b : b < n = known 0 (omega arith) in
@@ -178,16 +228,25 @@ copies-at n jl e after j (b ∷ bs) zero r s fits less known =
     let long : length (block_of after b) ≡ 128 = length-block after b (shaped-inside n jl after b s in_b) in
     let old : length (block_of e j) ≡ 128 = length-block e j (shaped-inside n jl e j r in_j) in
     let ok : IsPlaced n p = record { inside = omega arith; known = in_j } in
-    subst (λ (x : ℕ). block_of (with_places (with_bytes e j 0 (block_of after b)) (copy_places after (j + 1) bs)) x ≡ block_of after b) (omega arith)
-    (kept-all n jl (with_bytes e j 0 (block_of after b)) (copy_places after (j + 1) bs) j (shaped-with_bytes n jl e p r ok) (placed-copies n after (j + 1) bs (omega arith)) in_j (avoid-copies after (j + 1) bs j (inl (omega arith)))
+    subst (λ (x : ℕ). block_of (with_places (with_bytes e j 0 (block_of after b)) (copy_places after (j + 1) bs)) x
+    ≡ block_of after b) (omega arith)
+    (kept-all n jl (with_bytes e j 0 (block_of after b)) (copy_places after (j + 1) bs) j
+    (shaped-with_bytes n jl e p r ok) (placed-copies n after (j + 1) bs (omega arith)) in_j
+    (avoid-copies after (j + 1) bs j (inl (omega arith)))
     ∙ block-put_same e j 0 (block_of after b) (omega arith) (shaped-inside n jl e j r in_j)
     ∙ overwrite-all (block_of e j) (block_of after b) (omega arith))
 copies-at n jl e after j (b ∷ bs) (suc m) r s fits less known =
     let in_j : j < n = omega arith in
     let p : Place = place j 0 (block_of after b) in
-    let ok : IsPlaced n p = record { inside = (let f : length (block_of after b) ≤ 128 = row-fits after b in omega arith); known = in_j } in
-    subst (λ (x : ℕ). block_of (with_places (with_bytes e j 0 (block_of after b)) (copy_places after (j + 1) bs)) x ≡ block_of after (get_or bs m 0)) (omega arith)
-    (copies-at n jl (with_bytes e j 0 (block_of after b)) after (j + 1) bs m (shaped-with_bytes n jl e p r ok) s (omega arith) (omega arith) (λ i h. known (suc i) (omega arith)))
+    let ok : IsPlaced n p = record {
+      inside = (let f : length (block_of after b) ≤ 128 = row-fits after b in
+          omega arith);
+      known = in_j;
+    } in
+    subst (λ (x : ℕ). block_of (with_places (with_bytes e j 0 (block_of after b)) (copy_places after (j + 1) bs)) x
+    ≡ block_of after (get_or bs m 0)) (omega arith)
+    (copies-at n jl (with_bytes e j 0 (block_of after b)) after (j + 1) bs m (shaped-with_bytes n jl e p r ok) s
+    (omega arith) (omega arith) (λ i h. known (suc i) (omega arith)))
 
 -- ---- the header
 
@@ -202,12 +261,16 @@ mark_of done = cond done 0xC8 0xC7
 aim : ℕ → ℕ → ℕ → Bool
 aim bl jn b = (nat_le 1 b && nat_le b 3) || (nat_le (4 + jn) b && nat_lt b bl)
 
-same_targets : (g d : Disk) (xs : List ℕ) → g.blocks ≡ d.blocks → g.journal ≡ d.journal → list_all (is_target g) xs ≡ list_all (is_target d) xs
+same_targets : (g d : Disk) (xs : List ℕ) → g.blocks ≡ d.blocks → g.journal ≡ d.journal
+    → list_all (is_target g) xs ≡ list_all (is_target d) xs
 unfolding aim
-same_targets g d xs p q = ap (λ (m : ℕ). list_all (aim m g.journal) xs) p ∙ ap (λ (m : ℕ). list_all (aim d.blocks m) xs) q
+same_targets g d xs p q = ap (λ (m : ℕ). list_all (aim m g.journal) xs) p
+    ∙ ap (λ (m : ℕ). list_all (aim d.blocks m) xs) q
 
-good_row : (g : Disk) (j t : ℕ) (done : Bool) (targets rest : List ℕ) → 1 ≤ length targets → length targets ≤ 8 → j + 1 + length targets ≤ 4 + g.journal
-    → is_ascending targets ≡ true → list_all (is_target g) targets ≡ true → is_header g j t (mark_of done ∷ t ∷ length targets ∷ (targets ++ rest)) ≡ true
+good_row : (g : Disk) (j t : ℕ) (done : Bool) (targets rest : List ℕ) → 1 ≤ length targets → length targets ≤ 8
+    → j + 1 + length targets ≤ 4 + g.journal
+    → is_ascending targets ≡ true → list_all (is_target g) targets ≡ true
+    → is_header g j t (mark_of done ∷ t ∷ length targets ∷ (targets ++ rest)) ≡ true
 good_row g j t done targets rest some few fits up aimed =
     let b1 : nat_lt j (4 + g.journal) ≡ true = grind (arith, tests) in
     let b3 : (t == t) ≡ true = grind (arith, tests) in
@@ -217,20 +280,25 @@ good_row g j t done targets rest some few fits up aimed =
     let e : take (length targets) (targets ++ rest) ≡ targets = take_at targets rest (length targets) refl in
     go done b1 b3 b4 b5 b6 e
   where
-    go : (dn : Bool) → nat_lt j (4 + g.journal) ≡ true → (t == t) ≡ true → nat_le 1 (length targets) ≡ true → nat_le (length targets) 8 ≡ true → nat_le (j + length targets) (3 + g.journal) ≡ true
-        → take (length targets) (targets ++ rest) ≡ targets → is_header g j t (mark_of dn ∷ t ∷ length targets ∷ (targets ++ rest)) ≡ true
+    go : (dn : Bool) → nat_lt j (4 + g.journal) ≡ true → (t == t) ≡ true → nat_le 1 (length targets) ≡ true
+        → nat_le (length targets) 8 ≡ true → nat_le (j + length targets) (3 + g.journal) ≡ true
+        → take (length targets) (targets ++ rest) ≡ targets
+        → is_header g j t (mark_of dn ∷ t ∷ length targets ∷ (targets ++ rest)) ≡ true
     go true b1 b3 b4 b5 b6 e = rw (b1, b3, b4, b5, b6, e) (rw (up, aimed) refl)
     go false b1 b3 b4 b5 b6 e = rw (b1, b3, b4, b5, b6, e) (rw (up, aimed) refl)
 
 copy_done : (t j b : ℕ) (targets row : List ℕ) → HasRow 0xC8 t targets row → copy_in row j b ≡ None
 copy_done t j b targets row h = ap (λ (r : List ℕ). copy_in r j b) h.is
 
-copy_held : (t j b : ℕ) (targets row : List ℕ) → HasRow 0xC7 t targets row → copy_in row j b ≡ option_map (λ m. j + 1 + m) (position (λ x. x == b) targets)
+copy_held : (t j b : ℕ) (targets row : List ℕ) → HasRow 0xC7 t targets row
+    → copy_in row j b ≡ option_map (λ m. j + 1 + m) (position (λ x. x == b) targets)
 copy_held t j b targets row h =
     ap (λ (r : List ℕ). copy_in r j b) h.is
-    ∙ ap (λ (xs : List ℕ). option_map (λ m. j + 1 + m) (position (λ x. x == b) xs)) (take_at targets h.rest (length targets) refl)
+    ∙ ap (λ (xs : List ℕ). option_map (λ m. j + 1 + m) (position (λ x. x == b) xs))
+    (take_at targets h.rest (length targets) refl)
 
-row_after : (dn : Bool) (n jl t j : ℕ) (targets : List ℕ) (e3 : Disk) → IsShaped n jl e3 → j < n → HasRow 0xC7 t targets (block_of e3 j)
+row_after : (dn : Bool) (n jl t j : ℕ) (targets : List ℕ) (e3 : Disk) → IsShaped n jl e3 → j < n
+    → HasRow 0xC7 t targets (block_of e3 j)
     → HasRow (mark_of dn) t targets (block_of (cond dn (with_bytes e3 j 0 (0xC8 ∷ [])) e3) j)
 row_after false n jl t j targets e3 s below h = h
 row_after true n jl t j targets e3 s below h = record {
@@ -240,13 +308,17 @@ row_after true n jl t j targets e3 s below h = record {
       ∙ ap (λ (row : List ℕ). 0xC8 ∷ drop 1 row) h.is;
 }
 
-shaped_after : (dn : Bool) (n jl j : ℕ) (e3 : Disk) → IsShaped n jl e3 → j < n → IsShaped n jl (cond dn (with_bytes e3 j 0 (0xC8 ∷ [])) e3)
+shaped_after : (dn : Bool) (n jl j : ℕ) (e3 : Disk) → IsShaped n jl e3 → j < n
+    → IsShaped n jl (cond dn (with_bytes e3 j 0 (0xC8 ∷ [])) e3)
 shaped_after false n jl j e3 s below = s
-shaped_after true n jl j e3 s below = shaped-with_bytes n jl e3 (place j 0 (0xC8 ∷ [])) s (record { inside = omega arith; known = below })
+shaped_after true n jl j e3 s below = shaped-with_bytes n jl e3 (place j 0 (0xC8 ∷ [])) s
+    (record { inside = omega arith; known = below })
 
-block_after : (dn : Bool) (n jl j x : ℕ) (e3 : Disk) → IsShaped n jl e3 → j < n → x < n → x ≢ j → block_of (cond dn (with_bytes e3 j 0 (0xC8 ∷ [])) e3) x ≡ block_of e3 x
+block_after : (dn : Bool) (n jl j x : ℕ) (e3 : Disk) → IsShaped n jl e3 → j < n → x < n → x ≢ j
+    → block_of (cond dn (with_bytes e3 j 0 (0xC8 ∷ [])) e3) x ≡ block_of e3 x
 block_after false n jl j x e3 s below h other = refl
-block_after true n jl j x e3 s below h other = kept-with_bytes n jl e3 (place j 0 (0xC8 ∷ [])) x s (record { inside = omega arith; known = below }) h other
+block_after true n jl j x e3 s below h other = kept-with_bytes n jl e3 (place j 0 (0xC8 ∷ [])) x s
+    (record { inside = omega arith; known = below }) h other
 
 -- the stages of a transaction whose commit is held, all within the disk
 pub record IsStaged (n jl : ℕ) (e d' : Disk) (t j : ℕ) (cs : List Change) (e1 e2 e3 : Disk) : Type 0 where
@@ -254,7 +326,8 @@ pub record IsStaged (n jl : ℕ) (e d' : Disk) (t j : ℕ) (cs : List Change) (e
   pub second : IsShaped n jl e2
   pub third : IsShaped n jl e3
   -- e1 has the copies; e2 also the header; e3 has put changes, none of them in the journal
-  pub copied : (m : ℕ) → m < length (touched_blocks n cs) → block_of e1 (j + 1 + m) ≡ block_of d' (get_or (touched_blocks n cs) m 0)
+  pub copied : (m : ℕ) → m < length (touched_blocks n cs)
+      → block_of e1 (j + 1 + m) ≡ block_of d' (get_or (touched_blocks n cs) m 0)
   pub kept_one : (x : ℕ) → x < n → (x < j) ⊎ (j + 1 + length (touched_blocks n cs) ≤ x) → block_of e2 x ≡ block_of e x
   pub kept_two : (x : ℕ) → x < n → x ≢ j → block_of e2 x ≡ block_of e1 x
   pub kept_three : (x : ℕ) → x < n → Avoid x (change_places cs) → block_of e3 x ≡ block_of e2 x
@@ -264,7 +337,8 @@ staged : (n jl : ℕ) (d e : Disk) (id t j : ℕ) (cs : List Change) (set : ℕ)
     → IsShaped n jl d → IsShaped n jl e → 4 + jl ≤ n → 4 ≤ j → IsTurn n jl d j cs
     → let e1 = with_places e (copy_places (with_changes d cs) (j + 1) (touched_blocks n cs)) in
     let e2 = with_bytes e1 j 0 (0xC7 ∷ t ∷ length (touched_blocks n cs) ∷ touched_blocks n cs) in
-    IsStaged n jl e (with_changes d cs) t j cs e1 e2 (image_from (id + length (touched_blocks n cs) + 1) e2 (change_places cs) set)
+    IsStaged n jl e (with_changes d cs) t j cs e1 e2 (image_from (id + length (touched_blocks n cs) + 1) e2
+    (change_places cs) set)
 staged n jl d e id t j cs set s r room least turn =
     let k : ℕ = length (touched_blocks n cs) in
     let d' : Disk = with_changes d cs in
@@ -285,14 +359,19 @@ staged n jl d e id t j cs set s r room least turn =
       second = s2;
       third = shaped-image n jl (id + k + 1) e2 (change_places cs) set s2 turn.placed;
       copied = λ m less. copies-at n jl e d' (j + 1) (touched_blocks n cs) m r s' (omega arith) less
-          (λ i h. let t : is_target d (get_or (touched_blocks n cs) i 0) ≡ true = all_at (is_target d) (touched_blocks n cs) i (touched_targets d n cs turn.aimed) h in known d (get_or (touched_blocks n cs) i 0) n dn (omega arith) t);
-      kept_one = λ x below h. kept-with_bytes n jl e1 commit x s1 ok below (elim h [ inl l ↦ grind arith | inr g ↦ grind arith ])
-          ∙ kept-all n jl e copies x r placed below (avoid-copies d' (j + 1) (touched_blocks n cs) x (elim h [ inl l ↦ inl (omega arith) | inr g ↦ inr (omega arith) ]));
+          (λ i h. let t : is_target d (get_or (touched_blocks n cs) i 0) ≡ true =
+          all_at (is_target d) (touched_blocks n cs) i (touched_targets d n cs turn.aimed) h in
+          known d (get_or (touched_blocks n cs) i 0) n dn (omega arith) t);
+      kept_one = λ x below h. kept-with_bytes n jl e1 commit x s1 ok below
+          (elim h [ inl l ↦ grind arith | inr g ↦ grind arith ])
+          ∙ kept-all n jl e copies x r placed below (avoid-copies d' (j + 1) (touched_blocks n cs) x
+          (elim h [ inl l ↦ inl (omega arith) | inr g ↦ inr (omega arith) ]));
       kept_two = λ x below other. kept-with_bytes n jl e1 commit x s1 ok below other;
       kept_three = λ x below avoid. kept-image n jl (id + k + 1) e2 (change_places cs) set x s2 turn.placed below avoid;
       row = record {
         rest = drop (length (0xC7 ∷ t ∷ k ∷ touched_blocks n cs)) (block_of e1 j);
-        is = block-put_same e1 j 0 (0xC7 ∷ t ∷ k ∷ touched_blocks n cs) (omega arith) (shaped-inside n jl e1 j s1 (omega arith))
+        is = block-put_same e1 j 0 (0xC7 ∷ t ∷ k ∷ touched_blocks n cs) (omega arith)
+            (shaped-inside n jl e1 j s1 (omega arith))
             ∙ over-start (block_of e1 j) (0xC7 ∷ t ∷ k ∷ touched_blocks n cs);
       };
     }
@@ -302,25 +381,33 @@ staged n jl d e id t j cs set s r room least turn =
 
 -- where replay looks for block b after the transaction, and that it finds it there
 abbrev pub IsFoundAt : Disk → Disk → ℕ → Bool → ℕ → ℕ → Type 0
-IsFoundAt f d' next done b now = (done ≡ true → now ≡ b) × ((now ≡ b) ⊎ ((4 ≤ now) × (now < next))) × (block_of f now ≡ block_of d' b)
+IsFoundAt f d' next done b now = (done ≡ true → now ≡ b) × ((now ≡ b) ⊎ ((4 ≤ now) × (now < next)))
+    × (block_of f now ≡ block_of d' b)
 
 -- settled: the block itself
 found_done : (n jl : ℕ) (d e : Disk) (id t j : ℕ) (cs : List Change) (set b cur : ℕ) (e1 e2 e3 : Disk)
     → IsShaped n jl d → IsTurn n jl d j cs → 4 + jl ≤ n → 4 ≤ j
     → IsStaged n jl e (with_changes d cs) t j cs e1 e2 e3 → e3 ≡ with_places e2 (change_places cs)
     → b < n → IsOutside jl b → cur ≡ b → block_of e cur ≡ block_of d b
-    → IsFoundAt (with_bytes e3 j 0 (0xC8 ∷ [])) (with_changes d cs) (j + 1 + length (touched_blocks n cs)) true b (unwrap_or (copy_in (block_of (with_bytes e3 j 0 (0xC8 ∷ [])) j) j b) cur)
+    → IsFoundAt (with_bytes e3 j 0 (0xC8 ∷ [])) (with_changes d cs) (j + 1 + length (touched_blocks n cs)) true b
+    (unwrap_or (copy_in (block_of (with_bytes e3 j 0 (0xC8 ∷ [])) j) j b) cur)
 found_done n jl d e id t j cs set b cur e1 e2 e3 s turn room least stage all below out is same =
     let k : ℕ = length (touched_blocks n cs) in
     let fits : j + 1 + k ≤ 4 + jl = turn.room in
     let f : Disk = with_bytes e3 j 0 (0xC8 ∷ []) in
-    let row : HasRow 0xC8 t (touched_blocks n cs) (block_of f j) = row_after true n jl t j (touched_blocks n cs) e3 stage.third (omega arith)
-    (record { rest = stage.row.rest; is = stage.kept_three j (omega arith) (avoid_journal d jl cs j s.journal turn.aimed least (omega arith)) ∙ stage.row.is }) in
+    let row : HasRow 0xC8 t (touched_blocks n cs) (block_of f j) = row_after true n jl t j (touched_blocks n cs) e3
+    stage.third (omega arith)
+    (record {
+      rest = stage.row.rest;
+      is = stage.kept_three j (omega arith)
+          (avoid_journal d jl cs j s.journal turn.aimed least (omega arith)) ∙ stage.row.is;
+    }) in
     let none : copy_in (block_of f j) j b ≡ None = copy_done t j b (touched_blocks n cs) (block_of f j) row in
     let now : unwrap_or (copy_in (block_of f j) j b) cur ≡ b = ap (λ (o : Option ℕ). unwrap_or o cur) none ∙ is in
     let apart : b ≢ j = outside_apart jl b j out least (omega arith) in
     let far : (b < j) ⊎ (j + 1 + k ≤ b) = elim out [ inl l ↦ inl (omega arith) | inr r ↦ inr (omega arith) ] in
-    let before : block_of e2 b ≡ block_of d b = stage.kept_one b below far ∙ subst (λ (x : ℕ). block_of e x ≡ block_of d b) is same in
+    let before : block_of e2 b ≡ block_of d b = stage.kept_one b below far
+    ∙ subst (λ (x : ℕ). block_of e x ≡ block_of d b) is same in
     let here : block_of f b ≡ block_of (with_changes d cs) b =
     block_after true n jl j b e3 stage.third (omega arith) below apart
     ∙ ap (λ (g : Disk). block_of g b) all
@@ -333,42 +420,66 @@ found_open : (n jl : ℕ) (d e : Disk) (id t j : ℕ) (cs : List Change) (set b 
     → IsShaped n jl d → IsShaped n jl e → IsTurn n jl d j cs → 4 + jl ≤ n → 4 ≤ j
     → IsStaged n jl e (with_changes d cs) t j cs e1 e2 e3
     → b < n → IsOutside jl b → ((cur ≡ b) ⊎ ((4 ≤ cur) × (cur < j))) → block_of e cur ≡ block_of d b
-    → IsFoundAt e3 (with_changes d cs) (j + 1 + length (touched_blocks n cs)) false b (unwrap_or (copy_in (block_of e3 j) j b) cur)
+    → IsFoundAt e3 (with_changes d cs) (j + 1 + length (touched_blocks n cs)) false b
+    (unwrap_or (copy_in (block_of e3 j) j b) cur)
 found_open n jl d e id t j cs set b cur e1 e2 e3 s r turn room least stage below out source same =
     let k : ℕ = length (touched_blocks n cs) in
     let fits : j + 1 + k ≤ 4 + jl = turn.room in
     let row : HasRow 0xC7 t (touched_blocks n cs) (block_of e3 j) =
-    record { rest = stage.row.rest; is = stage.kept_three j (omega arith) (avoid_journal d jl cs j s.journal turn.aimed least (omega arith)) ∙ stage.row.is } in
-    let where_it_is : copy_in (block_of e3 j) j b ≡ option_map (λ m. j + 1 + m) (position (λ x. x == b) (touched_blocks n cs)) = copy_held t j b (touched_blocks n cs) (block_of e3 j) row in
+    record {
+      rest = stage.row.rest;
+      is = stage.kept_three j (omega arith)
+          (avoid_journal d jl cs j s.journal turn.aimed least (omega arith)) ∙ stage.row.is;
+    } in
+    let where_it_is : copy_in (block_of e3 j) j b ≡ option_map (λ m. j + 1 + m)
+    (position (λ x. x == b) (touched_blocks n cs)) = copy_held t j b (touched_blocks n cs) (block_of e3 j) row in
     elim (found_or_not b (touched_blocks n cs)) [
       | inl at ↦
           let m : ℕ = at.0 in
           let less : m < k = at.2 in
-          let now : unwrap_or (copy_in (block_of e3 j) j b) cur ≡ j + 1 + m = ap (λ (o : Option ℕ). unwrap_or o cur) (where_it_is ∙ ap (λ (o : Option ℕ). option_map (λ m. j + 1 + m) o) at.1) in
+          let now : unwrap_or (copy_in (block_of e3 j) j b) cur ≡ j + 1 + m =
+          ap (λ (o : Option ℕ). unwrap_or o cur) (where_it_is
+          ∙ ap (λ (o : Option ℕ). option_map (λ m. j + 1 + m) o) at.1) in
           let apart : j + 1 + m ≢ j = grind arith in
           let here : block_of e3 (j + 1 + m) ≡ block_of (with_changes d cs) b =
-          stage.kept_three (j + 1 + m) (omega arith) (avoid_journal d jl cs (j + 1 + m) s.journal turn.aimed (omega arith) (omega arith))
+          stage.kept_three (j + 1 + m) (omega arith) (avoid_journal d jl cs (j + 1 + m) s.journal turn.aimed
+          (omega arith) (omega arith))
           ∙ stage.kept_two (j + 1 + m) (omega arith) apart
           ∙ stage.copied m less
           ∙ ap (λ (x : ℕ). block_of (with_changes d cs) x) at.3 in
-          subst (λ (x : ℕ). IsFoundAt e3 (with_changes d cs) (j + 1 + k) false b x) (sym now) ((λ h. absurd (cc)), inr (omega arith, omega arith), here)
+          subst (λ (x : ℕ). IsFoundAt e3 (with_changes d cs) (j + 1 + k) false b x) (sym now)
+          ((λ h. absurd (cc)), inr (omega arith, omega arith), here)
       | inr none ↦
-          let now : unwrap_or (copy_in (block_of e3 j) j b) cur ≡ cur = ap (λ (o : Option ℕ). unwrap_or o cur) (where_it_is ∙ ap (λ (o : Option ℕ). option_map (λ m. j + 1 + m) o) none.0) in
+          let now : unwrap_or (copy_in (block_of e3 j) j b) cur ≡ cur =
+          ap (λ (o : Option ℕ). unwrap_or o cur) (where_it_is
+          ∙ ap (λ (o : Option ℕ). option_map (λ m. j + 1 + m) o) none.0) in
           let avoid : Avoid b (change_places cs) = avoid_untouched n cs b below none.1 in
-          let after : block_of (with_changes d cs) b ≡ block_of d b = ap (λ (g : Disk). block_of g b) (with_changes-all d cs) ∙ kept-all n jl d (change_places cs) b s turn.placed below avoid in
+          let after : block_of (with_changes d cs) b ≡ block_of d b =
+          ap (λ (g : Disk). block_of g b) (with_changes-all d cs)
+          ∙ kept-all n jl d (change_places cs) b s turn.placed below avoid in
           let here : block_of e3 cur ≡ block_of e cur = elim source [
             | inl is ↦ subst (λ (x : ℕ). block_of e3 x ≡ block_of e x) (sym is)
-                (stage.kept_three b below avoid ∙ stage.kept_one b below (elim out [ inl l ↦ inl (omega arith) | inr g ↦ inr (omega arith) ]))
+                (stage.kept_three b below avoid ∙ stage.kept_one b below
+                (elim out [ inl l ↦ inl (omega arith) | inr g ↦ inr (omega arith) ]))
             | inr old ↦ let low : cur < j = old.1 in let from : 4 ≤ cur = old.0 in
-                stage.kept_three cur (omega arith) (avoid_journal d jl cs cur s.journal turn.aimed from (omega arith)) ∙ stage.kept_one cur (omega arith) (inl low)
+                stage.kept_three cur (omega arith) (avoid_journal d jl cs cur s.journal turn.aimed from (omega arith))
+                ∙ stage.kept_one cur (omega arith) (inl low)
           ] in
-          subst (λ (x : ℕ). IsFoundAt e3 (with_changes d cs) (j + 1 + k) false b x) (sym now)
-          ((λ h. absurd (cc)), elim source [ inl is ↦ inl is | inr old ↦ inr (old.0, (let low : cur < j = old.1 in omega arith)) ], here ∙ same ∙ sym after)
+          subst (λ (x : ℕ). IsFoundAt e3 (with_changes d cs) (j + 1 + k) false b x) (sym now) (
+            (λ h. absurd (cc)),
+            elim source [
+              | inl is ↦ inl is
+              | inr old ↦ inr (old.0, (let low : cur < j = old.1 in omega arith))
+            ],
+            here ∙ same ∙ sym after,
+          )
     ]
 
 pub turned : (n jl : ℕ) (d e : Disk) (id t j : ℕ) (cs : List Change) (before done : Bool) (set : ℕ)
-    → IsShaped n jl d → IsShaped n jl e → 4 + jl ≤ n → 4 ≤ j → IsTurn n jl d j cs → IsTurnClosed id (length (touched_blocks n cs)) (length cs) before done set
-    → IsTurned n jl d e (image_from id e (turn_places (with_changes d cs) t j (touched_blocks n cs) cs) set) t j cs (has set (id + length (touched_blocks n cs))) (has set (id + length (touched_blocks n cs) + 1 + length cs))
+    → IsShaped n jl d → IsShaped n jl e → 4 + jl ≤ n → 4 ≤ j → IsTurn n jl d j cs
+    → IsTurnClosed id (length (touched_blocks n cs)) (length cs) before done set
+    → IsTurned n jl d e (image_from id e (turn_places (with_changes d cs) t j (touched_blocks n cs) cs) set) t j cs
+    (has set (id + length (touched_blocks n cs))) (has set (id + length (touched_blocks n cs) + 1 + length cs))
 turned n jl d e id t j cs before done set s r room least turn closed =
     let k : ℕ = length (touched_blocks n cs) in
     let d' : Disk = with_changes d cs in
@@ -386,35 +497,60 @@ turned n jl d e id t j cs before done set s r room least turn closed =
     let dj : d.journal ≡ jl = s.journal in
     record {
       shaped = shaped-image n jl id e ps set r placed;
-      below = λ x from to. kept-image n jl id e ps set x r placed (omega arith) (avoid-turn d' t j (touched_blocks n cs) cs x (inl to) (avoid_journal d jl cs x dj turn.aimed from (omega arith)));
-      above = λ x from to. kept-image n jl id e ps set x r placed (omega arith) (avoid-turn d' t j (touched_blocks n cs) cs x (inr from) (avoid_journal d jl cs x dj turn.aimed (omega arith) to));
-      open_header = λ unheld. ap (λ (g : Disk). block_of g j) (turn_open id e d' t j (touched_blocks n cs) cs before done set closed unheld)
-          ∙ kept-image n jl id e copies set j r placed_copies (omega arith) (avoid-copies d' (j + 1) (touched_blocks n cs) j (inl (omega arith)));
-      open_outside = λ unheld x less out. ap (λ (g : Disk). block_of g x) (turn_open id e d' t j (touched_blocks n cs) cs before done set closed unheld)
-          ∙ kept-image n jl id e copies set x r placed_copies less (avoid-copies d' (j + 1) (touched_blocks n cs) x (elim out [ inl l ↦ inl (omega arith) | inr g ↦ inr (omega arith) ]));
+      below = λ x from to. kept-image n jl id e ps set x r placed (omega arith)
+          (avoid-turn d' t j (touched_blocks n cs) cs x (inl to)
+          (avoid_journal d jl cs x dj turn.aimed from (omega arith)));
+      above = λ x from to. kept-image n jl id e ps set x r placed (omega arith)
+          (avoid-turn d' t j (touched_blocks n cs) cs x (inr from)
+          (avoid_journal d jl cs x dj turn.aimed (omega arith) to));
+      open_header = λ unheld. ap (λ (g : Disk). block_of g j)
+          (turn_open id e d' t j (touched_blocks n cs) cs before done set closed unheld)
+          ∙ kept-image n jl id e copies set j r placed_copies (omega arith)
+          (avoid-copies d' (j + 1) (touched_blocks n cs) j (inl (omega arith)));
+      open_outside = λ unheld x less out. ap (λ (g : Disk). block_of g x)
+          (turn_open id e d' t j (touched_blocks n cs) cs before done set closed unheld)
+          ∙ kept-image n jl id e copies set x r placed_copies less
+          (avoid-copies d' (j + 1) (touched_blocks n cs) x
+          (elim out [ inl l ↦ inl (omega arith) | inr g ↦ inr (omega arith) ]));
       header = λ held g gb gj at_j.
           let row : HasRow (mark_of (has set (id + k + 1 + length cs))) t (touched_blocks n cs) (block_of f j) =
-          subst (λ (h : Disk). HasRow (mark_of (has set (id + k + 1 + length cs))) t (touched_blocks n cs) (block_of h j)) (sym (turn_held id e d' t j (touched_blocks n cs) cs before done set closed held))
+          subst (λ (h : Disk). HasRow (mark_of (has set (id + k + 1 + length cs))) t (touched_blocks n cs)
+          (block_of h j)) (sym (turn_held id e d' t j (touched_blocks n cs) cs before done set closed held))
           (row_after (has set (id + k + 1 + length cs)) n jl t j (touched_blocks n cs) e3 stage.third (omega arith)
-          (record { rest = stage.row.rest; is = stage.kept_three j (omega arith) (avoid_journal d jl cs j dj turn.aimed least (omega arith)) ∙ stage.row.is })) in
-          let what : block_of g j ≡ mark_of (has set (id + k + 1 + length cs)) ∷ t ∷ k ∷ (touched_blocks n cs ++ row.rest) = at_j ∙ row.is in
-          let aimed : list_all (is_target g) (touched_blocks n cs) ≡ true = same_targets g d (touched_blocks n cs) (gb ∙ sym dn) (gj ∙ sym dj) ∙ touched_targets d n cs turn.aimed in (
+          (record {
+            rest = stage.row.rest;
+            is = stage.kept_three j (omega arith)
+                (avoid_journal d jl cs j dj turn.aimed least (omega arith)) ∙ stage.row.is;
+          })) in
+          let what : block_of g j ≡ mark_of (has set (id + k + 1 + length cs)) ∷ t ∷ k
+          ∷ (touched_blocks n cs ++ row.rest) = at_j ∙ row.is in
+          let aimed : list_all (is_target g) (touched_blocks n cs) ≡ true =
+          same_targets g d (touched_blocks n cs) (gb ∙ sym dn) (gj ∙ sym dj) ∙ touched_targets d n cs turn.aimed in (
             ap (λ (row : List ℕ). is_header g j t row) what
-                ∙ good_row g j t (has set (id + k + 1 + length cs)) (touched_blocks n cs) row.rest turn.some turn.few (subst (λ (m : ℕ). j + 1 + k ≤ 4 + m) (sym gj) fits) (touched_ascending n cs) aimed,
+                ∙ good_row g j t (has set (id + k + 1 + length cs)) (touched_blocks n cs) row.rest turn.some turn.few
+                (subst (λ (m : ℕ). j + 1 + k ≤ 4 + m) (sym gj) fits) (touched_ascending n cs) aimed,
             ap (λ (row : List ℕ). count_of row) what,
           );
       found = λ held b cur less out settled source same.
-          subst (λ (g : Disk). IsFoundAt g d' (j + 1 + k) (has set (id + k + 1 + length cs)) b (unwrap_or (copy_in (block_of g j) j b) cur)) (sym (turn_held id e d' t j (touched_blocks n cs) cs before done set closed held))
+          subst (λ (g : Disk). IsFoundAt g d' (j + 1 + k) (has set (id + k + 1 + length cs)) b
+          (unwrap_or (copy_in (block_of g j) j b) cur)) (sym
+          (turn_held id e d' t j (touched_blocks n cs) cs before done set closed held))
           (by_done (has set (id + k + 1 + length cs)) n jl d e id t j cs set b cur e1 e2 e3 s r turn room least stage
-          (λ all. image-all (id + k + 1) e2 (change_places cs) set (λ q from to. closed.done_last all q (omega arith) (let more : length (change_places cs) ≡ length cs = length-map cs (λ (c : Change). place c.block c.offset c.new.items) in omega arith)))
+          (λ all. image-all (id + k + 1) e2 (change_places cs) set
+          (λ q from to. closed.done_last all q (omega arith)
+          (let more : length (change_places cs) ≡ length cs =
+          length-map cs (λ (c : Change). place c.block c.offset c.new.items) in omega arith)))
           less out settled source same);
     }
   where
     by_done : (dn : Bool) (n jl : ℕ) (d e : Disk) (id t j : ℕ) (cs : List Change) (set b cur : ℕ) (e1 e2 e3 : Disk)
         → IsShaped n jl d → IsShaped n jl e → IsTurn n jl d j cs → 4 + jl ≤ n → 4 ≤ j
         → IsStaged n jl e (with_changes d cs) t j cs e1 e2 e3 → (dn ≡ true → e3 ≡ with_places e2 (change_places cs))
-        → b < n → IsOutside jl b → (dn ≡ true → cur ≡ b) → ((cur ≡ b) ⊎ ((4 ≤ cur) × (cur < j))) → block_of e cur ≡ block_of d b
-        → let g = cond dn (with_bytes e3 j 0 (0xC8 ∷ [])) e3 in IsFoundAt g (with_changes d cs) (j + 1 + length (touched_blocks n cs)) dn b (unwrap_or (copy_in (block_of g j) j b) cur)
+        → b < n → IsOutside jl b → (dn ≡ true → cur ≡ b) → ((cur ≡ b) ⊎ ((4 ≤ cur) × (cur < j)))
+        → block_of e cur ≡ block_of d b
+        → let g = cond dn (with_bytes e3 j 0 (0xC8 ∷ [])) e3 in
+        IsFoundAt g (with_changes d cs) (j + 1 + length (touched_blocks n cs)) dn b
+        (unwrap_or (copy_in (block_of g j) j b) cur)
     by_done true n jl d e id t j cs set b cur e1 e2 e3 s r turn room least stage all less out settled source same =
         found_done n jl d e id t j cs set b cur e1 e2 e3 s turn room least stage (all refl) less out (settled refl) same
     by_done false n jl d e id t j cs set b cur e1 e2 e3 s r turn room least stage all less out settled source same =

@@ -2,10 +2,13 @@
 use Rattle.std.proofs.Common.{◌≡◌, ℕ, ◌+◌, ◌-◌, ◌<◌, List, [], ◌∷◌, false, Some, None, Ok}
 use Rattle.std.specs.Prelude.{option_to_list, nat_lt, if◌then◌else◌}
 use Rattle.std.proofs.lemmas.Bool.{eqb-true, leb-false}
-use Rattle.soundness_laws.proofs.Answered.{then_ok-ok, unless-ok, with_found-ok, at_entry-ok, answer-ok, none-found, test-holds}
+use Rattle.soundness_laws.proofs.Answered.{then_ok-ok, unless-ok, with_found-ok, at_entry-ok, answer-ok, none-found}
+use Rattle.soundness_laws.proofs.Answered.{test-holds}
 use Rattle.crash_model.specs.Disk.{Disk}
 use Rattle.crash_model.specs.Layout.{kind_of, links_of, target_of}
-use Rattle.crash_model.specs.Plan.{entry_named, walk_end, free_inode, free_block, free_entry, free_slot, has_entries, relink_plan, inode_init, inode_free, link_count, pointer_set, entry_set, entry_clear, map_set, map_clear_at, map_clears, init_block, plan_of}
+use Rattle.crash_model.specs.Plan.{entry_named, walk_end, free_inode, free_block, free_entry, free_slot, has_entries}
+use Rattle.crash_model.specs.Plan.{relink_plan, inode_init, inode_free, link_count, pointer_set, entry_set, entry_clear}
+use Rattle.crash_model.specs.Plan.{map_set, map_clear_at, map_clears, init_block, plan_of}
 use Rattle.crash_model.specs.declared.names.Path.{Path}
 use Rattle.crash_model.specs.declared.operations.Op.TheVariants.{Create, Write, Link, Unlink, Rename, Mkdir, Rmdir}
 use Rattle.crash_model.specs.declared.plans.Change.{Change}
@@ -23,7 +26,8 @@ pub record CreateFound (d : Disk) (path : Path) (changes : List Change) : Type 0
   pub place : free_entry d dir ≡ Some k
   pub are : changes ≡ inode_init i 1 ∷ entry_set d dir k i path.last ∷ []
 
-pub create-ok : (d : Disk) (path : Path) (changes : List Change) → plan_of d (Create path) ≡ Ok changes → CreateFound d path changes
+pub create-ok : (d : Disk) (path : Path) (changes : List Change) → plan_of d (Create path) ≡ Ok changes
+    → CreateFound d path changes
 unfolding plan_of
 create-ok d path changes e =
     let walk = then_ok-ok (walk_end d 0 path.through.items) _ changes e in
@@ -51,9 +55,11 @@ pub record WriteFound (d : Disk) (path : Path) (changes : List Change) : Type 0 
   pub file : kind_of d (target_of d dir k) ≡ 1
   pub block : free_block d ≡ Some b
   pub slot : free_slot d (target_of d dir k) ≡ Some s
-  pub are : changes ≡ map_set b ∷ init_block InitFile b 0x46 (target_of d dir k) ∷ pointer_set (target_of d dir k) s b ∷ []
+  pub are : changes ≡ map_set b ∷ init_block InitFile b 0x46 (target_of d dir k) ∷ pointer_set (target_of d dir k) s b
+      ∷ []
 
-pub write-ok : (d : Disk) (path : Path) (changes : List Change) → plan_of d (Write path) ≡ Ok changes → WriteFound d path changes
+pub write-ok : (d : Disk) (path : Path) (changes : List Change) → plan_of d (Write path) ≡ Ok changes
+    → WriteFound d path changes
 unfolding plan_of
 write-ok d path changes e =
     let at = at_entry-ok d path _ changes e in
@@ -119,21 +125,25 @@ relink-ok d old new more changes e =
 
 pub record LinkFound (d : Disk) (old new : Path) (changes : List Change) : Type 0 where
   pub at : RelinkFound d old new
-  pub are : changes ≡ link_count LinkUp (target_of d at.old_dir at.old_k) (links_of d (target_of d at.old_dir at.old_k) + 1)
+  pub are : changes ≡ link_count LinkUp (target_of d at.old_dir at.old_k)
+      (links_of d (target_of d at.old_dir at.old_k) + 1)
       ∷ entry_set d at.dir at.k (target_of d at.old_dir at.old_k) new.last ∷ []
 
-pub link-ok : (d : Disk) (old new : Path) (changes : List Change) → plan_of d (Link old new) ≡ Ok changes → LinkFound d old new changes
+pub link-ok : (d : Disk) (old new : Path) (changes : List Change) → plan_of d (Link old new) ≡ Ok changes
+    → LinkFound d old new changes
 unfolding plan_of
 link-ok d old new changes e = let f = relink-ok d old new _ changes e in record { at = f.0; are = f.1 }
 
 pub record RenameFound (d : Disk) (old new : Path) (changes : List Change) : Type 0 where
   pub at : RelinkFound d old new
-  pub are : changes ≡ link_count LinkUp (target_of d at.old_dir at.old_k) (links_of d (target_of d at.old_dir at.old_k) + 1)
+  pub are : changes ≡ link_count LinkUp (target_of d at.old_dir at.old_k)
+      (links_of d (target_of d at.old_dir at.old_k) + 1)
       ∷ entry_set d at.dir at.k (target_of d at.old_dir at.old_k) new.last
       ∷ entry_clear d at.old_dir at.old_k
       ∷ link_count LinkDown (target_of d at.old_dir at.old_k) (links_of d (target_of d at.old_dir at.old_k)) ∷ []
 
-pub rename-ok : (d : Disk) (old new : Path) (changes : List Change) → plan_of d (Rename old new) ≡ Ok changes → RenameFound d old new changes
+pub rename-ok : (d : Disk) (old new : Path) (changes : List Change) → plan_of d (Rename old new) ≡ Ok changes
+    → RenameFound d old new changes
 unfolding plan_of
 rename-ok d old new changes e = let f = relink-ok d old new _ changes e in record { at = f.0; are = f.1 }
 
@@ -147,7 +157,8 @@ pub record UnlinkFound (d : Disk) (path : Path) (changes : List Change) : Type 0
       then link_count LinkDown (target_of d dir k) (links_of d (target_of d dir k) - 1) ∷ []
       else (inode_free (target_of d dir k) ∷ map_clears d (target_of d dir k)))
 
-pub unlink-ok : (d : Disk) (path : Path) (changes : List Change) → plan_of d (Unlink path) ≡ Ok changes → UnlinkFound d path changes
+pub unlink-ok : (d : Disk) (path : Path) (changes : List Change) → plan_of d (Unlink path) ≡ Ok changes
+    → UnlinkFound d path changes
 unfolding plan_of
 unlink-ok d path changes e =
     let at = at_entry-ok d path _ changes e in
@@ -171,9 +182,11 @@ pub record MkdirFound (d : Disk) (path : Path) (changes : List Change) : Type 0 
   pub inode : free_inode d ≡ Some i
   pub block : free_block d ≡ Some b
   pub place : free_entry d dir ≡ Some k
-  pub are : changes ≡ inode_init i 2 ∷ map_set b ∷ init_block InitDir b 0x44 i ∷ pointer_set i 0 b ∷ entry_set d dir k i path.last ∷ []
+  pub are : changes ≡ inode_init i 2 ∷ map_set b ∷ init_block InitDir b 0x44 i ∷ pointer_set i 0 b
+      ∷ entry_set d dir k i path.last ∷ []
 
-pub mkdir-ok : (d : Disk) (path : Path) (changes : List Change) → plan_of d (Mkdir path) ≡ Ok changes → MkdirFound d path changes
+pub mkdir-ok : (d : Disk) (path : Path) (changes : List Change) → plan_of d (Mkdir path) ≡ Ok changes
+    → MkdirFound d path changes
 unfolding plan_of
 mkdir-ok d path changes e =
     let walk = then_ok-ok (walk_end d 0 path.through.items) _ changes e in
@@ -201,9 +214,11 @@ pub record RmdirFound (d : Disk) (path : Path) (changes : List Change) : Type 0 
   pub named : entry_named d dir path.last ≡ Some k
   pub directory : kind_of d (target_of d dir k) ≡ 2
   pub empty : has_entries d (target_of d dir k) ≡ false
-  pub are : changes ≡ entry_clear d dir k ∷ inode_free (target_of d dir k) ∷ option_to_list (map_clear_at d (target_of d dir k) 0)
+  pub are : changes ≡ entry_clear d dir k ∷ inode_free (target_of d dir k)
+      ∷ option_to_list (map_clear_at d (target_of d dir k) 0)
 
-pub rmdir-ok : (d : Disk) (path : Path) (changes : List Change) → plan_of d (Rmdir path) ≡ Ok changes → RmdirFound d path changes
+pub rmdir-ok : (d : Disk) (path : Path) (changes : List Change) → plan_of d (Rmdir path) ≡ Ok changes
+    → RmdirFound d path changes
 unfolding plan_of
 rmdir-ok d path changes e =
     let at = at_entry-ok d path _ changes e in

@@ -1,5 +1,6 @@
 -- What clearing an inode's blocks in the allocation map does.
-use Rattle.std.proofs.Common.{◌≡◌, ◌≢◌, ℕ, zero, suc, ◌<◌, ◌≤◌, ◌⊎◌, inl, inr, List, [], ◌∷◌, ◌++◌, Bool, true, false, arith, refl, sym, ◌∙◌, ap, subst}
+use Rattle.std.proofs.Common.{◌≡◌, ◌≢◌, ℕ, zero, suc, ◌<◌, ◌≤◌, ◌⊎◌, inl, inr, List, [], ◌∷◌, ◌++◌, Bool, true, false}
+use Rattle.std.proofs.Common.{arith, refl, sym, ◌∙◌, ap, subst}
 use Rattle.std.specs.Prelude.{option_to_list}
 use Rattle.std.proofs.lemmas.Bool.{cases_eq}
 use Rattle.crash_model.specs.Disk.{Disk, IsDisk, with_bytes}
@@ -17,7 +18,8 @@ use Rattle.soundness_laws.proofs.FromTables.{area}
 use Rattle.soundness_laws.proofs.ToTables.{pointer-bytes}
 use Rattle.inode_fs.proofs.Lands.{with_changes-size}
 
-pub with_changes-append : (d : Disk) (cs es : List Change) → with_changes d (cs ++ es) ≡ with_changes (with_changes d cs) es
+pub with_changes-append : (d : Disk) (cs es : List Change)
+    → with_changes d (cs ++ es) ≡ with_changes (with_changes d cs) es
 with_changes-append d [] es = refl
 with_changes-append d (c ∷ cs) es = with_changes-append (with_bytes d c.block c.offset c.new.items) cs es
 
@@ -26,13 +28,16 @@ pub record Cleared (d e after : Disk) (i n : ℕ) : Type 0 where
   pub used : ℕ → Bool
   pub disk : IsDisk after
   pub tables : tables_of after ≡ record (tables_of e) { used = used }
-  pub left : (b : ℕ) → used b ≡ true → ((tables_of e).used b ≡ true) × ((s : ℕ) → s < n → is_data d (pointer_of d i s) ≡ true → pointer_of d i s ≢ b)
-  pub kept : (b : ℕ) → (tables_of e).used b ≡ true → ((s : ℕ) → s < n → is_data d (pointer_of d i s) ≡ true → pointer_of d i s ≢ b) → used b ≡ true
+  pub left : (b : ℕ) → used b ≡ true → ((tables_of e).used b ≡ true)
+      × ((s : ℕ) → s < n → is_data d (pointer_of d i s) ≡ true → pointer_of d i s ≢ b)
+  pub kept : (b : ℕ) → (tables_of e).used b ≡ true → ((s : ℕ) → s < n → is_data d (pointer_of d i s) ≡ true
+      → pointer_of d i s ≢ b) → used b ≡ true
 
 below_suc : (k n : ℕ) → k < suc n → (k < n) ⊎ (k ≡ n)
 below_suc k n h = grind arith
 
-pub clears-make : (d e : Disk) (i n : ℕ) → IsDisk e → e.blocks ≡ d.blocks → Cleared d e (with_changes e (some_below n (map_clear_at d i))) i n
+pub clears-make : (d e : Disk) (i n : ℕ) → IsDisk e → e.blocks ≡ d.blocks
+    → Cleared d e (with_changes e (some_below n (map_clear_at d i))) i n
 unfolding some_below
 clears-make d e i zero disk same = record {
   used = (tables_of e).used;
@@ -42,11 +47,14 @@ clears-make d e i zero disk same = record {
   kept = λ b u none. u;
 }
 clears-make d e i (suc n) disk same =
-    subst (λ (x : Disk). Cleared d e x i (suc n)) (sym (with_changes-append e (some_below n (map_clear_at d i)) (option_to_list (map_clear_at d i n))))
+    subst (λ (x : Disk). Cleared d e x i (suc n)) (sym (with_changes-append e (some_below n (map_clear_at d i))
+    (option_to_list (map_clear_at d i n))))
     (go (is_data d (pointer_of d i n)) refl (clears-make d e i n disk same))
   where
-    go : (test : Bool) → is_data d (pointer_of d i n) ≡ test → Cleared d e (with_changes e (some_below n (map_clear_at d i))) i n
-        → Cleared d e (with_changes (with_changes e (some_below n (map_clear_at d i))) (option_to_list (when test (map_clear (pointer_of d i n))))) i (suc n)
+    go : (test : Bool) → is_data d (pointer_of d i n) ≡ test
+        → Cleared d e (with_changes e (some_below n (map_clear_at d i))) i n
+        → Cleared d e (with_changes (with_changes e (some_below n (map_clear_at d i)))
+        (option_to_list (when test (map_clear (pointer_of d i n))))) i (suc n)
     go false outside c = record {
       used = c.used;
       disk = c.disk;
@@ -55,7 +63,8 @@ clears-make d e i (suc n) disk same =
         old.0,
         λ s below inside. elim (below_suc s n below) [
           | inl less ↦ old.1 s less inside
-          | inr at ↦ absurd (let both : true ≡ false = sym inside ∙ ap (λ (x : ℕ). is_data d (pointer_of d i x)) at ∙ outside in cc)
+          | inr at ↦ absurd (let both : true ≡ false = sym inside ∙ ap (λ (x : ℕ). is_data d (pointer_of d i x)) at
+              ∙ outside in cc)
         ],
       );
       kept = λ b u none. c.kept b u (λ s below. none s (omega arith));
@@ -71,7 +80,8 @@ clears-make d e i (suc n) disk same =
           disk = m.disk;
           tables = m.tables ∙ ap (λ (x : Tables). record x { used = with_value x.used b false }) c.tables;
           left = λ a u. elim (cases_eq a b) [
-            | inl at ↦ absurd (let both : true ≡ false = sym u ∙ ap (with_value c.used b false) at ∙ with_value-same c.used b false in cc)
+            | inl at ↦ absurd (let both : true ≡ false = sym u ∙ ap (with_value c.used b false) at
+                ∙ with_value-same c.used b false in cc)
             | inr other ↦
                 let old = c.left a (sym (with_value-other c.used b false a other) ∙ u) in (
                   old.0,
@@ -87,8 +97,10 @@ clears-make d e i (suc n) disk same =
         }
 
 -- all slots that name a block are among the first n
-pub clears-free : (d e after : Disk) (i n : ℕ) → Sound (tables_of d) → (tables_of d).kind i ≢ 0 → n ≤ 4 → (tables_of e).used ≡ (tables_of d).used → (c : Cleared d e after i n)
-    → ((s b : ℕ) → HasPointer (tables_of d).kind (tables_of d).pointer i s b → s < n) → FreesBlocks (tables_of d).kind (tables_of d).pointer (tables_of d).used c.used i
+pub clears-free : (d e after : Disk) (i n : ℕ) → Sound (tables_of d) → (tables_of d).kind i ≢ 0 → n ≤ 4
+    → (tables_of e).used ≡ (tables_of d).used → (c : Cleared d e after i n)
+    → ((s b : ℕ) → HasPointer (tables_of d).kind (tables_of d).pointer i s b → s < n)
+    → FreesBlocks (tables_of d).kind (tables_of d).pointer (tables_of d).used c.used i
 clears-free d e after i n sound live small same c few =
     let t = tables_of d in
     let bytes = pointer-bytes d i in

@@ -1,12 +1,15 @@
 -- What an accepted operation means for the view of a sound disk.
-use Rattle.std.proofs.Common.{◌≡◌, ◌≢◌, ℕ, ◌+◌, ◌<◌, ◌⊎◌, inl, inr, List, [], ◌∷◌, Some, Ok, arith, refl, sym, ◌∙◌, ap, subst}
+use Rattle.std.proofs.Common.{◌≡◌, ◌≢◌, ℕ, ◌+◌, ◌<◌, ◌⊎◌, inl, inr, List, [], ◌∷◌, Some, Ok, arith, refl, sym, ◌∙◌, ap}
+use Rattle.std.proofs.Common.{subst}
 use Rattle.std.proofs.lemmas.Bool.{false≢true}
 use Rattle.crash_model.specs.Disk.{Disk, IsDisk}
 use Rattle.crash_model.specs.Layout.{target_of}
-use Rattle.crash_model.specs.Plan.{plan_of, name_spelling, entry_named, directory_named, walk_end, free_inode, free_block, free_slot, with_changes}
+use Rattle.crash_model.specs.Plan.{plan_of, name_spelling, entry_named, directory_named, walk_end, free_inode}
+use Rattle.crash_model.specs.Plan.{free_block, free_slot, with_changes}
 use Rattle.crash_model.specs.Sound.{IsSound}
 use Rattle.crash_model.specs.View.{View, view_of}
-use Rattle.crash_model.specs.Meaning.{Becomes, nothing, with_name, IsLowest, IsFreeInode, IsFreeBlock, IsFreeSlot, IsKind, Walks, IsParent, IsTarget, Means, MeansUnlinkOne, MeansUnlinkLast}
+use Rattle.crash_model.specs.Meaning.{Becomes, nothing, with_name, IsLowest, IsFreeInode, IsFreeBlock, IsFreeSlot}
+use Rattle.crash_model.specs.Meaning.{IsKind, Walks, IsParent, IsTarget, Means, MeansUnlinkOne, MeansUnlinkLast}
 use Rattle.crash_model.specs.declared.operations.Op.{Op}
 use Rattle.crash_model.specs.declared.names.Path.{Path}
 use Rattle.crash_model.specs.declared.operations.Op.TheVariants.{Create, Write, Link, Unlink, Rename, Mkdir, Rmdir}
@@ -19,32 +22,47 @@ use Rattle.soundness_laws.proofs.ByTables.{kind-at}
 use Rattle.soundness_laws.proofs.Views.{same-view}
 use Rattle.soundness_laws.proofs.ToTables.{sound-tables}
 use Rattle.soundness_laws.proofs.Kept.{tables_after_link-sound}
-use Rattle.soundness_laws.proofs.Meant.{tables_after_create-becomes, tables_after_write-becomes, tables_after_link-becomes, tables_after_unlink-becomes, tables_after_removal-becomes, tables_after_rename-becomes, tables_after_mkdir-becomes}
+use Rattle.soundness_laws.proofs.Meant.{tables_after_create-becomes, tables_after_write-becomes}
+use Rattle.soundness_laws.proofs.Meant.{tables_after_link-becomes, tables_after_unlink-becomes}
+use Rattle.soundness_laws.proofs.Meant.{tables_after_removal-becomes, tables_after_rename-becomes}
+use Rattle.soundness_laws.proofs.Meant.{tables_after_mkdir-becomes}
 use Rattle.inode_fs.specs.Inside.{GivesName}
 use Rattle.inode_fs.proofs.Accepted.{create-ok, write-ok, link-ok, rename-ok, unlink-ok, mkdir-ok, rmdir-ok}
-use Rattle.inode_fs.proofs.Searched.{Walked, walk-found, fresh-found, fresh-lowest, block-found, slot-found, named-found}
-use Rattle.inode_fs.proofs.Changed.{Made, can-create, create-made, can-grow, write-made, can-link, link-made, rename-made, unlink-made, rmdir-made, can-make, mkdir-made}
+use Rattle.inode_fs.proofs.Searched.{Walked, walk-found, fresh-found, fresh-lowest, block-found, slot-found}
+use Rattle.inode_fs.proofs.Searched.{named-found}
+use Rattle.inode_fs.proofs.Changed.{Made, can-create, create-made, can-grow, write-made, can-link, link-made}
+use Rattle.inode_fs.proofs.Changed.{rename-made, unlink-made, rmdir-made, can-make, mkdir-made}
 use Rattle.inode_fs.proofs.Changed.Unlinked.{Named, Gone}
 use Rattle.inode_fs.proofs.Sounds.{old-entry}
 
 -- ---- names and kinds of the view
 
-pub name-of : (d : Disk) (dir k i : ℕ) (name : List ℕ) → (tables_of d).entry dir k ≡ Leads i (name_spelling name) → (view_of d).name dir name i
+pub name-of : (d : Disk) (dir k i : ℕ) (name : List ℕ) → (tables_of d).entry dir k ≡ Leads i (name_spelling name)
+    → (view_of d).name dir name i
 name-of d dir k i name e = ((same-view d).names dir name i).1 (k, e)
 
 pub kind-of : (d : Disk) (i kind : ℕ) → (tables_of d).kind i ≡ kind → kind ≢ 0 → IsKind (view_of d) i kind
-kind-of d i kind e some = ((tables_of d).links i, ((same-view d).inodes i kind ((tables_of d).links i)).1 (e, refl, some))
+kind-of d i kind e some = (
+  (tables_of d).links i,
+  ((same-view d).inodes i kind ((tables_of d).links i)).1
+      (e, refl, some),
+)
 
 -- ---- walks
 
-pub directory_named-name : (d : Disk) (dir : ℕ) (name : List ℕ) (child : ℕ) → dir < 16 → Entered d dir name child → (view_of d).name dir name child × Walked d child
+pub directory_named-name : (d : Disk) (dir : ℕ) (name : List ℕ) (child : ℕ) → dir < 16 → Entered d dir name child
+    → (view_of d).name dir name child × Walked d child
 directory_named-name d dir name child below e =
     let n = named-found d dir name e.k below e.named in (
       name-of d dir e.k child name (n.leads ∙ ap (λ (x : ℕ). Leads x (name_spelling name)) e.target),
-      record { below = subst (λ (x : ℕ). x < 16) e.target n.target_below; kind = kind-at d child (subst (λ (x : ℕ). x < 16) e.target n.target_below) ∙ e.kind },
+      record {
+        below = subst (λ (x : ℕ). x < 16) e.target n.target_below;
+        kind = kind-at d child (subst (λ (x : ℕ). x < 16) e.target n.target_below) ∙ e.kind;
+      },
     )
 
-pub walks : (d : Disk) (names : List (List ℕ)) (from to : ℕ) → Walked d from → walk_end d from names ≡ Ok to → Walks (view_of d) from names to
+pub walks : (d : Disk) (names : List (List ℕ)) (from to : ℕ) → Walked d from → walk_end d from names ≡ Ok to
+    → Walks (view_of d) from names to
 walks d [] from to at e = cc
 walks d (name ∷ names) from to at e =
     let step = then_ok-ok (directory_named d from name) (λ child. walk_end d child names) to e in
@@ -54,13 +72,18 @@ walks d (name ∷ names) from to at e =
 pub root-walk_end : (d : Disk) → Sound (tables_of d) → Walked d 0
 root-walk_end d sound = record { below = omega arith; kind = sound.inodes.root.0 }
 
-parent-is : (d : Disk) (path : Path) (dir : ℕ) → Sound (tables_of d) → walk_end d 0 path.through.items ≡ Ok dir → IsParent (view_of d) path dir
+parent-is : (d : Disk) (path : Path) (dir : ℕ) → Sound (tables_of d) → walk_end d 0 path.through.items ≡ Ok dir
+    → IsParent (view_of d) path dir
 parent-is d path dir sound e = walks d path.through.items 0 dir (root-walk_end d sound) e
 
-target-is : (d : Disk) (path : Path) (dir k : ℕ) → Sound (tables_of d) → walk_end d 0 path.through.items ≡ Ok dir → entry_named d dir path.last ≡ Some k → IsTarget (view_of d) path dir (target_of d dir k)
+target-is : (d : Disk) (path : Path) (dir k : ℕ) → Sound (tables_of d) → walk_end d 0 path.through.items ≡ Ok dir
+    → entry_named d dir path.last ≡ Some k → IsTarget (view_of d) path dir (target_of d dir k)
 target-is d path dir k sound walk named =
-    let at = walk-found d path.through.items dir sound walk in
-    (parent-is d path dir sound walk, name-of d dir k (target_of d dir k) path.last (named-found d dir path.last k at.below named).leads)
+    let at = walk-found d path.through.items dir sound walk in (
+      parent-is d path dir sound walk,
+      name-of d dir k (target_of d dir k) path.last
+          (named-found d dir path.last k at.below named).leads,
+    )
 
 -- ---- what is lowest
 
@@ -69,8 +92,17 @@ lowest-inode d i e =
     let t = tables_of d in
     let fresh = fresh-found d i 1 e (omega arith, omega arith) in
     record {
-      here = (fresh.below, λ w. let in_tables = ((same-view d).inodes i w.0 w.1).0 w.2 in in_tables.2 (sym in_tables.0 ∙ fresh.free));
-      lower = λ j less w. w.1 (t.kind j, t.links j, ((same-view d).inodes j (t.kind j) (t.links j)).1 (refl, refl, fresh-lowest d i e j less));
+      here = (
+        fresh.below,
+        λ w. let in_tables = ((same-view d).inodes i w.0 w.1).0 w.2 in
+            in_tables.2 (sym in_tables.0 ∙ fresh.free),
+      );
+      lower = λ j less w. w.1 (
+        t.kind j,
+        t.links j,
+        ((same-view d).inodes j (t.kind j) (t.links j)).1
+            (refl, refl, fresh-lowest d i e j less),
+      );
     }
 
 lowest-block : (d : Disk) (b : ℕ) → free_block d ≡ Some b → IsLowest (IsFreeBlock d.blocks d.journal (view_of d)) b
@@ -82,24 +114,33 @@ lowest-block d b e =
       lower = λ c less w. w.2 (((same-view d).used_blocks c).1 (w.0, f.lower c w.0 less));
     }
 
-lowest-slot : (d : Disk) (i s : ℕ) → i < 16 → (tables_of d).kind i ≢ 0 → free_slot d i ≡ Some s → IsLowest (IsFreeSlot (view_of d) i) s
+lowest-slot : (d : Disk) (i s : ℕ) → i < 16 → (tables_of d).kind i ≢ 0 → free_slot d i ≡ Some s
+    → IsLowest (IsFreeSlot (view_of d) i) s
 lowest-slot d i s below live e =
     let f = slot-found d i s below e in
     record {
-      here = (f.below, λ b h. let in_tables = ((same-view d).pointers i s b).0 h in in_tables.2 (sym in_tables.1 ∙ f.empty));
-      lower = λ r less w. w.1 ((tables_of d).pointer i r) (((same-view d).pointers i r ((tables_of d).pointer i r)).1 (live, refl, f.lower r less));
+      here = (
+        f.below,
+        λ b h. let in_tables = ((same-view d).pointers i s b).0 h in
+            in_tables.2 (sym in_tables.1 ∙ f.empty),
+      );
+      lower = λ r less w. w.1 ((tables_of d).pointer i r) (((same-view d).pointers i r ((tables_of d).pointer i r)).1
+          (live, refl, f.lower r less));
     }
 
 -- ---- what is gained and lost
 
-after : (d : Disk) (changes : List Change) (t : Tables) (gained lost lost' : View) → Made d changes t → SameView lost lost' → Becomes (view (tables_of d)) (view t) gained lost'
+after : (d : Disk) (changes : List Change) (t : Tables) (gained lost lost' : View) → Made d changes t
+    → SameView lost lost' → Becomes (view (tables_of d)) (view t) gained lost'
     → Becomes (view_of d) (view_of (with_changes d changes)) gained lost
 after d changes t gained lost lost' made same becomes =
     let new = with_changes d changes in
-    becomes-same (view_of d) (view_of new) lost (view (tables_of d)) (view (tables_of new)) lost' gained (same-view d) (same-view new) same
+    becomes-same (view_of d) (view_of new) lost (view (tables_of d)) (view (tables_of new)) lost' gained (same-view d)
+    (same-view new) same
     (subst (λ (x : Tables). Becomes (view (tables_of d)) (view x) gained lost') (sym made.tables) becomes)
 
-pub plan-means : (d : Disk) (op : Op) (changes : List Change) → IsDisk d → IsSound d → GivesName op → plan_of d op ≡ Ok changes → Means d.blocks d.journal (view_of d) (view_of (with_changes d changes)) op
+pub plan-means : (d : Disk) (op : Op) (changes : List Change) → IsDisk d → IsSound d → GivesName op
+    → plan_of d op ≡ Ok changes → Means d.blocks d.journal (view_of d) (view_of (with_changes d changes)) op
 plan-means d (Create path) changes disk sound name e =
     let t = sound-tables d disk sound in
     let f = create-ok d path changes e in (
@@ -108,7 +149,8 @@ plan-means d (Create path) changes disk sound name e =
       record {
         inode = f.i;
         lowest = lowest-inode d f.i f.inode;
-        becomes = after d changes _ _ _ _ (create-made d path changes disk t name f) (same-self nothing) (tables_after_create-becomes (tables_of d) f.dir f.k f.i path.last (can-create d path changes t name f));
+        becomes = after d changes _ _ _ _ (create-made d path changes disk t name f) (same-self nothing)
+            (tables_after_create-becomes (tables_of d) f.dir f.k f.i path.last (can-create d path changes t name f));
       },
     )
 plan-means d (Write path) changes disk sound name e =
@@ -126,7 +168,8 @@ plan-means d (Write path) changes disk sound name e =
         block = f.b;
         lowest_slot = lowest-slot d target f.s below (λ z. let one = can.file in omega arith) f.slot;
         lowest_block = lowest-block d f.b f.block;
-        becomes = after d changes _ _ _ _ (write-made d path changes disk t f) (same-self nothing) (tables_after_write-becomes (tables_of d) target f.s f.b t can);
+        becomes = after d changes _ _ _ _ (write-made d path changes disk t f) (same-self nothing)
+            (tables_after_write-becomes (tables_of d) target f.s f.b t can);
       },
     )
 plan-means d (Link old new) changes disk sound name e =
@@ -143,7 +186,8 @@ plan-means d (Link old new) changes disk sound name e =
       record {
         links = (tables_of d).links target;
         had = ((same-view d).inodes target 1 ((tables_of d).links target)).1 (can.file, refl, λ z. omega arith);
-        becomes = after d changes _ _ _ _ (link-made d old new changes disk t name found) (same-self _) (tables_after_link-becomes (tables_of d) f.dir f.k target new.last can);
+        becomes = after d changes _ _ _ _ (link-made d old new changes disk t name found) (same-self _)
+            (tables_after_link-becomes (tables_of d) f.dir f.k target new.last can);
       },
     )
 plan-means d (Unlink path) changes disk sound name e =
@@ -152,17 +196,21 @@ plan-means d (Unlink path) changes disk sound name e =
     let target = target_of d f.dir f.k in
     let walk = walk-found d path.through.items f.dir t f.walk in
     let file = kind-at d target (named-found d f.dir path.last f.k walk.below f.named).target_below ∙ f.file in
-    let means : MeansUnlinkOne (view_of d) (view_of (with_changes d changes)) f.dir path.last target ⊎ MeansUnlinkLast (view_of d) (view_of (with_changes d changes)) f.dir path.last target =
+    let means : MeansUnlinkOne (view_of d) (view_of (with_changes d changes)) f.dir path.last target
+    ⊎ MeansUnlinkLast (view_of d) (view_of (with_changes d changes)) f.dir path.last target =
     elim (unlink-made d path changes disk t f) [
       | Named left can made ↦ inl (record {
         left = left;
         some = can.some;
         had = ((same-view d).inodes target 1 (left + 1)).1 (can.file, can.links, λ z. omega arith);
-        becomes = after d changes _ _ _ _ made (same-self _) (tables_after_unlink-becomes (tables_of d) f.dir f.k target path.last left t can);
+        becomes = after d changes _ _ _ _ made (same-self _)
+            (tables_after_unlink-becomes (tables_of d) f.dir f.k target path.last left t can);
       })
       | Gone used can made ↦ inr (record {
         had = ((same-view d).inodes target 1 1).1 (file, can.last, λ z. omega arith);
-        becomes = after d changes _ _ _ _ made (same-all_of (with_name nothing f.dir path.last target) (view_of d) (view (tables_of d)) target (same-view d)) (tables_after_removal-becomes (tables_of d) f.dir f.k target path.last used t can);
+        becomes = after d changes _ _ _ _ made (same-all_of (with_name nothing f.dir path.last target) (view_of d)
+            (view (tables_of d)) target (same-view d)) (tables_after_removal-becomes (tables_of d) f.dir f.k target
+            path.last used t can);
       })
     ] in
     (f.dir, target, target-is d path f.dir f.k t f.walk f.named, means)
@@ -179,7 +227,8 @@ plan-means d (Rename old new) changes disk sound name e =
       parent-is d new f.dir t f.new_walk,
       record {
         becomes = after d changes _ _ _ _ (rename-made d old new changes disk t name found) (same-self _)
-            (tables_after_rename-becomes (tables_of d) f.old_dir f.old_k f.dir f.k target old.last new.last (tables_after_link-sound (tables_of d) f.dir f.k target new.last t can) can (old-entry d old new t f));
+            (tables_after_rename-becomes (tables_of d) f.old_dir f.old_k f.dir f.k target old.last new.last
+            (tables_after_link-sound (tables_of d) f.dir f.k target new.last t can) can (old-entry d old new t f));
       },
     )
 plan-means d (Mkdir path) changes disk sound name e =
@@ -192,7 +241,8 @@ plan-means d (Mkdir path) changes disk sound name e =
         block = f.b;
         lowest_inode = lowest-inode d f.i f.inode;
         lowest_block = lowest-block d f.b f.block;
-        becomes = after d changes _ _ _ _ (mkdir-made d path changes disk t name f) (same-self nothing) (tables_after_mkdir-becomes (tables_of d) f.dir f.k f.i f.b path.last t (can-make d path changes t name f));
+        becomes = after d changes _ _ _ _ (mkdir-made d path changes disk t name f) (same-self nothing)
+            (tables_after_mkdir-becomes (tables_of d) f.dir f.k f.i f.b path.last t (can-make d path changes t name f));
       },
     )
 plan-means d (Rmdir path) changes disk sound name e =
@@ -200,13 +250,16 @@ plan-means d (Rmdir path) changes disk sound name e =
     let f = rmdir-ok d path changes e in
     let target = target_of d f.dir f.k in
     let walk = walk-found d path.through.items f.dir t f.walk in
-    let directory = kind-at d target (named-found d f.dir path.last f.k walk.below f.named).target_below ∙ f.directory in
+    let directory = kind-at d target (named-found d f.dir path.last f.k walk.below f.named).target_below
+    ∙ f.directory in
     let r = rmdir-made d path changes disk t f in (
       f.dir,
       target,
       target-is d path f.dir f.k t f.walk f.named,
       record {
         had = ((same-view d).inodes target 2 1).1 (directory, r.can.last, λ z. omega arith);
-        becomes = after d changes _ _ _ _ r.made (same-all_of (with_name nothing f.dir path.last target) (view_of d) (view (tables_of d)) target (same-view d)) (tables_after_removal-becomes (tables_of d) f.dir f.k target path.last r.used t r.can);
+        becomes = after d changes _ _ _ _ r.made (same-all_of (with_name nothing f.dir path.last target) (view_of d)
+            (view (tables_of d)) target (same-view d)) (tables_after_removal-becomes (tables_of d) f.dir f.k target
+            path.last r.used t r.can);
       },
     )

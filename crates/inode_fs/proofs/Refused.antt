@@ -1,9 +1,11 @@
 -- On a sound disk an operation is refused exactly as the tests said of views tell.
-use Rattle.std.proofs.Common.{◌≡◌, ◌≢◌, ℕ, ◌<◌, ◌⊎◌, ◌↔◌, inl, inr, List, [], ◌∷◌, Bool, true, false, not, eqb, Option, Some, None, Result, Ok, Err, arith, refl, sym, ◌∙◌, ap, subst}
+use Rattle.std.proofs.Common.{◌≡◌, ◌≢◌, ℕ, ◌<◌, ◌⊎◌, ◌↔◌, inl, inr, List, [], ◌∷◌, Bool, true, false, not, eqb, Option}
+use Rattle.std.proofs.Common.{Some, None, Result, Ok, Err, arith, refl, sym, ◌∙◌, ap, subst}
 use Rattle.std.proofs.lemmas.Bool.{eq-eqb, eqb-true}
 use Rattle.crash_model.specs.Disk.{Disk, IsDisk}
 use Rattle.crash_model.specs.Layout.{kind_of, target_of}
-use Rattle.crash_model.specs.Plan.{plan_of, name_spelling, entry_named, directory_named, walk_end, then_ok, unless, with_found, at_path, relink_plan}
+use Rattle.crash_model.specs.Plan.{plan_of, name_spelling, entry_named, directory_named, walk_end, then_ok, unless}
+use Rattle.crash_model.specs.Plan.{with_found, at_path, relink_plan}
 use Rattle.crash_model.specs.Sound.{IsSound}
 use Rattle.crash_model.specs.View.{View, view_of}
 use Rattle.crash_model.specs.Meaning.{LeadsTo, IsKind, Walks, WalkFails, AtPath, AtName, Relinks, IsRefused}
@@ -20,7 +22,8 @@ use Rattle.soundness_laws.proofs.Views.{same-view}
 use Rattle.soundness_laws.proofs.ToTables.{sound-tables}
 use Rattle.inode_fs.proofs.Searched.{Walked, walk-found, NamedEntry, named-found}
 use Rattle.inode_fs.proofs.Means.{kind-of, name-of, walks, root-walk_end}
-use Rattle.inode_fs.proofs.ViewTests.{named-by, test-named, test-inode, test-block, test-slot, test-full, test-kind, test-links, test-entries}
+use Rattle.inode_fs.proofs.ViewTests.{named-by, test-named, test-inode, test-block, test-slot, test-full, test-kind}
+use Rattle.inode_fs.proofs.ViewTests.{test-links, test-entries}
 
 -- an answer is a refusal exactly where something holds of the fault
 abbrev pub Refuses : {B : Type 0} → Result B FsFault → (FsFault → Type 0) → Type 0
@@ -56,7 +59,8 @@ one false P fault rest R test others =
 
 -- a search, and what is made of what it finds
 found : {A B : Type 0} (o : Option A) (P : Type 0) (fault : FsFault) (answer : A → Result B FsFault)
-    (R : FsFault → Type 0) → ((o ≡ None) ↔ P) → ((x : A) → Refuses (answer x) R) → Refuses (with_found o fault answer) (First P (¬ P) fault R)
+    (R : FsFault → Type 0) → ((o ≡ None) ↔ P) → ((x : A) → Refuses (answer x) R)
+    → Refuses (with_found o fault answer) (First P (¬ P) fault R)
 found None P fault answer R test others = let p = test.0 refl in fails P (¬ P) fault R p (λ none. none p)
 found (Some x) P fault answer R test others =
     let none : ¬ P = λ p. let no : Some x ≡ None = test.1 p in cc in
@@ -72,7 +76,8 @@ abbrev AtInode : View → ℕ → List ℕ → (ℕ → FsFault → Type 0) → 
 AtInode v dir name Then f = ((¬ (LeadsTo v dir name)) × (f ≡ NotFound)) ⊎ ((i : ℕ) × v.name dir name i × Then i f)
 
 -- a name leads to one inode
-one-inode : (d : Disk) (dir : ℕ) (name : List ℕ) (i j : ℕ) → Sound (tables_of d) → dir < 16 → (view_of d).name dir name i → (view_of d).name dir name j → i ≡ j
+one-inode : (d : Disk) (dir : ℕ) (name : List ℕ) (i j : ℕ) → Sound (tables_of d) → dir < 16
+    → (view_of d).name dir name i → (view_of d).name dir name j → i ≡ j
 one-inode d dir name i j sound below h g =
     let a = named-by d dir name i sound below h in
     let b = named-by d dir name j sound below g in
@@ -169,8 +174,10 @@ walk-fails d (name ∷ names) from sound at =
 
 -- ---- at a path
 
-at-path : {B : Type 0} (d : Disk) (path : Path) (plan : ℕ → Result B FsFault) (Then : ℕ → FsFault → Type 0) → Sound (tables_of d)
-    → ((dir : ℕ) → Walked d dir → Refuses (plan dir) (Then dir)) → Refuses (then_ok (walk_end d 0 path.through.items) plan) (AtPath (view_of d) path Then)
+at-path : {B : Type 0} (d : Disk) (path : Path) (plan : ℕ → Result B FsFault) (Then : ℕ → FsFault → Type 0)
+    → Sound (tables_of d)
+    → ((dir : ℕ) → Walked d dir → Refuses (plan dir) (Then dir))
+    → Refuses (then_ok (walk_end d 0 path.through.items) plan) (AtPath (view_of d) path Then)
 at-path {B = B} d path plan Then sound next f = go (walk_end d 0 path.through.items) refl
   where
     root : Walked d 0
@@ -182,7 +189,8 @@ at-path {B = B} d path plan Then sound next f = go (walk_end d 0 path.through.it
     ends : (to : ℕ) → Walks (view_of d) 0 path.through.items to → walk_end d 0 path.through.items ≡ Ok to
     ends to = walk-ends d path.through.items 0 to sound root
 
-    go : (r : Result ℕ FsFault) → walk_end d 0 path.through.items ≡ r → ((then_ok r plan ≡ Err f) ↔ AtPath (view_of d) path Then f)
+    go : (r : Result ℕ FsFault) → walk_end d 0 path.through.items ≡ r
+        → ((then_ok r plan ≡ Err f) ↔ AtPath (view_of d) path Then f)
     go (Err g) e = (
       λ q. let same : Err g ≡ Err f = cc in inl ((at_end f).0 (e ∙ same)),
       λ h. elim h [
@@ -203,7 +211,8 @@ at-path {B = B} d path plan Then sound next f = go (walk_end d 0 path.through.it
       ],
     )
 
-at-name : {B : Type 0} (d : Disk) (path : Path) (plan : ℕ → ℕ → Result B FsFault) (Then : ℕ → ℕ → FsFault → Type 0) → Sound (tables_of d)
+at-name : {B : Type 0} (d : Disk) (path : Path) (plan : ℕ → ℕ → Result B FsFault) (Then : ℕ → ℕ → FsFault → Type 0)
+    → Sound (tables_of d)
     → ((dir k : ℕ) → Walked d dir → NamedEntry d dir path.last k → Refuses (plan dir k) (Then dir (target_of d dir k)))
     → Refuses (at_path d path (λ dir name. with_found (entry_named d dir name) NotFound (λ k. plan dir k)))
     (AtName (view_of d) path Then)
@@ -214,7 +223,8 @@ at-name d path plan Then sound next =
 
 -- ---- the operations
 
-live-target : (d : Disk) (dir : ℕ) (name : List ℕ) (k : ℕ) → Sound (tables_of d) → NamedEntry d dir name k → (tables_of d).kind (target_of d dir k) ≢ 0
+live-target : (d : Disk) (dir : ℕ) (name : List ℕ) (k : ℕ) → Sound (tables_of d) → NamedEntry d dir name k
+    → (tables_of d).kind (target_of d dir k) ≢ 0
 live-target d dir name k sound n = sound.names.no_dangling dir k (target_of d dir k) (name_spelling name) n.leads
 
 -- `link` and `rename`
@@ -229,7 +239,8 @@ relink-refused d old new more t =
     (found _ _ _ _ _ (test-full d dir t walk) (λ place.
     one _ _ _ _ _ (test-links d target t n.target_below (live-target d old_dir old.last k t n)) (accepted _))))))
 
-pub plan-refused : (d : Disk) (op : Op) → IsDisk d → IsSound d → Refuses (plan_of d op) (IsRefused d.blocks d.journal (view_of d) op)
+pub plan-refused : (d : Disk) (op : Op) → IsDisk d → IsSound d
+    → Refuses (plan_of d op) (IsRefused d.blocks d.journal (view_of d) op)
 unfolding plan_of
 plan-refused d (Create path) disk sound =
     let t = sound-tables d disk sound in

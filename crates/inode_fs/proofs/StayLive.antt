@@ -1,5 +1,6 @@
 -- The inodes that stay live, step by step.
-use Rattle.std.proofs.Common.{◌≡◌, ℕ, ◌+◌, ◌<◌, inl, inr, List, [], ◌∷◌, drop, drop-cons, length, get_or, Bool, true, false, ◌&&◌, ◌==◌, not, nat_lt, arith, refl, sym, subst, ap, ◌∙◌, suc}
+use Rattle.std.proofs.Common.{◌≡◌, ℕ, ◌+◌, ◌<◌, inl, inr, List, [], ◌∷◌, drop, drop-cons, length, get_or, Bool, true}
+use Rattle.std.proofs.Common.{false, ◌&&◌, ◌==◌, not, nat_lt, arith, refl, sym, subst, ap, ◌∙◌, suc}
 use Rattle.std.specs.Prelude.{bit_and}
 use Rattle.std.proofs.lemmas.Bool.{cases_eq, and_parts, and_right, lt-ltb, ltb-true, cases_Bool, le-ltb}
 use Rattle.std.proofs.lemmas.Nat.Bits.{bit_at_and, bit_at-lt}
@@ -45,15 +46,22 @@ module _ (d : Disk) where
       (λ t. lt-ltb i n (below i n apart (ltb-true i (n + 1) t)))
     where
       below : (i n : ℕ) → (i ≡ n → ⊥) → i < n + 1 → i < n
-      below i n apart less = elim (cases_eq i n) [ inl same ↦ absurd (apart same) | inr other ↦ grind (arith, less, other) ]
+      below i n apart less = elim (cases_eq i n) [
+        | inl same ↦ absurd (apart same)
+        | inr other ↦ grind (arith, less, other)
+      ]
 
   pub live-more : (n live : ℕ) → is_live d n ≡ true → AreLive d n live → AreLive d (n + 1) (with_id live n)
   live-more n live is old i = elim (cases_eq i n) [
     | inl same ↦ subst (λ (j : ℕ). has (with_id live n) j ≡ (is_live d j && nat_lt j (n + 1))) (sym same)
-        (has_true (with_id live n) n (in_with_same live n) ∙ sym (both_true (is_live d n) (nat_lt n (n + 1)) is (lt-ltb n (n + 1) (omega arith))))
+        (has_true (with_id live n) n (in_with_same live n) ∙ sym
+        (both_true (is_live d n) (nat_lt n (n + 1)) is (lt-ltb n (n + 1) (omega arith))))
     | inr other ↦
         same_test (has (with_id live n) i) (has live i)
-        (λ t. elim (in_with_cases live n i (from_has (with_id live n) i t)) [ inl e ↦ absurd (other e) | inr there ↦ has_true live i there ])
+        (λ t. elim (in_with_cases live n i (from_has (with_id live n) i t)) [
+          | inl e ↦ absurd (other e)
+          | inr there ↦ has_true live i there
+        ])
         (λ t. has_true (with_id live n) i (in_with_old live n i (from_has live i t)))
         ∙ (old i ∙ ap (λ (b : Bool). is_live d i && b) (lt_more i n other))
   ]
@@ -82,7 +90,8 @@ stays_now : (d : Disk) (steps : List Step) (i : ℕ) → stays_live d steps i �
 stays_now d [] i is = is
 stays_now d (x ∷ xs) i is = (and_parts (is_live d i) _ is).0
 
-pub keeping-start : (start : Disk) (steps : List Step) (kept : ℕ) → ((i : ℕ) → has kept i ≡ is_live start i) → Keeping start steps start steps kept
+pub keeping-start : (start : Disk) (steps : List Step) (kept : ℕ) → ((i : ℕ) → has kept i ≡ is_live start i)
+    → Keeping start steps start steps kept
 keeping-start start steps kept by = record {
   so_far = λ i. same_test (has kept i && stays_live start steps i) (stays_live start steps i)
       (λ t. (and_parts (has kept i) (stays_live start steps i) t).1)
@@ -91,15 +100,18 @@ keeping-start start steps kept by = record {
 }
 
 pub keeping-step : (start d next : Disk) (steps rest : List Step) (x : Step) (kept live : ℕ) → next ≡ disk_after d x.act
-    → ((i : ℕ) → has live i ≡ is_live next i) → Keeping start steps d (x ∷ rest) kept → Keeping start steps next rest (bit_and kept live)
+    → ((i : ℕ) → has live i ≡ is_live next i) → Keeping start steps d (x ∷ rest) kept
+    → Keeping start steps next rest (bit_and kept live)
 keeping-step start d next steps rest x kept live after by old = record {
   so_far = λ i.
-      let there : stays_live (disk_after d x.act) rest i ≡ stays_live next rest i = ap (λ (e : Disk). stays_live e rest i) (sym after) in
+      let there : stays_live (disk_after d x.act) rest i ≡ stays_live next rest i =
+      ap (λ (e : Disk). stays_live e rest i) (sym after) in
       same_test (has (bit_and kept live) i && stays_live next rest i) (stays_live start steps i)
       (λ t.
       let parts = and_parts (has (bit_and kept live) i) (stays_live next rest i) t in
       let both = and_parts (has kept i) (has live i) (sym (has-and kept live i) ∙ parts.0) in
-      sym (old.so_far i) ∙ both_true (has kept i) _ both.0 (both_true (is_live d i) _ (old.live i both.0) (there ∙ parts.1)))
+      sym (old.so_far i) ∙ both_true (has kept i) _ both.0
+      (both_true (is_live d i) _ (old.live i both.0) (there ∙ parts.1)))
       (λ t.
       let parts = and_parts (has kept i) _ (old.so_far i ∙ t) in
       let on : stays_live next rest i ≡ true = sym there ∙ (and_parts (is_live d i) _ parts.1).1 in
@@ -108,11 +120,14 @@ keeping-step start d next steps rest x kept live after by old = record {
   live = λ i is. sym (by i) ∙ (and_parts (has kept i) (has live i) (sym (has-and kept live i) ∙ is)).1;
 }
 
-pub keeping-end : (start d : Disk) (steps : List Step) (kept : ℕ) → Keeping start steps d [] kept → (i : ℕ) → has kept i ≡ stays_live start steps i
+pub keeping-end : (start d : Disk) (steps : List Step) (kept : ℕ) → Keeping start steps d [] kept → (i : ℕ)
+    → has kept i ≡ stays_live start steps i
 keeping-end start d steps kept all i = same_test (has kept i) (stays_live start steps i)
     (λ is. sym (all.so_far i) ∙ both_true (has kept i) (is_live d i) is (all.live i is))
     (λ t. (and_parts (has kept i) (is_live d i) (all.so_far i ∙ t)).0)
 
 -- one step more is taken
-pub drop_step : (steps : List Step) (i : ℕ) (x : Step) → i < length steps → x ≡ get_or steps i x → drop i steps ≡ x ∷ drop (i + 1) steps
-drop_step steps i x inside read = drop-cons steps i x inside ∙ ap (λ (y : Step). y ∷ drop (suc i) steps) (sym read) ∙ ap (λ (n : ℕ). x ∷ drop n steps) (let z : suc i ≡ i + 1 = omega arith in z)
+pub drop_step : (steps : List Step) (i : ℕ) (x : Step) → i < length steps → x ≡ get_or steps i x
+    → drop i steps ≡ x ∷ drop (i + 1) steps
+drop_step steps i x inside read = drop-cons steps i x inside ∙ ap (λ (y : Step). y ∷ drop (suc i) steps) (sym read)
+    ∙ ap (λ (n : ℕ). x ∷ drop n steps) (let z : suc i ≡ i + 1 = omega arith in z)

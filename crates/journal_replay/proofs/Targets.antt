@@ -1,5 +1,6 @@
 -- Headers, and the blocks that they name.
-use Rattle.std.proofs.Common.{◌≡◌, ◌≢◌, ℕ, zero, suc, ◌+◌, ◌<◌, ◌≤◌, ◌⊎◌, inl, inr, List, [], ◌∷◌, length, get_or, Bool, true, false, nat_lt, Some, None, arith, tests, refl, sym, ◌∙◌, ap, subst}
+use Rattle.std.proofs.Common.{◌≡◌, ◌≢◌, ℕ, zero, suc, ◌+◌, ◌<◌, ◌≤◌, ◌⊎◌, inl, inr, List, [], ◌∷◌, length, get_or, Bool}
+use Rattle.std.proofs.Common.{true, false, nat_lt, Some, None, arith, tests, refl, sym, ◌∙◌, ap, subst}
 use Rattle.std.specs.Prelude.{slice_index, ◌==◌}
 use Rattle.std.specs.List.{list_all, list_any, position, position_or_len}
 use Rattle.std.proofs.lemmas.List.Quantifiers.{position-Some}
@@ -25,18 +26,21 @@ any_below p (x ∷ xs) h = elim (bool_is (p x)) [
 ]
 
 -- a number is at some place of a list, or at none
-pub found_or_not : (b : ℕ) (xs : List ℕ) → ((m : ℕ) × (position (λ x. x == b) xs ≡ Some m) × (m < length xs) × (get_or xs m 0 ≡ b)) ⊎ ((position (λ x. x == b) xs ≡ None) × (list_any (λ x. x == b) xs ≡ false))
+pub found_or_not : (b : ℕ) (xs : List ℕ) → ((m : ℕ) × (position (λ x. x == b) xs ≡ Some m) × (m < length xs)
+    × (get_or xs m 0 ≡ b)) ⊎ ((position (λ x. x == b) xs ≡ None) × (list_any (λ x. x == b) xs ≡ false))
 found_or_not b xs =
     let m : ℕ = position_or_len (λ x. x == b) xs in
     elim (bool_is (nat_lt m (length xs))) [
       | inl t ↦
           let here : position (λ x. x == b) xs ≡ Some m = rw t refl in
-          let what : (m < length xs) × ((get_or xs m 0 == b) ≡ true) × ((k : ℕ) → k < m → (get_or xs k 0 == b) ≡ false) = position-Some (λ x. x == b) xs m 0 here in
+          let what : (m < length xs) × ((get_or xs m 0 == b) ≡ true)
+          × ((k : ℕ) → k < m → (get_or xs k 0 == b) ≡ false) = position-Some (λ x. x == b) xs m 0 here in
           inl (m, here, what.0, same_number (get_or xs m 0) b what.1)
       | inr f ↦ inr (
         rw f refl,
         elim (bool_is (list_any (λ x. x == b) xs)) [
-          | inl any ↦ let less : m < length xs = any_below (λ x. x == b) xs any in absurd (not_below m (length xs) f less)
+          | inl any ↦ let less : m < length xs = any_below (λ x. x == b) xs any in
+              absurd (not_below m (length xs) f less)
           | inr none ↦ none
         ],
       )
@@ -81,7 +85,8 @@ less_step x y ys h = elim (bool_is (nat_lt x y)) [
 
 pub apart_above : (x b : ℕ) (xs : List ℕ) → is_ascending (x ∷ xs) ≡ true → b ≤ x → Apart b xs
 apart_above x b [] h le = tt
-apart_above x b (y ∷ ys) h le = let s = less_step x y ys h in let l : x < y = s.0 in (grind arith, apart_above y b ys s.1 (omega arith))
+apart_above x b (y ∷ ys) h le = let s = less_step x y ys h in let l : x < y = s.0 in
+    (grind arith, apart_above y b ys s.1 (omega arith))
 
 pub tail_up : (x : ℕ) (xs : List ℕ) → is_ascending (x ∷ xs) ≡ true → is_ascending xs ≡ true
 tail_up x [] h = refl
@@ -89,15 +94,22 @@ tail_up x (y ∷ ys) h = (less_step x y ys h).1
 
 pub apart_journal : (n jl x : ℕ) (xs : List ℕ) → AreTargets n jl xs → 4 ≤ x → x < 4 + jl → Apart x xs
 apart_journal n jl x [] t from to = tt
-apart_journal n jl x (y ∷ ys) t from to = ((λ e. outside_apart jl y x t.0.1 from to (sym e)), apart_journal n jl x ys t.1 from to)
+apart_journal n jl x (y ∷ ys) t from to = (
+  (λ e. outside_apart jl y x t.0.1 from to (sym e)),
+  apart_journal n jl x ys t.1 from to,
+)
 
 target_out : (d : Disk) (b : ℕ) → is_target d b ≡ true → IsOutside d.journal b
 target_out d b h = grind (arith, tests)
 
-pub targets : (n jl : ℕ) (d : Disk) (xs : List ℕ) → IsShaped n jl d → 4 + jl ≤ n → list_all (is_target d) xs ≡ true → AreTargets n jl xs
+pub targets : (n jl : ℕ) (d : Disk) (xs : List ℕ) → IsShaped n jl d → 4 + jl ≤ n → list_all (is_target d) xs ≡ true
+    → AreTargets n jl xs
 targets n jl d [] s room h = tt
 targets n jl d (x ∷ xs) s room h = elim (bool_is (is_target d x)) [
-  | inl t ↦ ((known d x n s.blocks (omega arith) t, subst (λ (m : ℕ). IsOutside m x) s.journal (target_out d x t)), targets n jl d xs s room (rw t at h))
+  | inl t ↦ (
+    (known d x n s.blocks (omega arith) t, subst (λ (m : ℕ). IsOutside m x) s.journal (target_out d x t)),
+    targets n jl d xs s room (rw t at h),
+  )
   | inr f ↦ let z : false ≡ true = rw f at h in absurd (cc)
 ]
   where
@@ -125,8 +137,10 @@ abbrev header_by : ℕ → ℕ → ℕ → ℕ → List ℕ → Bool
 header_by bl jn j t row = is_header (record { blocks = bl; journal = jn; bytes = [] }) j t row
 
 -- a header is so by its bytes and the disk's numbers
-pub same_header : (d e : Disk) (j t : ℕ) (row : List ℕ) → e.blocks ≡ d.blocks → e.journal ≡ d.journal → is_header e j t row ≡ is_header d j t row
-same_header d e j t row p q = ap (λ (m : ℕ). header_by m e.journal j t row) p ∙ ap (λ (m : ℕ). header_by d.blocks m j t row) q
+pub same_header : (d e : Disk) (j t : ℕ) (row : List ℕ) → e.blocks ≡ d.blocks → e.journal ≡ d.journal
+    → is_header e j t row ≡ is_header d j t row
+same_header d e j t row p q = ap (λ (m : ℕ). header_by m e.journal j t row) p
+    ∙ ap (λ (m : ℕ). header_by d.blocks m j t row) q
 
 pub header_in : (d : Disk) (j t : ℕ) (row : List ℕ) → is_header d j t row ≡ true → j < 4 + d.journal
 header_in d j t row h = grind (arith, tests)
@@ -143,7 +157,8 @@ header_fits d j t row h = grind (arith, tests)
 pub header_up : (d : Disk) (j t : ℕ) (row : List ℕ) → is_header d j t row ≡ true → is_ascending (targets_of row) ≡ true
 header_up d j t row h = grind (arith, tests)
 
-pub header_aimed : (d : Disk) (j t : ℕ) (row : List ℕ) → is_header d j t row ≡ true → list_all (is_target d) (targets_of row) ≡ true
+pub header_aimed : (d : Disk) (j t : ℕ) (row : List ℕ) → is_header d j t row ≡ true
+    → list_all (is_target d) (targets_of row) ≡ true
 header_aimed d j t row h = grind (arith, tests)
 
 pub no_header_out : (d : Disk) (j t : ℕ) (row : List ℕ) → 4 + d.journal ≤ j → is_header d j t row ≡ false

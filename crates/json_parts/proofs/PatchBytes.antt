@@ -1,5 +1,6 @@
 -- The bytes of the values of patches.
-use Rattle.std.proofs.Common.{◌≡◌, ℕ, zero, suc, Bool, true, false, List, [], ◌∷◌, ◌++◌, map, Option, Some, None, Result, Ok, Err, codes, decimal, refl, ap, ◌∙◌, arith, append_assoc}
+use Rattle.std.proofs.Common.{◌≡◌, ℕ, zero, suc, Bool, true, false, List, [], ◌∷◌, ◌++◌, map, Option, Some, None}
+use Rattle.std.proofs.Common.{Result, Ok, Err, codes, decimal, refl, ap, ◌∙◌, arith, append_assoc}
 use Rattle.std.specs.Prelude.{slice_get, if◌then◌else◌, option_to_list, IfOk, OnOk}
 use Rattle.std.specs.List.{All, list_all, flat_map}
 use Rattle.std.proofs.lemmas.Bool.{and_parts}
@@ -33,7 +34,8 @@ use Rattle.crash_model.specs.declared.rules.Rule.{Rule}
 use Rattle.crash_model.specs.declared.steps.Act.TheVariants.{Do}
 use Rattle.traced_patches.specs.Traced.{TracedPatches, told_at, dependency_at}
 use Rattle.json_parts.specs.Written.{IsWritten}
-use Rattle.json_parts.specs.Patches.{texts_data, dependency_data, dependencies_data, patch_data, told_data, IsPlainPatch}
+use Rattle.json_parts.specs.Patches.{texts_data, dependency_data, dependencies_data, patch_data, told_data}
+use Rattle.json_parts.specs.Patches.{IsPlainPatch}
 use Rattle.json_parts.specs.Values.{hex_data}
 use Rattle.json_parts.proofs.Bytes.{IsPlain, plain-append, string_bytes, array_bytes_of, hex_bytes, none_float}
 
@@ -81,7 +83,9 @@ colon_plain = refl
 
 rule_plain : (r : Rule) → IsPlain (rule_text r)
 rule_plain r =
-    plain-append _ (rule_part_text r.earlier) (plain-append _ (scope_text r.scope) (plain-append (rule_part_text r.later) (codes ":") (rule_part_plain r.later) colon_plain) (scope_plain r.scope)) (rule_part_plain r.earlier)
+    plain-append _ (rule_part_text r.earlier) (plain-append _ (scope_text r.scope)
+    (plain-append (rule_part_text r.later) (codes ":") (rule_part_plain r.later) colon_plain) (scope_plain r.scope))
+    (rule_part_plain r.earlier)
 
 -- ---- operations
 
@@ -102,19 +106,26 @@ slash_plain = refl
 slashed_plain : (names : List (List ℕ)) → All IsName names → IsPlain (flat_map (λ name. 47 ∷ name) names)
 slashed_plain [] are = refl
 slashed_plain (n ∷ ns) are =
-    plain-append (47 ∷ n) (flat_map (λ name. 47 ∷ name) ns) (plain-append (47 ∷ []) n slash_plain (name_plain n (All-head IsName n ns are).plain)) (slashed_plain ns (All-tail IsName n ns are))
+    plain-append (47 ∷ n) (flat_map (λ name. 47 ∷ name) ns)
+    (plain-append (47 ∷ []) n slash_plain (name_plain n (All-head IsName n ns are).plain))
+    (slashed_plain ns (All-tail IsName n ns are))
 
 path_plain : (p : Path) → IsPath p → IsPlain (path_text p)
-path_plain p is = slashed_plain (p.through.items ++ p.last ∷ []) (All-append IsName p.through.items (p.last ∷ []) is.through (All-cons IsName p.last [] is.last (All-nil IsName)))
+path_plain p is = slashed_plain (p.through.items ++ p.last ∷ [])
+    (All-append IsName p.through.items (p.last ∷ []) is.through (All-cons IsName p.last [] is.last (All-nil IsName)))
 
 one_path : (verb : List ℕ) (p : Path) → IsPlain verb → IsPath p → IsPlain (verb ++ (32 ∷ path_text p))
 unfolding escape_byte
-one_path verb p plain is = plain-append verb (32 ∷ path_text p) plain (plain-append (32 ∷ []) (path_text p) refl (path_plain p is))
+one_path verb p plain is = plain-append verb (32 ∷ path_text p) plain
+    (plain-append (32 ∷ []) (path_text p) refl (path_plain p is))
 
-two_paths : (verb : List ℕ) (p q : Path) → IsPlain verb → IsPath p → IsPath q → IsPlain (verb ++ (32 ∷ (path_text p ++ (32 ∷ path_text q))))
+two_paths : (verb : List ℕ) (p q : Path) → IsPlain verb → IsPath p → IsPath q
+    → IsPlain (verb ++ (32 ∷ (path_text p ++ (32 ∷ path_text q))))
 unfolding escape_byte
 two_paths verb p q plain first second =
-    plain-append verb (32 ∷ (path_text p ++ (32 ∷ path_text q))) plain (plain-append (32 ∷ []) (path_text p ++ (32 ∷ path_text q)) refl (one_path (path_text p) q (path_plain p first) second))
+    plain-append verb (32 ∷ (path_text p ++ (32 ∷ path_text q))) plain
+    (plain-append (32 ∷ []) (path_text p ++ (32 ∷ path_text q)) refl
+    (one_path (path_text p) q (path_plain p first) second))
 
 op_plain : (op : Op) → IsAct (Do op) → IsPlain (op_text op)
 unfolding escape_byte
@@ -135,31 +146,43 @@ rules_plain : (rs : List Rule) → All IsPlain (map rule_text rs)
 rules_plain [] = All-nil IsPlain
 rules_plain (r ∷ rs) = All-cons IsPlain (rule_text r) (map rule_text rs) (rule_plain r) (rules_plain rs)
 
-reasons_of_plain : (overlap group : Bool) (rs : List Rule) → All IsPlain ((if overlap then codes "overlap" ∷ [] else []) ++ (if group then codes "group" ∷ [] else []) ++ map rule_text rs)
+reasons_of_plain : (overlap group : Bool) (rs : List Rule)
+    → All IsPlain ((if overlap then codes "overlap" ∷ [] else []) ++ (if group then codes "group" ∷ [] else [])
+    ++ map rule_text rs)
 unfolding escape_byte
-reasons_of_plain true true rs = All-cons IsPlain (codes "overlap") (codes "group" ∷ map rule_text rs) refl (All-cons IsPlain (codes "group") (map rule_text rs) refl (rules_plain rs))
+reasons_of_plain true true rs = All-cons IsPlain (codes "overlap") (codes "group" ∷ map rule_text rs) refl
+    (All-cons IsPlain (codes "group") (map rule_text rs) refl (rules_plain rs))
 reasons_of_plain true false rs = All-cons IsPlain (codes "overlap") (map rule_text rs) refl (rules_plain rs)
 reasons_of_plain false true rs = All-cons IsPlain (codes "group") (map rule_text rs) refl (rules_plain rs)
 reasons_of_plain false false rs = rules_plain rs
 
-dependency_plain : (t : TracedPatches) (q : Emitted) (id : ℕ) → All HasPlainReasons (option_to_list (dependency_at t q id))
+dependency_plain : (t : TracedPatches) (q : Emitted) (id : ℕ)
+    → All HasPlainReasons (option_to_list (dependency_at t q id))
 dependency_plain t q id = by_patch (slice_get t.emitted id)
   where
     told : Option Emitted → Option Dependency
-    told o = elim o [ Some p ↦ when (depends t.rules t.links q p) (record { id = id; reasons = reasons t.rules t.links q p }) | None ↦ None ]
+    told o = elim o [
+      | Some p ↦ when (depends t.rules t.links q p)
+          (record { id = id; reasons = reasons t.rules t.links q p })
+      | None ↦ None
+    ]
 
-    by_test : (p : Emitted) (test : Bool) → All HasPlainReasons (option_to_list (when test (record { id = id; reasons = reasons t.rules t.links q p })))
-    by_test p true = All-cons HasPlainReasons (record { id = id; reasons = reasons t.rules t.links q p }) [] (reasons_of_plain _ _ _) (All-nil HasPlainReasons)
+    by_test : (p : Emitted) (test : Bool) → All HasPlainReasons
+        (option_to_list (when test (record { id = id; reasons = reasons t.rules t.links q p })))
+    by_test p true = All-cons HasPlainReasons (record { id = id; reasons = reasons t.rules t.links q p }) []
+        (reasons_of_plain _ _ _) (All-nil HasPlainReasons)
     by_test p false = All-nil HasPlainReasons
 
     by_patch : (o : Option Emitted) → All HasPlainReasons (option_to_list (told o))
     by_patch None = All-nil HasPlainReasons
     by_patch (Some p) = by_test p (depends t.rules t.links q p)
 
-pub dependencies_plain : (t : TracedPatches) (q : Emitted) (n : ℕ) → All HasPlainReasons (some_below n (dependency_at t q))
+pub dependencies_plain : (t : TracedPatches) (q : Emitted) (n : ℕ)
+    → All HasPlainReasons (some_below n (dependency_at t q))
 unfolding some_below
 dependencies_plain t q zero = All-nil HasPlainReasons
-dependencies_plain t q (suc n) = All-append HasPlainReasons (some_below n (dependency_at t q)) (option_to_list (dependency_at t q n)) (dependencies_plain t q n) (dependency_plain t q n)
+dependencies_plain t q (suc n) = All-append HasPlainReasons (some_below n (dependency_at t q))
+    (option_to_list (dependency_at t q n)) (dependencies_plain t q n) (dependency_plain t q n)
 
 regroup_5 : (a b c d e : List ℕ) → a ++ (b ++ (c ++ (d ++ e))) ≡ a ++ b ++ c ++ d ++ e
 regroup_5 a b c d e = simp append_assoc
@@ -169,37 +192,53 @@ unfolding escape_byte
 dependency_bytes w plain =
     let form = λ (why : List ℕ). codes "{\"patch\":" ++ (decimal w.id ++ (codes ",\"why\":" ++ (why ++ codes "}"))) in
     let spelt : compact_text (dependency_data w) ≡ form (compact_text (texts_data w.reasons)) = refl in
-    spelt ∙ (ap form (array_bytes_of IsPlain string json_string string_bytes w.reasons plain) ∙ regroup_5 (codes "{\"patch\":") (decimal w.id) (codes ",\"why\":") (json_array (map json_string w.reasons)) (codes "}"))
+    spelt ∙ (ap form (array_bytes_of IsPlain string json_string string_bytes w.reasons plain)
+    ∙ regroup_5 (codes "{\"patch\":") (decimal w.id) (codes ",\"why\":") (json_array (map json_string w.reasons))
+    (codes "}"))
 
 -- ---- a patch
 
-regroup_17 : (a b c d e f g h i j k l m n o p q : List ℕ) → a ++ (b ++ (c ++ (d ++ (e ++ (f ++ (g ++ (h ++ (i ++ (j ++ (k ++ (l ++ (m ++ (n ++ (o ++ (p ++ q)))))))))))))))
+regroup_17 : (a b c d e f g h i j k l m n o p q : List ℕ)
+    → a ++ (b ++ (c ++ (d ++ (e ++ (f ++ (g ++ (h ++ (i ++ (j ++ (k ++ (l ++ (m ++ (n ++ (o ++ (p ++ q)))))))))))))))
     ≡ a ++ b ++ c ++ d ++ e ++ f ++ g ++ h ++ i ++ j ++ k ++ l ++ m ++ n ++ o ++ p ++ q
 regroup_17 a b c d e f g h i j k l m n o p q = simp append_assoc
 
-pub told_bytes : (t : ToldPatch) → IsPlainPatch t → All HasPlainReasons t.after → compact_text (told_data t) ≡ told_json t
+pub told_bytes : (t : ToldPatch) → IsPlainPatch t → All HasPlainReasons t.after
+    → compact_text (told_data t) ≡ told_json t
 unfolding escape_byte
 told_bytes t plain why =
     let e = t.emitted in
     let block = decimal e.place.block in
     let line = decimal e.origin.line in
     let offset = decimal e.place.offset in
-    let form = λ (after new part step undo : List ℕ). codes "{\"after\":" ++ (after ++ (codes ",\"block\":" ++ (block ++ (codes ",\"line\":" ++ (line ++ (codes ",\"new\":" ++ (new
-    ++ (codes ",\"offset\":" ++ (offset ++ (codes ",\"part\":" ++ (part ++ (codes ",\"step\":" ++ (step ++ (codes ",\"undo\":" ++ (undo ++ codes "}"))))))))))))))) in
-    let spelt : compact_text (told_data t) ≡ form (compact_text (dependencies_data t.after)) (compact_text (hex_data e.place.new)) (compact_text (string (part_text e.part))) (compact_text (string (op_text e.origin.op))) (compact_text (hex_data t.undo)) = refl in
+    let form = λ (after new part step undo : List ℕ). codes "{\"after\":"
+    ++ (after ++ (codes ",\"block\":" ++ (block ++ (codes ",\"line\":" ++ (line ++ (codes ",\"new\":" ++ (new
+    ++ (codes ",\"offset\":" ++ (offset ++ (codes ",\"part\":"
+    ++ (part ++ (codes ",\"step\":" ++ (step ++ (codes ",\"undo\":" ++ (undo ++ codes "}"))))))))))))))) in
+    let spelt : compact_text (told_data t) ≡ form (compact_text (dependencies_data t.after))
+    (compact_text (hex_data e.place.new)) (compact_text (string (part_text e.part)))
+    (compact_text (string (op_text e.origin.op))) (compact_text (hex_data t.undo)) = refl in
     let after = array_bytes_of HasPlainReasons dependency_data dependency_json dependency_bytes t.after why in
     let new = hex_bytes e.place.new plain.new in
     let part = string_bytes (part_text e.part) (part_plain e.part) in
     let step = string_bytes (op_text e.origin.op) (op_plain e.origin.op plain.step) in
     let undo = hex_bytes t.undo plain.undo in
     spelt
-    ∙ (ap (λ (x : List ℕ). form x (compact_text (hex_data e.place.new)) (compact_text (string (part_text e.part))) (compact_text (string (op_text e.origin.op))) (compact_text (hex_data t.undo))) after
-    ∙ (ap (λ (x : List ℕ). form (json_array (map dependency_json t.after)) x (compact_text (string (part_text e.part))) (compact_text (string (op_text e.origin.op))) (compact_text (hex_data t.undo))) new
-    ∙ (ap (λ (x : List ℕ). form (json_array (map dependency_json t.after)) (json_string (encode_lower e.place.new)) x (compact_text (string (op_text e.origin.op))) (compact_text (hex_data t.undo))) part
-    ∙ (ap (λ (x : List ℕ). form (json_array (map dependency_json t.after)) (json_string (encode_lower e.place.new)) (json_string (part_text e.part)) x (compact_text (hex_data t.undo))) step
-    ∙ (ap (λ (x : List ℕ). form (json_array (map dependency_json t.after)) (json_string (encode_lower e.place.new)) (json_string (part_text e.part)) (json_string (op_text e.origin.op)) x) undo
-    ∙ regroup_17 (codes "{\"after\":") (json_array (map dependency_json t.after)) (codes ",\"block\":") block (codes ",\"line\":") line (codes ",\"new\":") (json_string (encode_lower e.place.new)) (codes ",\"offset\":") offset
-    (codes ",\"part\":") (json_string (part_text e.part)) (codes ",\"step\":") (json_string (op_text e.origin.op)) (codes ",\"undo\":") (json_string (encode_lower t.undo)) (codes "}"))))))
+    ∙ (ap (λ (x : List ℕ). form x (compact_text (hex_data e.place.new)) (compact_text (string (part_text e.part)))
+    (compact_text (string (op_text e.origin.op))) (compact_text (hex_data t.undo))) after
+    ∙ (ap (λ (x : List ℕ). form (json_array (map dependency_json t.after)) x (compact_text (string (part_text e.part)))
+    (compact_text (string (op_text e.origin.op))) (compact_text (hex_data t.undo))) new
+    ∙ (ap (λ (x : List ℕ). form (json_array (map dependency_json t.after)) (json_string (encode_lower e.place.new)) x
+    (compact_text (string (op_text e.origin.op))) (compact_text (hex_data t.undo))) part
+    ∙ (ap (λ (x : List ℕ). form (json_array (map dependency_json t.after)) (json_string (encode_lower e.place.new))
+    (json_string (part_text e.part)) x (compact_text (hex_data t.undo))) step
+    ∙ (ap (λ (x : List ℕ). form (json_array (map dependency_json t.after)) (json_string (encode_lower e.place.new))
+    (json_string (part_text e.part)) (json_string (op_text e.origin.op)) x) undo
+    ∙ regroup_17 (codes "{\"after\":") (json_array (map dependency_json t.after)) (codes ",\"block\":") block
+    (codes ",\"line\":") line (codes ",\"new\":") (json_string (encode_lower e.place.new)) (codes ",\"offset\":")
+    offset
+    (codes ",\"part\":") (json_string (part_text e.part)) (codes ",\"step\":") (json_string (op_text e.origin.op))
+    (codes ",\"undo\":") (json_string (encode_lower t.undo)) (codes "}"))))))
 
 dependency_no_float : (w : Dependency) → has_float (dependency_data w) ≡ false
 dependency_no_float w = rw (none_float string (λ _. refl) w.reasons) refl
@@ -211,12 +250,21 @@ told_no_float t = rw (none_float dependency_data dependency_no_float t.after) re
 abbrev pub told_of : TracedPatches → ℕ → Emitted → List ℕ → ToldPatch
 told_of t id q undo = record { id = id; emitted = q; undo = undo; after = some_below id (dependency_at t q) }
 
-pub told_written : {E : Type 0} (t : TracedPatches) (id : ℕ) (q : Emitted) (undo : List ℕ) (after : Data) (r : Result Value E) → told_at t id ≡ Some (told_of t id q undo)
-    → after ≡ dependencies_data (some_below id (dependency_at t q)) → IfOk r (λ value. view value ≡ patch_data after q undo) → OnOk r (IsBytes q.place.new) → OnOk r (IsBytes undo)
-    → OnOk r (IsAct (Do q.origin.op)) → IfOk r (λ value. (told : ToldPatch) × (told_at t id ≡ Some told) × IsWritten (view value) (told_json told))
+pub told_written : {E : Type 0} (t : TracedPatches) (id : ℕ) (q : Emitted) (undo : List ℕ) (after : Data)
+    (r : Result Value E) → told_at t id ≡ Some (told_of t id q undo)
+    → after ≡ dependencies_data (some_below id (dependency_at t q))
+    → IfOk r (λ value. view value ≡ patch_data after q undo) → OnOk r (IsBytes q.place.new) → OnOk r (IsBytes undo)
+    → OnOk r (IsAct (Do q.origin.op)) → IfOk r (λ value. (told : ToldPatch) × (told_at t id ≡ Some told)
+    × IsWritten (view value) (told_json told))
 told_written t id q undo after (Ok value) at waits is new bytes act =
     let told = told_of t id q undo in
     let shown : view value ≡ told_data told = is ∙ ap (λ (d : Data). patch_data d q undo) waits in
-    let plain : IsPlainPatch told = record { new = new; undo = bytes; step = act } in
-    (told, at, record { whole = ap compact_text shown ∙ told_bytes told plain (dependencies_plain t q id); plain = ap has_float shown ∙ told_no_float told })
+    let plain : IsPlainPatch told = record { new = new; undo = bytes; step = act } in (
+      told,
+      at,
+      record {
+        whole = ap compact_text shown ∙ told_bytes told plain (dependencies_plain t q id);
+        plain = ap has_float shown ∙ told_no_float told;
+      },
+    )
 told_written t id q undo after (Err e) at waits is new bytes act = tt

@@ -9,7 +9,8 @@ use Rattle.crash_model.specs.Needs.{RuleUsage, Unused, TooMany, Used, ToldRule, 
 use Rattle.crash_model.specs.Report.{Section, json_string, section_json}
 use Rattle.crash_model.specs.Rules.{role_text, rule_part_text, scope_text, rule_text}
 use Rattle.crash_model.specs.declared.plans.Role.{Role}
-use Rattle.crash_model.specs.declared.plans.Role.TheVariants.{InodeInit, EntrySet, EntryClear, MapSet, MapClear, InitFile, InitDir, Ptr, LinkUp, LinkDown, InodeFree}
+use Rattle.crash_model.specs.declared.plans.Role.TheVariants.{InodeInit, EntrySet, EntryClear, MapSet, MapClear}
+use Rattle.crash_model.specs.declared.plans.Role.TheVariants.{InitFile, InitDir, Ptr, LinkUp, LinkDown, InodeFree}
 use Rattle.crash_model.specs.declared.rules.Rule.{Rule}
 use Rattle.crash_model.specs.declared.rules.RulePart.{RulePart}
 use Rattle.crash_model.specs.declared.rules.RulePart.TheVariants.{Change, InPlace, FileData, Copy, Commit, Done}
@@ -55,7 +56,8 @@ rule_plain rule =
     let later = rule_part_text rule.later in
     let scope = scope_text rule.scope in
     plain-append (later ++ codes ":" ++ scope) (rule_part_text rule.earlier)
-    (plain-append (later ++ codes ":") scope (plain-append later (codes ":") (part_plain rule.later) refl) (scope_plain rule.scope))
+    (plain-append (later ++ codes ":") scope (plain-append later (codes ":") (part_plain rule.later) refl)
+    (scope_plain rule.scope))
     (part_plain rule.earlier)
 
 -- ---- the parts of the text
@@ -63,7 +65,8 @@ rule_plain rule =
 regroup_unused : (a b c rule d : List ℕ) → a ++ (b ++ (c ++ (rule ++ d))) ≡ a ++ (b ++ (c ++ rule)) ++ d
 regroup_unused a b c rule d = simp append_assoc
 
-regroup_too_many : (a b pairs c rule d e : List ℕ) → a ++ (b ++ (pairs ++ (c ++ (rule ++ (d ++ e))))) ≡ a ++ (b ++ pairs ++ (c ++ rule) ++ d) ++ e
+regroup_too_many : (a b pairs c rule d e : List ℕ) → a ++ (b ++ (pairs ++ (c ++ (rule ++ (d ++ e))))) ≡ a
+    ++ (b ++ pairs ++ (c ++ rule) ++ d) ++ e
 regroup_too_many a b pairs c rule d e = simp append_assoc
 
 regroup_used : (a b closed c failing d first e pairs f rule h : List ℕ)
@@ -71,7 +74,8 @@ regroup_used : (a b closed c failing d first e pairs f rule h : List ℕ)
     ≡ a ++ (b ++ closed ++ c ++ failing ++ d ++ first ++ e ++ pairs ++ (f ++ rule)) ++ h
 regroup_used a b closed c failing d first e pairs f rule h = simp append_assoc
 
-regroup_first : (key section comma behind : List ℕ) → key ++ (section ++ (comma ++ behind)) ≡ (key ++ section ++ comma) ++ behind
+regroup_first : (key section comma behind : List ℕ) → key ++ (section ++ (comma ++ behind)) ≡ (key ++ section ++ comma)
+    ++ behind
 regroup_first key section comma behind = simp append_assoc
 
 -- ---- the bytes
@@ -82,13 +86,16 @@ behind_first pairs rule = codes "\"pairs\":" ++ (decimal pairs ++ (codes ",\"rul
 
 -- the keys of a used rule, of which those from the first section on are written as `rest`
 abbrev used_keys : ℕ → ℕ → List ℕ → List ℕ
-used_keys closed failing rest = codes "{" ++ (codes "\"closed\":" ++ (decimal closed ++ (codes ",\"failing\":" ++ (decimal failing ++ (codes "," ++ rest)))))
+used_keys closed failing rest = codes "{" ++ (codes "\"closed\":"
+    ++ (decimal closed ++ (codes ",\"failing\":" ++ (decimal failing ++ (codes "," ++ rest)))))
 
 used_bytes : (pairs closed failing : ℕ) (rule first : List ℕ)
     → used_keys closed failing (first ++ behind_first pairs rule)
-    ≡ codes "{" ++ (codes "\"closed\":" ++ decimal closed ++ codes ",\"failing\":" ++ decimal failing ++ codes "," ++ first ++ codes "\"pairs\":" ++ decimal pairs ++ (codes ",\"rule\":" ++ rule)) ++ codes "}"
+    ≡ codes "{" ++ (codes "\"closed\":" ++ decimal closed ++ codes ",\"failing\":" ++ decimal failing ++ codes ","
+    ++ first ++ codes "\"pairs\":" ++ decimal pairs ++ (codes ",\"rule\":" ++ rule)) ++ codes "}"
 used_bytes pairs closed failing rule first =
-    regroup_used (codes "{") (codes "\"closed\":") (decimal closed) (codes ",\"failing\":") (decimal failing) (codes ",") first (codes "\"pairs\":") (decimal pairs) (codes ",\"rule\":") rule (codes "}")
+    regroup_used (codes "{") (codes "\"closed\":") (decimal closed) (codes ",\"failing\":") (decimal failing)
+    (codes ",") first (codes "\"pairs\":") (decimal pairs) (codes ",\"rule\":") rule (codes "}")
 
 module _ (patches : ℕ) (rule : Rule) where
   text : List ℕ
@@ -101,7 +108,8 @@ module _ (patches : ℕ) (rule : Rule) where
   told : RuleUsage → ToldRule
   told usage = record { rule = rule; usage = usage }
 
-  unused_written : (first : Option Data) → IsWritten (told_rule_data (told Unused) first) (told_rule_json patches (told Unused))
+  unused_written : (first : Option Data) → IsWritten (told_rule_data (told Unused) first)
+      (told_rule_json patches (told Unused))
   unfolding escape_byte digits told text
   unused_written first = record {
     whole = ap (λ (t : List ℕ). codes "{" ++ (codes "\"pairs\":0" ++ (codes ",\"rule\":" ++ (t ++ codes "}")))) spelt
@@ -109,48 +117,68 @@ module _ (patches : ℕ) (rule : Rule) where
     plain = refl;
   }
 
-  too_many_written : (pairs : ℕ) (first : Option Data) → IsWritten (told_rule_data (told (TooMany pairs)) first) (told_rule_json patches (told (TooMany pairs)))
+  too_many_written : (pairs : ℕ) (first : Option Data) → IsWritten (told_rule_data (told (TooMany pairs)) first)
+      (told_rule_json patches (told (TooMany pairs)))
   unfolding escape_byte told text
   too_many_written pairs first = record {
-    whole = ap (λ (t : List ℕ). codes "{" ++ (codes "\"pairs\":" ++ (decimal pairs ++ (codes ",\"rule\":" ++ (t ++ (codes ",\"too_many\":true" ++ codes "}")))))) spelt
-        ∙ regroup_too_many (codes "{") (codes "\"pairs\":") (decimal pairs) (codes ",\"rule\":") text (codes ",\"too_many\":true") (codes "}");
+    whole = ap (λ (t : List ℕ). codes "{" ++ (codes "\"pairs\":"
+        ++ (decimal pairs ++ (codes ",\"rule\":" ++ (t ++ (codes ",\"too_many\":true" ++ codes "}")))))) spelt
+        ∙ regroup_too_many (codes "{") (codes "\"pairs\":") (decimal pairs) (codes ",\"rule\":") text
+        (codes ",\"too_many\":true") (codes "}");
     plain = refl;
   }
 
-  used_written : (pairs closed failing : ℕ) (section : Option Section) (first : Option Data) → IsFirst patches section first
-      → IsWritten (told_rule_data (told (Used pairs (record { closed = closed; failing = failing; first = section }))) first) (told_rule_json patches (told (Used pairs (record { closed = closed; failing = failing; first = section }))))
+  used_written : (pairs closed failing : ℕ) (section : Option Section) (first : Option Data)
+      → IsFirst patches section first
+      → IsWritten (told_rule_data (told (Used pairs (record { closed = closed; failing = failing; first = section })))
+      first) (told_rule_json patches (told (Used pairs (record {
+        closed = closed;
+        failing = failing;
+        first = section;
+      }))))
   unfolding escape_byte told text
   used_written pairs closed failing None None is = record {
-    whole = ap (λ (t : List ℕ). used_keys closed failing (behind_first pairs t)) spelt ∙ used_bytes pairs closed failing text [];
+    whole = ap (λ (t : List ℕ). used_keys closed failing (behind_first pairs t)) spelt
+        ∙ used_bytes pairs closed failing text [];
     plain = refl;
   }
   used_written pairs closed failing (Some section) (Some value) is = record {
-    whole = ap (λ (t : List ℕ). used_keys closed failing (codes "\"first\":" ++ (compact_text value ++ (codes "," ++ behind_first pairs t)))) spelt
-        ∙ (ap (λ (t : List ℕ). used_keys closed failing (codes "\"first\":" ++ (t ++ (codes "," ++ behind_first pairs text)))) is.whole
-        ∙ (ap (λ (t : List ℕ). used_keys closed failing t) (regroup_first (codes "\"first\":") (section_json patches section) (codes ",") (behind_first pairs text))
+    whole = ap (λ (t : List ℕ). used_keys closed failing (codes "\"first\":"
+        ++ (compact_text value ++ (codes "," ++ behind_first pairs t)))) spelt
+        ∙ (ap (λ (t : List ℕ). used_keys closed failing (codes "\"first\":"
+        ++ (t ++ (codes "," ++ behind_first pairs text)))) is.whole
+        ∙ (ap (λ (t : List ℕ). used_keys closed failing t) (regroup_first (codes "\"first\":")
+        (section_json patches section) (codes ",") (behind_first pairs text))
         ∙ used_bytes pairs closed failing text (codes "\"first\":" ++ section_json patches section ++ codes ",")));
     plain = rw is.plain refl;
   }
   used_written pairs closed failing None (Some value) is = absurd is
   used_written pairs closed failing (Some section) None is = absurd is
 
-  usage_written : (usage : RuleUsage) (first : Option Data) → IsFirst patches (first_section usage) first → IsWritten (told_rule_data (told usage) first) (told_rule_json patches (told usage))
+  usage_written : (usage : RuleUsage) (first : Option Data) → IsFirst patches (first_section usage) first
+      → IsWritten (told_rule_data (told usage) first) (told_rule_json patches (told usage))
   usage_written Unused first is = unused_written first
   usage_written (TooMany pairs) first is = too_many_written pairs first
   usage_written (Used pairs w) first is = used_written pairs w.closed w.failing w.first first is
 
-told_rule_bytes : (patches : ℕ) (t : ToldRule) (first : Option Data) → IsFirst patches (first_section t.usage) first → IsWritten (told_rule_data t first) (told_rule_json patches t)
+told_rule_bytes : (patches : ℕ) (t : ToldRule) (first : Option Data) → IsFirst patches (first_section t.usage) first
+    → IsWritten (told_rule_data t first) (told_rule_json patches t)
 unfolding told
 told_rule_bytes patches t first is = usage_written patches t.rule t.usage first is
 
 -- the members that tell of a rule, put into an empty object
-members_are : (rule : Rule) (usage : RuleUsage) (first : Option Data) → object (rule_put (record { rule = rule; usage = usage }) first no_members) ≡ told_rule_data (record { rule = rule; usage = usage }) first
+members_are : (rule : Rule) (usage : RuleUsage) (first : Option Data)
+    → object (rule_put (record { rule = rule; usage = usage }) first no_members)
+    ≡ told_rule_data (record { rule = rule; usage = usage }) first
 members_are rule Unused first = refl
 members_are rule (TooMany pairs) first = refl
 members_are rule (Used pairs w) None = refl
 members_are rule (Used pairs w) (Some first) = refl
 
 -- an object of these members is written so
-pub told_rule_written : (patches : ℕ) (t : ToldRule) (first : Option Data) (value : Data) → IsFirst patches (first_section t.usage) first → value ≡ object (rule_put t first no_members) → IsWritten value (told_rule_json patches t)
+pub told_rule_written : (patches : ℕ) (t : ToldRule) (first : Option Data) (value : Data)
+    → IsFirst patches (first_section t.usage) first → value ≡ object (rule_put t first no_members)
+    → IsWritten value (told_rule_json patches t)
 told_rule_written patches t first value told is =
-    subst (λ (d : Data). IsWritten d (told_rule_json patches t)) (sym (is ∙ members_are t.rule t.usage first)) (told_rule_bytes patches t first told)
+    subst (λ (d : Data). IsWritten d (told_rule_json patches t)) (sym (is ∙ members_are t.rule t.usage first))
+    (told_rule_bytes patches t first told)

@@ -1,8 +1,11 @@
 -- A log with a patch more, or a link more.
-use Rattle.std.proofs.Common.{◌≡◌, ℕ, zero, suc, ◌+◌, ◌*◌, ◌<◌, ◌≤◌, ◌⊎◌, inl, inr, List, [], ◌∷◌, ◌++◌, ◌-◌, length, take, drop, map, Bool, true, false, ◌&&◌, ◌||◌, Some, arith, tests, refl, sym, ◌∙◌, ap, subst, length-append}
+use Rattle.std.proofs.Common.{◌≡◌, ℕ, zero, suc, ◌+◌, ◌*◌, ◌<◌, ◌≤◌, ◌⊎◌, inl, inr, List, [], ◌∷◌, ◌++◌, ◌-◌, length}
+use Rattle.std.proofs.Common.{take, drop, map, Bool, true, false, ◌&&◌, ◌||◌, Some, arith, tests, refl, sym, ◌∙◌, ap}
+use Rattle.std.proofs.Common.{subst, length-append}
 use Rattle.std.specs.Prelude.{◌↔◌, IsTrue, slice_index, slice_get, slice_range}
 use Rattle.std.specs.List.{list_any}
-use Rattle.std.proofs.lemmas.List.{get_or_append_left, get_or_push, get_or_past, length-map, map_push, drop-take, drop-drop, take-take}
+use Rattle.std.proofs.lemmas.List.{get_or_append_left, get_or_push, get_or_past, length-map, map_push, drop-take}
+use Rattle.std.proofs.lemmas.List.{drop-drop, take-take}
 use Rattle.std.proofs.lemmas.List.Folds.{list_any-append}
 use Rattle.std.proofs.lemmas.List.Elements.{All-push}
 use Rattle.std.proofs.lemmas.Option.{slice_get_within}
@@ -24,18 +27,24 @@ use Rattle.traced_patches.specs.declared.labels.Link.{Link}
 
 -- ---- lists with one element more
 
-get_push : {X : Type 0} (xs : List X) (y x : X) (i : ℕ) → slice_get (xs ++ y ∷ []) i ≡ Some x → (slice_get xs i ≡ Some x) ⊎ ((i ≡ length xs) × (x ≡ y))
+get_push : {X : Type 0} (xs : List X) (y x : X) (i : ℕ) → slice_get (xs ++ y ∷ []) i ≡ Some x
+    → (slice_get xs i ≡ Some x) ⊎ ((i ≡ length xs) × (x ≡ y))
 get_push [] y x zero at = inr (refl, cc)
 get_push [] y x (suc i) at = absurd (cc)
 get_push (a ∷ xs) y x zero at = inl at
-get_push (a ∷ xs) y x (suc i) at = elim (get_push xs y x i at) [ inl old ↦ inl old | inr new ↦ inr (ap suc new.0, new.1) ]
+get_push (a ∷ xs) y x (suc i) at = elim (get_push xs y x i at) [
+  | inl old ↦ inl old
+  | inr new ↦ inr (ap suc new.0, new.1)
+]
 
-get_old : {X : Type 0} (xs : List X) (y x z : X) (i : ℕ) → slice_get xs i ≡ Some x → slice_get (xs ++ y ∷ []) i ≡ Some z → z ≡ x
+get_old : {X : Type 0} (xs : List X) (y x z : X) (i : ℕ) → slice_get xs i ≡ Some x → slice_get (xs ++ y ∷ []) i ≡ Some z
+    → z ≡ x
 get_old [] y x z i at here = absurd (cc)
 get_old (a ∷ xs) y x z zero at here = cc
 get_old (a ∷ xs) y x z (suc i) at here = get_old xs y x z i at here
 
-with_places-push : (d : Disk) (ps : List Place) (p : Place) → with_places d (ps ++ p ∷ []) ≡ with_bytes (with_places d ps) p.block p.offset p.new
+with_places-push : (d : Disk) (ps : List Place) (p : Place)
+    → with_places d (ps ++ p ∷ []) ≡ with_bytes (with_places d ps) p.block p.offset p.new
 with_places-push d [] p = refl
 with_places-push d (x ∷ ps) p = with_places-push (with_bytes d x.block x.offset x.new) ps p
 
@@ -44,18 +53,22 @@ with_places-blocks d [] = refl
 with_places-blocks d (x ∷ ps) = with_places-blocks (with_bytes d x.block x.offset x.new) ps
 
 undo-push : (d : Disk) (ps : List Patch) (p : Patch) → AreUndo d ps
-    → p.undo.items ≡ slice_range (with_places d (places_of ps)).bytes (128 * p.block + p.offset) (128 * p.block + p.offset + length p.new.items) → AreUndo d (ps ++ p ∷ [])
+    → p.undo.items ≡ slice_range (with_places d (places_of ps)).bytes (128 * p.block + p.offset)
+    (128 * p.block + p.offset + length p.new.items) → AreUndo d (ps ++ p ∷ [])
 undo-push d [] p u here = (here, tt)
 undo-push d (x ∷ ps) p u here = (u.0, undo-push (with_bytes d x.block x.offset x.new.items) ps p u.1 here)
 
-pub emitted-push : (ps : List Place) (ls : List Label) (p : Place) (l : Label) → length ls ≡ length ps → emitted_by (ps ++ p ∷ []) (ls ++ l ∷ []) ≡ emitted_by ps ls ++ emitted_at p l ∷ []
+pub emitted-push : (ps : List Place) (ls : List Label) (p : Place) (l : Label) → length ls ≡ length ps
+    → emitted_by (ps ++ p ∷ []) (ls ++ l ∷ []) ≡ emitted_by ps ls ++ emitted_at p l ∷ []
 emitted-push [] [] p l same = refl
 emitted-push [] (x ∷ ls) p l same = absurd (omega arith)
 emitted-push (y ∷ ps) [] p l same = absurd (omega arith)
-emitted-push (y ∷ ps) (x ∷ ls) p l same = ap (λ (es : List Emitted). emitted_at y x ∷ es) (emitted-push ps ls p l (omega arith))
+emitted-push (y ∷ ps) (x ∷ ls) p l same = ap (λ (es : List Emitted). emitted_at y x ∷ es)
+    (emitted-push ps ls p l (omega arith))
 
 -- an emitted patch is a place and a label of one id
-label_at : (ps : List Place) (ls : List Label) (id : ℕ) (e : Emitted) → slice_get (emitted_by ps ls) id ≡ Some e → (l : Label) × (slice_get ls id ≡ Some l) × ((p : Place) × (slice_get ps id ≡ Some p) × (e ≡ emitted_at p l))
+label_at : (ps : List Place) (ls : List Label) (id : ℕ) (e : Emitted) → slice_get (emitted_by ps ls) id ≡ Some e
+    → (l : Label) × (slice_get ls id ≡ Some l) × ((p : Place) × (slice_get ps id ≡ Some p) × (e ≡ emitted_at p l))
 label_at [] ls id e at = absurd (cc)
 label_at (p ∷ ps) [] id e at = absurd (cc)
 label_at (p ∷ ps) (l ∷ ls) zero e at = (l, refl, (p, refl, cc))
@@ -63,10 +76,12 @@ label_at (p ∷ ps) (l ∷ ls) (suc id) e at = label_at ps ls id e at
 
 -- ---- tests
 
-overlap_true : (q p : Emitted) → p.place.block ≡ q.place.block → p.place.offset < q.place.offset + length q.place.new → q.place.offset < p.place.offset + length p.place.new → overlap q.place p.place ≡ true
+overlap_true : (q p : Emitted) → p.place.block ≡ q.place.block → p.place.offset < q.place.offset + length q.place.new
+    → q.place.offset < p.place.offset + length p.place.new → overlap q.place p.place ≡ true
 overlap_true q p same below above = grind (arith, tests)
 
-from_overlap : (q p : Emitted) → overlap q.place p.place ≡ true → (p.place.block ≡ q.place.block) × (p.place.offset < q.place.offset + length q.place.new) × (q.place.offset < p.place.offset + length p.place.new)
+from_overlap : (q p : Emitted) → overlap q.place p.place ≡ true → (p.place.block ≡ q.place.block)
+    × (p.place.offset < q.place.offset + length q.place.new) × (q.place.offset < p.place.offset + length p.place.new)
 from_overlap q p t = (grind (arith, tests), grind (arith, tests), grind (arith, tests))
 
 or_cases : (a b c : Bool) → (a || b || c) ≡ true → (a ≡ true) ⊎ ((b || c) ≡ true)
@@ -85,10 +100,14 @@ or_rest false b c t = t
 
 -- the dependencies of groups and of rules look at labels alone
 rule_labels : (rules : List Rule) (links : List (List ℕ × List ℕ)) (p q r s : Place) (l m : Label)
-    → (groups_depend links (emitted_at p l) (emitted_at q m) || list_any (λ rule. applies rule (emitted_at p l) (emitted_at q m)) rules) ≡ (groups_depend links (emitted_at r l) (emitted_at s m) || list_any (λ rule. applies rule (emitted_at r l) (emitted_at s m)) rules)
+    → (groups_depend links (emitted_at p l) (emitted_at q m)
+    || list_any (λ rule. applies rule (emitted_at p l) (emitted_at q m)) rules)
+    ≡ (groups_depend links (emitted_at r l) (emitted_at s m)
+    || list_any (λ rule. applies rule (emitted_at r l) (emitted_at s m)) rules)
 rule_labels rules links p q r s l m = refl
 
-patch_at : (ps : List Patch) (id : ℕ) (at : Place) → slice_get (places_of ps) id ≡ Some at → (x : Patch) × (slice_get ps id ≡ Some x) × (at ≡ place x.block x.offset x.new.items)
+patch_at : (ps : List Patch) (id : ℕ) (at : Place) → slice_get (places_of ps) id ≡ Some at → (x : Patch)
+    × (slice_get ps id ≡ Some x) × (at ≡ place x.block x.offset x.new.items)
 patch_at [] id at here = absurd (cc)
 patch_at (x ∷ ps) zero at here = (x, refl, cc)
 patch_at (x ∷ ps) (suc id) at here = patch_at ps id at here
@@ -98,19 +117,26 @@ abbrev pub emitted_patch : Patch → Label → Emitted
 emitted_patch patch label = emitted_at (place patch.block patch.offset patch.new.items) label
 
 module _ (log : Log) (labels : List Label) (label : Label) (patch : Patch) (set : ℕ)
-    (is : IsLog log) (labelled : length labels ≡ length log.patches) (emitted : log.emitted ≡ emitted_by (places_of log.patches) labels)
-    (adds : (id : ℕ) → Has set id ↔ (Has patch.deps id ⊎ OverlapsAt log.patches patch id)) (waits : (id : ℕ) → Has patch.deps id ↔ WaitsAt log.rules log.links labels label id) where
+    (is : IsLog log) (labelled : length labels ≡ length log.patches)
+    (emitted : log.emitted ≡ emitted_by (places_of log.patches) labels)
+    (adds : (id : ℕ) → Has set id ↔ (Has patch.deps id ⊎ OverlapsAt log.patches patch id))
+    (waits : (id : ℕ) → Has patch.deps id ↔ WaitsAt log.rules log.links labels label id) where
   same_long : length log.emitted ≡ length log.patches
   same_long =
-      let places : length (places_of log.patches) ≡ length log.patches = length-map log.patches (λ p. place p.block p.offset p.new.items) in
-      let outer : length (map (λ (e : Emitted). e.place) log.emitted) ≡ length log.emitted = length-map log.emitted (λ e. e.place) in
-      let equal : length (places_of log.patches) ≡ length (map (λ (e : Emitted). e.place) log.emitted) = ap (λ (xs : List Place). length xs) is.graph.places in
+      let places : length (places_of log.patches) ≡ length log.patches =
+      length-map log.patches (λ p. place p.block p.offset p.new.items) in
+      let outer : length (map (λ (e : Emitted). e.place) log.emitted) ≡ length log.emitted =
+      length-map log.emitted (λ e. e.place) in
+      let equal : length (places_of log.patches) ≡ length (map (λ (e : Emitted). e.place) log.emitted) =
+      ap (λ (xs : List Place). length xs) is.graph.places in
       omega arith
 
   -- the dependencies of the new patch are those that it is to have
-  new_deps : (p : ℕ) (before : Emitted) → slice_get log.emitted p ≡ Some before → Has set p ↔ IsTrue (depends log.rules log.links (emitted_patch patch label) before)
+  new_deps : (p : ℕ) (before : Emitted) → slice_get log.emitted p ≡ Some before → Has set p
+      ↔ IsTrue (depends log.rules log.links (emitted_patch patch label) before)
   new_deps p before at =
-      let found = label_at (places_of log.patches) labels p before (subst (λ (es : List Emitted). slice_get es p ≡ Some before) emitted at) in
+      let found = label_at (places_of log.patches) labels p before
+      (subst (λ (es : List Emitted). slice_get es p ≡ Some before) emitted at) in
       let other : Label = found.0 in
       let other_at : slice_get labels p ≡ Some other = found.1 in
       let stood : Place = found.2.0 in
@@ -119,31 +145,39 @@ module _ (log : Log) (labels : List Label) (label : Label) (patch : Patch) (set 
       let earlier : Patch = there.0 in
       let earlier_at : slice_get log.patches p ≡ Some earlier = there.1 in
       let place_is : stood ≡ place earlier.block earlier.offset earlier.new.items = there.2 in
-      let rule = rule_labels log.rules log.links (place 0 0 []) (place 0 0 []) (place patch.block patch.offset patch.new.items) stood label other in
+      let rule = rule_labels log.rules log.links (place 0 0 []) (place 0 0 [])
+      (place patch.block patch.offset patch.new.items) stood label other in
       let e : Emitted = emitted_patch patch label in
       let full : before ≡ emitted_patch earlier other = is_it ∙ ap (λ (at : Place). emitted_at at other) place_is in (
         λ has. elim ((adds p).0 has) [
           | inl own ↦
               let w = (waits p).0 own in
               let same : w.0 ≡ other = some_same (sym w.1 ∙ other_at) in
-              let t = subst (λ (l : Label). IsTrue (groups_depend log.links (emitted_of label) (emitted_of l) || list_any (λ rule. applies rule (emitted_of label) (emitted_of l)) log.rules)) same w.2 in
+              let t = subst (λ (l : Label). IsTrue (groups_depend log.links (emitted_of label) (emitted_of l)
+              || list_any (λ rule. applies rule (emitted_of label) (emitted_of l)) log.rules)) same w.2 in
               subst (λ (b : Emitted). IsTrue (depends log.rules log.links e b)) (sym is_it)
-              (or_rest (overlap e.place stood) (groups_depend log.links e (emitted_at stood other)) (list_any (λ rule. applies rule e (emitted_at stood other)) log.rules) (sym rule ∙ t))
+              (or_rest (overlap e.place stood) (groups_depend log.links e (emitted_at stood other))
+              (list_any (λ rule. applies rule e (emitted_at stood other)) log.rules) (sym rule ∙ t))
           | inr over ↦
               let same : over.0 ≡ earlier = patch_same (sym over.1 ∙ earlier_at) in
               let o : Overlaps earlier patch = subst (λ (x : Patch). Overlaps x patch) same over.2 in
               subst (λ (b : Emitted). IsTrue (depends log.rules log.links e b)) (sym full)
-              (or_first (overlap e.place (place earlier.block earlier.offset earlier.new.items)) (groups_depend log.links e (emitted_patch earlier other)) (list_any (λ rule. applies rule e (emitted_patch earlier other)) log.rules)
+              (or_first (overlap e.place (place earlier.block earlier.offset earlier.new.items))
+              (groups_depend log.links e (emitted_patch earlier other))
+              (list_any (λ rule. applies rule e (emitted_patch earlier other)) log.rules)
               (overlap_true e (emitted_patch earlier other) o.together o.below o.above))
         ],
-        λ t. elim (or_cases (overlap e.place before.place) (groups_depend log.links e before) (list_any (λ rule. applies rule e before) log.rules) t) [
-          | inl over ↦
-              let o = from_overlap e (emitted_patch earlier other) (subst (λ (b : Emitted). overlap e.place b.place ≡ true) full over) in
-              (adds p).1 (inr (earlier, earlier_at, record { together = o.0; below = o.1; above = o.2 }))
-          | inr rest ↦
-              let r = subst (λ (b : Emitted). (groups_depend log.links e b || list_any (λ rule. applies rule e b) log.rules) ≡ true) is_it rest in
-              (adds p).1 (inl ((waits p).1 (other, other_at, rule ∙ r)))
-        ],
+        λ t. elim (or_cases (overlap e.place before.place) (groups_depend log.links e before)
+            (list_any (λ rule. applies rule e before) log.rules) t) [
+              | inl over ↦
+                  let o = from_overlap e (emitted_patch earlier other)
+                  (subst (λ (b : Emitted). overlap e.place b.place ≡ true) full over) in
+                  (adds p).1 (inr (earlier, earlier_at, record { together = o.0; below = o.1; above = o.2 }))
+              | inr rest ↦
+                  let r = subst (λ (b : Emitted). (groups_depend log.links e b
+                  || list_any (λ rule. applies rule e b) log.rules) ≡ true) is_it rest in
+                  (adds p).1 (inl ((waits p).1 (other, other_at, rule ∙ r)))
+            ],
       )
     where
       some_same : {l m : Label} → Some l ≡ Some m → l ≡ m
@@ -152,23 +186,32 @@ module _ (log : Log) (labels : List Label) (label : Label) (patch : Patch) (set 
       patch_same : {l m : Patch} → Some l ≡ Some m → l ≡ m
       patch_same h = cc
 
-  emit_core : patch.block < log.base.blocks → patch.undo.items ≡ slice_range log.written.bytes (128 * patch.block + patch.offset) (128 * patch.block + patch.offset + length patch.new.items)
-      → IsLog (record log { written = with_bytes log.written patch.block patch.offset patch.new.items; emitted = log.emitted ++ emitted_patch patch label ∷ []; patches = log.patches ++ record patch { deps = set } ∷ [] })
+  emit_core : patch.block < log.base.blocks → patch.undo.items ≡ slice_range log.written.bytes
+      (128 * patch.block + patch.offset) (128 * patch.block + patch.offset + length patch.new.items)
+      → IsLog (record log {
+        written = with_bytes log.written patch.block patch.offset patch.new.items;
+        emitted = log.emitted ++ emitted_patch patch label ∷ [];
+        patches = log.patches ++ record patch { deps = set }
+            ∷ [];
+      })
   emit_core known undo = record {
     known = All-push (λ p. p.block < log.base.blocks) log.patches (record patch { deps = set }) is.known known;
     written = ap (λ (d : Disk). with_bytes d patch.block patch.offset patch.new.items) is.written
         ∙ sym (with_places-push log.base (places_of log.patches) (place patch.block patch.offset patch.new.items))
         ∙ ap (λ (ps : List Place). with_places log.base ps) (sym placed);
     graph = record {
-      places = placed ∙ ap (λ (ps : List Place). ps ++ place patch.block patch.offset patch.new.items ∷ []) is.graph.places ∙ sym (map_push (λ (e : Emitted). e.place) log.emitted (emitted_patch patch label));
+      places = placed ∙ ap (λ (ps : List Place). ps ++ place patch.block patch.offset patch.new.items ∷ [])
+          is.graph.places ∙ sym (map_push (λ (e : Emitted). e.place) log.emitted (emitted_patch patch label));
       undo = undo-push log.base log.patches (record patch { deps = set }) is.graph.undo
-          (undo ∙ ap (λ (d : Disk). slice_range d.bytes (128 * patch.block + patch.offset) (128 * patch.block + patch.offset + length patch.new.items)) is.written);
+          (undo ∙ ap (λ (d : Disk). slice_range d.bytes (128 * patch.block + patch.offset)
+          (128 * patch.block + patch.offset + length patch.new.items)) is.written);
       earlier = λ q p has. earlier q p (subst (λ (xs : List ℕ). Has (slice_index xs q) p) deps_push has);
       exactly = exactly;
     };
   }
     where
-      placed : places_of (log.patches ++ record patch { deps = set } ∷ []) ≡ places_of log.patches ++ place patch.block patch.offset patch.new.items ∷ []
+      placed : places_of (log.patches ++ record patch { deps = set } ∷ []) ≡ places_of log.patches
+          ++ place patch.block patch.offset patch.new.items ∷ []
       placed = map_push (λ (p : Patch). place p.block p.offset p.new.items) log.patches (record patch { deps = set })
 
       deps_long : length (deps_of log.patches) ≡ length log.patches
@@ -179,23 +222,32 @@ module _ (log : Log) (labels : List Label) (label : Label) (patch : Patch) (set 
 
       before : (p : ℕ) → Has set p → p < length log.patches
       before p has = elim ((adds p).0 has) [
-        | inl own ↦ let w = (waits p).0 own in let inside : p < length labels = slice_get_within labels p w.0 w.1 in omega (arith, inside, labelled)
+        | inl own ↦ let w = (waits p).0 own in let inside : p < length labels = slice_get_within labels p w.0 w.1 in
+            omega (arith, inside, labelled)
         | inr over ↦ slice_get_within log.patches p over.0 over.1
       ]
 
       earlier : (q p : ℕ) → Has (slice_index (deps_of log.patches ++ set ∷ []) q) p → p < q
       earlier q p has = elim (cases_lt q (length (deps_of log.patches))) [
-        | inl old ↦ is.graph.earlier q p (subst (λ (s : ℕ). Has s p) (get_or_append_left (deps_of log.patches) (set ∷ []) 0 q old) has)
+        | inl old ↦ is.graph.earlier q p (subst (λ (s : ℕ). Has s p)
+            (get_or_append_left (deps_of log.patches) (set ∷ []) 0 q old) has)
         | inr from ↦ elim (eq_or_not q (length (deps_of log.patches))) [
-          | inl e ↦ let less : p < length log.patches = before p (subst (λ (s : ℕ). Has s p) (get_or_push (deps_of log.patches) set 0 q (sym e)) has) in omega (arith, less, e, deps_long)
+          | inl e ↦ let less : p < length log.patches = before p
+              (subst (λ (s : ℕ). Has s p) (get_or_push (deps_of log.patches) set 0 q (sym e)) has) in
+              omega (arith, less, e, deps_long)
           | inr ne ↦
-              let past : length (deps_of log.patches ++ set ∷ []) ≤ q = omega (arith, length-append (deps_of log.patches) (set ∷ [])) in
-              absurd (none_in_empty p (subst (λ (s : ℕ). Has s p) (get_or_past (deps_of log.patches ++ set ∷ []) q 0 past) has))
+              let past : length (deps_of log.patches ++ set ∷ []) ≤ q =
+              omega (arith, length-append (deps_of log.patches) (set ∷ [])) in
+              absurd (none_in_empty p (subst (λ (s : ℕ). Has s p)
+              (get_or_past (deps_of log.patches ++ set ∷ []) q 0 past) has))
         ]
       ]
 
-      exactly : (q p : ℕ) (later before : Emitted) → p < q → slice_get (log.emitted ++ emitted_patch patch label ∷ []) q ≡ Some later → slice_get (log.emitted ++ emitted_patch patch label ∷ []) p ≡ Some before
-          → (Has (slice_index (deps_of (log.patches ++ record patch { deps = set } ∷ [])) q) p ↔ IsTrue (depends log.rules log.links later before))
+      exactly : (q p : ℕ) (later before : Emitted) → p < q
+          → slice_get (log.emitted ++ emitted_patch patch label ∷ []) q ≡ Some later
+          → slice_get (log.emitted ++ emitted_patch patch label ∷ []) p ≡ Some before
+          → (Has (slice_index (deps_of (log.patches ++ record patch { deps = set } ∷ [])) q) p
+          ↔ IsTrue (depends log.rules log.links later before))
       exactly q p later before less at_q at_p =
           elim (get_push log.emitted (emitted_patch patch label) later q at_q) [
             | inl old_q ↦
@@ -203,9 +255,12 @@ module _ (log : Log) (labels : List Label) (label : Label) (patch : Patch) (set 
                 elim (get_push log.emitted (emitted_patch patch label) before p at_p) [
                   | inl old_p ↦
                       let within : q < length (deps_of log.patches) = omega (arith, same_long, deps_long) in
-                      let here : slice_index (deps_of (log.patches ++ record patch { deps = set } ∷ [])) q ≡ slice_index (deps_of log.patches) q =
-                      ap (λ (xs : List ℕ). slice_index xs q) deps_push ∙ get_or_append_left (deps_of log.patches) (set ∷ []) 0 q within in
-                      subst (λ (s : ℕ). Has s p ↔ IsTrue (depends log.rules log.links later before)) (sym here) (is.graph.exactly q p later before less old_q old_p)
+                      let here : slice_index (deps_of (log.patches ++ record patch { deps = set } ∷ [])) q
+                      ≡ slice_index (deps_of log.patches) q =
+                      ap (λ (xs : List ℕ). slice_index xs q) deps_push
+                      ∙ get_or_append_left (deps_of log.patches) (set ∷ []) 0 q within in
+                      subst (λ (s : ℕ). Has s p ↔ IsTrue (depends log.rules log.links later before)) (sym here)
+                      (is.graph.exactly q p later before less old_q old_p)
                   | inr new_p ↦ let where_p : p ≡ length log.emitted = new_p.0 in absurd (omega arith)
                 ]
             | inr new_q ↦
@@ -213,17 +268,21 @@ module _ (log : Log) (labels : List Label) (label : Label) (patch : Patch) (set 
                 elim (get_push log.emitted (emitted_patch patch label) before p at_p) [
                   | inl old_p ↦
                       let here : slice_index (deps_of (log.patches ++ record patch { deps = set } ∷ [])) q ≡ set =
-                      ap (λ (xs : List ℕ). slice_index xs q) deps_push ∙ get_or_push (deps_of log.patches) set 0 q (omega (arith, same_long, deps_long)) in
+                      ap (λ (xs : List ℕ). slice_index xs q) deps_push
+                      ∙ get_or_push (deps_of log.patches) set 0 q (omega (arith, same_long, deps_long)) in
                       subst (λ (s : ℕ). Has s p ↔ IsTrue (depends log.rules log.links later before)) (sym here)
-                      (subst (λ (l : Emitted). Has set p ↔ IsTrue (depends log.rules log.links l before)) (sym new_q.1) (new_deps p before old_p))
+                      (subst (λ (l : Emitted). Has set p ↔ IsTrue (depends log.rules log.links l before)) (sym new_q.1)
+                      (new_deps p before old_p))
                   | inr new_p ↦ let where_p : p ≡ length log.emitted = new_p.0 in absurd (omega arith)
                 ]
           ]
 
 -- the patch as it was added is the one that was handed in, with more dependencies
-same_patch : (patches : List Patch) (patch added : Patch) → AddsOverlaps patches patch added → added ≡ record patch { deps = added.deps }
+same_patch : (patches : List Patch) (patch added : Patch) → AddsOverlaps patches patch added
+    → added ≡ record patch { deps = added.deps }
 same_patch patches patch added adds =
-    let make : ℕ → ℕ → ArrayVec ℕ → ArrayVec ℕ → Patch = λ b o n u. record { block = b; offset = o; new = n; undo = u; deps = added.deps } in
+    let make : ℕ → ℕ → ArrayVec ℕ → ArrayVec ℕ → Patch = λ b o n u.
+    record { block = b; offset = o; new = n; undo = u; deps = added.deps } in
     ap (λ (b : ℕ). make b added.offset added.new added.undo) adds.block
     ∙ ap (λ (o : ℕ). make patch.block o added.new added.undo) adds.offset
     ∙ ap (λ (n : ArrayVec ℕ). make patch.block patch.offset n added.undo) adds.new
@@ -231,64 +290,114 @@ same_patch patches patch added adds =
 
 pub log-emit : (log : Log) (labels : List Label) (label : Label) (patch added : Patch)
     → IsLog log → length labels ≡ length log.patches → log.emitted ≡ emitted_by (places_of log.patches) labels
-    → AddsOverlaps log.patches patch added → ((id : ℕ) → Has patch.deps id ↔ WaitsAt log.rules log.links labels label id)
-    → patch.block < log.base.blocks → patch.undo.items ≡ slice_range log.written.bytes (128 * patch.block + patch.offset) (128 * patch.block + patch.offset + length patch.new.items)
-    → IsLog (record log { written = with_bytes log.written patch.block patch.offset patch.new.items; emitted = log.emitted ++ emitted_patch patch label ∷ []; patches = log.patches ++ added ∷ [] })
+    → AddsOverlaps log.patches patch added → ((id : ℕ) → Has patch.deps id
+    ↔ WaitsAt log.rules log.links labels label id)
+    → patch.block < log.base.blocks → patch.undo.items ≡ slice_range log.written.bytes
+    (128 * patch.block + patch.offset) (128 * patch.block + patch.offset + length patch.new.items)
+    → IsLog (record log {
+      written = with_bytes log.written patch.block patch.offset patch.new.items;
+      emitted = log.emitted ++ emitted_patch patch label ∷ [];
+      patches = log.patches ++ added ∷ [];
+    })
 log-emit log labels label patch added is labelled emitted adds waits known undo =
     let eq : added ≡ record patch { deps = added.deps } = same_patch log.patches patch added adds in
-    subst (λ (a : Patch). IsLog (record log { written = with_bytes log.written patch.block patch.offset patch.new.items; emitted = log.emitted ++ emitted_patch patch label ∷ []; patches = log.patches ++ a ∷ [] })) (sym eq)
+    subst (λ (a : Patch). IsLog (record log {
+      written = with_bytes log.written patch.block patch.offset patch.new.items;
+      emitted = log.emitted ++ emitted_patch patch label ∷ [];
+      patches = log.patches ++ a ∷ [];
+    })) (sym eq)
     (emit_core log labels label patch added.deps is labelled emitted adds.deps waits known undo)
 
 pub written_blocks : (log : Log) → IsLog log → log.written.blocks ≡ log.base.blocks
 written_blocks log is = ap (λ (d : Disk). d.blocks) is.written ∙ with_places-blocks log.base (places_of log.patches)
 
 -- the same by what stands in the fields
-module _ (base written : Disk) (kind : Module) (rules : List Rule) (links : List (List ℕ × List ℕ)) (labels : List Label) (label : Label) (patches : List Patch) (patch added : Patch) where
+module _ (base written : Disk) (kind : Module) (rules : List Rule) (links : List (List ℕ × List ℕ))
+    (labels : List Label) (label : Label) (patches : List Patch) (patch added : Patch) where
   abbrev pub log_before : Log
-  log_before = record { base = base; written = written; kind = kind; rules = rules; links = links; emitted = emitted_by (places_of patches) labels; patches = patches }
+  log_before = record {
+    base = base;
+    written = written;
+    kind = kind;
+    rules = rules;
+    links = links;
+    emitted = emitted_by (places_of patches) labels;
+    patches = patches;
+  }
 
   pub emitted_after : length labels ≡ length patches → AddsOverlaps patches patch added
-      → emitted_by (places_of (patches ++ added ∷ [])) (labels ++ label ∷ []) ≡ emitted_by (places_of patches) labels ++ emitted_patch patch label ∷ []
+      → emitted_by (places_of (patches ++ added ∷ [])) (labels ++ label ∷ []) ≡ emitted_by (places_of patches) labels
+      ++ emitted_patch patch label ∷ []
   emitted_after labelled adds =
-      let long : length (places_of patches) ≡ length patches = length-map patches (λ p. place p.block p.offset p.new.items) in
-      let placed : places_of (patches ++ added ∷ []) ≡ places_of patches ++ place added.block added.offset added.new.items ∷ [] = map_push (λ (p : Patch). place p.block p.offset p.new.items) patches added in
+      let long : length (places_of patches) ≡ length patches =
+      length-map patches (λ p. place p.block p.offset p.new.items) in
+      let placed : places_of (patches ++ added ∷ []) ≡ places_of patches ++ place added.block added.offset
+      added.new.items ∷ [] = map_push (λ (p : Patch). place p.block p.offset p.new.items) patches added in
       let at : place added.block added.offset added.new.items ≡ place patch.block patch.offset patch.new.items =
-      ap (λ (b : ℕ). place b added.offset added.new.items) adds.block ∙ ap (λ (o : ℕ). place patch.block o added.new.items) adds.offset ∙ ap (λ (n : ArrayVec ℕ). place patch.block patch.offset n.items) adds.new in
-      ap (λ (ps : List Place). emitted_by ps (labels ++ label ∷ [])) (placed ∙ ap (λ (p : Place). places_of patches ++ p ∷ []) at)
+      ap (λ (b : ℕ). place b added.offset added.new.items) adds.block
+      ∙ ap (λ (o : ℕ). place patch.block o added.new.items) adds.offset
+      ∙ ap (λ (n : ArrayVec ℕ). place patch.block patch.offset n.items) adds.new in
+      ap (λ (ps : List Place). emitted_by ps (labels ++ label ∷ []))
+      (placed ∙ ap (λ (p : Place). places_of patches ++ p ∷ []) at)
       ∙ emitted-push (places_of patches) labels (place patch.block patch.offset patch.new.items) label (omega arith)
 
-  pub emitted_new : (new : List Patch) (labels' : List Label) → length labels ≡ length patches → AddsOverlaps patches patch added → new ≡ patches ++ added ∷ [] → labels' ≡ labels ++ label ∷ []
+  pub emitted_new : (new : List Patch) (labels' : List Label) → length labels ≡ length patches
+      → AddsOverlaps patches patch added → new ≡ patches ++ added ∷ [] → labels' ≡ labels ++ label ∷ []
       → emitted_by (places_of new) labels' ≡ emitted_by (places_of patches) labels ++ emitted_patch patch label ∷ []
   emitted_new new labels' labelled adds new_is labels_is =
-      ap (λ (ps : List Patch). emitted_by (places_of ps) labels') new_is ∙ ap (λ (ls : List Label). emitted_by (places_of (patches ++ added ∷ [])) ls) labels_is ∙ emitted_after labelled adds
+      ap (λ (ps : List Patch). emitted_by (places_of ps) labels') new_is
+      ∙ ap (λ (ls : List Label). emitted_by (places_of (patches ++ added ∷ [])) ls) labels_is
+      ∙ emitted_after labelled adds
 
   pub emit_fields : (new : List Patch) (labels' : List Label) (written' : Disk)
-      → IsLog log_before → length labels ≡ length patches → AddsOverlaps patches patch added → ((id : ℕ) → Has patch.deps id ↔ WaitsAt rules links labels label id)
-      → patch.block < base.blocks → patch.undo.items ≡ slice_range written.bytes (128 * patch.block + patch.offset) (128 * patch.block + patch.offset + length patch.new.items)
-      → new ≡ patches ++ added ∷ [] → labels' ≡ labels ++ label ∷ [] → written' ≡ with_bytes written patch.block patch.offset patch.new.items
-      → IsLog (record { base = base; written = written'; kind = kind; rules = rules; links = links; emitted = emitted_by (places_of new) labels'; patches = new }) × (length labels' ≡ length new)
+      → IsLog log_before → length labels ≡ length patches → AddsOverlaps patches patch added
+      → ((id : ℕ) → Has patch.deps id ↔ WaitsAt rules links labels label id)
+      → patch.block < base.blocks → patch.undo.items ≡ slice_range written.bytes (128 * patch.block + patch.offset)
+      (128 * patch.block + patch.offset + length patch.new.items)
+      → new ≡ patches ++ added ∷ [] → labels' ≡ labels ++ label ∷ []
+      → written' ≡ with_bytes written patch.block patch.offset patch.new.items
+      → IsLog (record {
+        base = base;
+        written = written';
+        kind = kind;
+        rules = rules;
+        links = links;
+        emitted = emitted_by (places_of new) labels';
+        patches = new;
+      }) × (length labels' ≡ length new)
   emit_fields new labels' written' is labelled adds waits known undo new_is labels_is written_is =
       let last = log-emit log_before labels label patch added is labelled refl adds waits known undo in
-      let make : List Patch → List Emitted → Disk → Log = λ ps es d. record { base = base; written = d; kind = kind; rules = rules; links = links; emitted = es; patches = ps } in
-      let es : emitted_by (places_of new) labels' ≡ emitted_by (places_of patches) labels ++ emitted_patch patch label ∷ [] =
+      let make : List Patch → List Emitted → Disk → Log = λ ps es d.
+      record { base = base; written = d; kind = kind; rules = rules; links = links; emitted = es; patches = ps } in
+      let es : emitted_by (places_of new) labels' ≡ emitted_by (places_of patches) labels ++ emitted_patch patch label
+      ∷ [] =
       emitted_new new labels' labelled adds new_is labels_is in
-      let to : make new (emitted_by (places_of new) labels') written' ≡ make (patches ++ added ∷ []) (emitted_by (places_of patches) labels ++ emitted_patch patch label ∷ []) (with_bytes written patch.block patch.offset patch.new.items) =
+      let to : make new (emitted_by (places_of new) labels') written' ≡ make (patches ++ added ∷ [])
+      (emitted_by (places_of patches) labels ++ emitted_patch patch label ∷ [])
+      (with_bytes written patch.block patch.offset patch.new.items) =
       ap (λ (ps : List Patch). make ps (emitted_by (places_of new) labels') written') new_is
       ∙ ap (λ (xs : List Emitted). make (patches ++ added ∷ []) xs written') es
-      ∙ ap (λ (d : Disk). make (patches ++ added ∷ []) (emitted_by (places_of patches) labels ++ emitted_patch patch label ∷ []) d) written_is in
-      let long : length labels' ≡ length labels + 1 = ap (λ (ls : List Label). length ls) labels_is ∙ length-append labels (label ∷ []) in
-      let tall : length new ≡ length patches + 1 = ap (λ (ps : List Patch). length ps) new_is ∙ length-append patches (added ∷ []) in
+      ∙ ap (λ (d : Disk). make (patches ++ added ∷ []) (emitted_by (places_of patches) labels ++ emitted_patch patch
+      label ∷ []) d) written_is in
+      let long : length labels' ≡ length labels + 1 = ap (λ (ls : List Label). length ls) labels_is
+      ∙ length-append labels (label ∷ []) in
+      let tall : length new ≡ length patches + 1 = ap (λ (ps : List Patch). length ps) new_is
+      ∙ length-append patches (added ∷ []) in
       (subst IsLog (sym to) last, omega arith)
 
 -- whether some patch is in a group is seen by the labels
-pub any_emitted : (ps : List Place) (ls : List Label) (name : List ℕ) → length ls ≡ length ps → list_any (λ (l : Label). is_same_group (group_by l.origin.group) name) ls ≡ list_any (λ e. is_same_group e.origin.group name) (emitted_by ps ls)
+pub any_emitted : (ps : List Place) (ls : List Label) (name : List ℕ) → length ls ≡ length ps
+    → list_any (λ (l : Label). is_same_group (group_by l.origin.group) name) ls
+    ≡ list_any (λ e. is_same_group e.origin.group name) (emitted_by ps ls)
 any_emitted [] [] name same = refl
 any_emitted [] (l ∷ ls) name same = absurd (omega arith)
 any_emitted (p ∷ ps) [] name same = absurd (omega arith)
-any_emitted (p ∷ ps) (l ∷ ls) name same = ap (λ (t : Bool). is_same_group (group_by l.origin.group) name || t) (any_emitted ps ls name (omega arith))
+any_emitted (p ∷ ps) (l ∷ ls) name same = ap (λ (t : Bool). is_same_group (group_by l.origin.group) name || t)
+    (any_emitted ps ls name (omega arith))
 
 -- the bytes of a range within a block
-pub block_range : (d : Disk) (b o n : ℕ) → o + n ≤ 128 → take ((o + n) - o) (drop o (block_of d b)) ≡ slice_range d.bytes (128 * b + o) (128 * b + o + n)
+pub block_range : (d : Disk) (b o n : ℕ) → o + n ≤ 128
+    → take ((o + n) - o) (drop o (block_of d b)) ≡ slice_range d.bytes (128 * b + o) (128 * b + o + n)
 block_range d b o n fits =
     let first : (o + n) - o ≡ n = omega arith in
     let whole : 128 ≡ o + (128 - o) = omega arith in
@@ -300,7 +409,8 @@ block_range d b o n fits =
     ∙ ap (λ (xs : List ℕ). take n xs) (drop-drop o (128 * b) d.bytes)
     ∙ ap (λ (k : ℕ). take k (drop (128 * b + o) d.bytes)) (sym width)
 
-pub undo_read : (d : Disk) (b o b' o' : ℕ) (row undo bytes new : List ℕ) → b' ≡ b → o' ≡ o → o + length bytes ≤ 128 → row ≡ block_of d b' → undo ≡ take ((o' + length bytes) - o') (drop o' row) → new ≡ bytes
+pub undo_read : (d : Disk) (b o b' o' : ℕ) (row undo bytes new : List ℕ) → b' ≡ b → o' ≡ o → o + length bytes ≤ 128
+    → row ≡ block_of d b' → undo ≡ take ((o' + length bytes) - o') (drop o' row) → new ≡ bytes
     → undo ≡ slice_range d.bytes (128 * b + o) (128 * b + o + length new)
 undo_read d b o b' o' row undo bytes new same_b same_o fits row_is undo_is new_is =
     undo_is
@@ -310,20 +420,27 @@ undo_read d b o b' o' row undo bytes new same_b same_o fits row_is undo_is new_i
     ∙ block_range d b o (length bytes) fits
     ∙ ap (λ (xs : List ℕ). slice_range d.bytes (128 * b + o) (128 * b + o + length xs)) (sym new_is)
 
-pub put_read : (d e : Disk) (b o b' o' : ℕ) (bytes new : List ℕ) → b' ≡ b → o' ≡ o → e ≡ with_bytes d b' o' bytes → new ≡ bytes → e ≡ with_bytes d b o new
+pub put_read : (d e : Disk) (b o b' o' : ℕ) (bytes new : List ℕ) → b' ≡ b → o' ≡ o → e ≡ with_bytes d b' o' bytes
+    → new ≡ bytes → e ≡ with_bytes d b o new
 put_read d e b o b' o' bytes new same_b same_o here new_is =
-    here ∙ ap (λ (k : ℕ). with_bytes d k o' bytes) same_b ∙ ap (λ (k : ℕ). with_bytes d b k bytes) same_o ∙ ap (λ (xs : List ℕ). with_bytes d b o xs) (sym new_is)
+    here ∙ ap (λ (k : ℕ). with_bytes d k o' bytes) same_b ∙ ap (λ (k : ℕ). with_bytes d b k bytes) same_o
+    ∙ ap (λ (xs : List ℕ). with_bytes d b o xs) (sym new_is)
 
-pub waits_read : (rules rules' : List Rule) (set : ℕ) (links links' : List Link) (labels labels' : List Label) (label : Label) → rules' ≡ rules → links' ≡ links → labels' ≡ labels
-    → ((id : ℕ) → Has set id ↔ WaitsAt rules' (links_by links') labels' label id) → (id : ℕ) → Has set id ↔ WaitsAt rules (links_by links) labels label id
+pub waits_read : (rules rules' : List Rule) (set : ℕ) (links links' : List Link) (labels labels' : List Label)
+    (label : Label) → rules' ≡ rules → links' ≡ links → labels' ≡ labels
+    → ((id : ℕ) → Has set id ↔ WaitsAt rules' (links_by links') labels' label id) → (id : ℕ) → Has set id
+    ↔ WaitsAt rules (links_by links) labels label id
 waits_read rules rules' set links links' labels labels' label same_rules same_links same_labels waits =
     subst (λ (rs : List Rule). (id : ℕ) → Has set id ↔ WaitsAt rs (links_by links) labels label id) same_rules
     (subst (λ (ls : List Label). (id : ℕ) → Has set id ↔ WaitsAt rules' (links_by links) ls label id) same_labels
-    (subst (λ (ls : List Link). (id : ℕ) → Has set id ↔ WaitsAt rules' (links_by ls) labels' label id) same_links waits))
+    (subst (λ (ls : List Link). (id : ℕ) → Has set id ↔ WaitsAt rules' (links_by ls) labels' label id) same_links
+    waits))
 
 -- ---- one link more
 
-pub log-link : (log : Log) (later earlier : List ℕ) → IsLog log → list_any (λ e. is_same_group e.origin.group later) log.emitted ≡ false → IsLog (record log { links = log.links ++ (later, earlier) ∷ [] })
+pub log-link : (log : Log) (later earlier : List ℕ) → IsLog log
+    → list_any (λ e. is_same_group e.origin.group later) log.emitted ≡ false
+    → IsLog (record log { links = log.links ++ (later, earlier) ∷ [] })
 log-link log later earlier is none = record {
   written = is.written;
   known = is.known;
@@ -332,7 +449,8 @@ log-link log later earlier is none = record {
     undo = is.graph.undo;
     earlier = is.graph.earlier;
     exactly = λ q p l b less at_q at_p.
-        subst (λ (t : Bool). Has (slice_index (deps_of log.patches) q) p ↔ IsTrue t) (sym (more_links log.rules log.links later earlier l b (none_at log.emitted later q l none at_q)))
+        subst (λ (t : Bool). Has (slice_index (deps_of log.patches) q) p ↔ IsTrue t)
+        (sym (more_links log.rules log.links later earlier l b (none_at log.emitted later q l none at_q)))
         (is.graph.exactly q p l b less at_q at_p);
   };
 }
@@ -345,10 +463,15 @@ log-link log later earlier is none = record {
     or_right true b h = absurd (cc)
     or_right false b h = h
 
-    none_at : (es : List Emitted) (name : List ℕ) (q : ℕ) (l : Emitted) → list_any (λ e. is_same_group e.origin.group name) es ≡ false → slice_get es q ≡ Some l → is_same_group l.origin.group name ≡ false
+    none_at : (es : List Emitted) (name : List ℕ) (q : ℕ) (l : Emitted)
+        → list_any (λ e. is_same_group e.origin.group name) es ≡ false → slice_get es q ≡ Some l
+        → is_same_group l.origin.group name ≡ false
     none_at [] name q l none at = absurd (cc)
-    none_at (e ∷ es) name zero l none at = let same : e ≡ l = cc in subst (λ (x : Emitted). is_same_group x.origin.group name ≡ false) same (or_left (is_same_group e.origin.group name) (list_any (λ e. is_same_group e.origin.group name) es) none)
-    none_at (e ∷ es) name (suc q) l none at = none_at es name q l (or_right (is_same_group e.origin.group name) (list_any (λ e. is_same_group e.origin.group name) es) none) at
+    none_at (e ∷ es) name zero l none at = let same : e ≡ l = cc in
+        subst (λ (x : Emitted). is_same_group x.origin.group name ≡ false) same
+        (or_left (is_same_group e.origin.group name) (list_any (λ e. is_same_group e.origin.group name) es) none)
+    none_at (e ∷ es) name (suc q) l none at = none_at es name q l
+        (or_right (is_same_group e.origin.group name) (list_any (λ e. is_same_group e.origin.group name) es) none) at
 
     or_false : (a b : Bool) → b ≡ false → (a || b) ≡ a
     or_false true b h = refl
@@ -357,20 +480,54 @@ log-link log later earlier is none = record {
     and_false : (a b : Bool) → a ≡ false → (a && b || false) ≡ false
     and_false a b h = rw h refl
 
-    more_links : (rules : List Rule) (links : List (List ℕ × List ℕ)) (later earlier : List ℕ) (q p : Emitted) → is_same_group q.origin.group later ≡ false → depends rules (links ++ (later, earlier) ∷ []) q p ≡ depends rules links q p
+    more_links : (rules : List Rule) (links : List (List ℕ × List ℕ)) (later earlier : List ℕ) (q p : Emitted)
+        → is_same_group q.origin.group later ≡ false → depends rules (links ++ (later, earlier) ∷ []) q p
+        ≡ depends rules links q p
     more_links rules links later earlier q p none =
         ap (λ (t : Bool). overlap q.place p.place || t || list_any (λ rule. applies rule q p) rules)
-        (list_any-append (λ link. is_same_group q.origin.group link.0 && is_same_group p.origin.group link.1) links ((later, earlier) ∷ [])
-        ∙ or_false (groups_depend links q p) (is_same_group q.origin.group later && is_same_group p.origin.group earlier || false) (and_false (is_same_group q.origin.group later) (is_same_group p.origin.group earlier) none))
+        (list_any-append (λ link. is_same_group q.origin.group link.0 && is_same_group p.origin.group link.1) links
+        ((later, earlier) ∷ [])
+        ∙ or_false (groups_depend links q p) (is_same_group q.origin.group later && is_same_group p.origin.group earlier
+        || false) (and_false (is_same_group q.origin.group later) (is_same_group p.origin.group earlier) none))
 
-pub links_push : (links new : List Link) (link : Link) → new ≡ links ++ link ∷ [] → links_by new ≡ links_by links ++ (link.later.now, link.earlier.now) ∷ []
-links_push links new link more = ap (λ (ls : List Link). links_by ls) more ∙ map_push (λ (l : Link). (l.later.now, l.earlier.now)) links link
+pub links_push : (links new : List Link) (link : Link) → new ≡ links ++ link ∷ []
+    → links_by new ≡ links_by links ++ (link.later.now, link.earlier.now) ∷ []
+links_push links new link more = ap (λ (ls : List Link). links_by ls) more
+    ∙ map_push (λ (l : Link). (l.later.now, l.earlier.now)) links link
 
-pub link_fields : (base written : Disk) (kind : Module) (rules : List Rule) (links new : List Link) (labels : List Label) (patches : List Patch) (link : Link)
-    → IsLog (record { base = base; written = written; kind = kind; rules = rules; links = links_by links; emitted = emitted_by (places_of patches) labels; patches = patches })
-    → list_any (λ e. is_same_group e.origin.group link.later.now) (emitted_by (places_of patches) labels) ≡ false → new ≡ links ++ link ∷ []
-    → IsLog (record { base = base; written = written; kind = kind; rules = rules; links = links_by new; emitted = emitted_by (places_of patches) labels; patches = patches })
+pub link_fields : (base written : Disk) (kind : Module) (rules : List Rule) (links new : List Link)
+    (labels : List Label) (patches : List Patch) (link : Link)
+    → IsLog (record {
+      base = base;
+      written = written;
+      kind = kind;
+      rules = rules;
+      links = links_by links;
+      emitted = emitted_by (places_of patches) labels;
+      patches = patches;
+    })
+    → list_any (λ e. is_same_group e.origin.group link.later.now) (emitted_by (places_of patches) labels) ≡ false
+    → new ≡ links ++ link ∷ []
+    → IsLog (record {
+      base = base;
+      written = written;
+      kind = kind;
+      rules = rules;
+      links = links_by new;
+      emitted = emitted_by (places_of patches) labels;
+      patches = patches;
+    })
 link_fields base written kind rules links new labels patches link is none more =
-    let make : List (List ℕ × List ℕ) → Log = λ ls. record { base = base; written = written; kind = kind; rules = rules; links = ls; emitted = emitted_by (places_of patches) labels; patches = patches } in
-    let to : links_by new ≡ links_by links ++ (link.later.now, link.earlier.now) ∷ [] = links_push links new link more in
-    subst (λ (ls : List (List ℕ × List ℕ)). IsLog (make ls)) (sym to) (log-link (make (links_by links)) link.later.now link.earlier.now is none)
+    let make : List (List ℕ × List ℕ) → Log = λ ls. record {
+      base = base;
+      written = written;
+      kind = kind;
+      rules = rules;
+      links = ls;
+      emitted = emitted_by (places_of patches) labels;
+      patches = patches;
+    } in
+    let to : links_by new ≡ links_by links ++ (link.later.now, link.earlier.now) ∷ [] =
+    links_push links new link more in
+    subst (λ (ls : List (List ℕ × List ℕ)). IsLog (make ls)) (sym to)
+    (log-link (make (links_by links)) link.later.now link.earlier.now is none)

@@ -32,14 +32,20 @@ pub some_group : (group : Option (Bor (List ℕ))) → is_some (group_by group) 
 some_group None = refl
 some_group (Some name) = refl
 
-pub among_names : (name : List ℕ) (names : List (Bor (List ℕ))) → is_among name (names_by names) ≡ list_any (λ other. bytes_eq name other.now) names
+pub among_names : (name : List ℕ) (names : List (Bor (List ℕ)))
+    → is_among name (names_by names) ≡ list_any (λ other. bytes_eq name other.now) names
 among_names name [] = refl
 among_names name (x ∷ xs) = ap (λ (t : Bool). bytes_eq name x.now || t) (among_names name xs)
 
 -- what was found of a name among those kept
-pub among_read : (t : Trace) (name : List ℕ) (kept read : List (Bor (List ℕ))) (found : Bool) (among : List (List ℕ)) → found ≡ list_any (λ other. bytes_eq name other.now) read → read ≡ kept → names_by kept ≡ among → is_among name among ≡ found
+pub among_read : (t : Trace) (name : List ℕ) (kept read : List (Bor (List ℕ))) (found : Bool) (among : List (List ℕ))
+    → found ≡ list_any (λ other. bytes_eq name other.now) read → read ≡ kept → names_by kept ≡ among
+    → is_among name among ≡ found
 among_read t name kept read found among is same all =
-    sym (is ∙ ap (λ (xs : List (Bor (List ℕ))). list_any (λ other. bytes_eq name other.now) xs) same ∙ sym (among_names name kept) ∙ ap (λ (ns : List (List ℕ)). is_among name ns) all)
+    sym (is ∙ ap (λ (xs : List (Bor (List ℕ))). list_any (λ other. bytes_eq name other.now) xs) same
+    ∙ sym (among_names name kept) ∙ ap (λ (ns : List (List ℕ)). is_among name ns) all)
 
-pub names_push : (names new : List (Bor (List ℕ))) (name : Bor (List ℕ)) → new ≡ names ++ name ∷ [] → names_by new ≡ names_by names ++ name.now ∷ []
-names_push names new name more = ap (λ (ns : List (Bor (List ℕ))). names_by ns) more ∙ map_push (λ (n : Bor (List ℕ)). n.now) names name
+pub names_push : (names new : List (Bor (List ℕ))) (name : Bor (List ℕ)) → new ≡ names ++ name ∷ []
+    → names_by new ≡ names_by names ++ name.now ∷ []
+names_push names new name more = ap (λ (ns : List (Bor (List ℕ))). names_by ns) more
+    ∙ map_push (λ (n : Bor (List ℕ)). n.now) names name

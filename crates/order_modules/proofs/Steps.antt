@@ -1,5 +1,6 @@
 -- The steps of a script, one after another.
-use Rattle.std.proofs.Common.{◌≡◌, ℕ, ◌+◌, ◌<◌, ◌≤◌, List, [], ◌∷◌, ◌++◌, length, take, drop, get_or, append-nil, append_assoc, refl, sym, ◌∙◌, ap, subst, arith}
+use Rattle.std.proofs.Common.{◌≡◌, ℕ, ◌+◌, ◌<◌, ◌≤◌, List, [], ◌∷◌, ◌++◌, length, take, drop, get_or, append-nil}
+use Rattle.std.proofs.Common.{append_assoc, refl, sym, ◌∙◌, ap, subst, arith}
 use Rattle.std.specs.Prelude.{All, Result, Ok, Err}
 use Rattle.std.proofs.lemmas.List.{take_more, take-append-drop, take_all}
 use Rattle.std.proofs.lemmas.List.Elements.{All-nil, All-append}
@@ -16,17 +17,22 @@ use Rattle.inode_fs.specs.Inside.{GivesName}
 use Rattle.full_journal_laws.specs.Full.{ops_at, ops_of}
 use Rattle.order_modules.specs.Tracer.{Trace, Moves}
 
-then_then : (kind : Module) (ys : List Step) (r : Result Tracing TraceFault) (f g : Tracing → Result Tracing TraceFault) → ((next : Tracing) → f next ≡ then_ok (g next) (λ end. trace_from kind end ys))
+then_then : (kind : Module) (ys : List Step) (r : Result Tracing TraceFault) (f g : Tracing → Result Tracing TraceFault)
+    → ((next : Tracing) → f next ≡ then_ok (g next) (λ end. trace_from kind end ys))
     → then_ok r f ≡ then_ok (then_ok r g) (λ end. trace_from kind end ys)
 then_then kind ys (Ok next) f g each = each next
 then_then kind ys (Err e) f g each = refl
 
-trace_from-append : (kind : Module) (s : Tracing) (xs ys : List Step) → trace_from kind s (xs ++ ys) ≡ then_ok (trace_from kind s xs) (λ next. trace_from kind next ys)
+trace_from-append : (kind : Module) (s : Tracing) (xs ys : List Step)
+    → trace_from kind s (xs ++ ys) ≡ then_ok (trace_from kind s xs) (λ next. trace_from kind next ys)
 trace_from-append kind s [] ys = refl
-trace_from-append kind s (x ∷ xs) ys = then_then kind ys (step kind s x.line x.act) (λ next. trace_from kind next (xs ++ ys)) (λ next. trace_from kind next xs) (λ next. trace_from-append kind next xs ys)
+trace_from-append kind s (x ∷ xs) ys = then_then kind ys (step kind s x.line x.act)
+    (λ next. trace_from kind next (xs ++ ys)) (λ next. trace_from kind next xs)
+    (λ next. trace_from-append kind next xs ys)
 
 -- the trace so far, of the steps taken
-pub record IsTraced (kind : Module) (rules : List Rule) (base : Disk) (steps : List Step) (i : ℕ) (t : Trace) : Type 0 where
+pub record IsTraced (kind : Module) (rules : List Rule) (base : Disk) (steps : List Step) (i : ℕ) (t : Trace) : Type
+    0 where
   pub same_base : t.log.base ≡ base
   pub same_kind : t.log.kind ≡ kind
   pub same_rules : t.log.rules ≡ rules
@@ -34,38 +40,50 @@ pub record IsTraced (kind : Module) (rules : List Rule) (base : Disk) (steps : L
   pub so_far : trace_from kind (trace_start base) (take i steps) ≡ Ok t.tracing
   pub names : All GivesName (ops_of (take i steps))
 
-module _ (kind : Module) (rules : List Rule) (base : Disk) (steps : List Step) (i : ℕ) (t : Trace) (x : Step) (inside : i < length steps) (read : x ≡ get_or steps i x) (is : IsTraced kind rules base steps i t) where
+module _ (kind : Module) (rules : List Rule) (base : Disk) (steps : List Step) (i : ℕ) (t : Trace) (x : Step)
+    (inside : i < length steps) (read : x ≡ get_or steps i x) (is : IsTraced kind rules base steps i t) where
   with_next : take (i + 1) steps ≡ take i steps ++ x ∷ []
   with_next = take_more steps i x inside ∙ ap (λ (y : Step). take i steps ++ y ∷ []) (sym read)
 
   -- the steps taken with one more, and those after it
-  after_step : (ys : List Step) → trace_from kind (trace_start base) (take i steps ++ x ∷ ys) ≡ then_ok (step kind t.tracing x.line x.act) (λ next. trace_from kind next ys)
-  after_step ys = trace_from-append kind (trace_start base) (take i steps) (x ∷ ys) ∙ ap (λ (r : Result Tracing TraceFault). then_ok r (λ next. trace_from kind next (x ∷ ys))) is.so_far
+  after_step : (ys : List Step) → trace_from kind (trace_start base) (take i steps ++ x ∷ ys)
+      ≡ then_ok (step kind t.tracing x.line x.act) (λ next. trace_from kind next ys)
+  after_step ys = trace_from-append kind (trace_start base) (take i steps) (x ∷ ys)
+      ∙ ap (λ (r : Result Tracing TraceFault). then_ok r (λ next. trace_from kind next (x ∷ ys))) is.so_far
 
   same_step : step t.log.kind t.tracing x.line x.act ≡ step kind t.tracing x.line x.act
   same_step = ap (λ (k : Module). step k t.tracing x.line x.act) is.same_kind
 
-  pub step_taken : (next : Trace) → Moves t next (step t.log.kind t.tracing x.line x.act) → All GivesName (ops_at x.act) → IsTraced kind rules base steps (i + 1) next
+  pub step_taken : (next : Trace) → Moves t next (step t.log.kind t.tracing x.line x.act) → All GivesName (ops_at x.act)
+      → IsTraced kind rules base steps (i + 1) next
   step_taken next moves named = record {
     same_base = moves.base ∙ is.same_base;
     same_kind = moves.kind ∙ is.same_kind;
     same_rules = moves.rules ∙ is.same_rules;
     turns = omega (arith, moves.turns, is.turns);
     so_far = ap (λ (xs : List Step). trace_from kind (trace_start base) xs) with_next ∙ after_step []
-        ∙ ap (λ (r : Result Tracing TraceFault). then_ok r (λ next. trace_from kind next [])) (sym same_step ∙ moves.answered);
+        ∙ ap (λ (r : Result Tracing TraceFault). then_ok r (λ next. trace_from kind next []))
+        (sym same_step ∙ moves.answered);
     names = subst (λ (xs : List Step). All GivesName (ops_of xs)) (sym with_next)
-        (subst (λ (ops : List Op). All GivesName ops) (sym (flat_map-append (λ (y : Step). ops_at y.act) (take i steps) (x ∷ [])))
-        (All-append GivesName (ops_of (take i steps)) (ops_of (x ∷ [])) is.names (subst (λ (ops : List Op). All GivesName ops) (sym (append-nil (ops_at x.act))) named)));
+        (subst (λ (ops : List Op). All GivesName ops) (sym (flat_map-append (λ (y : Step). ops_at y.act) (take i steps)
+        (x ∷ [])))
+        (All-append GivesName (ops_of (take i steps)) (ops_of (x ∷ [])) is.names
+        (subst (λ (ops : List Op). All GivesName ops) (sym (append-nil (ops_at x.act))) named)));
   }
 
-  pub step_refused : (e : TraceFault) → step t.log.kind t.tracing x.line x.act ≡ Err e → trace_from kind (trace_start base) steps ≡ Err e
+  pub step_refused : (e : TraceFault) → step t.log.kind t.tracing x.line x.act ≡ Err e
+      → trace_from kind (trace_start base) steps ≡ Err e
   step_refused e why =
       let all : steps ≡ take i steps ++ x ∷ drop (i + 1) steps =
-      sym (take-append-drop (i + 1) steps) ∙ ap (λ (xs : List Step). xs ++ drop (i + 1) steps) with_next ∙ append_assoc (take i steps) (x ∷ []) (drop (i + 1) steps) in
+      sym (take-append-drop (i + 1) steps) ∙ ap (λ (xs : List Step). xs ++ drop (i + 1) steps) with_next
+      ∙ append_assoc (take i steps) (x ∷ []) (drop (i + 1) steps) in
       ap (λ (xs : List Step). trace_from kind (trace_start base) xs) all ∙ after_step (drop (i + 1) steps)
-      ∙ ap (λ (r : Result Tracing TraceFault). then_ok r (λ next. trace_from kind next (drop (i + 1) steps))) (sym same_step ∙ why)
+      ∙ ap (λ (r : Result Tracing TraceFault). then_ok r (λ next. trace_from kind next (drop (i + 1) steps)))
+      (sym same_step ∙ why)
 
-pub traced_start : (kind : Module) (rules : List Rule) (base : Disk) (steps : List Step) (t : Trace) → t.tracing ≡ trace_start base → t.log.base ≡ base → t.log.kind ≡ kind → t.log.rules ≡ rules → IsTraced kind rules base steps 0 t
+pub traced_start : (kind : Module) (rules : List Rule) (base : Disk) (steps : List Step) (t : Trace)
+    → t.tracing ≡ trace_start base → t.log.base ≡ base → t.log.kind ≡ kind → t.log.rules ≡ rules
+    → IsTraced kind rules base steps 0 t
 traced_start kind rules base steps t began same_base same_kind same_rules = record {
   same_base = same_base;
   same_kind = same_kind;
@@ -75,8 +93,12 @@ traced_start kind rules base steps t began same_base same_kind same_rules = reco
   names = All-nil GivesName;
 }
 
-pub traced_end : (kind : Module) (rules : List Rule) (base : Disk) (steps : List Step) (i : ℕ) (t : Trace) → length steps ≤ i → IsTraced kind rules base steps i t → trace_from kind (trace_start base) steps ≡ Ok t.tracing
-traced_end kind rules base steps i t past is = ap (λ (xs : List Step). trace_from kind (trace_start base) xs) (sym (take_all i steps past)) ∙ is.so_far
+pub traced_end : (kind : Module) (rules : List Rule) (base : Disk) (steps : List Step) (i : ℕ) (t : Trace)
+    → length steps ≤ i → IsTraced kind rules base steps i t → trace_from kind (trace_start base) steps ≡ Ok t.tracing
+traced_end kind rules base steps i t past is = ap (λ (xs : List Step). trace_from kind (trace_start base) xs)
+    (sym (take_all i steps past)) ∙ is.so_far
 
-pub traced_names : (kind : Module) (rules : List Rule) (base : Disk) (steps : List Step) (i : ℕ) (t : Trace) → length steps ≤ i → IsTraced kind rules base steps i t → All GivesName (ops_of steps)
-traced_names kind rules base steps i t past is = subst (λ (xs : List Step). All GivesName (ops_of xs)) (take_all i steps past) is.names
+pub traced_names : (kind : Module) (rules : List Rule) (base : Disk) (steps : List Step) (i : ℕ) (t : Trace)
+    → length steps ≤ i → IsTraced kind rules base steps i t → All GivesName (ops_of steps)
+traced_names kind rules base steps i t past is = subst (λ (xs : List Step). All GivesName (ops_of xs))
+    (take_all i steps past) is.names

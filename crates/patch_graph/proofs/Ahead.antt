@@ -16,7 +16,8 @@ use Rattle.patch_sets.proofs.Lists.{one_ascending, pairs_append}
 use Rattle.patch_graph.proofs.Fronts.{in_and, from_and}
 
 -- the ids of a set in two parts, one before the other
-ids_split : (n set first rest : ℕ) → ((q : ℕ) → Has set q → Has first q ⊎ Has rest q) → ((q : ℕ) → Has first q → Has set q) → ((q : ℕ) → Has rest q → Has set q)
+ids_split : (n set first rest : ℕ) → ((q : ℕ) → Has set q → Has first q ⊎ Has rest q)
+    → ((q : ℕ) → Has first q → Has set q) → ((q : ℕ) → Has rest q → Has set q)
     → ((x y : ℕ) → Has first x → Has rest y → x < y) → ids_of n set ≡ ids_of n first ++ ids_of n rest
 ids_split n set first rest cases early late before = one_ascending (ids_of n set) (ids_of n first ++ ids_of n rest)
     (ids_ascend n (has set))
@@ -31,18 +32,26 @@ ids_split n set first rest cases early late before = one_ascending (ids_of n set
       | inr b ↦ let it = from_ids_of n rest z b in to_ids_of n set z it.0 (late z it.1)
     ])
 
-module _ (set others ahead rest : ℕ) (words : (q : ℕ) → Has set q → q < 128) (are_ahead : (q : ℕ) → Has ahead q ↔ ((q < 128) × ComesBefore others q)) (is_rest : IsDifference set ahead rest) where
+module _ (set others ahead rest : ℕ) (words : (q : ℕ) → Has set q → q < 128)
+    (are_ahead : (q : ℕ) → Has ahead q ↔ ((q < 128) × ComesBefore others q))
+    (is_rest : IsDifference set ahead rest) where
   ahead_or_rest : (q : ℕ) → Has set q → Has (bit_and set ahead) q ⊎ Has rest q
-  ahead_or_rest q is = dite (ℕ_discrete (bit_at ahead q) 1) (λ early. inl (in_and set ahead q is early)) (λ late. inr ((is_rest.exactly q).1 (is, late)))
+  ahead_or_rest q is = dite (ℕ_discrete (bit_at ahead q) 1) (λ early. inl (in_and set ahead q is early))
+      (λ late. inr ((is_rest.exactly q).1 (is, late)))
 
   ahead_before_rest : (x y : ℕ) → Has (bit_and set ahead) x → Has rest y → x < y
   ahead_before_rest x y is later =
       let early = (are_ahead x).0 (from_and set ahead x is).1 in
       let late = (is_rest.exactly y).0 later in
-      lt_of_not-le (λ le. late.1 ((are_ahead y).1 (words y late.0, λ other member. let less = early.1 other member in omega (arith, less, le))))
+      lt_of_not-le (λ le. late.1 ((are_ahead y).1 (
+        words y late.0,
+        λ other member. let less = early.1 other member in
+            omega (arith, less, le),
+      )))
 
   pub ahead_split : (n : ℕ) → ids_of n set ≡ ids_of n (bit_and set ahead) ++ ids_of n rest
-  ahead_split n = ids_split n set (bit_and set ahead) rest ahead_or_rest (λ q is. (from_and set ahead q is).0) (λ q is. ((is_rest.exactly q).0 is).0) ahead_before_rest
+  ahead_split n = ids_split n set (bit_and set ahead) rest ahead_or_rest (λ q is. (from_and set ahead q is).0)
+      (λ q is. ((is_rest.exactly q).0 is).0) ahead_before_rest
 
   -- an id before each of the others is ahead
   pub is_ahead : (id : ℕ) → Has set id → ComesBefore others id → Has (bit_and set ahead) id
@@ -59,7 +68,8 @@ module _ (set others ahead rest : ℕ) (words : (q : ℕ) → Has set q → q < 
       it.1 ((are_ahead id).1 (
         words id it.0,
         λ other is.
-            let past : Has ahead other → ⊥ = λ early. (let again = ((are_ahead other).0 early).1 other is in omega (arith, again)) in
+            let past : Has ahead other → ⊥ = λ early. (let again = ((are_ahead other).0 early).1 other is in
+            omega (arith, again)) in
             let least = first.least other ((is_rest.exactly other).1 (of_set other is, past)) in
             let ne : other ≢ id = λ e. none (subst (Has others) e is) in
             omega (arith, least, ne),

@@ -1,5 +1,6 @@
 -- The ready ids of a closed set, which come one by one from what is left of the ids outside it.
-use Rattle.std.proofs.Common.{◌≡◌, ◌≢◌, ℕ, zero, suc, ◌+◌, ◌-◌, ◌<◌, ◌≤◌, Bool, true, false, List, length, arith, refl, sym, subst, ap, ◌∙◌, inl, inr}
+use Rattle.std.proofs.Common.{◌≡◌, ◌≢◌, ℕ, zero, suc, ◌+◌, ◌-◌, ◌<◌, ◌≤◌, Bool, true, false, List, length, arith, refl}
+use Rattle.std.proofs.Common.{sym, subst, ap, ◌∙◌, inl, inr}
 use Rattle.std.specs.Prelude.{◌↔◌, slice_index, bit_and}
 use Rattle.std.specs.Int.{bit_at}
 use Rattle.std.proofs.lemmas.List.{length-map}
@@ -37,7 +38,8 @@ fewer_left front mask p is gone =
     omega (arith, le, ne)
 
 -- as many ids pass below two numbers, where none between passes
-skip : (pass : ℕ → Bool) (from gap : ℕ) → ((q : ℕ) → from ≤ q → q < from + gap → pass q ≡ false) → length (ids_below (from + gap) pass) ≡ length (ids_below from pass)
+skip : (pass : ℕ → Bool) (from gap : ℕ) → ((q : ℕ) → from ≤ q → q < from + gap → pass q ≡ false)
+    → length (ids_below (from + gap) pass) ≡ length (ids_below from pass)
 skip pass from zero none = let same : from + zero ≡ from = omega arith in ap (λ n. length (ids_below n pass)) same
 skip pass from (suc gap) none =
     let next : from + suc gap ≡ (from + gap) + 1 = omega arith in
@@ -45,13 +47,16 @@ skip pass from (suc gap) none =
     ∙ (count_skip (from + gap) pass (none (from + gap) (omega arith) (omega arith))
     ∙ skip pass from gap (λ q low high. none q low (omega (arith, high))))
 
-none_between : (pass : ℕ → Bool) (from to : ℕ) → from ≤ to → ((q : ℕ) → from ≤ q → q < to → pass q ≡ false) → length (ids_below to pass) ≡ length (ids_below from pass)
+none_between : (pass : ℕ → Bool) (from to : ℕ) → from ≤ to → ((q : ℕ) → from ≤ q → q < to → pass q ≡ false)
+    → length (ids_below to pass) ≡ length (ids_below from pass)
 none_between pass from to le none =
     let whole : from + (to - from) ≡ to = omega (arith, le) in
-    ap (λ n. length (ids_below n pass)) (sym whole) ∙ skip pass from (to - from) (λ q low high. none q low (omega (arith, high, whole)))
+    ap (λ n. length (ids_below n pass)) (sym whole) ∙ skip pass from (to - from)
+    (λ q low high. none q low (omega (arith, high, whole)))
 
 module _ (deps : List ℕ) (set : ℕ) (earlier : AreEarlier deps) where
-  pub leaves_start : (front : ℕ) → ((id : ℕ) → Has front id ↔ ((id < length deps) × ¬ (Has set id))) → Leaves deps set front 0
+  pub leaves_start : (front : ℕ) → ((id : ℕ) → Has front id ↔ ((id < length deps) × ¬ (Has set id)))
+      → Leaves deps set front 0
   leaves_start front outside = record {
     from = 0;
     within = omega arith;
@@ -60,7 +65,11 @@ module _ (deps : List ℕ) (set : ℕ) (earlier : AreEarlier deps) where
       known = λ q is. (outside q).0 is;
       whole = λ q d is dep. elim (eq_or_not (bit_at set d) 1) [
         | inl has ↦ inl has
-        | inr lacks ↦ inr ((outside d).1 (let near = (outside q).0 is in let less = earlier q d dep in omega (arith, near.0, less), lacks))
+        | inr lacks ↦ inr ((outside d).1 (
+          let near = (outside q).0 is in let less = earlier q d dep in
+              omega (arith, near.0, less),
+          lacks,
+        ))
       ];
       above = λ q is. omega arith;
       every = λ q low ready. (outside q).1 (ready.known, ready.outside);
@@ -94,19 +103,28 @@ module _ (deps : List ℕ) (set : ℕ) (earlier : AreEarlier deps) where
       lowest_passes = test_from_ready deps set p lowest_ready
 
       pub before_lowest : count ≡ length (ids_below p (is_ready deps set))
-      before_lowest = leaves.counted ∙ sym (none_between (is_ready deps set) leaves.from p (leaves.is.above p low.inside)
-          (λ q from less. not_ready q (let near = lowest_known in omega (arith, near, less)) (λ ready. let least = low.least q (leaves.is.every q from ready) in omega (arith, least, less))))
+      before_lowest = leaves.counted ∙ sym (none_between (is_ready deps set) leaves.from p
+          (leaves.is.above p low.inside)
+          (λ q from less. not_ready q (let near = lowest_known in omega (arith, near, less))
+          (λ ready. let least = low.least q (leaves.is.every q from ready) in omega (arith, least, less))))
 
       pub lowest_successor : slice_index (successors_of deps set) count ≡ with_id set p
       lowest_successor = successor_at deps set p count lowest_known lowest_passes before_lowest
 
       pub lowest_comes : count < length (successors_of deps set)
-      lowest_comes = omega (arith, before_lowest, count_successors deps set, fewer_before (length deps) (is_ready deps set) p lowest_known lowest_passes)
+      lowest_comes = omega (
+        arith,
+        before_lowest,
+        count_successors deps set,
+        fewer_before (length deps) (is_ready deps set) p lowest_known lowest_passes,
+      )
 
-      pub leaves_next : (apart : List ℕ) → AreApart deps apart → IsClosed deps set → Leaves deps set (bit_and front (slice_index apart p)) (count + 1)
+      pub leaves_next : (apart : List ℕ) → AreApart deps apart → IsClosed deps set
+          → Leaves deps set (bit_and front (slice_index apart p)) (count + 1)
       leaves_next apart are closed =
           let mask = slice_index apart p in
-          let other : (q : ℕ) → Has mask q → p ≢ q = λ q has e. are.itself p lowest_known (subst (Has mask) (sym e) has) in
+          let other : (q : ℕ) → Has mask q → p ≢ q = λ q has e. are.itself p lowest_known
+          (subst (Has mask) (sym e) has) in
           let from = leaves.is.above p low.inside in
           record {
             from = p + 1;
@@ -116,12 +134,16 @@ module _ (deps : List ℕ) (set : ℕ) (earlier : AreEarlier deps) where
               known = λ q is. leaves.is.known q (from_and front mask q is).0;
               whole = λ q d is dep. let both = from_and front mask q is in elim (leaves.is.whole q d both.0 dep) [
                 | inl has ↦ inl has
-                | inr left ↦ inr (in_and front mask d left ((are.exactly p q lowest_known (leaves.is.known q both.0).0 (other q both.1)).0 both.1 d dep))
+                | inr left ↦ inr (in_and front mask d left ((are.exactly p q lowest_known (leaves.is.known q both.0).0
+                    (other q both.1)).0 both.1 d dep))
               ];
-              above = λ q is. let both = from_and front mask q is in let least = low.least q both.0 in let ne = other q both.1 in omega (arith, least, ne);
+              above = λ q is. let both = from_and front mask q is in let least = low.least q both.0 in
+                  let ne = other q both.1 in omega (arith, least, ne);
               every = λ q past ready. in_and front mask q (leaves.is.every q (omega (arith, past, from)) ready)
                   (let ne : p ≢ q = λ e. omega (arith, e, past) in
-                  (are.exactly p q lowest_known ready.known ne).1 (λ d dep. inside_apart deps apart are earlier set p closed lowest_known (leaves.is.known p low.inside).1 d (ready.depended d dep)));
+                  (are.exactly p q lowest_known ready.known ne).1
+                  (λ d dep. inside_apart deps apart are earlier set p closed lowest_known
+                  (leaves.is.known p low.inside).1 d (ready.depended d dep)));
             };
             counted = ap (λ n. n + 1) before_lowest ∙ sym (count_one p (is_ready deps set) lowest_passes);
           }
@@ -133,9 +155,11 @@ module _ (deps : List ℕ) (set : ℕ) (earlier : AreEarlier deps) where
     -- where none is left, all ready ids have come
     pub leaves_all : front ≡ 0 → count ≡ length (successors_of deps set)
     leaves_all none =
-        let rest : length (ids_below (length deps) (is_ready deps set)) ≡ length (ids_below leaves.from (is_ready deps set)) =
+        let rest : length (ids_below (length deps) (is_ready deps set))
+        ≡ length (ids_below leaves.from (is_ready deps set)) =
         none_between (is_ready deps set) leaves.from (length deps) leaves.within
-        (λ q from known. not_ready q known (λ ready. none_in_empty q (subst (λ f. Has f q) none (leaves.is.every q from ready)))) in
+        (λ q from known. not_ready q known (λ ready. none_in_empty q
+        (subst (λ f. Has f q) none (leaves.is.every q from ready)))) in
         leaves.counted ∙ (sym rest ∙ sym (count_successors deps set))
 
 -- at first those are left that are outside the set
@@ -144,7 +168,8 @@ pub record Readies (deps : List ℕ) (set front count : ℕ) : Type 0 where
   pub leaves : Leaves deps set front count
   pub ready : (q : ℕ) → Has front q → IsReady deps set q
 
-pub readies_start : (deps : List ℕ) (set front : ℕ) → ((id : ℕ) → Has front id ↔ IsReady deps set id) → Readies deps set front 0
+pub readies_start : (deps : List ℕ) (set front : ℕ) → ((id : ℕ) → Has front id ↔ IsReady deps set id)
+    → Readies deps set front 0
 readies_start deps set front are = record {
   leaves = record {
     from = 0;
@@ -161,7 +186,8 @@ readies_start deps set front are = record {
   ready = λ q. (are q).0;
 }
 
-module _ (deps : List ℕ) (set : ℕ) (earlier : AreEarlier deps) (front count : ℕ) (left : Readies deps set front count) (p : ℕ) (low : IsLowest front p) (rest : ℕ) (without : IsWithout front p rest) where
+module _ (deps : List ℕ) (set : ℕ) (earlier : AreEarlier deps) (front count : ℕ) (left : Readies deps set front count)
+    (p : ℕ) (low : IsLowest front p) (rest : ℕ) (without : IsWithout front p rest) where
   was_left : (q : ℕ) → Has rest q → (q ≢ p) × Has front q
   was_left q is = let ne : q ≢ p = λ e. without.gone (subst (Has rest) e is) in (ne, (without.others q ne).0 is)
 
@@ -178,15 +204,19 @@ module _ (deps : List ℕ) (set : ℕ) (earlier : AreEarlier deps) (front count 
           is = record {
             known = λ q is. leaves.is.known q (was_left q is).1;
             whole = λ q d is dep. inl ((left.ready q (was_left q is).1).depended d dep);
-            above = λ q is. let was = was_left q is in let least = low.least q was.1 in let ne = was.0 in omega (arith, least, ne);
-            every = λ q past ready. (without.others q (λ e. omega (arith, e, past))).1 (leaves.is.every q (omega (arith, past, from)) ready);
+            above = λ q is. let was = was_left q is in let least = low.least q was.1 in let ne = was.0 in
+                omega (arith, least, ne);
+            every = λ q past ready. (without.others q (λ e. omega (arith, e, past))).1
+                (leaves.is.every q (omega (arith, past, from)) ready);
           };
-          counted = ap (λ n. n + 1) (before_lowest deps set earlier front count leaves p low) ∙ sym (count_one p (is_ready deps set) (lowest_passes deps set earlier front count leaves p low));
+          counted = ap (λ n. n + 1) (before_lowest deps set earlier front count leaves p low)
+              ∙ sym (count_one p (is_ready deps set) (lowest_passes deps set earlier front count leaves p low));
         };
         ready = λ q is. left.ready q (was_left q is).1;
       }
 
-pub leaves_outside : (patches : List Patch) (set ids front : ℕ) → AreEarlier (deps_of patches) → ((id : ℕ) → Has ids id ↔ (id < length patches)) → IsDifference ids set front
+pub leaves_outside : (patches : List Patch) (set ids front : ℕ) → AreEarlier (deps_of patches)
+    → ((id : ℕ) → Has ids id ↔ (id < length patches)) → IsDifference ids set front
     → Leaves (deps_of patches) set front 0
 leaves_outside patches set ids front earlier all difference =
     let long : length (deps_of patches) ≡ length patches = length-map patches (λ p. p.deps) in

@@ -21,17 +21,22 @@ unfolding most_ids
 all_words id inside = inside
 
 -- the ids below a stop
-pub early_ids : (set early stop : ℕ) → ids_of most_ids early ≡ ids_of stop set → ((id : ℕ) → Has set id → id < 128) → ((id : ℕ) → Has early id → id < 128) → (id : ℕ) → Has early id ↔ (Has set id × (id < stop))
+pub early_ids : (set early stop : ℕ) → ids_of most_ids early ≡ ids_of stop set → ((id : ℕ) → Has set id → id < 128)
+    → ((id : ℕ) → Has early id → id < 128) → (id : ℕ) → Has early id ↔ (Has set id × (id < stop))
 early_ids set early stop same words early_words id = (
-  λ is. let it = from_ids_of stop set id (subst (λ xs. Contains xs id) same (to_ids_of most_ids early id (all_words id (early_words id is)) is)) in (it.1, it.0),
+  λ is. let it = from_ids_of stop set id (subst (λ xs. Contains xs id) same
+      (to_ids_of most_ids early id (all_words id (early_words id is)) is)) in (it.1, it.0),
   λ it. (from_ids_of most_ids early id (subst (λ xs. Contains xs id) (sym same) (to_ids_of stop set id it.1 it.0))).1,
 )
 
-module _ (homes : List ℕ) (set early stop last block mask later others ahead rest : ℕ) (words : (id : ℕ) → Has set id → id < 128) (known : (id : ℕ) → Has set id → id < length homes)
-    (are_early : (id : ℕ) → Has early id ↔ (Has set id × (id < stop))) (highest : IsHighest early last) (home : slice_index homes last ≡ block)
+module _ (homes : List ℕ) (set early stop last block mask later others ahead rest : ℕ)
+    (words : (id : ℕ) → Has set id → id < 128) (known : (id : ℕ) → Has set id → id < length homes)
+    (are_early : (id : ℕ) → Has early id ↔ (Has set id × (id < stop))) (highest : IsHighest early last)
+    (home : slice_index homes last ≡ block)
     (of_block : (id : ℕ) → Has mask id ↔ ((id < length homes) × (slice_index homes id ≡ block)))
     (are_later : IsDifference set early later) (are_others : IsDifference later mask others)
-    (are_ahead : (id : ℕ) → Has ahead id ↔ ((id < 128) × ComesBefore others id)) (is_rest : IsDifference set ahead rest) where
+    (are_ahead : (id : ℕ) → Has ahead id ↔ ((id < 128) × ComesBefore others id))
+    (is_rest : IsDifference set ahead rest) where
   last_known : Has set last
   last_known = ((are_early last).0 highest.inside).0
 
@@ -60,21 +65,30 @@ module _ (homes : List ℕ) (set early stop last block mask later others ahead r
         let member = (from_and set ahead id is).0 in
         elim (eq_or_not id last) [
           | inl same ↦ absurd (ne (ap (slice_index homes) same ∙ home))
-          | inr other ↦ absurd (not_other set others ahead rest words are_ahead is_rest id is ((are_others.exactly id).1 (
-            (are_later.exactly id).1 (member, λ again. let most = highest.most id again in omega (arith, most, from, other)),
-            λ masked. ne ((of_block id).0 masked).1,
-          )))
+          | inr other ↦ absurd (not_other set others ahead rest words are_ahead is_rest id is
+              ((are_others.exactly id).1 (
+                (are_later.exactly id).1 (
+                  member,
+                  λ again. let most = highest.most id again in
+                      omega (arith, most, from, other),
+                ),
+                λ masked. ne ((of_block id).0 masked).1,
+              )))
         ]
   ]
 
   begins : (id : ℕ) → IsLowest rest id → slice_index homes id ≢ block
-  begins id first = (from_others id (rest_begins set others ahead rest words are_ahead is_rest (λ q is. (from_others q is).0) id first)).1
+  begins id first = (from_others id (rest_begins set others ahead rest words are_ahead is_rest
+      (λ q is. (from_others q is).0) id first)).1
 
   pub lead_is : (lead : Lead) → lead.ids ≡ bit_and set ahead → lead.rest ≡ rest → IsLead homes set lead
   lead_is lead ids others_left = record {
-    runs = λ ws vs a b. runs_append homes set (bit_and set ahead) rest last block (ahead_split set others ahead rest words are_ahead is_rest (length homes))
-        last_ahead (known last last_known) ends (λ id is. known id ((is_rest.exactly id).0 is).0) begins ws vs (subst (λ s. AreRuns homes s ws) ids a) (subst (λ s. AreRuns homes s vs) others_left b);
+    runs = λ ws vs a b. runs_append homes set (bit_and set ahead) rest last block
+        (ahead_split set others ahead rest words are_ahead is_rest (length homes))
+        last_ahead (known last last_known) ends (λ id is. known id ((is_rest.exactly id).0 is).0) begins ws vs
+        (subst (λ s. AreRuns homes s ws) ids a) (subst (λ s. AreRuns homes s vs) others_left b);
     known = λ id is. (from_and set ahead id (subst (λ s. Has s id) ids is)).0;
     left = λ id is. ((is_rest.exactly id).0 (subst (λ s. Has s id) others_left is)).0;
-    smaller = subst (λ s. s < set) (sym others_left) (rest_less set others ahead rest words are_ahead is_rest last last_ahead);
+    smaller = subst (λ s. s < set) (sym others_left) (rest_less set others ahead rest words are_ahead is_rest last
+        last_ahead);
   }

@@ -1,5 +1,6 @@
 -- One patch more, in the loops over a graph's patches.
-use Rattle.std.proofs.Common.{◌≡◌, ℕ, ◌+◌, ◌<◌, Bool, true, false, cond, List, [], ◌∷◌, ◌++◌, length, arith, sym, subst, ap, ◌∙◌, inl, inr, append-nil, length-append}
+use Rattle.std.proofs.Common.{◌≡◌, ℕ, ◌+◌, ◌<◌, Bool, true, false, cond, List, [], ◌∷◌, ◌++◌, length, arith, sym, subst}
+use Rattle.std.proofs.Common.{ap, ◌∙◌, inl, inr, append-nil, length-append}
 use Rattle.std.specs.Prelude.{◌↔◌, slice_index}
 use Rattle.std.proofs.lemmas.List.{get_or-map, length-map}
 use Rattle.patch_sets.specs.Sets.{Has, IsSubset, with_id, ids_below}
@@ -47,19 +48,25 @@ module _ (deps : List ℕ) (set id own : ℕ) (inside : id < length deps) (at : 
   pub of_ready : IsReady deps set id → ¬ (Has set id) × IsSubset own set
   of_ready ready = (ready.outside, subst (λ d. IsSubset d set) at ready.depended)
 
-pub count_one : (n : ℕ) (pass : ℕ → Bool) → pass n ≡ true → length (ids_below (n + 1) pass) ≡ length (ids_below n pass) + 1
+pub count_one : (n : ℕ) (pass : ℕ → Bool) → pass n ≡ true
+    → length (ids_below (n + 1) pass) ≡ length (ids_below n pass) + 1
 count_one n pass is = ap length (ids_push n pass is) ∙ length-append (ids_below n pass) (n ∷ [])
 
-pub count_skip : (n : ℕ) (pass : ℕ → Bool) → pass n ≡ false → length (ids_below (n + 1) pass) ≡ length (ids_below n pass)
-count_skip n pass is_not = ap length (ids_more n pass ∙ (ap (λ b. ids_below n pass ++ cond b (n ∷ []) []) is_not ∙ append-nil (ids_below n pass)))
+pub count_skip : (n : ℕ) (pass : ℕ → Bool) → pass n ≡ false
+    → length (ids_below (n + 1) pass) ≡ length (ids_below n pass)
+count_skip n pass is_not = ap length (ids_more n pass ∙ (ap (λ b. ids_below n pass ++ cond b (n ∷ []) []) is_not
+    ∙ append-nil (ids_below n pass)))
 
-pub count_successors : (deps : List ℕ) (set : ℕ) → length (successors_of deps set) ≡ length (ids_below (length deps) (is_ready deps set))
+pub count_successors : (deps : List ℕ) (set : ℕ) → length (successors_of deps set)
+    ≡ length (ids_below (length deps) (is_ready deps set))
 count_successors deps set = length-map (ids_below (length deps) (is_ready deps set)) (with_id set)
 
 -- the successor by an id stands at the number of ready ids before it
-pub successor_at : (deps : List ℕ) (set id k : ℕ) → id < length deps → is_ready deps set id ≡ true → k ≡ length (ids_below id (is_ready deps set)) → slice_index (successors_of deps set) k ≡ with_id set id
+pub successor_at : (deps : List ℕ) (set id k : ℕ) → id < length deps → is_ready deps set id ≡ true
+    → k ≡ length (ids_below id (is_ready deps set)) → slice_index (successors_of deps set) k ≡ with_id set id
 successor_at deps set id k inside passes k_is =
     let pass = is_ready deps set in
     ap (slice_index (successors_of deps set)) k_is
-    ∙ (get_or-map (with_id set) (ids_below (length deps) pass) (length (ids_below id pass)) 0 0 (fewer_before (length deps) pass id inside passes)
+    ∙ (get_or-map (with_id set) (ids_below (length deps) pass) (length (ids_below id pass)) 0 0
+    (fewer_before (length deps) pass id inside passes)
     ∙ ap (with_id set) (id_at (length deps) pass id inside passes))

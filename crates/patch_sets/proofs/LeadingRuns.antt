@@ -42,22 +42,28 @@ to_range from count id low high =
     (id - from, omega (arith, long), at ∙ (let e : from + (id - from) ≡ id = omega arith in e))
 
 -- the ids of a run and the ids from its end on
-pub run_and_rest : (n from end set rest : ℕ) → from ≤ end → end ≤ n → ((id : ℕ) → from ≤ id → id < end → Has set id) → ((id : ℕ) → Has set id → from ≤ id)
-    → ((id : ℕ) → Has rest id ↔ (Has set id × (end ≤ id))) → ids_of n set ≡ range_with_len from (end - from) ++ ids_of n rest
+pub run_and_rest : (n from end set rest : ℕ) → from ≤ end → end ≤ n → ((id : ℕ) → from ≤ id → id < end → Has set id)
+    → ((id : ℕ) → Has set id → from ≤ id)
+    → ((id : ℕ) → Has rest id ↔ (Has set id × (end ≤ id)))
+    → ids_of n set ≡ range_with_len from (end - from) ++ ids_of n rest
 run_and_rest n from end set rest ordered within all least others =
     one_ascending (ids_of n set) (range_with_len from (end - from) ++ ids_of n rest)
     (ids_ascend n (has set))
-    (pairs_append (λ x y. x < y) (range_with_len from (end - from)) (ids_of n rest) (range_ascends from (end - from)) (ids_ascend n (has rest))
+    (pairs_append (λ x y. x < y) (range_with_len from (end - from)) (ids_of n rest) (range_ascends from (end - from))
+    (ids_ascend n (has rest))
     (λ x y a b.
     let low = from_range from (end - from) x a in
     let high = (others y).0 (from_ids_of n rest y b).1 in
     omega (arith, low.1, high.1, ordered)))
     (λ z is. let it = from_ids_of n set z is in elim (cases_lt z end) [
-      | inl early ↦ Contains-append_left (range_with_len from (end - from)) (ids_of n rest) z (to_range from (end - from) z (least z it.1) (omega arith))
-      | inr late ↦ Contains-append_right (range_with_len from (end - from)) (ids_of n rest) z (to_ids_of n rest z it.0 ((others z).1 (it.1, late)))
+      | inl early ↦ Contains-append_left (range_with_len from (end - from)) (ids_of n rest) z
+          (to_range from (end - from) z (least z it.1) (omega arith))
+      | inr late ↦ Contains-append_right (range_with_len from (end - from)) (ids_of n rest) z
+          (to_ids_of n rest z it.0 ((others z).1 (it.1, late)))
     ])
     (λ z is. elim (Contains-append_cases (range_with_len from (end - from)) (ids_of n rest) z is) [
-      | inl early ↦ let it = from_range from (end - from) z early in to_ids_of n set z (omega (arith, it.1, ordered, within)) (all z it.0 (omega (arith, it.1, ordered)))
+      | inl early ↦ let it = from_range from (end - from) z early in
+          to_ids_of n set z (omega (arith, it.1, ordered, within)) (all z it.0 (omega (arith, it.1, ordered)))
       | inr late ↦ let it = from_ids_of n rest z late in to_ids_of n set z it.0 ((others z).0 it.1).0
     ])
 
@@ -79,12 +85,18 @@ module _ (set less id : ℕ) (small : set < 2 ^ 128) (inside : id < 128) where
       (omega (arith, t, flipped, is, a, b), omega (arith, t, flipped, is, a, b))
 
 less_than_both : (a b id : ℕ) → Has (bit_and a b) id → Has b id
-less_than_both a b id is = let t = bit_at_and a b id in let x = bit_at-lt a id in let y = bit_at-lt b id in omega (arith, t, x, y, is)
+less_than_both a b id is = let t = bit_at_and a b id in let x = bit_at-lt a id in let y = bit_at-lt b id in
+    omega (arith, t, x, y, is)
 
 before_lowest : (set low id : ℕ) → IsLowest set low → ComesBefore set id ↔ (id < low)
-before_lowest set low id lowest = (λ before. before low lowest.inside, λ less other is. let least = lowest.least other is in omega (arith, less, least))
+before_lowest set low id lowest = (
+  λ before. before low lowest.inside,
+  λ less other is. let least =
+      lowest.least other is in omega (arith, less, least),
+)
 
-pub below_ids : (set less : ℕ) → set < 2 ^ 128 → less < 2 ^ 128 → (set ≡ 0 → less ≡ 2 ^ 128 - 1) → (set ≢ 0 → less ≡ set - 1) → (id : ℕ)
+pub below_ids : (set less : ℕ) → set < 2 ^ 128 → less < 2 ^ 128 → (set ≡ 0 → less ≡ 2 ^ 128 - 1)
+    → (set ≢ 0 → less ≡ set - 1) → (id : ℕ)
     → Has (bit_and (bit_not w128 set) less) id ↔ ((id < 128) × ComesBefore set id)
 below_ids set less small fits of_none of_some id = elim (eq_or_not set 0) [
   | inl none ↦ (
@@ -98,14 +110,16 @@ below_ids set less small fits of_none of_some id = elim (eq_or_not set 0) [
       let same : (q : ℕ) → bit_at less q ≡ bit_at (set - 1) q = λ q. ap (λ (n : ℕ). bit_at n q) (of_some some) in (
         λ is. (inside is, (before_lowest set _ id lowest).1 (under _ lowest bits.gone bits.above same is)),
         λ it. let early = (before_lowest set _ id lowest).0 it.1 in
-            both set less id small it.0 (zero_bit set id (λ has_it. let again = it.1 id has_it in omega (arith, again))) (same id ∙ bits.below id early),
+            both set less id small it.0 (zero_bit set id (λ has_it. let again = it.1 id has_it in omega (arith, again)))
+            (same id ∙ bits.below id early),
       )
 ]
   where
     inside : Has (bit_and (bit_not w128 set) less) id → id < 128
     inside is = below_from_small less 128 id fits (less_than_both (bit_not w128 set) less id is)
 
-    under : (low : ℕ) → IsLowest set low → bit_at (set - 1) low ≡ 0 → ((q : ℕ) → low < q → bit_at (set - 1) q ≡ bit_at set q) → ((q : ℕ) → bit_at less q ≡ bit_at (set - 1) q)
+    under : (low : ℕ) → IsLowest set low → bit_at (set - 1) low ≡ 0
+        → ((q : ℕ) → low < q → bit_at (set - 1) q ≡ bit_at set q) → ((q : ℕ) → bit_at less q ≡ bit_at (set - 1) q)
         → Has (bit_and (bit_not w128 set) less) id → id < low
     under low lowest gone above same is =
         let it = either set less id small (inside is) is in
@@ -113,7 +127,8 @@ below_ids set less small fits of_none of_some id = elim (eq_or_not set 0) [
         elim (cases_lt id low) [
           | inl less_it ↦ less_it
           | inr more ↦ elim (eq_or_not id low) [
-            | inl e ↦ absurd (let zero_here : bit_at (set - 1) id ≡ 0 = ap (λ (q : ℕ). bit_at (set - 1) q) e ∙ gone in omega (arith, zero_here, one, it.1))
+            | inl e ↦ absurd (let zero_here : bit_at (set - 1) id ≡ 0 = ap (λ (q : ℕ). bit_at (set - 1) q) e ∙ gone in
+                omega (arith, zero_here, one, it.1))
             | inr ne ↦ absurd (let still = above id (omega (arith, more, ne)) in omega (arith, still, one, it.0, it.1))
           ]
         ]
@@ -146,7 +161,8 @@ end_of gaps small = elim (eq_or_not gaps 0) [
 ]
 
 -- the ids above the lowest that the set hasn't
-pub are_gaps : (set low below : ℕ) → IsLowest set low → set < 2 ^ 128 → below < 2 ^ 128 → ((id : ℕ) → Has below id ↔ ((id < 128) × ComesBefore set id)) → (id : ℕ) → id < 128
+pub are_gaps : (set low below : ℕ) → IsLowest set low → set < 2 ^ 128 → below < 2 ^ 128
+    → ((id : ℕ) → Has below id ↔ ((id < 128) × ComesBefore set id)) → (id : ℕ) → id < 128
     → Has (bit_not w128 (bit_or set below)) id ↔ ((Has set id → ⊥) × (low ≤ id))
 are_gaps set low below lowest small fits each id inside =
     let flipped = bit_at_not w128 (bit_or set below) id (or_lt 128 set below small fits) inside in
@@ -157,12 +173,14 @@ are_gaps set low below lowest small fits each id inside =
           let out : bit_at below id ≡ 0 = omega (arith, flipped, joined, a, b, is) in (
             (λ has_it. omega (arith, flipped, joined, a, b, is, has_it)),
             elim (cases_lt id low) [
-              | inl less ↦ absurd (let there = (each id).1 (inside, (before_lowest set low id lowest).1 less) in omega (arith, out, there))
+              | inl less ↦ absurd (let there = (each id).1 (inside, (before_lowest set low id lowest).1 less) in
+                  omega (arith, out, there))
               | inr more ↦ more
             ],
           ),
       λ it.
-          let not_below : bit_at below id ≡ 0 = zero_bit below id (λ is. let less = (before_lowest set low id lowest).0 ((each id).0 is).1 in omega (arith, less, it.1)) in
+          let not_below : bit_at below id ≡ 0 = zero_bit below id
+          (λ is. let less = (before_lowest set low id lowest).0 ((each id).0 is).1 in omega (arith, less, it.1)) in
           let not_set : bit_at set id ≡ 0 = zero_bit set id it.0 in
           omega (arith, flipped, joined, not_below, not_set),
     )
@@ -171,8 +189,10 @@ all_words : (end : ℕ) → end ≤ 128 → end ≤ most_ids
 unfolding most_ids
 all_words end within = within
 
-module _ (set low gaps end below rest : ℕ) (lowest : IsLowest set low) (small : set < 2 ^ 128) (gap : (id : ℕ) → id < 128 → Has gaps id ↔ ((Has set id → ⊥) × (low ≤ id))) (is_end : IsEnd gaps end)
-    (before_gaps : (id : ℕ) → Has below id ↔ ((id < 128) × ComesBefore gaps id)) (others : IsDifference set below rest) where
+module _ (set low gaps end below rest : ℕ) (lowest : IsLowest set low) (small : set < 2 ^ 128)
+    (gap : (id : ℕ) → id < 128 → Has gaps id ↔ ((Has set id → ⊥) × (low ≤ id))) (is_end : IsEnd gaps end)
+    (before_gaps : (id : ℕ) → Has below id ↔ ((id < 128) × ComesBefore gaps id))
+    (others : IsDifference set below rest) where
   within_words : (id : ℕ) → Has set id → id < 128
   within_words id is = below_from_small set 128 id small is
 
@@ -183,21 +203,27 @@ module _ (set low gaps end below rest : ℕ) (lowest : IsLowest set low) (small 
   pub run_some : low < end
   run_some = elim (cases_lt low end) [
     | inl less ↦ less
-    | inr more ↦ absurd (let inside : end < 128 = (let low_in = within_words low lowest.inside in omega (arith, low_in, more)) in
+    | inr more ↦ absurd (let inside : end < 128 = (let low_in = within_words low lowest.inside in
+        omega (arith, low_in, more)) in
         let it = (gap end inside).0 (is_end.here inside) in
         it.0 (subst (Has set) (let e : low ≡ end = omega (arith, it.1, more) in e) lowest.inside))
   ]
 
   pub run_whole : (id : ℕ) → low ≤ id → id < end → Has set id
   run_whole id from less = dite (ℕ_discrete (bit_at set id) 1) (λ is. is) (λ no. absurd (
-      let past = is_end.least id ((gap id (let within = is_end.within in omega (arith, within, less))).1 (no, from)) in omega (arith, past, less)))
+      let past = is_end.least id ((gap id (let within = is_end.within in omega (arith, within, less))).1 (no, from)) in
+      omega (arith, past, less)))
 
   pub rest_ids : (id : ℕ) → Has rest id ↔ (Has set id × (end ≤ id))
   rest_ids id = (
     λ is. let it = (others.exactly id).0 is in (
       it.0,
       elim (cases_lt id end) [
-        | inl less ↦ absurd (it.1 ((before_gaps id).1 (within_words id it.0, λ other is_gap. let past = is_end.least other is_gap in omega (arith, past, less))))
+        | inl less ↦ absurd (it.1 ((before_gaps id).1 (
+          within_words id it.0,
+          λ other is_gap. let past =
+              is_end.least other is_gap in omega (arith, past, less),
+        )))
         | inr more ↦ more
       ],
     ),
@@ -214,11 +240,19 @@ module _ (set low gaps end below rest : ℕ) (lowest : IsLowest set low) (small 
   rest_smaller =
       let part : bit_and rest set ≡ rest = and_from_subset rest set (λ id is. ((rest_ids id).0 is).0) in
       let less = and_le_r rest set in
-      let other : rest ≢ set = λ e. (let back = (rest_ids low).0 (subst (λ s. Has s low) (sym e) lowest.inside) in let some = run_some in omega (arith, back.1, some)) in
+      let other : rest ≢ set = λ e. (let back = (rest_ids low).0 (subst (λ s. Has s low) (sym e) lowest.inside) in
+      let some = run_some in omega (arith, back.1, some)) in
       omega (arith, part, less, other)
 
   pub run_listed : ids_of most_ids set ≡ range_with_len low (end - low) ++ ids_of most_ids rest
-  run_listed = run_and_rest most_ids low end set rest (let some = run_some in omega (arith, some)) (all_words end is_end.within) run_whole lowest.least rest_ids
+  run_listed = run_and_rest most_ids low end set rest (let some = run_some in omega (arith, some))
+      (all_words end is_end.within) run_whole lowest.least rest_ids
 
   pub is_run : BeginsWith set record { from = low; end = end; rest = rest }
-  is_run = record { ordered = run_some; within = is_end.within; ids = run_listed; smaller = rest_smaller; longest = not_longer }
+  is_run = record {
+    ordered = run_some;
+    within = is_end.within;
+    ids = run_listed;
+    smaller = rest_smaller;
+    longest = not_longer;
+  }

@@ -1,5 +1,6 @@
 -- Lists in a strict order.
-use Rattle.std.proofs.Common.{◌≡◌, ℕ, zero, suc, ◌+◌, ◌-◌, ◌<◌, List, [], ◌∷◌, ◌++◌, length, get_or, arith, refl, sym, subst, ap, ap₂, ◌∙◌, inl, inr, length-append}
+use Rattle.std.proofs.Common.{◌≡◌, ℕ, zero, suc, ◌+◌, ◌-◌, ◌<◌, List, [], ◌∷◌, ◌++◌, length, get_or, arith, refl, sym}
+use Rattle.std.proofs.Common.{subst, ap, ap₂, ◌∙◌, inl, inr, length-append}
 use Rattle.std.specs.Prelude.{◌⊎◌}
 use Rattle.std.specs.List.{AllPairs, Contains}
 use Rattle.std.proofs.lemmas.Bool.{cases_lt}
@@ -33,14 +34,18 @@ module _ (R : ℕ → ℕ → Type 0) where
   -- what stands in the first part comes before what stands in the second
   pub across : (xs ys : List ℕ) → AllPairs R (xs ++ ys) → (a b : ℕ) → Contains xs a → Contains ys b → R a b
   across xs ys up a b (i, inside, is_a) (j, within, is_b) =
-      let at_a : get_or (xs ++ ys) i 0 ≡ a = get_or_append_left xs ys 0 i inside ∙ (get_or_default xs i 0 a inside ∙ is_a) in
-      let at_b : get_or (xs ++ ys) (length xs + j) 0 ≡ b = get_or-append_right xs ys (length xs) (length xs + j) 0 refl (omega arith) ∙ (ap (λ k. get_or ys k 0) (omega arith) ∙ (get_or_default ys j 0 b within ∙ is_b)) in
-      subst (R a) at_b (subst (λ x. R x (get_or (xs ++ ys) (length xs + j) 0)) at_a (up i (length xs + j) 0 (omega arith) (omega (arith, length-append xs ys, within))))
+      let at_a : get_or (xs ++ ys) i 0 ≡ a = get_or_append_left xs ys 0 i inside
+      ∙ (get_or_default xs i 0 a inside ∙ is_a) in
+      let at_b : get_or (xs ++ ys) (length xs + j) 0 ≡ b = get_or-append_right xs ys (length xs) (length xs + j) 0 refl
+      (omega arith) ∙ (ap (λ k. get_or ys k 0) (omega arith) ∙ (get_or_default ys j 0 b within ∙ is_b)) in
+      subst (R a) at_b (subst (λ x. R x (get_or (xs ++ ys) (length xs + j) 0)) at_a
+      (up i (length xs + j) 0 (omega arith) (omega (arith, length-append xs ys, within))))
 
   -- a strict order
   module _ (trans : (a b c : ℕ) → R a b → R b c → R a c) (irreflexive : (a : ℕ) → R a a → ⊥) where
     -- two lists in order with the same elements are equal
-    pub one_order : (xs ys : List ℕ) → AllPairs R xs → AllPairs R ys → ((z : ℕ) → Contains xs z → Contains ys z) → ((z : ℕ) → Contains ys z → Contains xs z) → xs ≡ ys
+    pub one_order : (xs ys : List ℕ) → AllPairs R xs → AllPairs R ys → ((z : ℕ) → Contains xs z → Contains ys z)
+        → ((z : ℕ) → Contains ys z → Contains xs z) → xs ≡ ys
     one_order [] [] up rise there back = refl
     one_order [] (y ∷ ys) up rise there back = absurd (in_none y (back y (in_front y ys)))
     one_order (x ∷ xs) [] up rise there back = absurd (in_none x (there x (in_front x xs)))
@@ -49,7 +54,8 @@ module _ (R : ℕ → ℕ → Type 0) where
           | inl e ↦ sym e
           | inr later ↦ elim (front_or_rest x xs y (back y (in_front y ys))) [
             | inl e ↦ e
-            | inr after ↦ absurd (irreflexive x (trans x y x (front_before x xs up y after) (front_before y ys rise x later)))
+            | inr after ↦ absurd (irreflexive x (trans x y x (front_before x xs up y after)
+                (front_before y ys rise x later)))
           ]
         ] in
         let rests : xs ≡ ys = one_order xs ys (rest_ordered x xs up) (rest_ordered y ys rise)
@@ -64,15 +70,19 @@ module _ (R : ℕ → ℕ → Type 0) where
         ap₂ (λ z zs. z ∷ zs) same rests
 
 -- two ascending lists with the same numbers are equal
-pub one_ascending : (xs ys : List ℕ) → AllPairs (λ x y. x < y) xs → AllPairs (λ x y. x < y) ys → ((z : ℕ) → Contains xs z → Contains ys z) → ((z : ℕ) → Contains ys z → Contains xs z) → xs ≡ ys
+pub one_ascending : (xs ys : List ℕ) → AllPairs (λ x y. x < y) xs → AllPairs (λ x y. x < y) ys
+    → ((z : ℕ) → Contains xs z → Contains ys z) → ((z : ℕ) → Contains ys z → Contains xs z) → xs ≡ ys
 one_ascending = one_order (λ x y. x < y) (λ a b c p q. omega arith) (λ a p. omega arith)
 
 -- an ascending list and a larger number
-pub ascends_push : (xs : List ℕ) (y : ℕ) → AllPairs (λ a b. a < b) xs → ((x : ℕ) → Contains xs x → x < y) → AllPairs (λ a b. a < b) (xs ++ y ∷ [])
-ascends_push xs y up below = all_pairs_push (λ a b. a < b) xs y up (λ k d within. below (get_or xs k d) (Contains-get_or xs k d within))
+pub ascends_push : (xs : List ℕ) (y : ℕ) → AllPairs (λ a b. a < b) xs → ((x : ℕ) → Contains xs x → x < y)
+    → AllPairs (λ a b. a < b) (xs ++ y ∷ [])
+ascends_push xs y up below = all_pairs_push (λ a b. a < b) xs y up
+    (λ k d within. below (get_or xs k d) (Contains-get_or xs k d within))
 
 -- what holds of each pair of either part, and across, holds of each pair
-pub pairs_append : (R : ℕ → ℕ → Type 0) (xs ys : List ℕ) → AllPairs R xs → AllPairs R ys → ((x y : ℕ) → Contains xs x → Contains ys y → R x y) → AllPairs R (xs ++ ys)
+pub pairs_append : (R : ℕ → ℕ → Type 0) (xs ys : List ℕ) → AllPairs R xs → AllPairs R ys
+    → ((x y : ℕ) → Contains xs x → Contains ys y → R x y) → AllPairs R (xs ++ ys)
 pairs_append R xs ys px py across i j d lt inside = elim (cases_lt j (length xs)) [
   | inl low ↦
       subst (λ x. R x (get_or (xs ++ ys) j d)) (sym (get_or_append_left xs ys d i (omega arith)))
@@ -83,8 +93,10 @@ pairs_append R xs ys px py across i j d lt inside = elim (cases_lt j (length xs)
       subst (R (get_or (xs ++ ys) i d)) (sym (seq.get_or-append_right xs ys j d high))
       (elim (cases_lt i (length xs)) [
         | inl low ↦ subst (λ x. R x (get_or ys (j - length xs) d)) (sym (get_or_append_left xs ys d i low))
-            (across (get_or xs i d) (get_or ys (j - length xs) d) (Contains-get_or xs i d low) (Contains-get_or ys (j - length xs) d far))
-        | inr up ↦ subst (λ x. R x (get_or ys (j - length xs) d)) (sym (seq.get_or-append_right xs ys i d up)) (py (i - length xs) (j - length xs) d (omega arith) far)
+            (across (get_or xs i d) (get_or ys (j - length xs) d) (Contains-get_or xs i d low)
+            (Contains-get_or ys (j - length xs) d far))
+        | inr up ↦ subst (λ x. R x (get_or ys (j - length xs) d)) (sym (seq.get_or-append_right xs ys i d up))
+            (py (i - length xs) (j - length xs) d (omega arith) far)
       ])
 ]
 

@@ -1,12 +1,14 @@
 -- The lowest and the highest id of a set, and sets with ids less, by their bits.
-use Rattle.std.proofs.Common.{◌≡◌, ◌≢◌, ℕ, zero, suc, ◌+◌, ◌-◌, ◌*◌, ◌/◌, ◌%◌, ◌^◌, ◌<◌, ◌≤◌, arith, refl, sym, subst, ap, ◌∙◌}
+use Rattle.std.proofs.Common.{◌≡◌, ◌≢◌, ℕ, zero, suc, ◌+◌, ◌-◌, ◌*◌, ◌/◌, ◌%◌, ◌^◌, ◌<◌, ◌≤◌, arith, refl, sym, subst}
+use Rattle.std.proofs.Common.{ap, ◌∙◌}
 use mathlib.Core.Logic.{dite}
 use native.Mathlib.Decide.{ℕ_discrete}
 use Rattle.std.specs.Prelude.{bit_and}
 use Rattle.std.specs.Int.{bit_at, bit_not, w128}
 use Rattle.std.specs.Int.Count.{count_leading_zeros, count_trailing_zeros}
 use Rattle.std.proofs.lemmas.Nat.{shr_split, mod_below, leading_top, and_le_l}
-use Rattle.std.proofs.lemmas.Nat.Bits.{bit_at_and, bit_at_not, bit_at-lt, bit_at_clear_same, bit_at_clear_other, bit_at_lowest, bit_at-suc, bit_at-zero, bit_at-trailing_zeros}
+use Rattle.std.proofs.lemmas.Nat.Bits.{bit_at_and, bit_at_not, bit_at-lt, bit_at_clear_same, bit_at_clear_other}
+use Rattle.std.proofs.lemmas.Nat.Bits.{bit_at_lowest, bit_at-suc, bit_at-zero, bit_at-trailing_zeros}
 use Rattle.std.proofs.Math.Nat.{lt_of_not-le}
 use Rattle.std.proofs.Math.Pow.{pow_pos}
 use Rattle.patch_sets.specs.Sets.{Has}
@@ -21,7 +23,8 @@ pub lowest_id : (set : ℕ) → set ≢ 0 → set < 2 ^ 128 → IsLowest set (co
 lowest_id set some small =
     let found = bit_at-trailing_zeros w128 set (omega arith) small in record {
       inside = found.1;
-      least = λ other is. not_below (count_trailing_zeros 128 set) other (λ before. let none = found.2 other before in omega (arith, none, is));
+      least = λ other is. not_below (count_trailing_zeros 128 set) other
+          (λ before. let none = found.2 other before in omega (arith, none, is));
     }
 
 -- the bit at the top of a number
@@ -44,11 +47,13 @@ highest_id set some small =
     }
 
 -- `set & !(1 << id)`
-pub without_id : (set id : ℕ) → id < 128 → set < 2 ^ 128 → IsWithout set id (bit_and set (bit_not w128 (1 * 2 ^ id % 2 ^ 128)))
+pub without_id : (set id : ℕ) → id < 128 → set < 2 ^ 128
+    → IsWithout set id (bit_and set (bit_not w128 (1 * 2 ^ id % 2 ^ 128)))
 without_id set id known small = record {
   gone = λ is. let none = bit_at_clear_same w128 set id known in omega (arith, none, is);
   others = λ q ne. (
-    λ is. sym (same q (below_from_small (bit_and set (bit_not w128 (1 * 2 ^ id % 2 ^ 128))) 128 q rest_small is) ne) ∙ is,
+    λ is. sym (same q (below_from_small (bit_and set (bit_not w128 (1 * 2 ^ id % 2 ^ 128))) 128 q rest_small is) ne)
+        ∙ is,
     λ is. same q (below_from_small set 128 q small is) ne ∙ is,
   );
 }
@@ -66,7 +71,8 @@ pub record LacksLowest (id n : ℕ) : Type 0 where
   pub above : (q : ℕ) → id < q → bit_at (n - 1) q ≡ bit_at n q
 
 -- from the half of a number
-half_above : (n q half : ℕ) → (n - 1) / 2 ≡ half → bit_at half q ≡ bit_at (n / 2) q → bit_at (n - 1) (suc q) ≡ bit_at n (suc q)
+half_above : (n q half : ℕ) → (n - 1) / 2 ≡ half → bit_at half q ≡ bit_at (n / 2) q
+    → bit_at (n - 1) (suc q) ≡ bit_at n (suc q)
 half_above n q half at same = bit_at-suc (n - 1) q ∙ (ap (λ (m : ℕ). bit_at m q) at ∙ (same ∙ sym (bit_at-suc n q)))
 
 odd_lacks : (n : ℕ) → n % 2 ≡ 1 → LacksLowest 0 n
@@ -101,24 +107,29 @@ even_lacks n id some even rest = record {
 lacks_lowest : (id n : ℕ) → bit_at n id ≡ 1 → ((i : ℕ) → i < id → bit_at n i ≡ 0) → LacksLowest id n
 lacks_lowest zero n is none = odd_lacks n (sym (bit_at_lowest n) ∙ is)
 lacks_lowest (suc id) n is none =
-    even_lacks n id (λ e. let no = bit_at-zero (suc id) in absurd (omega (arith, no, subst (λ (m : ℕ). bit_at m (suc id) ≡ 1) e is)))
+    even_lacks n id (λ e. let no = bit_at-zero (suc id) in
+    absurd (omega (arith, no, subst (λ (m : ℕ). bit_at m (suc id) ≡ 1) e is)))
     (sym (bit_at_lowest n) ∙ none 0 (omega arith))
-    (lacks_lowest id (n / 2) (sym (bit_at-suc n id) ∙ is) (λ i low. sym (bit_at-suc n i) ∙ none (suc i) (omega (arith, low))))
+    (lacks_lowest id (n / 2) (sym (bit_at-suc n id) ∙ is)
+    (λ i low. sym (bit_at-suc n i) ∙ none (suc i) (omega (arith, low))))
 
 -- a bit that is not 1
 pub zero_bit : (set i : ℕ) → (Has set i → ⊥) → bit_at set i ≡ 0
-zero_bit set i out = let few = bit_at-lt set i in dite (ℕ_discrete (bit_at set i) 1) (λ is. absurd (out is)) (λ other. omega (arith, few, other))
+zero_bit set i out = let few = bit_at-lt set i in dite (ℕ_discrete (bit_at set i) 1) (λ is. absurd (out is))
+    (λ other. omega (arith, few, other))
 
 -- a set as a number, less one
 pub one_less : (set id : ℕ) → IsLowest set id → LacksLowest id set
-one_less set id lowest = lacks_lowest id set lowest.inside (λ i low. zero_bit set i (λ is. let near = lowest.least i is in omega (arith, near, low)))
+one_less set id lowest = lacks_lowest id set lowest.inside
+    (λ i low. zero_bit set i (λ is. let near = lowest.least i is in omega (arith, near, low)))
 
 -- `set & (set - 1)`
 pub without_lowest_id : (set id : ℕ) → IsLowest set id → IsWithout set id (bit_and set (set - 1))
 without_lowest_id set id lowest = record {
   gone = λ is. let t = bit_at_and set (set - 1) id in omega (arith, t, bits.gone, is);
   others = λ q ne. (
-    λ is. let t = bit_at_and set (set - 1) q in let a = bit_at-lt set q in let b = bit_at-lt (set - 1) q in omega (arith, t, a, b, is),
+    λ is. let t = bit_at_and set (set - 1) q in let a = bit_at-lt set q in let b = bit_at-lt (set - 1) q in
+        omega (arith, t, a, b, is),
     λ is. let t = bit_at_and set (set - 1) q in
         let far : id < q = let near = lowest.least q is in omega (arith, near, ne) in
         let same = bits.above q far in omega (arith, t, same, is),
@@ -133,10 +144,12 @@ smaller_without set id rest within less is =
     let other : rest ≢ set = λ e. less.gone (subst (λ s. Has s id) (sym e) is) in omega arith
 
 -- `set & !other`
-pub difference_ids : (set other : ℕ) → set < 2 ^ 128 → other < 2 ^ 128 → IsDifference set other (bit_and set (bit_not w128 other))
+pub difference_ids : (set other : ℕ) → set < 2 ^ 128 → other < 2 ^ 128
+    → IsDifference set other (bit_and set (bit_not w128 other))
 difference_ids set other small also = record {
   exactly = λ id. (
-    λ is. let t = bit_at_and set (bit_not w128 other) id in let a = bit_at-lt set id in let b = bit_at-lt (bit_not w128 other) id in
+    λ is. let t = bit_at_and set (bit_not w128 other) id in let a = bit_at-lt set id in
+        let b = bit_at-lt (bit_not w128 other) id in
         let inside : Has set id = omega (arith, t, a, b, is) in
         let flipped = bit_at_not w128 other id also (below_from_small set 128 id small inside) in
         (inside, λ no. omega (arith, t, flipped, is, no)),

@@ -1,5 +1,6 @@
 -- Ready ids, successors, and the closed sets as those that one ready id after another leads to.
-use Rattle.std.proofs.Common.{◌≡◌, ℕ, zero, suc, ◌%◌, ◌^◌, ◌<◌, Bool, true, false, List, [], ◌∷◌, map, length, arith, refl, sym, subst, ap, ◌∙◌, inl, inr}
+use Rattle.std.proofs.Common.{◌≡◌, ℕ, zero, suc, ◌%◌, ◌^◌, ◌<◌, Bool, true, false, List, [], ◌∷◌, map, length, arith}
+use Rattle.std.proofs.Common.{refl, sym, subst, ap, ◌∙◌, inl, inr}
 use Rattle.std.specs.Prelude.{bit_and, slice_index, not, ◌&&◌, ◌==◌}
 use Rattle.std.specs.Int.{bit_at}
 use Rattle.std.specs.List.{Contains}
@@ -9,7 +10,8 @@ use Rattle.state_space.proofs.Runs.{reached_start, reached_next, along}
 use Rattle.patch_sets.specs.Sets.{Has, has, with_id, ids_below}
 use Rattle.patch_sets.specs.Closed.{AreEarlier, IsClosed}
 use Rattle.patch_sets.specs.Ready.{IsReady, is_ready, successors_of}
-use Rattle.patch_sets.proofs.Bits.{eq_or_not, none_in_empty, same_set, subset_from_and, and_from_subset, in_with_same, in_with_old, in_with_cases, in_low, from_low, small_from_below}
+use Rattle.patch_sets.proofs.Bits.{eq_or_not, none_in_empty, same_set, subset_from_and, and_from_subset, in_with_same}
+use Rattle.patch_sets.proofs.Bits.{in_with_old, in_with_cases, in_low, from_low, small_from_below}
 use Rattle.patch_sets.proofs.Ids.{true_from_eq, eq_from_true, false_from_ne, ne_from_false, from_ids, to_ids}
 
 -- a word of a mapped list is that of one of the list
@@ -23,7 +25,8 @@ from_map f (x ∷ xs) y (suc k, within, is) = let it = from_map f xs y (k, omega
 pub to_map : (f : ℕ → ℕ) (xs : List ℕ) (x : ℕ) → Contains xs x → Contains (map f xs) (f x)
 to_map f [] x (k, within, is) = absurd (omega arith)
 to_map f (y ∷ xs) x (zero, within, is) = (zero, omega arith, ap f is)
-to_map f (y ∷ xs) x (suc k, within, is) = let it = to_map f xs x (k, omega arith, is) in (suc it.0, omega (arith, it.1), it.2)
+to_map f (y ∷ xs) x (suc k, within, is) = let it = to_map f xs x (k, omega arith, is) in
+    (suc it.0, omega (arith, it.1), it.2)
 
 -- ---- ready ids
 
@@ -39,35 +42,45 @@ join_and true b p q = cc
 
 module _ (deps : List ℕ) (set id : ℕ) where
   pub ready_from_test : id < length deps → is_ready deps set id ≡ true → IsReady deps set id
-  ready_from_test known passes = let parts = split_and (has set id) (bit_and (slice_index deps id) set == slice_index deps id) passes in record {
-    known = known;
-    outside = ne_from_false (bit_at set id) 1 parts.0;
-    depended = subset_from_and (slice_index deps id) set (eq_from_true (bit_and (slice_index deps id) set) (slice_index deps id) parts.1);
-  }
+  ready_from_test known passes = let parts = split_and (has set id)
+      (bit_and (slice_index deps id) set == slice_index deps id) passes in record {
+        known = known;
+        outside = ne_from_false (bit_at set id) 1 parts.0;
+        depended = subset_from_and (slice_index deps id) set (eq_from_true (bit_and (slice_index deps id) set)
+            (slice_index deps id) parts.1);
+      }
 
   pub test_from_ready : IsReady deps set id → is_ready deps set id ≡ true
   test_from_ready ready = join_and (has set id) (bit_and (slice_index deps id) set == slice_index deps id)
       (false_from_ne (bit_at set id) 1 ready.outside)
-      (true_from_eq (bit_and (slice_index deps id) set) (slice_index deps id) (and_from_subset (slice_index deps id) set ready.depended))
+      (true_from_eq (bit_and (slice_index deps id) set) (slice_index deps id)
+      (and_from_subset (slice_index deps id) set ready.depended))
 
 -- ---- successors
 
 -- a successor is the set with a ready id more
-pub from_successor : (deps : List ℕ) (set after : ℕ) → Contains (successors_of deps set) after → (id : ℕ) × IsReady deps set id × (after ≡ with_id set id)
+pub from_successor : (deps : List ℕ) (set after : ℕ) → Contains (successors_of deps set) after → (id : ℕ)
+    × IsReady deps set id × (after ≡ with_id set id)
 from_successor deps set after is =
     let it = from_map (with_id set) (ids_below (length deps) (is_ready deps set)) after is in
     let at = from_ids (length deps) (is_ready deps set) it.0 it.1 in
     (it.0, ready_from_test deps set it.0 at.0 at.1, it.2)
 
-pub to_successor : (deps : List ℕ) (set id : ℕ) → IsReady deps set id → Contains (successors_of deps set) (with_id set id)
+pub to_successor : (deps : List ℕ) (set id : ℕ) → IsReady deps set id
+    → Contains (successors_of deps set) (with_id set id)
 to_successor deps set id ready =
-    to_map (with_id set) (ids_below (length deps) (is_ready deps set)) id (to_ids (length deps) (is_ready deps set) id ready.known (test_from_ready deps set id ready))
+    to_map (with_id set) (ids_below (length deps) (is_ready deps set)) id
+    (to_ids (length deps) (is_ready deps set) id ready.known (test_from_ready deps set id ready))
 
 module _ (deps : List ℕ) where
   pub empty_closed : IsClosed deps 0
-  empty_closed = record { known = λ id is. absurd (none_in_empty id is); whole = λ q p is dep. absurd (none_in_empty q is) }
+  empty_closed = record {
+    known = λ id is. absurd (none_in_empty id is);
+    whole = λ q p is dep. absurd (none_in_empty q is);
+  }
 
-  pub successor_closed : (set : ℕ) → IsClosed deps set → (after : ℕ) → Contains (successors_of deps set) after → IsClosed deps after
+  pub successor_closed : (set : ℕ) → IsClosed deps set → (after : ℕ) → Contains (successors_of deps set) after
+      → IsClosed deps after
   successor_closed set closed after is =
       let it = from_successor deps set after is in
       subst (IsClosed deps) (sym it.2) record {
@@ -116,9 +129,11 @@ module _ (deps : List ℕ) where
     reached_low zero = subst (IsReached (successors_of deps) 0) (omega arith) (reached_start (successors_of deps) 0)
     reached_low (suc k) = elim (eq_or_not (bit_at set k) 1) [
       | inl is ↦ subst (IsReached (successors_of deps) 0) (low_more k is)
-          (reached_next (successors_of deps) 0 (set % 2 ^ k) (with_id (set % 2 ^ k) k) (reached_low k) (to_successor deps (set % 2 ^ k) k (low_ready k is)))
+          (reached_next (successors_of deps) 0 (set % 2 ^ k) (with_id (set % 2 ^ k) k) (reached_low k)
+          (to_successor deps (set % 2 ^ k) k (low_ready k is)))
       | inr is_not ↦ subst (IsReached (successors_of deps) 0) (low_same k is_not) (reached_low k)
     ]
 
     pub closed_reached : IsReached (successors_of deps) 0 set
-    closed_reached = subst (IsReached (successors_of deps) 0) (mod-eq_of_lt (small_from_below set (length deps) closed.known)) (reached_low (length deps))
+    closed_reached = subst (IsReached (successors_of deps) 0)
+        (mod-eq_of_lt (small_from_below set (length deps) closed.known)) (reached_low (length deps))

@@ -1,5 +1,6 @@
 -- The objects of sets, faults and rules, one after another, and the report around them.
-use Rattle.std.proofs.Common.{◌≡◌, ℕ, ◌+◌, ◌<◌, List, [], ◌∷◌, ◌++◌, length, get_or, take, Bool, true, false, codes, decimal, sym, ap, ◌∙◌, arith, append_assoc, length-take}
+use Rattle.std.proofs.Common.{◌≡◌, ℕ, ◌+◌, ◌<◌, List, [], ◌∷◌, ◌++◌, length, get_or, take, Bool, true, false, codes}
+use Rattle.std.proofs.Common.{decimal, sym, ap, ◌∙◌, arith, append_assoc, length-take}
 use Rattle.std.proofs.lemmas.List.{append-nil, length-map}
 use Rattle.crash_model.specs.Lists.{when}
 use Rattle.crash_model.specs.Explain.{base_json, trace_json}
@@ -16,51 +17,87 @@ use Rattle.report_sections.specs.declared.section.Section as code
 use Rattle.report_sections.specs.Sections.{section_of, IsSection}
 use Rattle.report_sections.proofs.Joined.{rows_more, firsts_more}
 use Rattle.report_sections.proofs.Pushed.{sections_more, length-sections}
-use Rattle.report_json.specs.JsonReport.{WritesSections, WritesFaults, base_key, trace_key, module_key, strict_key, from_module}
+use Rattle.report_json.specs.JsonReport.{WritesSections, WritesFaults, base_key, trace_key, module_key, strict_key}
+use Rattle.report_json.specs.JsonReport.{from_module}
 use Rattle.json_values.specs.Items.{comma_before}
 use Rattle.json_values.proofs.Commas.{mapped_more}
 
-pub section_more : {A : Type 0} (detail : Detail) (base : Disk) (patches : List Patch) (sets : List ℕ) (i n : ℕ) (old so_far after text : List ℕ) (s : code.Section A) → i < length sets → n ≡ length patches → WritesSections detail base patches (take i sets) old so_far → IsSection detail base patches (get_or sets i 0) s → text ≡ section_json n (section_of s) → after ≡ so_far ++ comma_before i ++ text → WritesSections detail base patches (take (i + 1) sets) old after
+pub section_more : {A : Type 0} (detail : Detail) (base : Disk) (patches : List Patch) (sets : List ℕ) (i n : ℕ)
+    (old so_far after text : List ℕ) (s : code.Section A) → i < length sets → n ≡ length patches
+    → WritesSections detail base patches (take i sets) old so_far → IsSection detail base patches (get_or sets i 0) s
+    → text ≡ section_json n (section_of s) → after ≡ so_far ++ comma_before i ++ text
+    → WritesSections detail base patches (take (i + 1) sets) old after
 section_more detail base patches sets i n old so_far after text s within number tells is written more = record {
   sections = tells.sections ++ section_of s ∷ [];
   are = sections_more detail base patches sets i tells.sections s within tells.are is;
-  whole = mapped_more (section_json (length patches)) tells.sections (section_of s) i old so_far after text place tells.whole (written ∙ ap (λ (k : ℕ). section_json k (section_of s)) number) more;
+  whole = mapped_more (section_json (length patches)) tells.sections (section_of s) i old so_far after text place
+      tells.whole (written ∙ ap (λ (k : ℕ). section_json k (section_of s)) number) more;
 }
   where
     place : i ≡ length tells.sections
-    place = omega (arith, within, length-sections detail base patches (take i sets) tells.sections tells.are, length-take i sets)
+    place = omega (
+      arith,
+      within,
+      length-sections detail base patches (take i sets) tells.sections tells.are,
+      length-take i sets,
+    )
 
-pub fault_more : {A : Type 0} (detail : Detail) (base : Disk) (patches : List Patch) (rows : List FaultRow) (i n : ℕ) (d : FaultRow) (old so_far after text : List ℕ) (s : code.Section A) → i < length rows → n ≡ length patches → WritesFaults detail base patches (take i rows) old so_far → IsSection detail base patches (get_or rows i d).first s → text ≡ told_fault_json n (record { row = get_or rows i d; first = section_of s }) → after ≡ so_far ++ comma_before i ++ text → WritesFaults detail base patches (take (i + 1) rows) old after
+pub fault_more : {A : Type 0} (detail : Detail) (base : Disk) (patches : List Patch) (rows : List FaultRow) (i n : ℕ)
+    (d : FaultRow) (old so_far after text : List ℕ) (s : code.Section A) → i < length rows → n ≡ length patches
+    → WritesFaults detail base patches (take i rows) old so_far
+    → IsSection detail base patches (get_or rows i d).first s
+    → text ≡ told_fault_json n (record { row = get_or rows i d; first = section_of s })
+    → after ≡ so_far ++ comma_before i ++ text → WritesFaults detail base patches (take (i + 1) rows) old after
 fault_more detail base patches rows i n d old so_far after text s within number tells is written more = record {
   told = tells.told ++ one ∷ [];
   of_rows = rows_more rows i d tells.told s within tells.of_rows;
   firsts = firsts_more rows i d tells.told s within detail base patches tells.firsts is;
-  whole = mapped_more (told_fault_json (length patches)) tells.told one i old so_far after text place tells.whole (written ∙ ap (λ (k : ℕ). told_fault_json k one) number) more;
+  whole = mapped_more (told_fault_json (length patches)) tells.told one i old so_far after text place tells.whole
+      (written ∙ ap (λ (k : ℕ). told_fault_json k one) number) more;
 }
   where
     one : ToldFault
     one = record { row = get_or rows i d; first = section_of s }
 
     place : i ≡ length tells.told
-    place = omega (arith, within, sym (length-map tells.told (λ (t : ToldFault). t.row)), ap length tells.of_rows, length-take i rows)
+    place = omega (
+      arith,
+      within,
+      sym (length-map tells.told (λ (t : ToldFault). t.row)),
+      ap length tells.of_rows,
+      length-take i rows,
+    )
 
 -- ---- the report around them
 
 -- a key before the first, where patches are explained
-pub base_explained : {A : Type 0} (report : Report A) (explain : Bool) (first second : List ℕ) → explain ≡ true → second ≡ first ++ base_key report.base.now → second ≡ first ++ base_json (when explain (explanation_by report.base.now report.traced.now))
-base_explained report explain first second is more = more ∙ ap (λ (e : Bool). first ++ base_json (when e (explanation_by report.base.now report.traced.now))) (sym is)
+pub base_explained : {A : Type 0} (report : Report A) (explain : Bool) (first second : List ℕ) → explain ≡ true
+    → second ≡ first ++ base_key report.base.now → second ≡ first
+    ++ base_json (when explain (explanation_by report.base.now report.traced.now))
+base_explained report explain first second is more = more
+    ∙ ap (λ (e : Bool). first ++ base_json (when e (explanation_by report.base.now report.traced.now))) (sym is)
 
-pub base_unexplained : {A : Type 0} (report : Report A) (explain : Bool) (first second : List ℕ) → explain ≡ false → second ≡ first → second ≡ first ++ base_json (when explain (explanation_by report.base.now report.traced.now))
-base_unexplained report explain first second is same = same ∙ (sym (append-nil first) ∙ ap (λ (e : Bool). first ++ base_json (when e (explanation_by report.base.now report.traced.now))) (sym is))
+pub base_unexplained : {A : Type 0} (report : Report A) (explain : Bool) (first second : List ℕ) → explain ≡ false
+    → second ≡ first → second ≡ first ++ base_json (when explain (explanation_by report.base.now report.traced.now))
+base_unexplained report explain first second is same = same
+    ∙ (sym (append-nil first) ∙ ap (λ (e : Bool). first ++ base_json
+    (when e (explanation_by report.base.now report.traced.now))) (sym is))
 
-pub trace_explained : {A : Type 0} (report : Report A) (explain : Bool) (first second : List ℕ) → explain ≡ true → second ≡ first ++ trace_key report.traced.now → second ≡ first ++ trace_json (when explain (explanation_by report.base.now report.traced.now))
-trace_explained report explain first second is more = more ∙ ap (λ (e : Bool). first ++ trace_json (when e (explanation_by report.base.now report.traced.now))) (sym is)
+pub trace_explained : {A : Type 0} (report : Report A) (explain : Bool) (first second : List ℕ) → explain ≡ true
+    → second ≡ first ++ trace_key report.traced.now → second ≡ first
+    ++ trace_json (when explain (explanation_by report.base.now report.traced.now))
+trace_explained report explain first second is more = more
+    ∙ ap (λ (e : Bool). first ++ trace_json (when e (explanation_by report.base.now report.traced.now))) (sym is)
 
-pub trace_unexplained : {A : Type 0} (report : Report A) (explain : Bool) (first second : List ℕ) → explain ≡ false → second ≡ first → second ≡ first ++ trace_json (when explain (explanation_by report.base.now report.traced.now))
-trace_unexplained report explain first second is same = same ∙ (sym (append-nil first) ∙ ap (λ (e : Bool). first ++ trace_json (when e (explanation_by report.base.now report.traced.now))) (sym is))
+pub trace_unexplained : {A : Type 0} (report : Report A) (explain : Bool) (first second : List ℕ) → explain ≡ false
+    → second ≡ first → second ≡ first ++ trace_json (when explain (explanation_by report.base.now report.traced.now))
+trace_unexplained report explain first second is same = same
+    ∙ (sym (append-nil first) ∙ ap (λ (e : Bool). first ++ trace_json
+    (when e (explanation_by report.base.now report.traced.now))) (sym is))
 
 -- the keys from the module on, one behind another
-pub keys_from_module : {A : Type 0} (report : Report A) (n : ℕ) (body : Body) (before one two three four five last : List ℕ) → n ≡ length report.traced.now.patches
+pub keys_from_module : {A : Type 0} (report : Report A) (n : ℕ) (body : Body)
+    (before one two three four five last : List ℕ) → n ≡ length report.traced.now.patches
     → one ≡ before ++ module_key report.settings.now.module n
     → two ≡ one ++ late_json (length report.traced.now.patches) report.failing body
     → three ≡ two ++ strict_key report.settings.now.strict
@@ -76,14 +113,17 @@ keys_from_module report n body before one two three four five last number first 
     let without = rules_json (codes "without") (told_without report.settings.now) in
     let kind = report.settings.now.module in
     let name = first ∙ ap (λ (k : ℕ). before ++ module_key kind k) number in
-    sixth ∙ (ap (λ (t : List ℕ). t ++ without) (fifth ∙ ap (λ (t : List ℕ). t ++ with) (fourth ∙ ap (λ (t : List ℕ). t ++ trace) (third ∙ ap (λ (t : List ℕ). t ++ strict) (second ∙ ap (λ (t : List ℕ). t ++ late) name))))
+    sixth ∙ (ap (λ (t : List ℕ). t ++ without) (fifth ∙ ap (λ (t : List ℕ). t ++ with)
+    (fourth ∙ ap (λ (t : List ℕ). t ++ trace) (third ∙ ap (λ (t : List ℕ). t ++ strict)
+    (second ∙ ap (λ (t : List ℕ). t ++ late) name))))
     ∙ regroup before (module_key kind (length report.traced.now.patches)) late strict trace with without)
   where
     regroup : (a b c d e f g : List ℕ) → a ++ b ++ c ++ d ++ e ++ f ++ g ≡ a ++ (b ++ c ++ d ++ e ++ f ++ g)
     regroup a b c d e f g = simp append_assoc
 
 -- the pieces of the whole, one behind another
-pub whole_text : {A : Type 0} (report : Report A) (body : Body) (empty one two three four five last : List ℕ) → empty ≡ []
+pub whole_text : {A : Type 0} (report : Report A) (body : Body) (empty one two three four five last : List ℕ)
+    → empty ≡ []
     → one ≡ empty ++ codes "{"
     → two ≡ one ++ base_json (when report.settings.now.explain (explanation_by report.base.now report.traced.now))
     → three ≡ two ++ (codes "\"closed\":" ++ decimal report.closed)
@@ -99,11 +139,16 @@ whole_text report body empty one two three four five last none first second thir
     let early = early_json patches report.failing body in
     let rest = from_module report body in
     let start : three ≡ codes "{" ++ base ++ (codes "\"closed\":" ++ decimal report.closed) =
-    third ∙ ap (λ (t : List ℕ). t ++ (codes "\"closed\":" ++ decimal report.closed)) (second ∙ ap (λ (t : List ℕ). t ++ base) (first ∙ ap (λ (t : List ℕ). t ++ codes "{") none)) in
-    let end : last ≡ three ++ early ++ rest ++ codes "}\n" = sixth ∙ ap (λ (t : List ℕ). t ++ codes "}\n") (fifth ∙ ap (λ (t : List ℕ). t ++ rest) fourth) in
+    third ∙ ap (λ (t : List ℕ). t ++ (codes "\"closed\":" ++ decimal report.closed))
+    (second ∙ ap (λ (t : List ℕ). t ++ base) (first ∙ ap (λ (t : List ℕ). t ++ codes "{") none)) in
+    let end : last ≡ three ++ early ++ rest ++ codes "}\n" = sixth
+    ∙ ap (λ (t : List ℕ). t ++ codes "}\n") (fifth ∙ ap (λ (t : List ℕ). t ++ rest) fourth) in
     end ∙ (ap (λ (t : List ℕ). t ++ early ++ rest ++ codes "}\n") start
-    ∙ regroup (codes "{") base (codes "\"closed\":") (decimal report.closed) early (codes ",\"module\":") (codes "\"") (module_text report.settings.now.module) (codes "\"") (codes ",\"patches\":") (decimal patches)
-    (late_json patches report.failing body) (strict_key report.settings.now.strict) (trace_json told) (rules_json (codes "with") (told_with report.settings.now)) (rules_json (codes "without") (told_without report.settings.now)) (codes "}\n"))
+    ∙ regroup (codes "{") base (codes "\"closed\":") (decimal report.closed) early (codes ",\"module\":") (codes "\"")
+    (module_text report.settings.now.module) (codes "\"") (codes ",\"patches\":") (decimal patches)
+    (late_json patches report.failing body) (strict_key report.settings.now.strict) (trace_json told)
+    (rules_json (codes "with") (told_with report.settings.now))
+    (rules_json (codes "without") (told_without report.settings.now)) (codes "}\n"))
   where
     regroup : (a b c d e f g h i j k l m n o p q : List ℕ)
         → a ++ b ++ (c ++ d) ++ e ++ ((f ++ g) ++ h ++ (i ++ j) ++ k ++ l ++ m ++ n ++ o ++ p) ++ q

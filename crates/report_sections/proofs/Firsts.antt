@@ -14,7 +14,9 @@ abbrev pub no_row : FaultRow
 no_row = record { fault = Dangling 0 0 0; sets = 0; first = 0 }
 
 -- a crash can leave each of them
-pub first_closed : (patches : List Patch) (rows : List FaultRow) (i : ℕ) → AreClosed patches (map (λ row. row.first) rows) → i < length rows → IsClosed (deps_of patches) (get_or rows i no_row).first
+pub first_closed : (patches : List Patch) (rows : List FaultRow) (i : ℕ)
+    → AreClosed patches (map (λ row. row.first) rows) → i < length rows
+    → IsClosed (deps_of patches) (get_or rows i no_row).first
 first_closed patches rows i closed within =
     subst (IsClosed (deps_of patches)) (get_or-map (λ (row : FaultRow). row.first) rows i no_row)
     (closed i 0 (omega (arith, within, length-map rows (λ (row : FaultRow). row.first))))

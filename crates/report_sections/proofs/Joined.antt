@@ -1,5 +1,6 @@
 -- Parts of sections, joined in order, and the first sections of faults, one row after another.
-use Rattle.std.proofs.Common.{◌≡◌, ℕ, zero, suc, ◌+◌, ◌*◌, ◌/◌, ◌%◌, ◌<◌, ◌≤◌, min, List, [], ◌∷◌, ◌++◌, length, get_or, map, take, refl, sym, ap, subst, arith, ◌∙◌}
+use Rattle.std.proofs.Common.{◌≡◌, ℕ, zero, suc, ◌+◌, ◌*◌, ◌/◌, ◌%◌, ◌<◌, ◌≤◌, min, List, [], ◌∷◌, ◌++◌, length, get_or}
+use Rattle.std.proofs.Common.{map, take, refl, sym, ap, subst, arith, ◌∙◌}
 use Rattle.std.specs.Fork.{slice_chunk}
 use Rattle.std.proofs.Math.Nat.{suc-mul, zero-mul, mod-lt}
 use Rattle.std.proofs.Math.Seq.{take-add}
@@ -17,10 +18,18 @@ use Rattle.report_sections.specs.Sections.{section_of, IsSection}
 use Rattle.report_sections.proofs.Pushed.{sections_push}
 
 -- the sections of some sets and then of others are those of them all
-pub sections_join : (detail : Detail) (base : Disk) (patches : List Patch) (xs ys : List ℕ) (first second : List report.Section) → AreSections detail base patches xs first → AreSections detail base patches ys second → AreSections detail base patches (xs ++ ys) (first ++ second)
-sections_join detail base patches [] ys first second are more = subst (λ (ss : List report.Section). AreSections detail base patches ys (ss ++ second)) (sym are) more
-sections_join detail base patches (x ∷ xs) ys first second (writes, rest, runs, others, whole) more =
-    (writes, rest ++ second, runs, sections_join detail base patches xs ys rest second others more, ap (λ (ss : List report.Section). ss ++ second) whole)
+pub sections_join : (detail : Detail) (base : Disk) (patches : List Patch) (xs ys : List ℕ)
+    (first second : List report.Section) → AreSections detail base patches xs first
+    → AreSections detail base patches ys second → AreSections detail base patches (xs ++ ys) (first ++ second)
+sections_join detail base patches [] ys first second are more =
+    subst (λ (ss : List report.Section). AreSections detail base patches ys (ss ++ second)) (sym are) more
+sections_join detail base patches (x ∷ xs) ys first second (writes, rest, runs, others, whole) more = (
+  writes,
+  rest ++ second,
+  runs,
+  sections_join detail base patches xs ys rest second others more,
+  ap (λ (ss : List report.Section). ss ++ second) whole,
+)
 
 -- ---- parts of so many sets
 
@@ -38,25 +47,36 @@ module _ (sets : List ℕ) (size : ℕ) where
           omega (arith, div-add-mod' (length sets) size, e, ap (λ (k : ℕ). k * size) number_is)
       by_rest (suc r) e =
           let number_is : count ≡ length sets / size + 1 = omega (arith, number, e) in
-          omega (arith, div-add-mod' (length sets) size, mod-lt (length sets) some, one_more (length sets / size) count number_is)
+          omega (
+            arith,
+            div-add-mod' (length sets) size,
+            mod-lt (length sets) some,
+            one_more (length sets / size) count number_is,
+          )
 
   -- what holds of no sets holds before the first part
   pub before_parts : (P : List ℕ → Type 0) → P [] → P (take (0 * size) sets)
   before_parts P none = subst (λ (k : ℕ). P (take k sets)) (sym (zero-mul size)) none
 
   -- what holds of the first parts and of the next holds of one part more
-  pub part_more : (P : List ℕ → Type 0) (n : ℕ) → P (take (n * size) sets ++ slice_chunk sets size n) → P (take ((n + 1) * size) sets)
-  part_more P n holds = subst (λ (k : ℕ). P (take k sets)) (sym (one_more n (n + 1) refl)) (subst P (sym (take-add (n * size) size sets)) holds)
+  pub part_more : (P : List ℕ → Type 0) (n : ℕ) → P (take (n * size) sets ++ slice_chunk sets size n)
+      → P (take ((n + 1) * size) sets)
+  part_more P n holds = subst (λ (k : ℕ). P (take k sets)) (sym (one_more n (n + 1) refl))
+      (subst P (sym (take-add (n * size) size sets)) holds)
 
   -- what holds of all parts holds of all sets
-  pub all_parts : (P : List ℕ → Type 0) (count n : ℕ) → 0 < size → count ≡ length sets / size + min 1 (length sets % size) → count ≤ n → n ≤ count → P (take (n * size) sets) → P sets
+  pub all_parts : (P : List ℕ → Type 0) (count n : ℕ) → 0 < size
+      → count ≡ length sets / size + min 1 (length sets % size) → count ≤ n → n ≤ count → P (take (n * size) sets)
+      → P sets
   all_parts P count n some number low high holds =
       let e : n ≡ count = omega (arith, low, high) in
-      subst P (take_all (count * size) sets (cover count some number)) (subst (λ (k : ℕ). P (take (k * size) sets)) e holds)
+      subst P (take_all (count * size) sets (cover count some number))
+      (subst (λ (k : ℕ). P (take (k * size) sets)) e holds)
 
 -- ---- rows of faults
 
-module _ {A : Type 0} (rows : List FaultRow) (i : ℕ) (d : FaultRow) (so_far : List ToldFault) (s : Section A) (within : i < length rows) where
+module _ {A : Type 0} (rows : List FaultRow) (i : ℕ) (d : FaultRow) (so_far : List ToldFault) (s : Section A)
+    (within : i < length rows) where
   abbrev row : FaultRow
   row = get_or rows i d
 
@@ -75,12 +95,17 @@ module _ {A : Type 0} (rows : List FaultRow) (i : ℕ) (d : FaultRow) (so_far : 
 
   -- behind the first rows it is told
   pub rows_more : map row_of so_far ≡ take i rows → map row_of (so_far ++ one ∷ []) ≡ take (i + 1) rows
-  rows_more of_rows = map-append row_of so_far (one ∷ []) ∙ (ap (λ (rs : List FaultRow). rs ++ row ∷ []) of_rows ∙ sym (take_more rows i d within))
+  rows_more of_rows = map-append row_of so_far (one ∷ [])
+      ∙ (ap (λ (rs : List FaultRow). rs ++ row ∷ []) of_rows ∙ sym (take_more rows i d within))
 
   -- and so is the section of its first set
-  pub firsts_more : (detail : Detail) (base : Disk) (patches : List Patch) → AreSections detail base patches (map first_of (take i rows)) (map told_of so_far) → IsSection detail base patches row.first s
+  pub firsts_more : (detail : Detail) (base : Disk) (patches : List Patch)
+      → AreSections detail base patches (map first_of (take i rows)) (map told_of so_far)
+      → IsSection detail base patches row.first s
       → AreSections detail base patches (map first_of (take (i + 1) rows)) (map told_of (so_far ++ one ∷ []))
   firsts_more detail base patches firsts is =
-      subst (λ (ss : List report.Section). AreSections detail base patches (map first_of (take (i + 1) rows)) ss) (sym (map-append told_of so_far (one ∷ [])))
-      (subst (λ (sets : List ℕ). AreSections detail base patches sets (map told_of so_far ++ section_of s ∷ [])) (sym (ap (map first_of) (take_more rows i d within) ∙ map-append first_of (take i rows) (row ∷ [])))
+      subst (λ (ss : List report.Section). AreSections detail base patches (map first_of (take (i + 1) rows)) ss)
+      (sym (map-append told_of so_far (one ∷ [])))
+      (subst (λ (sets : List ℕ). AreSections detail base patches sets (map told_of so_far ++ section_of s ∷ []))
+      (sym (ap (map first_of) (take_more rows i d within) ∙ map-append first_of (take i rows) (row ∷ [])))
       (sections_push detail base patches (map first_of (take i rows)) row.first (map told_of so_far) s firsts is))

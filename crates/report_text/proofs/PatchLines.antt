@@ -1,5 +1,6 @@
 -- The lines of patches, one patch after another.
-use Rattle.std.proofs.Common.{◌≡◌, ℕ, zero, suc, ◌+◌, ◌<◌, ◌≤◌, List, [], ◌∷◌, ◌++◌, length, map, take, get_or, Option, Some, codes, decimal, refl, sym, ap, ◌∙◌, arith, append_assoc, length-take}
+use Rattle.std.proofs.Common.{◌≡◌, ℕ, zero, suc, ◌+◌, ◌<◌, ◌≤◌, List, [], ◌∷◌, ◌++◌, length, map, take, get_or, Option}
+use Rattle.std.proofs.Common.{Some, codes, decimal, refl, sym, ap, ◌∙◌, arith, append_assoc, length-take}
 use Rattle.std.specs.Prelude.{slice_get, option_to_list, not, ◌==◌}
 use Rattle.std.specs.List.{flat_map}
 use Rattle.std.proofs.lemmas.List.{append-nil, length-map, map-append, take_more}
@@ -14,50 +15,67 @@ use Rattle.traced_patches.proofs.Told.{told_is, no_dependency, dependency_is}
 use Rattle.report_text.specs.Patches.{patch_line, gap_before}
 
 -- what there is of one number more is told
-pub below_told : {X : Type 0} (f : X → List ℕ) (n : ℕ) (at : ℕ → Option X) (before all after : List ℕ) → all ≡ before ++ flat_map f (some_below n at) → after ≡ all ++ flat_map f (option_to_list (at n)) → after ≡ before ++ flat_map f (some_below (n + 1) at)
+pub below_told : {X : Type 0} (f : X → List ℕ) (n : ℕ) (at : ℕ → Option X) (before all after : List ℕ)
+    → all ≡ before ++ flat_map f (some_below n at) → after ≡ all ++ flat_map f (option_to_list (at n))
+    → after ≡ before ++ flat_map f (some_below (n + 1) at)
 below_told f n at before all after told more =
-    more ∙ (ap (λ (t : List ℕ). t ++ flat_map f (option_to_list (at n))) told ∙ (append_assoc before (flat_map f (some_below n at)) (flat_map f (option_to_list (at n)))
-    ∙ ap (λ (t : List ℕ). before ++ t) (sym (ap (flat_map f) (some_below-step n at) ∙ flat_map-append f (some_below n at) (option_to_list (at n))))))
+    more ∙ (ap (λ (t : List ℕ). t ++ flat_map f (option_to_list (at n))) told
+    ∙ (append_assoc before (flat_map f (some_below n at)) (flat_map f (option_to_list (at n)))
+    ∙ ap (λ (t : List ℕ). before ++ t) (sym (ap (flat_map f) (some_below-step n at)
+    ∙ flat_map-append f (some_below n at) (option_to_list (at n))))))
 
 -- ---- a patch
 
 -- its line and those of its dependencies are its lines
-pub patch_told : (t : TracedPatches) (id : ℕ) (q : Emitted) (p : Patch) (before first after : List ℕ) → slice_get t.emitted id ≡ Some q → slice_get t.patches id ≡ Some p
+pub patch_told : (t : TracedPatches) (id : ℕ) (q : Emitted) (p : Patch) (before first after : List ℕ)
+    → slice_get t.emitted id ≡ Some q → slice_get t.patches id ≡ Some p
     → first ≡ before ++ patch_line id q → after ≡ first ++ flat_map dependency_text (some_below id (dependency_at t q))
     → after ≡ before ++ flat_map told_text (option_to_list (told_at t id))
 patch_told t id q p before first after emitted patch one two =
     let waits = flat_map dependency_text (some_below id (dependency_at t q)) in
     two ∙ (ap (λ (text : List ℕ). text ++ waits) one ∙ (append_assoc before (patch_line id q) waits
-    ∙ ap (λ (text : List ℕ). before ++ text) (sym (ap (λ (o : Option ToldPatch). flat_map told_text (option_to_list o)) (told_is t id q p emitted patch) ∙ append-nil (patch_line id q ++ waits)))))
+    ∙ ap (λ (text : List ℕ). before ++ text) (sym (ap (λ (o : Option ToldPatch). flat_map told_text (option_to_list o))
+    (told_is t id q p emitted patch) ∙ append-nil (patch_line id q ++ waits)))))
 
 -- ---- a dependency
 
 -- where there is no reason, nothing is told
-pub none_told : (t : TracedPatches) (q p : Emitted) (earlier n : ℕ) (before : List ℕ) → slice_get t.emitted earlier ≡ Some p → depends t.rules t.links q p ≡ not (n == 0) → n ≡ 0 → before ≡ before ++ flat_map dependency_text (option_to_list (dependency_at t q earlier))
+pub none_told : (t : TracedPatches) (q p : Emitted) (earlier n : ℕ) (before : List ℕ)
+    → slice_get t.emitted earlier ≡ Some p → depends t.rules t.links q p ≡ not (n == 0) → n ≡ 0
+    → before ≡ before ++ flat_map dependency_text (option_to_list (dependency_at t q earlier))
 none_told t q p earlier n before at some none =
-    sym (append-nil before) ∙ ap (λ (o : Option Dependency). before ++ flat_map dependency_text (option_to_list o)) (sym (no_dependency t q p earlier n at some none))
+    sym (append-nil before) ∙ ap (λ (o : Option Dependency). before ++ flat_map dependency_text (option_to_list o))
+    (sym (no_dependency t q p earlier n at some none))
 
 -- where there are some, they are told
-pub some_told : (t : TracedPatches) (q p : Emitted) (earlier n : ℕ) (texts : List (List ℕ)) (before one two after : List ℕ) → slice_get t.emitted earlier ≡ Some p → depends t.rules t.links q p ≡ not (n == 0) → 0 < n
-    → texts ≡ reasons t.rules t.links q p → one ≡ before ++ (codes "after " ++ decimal earlier ++ codes ": ") → two ≡ one ++ list_text texts → after ≡ two ++ codes "\n"
+pub some_told : (t : TracedPatches) (q p : Emitted) (earlier n : ℕ) (texts : List (List ℕ))
+    (before one two after : List ℕ) → slice_get t.emitted earlier ≡ Some p → depends t.rules t.links q p ≡ not (n == 0)
+    → 0 < n
+    → texts ≡ reasons t.rules t.links q p → one ≡ before ++ (codes "after " ++ decimal earlier ++ codes ": ")
+    → two ≡ one ++ list_text texts → after ≡ two ++ codes "\n"
     → after ≡ before ++ flat_map dependency_text (option_to_list (dependency_at t q earlier))
 some_told t q p earlier n texts before one two after at some any are first second third =
     third ∙ (ap (λ (text : List ℕ). text ++ codes "\n") (second ∙ ap (λ (text : List ℕ). text ++ list_text texts) first)
     ∙ (regroup before (codes "after " ++ decimal earlier ++ codes ": ") (list_text texts) (codes "\n")
-    ∙ ap (λ (o : Option Dependency). before ++ flat_map dependency_text (option_to_list o)) (sym (dependency_is t q p earlier n texts at some any are))))
+    ∙ ap (λ (o : Option Dependency). before ++ flat_map dependency_text (option_to_list o))
+    (sym (dependency_is t q p earlier n texts at some any are))))
   where
     regroup : (a b c d : List ℕ) → a ++ b ++ c ++ d ≡ a ++ ((b ++ c ++ d) ++ [])
     regroup a b c d = simp (append_assoc, append-nil)
 
 -- ---- reasons
 
-listed_push : (x : List ℕ) (xs : List (List ℕ)) (y : List ℕ) → list_text (x ∷ xs ++ y ∷ []) ≡ list_text (x ∷ xs) ++ (codes ", " ++ y)
+listed_push : (x : List ℕ) (xs : List (List ℕ)) (y : List ℕ)
+    → list_text (x ∷ xs ++ y ∷ []) ≡ list_text (x ∷ xs) ++ (codes ", " ++ y)
 listed_push x [] y = append_assoc x (codes ", ") y
-listed_push x (z ∷ zs) y = ap (λ (t : List ℕ). x ++ codes ", " ++ t) (listed_push z zs y) ∙ sym (append_assoc (x ++ codes ", ") (list_text (z ∷ zs)) (codes ", " ++ y))
+listed_push x (z ∷ zs) y = ap (λ (t : List ℕ). x ++ codes ", " ++ t) (listed_push z zs y)
+    ∙ sym (append_assoc (x ++ codes ", ") (list_text (z ∷ zs)) (codes ", " ++ y))
 
-listed_at : (xs : List (List ℕ)) (y : List ℕ) (at : ℕ) → at ≡ length xs → list_text (xs ++ y ∷ []) ≡ list_text xs ++ (gap_before at ++ y)
+listed_at : (xs : List (List ℕ)) (y : List ℕ) (at : ℕ) → at ≡ length xs
+    → list_text (xs ++ y ∷ []) ≡ list_text xs ++ (gap_before at ++ y)
 listed_at [] y at place = ap (λ (n : ℕ). gap_before n ++ y) (sym place)
-listed_at (x ∷ xs) y at place = listed_push x xs y ∙ ap (λ (n : ℕ). list_text (x ∷ xs) ++ (gap_before n ++ y)) (sym place)
+listed_at (x ∷ xs) y at place = listed_push x xs y ∙ ap (λ (n : ℕ). list_text (x ∷ xs) ++ (gap_before n ++ y))
+    (sym place)
 
 pub gap_some : (at : ℕ) → 0 < at → gap_before at ≡ codes ", "
 gap_some zero some = absurd (omega arith)
@@ -67,12 +85,15 @@ pub gap_none : (at : ℕ) → at ≤ 0 → gap_before at ≡ []
 gap_none zero none = refl
 gap_none (suc n) none = absurd (omega arith)
 
-pub reason_told : {X : Type 0} (f : X → List ℕ) (xs : List X) (i : ℕ) (d : X) (before all after : List ℕ) → i < length xs → all ≡ before ++ list_text (map f (take i xs)) → after ≡ all ++ gap_before i ++ f (get_or xs i d) → after ≡ before ++ list_text (map f (take (i + 1) xs))
+pub reason_told : {X : Type 0} (f : X → List ℕ) (xs : List X) (i : ℕ) (d : X) (before all after : List ℕ)
+    → i < length xs → all ≡ before ++ list_text (map f (take i xs)) → after ≡ all ++ gap_before i ++ f (get_or xs i d)
+    → after ≡ before ++ list_text (map f (take (i + 1) xs))
 reason_told {X = X} f xs i d before all after within told more =
     more ∙ (ap (λ (t : List ℕ). t ++ gap_before i ++ f (get_or xs i d)) told
     ∙ (regroup before (list_text (map f (take i xs))) (gap_before i) (f (get_or xs i d))
     ∙ ap (λ (t : List ℕ). before ++ t) (sym (ap (λ (ys : List X). list_text (map f ys)) (take_more xs i d within)
-    ∙ (ap list_text (map-append f (take i xs) (get_or xs i d ∷ [])) ∙ listed_at (map f (take i xs)) (f (get_or xs i d)) i (place f xs i within))))))
+    ∙ (ap list_text (map-append f (take i xs) (get_or xs i d ∷ []))
+    ∙ listed_at (map f (take i xs)) (f (get_or xs i d)) i (place f xs i within))))))
   where
     regroup : (a b c d : List ℕ) → a ++ b ++ c ++ d ≡ a ++ (b ++ (c ++ d))
     regroup a b c d = simp append_assoc

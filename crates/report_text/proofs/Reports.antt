@@ -1,5 +1,6 @@
 -- Reports, one set or fault after another.
-use Rattle.std.proofs.Common.{◌≡◌, ℕ, ◌+◌, ◌<◌, List, [], ◌∷◌, ◌++◌, length, get_or, take, codes, Bool, true, false, Some, refl, sym, subst, ap, ap₂, ◌∙◌, append_assoc}
+use Rattle.std.proofs.Common.{◌≡◌, ℕ, ◌+◌, ◌<◌, List, [], ◌∷◌, ◌++◌, length, get_or, take, codes, Bool, true, false}
+use Rattle.std.proofs.Common.{Some, refl, sym, subst, ap, ap₂, ◌∙◌, append_assoc}
 use Rattle.std.specs.List.{flat_map}
 use Rattle.std.proofs.lemmas.List.{append-nil, take_more}
 use Rattle.std.proofs.lemmas.List.Concat.{flat_map-append}
@@ -30,44 +31,66 @@ use Rattle.section_lines.specs.Runs.{WritesRuns}
 use Rattle.report_text.proofs.JoinedParts.{sections_after}
 
 -- one item's text more
-item_more : {X : Type 0} (form : X → List ℕ) (items : List X) (item : X) (head text after : List ℕ) → text ≡ head ++ flat_map form items → after ≡ text ++ form item → after ≡ head ++ flat_map form (items ++ item ∷ [])
+item_more : {X : Type 0} (form : X → List ℕ) (items : List X) (item : X) (head text after : List ℕ)
+    → text ≡ head ++ flat_map form items → after ≡ text ++ form item
+    → after ≡ head ++ flat_map form (items ++ item ∷ [])
 item_more form items item head text after so_far more =
     more ∙ (ap (λ (t : List ℕ). t ++ form item) so_far ∙ (append_assoc head (flat_map form items) (form item)
-    ∙ ap (λ (t : List ℕ). head ++ t) (sym (flat_map-append form items (item ∷ []) ∙ ap (λ (t : List ℕ). flat_map form items ++ t) (append-nil (form item))))))
+    ∙ ap (λ (t : List ℕ). head ++ t) (sym (flat_map-append form items (item ∷ [])
+    ∙ ap (λ (t : List ℕ). flat_map form items ++ t) (append-nil (form item))))))
 
 -- the lines of a set more
-pub section_more : (detail : Detail) (base : Disk) (patches : List Patch) (sets : List ℕ) (i : ℕ) (head text after : List ℕ) → i < length sets → WritesSections detail base patches (take i sets) head text
-    → WritesSections detail base patches (get_or sets i 0 ∷ []) text after → WritesSections detail base patches (take (i + 1) sets) head after
+pub section_more : (detail : Detail) (base : Disk) (patches : List Patch) (sets : List ℕ) (i : ℕ)
+    (head text after : List ℕ) → i < length sets → WritesSections detail base patches (take i sets) head text
+    → WritesSections detail base patches (get_or sets i 0 ∷ []) text after
+    → WritesSections detail base patches (take (i + 1) sets) head after
 section_more detail base patches sets i head text after within so_far one =
     subst (λ (xs : List ℕ). WritesSections detail base patches xs head after) (sym (take_more sets i 0 within))
     (sections_after detail base patches (take i sets) (get_or sets i 0 ∷ []) head text after so_far one)
 
 -- the lines of one set, written part by part
-pub section_one : {A : Type 0} (detail : Detail) (base : Disk) (patches : List Patch) (set n : ℕ) (o : Outcome A) (old first second third new : List ℕ) → n ≡ length patches → IsOutcome detail base patches set o
-    → first ≡ old ++ line (codes "set" ++ numbers (ids_of n set)) → WritesRuns patches set first second → third ≡ second ++ replay_text (told_replay o.replay) → new ≡ third ++ flat_map fault_line o.faults.items
+pub section_one : {A : Type 0} (detail : Detail) (base : Disk) (patches : List Patch) (set n : ℕ) (o : Outcome A)
+    (old first second third new : List ℕ) → n ≡ length patches → IsOutcome detail base patches set o
+    → first ≡ old ++ line (codes "set" ++ numbers (ids_of n set)) → WritesRuns patches set first second
+    → third ≡ second ++ replay_text (told_replay o.replay) → new ≡ third ++ flat_map fault_line o.faults.items
     → WritesSections detail base patches (set ∷ []) old new
 section_one detail base patches set n o old first second third new number is heads runs replays ends = record {
   sections = section ∷ [];
   are = (runs.writes, [], runs.runs, refl, refl);
-  whole = ends ∙ (ap (λ (t : List ℕ). t ++ flat_map fault_line o.faults.items) (replays ∙ ap (λ (t : List ℕ). t ++ replay_text (told_replay o.replay)) (runs.whole ∙ ap (λ (t : List ℕ). t ++ flat_map (write_text (length patches)) runs.writes) heads))
-      ∙ (ap (λ (k : ℕ). old ++ line (codes "set" ++ numbers (ids_of k set)) ++ flat_map (write_text (length patches)) runs.writes ++ replay_text (told_replay o.replay) ++ flat_map fault_line o.faults.items) number
-      ∙ (pieces old (line (codes "set" ++ numbers (ids_of (length patches) set))) (flat_map (write_text (length patches)) runs.writes) (replay_text (told_replay o.replay)) (flat_map fault_line o.faults.items)
+  whole = ends ∙ (ap (λ (t : List ℕ). t ++ flat_map fault_line o.faults.items)
+      (replays ∙ ap (λ (t : List ℕ). t ++ replay_text (told_replay o.replay))
+      (runs.whole ∙ ap (λ (t : List ℕ). t ++ flat_map (write_text (length patches)) runs.writes) heads))
+      ∙ (ap (λ (k : ℕ). old ++ line (codes "set" ++ numbers (ids_of k set)) ++ flat_map (write_text (length patches))
+      runs.writes ++ replay_text (told_replay o.replay) ++ flat_map fault_line o.faults.items) number
+      ∙ (pieces old (line (codes "set" ++ numbers (ids_of (length patches) set)))
+      (flat_map (write_text (length patches)) runs.writes) (replay_text (told_replay o.replay))
+      (flat_map fault_line o.faults.items)
       ∙ ap (λ (s : report.Section). old ++ flat_map (section_text (length patches)) (s ∷ [])) (sym same))));
 }
   where
     section : report.Section
-    section = record { set = set; writes = runs.writes; replay = replay_of detail.explain (image_of base patches set); found = faults_under detail.kept (image_after_replay (image_of base patches set)) }
+    section = record {
+      set = set;
+      writes = runs.writes;
+      replay = replay_of detail.explain (image_of base patches set);
+      found = faults_under detail.kept (image_after_replay (image_of base patches set));
+    }
 
     told : report.Section
     told = record { set = set; writes = runs.writes; replay = told_replay o.replay; found = o.faults.items }
 
     same : section ≡ told
-    same = ap₂ (λ r f. let s : report.Section = record { set = set; writes = runs.writes; replay = r; found = f } in s) (sym is.replay) (sym is.faults)
+    same = ap₂ (λ r f. let s : report.Section = record { set = set; writes = runs.writes; replay = r; found = f } in s)
+        (sym is.replay) (sym is.faults)
 
     pieces : (a b c d e : List ℕ) → a ++ b ++ c ++ d ++ e ≡ a ++ ((b ++ c ++ d ++ e) ++ [])
     pieces a b c d e = simp (append_assoc, append-nil)
 
-pub fault_more : {A : Type 0} (detail : Detail) (base : Disk) (patches : List Patch) (rows : List FaultRow) (i n : ℕ) (d : FaultRow) (head text after : List ℕ) (s : code.Section A) → i < length rows → n ≡ length patches → WritesFaults detail base patches (take i rows) head text → IsSection detail base patches (get_or rows i d).first s → after ≡ text ++ told_fault_text n (record { row = get_or rows i d; first = section_of s }) → WritesFaults detail base patches (take (i + 1) rows) head after
+pub fault_more : {A : Type 0} (detail : Detail) (base : Disk) (patches : List Patch) (rows : List FaultRow) (i n : ℕ)
+    (d : FaultRow) (head text after : List ℕ) (s : code.Section A) → i < length rows → n ≡ length patches
+    → WritesFaults detail base patches (take i rows) head text → IsSection detail base patches (get_or rows i d).first s
+    → after ≡ text ++ told_fault_text n (record { row = get_or rows i d; first = section_of s })
+    → WritesFaults detail base patches (take (i + 1) rows) head after
 fault_more detail base patches rows i n d head text after s within number so_far is more = record {
   told = so_far.told ++ one ∷ [];
   of_rows = rows_more rows i d so_far.told s within so_far.of_rows;
@@ -80,20 +103,30 @@ fault_more detail base patches rows i n d head text after s within number so_far
     one = record { row = get_or rows i d; first = section_of s }
 
 -- the text behind the head, where patches are explained
-pub explained : {A : Type 0} (report : Report A) (explain : Bool) (first second : List ℕ) → explain ≡ true → second ≡ first ++ explanation_text (Some (explanation_by report.base.now report.traced.now)) → second ≡ first ++ explanation_text (when explain (explanation_by report.base.now report.traced.now))
-explained report explain first second is more = more ∙ ap (λ (e : Bool). first ++ explanation_text (when e (explanation_by report.base.now report.traced.now))) (sym is)
+pub explained : {A : Type 0} (report : Report A) (explain : Bool) (first second : List ℕ) → explain ≡ true
+    → second ≡ first ++ explanation_text (Some (explanation_by report.base.now report.traced.now))
+    → second ≡ first ++ explanation_text (when explain (explanation_by report.base.now report.traced.now))
+explained report explain first second is more = more ∙ ap
+    (λ (e : Bool). first ++ explanation_text (when e (explanation_by report.base.now report.traced.now))) (sym is)
 
-pub unexplained : {A : Type 0} (report : Report A) (explain : Bool) (first second : List ℕ) → explain ≡ false → second ≡ first → second ≡ first ++ explanation_text (when explain (explanation_by report.base.now report.traced.now))
-unexplained report explain first second is same = same ∙ (sym (append-nil first) ∙ ap (λ (e : Bool). first ++ explanation_text (when e (explanation_by report.base.now report.traced.now))) (sym is))
+pub unexplained : {A : Type 0} (report : Report A) (explain : Bool) (first second : List ℕ) → explain ≡ false
+    → second ≡ first → second ≡ first ++ explanation_text
+    (when explain (explanation_by report.base.now report.traced.now))
+unexplained report explain first second is same = same
+    ∙ (sym (append-nil first) ∙ ap (λ (e : Bool). first ++ explanation_text
+    (when e (explanation_by report.base.now report.traced.now))) (sym is))
 
-pub whole_text : {A : Type 0} (report : Report A) (n : ℕ) (body : Body) (empty first second last : List ℕ) → empty ≡ [] → n ≡ length report.traced.now.patches
+pub whole_text : {A : Type 0} (report : Report A) (n : ℕ) (body : Body) (empty first second last : List ℕ) → empty ≡ []
+    → n ≡ length report.traced.now.patches
     → first ≡ empty ++ head_text report.settings.now n report.closed report.failing
-    → second ≡ first ++ explanation_text (when report.settings.now.explain (explanation_by report.base.now report.traced.now))
+    → second ≡ first ++ explanation_text (when report.settings.now.explain
+    (explanation_by report.base.now report.traced.now))
     → last ≡ second ++ body_text (length report.traced.now.patches) body
     → last ≡ text_report report.settings.now (whole_of report body)
 unfolding text_report
 whole_text report n body empty first second last none number heads explains bodies =
     bodies ∙ ap (λ (t : List ℕ). t ++ body_text (length report.traced.now.patches) body)
-    (explains ∙ ap (λ (t : List ℕ). t ++ explanation_text (when report.settings.now.explain (explanation_by report.base.now report.traced.now)))
+    (explains ∙ ap (λ (t : List ℕ). t ++ explanation_text
+    (when report.settings.now.explain (explanation_by report.base.now report.traced.now)))
     (heads ∙ (ap (λ (t : List ℕ). t ++ head_text report.settings.now n report.closed report.failing) none
     ∙ ap (λ (k : ℕ). head_text report.settings.now k report.closed report.failing) number)))

@@ -12,7 +12,9 @@ usage_named n rule (TooMany pairs) = four rule (codes " pairs ") (decimal pairs)
     four : (a b c d e : List ℕ) → a ++ b ++ c ++ d ++ e ≡ a ++ (b ++ c ++ d ++ e)
     four a b c d e = simp append_assoc
 usage_named n rule (Used pairs w) =
-    eight rule (codes " pairs ") (decimal pairs) (codes " closed ") (decimal w.closed) (codes " failing ") (decimal w.failing) (codes "\n") (first_text n w.first)
+    eight rule (codes " pairs ") (decimal pairs) (codes " closed ") (decimal w.closed) (codes " failing ")
+    (decimal w.failing) (codes "\n") (first_text n w.first)
   where
-    eight : (a b c d e f g h i : List ℕ) → a ++ b ++ c ++ d ++ e ++ f ++ g ++ h ++ i ≡ a ++ (b ++ c ++ d ++ e ++ f ++ g ++ h ++ i)
+    eight : (a b c d e f g h i : List ℕ) → a ++ b ++ c ++ d ++ e ++ f ++ g ++ h ++ i ≡ a
+        ++ (b ++ c ++ d ++ e ++ f ++ g ++ h ++ i)
     eight a b c d e f g h i = simp append_assoc

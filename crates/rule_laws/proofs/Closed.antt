@@ -1,5 +1,6 @@
 -- The closed and the failing sets under more rules.
-use Rattle.std.proofs.Common.{◌≡◌, ℕ, zero, suc, ◌<◌, List, [], ◌∷◌, length, map, Some, arith, refl, sym, ◌∙◌, ap, subst}
+use Rattle.std.proofs.Common.{◌≡◌, ℕ, zero, suc, ◌<◌, List, [], ◌∷◌, length, map, Some, arith, refl, sym, ◌∙◌, ap}
+use Rattle.std.proofs.Common.{subst}
 use Rattle.std.specs.Prelude.{Option, slice_get}
 use Rattle.std.proofs.lemmas.List.{length-map}
 use Rattle.patch_sets.specs.Closed.{IsClosed}
@@ -20,15 +21,20 @@ get_some [] i below = absurd (omega arith)
 get_some (x ∷ xs) zero below = (x, refl)
 get_some (x ∷ xs) (suc i) below = get_some xs i (omega arith)
 
-length-deps : (rules : List Rule) (base : Disk) (s : Tracing) (patches : List Patch) → IsGraphOf rules base s patches → length (deps_of patches) ≡ length s.emitted
+length-deps : (rules : List Rule) (base : Disk) (s : Tracing) (patches : List Patch) → IsGraphOf rules base s patches
+    → length (deps_of patches) ≡ length s.emitted
 length-deps rules base s patches graph =
     let all : length (deps_of patches) ≡ length patches = length-map patches (λ (p : Patch). p.deps) in
-    let places : length (places_of patches) ≡ length patches = length-map patches (λ (p : Patch). place p.block p.offset p.new.items) in
-    let emitted : length (map (λ (e : Emitted). e.place) s.emitted) ≡ length s.emitted = length-map s.emitted (λ (e : Emitted). e.place) in
-    let same : length (places_of patches) ≡ length (map (λ (e : Emitted). e.place) s.emitted) = ap (λ (ps : List Place). length ps) graph.places in
+    let places : length (places_of patches) ≡ length patches =
+    length-map patches (λ (p : Patch). place p.block p.offset p.new.items) in
+    let emitted : length (map (λ (e : Emitted). e.place) s.emitted) ≡ length s.emitted =
+    length-map s.emitted (λ (e : Emitted). e.place) in
+    let same : length (places_of patches) ≡ length (map (λ (e : Emitted). e.place) s.emitted) =
+    ap (λ (ps : List Place). length ps) graph.places in
     omega arith
 
-module _ (some all : List Rule) (base : Disk) (s : Tracing) (few more : List Patch) (set : ℕ) (among : AreAmong some all) (graph : IsGraphOf some base s few) (wider : IsGraphOf all base s more) where
+module _ (some all : List Rule) (base : Disk) (s : Tracing) (few more : List Patch) (set : ℕ)
+    (among : AreAmong some all) (graph : IsGraphOf some base s few) (wider : IsGraphOf all base s more) where
   pub closed_more : IsClosed (deps_of more) set → IsClosed (deps_of few) set
   closed_more closed =
       let short : length (deps_of few) ≡ length s.emitted = length-deps some base s few graph in
@@ -41,7 +47,8 @@ module _ (some all : List Rule) (base : Disk) (s : Tracing) (few more : List Pat
             let later = get_some s.emitted q (omega arith) in
             let earlier = get_some s.emitted p (omega arith) in
             let waits = (graph.exactly q p later.0 earlier.0 before later.1 earlier.1).0 dep in
-            closed.whole q p has ((wider.exactly q p later.0 earlier.0 before later.1 earlier.1).1 (depends-among some all s.links later.0 earlier.0 among waits));
+            closed.whole q p has ((wider.exactly q p later.0 earlier.0 before later.1 earlier.1).1
+            (depends-among some all s.links later.0 earlier.0 among waits));
       }
 
   pub failing_more : IsFailing base more set → IsFailing base few set
@@ -49,7 +56,8 @@ module _ (some all : List Rule) (base : Disk) (s : Tracing) (few more : List Pat
       let same : places_of few ≡ places_of more = graph.places ∙ sym wider.places in
       record {
         closed = closed_more failing.closed;
-        unclean = λ clean. failing.unclean (subst (λ (ps : List Place). IsClean (image_after_replay (image_from 0 base ps set))) same clean);
+        unclean = λ clean. failing.unclean (subst (λ (ps : List Place).
+            IsClean (image_after_replay (image_from 0 base ps set))) same clean);
       }
 
   pub failing_under_more : (kept : Option ℕ) → IsFailingUnder kept base more set → IsFailingUnder kept base few set
@@ -57,5 +65,6 @@ module _ (some all : List Rule) (base : Disk) (s : Tracing) (few more : List Pat
       let same : places_of few ≡ places_of more = graph.places ∙ sym wider.places in
       record {
         closed = closed_more failing.closed;
-        unclean = λ clean. failing.unclean (subst (λ (ps : List Place). IsCleanUnder kept (image_after_replay (image_from 0 base ps set))) same clean);
+        unclean = λ clean. failing.unclean (subst (λ (ps : List Place).
+            IsCleanUnder kept (image_after_replay (image_from 0 base ps set))) same clean);
       }

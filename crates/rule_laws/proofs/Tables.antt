@@ -4,7 +4,8 @@ use Rattle.std.specs.Prelude.{◌==◌, Option, Some, None, slice_get}
 use Rattle.std.specs.List.{list_all, list_any}
 use Rattle.crash_model.specs.Rules.{has_part, rules_of}
 use Rattle.crash_model.specs.Trace.{Emitted, applies}
-use Rattle.crash_model.specs.declared.plans.Role.TheVariants.{InodeInit, EntrySet, EntryClear, MapSet, MapClear, InitFile, InitDir, Ptr, LinkUp, LinkDown, InodeFree}
+use Rattle.crash_model.specs.declared.plans.Role.TheVariants.{InodeInit, EntrySet, EntryClear, MapSet, MapClear}
+use Rattle.crash_model.specs.declared.plans.Role.TheVariants.{InitFile, InitDir, Ptr, LinkUp, LinkDown, InodeFree}
 use Rattle.crash_model.specs.declared.rules.Part.{Part}
 use Rattle.crash_model.specs.declared.rules.Part.TheVariants.{InPlace, FileData, Copy, Commit, Done}
 use Rattle.crash_model.specs.declared.rules.Rule.{Rule}
@@ -18,7 +19,8 @@ use Rattle.rule_laws.specs.Tables.{row, are_in}
 
 parts : List Part
 parts =
-    InPlace InodeInit ∷ InPlace EntrySet ∷ InPlace EntryClear ∷ InPlace MapSet ∷ InPlace MapClear ∷ InPlace InitFile ∷ InPlace InitDir ∷ InPlace Ptr
+    InPlace InodeInit ∷ InPlace EntrySet ∷ InPlace EntryClear ∷ InPlace MapSet ∷ InPlace MapClear ∷ InPlace InitFile
+    ∷ InPlace InitDir ∷ InPlace Ptr
     ∷ InPlace LinkUp ∷ InPlace LinkDown ∷ InPlace InodeFree ∷ FileData ∷ Copy ∷ Commit ∷ Done ∷ []
 
 at : (part : Part) → (k : ℕ) × (slice_get parts k ≡ Some part)
@@ -47,9 +49,11 @@ and_right : (a b : Bool) → (a && b) ≡ true → b ≡ true
 and_right true b h = h
 and_right false b h = absurd (cc)
 
-all_at : {X : Type 0} (test : X → Bool) (xs : List X) (k : ℕ) (x : X) → list_all test xs ≡ true → slice_get xs k ≡ Some x → test x ≡ true
+all_at : {X : Type 0} (test : X → Bool) (xs : List X) (k : ℕ) (x : X) → list_all test xs ≡ true
+    → slice_get xs k ≡ Some x → test x ≡ true
 all_at test [] k x all is = absurd (cc)
-all_at test (y ∷ ys) zero x all is = let same : y ≡ x = cc in let here : test y ≡ true = and_left (test y) (list_all test ys) all in cc
+all_at test (y ∷ ys) zero x all is = let same : y ≡ x = cc in let here : test y ≡ true =
+    and_left (test y) (list_all test ys) all in cc
 all_at test (y ∷ ys) (suc k) x all is = all_at test ys k x (and_right (test y) (list_all test ys) all) is
 
 -- ---- tests of how operations stand
@@ -63,7 +67,8 @@ in_table is_same is_next None = false
 in_table is_same is_next (Some scope) = scoped is_same is_next scope
 
 abbrev by_rules : Module → Part → Part → Bool → Bool → Bool
-by_rules kind a b is_same is_next = list_any (λ (rule : Rule). has_part rule.later a && (has_part rule.earlier b && scoped is_same is_next rule.scope)) (rules_of kind)
+by_rules kind a b is_same is_next = list_any (λ (rule : Rule). has_part rule.later a
+    && (has_part rule.earlier b && scoped is_same is_next rule.scope)) (rules_of kind)
 
 abbrev agree : Bool → Bool → Bool
 agree true b = b
@@ -100,25 +105,31 @@ from_agree true b h = sym h
 from_agree false true h = h
 from_agree false false h = refl
 
-by_parts : (kind : Module) (a b : Part) (is_same is_next : Bool) → by_rules kind a b is_same is_next ≡ in_table is_same is_next (row kind a b)
+by_parts : (kind : Module) (a b : Part) (is_same is_next : Bool)
+    → by_rules kind a b is_same is_next ≡ in_table is_same is_next (row kind a b)
 by_parts kind a b is_same is_next =
-    let of_a = all_at (λ x. list_all (agree_at kind is_same is_next x) parts) parts (at a).0 a (tables kind is_same is_next) (at a).1 in
-    from_agree (by_rules kind a b is_same is_next) (in_table is_same is_next (row kind a b)) (all_at (agree_at kind is_same is_next a) parts (at b).0 b of_a (at b).1)
+    let of_a = all_at (λ x. list_all (agree_at kind is_same is_next x) parts) parts (at a).0 a
+    (tables kind is_same is_next) (at a).1 in
+    from_agree (by_rules kind a b is_same is_next) (in_table is_same is_next (row kind a b))
+    (all_at (agree_at kind is_same is_next a) parts (at b).0 b of_a (at b).1)
 
 -- ---- the numbers of operations
 
-in_numbers : (found : Option Scope) (later earlier : ℕ) → in_table (later == earlier) (later == earlier + 1) found ≡ are_in found later earlier
+in_numbers : (found : Option Scope) (later earlier : ℕ)
+    → in_table (later == earlier) (later == earlier + 1) found ≡ are_in found later earlier
 in_numbers None later earlier = refl
 in_numbers (Some Same) later earlier = refl
 in_numbers (Some Previous) later earlier = refl
 
-rules_numbers : (kind : Module) (q p : Emitted) → list_any (λ rule. applies rule q p) (rules_of kind) ≡ by_rules kind q.part p.part (q.turn == p.turn) (q.turn == p.turn + 1)
+rules_numbers : (kind : Module) (q p : Emitted) → list_any (λ rule. applies rule q p) (rules_of kind)
+    ≡ by_rules kind q.part p.part (q.turn == p.turn) (q.turn == p.turn + 1)
 rules_numbers Async q p = refl
 rules_numbers Soft q p = refl
 rules_numbers Meta q p = refl
 rules_numbers Full q p = refl
 
-pub rules_are_rows : (kind : Module) (q p : Emitted) → list_any (λ rule. applies rule q p) (rules_of kind) ≡ are_in (row kind q.part p.part) q.turn p.turn
+pub rules_are_rows : (kind : Module) (q p : Emitted) → list_any (λ rule. applies rule q p) (rules_of kind)
+    ≡ are_in (row kind q.part p.part) q.turn p.turn
 rules_are_rows kind q p =
     rules_numbers kind q p
     ∙ by_parts kind q.part p.part (q.turn == p.turn) (q.turn == p.turn + 1)

@@ -1,12 +1,14 @@
 -- Verbs and acts by their words.
-use Rattle.std.proofs.Common.{◌≡◌, ◌≢◌, ℕ, inl, inr, Bool, true, cond, Option, Some, None, List, [], ◌∷◌, ◌++◌, map, codes, refl, sym, ap, ◌∙◌, subst, arith}
+use Rattle.std.proofs.Common.{◌≡◌, ◌≢◌, ℕ, inl, inr, Bool, true, cond, Option, Some, None, List, [], ◌∷◌, ◌++◌, map}
+use Rattle.std.proofs.Common.{codes, refl, sym, ap, ◌∙◌, subst, arith}
 use Rattle.std.specs.List.{All, Contains, list_all}
 use Rattle.std.specs.Str.{bytes_eq}
 use Rattle.std.proofs.lemmas.Bool.{and_parts, false≢true}
 use Rattle.std.proofs.lemmas.Bool.Decides.{nat_tests}
 use Rattle.std.proofs.lemmas.List.Elements.{All-head, All-tail, All-nil, All-cons}
 use Rattle.crash_model.specs.Names.{IsName, IsGroupName, is_name_byte, is_group_byte}
-use Rattle.crash_model.specs.Script.{AreWords, IsPath, path_text, Operand, PathOperand, GroupOperand, said, operand_text, AreLawful, words_of, Fits, Reads}
+use Rattle.crash_model.specs.Script.{AreWords, IsPath, path_text, Operand, PathOperand, GroupOperand, said}
+use Rattle.crash_model.specs.Script.{operand_text, AreLawful, words_of, Fits, Reads}
 use Rattle.crash_model.specs.Script as script
 use Rattle.crash_model.specs.declared.names.Path.{Path}
 use Rattle.crash_model.specs.declared.operations.Op.TheVariants as op
@@ -15,14 +17,16 @@ use Rattle.crash_model.specs.declared.steps.Act.TheVariants as act
 use Rattle.crash_model.proofs.Cuts.{Lacks}
 use Rattle.crash_model.proofs.Paths.{slash_text, names_of, names_are}
 use Rattle.script_text.specs.declared.verb.Verb.{Verb}
-use Rattle.script_text.specs.declared.verb.Verb.TheVariants.{Create, Write, Link, Unlink, Rename, Mkdir, Rmdir, Group, End, Depend, Start}
+use Rattle.script_text.specs.declared.verb.Verb.TheVariants.{Create, Write, Link, Unlink, Rename, Mkdir, Rmdir, Group}
+use Rattle.script_text.specs.declared.verb.Verb.TheVariants.{End, Depend, Start}
 use Rattle.script_text.specs.Words.{spelling, operands_of}
 use Rattle.script_text.proofs.Cuts.{lacks_none}
 use Rattle.script_text.proofs.Spaces.{words_once}
 
 -- ---- the words of an act have no space
 
-plain_lacks : (passes : ℕ → Bool) → ((c : ℕ) → passes c ≡ true → c ≢ 32) → (word : List ℕ) → list_all passes word ≡ true → Lacks 32 word
+plain_lacks : (passes : ℕ → Bool) → ((c : ℕ) → passes c ≡ true → c ≢ 32) → (word : List ℕ) → list_all passes word ≡ true
+    → Lacks 32 word
 plain_lacks passes no_space [] all = tt
 plain_lacks passes no_space (c ∷ cs) all =
     let both = and_parts (passes c) (list_all passes cs) all in
@@ -41,7 +45,11 @@ lacks-append s (x ∷ xs) ys one two = (one.0, lacks-append s xs ys one.1 two)
 slashed_lacks : (names : List (List ℕ)) → All IsName names → Lacks 32 (slash_text names)
 slashed_lacks [] are = tt
 slashed_lacks (n ∷ ns) are =
-    lacks-append 32 (47 ∷ n) (slash_text ns) ((λ e. false≢true (cc)), plain_lacks is_name_byte name_no_space n (All-head IsName n ns are).plain) (slashed_lacks ns (All-tail IsName n ns are))
+    lacks-append 32 (47 ∷ n) (slash_text ns) (
+      (λ e. false≢true (cc)),
+      plain_lacks is_name_byte name_no_space n (All-head IsName n ns are).plain,
+    )
+    (slashed_lacks ns (All-tail IsName n ns are))
 
 path_plain : (path : Path) → IsPath path → ¬ (Contains (path_text path) 32)
 path_plain path is = lacks_none 32 (path_text path) (slashed_lacks (names_of path) (names_are path is))
@@ -89,7 +97,8 @@ pub verb_once : (verb other : Verb) → spelling verb ≡ spelling other → ver
 verb_once verb other same = let found = sym (spelling_of verb).0 ∙ (ap verb_of same ∙ (spelling_of other).0) in cc
 
 verb_plain : (verb : Verb) → IsPlain (spelling verb)
-verb_plain verb = lacks_none 32 (spelling verb) (plain_lacks is_name_byte name_no_space (spelling verb) (spelling_of verb).1)
+verb_plain verb = lacks_none 32 (spelling verb) (plain_lacks is_name_byte name_no_space (spelling verb)
+    (spelling_of verb).1)
 
 -- the verb of an act has its first word and takes the same operands, and is not that of the start line
 abbrev pub HasVerb : Act → Type 0

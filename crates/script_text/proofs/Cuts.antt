@@ -10,4 +10,7 @@ lacks_none s (x ∷ xs) lacks (suc k, below, same) = lacks_none s xs lacks.1 (k,
 
 pub none_lacks : (s : ℕ) (xs : List ℕ) → ¬ (Contains xs s) → Lacks s xs
 none_lacks s [] none = tt
-none_lacks s (x ∷ xs) none = (λ same. none (0, omega arith, same), none_lacks s xs (λ (k, below, same). none (suc k, omega arith, same)))
+none_lacks s (x ∷ xs) none = (
+  λ same. none (0, omega arith, same),
+  none_lacks s xs (λ (k, below, same). none (suc k, omega arith, same)),
+)

@@ -1,5 +1,6 @@
 -- Lines by their words: what they say, and why they are refused.
-use Rattle.std.proofs.Common.{◌≡◌, ◌≢◌, ℕ, ◌≤◌, ◌<◌, ◌↔◌, IsTrue, Bool, false, Option, Some, None, suc, List, [], ◌∷◌, length, codes, refl, sym, ap, ◌∙◌, subst, arith}
+use Rattle.std.proofs.Common.{◌≡◌, ◌≢◌, ℕ, ◌≤◌, ◌<◌, ◌↔◌, IsTrue, Bool, false, Option, Some, None, suc, List, [], ◌∷◌}
+use Rattle.std.proofs.Common.{length, codes, refl, sym, ap, ◌∙◌, subst, arith}
 use Rattle.std.specs.Str.{IsUtf8}
 use Rattle.std.proofs.lemmas.Bool.{false≢true}
 use Rattle.crash_model.specs.Lists.{join_of}
@@ -12,7 +13,8 @@ use Rattle.script_text.specs.declared.line.LineFault.{LineFault}
 use Rattle.script_text.specs.declared.line.LineFault.TheVariants.{BadUtf8, BadLine, BadPath}
 use Rattle.script_text.specs.declared.verb.Verb.{Verb}
 use Rattle.script_text.specs.declared.verb.Verb.TheVariants.{Link, Rename, Depend, Start}
-use Rattle.script_text.specs.Words.{some_act, form, spelling, operands_of, IsNoVerb, SaysWords, SaysLine, IsOperandFault, IsLineFault}
+use Rattle.script_text.specs.Words.{some_act, form, spelling, operands_of, IsNoVerb, SaysWords, SaysLine}
+use Rattle.script_text.specs.Words.{IsOperandFault, IsLineFault}
 use Rattle.script_text.proofs.Acts.{verb_once, verb_of_act, start_words}
 use Rattle.script_text.proofs.Spaces.{words_once}
 
@@ -37,7 +39,8 @@ fits_length (GroupOperand a ∷ os) (w ∷ ws) fits = ap (λ (n : ℕ). suc n) (
 
 -- text whose words fit no verb
 bad_line : (text : List ℕ) → IsUtf8 text → ¬ (IsSkipped text)
-    → ((verb : Verb) (words : List (List ℕ)) → AreWords text (spelling verb ∷ words) → ¬ (Fits (operands_of verb) words))
+    → ((verb : Verb) (words : List (List ℕ)) → AreWords text (spelling verb ∷ words)
+    → ¬ (Fits (operands_of verb) words))
     → IsLineFault text BadLine
 bad_line text utf8 says none = (utf8, says, no_start, no_act)
   where
@@ -50,29 +53,36 @@ bad_line text utf8 says none = (utf8, says, no_start, no_act)
         let cut = subst (λ (first : List ℕ). AreWords text (first ∷ words)) verb.1 form.cut in
         none verb.0 words cut (verb.2 words form.fits)
 
-pub too_many_words : (text : List ℕ) → IsUtf8 text → ¬ (IsSkipped text) → ((words : List (List ℕ)) → AreWords text words → 3 < length words) → IsLineFault text BadLine
+pub too_many_words : (text : List ℕ) → IsUtf8 text → ¬ (IsSkipped text)
+    → ((words : List (List ℕ)) → AreWords text words → 3 < length words) → IsLineFault text BadLine
 too_many_words text utf8 says many = bad_line text utf8 says none
   where
-    none : (verb : Verb) (words : List (List ℕ)) → AreWords text (spelling verb ∷ words) → ¬ (Fits (operands_of verb) words)
+    none : (verb : Verb) (words : List (List ℕ)) → AreWords text (spelling verb ∷ words)
+        → ¬ (Fits (operands_of verb) words)
     none verb words cut fits =
         let more = many (spelling verb ∷ words) cut in
         let lengths = fits_length (operands_of verb) words fits in
         let few = few_operands verb in
         omega arith
 
-pub no_verb : (text first : List ℕ) (words : List (List ℕ)) → IsUtf8 text → ¬ (IsSkipped text) → AreWords text (first ∷ words) → IsNoVerb first → IsLineFault text BadLine
+pub no_verb : (text first : List ℕ) (words : List (List ℕ)) → IsUtf8 text → ¬ (IsSkipped text)
+    → AreWords text (first ∷ words) → IsNoVerb first → IsLineFault text BadLine
 no_verb text first words utf8 says cut unknown = bad_line text utf8 says none
   where
-    none : (verb : Verb) (others : List (List ℕ)) → AreWords text (spelling verb ∷ others) → ¬ (Fits (operands_of verb) others)
+    none : (verb : Verb) (others : List (List ℕ)) → AreWords text (spelling verb ∷ others)
+        → ¬ (Fits (operands_of verb) others)
     none verb others is fits =
         let same = words_once text (first ∷ words) (spelling verb ∷ others) cut is in
         unknown verb (cc)
 
-pub refused_operands : (text first : List ℕ) (words : List (List ℕ)) (verb : Verb) (why : LineFault) → IsUtf8 text → ¬ (IsSkipped text) → AreWords text (first ∷ words) → first ≡ spelling verb → IsOperandFault (operands_of verb) words why → IsLineFault text why
+pub refused_operands : (text first : List ℕ) (words : List (List ℕ)) (verb : Verb) (why : LineFault) → IsUtf8 text
+    → ¬ (IsSkipped text) → AreWords text (first ∷ words) → first ≡ spelling verb
+    → IsOperandFault (operands_of verb) words why → IsLineFault text why
 refused_operands text first words verb BadUtf8 utf8 says cut spelt fault = absurd fault
 refused_operands text first words verb BadLine utf8 says cut spelt fault = bad_line text utf8 says none
   where
-    none : (other : Verb) (others : List (List ℕ)) → AreWords text (spelling other ∷ others) → ¬ (Fits (operands_of other) others)
+    none : (other : Verb) (others : List (List ℕ)) → AreWords text (spelling other ∷ others)
+        → ¬ (Fits (operands_of other) others)
     none other others is fits =
         let same = words_once text (first ∷ words) (spelling other ∷ others) cut is in
         let heads : first ≡ spelling other = cc in
@@ -92,7 +102,8 @@ refused_operands text first words verb BadPath utf8 says cut spelt fault = by_ac
         let cut_here = subst (λ (word : List ℕ). AreWords text (word ∷ words)) spelt cut in
         (utf8, says, (act, words, record { cut = cut_here; fits = fault.0 }, fault.1))
 
-pub says_line : (text : List ℕ) (words : List (List ℕ)) (l : Line) → AreWords text words → SaysWords words l → SaysLine text l
+pub says_line : (text : List ℕ) (words : List (List ℕ)) (l : Line) → AreWords text words → SaysWords words l
+    → SaysLine text l
 says_line text words Skipped cut says = absurd says
 says_line text words line.Start cut says = cut.whole ∙ ap (join_of 32) says
 says_line text words (Says act) cut says = (says.0, cut.whole ∙ ap (join_of 32) says.1)

@@ -1,10 +1,12 @@
 -- What the parts of a script make.
-use Rattle.std.proofs.Common.{◌≡◌, ◌≢◌, ℕ, zero, suc, ◌+◌, inl, inr, Option, Some, None, is_some, true, false, List, [], ◌∷◌, ◌++◌, length, length-append, codes, refl, sym, ap, ◌∙◌, subst, arith, append_assoc}
+use Rattle.std.proofs.Common.{◌≡◌, ◌≢◌, ℕ, zero, suc, ◌+◌, inl, inr, Option, Some, None, is_some, true, false, List, []}
+use Rattle.std.proofs.Common.{◌∷◌, ◌++◌, length, length-append, codes, refl, sym, ap, ◌∙◌, subst, arith, append_assoc}
 use Rattle.std.specs.List.{All, Contains, slice_get}
 use Rattle.std.proofs.lemmas.Bool.{false≢true}
 use Rattle.std.proofs.lemmas.List.Elements.{All-nil, All-cons, All-append}
 use denote.Ref.{Bor}
-use Rattle.crash_model.specs.Script.{AreLines, AreSteps, AreAccepted, IsFirstRefused, IsBadLine, IsScript, IsScriptRefusal, Line, Reads}
+use Rattle.crash_model.specs.Script.{AreLines, AreSteps, AreAccepted, IsFirstRefused, IsBadLine, IsScript}
+use Rattle.crash_model.specs.Script.{IsScriptRefusal, Line, Reads}
 use Rattle.crash_model.specs.Script as script
 use Rattle.crash_model.specs.declared.refusals.ScriptFault.{ScriptFault}
 use Rattle.crash_model.specs.declared.refusals.ScriptFault.TheVariants as fault
@@ -30,15 +32,20 @@ IsNoStart line = line ≢ start
 
 steps_accepted : (n : ℕ) (before : List (List ℕ)) (steps : List Step) → AreSteps n before steps → All IsAccepted before
 steps_accepted n [] steps says = All-nil IsAccepted
-steps_accepted n (l ∷ ls) steps (inl more) = All-cons IsAccepted l ls (script.Skipped, more.0) (steps_accepted (n + 1) ls steps more.1)
-steps_accepted n (l ∷ ls) steps (inr (act, rest, reads, more, whole)) = All-cons IsAccepted l ls (script.Says act, reads) (steps_accepted (n + 1) ls rest more)
+steps_accepted n (l ∷ ls) steps (inl more) = All-cons IsAccepted l ls (script.Skipped, more.0)
+    (steps_accepted (n + 1) ls steps more.1)
+steps_accepted n (l ∷ ls) steps (inr (act, rest, reads, more, whole)) =
+    All-cons IsAccepted l ls (script.Says act, reads) (steps_accepted (n + 1) ls rest more)
 
-pub steps_no_start : (n : ℕ) (before : List (List ℕ)) (steps : List Step) → AreSteps n before steps → All IsNoStart before
+pub steps_no_start : (n : ℕ) (before : List (List ℕ)) (steps : List Step) → AreSteps n before steps
+    → All IsNoStart before
 steps_no_start n [] steps says = All-nil IsNoStart
 steps_no_start n (l ∷ ls) steps (inl more) =
-    All-cons IsNoStart l ls (λ same. start_is_not_skipped (subst (λ (t : List ℕ). Reads t script.Skipped) same more.0)) (steps_no_start (n + 1) ls steps more.1)
+    All-cons IsNoStart l ls (λ same. start_is_not_skipped (subst (λ (t : List ℕ). Reads t script.Skipped) same more.0))
+    (steps_no_start (n + 1) ls steps more.1)
 steps_no_start n (l ∷ ls) steps (inr (act, rest, reads, more, whole)) =
-    All-cons IsNoStart l ls (λ same. start_is_no_act act (subst (λ (t : List ℕ). Reads t (script.Says act)) same reads)) (steps_no_start (n + 1) ls rest more)
+    All-cons IsNoStart l ls (λ same. start_is_no_act act (subst (λ (t : List ℕ). Reads t (script.Says act)) same reads))
+    (steps_no_start (n + 1) ls rest more)
 
 none_contained : (lines : List (List ℕ)) → All IsNoStart lines → ¬ (Contains lines start)
 none_contained lines none (k, below, same) = none k start below same
@@ -48,11 +55,13 @@ no_place [] i none here = cc
 no_place (l ∷ ls) zero none here = none 0 l (omega arith) (let e : l ≡ start = cc in e)
 no_place (l ∷ ls) (suc i) none here = no_place ls i (λ k d below. none (suc k) d (omega arith)) here
 
-pub one_place : (before behind : List (List ℕ)) (i : ℕ) → All IsNoStart before → All IsNoStart behind → slice_get (before ++ start ∷ behind) i ≡ Some start → i ≡ length before
+pub one_place : (before behind : List (List ℕ)) (i : ℕ) → All IsNoStart before → All IsNoStart behind
+    → slice_get (before ++ start ∷ behind) i ≡ Some start → i ≡ length before
 one_place [] behind zero none too here = refl
 one_place [] behind (suc i) none too here = absurd (no_place behind i too here)
 one_place (l ∷ ls) behind zero none too here = absurd (none 0 l (omega arith) (let e : l ≡ start = cc in e))
-one_place (l ∷ ls) behind (suc i) none too here = ap (λ (n : ℕ). suc n) (one_place ls behind i (λ k d below. none (suc k) d (omega arith)) too here)
+one_place (l ∷ ls) behind (suc i) none too here = ap (λ (n : ℕ). suc n)
+    (one_place ls behind i (λ k d below. none (suc k) d (omega arith)) too here)
 
 part_accepted : (n : ℕ) (before : List (List ℕ)) (steps : List Step) → AreSteps n before steps → AreAccepted before
 part_accepted n before steps says = record {
@@ -60,9 +69,11 @@ part_accepted n before steps says = record {
   one_start = λ i j here there. absurd (no_place before i (steps_no_start n before steps says) here);
 }
 
-pub parts_accepted : (n m : ℕ) (before behind : List (List ℕ)) (steps more : List Step) → AreSteps n before steps → AreSteps m behind more → AreAccepted (before ++ start ∷ behind)
+pub parts_accepted : (n m : ℕ) (before behind : List (List ℕ)) (steps more : List Step) → AreSteps n before steps
+    → AreSteps m behind more → AreAccepted (before ++ start ∷ behind)
 parts_accepted n m before behind steps more says too = record {
-  each = All-append IsAccepted before (start ∷ behind) (steps_accepted n before steps says) (All-cons IsAccepted start behind (script.Start, refl) (steps_accepted m behind more too));
+  each = All-append IsAccepted before (start ∷ behind) (steps_accepted n before steps says)
+      (All-cons IsAccepted start behind (script.Start, refl) (steps_accepted m behind more too));
   one_start = λ i j here there.
       (let none = steps_no_start n before steps says in
       let none_too = steps_no_start m behind more too in
@@ -71,41 +82,82 @@ parts_accepted n m before behind steps more says too = record {
 
 -- ---- the first refused line
 
-line_refused : (bytes : List ℕ) (before : List (List ℕ)) (line : List ℕ) (behind : List (List ℕ)) (n : ℕ) (why : LineFault) → lines_of bytes ≡ before ++ line ∷ behind → AreAccepted before → n ≡ length before + 1 → IsLineFault line why → IsScriptRefusal bytes (line_fault n why)
+line_refused : (bytes : List ℕ) (before : List (List ℕ)) (line : List ℕ) (behind : List (List ℕ)) (n : ℕ)
+    (why : LineFault) → lines_of bytes ≡ before ++ line ∷ behind → AreAccepted before → n ≡ length before + 1
+    → IsLineFault line why → IsScriptRefusal bytes (line_fault n why)
 line_refused bytes before line behind n BadUtf8 whole accepted number refused =
-    record { before = before; line = line; behind = behind; lines = subst (AreLines bytes) whole (are_lines bytes); accepted = accepted; number = number; refused = refused }
+    record {
+      before = before;
+      line = line;
+      behind = behind;
+      lines = subst (AreLines bytes) whole (are_lines bytes);
+      accepted = accepted;
+      number = number;
+      refused = refused;
+    }
 line_refused bytes before line behind n BadLine whole accepted number refused =
-    record { before = before; line = line; behind = behind; lines = subst (AreLines bytes) whole (are_lines bytes); accepted = accepted; number = number; refused = inl refused }
+    record {
+      before = before;
+      line = line;
+      behind = behind;
+      lines = subst (AreLines bytes) whole (are_lines bytes);
+      accepted = accepted;
+      number = number;
+      refused = inl refused;
+    }
 line_refused bytes before line behind n BadPath whole accepted number refused =
-    record { before = before; line = line; behind = behind; lines = subst (AreLines bytes) whole (are_lines bytes); accepted = accepted; number = number; refused = refused }
+    record {
+      before = before;
+      line = line;
+      behind = behind;
+      lines = subst (AreLines bytes) whole (are_lines bytes);
+      accepted = accepted;
+      number = number;
+      refused = refused;
+    }
 
 pub base_refused : (bytes : List ℕ) (fault : ScriptFault) → IsPartRefused bytes 1 fault → IsScriptRefusal bytes fault
 base_refused bytes fault part =
     subst (IsScriptRefusal bytes) (sym part.number)
-    (line_refused bytes part.before part.line part.behind (1 + length part.before) part.why part.lines (part_accepted 1 part.before part.steps part.says) (omega arith) part.refused)
+    (line_refused bytes part.before part.line part.behind (1 + length part.before) part.why part.lines
+    (part_accepted 1 part.before part.steps part.says) (omega arith) part.refused)
 
-pub trace_refused : (bytes : List ℕ) (base : List Step) (n : ℕ) (behind : Bor (List ℕ)) (fault : ScriptFault) → IsPart bytes 1 base n (Some behind) → IsPartRefused behind.now (n + 1) fault → IsScriptRefusal bytes fault
+pub trace_refused : (bytes : List ℕ) (base : List Step) (n : ℕ) (behind : Bor (List ℕ)) (fault : ScriptFault)
+    → IsPart bytes 1 base n (Some behind) → IsPartRefused behind.now (n + 1) fault → IsScriptRefusal bytes fault
 trace_refused bytes base n behind fault part refused =
     let before = part.before ++ start ∷ refused.before in
     let whole : lines_of bytes ≡ before ++ refused.line ∷ refused.behind =
-    part.lines ∙ (ap (λ (ls : List (List ℕ)). part.before ++ start ∷ ls) refused.lines ∙ sym (append_assoc part.before (start ∷ refused.before) (refused.line ∷ refused.behind))) in
-    let lengths : length before ≡ length part.before + (length refused.before + 1) = length-append part.before (start ∷ refused.before) ∙ omega arith in
+    part.lines ∙ (ap (λ (ls : List (List ℕ)). part.before ++ start ∷ ls) refused.lines
+    ∙ sym (append_assoc part.before (start ∷ refused.before) (refused.line ∷ refused.behind))) in
+    let lengths : length before ≡ length part.before + (length refused.before + 1) =
+    length-append part.before (start ∷ refused.before) ∙ omega arith in
     let here = part.number in
     subst (IsScriptRefusal bytes) (sym refused.number)
     (line_refused bytes before refused.line refused.behind (n + 1 + length refused.before) refused.why whole
-    (parts_accepted 1 (n + 1) part.before refused.before base refused.steps part.says refused.says) (omega arith) refused.refused)
+    (parts_accepted 1 (n + 1) part.before refused.before base refused.steps part.says refused.says) (omega arith)
+    refused.refused)
 
-pub no_start_line : (bytes : List ℕ) (base : List Step) (n : ℕ) → IsPart bytes 1 base n None → IsScriptRefusal bytes (fault.NoStart n)
+pub no_start_line : (bytes : List ℕ) (base : List Step) (n : ℕ) → IsPart bytes 1 base n None
+    → IsScriptRefusal bytes (fault.NoStart n)
 no_start_line bytes base n part =
-    let here = part.number in
-    (part.before, subst (AreLines bytes) part.lines (are_lines bytes), part_accepted 1 part.before base part.says, none_contained part.before (steps_no_start 1 part.before base part.says), omega arith)
+    let here = part.number in (
+      part.before,
+      subst (AreLines bytes) part.lines (are_lines bytes),
+      part_accepted 1 part.before base part.says,
+      none_contained part.before (steps_no_start 1 part.before base part.says),
+      omega arith,
+    )
 
-pub second_start : (bytes : List ℕ) (base : List Step) (n : ℕ) (behind : Bor (List ℕ)) (traced : List Step) (m : ℕ) (rest : Bor (List ℕ)) → IsPart bytes 1 base n (Some behind) → IsPart behind.now (n + 1) traced m (Some rest) → IsScriptRefusal bytes (fault.BadLine m)
+pub second_start : (bytes : List ℕ) (base : List Step) (n : ℕ) (behind : Bor (List ℕ)) (traced : List Step) (m : ℕ)
+    (rest : Bor (List ℕ)) → IsPart bytes 1 base n (Some behind) → IsPart behind.now (n + 1) traced m (Some rest)
+    → IsScriptRefusal bytes (fault.BadLine m)
 second_start bytes base n behind traced m rest part more =
     let before = part.before ++ start ∷ more.before in
     let whole : lines_of bytes ≡ before ++ start ∷ lines_of rest.now =
-    part.lines ∙ (ap (λ (ls : List (List ℕ)). part.before ++ start ∷ ls) more.lines ∙ sym (append_assoc part.before (start ∷ more.before) (start ∷ lines_of rest.now))) in
-    let lengths : length before ≡ length part.before + (length more.before + 1) = length-append part.before (start ∷ more.before) ∙ omega arith in
+    part.lines ∙ (ap (λ (ls : List (List ℕ)). part.before ++ start ∷ ls) more.lines
+    ∙ sym (append_assoc part.before (start ∷ more.before) (start ∷ lines_of rest.now))) in
+    let lengths : length before ≡ length part.before + (length more.before + 1) =
+    length-append part.before (start ∷ more.before) ∙ omega arith in
     let here = part.number in
     let there = more.number in
     record {
@@ -122,21 +174,28 @@ second_start bytes base n behind traced m rest part more =
     has_start [] ms = (0, omega arith, refl)
     has_start (l ∷ ls) ms = let more' = has_start ls ms in (suc more'.0, (let below = more'.1 in omega arith), more'.2)
 
-pub is_script : (bytes : List ℕ) (base : List Step) (n : ℕ) (behind : Bor (List ℕ)) (traced : List Step) (m : ℕ) → IsPart bytes 1 base n (Some behind) → IsPart behind.now (n + 1) traced m None → IsScript bytes base traced
+pub is_script : (bytes : List ℕ) (base : List Step) (n : ℕ) (behind : Bor (List ℕ)) (traced : List Step) (m : ℕ)
+    → IsPart bytes 1 base n (Some behind) → IsPart behind.now (n + 1) traced m None → IsScript bytes base traced
 is_script bytes base n behind traced m part more =
     let here = part.number in
     record {
       before = part.before;
       behind = more.before;
-      lines = subst (AreLines bytes) (part.lines ∙ ap (λ (ls : List (List ℕ)). part.before ++ start ∷ ls) more.lines) (are_lines bytes);
+      lines = subst (AreLines bytes) (part.lines ∙ ap (λ (ls : List (List ℕ)). part.before ++ start ∷ ls) more.lines)
+          (are_lines bytes);
       base_steps = part.says;
       traced_steps = subst (λ (k : ℕ). AreSteps k more.before traced) (omega arith) more.says;
     }
 
-pub stopped_at_start : (bytes : List ℕ) (base : List Step) (n : ℕ) (behind : Bor (List ℕ)) (traced : List Step) (m : ℕ) (rest : Option (Bor (List ℕ))) → IsPart bytes 1 base n (Some behind) → IsPart behind.now (n + 1) traced m rest → true ≡ is_some rest → IsScriptRefusal bytes (fault.BadLine m)
+pub stopped_at_start : (bytes : List ℕ) (base : List Step) (n : ℕ) (behind : Bor (List ℕ)) (traced : List Step) (m : ℕ)
+    (rest : Option (Bor (List ℕ))) → IsPart bytes 1 base n (Some behind) → IsPart behind.now (n + 1) traced m rest
+    → true ≡ is_some rest → IsScriptRefusal bytes (fault.BadLine m)
 stopped_at_start bytes base n behind traced m None part more some = absurd (false≢true (sym some))
-stopped_at_start bytes base n behind traced m (Some rest) part more some = second_start bytes base n behind traced m rest part more
+stopped_at_start bytes base n behind traced m (Some rest) part more some =
+    second_start bytes base n behind traced m rest part more
 
-pub stopped_at_end : (bytes : List ℕ) (base : List Step) (n : ℕ) (behind : Bor (List ℕ)) (traced : List Step) (m : ℕ) (rest : Option (Bor (List ℕ))) → IsPart bytes 1 base n (Some behind) → IsPart behind.now (n + 1) traced m rest → false ≡ is_some rest → IsScript bytes base traced
+pub stopped_at_end : (bytes : List ℕ) (base : List Step) (n : ℕ) (behind : Bor (List ℕ)) (traced : List Step) (m : ℕ)
+    (rest : Option (Bor (List ℕ))) → IsPart bytes 1 base n (Some behind) → IsPart behind.now (n + 1) traced m rest
+    → false ≡ is_some rest → IsScript bytes base traced
 stopped_at_end bytes base n behind traced m None part more none = is_script bytes base n behind traced m part more
 stopped_at_end bytes base n behind traced m (Some rest) part more none = absurd (false≢true none)

@@ -10,7 +10,8 @@ same_everywhere n at x y is =
     sym (get_or-replicate n at x x (subst (λ (m : ℕ). at < m) (length-replicate n x) within))
     ∙ get_or_from_slice_get (replicate n x) at y x is
 
-pub kept_nowhere : (X : Type 0) (n : ℕ) → let none : Option X = None in (length (replicate n none) ≡ n) × ((at : ℕ) → (known : X) → slice_get (replicate n none) at ≡ Some (Some known) → ⊥)
+pub kept_nowhere : (X : Type 0) (n : ℕ) → let none : Option X = None in (length (replicate n none) ≡ n)
+    × ((at : ℕ) → (known : X) → slice_get (replicate n none) at ≡ Some (Some known) → ⊥)
 kept_nowhere X n =
     let none : Option X = None in
     (length-replicate n none, λ at known is. none-some known (same_everywhere n at none (Some known) is))

@@ -8,15 +8,18 @@ use Rattle.section_lines.specs.Numbers.{numbers_text}
 
 -- a run of one
 pub one_number : (n : ℕ) → numbers_text n (n + 1) ≡ codes " " ++ decimal n
-one_number n = ap (λ (count : ℕ). numbers (range_with_len n count)) (let one : n + 1 - n ≡ 1 = omega arith in one) ∙ append-nil (codes " " ++ decimal n)
+one_number n = ap (λ (count : ℕ). numbers (range_with_len n count)) (let one : n + 1 - n ≡ 1 = omega arith in one)
+    ∙ append-nil (codes " " ++ decimal n)
 
 -- a run is written
-pub run_written : (from end : ℕ) (text after ids rest whole : List ℕ) → ids ≡ range_with_len from (end - from) ++ rest → text ++ numbers ids ≡ whole → after ≡ text ++ numbers_text from end
+pub run_written : (from end : ℕ) (text after ids rest whole : List ℕ) → ids ≡ range_with_len from (end - from) ++ rest
+    → text ++ numbers ids ≡ whole → after ≡ text ++ numbers_text from end
     → after ++ numbers rest ≡ whole
 run_written from end text after ids rest whole begins told more =
     ap (λ (t : List ℕ). t ++ numbers rest) more
     ∙ (append_assoc text (numbers_text from end) (numbers rest)
-    ∙ (ap (λ (t : List ℕ). text ++ t) (sym (ap numbers begins ∙ flat_map-append (λ n. codes " " ++ decimal n) (range_with_len from (end - from)) rest)) ∙ told))
+    ∙ (ap (λ (t : List ℕ). text ++ t) (sym (ap numbers begins
+    ∙ flat_map-append (λ n. codes " " ++ decimal n) (range_with_len from (end - from)) rest)) ∙ told))
 
 -- no id is left
 pub run_last : (text ids whole : List ℕ) → text ++ numbers ids ≡ whole → ids ≡ [] → text ≡ whole

@@ -19,22 +19,29 @@ module _ (patches : List Patch) where
   pub runs_none : (left : ℕ) (text : List ℕ) → left ≡ 0 → WritesRuns patches left text text
   runs_none left text none = record {
     writes = [];
-    runs = runs_from_cut (homes_of patches) left [] (sym (ids_none (length (homes_of patches)) left (λ id below is. none_in_empty id (subst (λ s. Has s id) none is)))) tt;
+    runs = runs_from_cut (homes_of patches) left [] (sym (ids_none (length (homes_of patches)) left
+        (λ id below is. none_in_empty id (subst (λ s. Has s id) none is)))) tt;
     whole = sym (append-nil text);
   }
 
   -- the lines of some ids and then those of the rest
-  pub runs_joined : (set : ℕ) (lead : Lead) (old between new : List ℕ) → IsLead (homes_of patches) set lead → WritesRuns patches lead.ids old between → WritesRuns patches lead.rest between new → WritesRuns patches set old new
+  pub runs_joined : (set : ℕ) (lead : Lead) (old between new : List ℕ) → IsLead (homes_of patches) set lead
+      → WritesRuns patches lead.ids old between → WritesRuns patches lead.rest between new
+      → WritesRuns patches set old new
   runs_joined set lead old between new is first others = record {
     writes = first.writes ++ others.writes;
     runs = is.runs first.writes others.writes first.runs others.runs;
-    whole = others.whole ∙ (ap (λ (text : List ℕ). text ++ flat_map (write_text (length patches)) others.writes) first.whole
-        ∙ (append_assoc old (flat_map (write_text (length patches)) first.writes) (flat_map (write_text (length patches)) others.writes)
-        ∙ ap (λ (text : List ℕ). old ++ text) (sym (flat_map-append (write_text (length patches)) first.writes others.writes))));
+    whole = others.whole ∙ (ap (λ (text : List ℕ). text ++ flat_map (write_text (length patches)) others.writes)
+        first.whole
+        ∙ (append_assoc old (flat_map (write_text (length patches)) first.writes)
+        (flat_map (write_text (length patches)) others.writes)
+        ∙ ap (λ (text : List ℕ). old ++ text) (sym (flat_map-append (write_text (length patches)) first.writes
+        others.writes))));
   }
 
   -- lines that were kept are added
-  pub runs_added : (ids : ℕ) (text old new : List ℕ) → WritesRuns patches ids [] text → new ≡ old ++ text → WritesRuns patches ids old new
+  pub runs_added : (ids : ℕ) (text old new : List ℕ) → WritesRuns patches ids [] text → new ≡ old ++ text
+      → WritesRuns patches ids old new
   runs_added ids text old new kept more = record {
     writes = kept.writes;
     runs = kept.runs;

@@ -15,11 +15,13 @@ last_digit word places some = omega arith
 pub rest_of_digits : (word places : ℕ) → 0 < places → word % (13 * places) / 13 ≡ word / 13 % places
 rest_of_digits word places some =
     let turned : 13 * places ≡ places * 13 = omega arith in
-    let digits : word % (13 * places) ≡ (word / 13 % places) * 13 + word % 13 = ap (λ (n : ℕ). word % n) turned ∙ mod-mul word some (omega arith) in
+    let digits : word % (13 * places) ≡ (word / 13 % places) * 13 + word % 13 = ap (λ (n : ℕ). word % n) turned
+    ∙ mod-mul word some (omega arith) in
     ap (λ (n : ℕ). n / 13) digits ∙ div-mul-add (word / 13 % places) 13 (word % 13) (mod_below word 13 (omega arith))
 
 -- what stands in a probe
-pub probe_is : (word places left : ℕ) → 0 < places → left ≡ word % (13 * places) → (left % 13 ≡ word % 13) × (left / 13 ≡ slot places word 0) × (left / 13 < places)
+pub probe_is : (word places left : ℕ) → 0 < places → left ≡ word % (13 * places) → (left % 13 ≡ word % 13)
+    × (left / 13 ≡ slot places word 0) × (left / 13 < places)
 probe_is word places left some is =
     let first : left / 13 ≡ word / 13 % places = ap (λ (n : ℕ). n / 13) is ∙ rest_of_digits word places some in
     let same : word / 13 ≡ word / 13 + 0 = omega arith in (

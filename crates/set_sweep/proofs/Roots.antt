@@ -1,5 +1,6 @@
 -- Sets that agree from an id on, and what comes after them.
-use Rattle.std.proofs.Common.{◌≡◌, ◌≢◌, ℕ, zero, suc, ◌+◌, ◌-◌, ◌*◌, ◌/◌, ◌%◌, ◌^◌, ◌<◌, ◌≤◌, List, length, arith, sym, subst, ap, ◌∙◌, inl, inr}
+use Rattle.std.proofs.Common.{◌≡◌, ◌≢◌, ℕ, zero, suc, ◌+◌, ◌-◌, ◌*◌, ◌/◌, ◌%◌, ◌^◌, ◌<◌, ◌≤◌, List, length, arith, sym}
+use Rattle.std.proofs.Common.{subst, ap, ◌∙◌, inl, inr}
 use Rattle.std.specs.Prelude.{Option, None, Some, MatchOption, bit_and, bit_or, slice_index}
 use Rattle.std.specs.Int.{bit_at, w128}
 use Rattle.std.specs.Int.{trailing_ones}
@@ -9,7 +10,8 @@ use Rattle.std.proofs.Math.Nat.{div-eq_of_lt, pow-le-pow_right}
 use Rattle.std.proofs.Math.Pow.{shr_mono}
 use Rattle.patch_sets.specs.Sets.{Has, IsSubset}
 use Rattle.patch_sets.specs.Closed.{IsClosed}
-use Rattle.patch_sets.proofs.Bits.{and_from_subset, in_or_cases, in_or_left, in_or_right, small_from_below, none_in_empty}
+use Rattle.patch_sets.proofs.Bits.{and_from_subset, in_or_cases, in_or_left, in_or_right, small_from_below}
+use Rattle.patch_sets.proofs.Bits.{none_in_empty}
 use Rattle.state_space.specs.Counts.{HoldsOf, Outnumbers}
 use Rattle.set_sweep.specs.Sweeps.{IsClosure, AreClosures, IsNextOut, IsRoot, AreCounted, part_end}
 use Rattle.set_sweep.proofs.Lists.{all_swept, sweep_counts}
@@ -56,7 +58,8 @@ end_in set p is =
 end_run : (set p d : ℕ) → ((q : ℕ) → p ≤ q → q < p + d → Has set q) → part_end set (p + d) ≡ part_end set p
 end_run set p zero ins = ap (part_end set) (omega arith)
 end_run set p (suc d) ins =
-    ap (part_end set) (omega arith) ∙ (end_in set (p + d) (ins (p + d) (omega arith) (omega arith)) ∙ end_run set p d (λ q low high. ins q low (omega arith)))
+    ap (part_end set) (omega arith) ∙ (end_in set (p + d) (ins (p + d) (omega arith) (omega arith))
+    ∙ end_run set p d (λ q low high. ins q low (omega arith)))
 
 -- the same up to an id
 end_to : (set p q : ℕ) → p ≤ q → ((i : ℕ) → p ≤ i → i < q → Has set i) → part_end set q ≡ part_end set p
@@ -92,7 +95,10 @@ subset_le part whole within = subst (λ n. n ≤ whole) (and_from_subset part wh
 pub either_closed : (deps : List ℕ) (a b : ℕ) → IsClosed deps a → IsClosed deps b → IsClosed deps (bit_or a b)
 either_closed deps a b ca cb = record {
   known = λ id is. elim (in_or_cases a b id is) [ inl l ↦ ca.known id l | inr r ↦ cb.known id r ];
-  whole = λ q p is dep. elim (in_or_cases a b q is) [ inl l ↦ in_or_left a b p (ca.whole q p l dep) | inr r ↦ in_or_right a b p (cb.whole q p r dep) ];
+  whole = λ q p is dep. elim (in_or_cases a b q is) [
+    | inl l ↦ in_or_left a b p (ca.whole q p l dep)
+    | inr r ↦ in_or_right a b p (cb.whole q p r dep)
+  ];
 }
 
 module _ (deps : List ℕ) (set p closure : ℕ) (out : ¬ (Has set p)) (is : IsClosure deps p closure) where
@@ -100,7 +106,8 @@ module _ (deps : List ℕ) (set p closure : ℕ) (out : ¬ (Has set p)) (is : Is
   more = bit_or set closure
 
   top_one : closure / 2 ^ p ≡ 1
-  top_one = let none : closure / 2 ^ (p + 1) ≡ 0 = div-eq_of_lt is.low in omega (arith, halves closure p, none, is.inside)
+  top_one = let none : closure / 2 ^ (p + 1) ≡ 0 = div-eq_of_lt is.low in
+      omega (arith, halves closure p, none, is.inside)
 
   bit_out : bit_at set p ≡ 0
   bit_out = let low = bit_at-lt set p in let no : bit_at set p ≢ 1 = out in omega arith
@@ -127,10 +134,12 @@ module _ (deps : List ℕ) (set p closure : ℕ) (out : ¬ (Has set p)) (is : Is
     least = λ other closed same.
         let top : other / 2 ^ p ≡ set / 2 ^ p + 1 = same ∙ one_more in
         let has_p : Has other p = omega (arith, top, bit_out) in
-        let half : other / 2 ^ (p + 1) ≡ set / 2 ^ (p + 1) = omega (arith, top, halves set p, halves other p, bit_out, has_p) in
+        let half : other / 2 ^ (p + 1) ≡ set / 2 ^ (p + 1) =
+        omega (arith, top, halves set p, halves other p, bit_out, has_p) in
         let at : p + 1 + (k - (p + 1)) ≡ k = omega arith in
         let agree : other / 2 ^ k ≡ set / 2 ^ k =
-        subst (λ i. other / 2 ^ i ≡ set / 2 ^ i) at (sym (shr-shr other (p + 1) (k - (p + 1))) ∙ (ap (λ n. n / 2 ^ (k - (p + 1))) half ∙ shr-shr set (p + 1) (k - (p + 1)))) in
+        subst (λ i. other / 2 ^ i ≡ set / 2 ^ i) at (sym (shr-shr other (p + 1) (k - (p + 1)))
+        ∙ (ap (λ n. n / 2 ^ (k - (p + 1))) half ∙ shr-shr set (p + 1) (k - (p + 1)))) in
         λ id inside. elim (in_or_cases set closure id inside) [
           | inl l ↦ root.least other closed agree id l
           | inr r ↦ is.least other closed has_p id r
@@ -138,7 +147,8 @@ module _ (deps : List ℕ) (set p closure : ℕ) (out : ¬ (Has set p)) (is : Is
   }
 
 -- no closed set that agrees with a root lies below it
-none_before : (deps : List ℕ) (k set : ℕ) → IsRoot deps k set → (w : ℕ) → IsClosed deps w → set / 2 ^ k * 2 ^ k ≤ w → w < set → ⊥
+none_before : (deps : List ℕ) (k set : ℕ) → IsRoot deps k set → (w : ℕ) → IsClosed deps w → set / 2 ^ k * 2 ^ k ≤ w
+    → w < set → ⊥
 none_before deps k set root w closed low high =
     let up : set / 2 ^ k ≤ w / 2 ^ k = le-div (set / 2 ^ k) w (2 ^ k) (pow_pos k) low in
     let down : w / 2 ^ k ≤ set / 2 ^ k = shr_mono k (omega arith) in
@@ -193,10 +203,13 @@ closed_within deps w closed =
     omega (arith, whole, small)
 
 -- what was counted from the empty set on is all closed sets
-pub counted_all : (deps : List ℕ) (limit : ℕ) (answer : Option ℕ) → MatchOption answer (Outnumbers (IsClosed deps) limit) (λ count. AreCounted deps 0 (part_end 0 (length deps)) count × (count ≤ limit))
+pub counted_all : (deps : List ℕ) (limit : ℕ) (answer : Option ℕ)
+    → MatchOption answer (Outnumbers (IsClosed deps) limit)
+    (λ count. AreCounted deps 0 (part_end 0 (length deps)) count × (count ≤ limit))
     → MatchOption answer (Outnumbers (IsClosed deps) limit) (λ count. HoldsOf (IsClosed deps) count × (count ≤ limit))
 counted_all deps limit None over = over
 counted_all deps limit (Some count) is =
     let nothing : List ℕ → Unit {0} → Type 0 = λ sets tally. Unit {0} in
-    let whole = all_swept {T = Unit {0}} nothing deps 0 (part_end 0 (length deps)) count (tt {0}) is.0 (λ w closed. (omega arith, closed_within deps w closed)) in
+    let whole = all_swept {T = Unit {0}} nothing deps 0 (part_end 0 (length deps)) count (tt {0}) is.0
+    (λ w closed. (omega arith, closed_within deps w closed)) in
     (sweep_counts {T = Unit {0}} nothing deps count (tt {0}) whole, is.1)

@@ -9,7 +9,8 @@ use Rattle.crash_model.specs.declared.refusals.FsFault.{FsFault}
 use Rattle.crash_model.specs.declared.refusals.FsFault.TheVariants.{NotFound}
 use Rattle.crash_model.specs.declared.names.Path.{Path}
 
-pub then_ok-ok : {A B : Type 0} (r : Result A FsFault) (next : A → Result B FsFault) (y : B) → then_ok r next ≡ Ok y → (x : A) × (r ≡ Ok x) × (next x ≡ Ok y)
+pub then_ok-ok : {A B : Type 0} (r : Result A FsFault) (next : A → Result B FsFault) (y : B) → then_ok r next ≡ Ok y
+    → (x : A) × (r ≡ Ok x) × (next x ≡ Ok y)
 then_ok-ok (Ok x) next y e = (x, refl, e)
 then_ok-ok (Err f) next y e = cc
 

@@ -23,8 +23,10 @@ leads-some (Leads j spelling) i some = elim (cases_eq j i) [
   | inr other ↦ absurd (some (rw (ne_eqb j i other) refl))
 ]
 
-pub count_to-none : (entry : ℕ → ℕ → Place) (i : ℕ) → ((d m : ℕ) (spelling : List ℕ) → entry d m ≢ Leads i spelling) → count_to entry i ≡ 0
-count_to-none entry i none = sum_below-zero 16 _ (λ d _. sum_below-zero 10 _ (λ m _. leads-none (entry d m) i (none d m)))
+pub count_to-none : (entry : ℕ → ℕ → Place) (i : ℕ) → ((d m : ℕ) (spelling : List ℕ) → entry d m ≢ Leads i spelling)
+    → count_to entry i ≡ 0
+count_to-none entry i none = sum_below-zero 16 _ (λ d _.
+    sum_below-zero 10 _ (λ m _. leads-none (entry d m) i (none d m)))
 
 pub leads-self : (i : ℕ) (spelling : List ℕ) → leads (Leads i spelling) i ≡ 1
 leads-self i spelling = rw (eq-eqb i i refl) refl
@@ -33,7 +35,8 @@ pub leads-other : (i j : ℕ) (spelling : List ℕ) → j ≢ i → leads (Leads
 leads-other i j spelling other = rw (ne_eqb i j (λ e. other (sym e))) refl
 
 -- an entry more is one more for its inode, and none for another
-count_to-gained : (entry : ℕ → ℕ → Place) (dir k i : ℕ) (spelling : List ℕ) (j : ℕ) → dir < 16 → k < 10 → entry dir k ≡ Free
+count_to-gained : (entry : ℕ → ℕ → Place) (dir k i : ℕ) (spelling : List ℕ) (j : ℕ) → dir < 16 → k < 10
+    → entry dir k ≡ Free
     → count_to (with_place entry dir k (Leads i spelling)) j ≡ count_to entry j + leads (Leads i spelling) j
 count_to-gained entry dir k i spelling j in_dir in_place free =
     let both = count_to-with_value entry dir k (Leads i spelling) j in_dir in_place in
@@ -41,7 +44,8 @@ count_to-gained entry dir k i spelling j in_dir in_place free =
     omega arith
 
 -- an entry less is one less for its inode, and none for another
-count_to-lost : (entry : ℕ → ℕ → Place) (dir k i : ℕ) (spelling : List ℕ) (j : ℕ) → dir < 16 → k < 10 → entry dir k ≡ Leads i spelling
+count_to-lost : (entry : ℕ → ℕ → Place) (dir k i : ℕ) (spelling : List ℕ) (j : ℕ) → dir < 16 → k < 10
+    → entry dir k ≡ Leads i spelling
     → count_to (with_place entry dir k Free) j + leads (Leads i spelling) j ≡ count_to entry j
 count_to-lost entry dir k i spelling j in_dir in_place there =
     let both = count_to-with_value entry dir k Free j in_dir in_place in
@@ -49,21 +53,25 @@ count_to-lost entry dir k i spelling j in_dir in_place there =
     omega arith
 
 -- where the count is 1 there is no second entry
-pub only_entry : (entry : ℕ → ℕ → Place) (dir k d m i : ℕ) (sp sq : List ℕ) → dir < 16 → k < 10 → d < 16 → m < 10 → entry dir k ≡ Leads i sp → entry d m ≡ Leads i sq → count_to entry i ≡ 1 → (d ≡ dir) × (m ≡ k)
+pub only_entry : (entry : ℕ → ℕ → Place) (dir k d m i : ℕ) (sp sq : List ℕ) → dir < 16 → k < 10 → d < 16 → m < 10
+    → entry dir k ≡ Leads i sp → entry d m ≡ Leads i sq → count_to entry i ≡ 1 → (d ≡ dir) × (m ≡ k)
 only_entry entry dir k d m i sp sq in_dir in_place in_d in_m e f one = elim (cases_place d m dir k) [
   | inl same ↦ same
   | inr other ↦ absurd (
       let new = with_place entry dir k Free in
-      let without : count_to new i + leads (Leads i sp) i ≡ count_to entry i = count_to-lost entry dir k i sp i in_dir in_place e in
+      let without : count_to new i + leads (Leads i sp) i ≡ count_to entry i =
+      count_to-lost entry dir k i sp i in_dir in_place e in
       let still : new d m ≡ Leads i sq = changed_twice-other entry dir k Free d m other ∙ f in
-      let twice : count_to (with_place new d m Free) i + leads (Leads i sq) i ≡ count_to new i = count_to-lost new d m i sq i in_d in_m still in
+      let twice : count_to (with_place new d m Free) i + leads (Leads i sq) i ≡ count_to new i =
+      count_to-lost new d m i sq i in_d in_m still in
       let a = leads-self i sp in
       let b = leads-self i sq in
       omega arith)
 ]
 
 -- where the count is above 1 there is another entry
-pub other_entry : (entry : ℕ → ℕ → Place) (dir k i : ℕ) (sp : List ℕ) → dir < 16 → k < 10 → entry dir k ≡ Leads i sp → 1 < count_to entry i
+pub other_entry : (entry : ℕ → ℕ → Place) (dir k i : ℕ) (sp : List ℕ) → dir < 16 → k < 10 → entry dir k ≡ Leads i sp
+    → 1 < count_to entry i
     → (d : ℕ) × (m : ℕ) × (sq : List ℕ) × (entry d m ≡ Leads i sq) × (d ≡ dir → m ≡ k → ⊥)
 other_entry entry dir k i sp in_dir in_place e more =
     let new = with_place entry dir k Free in
@@ -85,7 +93,8 @@ pub record GainsLink (kind kind' links links' : ℕ → ℕ) (entry : ℕ → �
   pub others : (j : ℕ) → j ≢ i → kind' j ≢ 0 → (kind j ≢ 0) × (links' j ≡ links j)
   pub own : links' i ≡ count_to entry i + 1
 
-pub counts-gained : (kind kind' links links' : ℕ → ℕ) (entry : ℕ → ℕ → Place) (dir k i : ℕ) (spelling : List ℕ) → SoundCounts kind links entry → GainsLink kind kind' links links' entry dir k i
+pub counts-gained : (kind kind' links links' : ℕ → ℕ) (entry : ℕ → ℕ → Place) (dir k i : ℕ) (spelling : List ℕ)
+    → SoundCounts kind links entry → GainsLink kind kind' links links' entry dir k i
     → SoundCounts kind' links' (with_place entry dir k (Leads i spelling))
 counts-gained kind kind' links links' entry dir k i spelling sound g = record {
   counted = λ j not_root live.
@@ -106,14 +115,16 @@ counts-gained kind kind' links links' entry dir k i spelling sound g = record {
 }
 
 -- an inode with one entry less, and one link less if it stays
-pub record LosesLink (kind kind' links links' : ℕ → ℕ) (entry : ℕ → ℕ → Place) (dir k i : ℕ) (spelling : List ℕ) : Type 0 where
+pub record LosesLink (kind kind' links links' : ℕ → ℕ) (entry : ℕ → ℕ → Place) (dir k i : ℕ) (spelling : List ℕ) : Type
+    0 where
   pub in_dir : dir < 16
   pub in_place : k < 10
   pub there : entry dir k ≡ Leads i spelling
   pub others : (j : ℕ) → j ≢ i → kind' j ≢ 0 → (kind j ≢ 0) × (links' j ≡ links j)
   pub own : kind' i ≢ 0 → links' i + 1 ≡ count_to entry i
 
-pub counts-lost : (kind kind' links links' : ℕ → ℕ) (entry : ℕ → ℕ → Place) (dir k i : ℕ) (spelling : List ℕ) → SoundCounts kind links entry → LosesLink kind kind' links links' entry dir k i spelling
+pub counts-lost : (kind kind' links links' : ℕ → ℕ) (entry : ℕ → ℕ → Place) (dir k i : ℕ) (spelling : List ℕ)
+    → SoundCounts kind links entry → LosesLink kind kind' links links' entry dir k i spelling
     → SoundCounts kind' links' (with_place entry dir k Free)
 counts-lost kind kind' links links' entry dir k i spelling sound l = record {
   counted = λ j not_root live.

@@ -3,7 +3,9 @@ use Rattle.std.proofs.Common.{◌≡◌, ◌≢◌, ℕ, ◌+◌, ◌<◌, ◌�
 use Rattle.std.proofs.lemmas.Bool.{cases_eq}
 use Rattle.crash_model.specs.Names.{IsName}
 use Rattle.crash_model.specs.Plan.{name_spelling}
-use Rattle.soundness_laws.specs.Tables.{Tables, with_value, with_place, tables_after_create, tables_after_write, tables_after_link, tables_after_unlink, tables_after_removal, tables_after_mkdir, count_to, SoundNames, SoundCounts, Sound}
+use Rattle.soundness_laws.specs.Tables.{Tables, with_value, with_place, tables_after_create, tables_after_write}
+use Rattle.soundness_laws.specs.Tables.{tables_after_link, tables_after_unlink, tables_after_removal}
+use Rattle.soundness_laws.specs.Tables.{tables_after_mkdir, count_to, SoundNames, SoundCounts, Sound}
 use Rattle.soundness_laws.specs.Tables.Place.{Free, Leads}
 use Rattle.soundness_laws.specs.Tables.Mark.{FileOf, DirectoryOf}
 use Rattle.soundness_laws.proofs.Sums.{with_value-same, with_value-other, changed_twice-same, changed_twice-row}
@@ -25,7 +27,8 @@ pub parent-below : (t : Tables) (dir k : ℕ) (name : List ℕ) → Sound t → 
 parent-below t dir k name sound p = sound.inodes.below dir (λ z. let two = p.parent in omega arith)
 
 -- a new inode gets a name
-names-new : (t : Tables) (dir k i kind : ℕ) (name : List ℕ) → Sound t → IsPlace t dir k name → IsFresh t i kind → SoundNames (with_value t.kind i kind) (with_place t.entry dir k (Leads i (name_spelling name)))
+names-new : (t : Tables) (dir k i kind : ℕ) (name : List ℕ) → Sound t → IsPlace t dir k name → IsFresh t i kind
+    → SoundNames (with_value t.kind i kind) (with_place t.entry dir k (Leads i (name_spelling name)))
 names-new t dir k i kind name sound p fresh =
     let kinds : (j : ℕ) → j ≢ i → with_value t.kind i kind j ≡ t.kind j = λ j n. with_value-other t.kind i kind j n in
     let here : with_value t.kind i kind i ≡ kind = with_value-same t.kind i kind in
@@ -45,10 +48,13 @@ names-new t dir k i kind name sound p fresh =
     })
 
 counts-new : (t : Tables) (dir k i kind : ℕ) (name : List ℕ) → Sound t → IsPlace t dir k name → IsFresh t i kind
-    → SoundCounts (with_value t.kind i kind) (with_value t.links i 1) (with_place t.entry dir k (Leads i (name_spelling name)))
+    → SoundCounts (with_value t.kind i kind) (with_value t.links i 1)
+    (with_place t.entry dir k (Leads i (name_spelling name)))
 counts-new t dir k i kind name sound p fresh =
-    let none : count_to t.entry i ≡ 0 = count_to-none t.entry i (λ d m sp e. sound.names.no_dangling d m i sp e fresh.free) in
-    counts-gained t.kind (with_value t.kind i kind) t.links (with_value t.links i 1) t.entry dir k i (name_spelling name) sound.counts (record {
+    let none : count_to t.entry i ≡ 0 = count_to-none t.entry i
+    (λ d m sp e. sound.names.no_dangling d m i sp e fresh.free) in
+    counts-gained t.kind (with_value t.kind i kind) t.links (with_value t.links i 1) t.entry dir k i
+    (name_spelling name) sound.counts (record {
       in_dir = parent-below t dir k name sound p;
       in_place = p.in_place;
       free = p.free;
@@ -62,7 +68,8 @@ pub record CanCreate (t : Tables) (dir k i : ℕ) (name : List ℕ) : Type 0 whe
   pub place : IsPlace t dir k name
   pub fresh : IsFresh t i 1
 
-pub tables_after_create-sound : (t : Tables) (dir k i : ℕ) (name : List ℕ) → Sound t → CanCreate t dir k i name → Sound (tables_after_create t dir k i name)
+pub tables_after_create-sound : (t : Tables) (dir k i : ℕ) (name : List ℕ) → Sound t → CanCreate t dir k i name
+    → Sound (tables_after_create t dir k i name)
 tables_after_create-sound t dir k i name sound can = record {
   blocks = blocks-new_file t i sound.blocks sound.inodes.root.0 can.fresh;
   inodes = inodes-new t i 1 sound.inodes can.fresh;
@@ -80,11 +87,15 @@ pub record CanMake (t : Tables) (dir k i b : ℕ) (name : List ℕ) : Type 0 whe
   pub high : b < t.blocks
 
 -- the pointers of a new directory
-pub made_pointer : (t : Tables) (i b : ℕ) → with_value (with_value t.pointer i (λ _. 0)) i (with_value (with_value t.pointer i (λ _. 0) i) 0 b) i ≡ with_value (λ _. 0) 0 b
-made_pointer t i b = with_value-same (with_value t.pointer i (λ _. 0)) i (with_value (with_value t.pointer i (λ _. 0) i) 0 b) ∙ ap (λ (f : ℕ → ℕ). with_value f 0 b) (with_value-same t.pointer i (λ _. 0))
+pub made_pointer : (t : Tables) (i b : ℕ) → with_value (with_value t.pointer i (λ _. 0)) i
+    (with_value (with_value t.pointer i (λ _. 0) i) 0 b) i ≡ with_value (λ _. 0) 0 b
+made_pointer t i b = with_value-same (with_value t.pointer i (λ _. 0)) i
+    (with_value (with_value t.pointer i (λ _. 0) i) 0 b) ∙ ap (λ (f : ℕ → ℕ). with_value f 0 b)
+    (with_value-same t.pointer i (λ _. 0))
 
 pub tables_after_mkdir-gains : (t : Tables) (dir k i b : ℕ) (name : List ℕ) → Sound t → CanMake t dir k i b name
-    → GainsBlock t (tables_after_mkdir t dir k i b name).kind (tables_after_mkdir t dir k i b name).pointer (DirectoryOf i) i 0 b
+    → GainsBlock t (tables_after_mkdir t dir k i b name).kind (tables_after_mkdir t dir k i b name).pointer
+    (DirectoryOf i) i 0 b
 tables_after_mkdir-gains t dir k i b name sound can =
     let kind = with_value t.kind i 2 in
     let pointer = (tables_after_mkdir t dir k i b name).pointer in
@@ -93,7 +104,8 @@ tables_after_mkdir-gains t dir k i b name sound can =
     let free = can.fresh.free in
     record {
       kinds = λ j other. with_value-other t.kind i 2 j other;
-      rows = λ j r other. ap (λ (f : ℕ → ℕ). f r) (with_value-other (with_value t.pointer i (λ _. 0)) i _ j other ∙ with_value-other t.pointer i (λ _. 0) j other);
+      rows = λ j r other. ap (λ (f : ℕ → ℕ). f r) (with_value-other (with_value t.pointer i (λ _. 0)) i _ j other
+          ∙ with_value-other t.pointer i (λ _. 0) j other);
       here = own 0 ∙ with_value-same (λ _. 0) 0 b;
       back = λ r other some. absurd (some (none r other));
       kept = λ r c h. absurd (h.0 free);
@@ -108,7 +120,8 @@ tables_after_mkdir-gains t dir k i b name sound can =
       directory = λ _. (refl, refl, none);
     }
 
-pub tables_after_mkdir-sound : (t : Tables) (dir k i b : ℕ) (name : List ℕ) → Sound t → CanMake t dir k i b name → Sound (tables_after_mkdir t dir k i b name)
+pub tables_after_mkdir-sound : (t : Tables) (dir k i b : ℕ) (name : List ℕ) → Sound t → CanMake t dir k i b name
+    → Sound (tables_after_mkdir t dir k i b name)
 tables_after_mkdir-sound t dir k i b name sound can = record {
   blocks = blocks-gained t _ _ (DirectoryOf i) i 0 b sound.blocks (tables_after_mkdir-gains t dir k i b name sound can);
   inodes = inodes-new t i 2 sound.inodes can.fresh;
@@ -127,7 +140,8 @@ pub record CanGrow (t : Tables) (i s b : ℕ) : Type 0 where
   pub low : 4 + t.journal ≤ b
   pub high : b < t.blocks
 
-pub tables_after_write-gains : (t : Tables) (i s b : ℕ) → Sound t → CanGrow t i s b → GainsBlock t t.kind (tables_after_write t i s b).pointer (FileOf i) i s b
+pub tables_after_write-gains : (t : Tables) (i s b : ℕ) → Sound t → CanGrow t i s b
+    → GainsBlock t t.kind (tables_after_write t i s b).pointer (FileOf i) i s b
 tables_after_write-gains t i s b sound can =
     let pointer = (tables_after_write t i s b).pointer in
     let one = can.file in
@@ -177,7 +191,8 @@ pub record CanLink (t : Tables) (dir k i : ℕ) (name : List ℕ) : Type 0 where
 not_root : (t : Tables) (i : ℕ) → Sound t → t.kind i ≡ 1 → i ≢ 0
 not_root t i sound one z = let two = sound.inodes.root.0 in let at : t.kind i ≡ t.kind 0 = ap t.kind z in omega arith
 
-pub tables_after_link-sound : (t : Tables) (dir k i : ℕ) (name : List ℕ) → Sound t → CanLink t dir k i name → Sound (tables_after_link t dir k i name)
+pub tables_after_link-sound : (t : Tables) (dir k i : ℕ) (name : List ℕ) → Sound t → CanLink t dir k i name
+    → Sound (tables_after_link t dir k i name)
 tables_after_link-sound t dir k i name sound can =
     let one = can.file in
     let root = not_root t i sound one in
@@ -199,13 +214,14 @@ tables_after_link-sound t dir k i name sound can =
         kept = λ h l. refl;
         only = λ h l. inl l;
       });
-      counts = counts-gained t.kind t.kind t.links (with_value t.links i (t.links i + 1)) t.entry dir k i (name_spelling name) sound.counts (record {
-        in_dir = parent-below t dir k name sound can.place;
-        in_place = can.place.in_place;
-        free = can.place.free;
-        others = λ j n l. (l, with_value-other t.links i (t.links i + 1) j n);
-        own = with_value-same t.links i (t.links i + 1) ∙ rw counted refl;
-      });
+      counts = counts-gained t.kind t.kind t.links (with_value t.links i (t.links i + 1)) t.entry dir k i
+          (name_spelling name) sound.counts (record {
+            in_dir = parent-below t dir k name sound can.place;
+            in_place = can.place.in_place;
+            free = can.place.free;
+            others = λ j n l. (l, with_value-other t.links i (t.links i + 1) j n);
+            own = with_value-same t.links i (t.links i + 1) ∙ rw counted refl;
+          });
     }
 
 -- ---- unlink
@@ -220,7 +236,8 @@ pub record CanUnlink (t : Tables) (dir k i : ℕ) (spelling : List ℕ) (left : 
   pub some : 1 ≤ left
   pub links : t.links i ≡ left + 1
 
-pub tables_after_unlink-sound : (t : Tables) (dir k i : ℕ) (spelling : List ℕ) (left : ℕ) → Sound t → CanUnlink t dir k i spelling left → Sound (tables_after_unlink t dir k i left)
+pub tables_after_unlink-sound : (t : Tables) (dir k i : ℕ) (spelling : List ℕ) (left : ℕ) → Sound t
+    → CanUnlink t dir k i spelling left → Sound (tables_after_unlink t dir k i left)
 tables_after_unlink-sound t dir k i spelling left sound can =
     let one = can.file in
     let links = can.links in
@@ -241,13 +258,14 @@ tables_after_unlink-sound t dir k i spelling left sound can =
         stays = λ _. other;
         goes = λ z. absurd (live z);
       });
-      counts = counts-lost t.kind t.kind t.links (with_value t.links i left) t.entry dir k i spelling sound.counts (record {
-        in_dir = place.0;
-        in_place = place.1;
-        there = can.there;
-        others = λ j n l. (l, with_value-other t.links i left j n);
-        own = λ _. ap (λ (x : ℕ). x + 1) (with_value-same t.links i left) ∙ sym links ∙ sym counted;
-      });
+      counts = counts-lost t.kind t.kind t.links (with_value t.links i left) t.entry dir k i spelling sound.counts
+          (record {
+            in_dir = place.0;
+            in_place = place.1;
+            there = can.there;
+            others = λ j n l. (l, with_value-other t.links i left j n);
+            own = λ _. ap (λ (x : ℕ). x + 1) (with_value-same t.links i left) ∙ sym links ∙ sym counted;
+          });
     }
 
 -- ---- the last name of an inode that nothing is below: a file, or an empty directory
@@ -258,7 +276,8 @@ pub record CanRemove (t : Tables) (dir k i : ℕ) (spelling : List ℕ) (used : 
   pub last : t.links i ≡ 1
   pub frees : FreesBlocks t.kind t.pointer t.used used i
 
-pub tables_after_removal-sound : (t : Tables) (dir k i : ℕ) (spelling : List ℕ) (used : ℕ → Bool) → Sound t → CanRemove t dir k i spelling used → Sound (tables_after_removal t dir k i used)
+pub tables_after_removal-sound : (t : Tables) (dir k i : ℕ) (spelling : List ℕ) (used : ℕ → Bool) → Sound t
+    → CanRemove t dir k i spelling used → Sound (tables_after_removal t dir k i used)
 tables_after_removal-sound t dir k i spelling used sound can =
     let place = sound.names.places dir k i spelling can.there in
     let live : t.kind i ≢ 0 = sound.names.no_dangling dir k i spelling can.there in
@@ -275,7 +294,8 @@ tables_after_removal-sound t dir k i spelling used sound can =
         leaf = can.leaf;
         kept = kinds;
         stays = λ stays. absurd (stays gone);
-        goes = λ _ d m sp e. let at = sound.names.places d m i sp e in only_entry t.entry dir k d m i spelling sp place.0 place.1 at.0 at.1 can.there e one;
+        goes = λ _ d m sp e. let at = sound.names.places d m i sp e in
+            only_entry t.entry dir k d m i spelling sp place.0 place.1 at.0 at.1 can.there e one;
       });
       counts = counts-lost t.kind kind t.links (with_value t.links i 0) t.entry dir k i spelling sound.counts (record {
         in_dir = place.0;

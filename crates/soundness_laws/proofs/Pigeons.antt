@@ -29,17 +29,25 @@ squeeze-apart m x y not_x not_y apart = elim (cases_lt m x) [
   ]
 ]
 
-pub each-taken : (n : ℕ) (f : ℕ → ℕ) → ((k : ℕ) → k < n → f k < n) → ((j k : ℕ) → j < k → k < n → f j ≢ f k) → (m : ℕ) → m < n → (k : ℕ) × (k < n) × (f k ≡ m)
+pub each-taken : (n : ℕ) (f : ℕ → ℕ) → ((k : ℕ) → k < n → f k < n) → ((j k : ℕ) → j < k → k < n → f j ≢ f k) → (m : ℕ)
+    → m < n → (k : ℕ) × (k < n) × (f k ≡ m)
 each-taken zero f within apart m below = absurd (omega arith)
-each-taken (suc n) f within apart m below = go (each-taken n (λ k. squeeze m (f k))) (first_below (suc n) (λ k. eqb (f k) m)) refl
+each-taken (suc n) f within apart m below = go (each-taken n (λ k. squeeze m (f k)))
+    (first_below (suc n) (λ k. eqb (f k) m)) refl
   where
-    go : (((k : ℕ) → k < n → squeeze m (f k) < n) → ((j k : ℕ) → j < k → k < n → squeeze m (f j) ≢ squeeze m (f k)) → (q : ℕ) → q < n → (k : ℕ) × (k < n) × (squeeze m (f k) ≡ q))
+    go : (((k : ℕ) → k < n → squeeze m (f k) < n) → ((j k : ℕ) → j < k → k < n → squeeze m (f j) ≢ squeeze m (f k))
+        → (q : ℕ) → q < n → (k : ℕ) × (k < n) × (squeeze m (f k) ≡ q))
         → (o : Option ℕ) → first_below (suc n) (λ k. eqb (f k) m) ≡ o → (k : ℕ) × (k < suc n) × (f k ≡ m)
-    go rec (Some k) e = let found = first_below-is_some (suc n) (λ k. eqb (f k) m) k e in (k, found.below, eqb-true (f k) m found.holds)
+    go rec (Some k) e = let found = first_below-is_some (suc n) (λ k. eqb (f k) m) k e in
+        (k, found.below, eqb-true (f k) m found.holds)
     go rec None e =
-        let avoids : (k : ℕ) → k < suc n → f k ≢ m = λ k less. eqb-false (f k) m (first_below-is_none (suc n) (λ k. eqb (f k) m) e k less) in
-        let last : squeeze m (f n) < n = squeeze-below n m (f n) below (within n (omega arith)) (avoids n (omega arith)) in
+        let avoids : (k : ℕ) → k < suc n → f k ≢ m = λ k less.
+        eqb-false (f k) m (first_below-is_none (suc n) (λ k. eqb (f k) m) e k less) in
+        let last : squeeze m (f n) < n = squeeze-below n m (f n) below (within n (omega arith))
+        (avoids n (omega arith)) in
         let taken = rec (λ k less. squeeze-below n m (f k) below (within k (omega arith)) (avoids k (omega arith)))
-        (λ j k less small. squeeze-apart m (f j) (f k) (avoids j (omega arith)) (avoids k (omega arith)) (apart j k less (omega arith)))
+        (λ j k less small. squeeze-apart m (f j) (f k) (avoids j (omega arith)) (avoids k (omega arith))
+        (apart j k less (omega arith)))
         (squeeze m (f n)) last in
-        absurd (squeeze-apart m (f taken.0) (f n) (avoids taken.0 (omega arith)) (avoids n (omega arith)) (apart taken.0 n taken.1 (omega arith)) taken.2)
+        absurd (squeeze-apart m (f taken.0) (f n) (avoids taken.0 (omega arith)) (avoids n (omega arith))
+        (apart taken.0 n taken.1 (omega arith)) taken.2)

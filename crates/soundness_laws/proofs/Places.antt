@@ -1,5 +1,6 @@
 -- Lists of the places at which a test holds, counted.
-use Rattle.std.proofs.Common.{◌≡◌, ◌≢◌, ℕ, zero, suc, ◌+◌, ◌<◌, ◌≤◌, ◌⊎◌, inl, inr, List, Bool, true, false, length, arith, length-append, refl, sym, ◌∙◌, ap}
+use Rattle.std.proofs.Common.{◌≡◌, ◌≢◌, ℕ, zero, suc, ◌+◌, ◌<◌, ◌≤◌, ◌⊎◌, inl, inr, List, Bool, true, false, length}
+use Rattle.std.proofs.Common.{arith, length-append, refl, sym, ◌∙◌, ap}
 use Rattle.std.specs.Prelude.{option_to_list, if◌then◌else◌}
 use Rattle.std.proofs.lemmas.Bool.{cases_eq}
 use Rattle.crash_model.specs.Lists.{each_below, some_below, when}
@@ -9,7 +10,8 @@ use Rattle.soundness_laws.specs.Tables.{sum_below}
 abbrev pub one_if : Bool → ℕ
 one_if b = if b then 1 else 0
 
-pub length-some_below : {X : Type 0} (n : ℕ) (test : ℕ → Bool) (make : ℕ → X) → length (some_below n (λ k. when (test k) (make k))) ≡ sum_below n (λ k. one_if (test k))
+pub length-some_below : {X : Type 0} (n : ℕ) (test : ℕ → Bool) (make : ℕ → X)
+    → length (some_below n (λ k. when (test k) (make k))) ≡ sum_below n (λ k. one_if (test k))
 unfolding some_below sum_below
 length-some_below zero test make = refl
 length-some_below (suc n) test make =
@@ -21,10 +23,12 @@ length-some_below (suc n) test make =
     last true x = omega arith
     last false x = refl
 
-pub length-each_below : {X : Type 0} (n : ℕ) (list : ℕ → List X) → length (each_below n list) ≡ sum_below n (λ k. length (list k))
+pub length-each_below : {X : Type 0} (n : ℕ) (list : ℕ → List X)
+    → length (each_below n list) ≡ sum_below n (λ k. length (list k))
 unfolding each_below sum_below
 length-each_below zero list = refl
-length-each_below (suc n) list = length-append (each_below n list) (list n) ∙ ap (λ (x : ℕ). x + length (list n)) (length-each_below n list)
+length-each_below (suc n) list = length-append (each_below n list) (list n)
+    ∙ ap (λ (x : ℕ). x + length (list n)) (length-each_below n list)
 
 -- ---- sums
 
@@ -65,13 +69,16 @@ sum_below-some (suc n) f some = elim (cases_eq (f n) 0) [
 ]
 
 -- where one term at most is not 0, and none is above 1
-pub sum_below-one : (n : ℕ) (f : ℕ → ℕ) → ((k : ℕ) → k < n → f k ≤ 1) → ((j k : ℕ) → j < k → k < n → f j ≢ 0 → f k ≢ 0 → ⊥) → sum_below n f ≤ 1
+pub sum_below-one : (n : ℕ) (f : ℕ → ℕ) → ((k : ℕ) → k < n → f k ≤ 1)
+    → ((j k : ℕ) → j < k → k < n → f j ≢ 0 → f k ≢ 0 → ⊥) → sum_below n f ≤ 1
 unfolding sum_below
 sum_below-one zero f small apart = omega arith
 sum_below-one (suc n) f small apart = elim (cases_eq (f n) 0) [
-  | inl none ↦ let before = sum_below-one n f (λ k less. small k (omega arith)) (λ j k less below. apart j k less (omega arith)) in omega arith
+  | inl none ↦ let before = sum_below-one n f (λ k less. small k (omega arith))
+      (λ j k less below. apart j k less (omega arith)) in omega arith
   | inr here ↦
-      let before : sum_below n f ≡ 0 = sum_below-zero n f (λ k less. elim (cases_eq (f k) 0) [ inl z ↦ z | inr some ↦ absurd (apart k n less (omega arith) some here) ]) in
+      let before : sum_below n f ≡ 0 = sum_below-zero n f (λ k less.
+      elim (cases_eq (f k) 0) [ inl z ↦ z | inr some ↦ absurd (apart k n less (omega arith) some here) ]) in
       let last = small n (omega arith) in
       omega arith
 ]
@@ -79,7 +86,8 @@ sum_below-one (suc n) f small apart = elim (cases_eq (f n) 0) [
 -- ---- pairs
 
 -- two places of a table
-pub sum_below-pairs : (m n : ℕ) (f : ℕ → ℕ → ℕ) (i s j r : ℕ) → i < m → j < m → s < n → r < n → f i s ≢ 0 → f j r ≢ 0 → sum_below m (λ k. sum_below n (f k)) ≤ 1 → (i ≡ j) × (s ≡ r)
+pub sum_below-pairs : (m n : ℕ) (f : ℕ → ℕ → ℕ) (i s j r : ℕ) → i < m → j < m → s < n → r < n → f i s ≢ 0 → f j r ≢ 0
+    → sum_below m (λ k. sum_below n (f k)) ≤ 1 → (i ≡ j) × (s ≡ r)
 sum_below-pairs m n f i s j r in_i in_j in_s in_r here there few =
     let rows : ℕ → ℕ = λ k. sum_below n (f k) in
     let a = sum_below-least n s (f i) in_s in
@@ -108,10 +116,13 @@ sum_below-pairs m n f i s j r in_i in_j in_s in_r here there few =
     sides a b other = grind arith
 
 -- one place at most
-pub sum_below-one_pair : (m n : ℕ) (f : ℕ → ℕ → ℕ) → ((i s : ℕ) → f i s ≤ 1) → ((i s j r : ℕ) → i < m → j < m → s < n → r < n → f i s ≢ 0 → f j r ≢ 0 → (i ≡ j) × (s ≡ r)) → sum_below m (λ k. sum_below n (f k)) ≤ 1
+pub sum_below-one_pair : (m n : ℕ) (f : ℕ → ℕ → ℕ) → ((i s : ℕ) → f i s ≤ 1)
+    → ((i s j r : ℕ) → i < m → j < m → s < n → r < n → f i s ≢ 0 → f j r ≢ 0 → (i ≡ j) × (s ≡ r))
+    → sum_below m (λ k. sum_below n (f k)) ≤ 1
 sum_below-one_pair m n f small same =
     sum_below-one m (λ k. sum_below n (f k))
-    (λ i below. sum_below-one n (f i) (λ s _. small i s) (λ s r less in_r here there. let both = same i s i r below below (omega arith) in_r here there in omega arith))
+    (λ i below. sum_below-one n (f i) (λ s _. small i s) (λ s r less in_r here there. let both =
+    same i s i r below below (omega arith) in_r here there in omega arith))
     (λ i j less in_j here there.
     let a = sum_below-some n (f i) here in
     let b = sum_below-some n (f j) there in

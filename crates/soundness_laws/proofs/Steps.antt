@@ -1,18 +1,24 @@
 -- What each change of a plan does to a disk: its tables change at one number.
-use Rattle.std.proofs.Common.{◌≡◌, ◌≢◌, ℕ, ◌+◌, ◌*◌, ◌/◌, ◌%◌, ◌<◌, ◌≤◌, inl, inr, List, [], ◌∷◌, Bool, true, false, not, eqb, length, get_or, replicate, arith, refl, sym, ◌∙◌, ap}
+use Rattle.std.proofs.Common.{◌≡◌, ◌≢◌, ℕ, ◌+◌, ◌*◌, ◌/◌, ◌%◌, ◌<◌, ◌≤◌, inl, inr, List, [], ◌∷◌, Bool, true, false}
+use Rattle.std.proofs.Common.{not, eqb, length, get_or, replicate, arith, refl, sym, ◌∙◌, ap}
 use mathlib.Core.Path.{fun_ext}
 use Rattle.std.proofs.lemmas.Bool.{cases_eq, cases_order, eq-eqb, ne_eqb, lt-ltb}
 use Rattle.std.proofs.lemmas.Grind.{elements}
 use Rattle.crash_model.specs.Disk.{Disk, IsDisk, byte}
 use Rattle.crash_model.specs.Layout.{kind_of, links_of, pointer_of, map_of, is_data, counts, entry_of, entry_offset}
-use Rattle.crash_model.specs.Plan.{inode_init, inode_free, link_count, pointer_set, map_set, map_clear, init_block, entry_set, entry_clear, name_spelling, with_changes}
+use Rattle.crash_model.specs.Plan.{inode_init, inode_free, link_count, pointer_set, map_set, map_clear, init_block}
+use Rattle.crash_model.specs.Plan.{entry_set, entry_clear, name_spelling, with_changes}
 use Rattle.crash_model.specs.declared.plans.Change.{Change}
 use Rattle.crash_model.specs.declared.plans.Role.{Role}
-use Rattle.soundness_laws.specs.Tables.{Tables, tables_of, place_at, place_of, mark_at, within, with_value, with_inode, with_links, with_pointer, with_used, with_mark, with_entry}
+use Rattle.soundness_laws.specs.Tables.{Tables, tables_of, place_at, place_of, mark_at, within, with_value, with_inode}
+use Rattle.soundness_laws.specs.Tables.{with_links, with_pointer, with_used, with_mark, with_entry}
 use Rattle.soundness_laws.specs.Tables.Place.{Free, Leads}
 use Rattle.soundness_laws.specs.Tables.Mark.{DirectoryOf}
-use Rattle.soundness_laws.proofs.Puts.{with_bytes_at, SameBlock, same-block, byte-outside, place-same, mark-same, data-block, within-with_value, within-same, with_value-kept, same_tables, tables-inode}
-use Rattle.soundness_laws.proofs.OnTables.{byte-inside, behind_two, place-no_directory, counts-parts, tables-inode_init, tables-inode_free, tables-map, tables-entry_set, tables-entry_clear}
+use Rattle.soundness_laws.proofs.Puts.{with_bytes_at, SameBlock, same-block, byte-outside, place-same, mark-same}
+use Rattle.soundness_laws.proofs.Puts.{data-block, within-with_value, within-same, with_value-kept, same_tables}
+use Rattle.soundness_laws.proofs.Puts.{tables-inode}
+use Rattle.soundness_laws.proofs.OnTables.{byte-inside, behind_two, place-no_directory, counts-parts, tables-inode_init}
+use Rattle.soundness_laws.proofs.OnTables.{tables-inode_free, tables-map, tables-entry_set, tables-entry_clear}
 use Rattle.soundness_laws.proofs.ByTables.{kind-at, pointer-at, counts-by_tables, disk-with_bytes_at}
 
 -- a change makes a disk with these tables
@@ -22,17 +28,32 @@ pub record Makes (d : Disk) (c : Change) (t : Tables) : Type 0 where
 
 -- ---- inodes
 
-inode-disk : (d : Disk) (i from : ℕ) (new : List ℕ) → IsDisk d → i < 16 → from + length new ≤ 16 → IsDisk (with_bytes_at d (128 * (2 + i / 8) + (16 * (i % 8) + from)) new)
-inode-disk d i from new disk below fits = disk-with_bytes_at d (128 * (2 + i / 8) + (16 * (i % 8) + from)) new disk (omega (arith, disk.whole, disk.least))
+inode-disk : (d : Disk) (i from : ℕ) (new : List ℕ) → IsDisk d → i < 16 → from + length new ≤ 16
+    → IsDisk (with_bytes_at d (128 * (2 + i / 8) + (16 * (i % 8) + from)) new)
+inode-disk d i from new disk below fits = disk-with_bytes_at d (128 * (2 + i / 8) + (16 * (i % 8) + from)) new disk
+    (omega (arith, disk.whole, disk.least))
 
-pub init-makes : (d : Disk) (i kind : ℕ) → IsDisk d → i < 16 → kind_of d i ≡ 0 → Makes d (inode_init i kind) (with_inode (tables_of d) i kind 1)
-init-makes d i kind disk below free = record { disk = inode-disk d i 0 (kind ∷ 1 ∷ replicate 14 0) disk below (omega arith); tables = tables-inode_init d i kind disk below free }
+pub init-makes : (d : Disk) (i kind : ℕ) → IsDisk d → i < 16 → kind_of d i ≡ 0
+    → Makes d (inode_init i kind) (with_inode (tables_of d) i kind 1)
+init-makes d i kind disk below free = record {
+  disk = inode-disk d i 0 (kind ∷ 1 ∷ replicate 14 0) disk below
+      (omega arith);
+  tables = tables-inode_init d i kind disk below free;
+}
 
 pub free-makes : (d : Disk) (i : ℕ) → IsDisk d → i < 16 → ((m : ℕ) → m < 10 → place_of d i m ≡ Free)
-    → Makes d (inode_free i) (record (tables_of d) { kind = with_value (tables_of d).kind i 0; links = with_value (tables_of d).links i 0; pointer = with_value (tables_of d).pointer i (λ _. 0) })
-free-makes d i disk below empty = record { disk = inode-disk d i 0 (replicate 16 0) disk below (omega arith); tables = tables-inode_free d i disk below empty }
+    → Makes d (inode_free i) (record (tables_of d) {
+      kind = with_value (tables_of d).kind i 0;
+      links = with_value (tables_of d).links i 0;
+      pointer = with_value (tables_of d).pointer i (λ _. 0);
+    })
+free-makes d i disk below empty = record {
+  disk = inode-disk d i 0 (replicate 16 0) disk below (omega arith);
+  tables = tables-inode_free d i disk below empty;
+}
 
-pub links-makes : (d : Disk) (role : Role) (i links : ℕ) → IsDisk d → i < 16 → Makes d (link_count role i links) (with_links (tables_of d) i links)
+pub links-makes : (d : Disk) (role : Role) (i links : ℕ) → IsDisk d → i < 16
+    → Makes d (link_count role i links) (with_links (tables_of d) i links)
 unfolding tables_of
 links-makes d role i links disk below =
     let t = tables_of d in
@@ -40,11 +61,16 @@ links-makes d role i links disk below =
     let e = with_bytes_at d at (links ∷ []) in
     let inside : at + 1 ≤ length d.bytes = omega (arith, disk.whole, disk.least) in
     let spot : 128 * (2 + i / 8) + (16 * (i % 8) + 1) ≡ at = omega arith in
-    let kind : kind_of e i ≡ kind_of d i = byte-outside d.bytes at (links ∷ []) (256 + 16 * i) inside (inl (omega arith)) in
-    let own_links : links_of e i ≡ links = byte-inside d.bytes at (links ∷ []) 0 (257 + 16 * i) inside (omega arith) (omega arith) in
-    let pointer : (s : ℕ) → s < 4 → pointer_of e i s ≡ pointer_of d i s = λ s small. byte-outside d.bytes at (links ∷ []) (260 + 16 * i + s) inside (inr (omega arith)) in
+    let kind : kind_of e i ≡ kind_of d i = byte-outside d.bytes at (links ∷ []) (256 + 16 * i) inside
+    (inl (omega arith)) in
+    let own_links : links_of e i ≡ links = byte-inside d.bytes at (links ∷ []) 0 (257 + 16 * i) inside (omega arith)
+    (omega arith) in
+    let pointer : (s : ℕ) → s < 4 → pointer_of e i s ≡ pointer_of d i s =
+    λ s small. byte-outside d.bytes at (links ∷ []) (260 + 16 * i + s) inside (inr (omega arith)) in
     let own : (m : ℕ) → m < 10 → place_of e i m ≡ place_of d i m = λ m small.
-    place-same d e.bytes i m small kind (pointer 0 (omega arith)) (λ h. same-block d at (links ∷ []) (pointer_of d i 0) inside (inr (let p = data-block d (pointer_of d i 0) h in omega arith))) in
+    place-same d e.bytes i m small kind (pointer 0 (omega arith))
+    (λ h. same-block d at (links ∷ []) (pointer_of d i 0) inside
+    (inr (let p = data-block d (pointer_of d i 0) h in omega arith))) in
     record {
       disk = inode-disk d i 1 (links ∷ []) disk below (omega arith);
       tables = ap (λ (x : ℕ). tables_of (with_bytes_at d x (links ∷ []))) spot
@@ -52,16 +78,19 @@ links-makes d role i links disk below =
           ∙ same_tables t.blocks t.journal _ _ _ _ _ _ _ _ _ _ _ _
           (with_value-kept t.kind i (kind_of e i) (kind ∙ sym (kind-at d i below)))
           (ap (with_value t.links i) own_links)
-          (with_value-kept t.pointer i (within 0 4 (pointer_of e i)) (within-same 0 4 (pointer_of d i) (pointer_of e i) pointer ∙ sym (row d i below)))
+          (with_value-kept t.pointer i (within 0 4 (pointer_of e i))
+          (within-same 0 4 (pointer_of d i) (pointer_of e i) pointer ∙ sym (row d i below)))
           refl refl refl;
     }
   where
-    row : (d : Disk) (i : ℕ) → i < 16 → within (λ _. 0) 16 (λ j. within 0 4 (pointer_of d j)) i ≡ within 0 4 (pointer_of d i)
+    row : (d : Disk) (i : ℕ) → i < 16 → within (λ _. 0) 16 (λ j. within 0 4 (pointer_of d j)) i
+        ≡ within 0 4 (pointer_of d i)
     row d i below = rw (lt-ltb i 16 below) refl
 
 -- a slot is set, and no entry comes with the block
 pub pointer-makes : (d : Disk) (i s b : ℕ) → IsDisk d → i < 16 → s < 4
-    → ((m : ℕ) → m < 10 → place_of (with_bytes_at d (256 + 16 * i + (4 + s)) (b ∷ [])) i m ≡ place_of d i m) → Makes d (pointer_set i s b) (with_pointer (tables_of d) i s b)
+    → ((m : ℕ) → m < 10 → place_of (with_bytes_at d (256 + 16 * i + (4 + s)) (b ∷ [])) i m ≡ place_of d i m)
+    → Makes d (pointer_set i s b) (with_pointer (tables_of d) i s b)
 unfolding tables_of
 pointer-makes d i s b disk below small own =
     let t = tables_of d in
@@ -70,14 +99,19 @@ pointer-makes d i s b disk below small own =
     let inside : at + 1 ≤ length d.bytes = omega (arith, disk.whole, disk.least) in
     let spot : 128 * (2 + i / 8) + (16 * (i % 8) + (4 + s)) ≡ at = omega arith in
     let kind : kind_of e i ≡ kind_of d i = byte-outside d.bytes at (b ∷ []) (256 + 16 * i) inside (inl (omega arith)) in
-    let links : links_of e i ≡ links_of d i = byte-outside d.bytes at (b ∷ []) (257 + 16 * i) inside (inl (omega arith)) in
-    let here : pointer_of e i s ≡ b = byte-inside d.bytes at (b ∷ []) 0 (260 + 16 * i + s) inside (omega arith) (omega arith) in
-    let others : (r : ℕ) → r < 4 → r ≢ s → pointer_of e i r ≡ pointer_of d i r = λ r less other. byte-outside d.bytes at (b ∷ []) (260 + 16 * i + r) inside (elim (cases_order r s) [
+    let links : links_of e i ≡ links_of d i = byte-outside d.bytes at (b ∷ []) (257 + 16 * i) inside
+    (inl (omega arith)) in
+    let here : pointer_of e i s ≡ b = byte-inside d.bytes at (b ∷ []) 0 (260 + 16 * i + s) inside (omega arith)
+    (omega arith) in
+    let others : (r : ℕ) → r < 4 → r ≢ s → pointer_of e i r ≡ pointer_of d i r =
+    λ r less other. byte-outside d.bytes at (b ∷ []) (260 + 16 * i + r) inside (elim (cases_order r s) [
       | inl same ↦ absurd (other same)
       | inr ne ↦ elim ne [ inl h ↦ inl (omega arith) | inr h ↦ inr (omega arith) ]
     ]) in
     let own_row : within 0 4 (pointer_of e i) ≡ with_value (t.pointer i) s b =
-    within-with_value 0 4 s (pointer_of d i) (pointer_of e i) small others ∙ ap (λ (x : ℕ). with_value (within 0 4 (pointer_of d i)) s x) here ∙ ap (λ (f : ℕ → ℕ). with_value f s b) (sym (row d i below)) in
+    within-with_value 0 4 s (pointer_of d i) (pointer_of e i) small others
+    ∙ ap (λ (x : ℕ). with_value (within 0 4 (pointer_of d i)) s x) here
+    ∙ ap (λ (f : ℕ → ℕ). with_value f s b) (sym (row d i below)) in
     record {
       disk = inode-disk d i (4 + s) (b ∷ []) disk below (omega arith);
       tables = ap (λ (x : ℕ). tables_of (with_bytes_at d x (b ∷ []))) spot
@@ -89,19 +123,23 @@ pointer-makes d i s b disk below small own =
           refl refl refl;
     }
   where
-    row : (d : Disk) (i : ℕ) → i < 16 → within (λ _. 0) 16 (λ j. within 0 4 (pointer_of d j)) i ≡ within 0 4 (pointer_of d i)
+    row : (d : Disk) (i : ℕ) → i < 16 → within (λ _. 0) 16 (λ j. within 0 4 (pointer_of d j)) i
+        ≡ within 0 4 (pointer_of d i)
     row d i below = rw (lt-ltb i 16 below) refl
 
     links_row : (d : Disk) (i : ℕ) → i < 16 → within 0 16 (links_of d) i ≡ links_of d i
     links_row d i below = rw (lt-ltb i 16 below) refl
 
 -- the kind stays as it was
-pub pointer-kind : (d : Disk) (i s b : ℕ) → IsDisk d → i < 16 → s < 4 → kind_of (with_bytes_at d (256 + 16 * i + (4 + s)) (b ∷ [])) i ≡ kind_of d i
-pointer-kind d i s b disk below small = byte-outside d.bytes (256 + 16 * i + (4 + s)) (b ∷ []) (256 + 16 * i) (omega (arith, disk.whole, disk.least)) (inl (omega arith))
+pub pointer-kind : (d : Disk) (i s b : ℕ) → IsDisk d → i < 16 → s < 4
+    → kind_of (with_bytes_at d (256 + 16 * i + (4 + s)) (b ∷ [])) i ≡ kind_of d i
+pointer-kind d i s b disk below small = byte-outside d.bytes (256 + 16 * i + (4 + s)) (b ∷ []) (256 + 16 * i)
+    (omega (arith, disk.whole, disk.least)) (inl (omega arith))
 
 -- a block that has a directory's mark and nothing else has no entries, whichever directory it is given to
 pub empty-place : (d : Disk) (role : Role) (i b mark : ℕ) → IsDisk d → i < 16 → 4 ≤ b → b < d.blocks → (m : ℕ) → m < 10
-    → (let e = with_changes d (init_block role b mark i ∷ []) in place_of (with_bytes_at e (256 + 16 * i + (4 + 0)) (b ∷ [])) i m ≡ Free)
+    → (let e = with_changes d (init_block role b mark i ∷ []) in
+    place_of (with_bytes_at e (256 + 16 * i + (4 + 0)) (b ∷ [])) i m ≡ Free)
 empty-place d role i b mark disk below low high m small =
     let new = mark ∷ i ∷ replicate 126 0 in
     let e : Disk = with_bytes_at d (128 * b + 0) new in
@@ -110,10 +148,13 @@ empty-place d role i b mark disk below low high m small =
     let fits : 128 * b + 0 + length new ≤ length d.bytes = omega (arith, disk.whole) in
     let disk_e : IsDisk e = disk-with_bytes_at d (128 * b + 0) new disk fits in
     let inside : at + 1 ≤ length e.bytes = omega (arith, disk_e.whole, disk_e.least) in
-    let here : pointer_of f i 0 ≡ b = byte-inside e.bytes at (b ∷ []) 0 (260 + 16 * i + 0) inside (omega arith) (omega arith) in
-    let old : byte f b (8 + 12 * m) ≡ byte e b (8 + 12 * m) = byte-outside e.bytes at (b ∷ []) (128 * b + (8 + 12 * m)) inside (inr (omega arith)) in
+    let here : pointer_of f i 0 ≡ b = byte-inside e.bytes at (b ∷ []) 0 (260 + 16 * i + 0) inside (omega arith)
+    (omega arith) in
+    let old : byte f b (8 + 12 * m) ≡ byte e b (8 + 12 * m) = byte-outside e.bytes at (b ∷ []) (128 * b + (8 + 12 * m))
+    inside (inr (omega arith)) in
     let none : byte e b (8 + 12 * m) ≡ 0 =
-    byte-inside d.bytes (128 * b + 0) new (8 + 12 * m) (128 * b + (8 + 12 * m)) fits (omega arith) (omega arith) ∙ behind_two mark i 126 (8 + 12 * m) (omega arith) in
+    byte-inside d.bytes (128 * b + 0) new (8 + 12 * m) (128 * b + (8 + 12 * m)) fits (omega arith) (omega arith)
+    ∙ behind_two mark i 126 (8 + 12 * m) (omega arith) in
     let entry : entry_of f i m ≡ 0 = ap (λ (x : ℕ). byte f x (8 + 12 * m)) here ∙ old ∙ none in
     free_place (counts f i) (entry_of f i m) _ entry
   where
@@ -124,14 +165,24 @@ empty-place d role i b mark disk below low high m small =
 -- ---- the allocation map
 
 pub map_set-makes : (d : Disk) (b : ℕ) → IsDisk d → b < d.blocks → Makes d (map_set b) (with_used (tables_of d) b true)
-map_set-makes d b disk below = record { disk = disk-with_bytes_at d (128 * 1 + b) (1 ∷ []) disk (omega (arith, disk.whole, disk.most)); tables = tables-map d b 1 disk below }
+map_set-makes d b disk below = record {
+  disk = disk-with_bytes_at d (128 * 1 + b) (1 ∷ []) disk
+      (omega (arith, disk.whole, disk.most));
+  tables = tables-map d b 1 disk below;
+}
 
-pub map_clear-makes : (d : Disk) (b : ℕ) → IsDisk d → b < d.blocks → Makes d (map_clear b) (with_used (tables_of d) b false)
-map_clear-makes d b disk below = record { disk = disk-with_bytes_at d (128 * 1 + b) (0 ∷ []) disk (omega (arith, disk.whole, disk.most)); tables = tables-map d b 0 disk below }
+pub map_clear-makes : (d : Disk) (b : ℕ) → IsDisk d → b < d.blocks
+    → Makes d (map_clear b) (with_used (tables_of d) b false)
+map_clear-makes d b disk below = record {
+  disk = disk-with_bytes_at d (128 * 1 + b) (0 ∷ []) disk
+      (omega (arith, disk.whole, disk.most));
+  tables = tables-map d b 0 disk below;
+}
 
 -- ---- a block that no directory has
 
-pub block-makes : (d : Disk) (role : Role) (b mark owner : ℕ) → IsDisk d → is_data d b ≡ true → ((dir : ℕ) → dir < 16 → kind_of d dir ≡ 2 → pointer_of d dir 0 ≢ b)
+pub block-makes : (d : Disk) (role : Role) (b mark owner : ℕ) → IsDisk d → is_data d b ≡ true
+    → ((dir : ℕ) → dir < 16 → kind_of d dir ≡ 2 → pointer_of d dir 0 ≢ b)
     → Makes d (init_block role b mark owner) (with_mark (tables_of d) b (mark_at true mark owner))
 unfolding tables_of
 block-makes d role b mark owner disk inside none =
@@ -142,9 +193,11 @@ block-makes d role b mark owner disk inside none =
     let area = data-block d b inside in
     let full : length new ≡ 128 = refl in
     let fits : at + length new ≤ length d.bytes = omega (arith, disk.whole, area.1) in
-    let early : (j : ℕ) → j < 512 → get_or e.bytes j 0 ≡ get_or d.bytes j 0 = λ j less. byte-outside d.bytes at new j fits (inl (omega (arith, area.0))) in
+    let early : (j : ℕ) → j < 512 → get_or e.bytes j 0 ≡ get_or d.bytes j 0 =
+    λ j less. byte-outside d.bytes at new j fits (inl (omega (arith, area.0))) in
     let kinds : (j : ℕ) → j < 16 → kind_of e j ≡ kind_of d j = λ j less. early (256 + 16 * j) (omega arith) in
-    let pointers : (j s : ℕ) → j < 16 → s < 4 → pointer_of e j s ≡ pointer_of d j s = λ j s less small. early (260 + 16 * j + s) (omega arith) in
+    let pointers : (j s : ℕ) → j < 16 → s < 4 → pointer_of e j s ≡ pointer_of d j s =
+    λ j s less small. early (260 + 16 * j + s) (omega arith) in
     let blocks : (c : ℕ) → c ≢ b → SameBlock d e c = λ c other. same-block d at new c fits (elim (cases_order c b) [
       | inl h ↦ absurd (other h)
       | inr h ↦ elim h [ inl less ↦ inl (omega arith) | inr more ↦ inr (omega arith) ]
@@ -156,15 +209,21 @@ block-makes d role b mark owner disk inside none =
       tables = same_tables t.blocks t.journal _ _ _ _ _ _ _ _ _ _ _ _
           (within-same 0 16 (kind_of d) (kind_of e) kinds)
           (within-same 0 16 (links_of d) (links_of e) (λ j less. early (257 + 16 * j) (omega arith)))
-          (within-same (λ _. 0) 16 (λ h. within 0 4 (pointer_of d h)) (λ h. within 0 4 (pointer_of e h)) (λ j less. within-same 0 4 (pointer_of d j) (pointer_of e j) (λ s small. pointers j s less small)))
-          (within-same false d.blocks (λ c. not (eqb (map_of d c) 0)) (λ c. not (eqb (map_of e c) 0)) (λ c less. ap (λ (x : ℕ). not (eqb x 0)) (early (128 + c) (omega (arith, disk.most)))))
+          (within-same (λ _. 0) 16 (λ h. within 0 4 (pointer_of d h)) (λ h. within 0 4 (pointer_of e h))
+          (λ j less. within-same 0 4 (pointer_of d j) (pointer_of e j) (λ s small. pointers j s less small)))
+          (within-same false d.blocks (λ c. not (eqb (map_of d c) 0)) (λ c. not (eqb (map_of e c) 0))
+          (λ c less. ap (λ (x : ℕ). not (eqb x 0)) (early (128 + c) (omega (arith, disk.most)))))
           (fun_ext (λ c. elim (cases_eq c b) [
             | inl here ↦ rw (eq-eqb c b here, here, inside, first, second) refl
             | inr other ↦ rw (ne_eqb c b other) (mark-same d e.bytes c (λ _. blocks c other))
           ]))
-          (within-same (λ _. Free) 16 (λ dir. within Free 10 (place_of d dir)) (λ dir. within Free 10 (place_of e dir)) (λ dir less. within-same Free 10 (place_of d dir) (place_of e dir) (λ k small. elim (cases_eq (kind_of d dir) 2) [
-            | inl two ↦ place-same d e.bytes dir k small (kinds dir less) (pointers dir 0 less (omega arith)) (λ _. blocks (pointer_of d dir 0) (none dir less two))
-            | inr other ↦ place-no_directory e dir k (λ z. other (sym (kinds dir less) ∙ z)) ∙ sym (place-no_directory d dir k other)
+          (within-same (λ _. Free) 16 (λ dir. within Free 10 (place_of d dir)) (λ dir. within Free 10 (place_of e dir))
+          (λ dir less. within-same Free 10 (place_of d dir) (place_of e dir)
+          (λ k small. elim (cases_eq (kind_of d dir) 2) [
+            | inl two ↦ place-same d e.bytes dir k small (kinds dir less) (pointers dir 0 less (omega arith))
+                (λ _. blocks (pointer_of d dir 0) (none dir less two))
+            | inr other ↦ place-no_directory e dir k (λ z. other (sym (kinds dir less) ∙ z))
+                ∙ sym (place-no_directory d dir k other)
           ])));
     }
 
@@ -178,27 +237,33 @@ pub record Stands (d e : Disk) (dir : ℕ) : Type 0 where
   pub block : (tables_of e).pointer dir 0 ≡ (tables_of d).pointer dir 0
 
 stands-block : (d e : Disk) (dir : ℕ) → Stands d e dir → pointer_of e dir 0 ≡ pointer_of d dir 0
-stands-block d e dir s = sym (pointer-at e dir 0 s.below (omega arith)) ∙ s.block ∙ pointer-at d dir 0 s.below (omega arith)
+stands-block d e dir s = sym (pointer-at e dir 0 s.below (omega arith)) ∙ s.block
+    ∙ pointer-at d dir 0 s.below (omega arith)
 
-entry-disk : (d e : Disk) (dir k : ℕ) (new : List ℕ) → IsDisk e → Stands d e dir → k < 10 → length new ≤ 12 → IsDisk (with_bytes_at e (128 * pointer_of d dir 0 + entry_offset k) new)
+entry-disk : (d e : Disk) (dir k : ℕ) (new : List ℕ) → IsDisk e → Stands d e dir → k < 10 → length new ≤ 12
+    → IsDisk (with_bytes_at e (128 * pointer_of d dir 0 + entry_offset k) new)
 entry-disk d e dir k new disk s small few =
     let own = counts-parts e dir (counts-by_tables e dir s.below s.kind s.mark) in
     let high = own.high in
     let same = stands-block d e dir s in
     disk-with_bytes_at e (128 * pointer_of d dir 0 + entry_offset k) new disk (omega (arith, disk.whole))
 
-pub set-makes : (d e : Disk) (dir k i : ℕ) (name : List ℕ) → IsDisk e → Stands d e dir → k < 10 → length name ≤ 10 → Makes e (entry_set d dir k i name) (with_entry (tables_of e) dir k (Leads i (name_spelling name)))
+pub set-makes : (d e : Disk) (dir k i : ℕ) (name : List ℕ) → IsDisk e → Stands d e dir → k < 10 → length name ≤ 10
+    → Makes e (entry_set d dir k i name) (with_entry (tables_of e) dir k (Leads i (name_spelling name)))
 set-makes d e dir k i name disk s small short =
     let twelve : length ((i + 1) ∷ name_spelling name) ≤ 12 = grind (arith, elements) in
     record {
       disk = entry-disk d e dir k ((i + 1) ∷ name_spelling name) disk s small twelve;
-      tables = ap (λ (p : ℕ). tables_of (with_bytes_at e (128 * p + entry_offset k) ((i + 1) ∷ name_spelling name))) (sym (stands-block d e dir s))
+      tables = ap (λ (p : ℕ). tables_of (with_bytes_at e (128 * p + entry_offset k) ((i + 1) ∷ name_spelling name)))
+          (sym (stands-block d e dir s))
           ∙ tables-entry_set e dir k i name disk s.below small (counts-by_tables e dir s.below s.kind s.mark) short;
     }
 
-pub clear-makes : (d e : Disk) (dir k : ℕ) → IsDisk e → Stands d e dir → k < 10 → Makes e (entry_clear d dir k) (with_entry (tables_of e) dir k Free)
+pub clear-makes : (d e : Disk) (dir k : ℕ) → IsDisk e → Stands d e dir → k < 10
+    → Makes e (entry_clear d dir k) (with_entry (tables_of e) dir k Free)
 clear-makes d e dir k disk s small = record {
   disk = entry-disk d e dir k (replicate 12 0) disk s small (omega arith);
-  tables = ap (λ (p : ℕ). tables_of (with_bytes_at e (128 * p + entry_offset k) (replicate 12 0))) (sym (stands-block d e dir s))
+  tables = ap (λ (p : ℕ). tables_of (with_bytes_at e (128 * p + entry_offset k) (replicate 12 0)))
+      (sym (stands-block d e dir s))
       ∙ tables-entry_clear e dir k disk s.below small (counts-by_tables e dir s.below s.kind s.mark);
 }

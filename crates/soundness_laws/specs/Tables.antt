@@ -1,7 +1,8 @@
 -- What an image says, as functions of numbers: no bytes and no offsets.
 use Rattle.std.specs.Prelude.{◌≡◌, ◌≢◌, ℕ, zero, suc, ◌+◌, ◌<◌, ◌≤◌, ◌↔◌, List, Bool, true, false, ◌&&◌, ◌==◌, not}
 use Rattle.std.specs.Prelude.{nat_lt, if◌then◌else◌}
-use Rattle.crash_model.specs.declared.disk_bytes.TheConstants.{FREE_KIND, FILE_KIND, DIRECTORY_KIND, FILE_MARK, DIRECTORY_MARK}
+use Rattle.crash_model.specs.declared.disk_bytes.TheConstants.{FREE_KIND, FILE_KIND, DIRECTORY_KIND, FILE_MARK}
+use Rattle.crash_model.specs.declared.disk_bytes.TheConstants.{DIRECTORY_MARK}
 use Rattle.crash_model.specs.Disk.{Disk, byte}
 use Rattle.crash_model.specs.Names.{IsName}
 use Rattle.crash_model.specs.Layout.{kind_of, links_of, pointer_of, map_of, is_data, counts, entry_of, spelling_of}

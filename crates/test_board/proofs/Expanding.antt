@@ -1,5 +1,6 @@
 -- A seat while it expands the entry that it has claimed.
-use Rattle.std.proofs.Common.{◌≡◌, ◌≢◌, ℕ, ◌+◌, ◌<◌, List, [], ◌∷◌, ◌++◌, length, get_or, refl, ap, ◌∙◌, subst, arith, below_more}
+use Rattle.std.proofs.Common.{◌≡◌, ◌≢◌, ℕ, ◌+◌, ◌<◌, List, [], ◌∷◌, ◌++◌, length, get_or, refl, ap, ◌∙◌, subst, arith}
+use Rattle.std.proofs.Common.{below_more}
 use Rattle.std.specs.List.{Contains}
 use Rattle.std.proofs.lemmas.List.{get_or_default}
 use Rattle.board_rule.specs.Lists.{Has}
@@ -15,7 +16,9 @@ use Rattle.test_board.specs.Worker.{IsIdle, IsAt, Expands, Tries}
 
 module _ {S : Type 0} (b : Shown S) where
   -- one more successor is an entry that was seen
-  pub expands_put : (v : Known) (place : Place) (next : List ℕ) (k x : ℕ) (s w : Known) (put : Put) → Expands b v place next k s → x ≡ get_or next k 0 → PutOk x s w put → put ≢ Over → put ≢ Busy → Expands b v place next (k + 1) w
+  pub expands_put : (v : Known) (place : Place) (next : List ℕ) (k x : ℕ) (s w : Known) (put : Put)
+      → Expands b v place next k s → x ≡ get_or next k 0 → PutOk x s w put → put ≢ Over → put ≢ Busy
+      → Expands b v place next (k + 1) w
   expands_put v place next k x s w put o is ok not-over not-busy =
       let still = put_still x s w put ok not-over in
       let sees = put_sees x s w put ok in
@@ -48,7 +51,8 @@ module _ {S : Type 0} (b : Shown S) where
   )
 
   -- where the board is outgrown, the seat is idle and knows it
-  pub expands_over : (v : Known) (place : Place) (next : List ℕ) (k x : ℕ) (s w : Known) (put : Put) → Expands b v place next k s → PutOk x s w put → put ≡ Over → IsIdle b w × SeesOn v.seen w.seen × (w.over ≡ 1)
+  pub expands_over : (v : Known) (place : Place) (next : List ℕ) (k x : ℕ) (s w : Known) (put : Put)
+      → Expands b v place next k s → PutOk x s w put → put ≡ Over → IsIdle b w × SeesOn v.seen w.seen × (w.over ≡ 1)
   expands_over v place next k x s w put o ok over =
       let given_up : PutOk x s w Over = subst (PutOk x s w) over ok in
       let after = put_after x s w put ok o.of in (
@@ -59,8 +63,10 @@ module _ {S : Type 0} (b : Shown S) where
       )
 
   -- once all are, the entry can be settled
-  pub expands_all : (v : Known) (place : Place) (next : List ℕ) (k : ℕ) (s : Known) → Expands b v place next k s → k ≡ length next → (y : ℕ) → Contains next y → Has s.seen y
-  expands_all v place next k s o all y has = subst (Has s.seen) (get_or_default next has.0 0 y has.1 ∙ has.2) (o.has has.0 (omega (arith, all, has.1)))
+  pub expands_all : (v : Known) (place : Place) (next : List ℕ) (k : ℕ) (s : Known) → Expands b v place next k s
+      → k ≡ length next → (y : ℕ) → Contains next y → Has s.seen y
+  expands_all v place next k s o all y has = subst (Has s.seen) (get_or_default next has.0 0 y has.1 ∙ has.2)
+      (o.has has.0 (omega (arith, all, has.1)))
 
   -- the claim is still there
   pub still_at : (place : Place) (x : ℕ) (s w : Known) (put : Put) → PutOk x s w put → IsOf b s → HasClaim s place
@@ -71,7 +77,12 @@ module _ {S : Type 0} (b : Shown S) where
       (still_of b s w still of, still.free, still_claims place s w still claim, there.0, there.1)
 
 -- one more word was tried
-pub tried_more : (words : List ℕ) (v u w : Known) (puts : List Put) (put : Put) → Tries words v u puts → length puts < length words → PutOk (get_or words (length puts) 0) u w put → Tries words v w (puts ++ put ∷ [])
+pub tried_more : (words : List ℕ) (v u w : Known) (puts : List Put) (put : Put) → Tries words v u puts
+    → length puts < length words → PutOk (get_or words (length puts) 0) u w put → Tries words v w (puts ++ put ∷ [])
 tried_more [] v u w puts put tried h ok = absurd (omega (arith, h))
 tried_more (x ∷ xs) v u w [] put tried h ok = (w, subst (λ (s : Known). PutOk x s w put) tried ok, refl)
-tried_more (x ∷ xs) v u w (p ∷ ps) put tried h ok = (tried.0, tried.1, tried_more xs tried.0 u w ps put tried.2 (omega (arith, h)) ok)
+tried_more (x ∷ xs) v u w (p ∷ ps) put tried h ok = (
+  tried.0,
+  tried.1,
+  tried_more xs tried.0 u w ps put tried.2 (omega (arith, h)) ok,
+)

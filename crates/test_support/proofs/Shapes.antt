@@ -1,6 +1,7 @@
 -- What is left of a body after its first statements, which a proof names.
 use Prim.Native.Nat.{ℕ, zero, suc}
-use mir.Syntax.{Body, skip, seq, assign, block, loop, cond, switch, exit, return, call, call_v, unreachable, lend_static}
+use mir.Syntax.{Body, skip, seq, assign, block, loop, cond, switch, exit, return, call, call_v, unreachable}
+use mir.Syntax.{lend_static}
 
 abbrev rest : Body → Body
 rest skip = skip

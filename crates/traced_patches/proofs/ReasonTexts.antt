@@ -1,5 +1,6 @@
 -- The reasons one by one.
-use Rattle.std.proofs.Common.{◌≡◌, ℕ, suc, List, [], ◌∷◌, ◌++◌, length, map, Bool, true, false, codes, refl, ap, ◌∙◌, arith}
+use Rattle.std.proofs.Common.{◌≡◌, ℕ, suc, List, [], ◌∷◌, ◌++◌, length, map, Bool, true, false, codes, refl, ap, ◌∙◌}
+use Rattle.std.proofs.Common.{arith}
 use Rattle.std.specs.Prelude.{filter, cond, if◌then◌else◌, not, ◌==◌, ◌||◌}
 use Rattle.std.specs.List.{list_any}
 use Rattle.std.proofs.lemmas.Bool.Decides.{nat_tests}
@@ -20,34 +21,43 @@ rule_texts [] = refl
 rule_texts (r ∷ rs) = ap (λ (ts : List (List ℕ)). rule_text r ∷ ts) (rule_texts rs)
 
 texts_of : (overlap group : Bool) (some : List rules.Rule)
-    → map reason_text (first_reasons overlap group ++ map Rule some) ≡ (if overlap then codes "overlap" ∷ [] else []) ++ (if group then codes "group" ∷ [] else []) ++ map rule_text some
+    → map reason_text (first_reasons overlap group ++ map Rule some) ≡ (if overlap then codes "overlap" ∷ [] else [])
+    ++ (if group then codes "group" ∷ [] else []) ++ map rule_text some
 texts_of true true some = ap (λ (ts : List (List ℕ)). codes "overlap" ∷ codes "group" ∷ ts) (rule_texts some)
 texts_of true false some = ap (λ (ts : List (List ℕ)). codes "overlap" ∷ ts) (rule_texts some)
 texts_of false true some = ap (λ (ts : List (List ℕ)). codes "group" ∷ ts) (rule_texts some)
 texts_of false false some = rule_texts some
 
-pub texts_are : (t : TracedPatches) (q p : Emitted) (r : Reasons) (items : List Reason) → items ≡ first_reasons r.overlap r.group ++ map Rule r.rules.items → AreReasons t q p r → map reason_text items ≡ reasons t.rules t.links q p
-texts_are t q p r items is are = ap (map reason_text) is ∙ (texts_of r.overlap r.group r.rules.items ∙ rw (are.overlap, are.group, are.rules) refl)
+pub texts_are : (t : TracedPatches) (q p : Emitted) (r : Reasons) (items : List Reason)
+    → items ≡ first_reasons r.overlap r.group ++ map Rule r.rules.items → AreReasons t q p r
+    → map reason_text items ≡ reasons t.rules t.links q p
+texts_are t q p r items is are = ap (map reason_text) is
+    ∙ (texts_of r.overlap r.group r.rules.items ∙ rw (are.overlap, are.group, are.rules) refl)
 
 -- ---- there is one where a patch depends on the earlier one
 
 none_is_not : (n : ℕ) → true ≡ not (suc n == 0)
 none_is_not n = grind (arith, nat_tests)
 
-any_applies : (test : rules.Rule → Bool) (some : List rules.Rule) → list_any test some ≡ not (length (map Rule (filter test some)) == 0)
+any_applies : (test : rules.Rule → Bool) (some : List rules.Rule)
+    → list_any test some ≡ not (length (map Rule (filter test some)) == 0)
 any_applies test [] = refl
 any_applies test (r ∷ rs) = by_test (test r) (any_applies test rs)
   where
-    by_test : (b : Bool) → list_any test rs ≡ not (length (map Rule (filter test rs)) == 0) → (b || list_any test rs) ≡ not (length (map Rule (cond b (r ∷ filter test rs) (filter test rs))) == 0)
+    by_test : (b : Bool) → list_any test rs ≡ not (length (map Rule (filter test rs)) == 0)
+        → (b || list_any test rs) ≡ not (length (map Rule (cond b (r ∷ filter test rs) (filter test rs))) == 0)
     by_test true rest = none_is_not _
     by_test false rest = rest
 
 some_of : (overlap group : Bool) (test : rules.Rule → Bool) (some : List rules.Rule)
-    → (overlap || group || list_any test some) ≡ not (length (first_reasons overlap group ++ map Rule (filter test some)) == 0)
+    → (overlap || group || list_any test some) ≡ not (length
+    (first_reasons overlap group ++ map Rule (filter test some)) == 0)
 some_of true group test some = none_is_not _
 some_of false true test some = none_is_not _
 some_of false false test some = any_applies test some
 
-pub some_are : (t : TracedPatches) (q p : Emitted) (r : Reasons) (items : List Reason) → items ≡ first_reasons r.overlap r.group ++ map Rule r.rules.items → AreReasons t q p r → depends t.rules t.links q p ≡ not (length items == 0)
+pub some_are : (t : TracedPatches) (q p : Emitted) (r : Reasons) (items : List Reason)
+    → items ≡ first_reasons r.overlap r.group ++ map Rule r.rules.items → AreReasons t q p r
+    → depends t.rules t.links q p ≡ not (length items == 0)
 some_are t q p r items is are =
     rw (is, are.rules, are.overlap, are.group) (some_of _ _ (λ rule. applies rule q p) t.rules)

@@ -1,5 +1,6 @@
 -- The answer about a script that is written down as acts.
-use Rattle.std.proofs.Common.{◌≡◌, ℕ, ◌+◌, ◌<◌, List, length, map, Bool, true, false, ◌&&◌, nat_le, nat_lt, refl, sym, subst, ◌∙◌}
+use Rattle.std.proofs.Common.{◌≡◌, ℕ, ◌+◌, ◌<◌, List, length, map, Bool, true, false, ◌&&◌, nat_le, nat_lt, refl, sym}
+use Rattle.std.proofs.Common.{subst, ◌∙◌}
 use Rattle.std.specs.Prelude.{◌==◌, Result, Ok, Err}
 use Rattle.std.proofs.lemmas.Bool.{and_parts, leb-true, le-leb, ltb-true}
 use Rattle.patch_sets.proofs.Ids.{eq_from_true}
@@ -19,10 +20,13 @@ use Rattle.crash_model.specs.declared.settings.Settings.{Settings}
 use Rattle.crash_model.specs.declared.settings.ReportBy.TheVariants.{BySet}
 use Rattle.crash_model.specs.declared.steps.Act.{Act}
 use Rattle.crash_model.proofs.Leading.{failing_closed, closed_are_left, sections_lead}
-use Rattle.worked_example_laws.specs.Computed.{closed_sets, failing_under, kept_of, are_in_order, trace_of, is_accepted, section_of, have_runs}
+use Rattle.worked_example_laws.specs.Computed.{closed_sets, failing_under, kept_of, are_in_order, trace_of, is_accepted}
+use Rattle.worked_example_laws.specs.Computed.{section_of, have_runs}
 use Rattle.worked_example_laws.specs.Examples.{numbered_steps}
-use Rattle.worked_example_laws.specs.Spelled.{are_acts, script, base_or, base_of, has_base, trace_steps, graph, is_geometry, is_told}
-use Rattle.worked_example_laws.proofs.FailingSets.{accepted_is, counts_closed, all_under, failing_quickly_under, failing_under_are}
+use Rattle.worked_example_laws.specs.Spelled.{are_acts, script, base_or, base_of, has_base, trace_steps, graph}
+use Rattle.worked_example_laws.specs.Spelled.{is_geometry, is_told}
+use Rattle.worked_example_laws.proofs.FailingSets.{accepted_is, counts_closed, all_under, failing_quickly_under}
+use Rattle.worked_example_laws.proofs.FailingSets.{failing_under_are}
 use Rattle.worked_example_laws.proofs.Graphs.{earlier, graph_is}
 use Rattle.worked_example_laws.proofs.Keeping.{is_told_kept}
 use Rattle.worked_example_laws.proofs.Runs.{sections_if}
@@ -30,27 +34,35 @@ use Rattle.worked_example_laws.proofs.Spelling.{script_is}
 
 pub geometry_if : (settings : Settings) → is_geometry settings ≡ true → IsGeometry settings.blocks settings.journal
 geometry_if settings e =
-    let first = and_parts (nat_le 16 settings.blocks) (nat_le settings.blocks 128 && nat_le (settings.journal + 6) settings.blocks) e in
+    let first = and_parts (nat_le 16 settings.blocks) (nat_le settings.blocks 128
+    && nat_le (settings.journal + 6) settings.blocks) e in
     let more = and_parts (nat_le settings.blocks 128) (nat_le (settings.journal + 6) settings.blocks) first.1 in
-    record { least = leb-true 16 settings.blocks first.0; most = leb-true settings.blocks 128 more.0; room = leb-true (settings.journal + 6) settings.blocks more.1 }
+    record {
+      least = leb-true 16 settings.blocks first.0;
+      most = leb-true settings.blocks 128 more.0;
+      room = leb-true (settings.journal + 6) settings.blocks more.1;
+    }
 
 based_is : (d : Disk) (r : Result Disk TraceFault) → has_base r ≡ true → r ≡ Ok (base_or d r)
 based_is d (Err fault) e = cc
 based_is d (Ok base) e = refl
 
 -- the disk at the start line, and the graph of the steps behind it
-module _ (settings : Settings) (before behind : List Act) (read : are_acts before ≡ true) (read_too : are_acts behind ≡ true) (geometry : is_geometry settings ≡ true) where
+module _ (settings : Settings) (before behind : List Act) (read : are_acts before ≡ true)
+    (read_too : are_acts behind ≡ true) (geometry : is_geometry settings ≡ true) where
   pub start : has_base (base_from (empty_disk settings.blocks settings.journal) (numbered_steps 1 before)) ≡ true
       → HasBase (script before behind) settings (base_of settings before) (trace_steps before behind)
   start whole = record {
     before = numbered_steps 1 before;
     read = script_is before behind read read_too;
     geometry = geometry_if settings geometry;
-    built = based_is (empty_disk settings.blocks settings.journal) (base_from (empty_disk settings.blocks settings.journal) (numbered_steps 1 before)) whole;
+    built = based_is (empty_disk settings.blocks settings.journal)
+        (base_from (empty_disk settings.blocks settings.journal) (numbered_steps 1 before)) whole;
   }
 
   pub has_graph : has_base (base_from (empty_disk settings.blocks settings.journal) (numbered_steps 1 before)) ≡ true
-      → is_accepted (trace_from settings.module (trace_start (base_of settings before)) (trace_steps before behind)) ≡ true
+      → is_accepted (trace_from settings.module (trace_start (base_of settings before)) (trace_steps before behind))
+      ≡ true
       → HasGraph (script before behind) settings (base_of settings before)
       (trace_of settings.module (base_of settings before) (trace_steps before behind)) (graph settings before behind)
   has_graph whole run =
@@ -68,7 +80,8 @@ pub refused_base : (settings : Settings) (before behind : List Act) (fault : Tra
     → base_from (empty_disk settings.blocks settings.journal) (numbered_steps 1 before) ≡ Err fault
     → IsAnswer (script before behind) settings (Refused (run_of_trace fault))
 refused_base settings before behind fault read read_too geometry is =
-    answers.bad_base (numbered_steps 1 before) (trace_steps before behind) fault (script_is before behind read read_too) (geometry_if settings geometry) is
+    answers.bad_base (numbered_steps 1 before) (trace_steps before behind) fault (script_is before behind read read_too)
+    (geometry_if settings geometry) is
 
 -- an act behind it is refused
 pub refused_trace : (settings : Settings) (before behind : List Act) (fault : TraceFault)
@@ -77,11 +90,13 @@ pub refused_trace : (settings : Settings) (before behind : List Act) (fault : Tr
     → trace_from settings.module (trace_start (base_of settings before)) (trace_steps before behind) ≡ Err fault
     → IsAnswer (script before behind) settings (Refused (run_of_trace fault))
 refused_trace settings before behind fault read read_too geometry whole is =
-    answers.bad_trace (base_of settings before) (trace_steps before behind) fault (start settings before behind read read_too geometry whole) is
+    answers.bad_trace (base_of settings before) (trace_steps before behind) fault
+    (start settings before behind read read_too geometry whole) is
 
 -- how much is told of a set
 abbrev pub told_detail : Settings → List Act → List Act → Detail
-told_detail settings before behind = detail_of settings (kept_of settings.strict (base_of settings before) (trace_steps before behind))
+told_detail settings before behind = detail_of settings
+    (kept_of settings.strict (base_of settings before) (trace_steps before behind))
 
 -- the same test as `is_told`, in fewer steps
 abbrev pub is_told_quickly : Settings → List Act → List Act → ℕ → List ℕ → Bool
@@ -100,7 +115,8 @@ quickly_is : (settings : Settings) (before behind : List Act) (closed : ℕ) (fa
     → is_told_quickly settings before behind closed failing ≡ is_told settings before behind closed failing
 quickly_is settings before behind closed failing =
     let base = base_of settings before in
-    rw (failing_under_are (kept_of settings.strict base (trace_steps before behind)) base (graph settings before behind)) refl
+    rw (failing_under_are (kept_of settings.strict base (trace_steps before behind)) base
+    (graph settings before behind)) refl
 
 -- the report, of each failing set
 pub reported : (settings : Settings) (before behind : List Act) (closed : ℕ) (failing : List ℕ) (text : List ℕ)
@@ -111,13 +127,16 @@ pub reported : (settings : Settings) (before behind : List Act) (closed : ℕ) (
       closed = closed;
       failing = length failing;
       explanation = when settings.explain (explanation (ordering_rules settings) (base_of settings before)
-          (trace_of settings.module (base_of settings before) (trace_steps before behind)) (graph settings before behind));
-      body = Sets (map (section_of (told_detail settings before behind) (base_of settings before) (graph settings before behind)) failing);
+          (trace_of settings.module (base_of settings before) (trace_steps before behind))
+          (graph settings before behind));
+      body = Sets (map (section_of (told_detail settings before behind) (base_of settings before)
+          (graph settings before behind)) failing);
     })
     → IsAnswer (script before behind) settings (Reported text (length failing))
 unfolding has_graph
 reported settings before behind closed failing text told_quickly by_set is =
-    let told : is_told settings before behind closed failing ≡ true = sym (quickly_is settings before behind closed failing) ∙ told_quickly in
+    let told : is_told settings before behind closed failing ≡ true =
+    sym (quickly_is settings before behind closed failing) ∙ told_quickly in
     let base = base_of settings before in
     let steps = trace_steps before behind in
     let last = trace_of settings.module base steps in
@@ -127,16 +146,19 @@ reported settings before behind closed failing text told_quickly by_set is =
     let one = and_parts (are_acts before) _ told in
     let two = and_parts (are_acts behind) _ one.1 in
     let three = and_parts (is_geometry settings) _ two.1 in
-    let four = and_parts (has_base (base_from (empty_disk settings.blocks settings.journal) (numbered_steps 1 before))) _ three.1 in
+    let four = and_parts (has_base (base_from (empty_disk settings.blocks settings.journal) (numbered_steps 1 before)))
+    _ three.1 in
     let five = and_parts (is_accepted (trace_from settings.module (trace_start base) steps)) _ four.1 in
     let six = and_parts (length (closed_sets (deps_of patches)) == closed) _ five.1 in
-    let seven = and_parts (are_in_order (length (deps_of patches)) failing (failing_under kept base patches)) (nat_le closed settings.limit && have_runs patches failing) six.1 in
+    let seven = and_parts (are_in_order (length (deps_of patches)) failing (failing_under kept base patches))
+    (nat_le closed settings.limit && have_runs patches failing) six.1 in
     let eight = and_parts (nat_le closed settings.limit) (have_runs patches failing) seven.1 in
     let first = earlier (ordering_rules settings) base last in
     let exactly = all_under kept base patches failing first seven.0 in
     let are_closed = failing_closed kept base patches failing exactly in
     let sections = sections_if detail base patches failing eight.1 in
-    answers.reported kept base last patches text (length failing) (has_graph settings before behind one.0 two.0 three.0 four.0 five.0)
+    answers.reported kept base last patches text (length failing)
+    (has_graph settings before behind one.0 two.0 three.0 four.0 five.0)
     (is_told_kept settings.strict base steps) (record {
       total = closed;
       counted = counts_closed patches closed first (eq_from_true _ _ six.0);
@@ -146,7 +168,12 @@ reported settings before behind closed failing text told_quickly by_set is =
       left = closed_are_left base patches first failing are_closed;
       number = refl;
       body = Sets (map (section_of detail base patches) failing);
-      told = (by_set, sections, sections_lead base patches first detail failing (map (section_of detail base patches) failing) are_closed sections);
+      told = (
+        by_set,
+        sections,
+        sections_lead base patches first detail failing
+            (map (section_of detail base patches) failing) are_closed sections,
+      );
       whole = is;
     })
 
@@ -156,20 +183,26 @@ both a b p q = rw (p, q) refl
 
 pub no_geometry : (settings : Settings) → is_geometry settings ≡ false → ¬ (IsGeometry settings.blocks settings.journal)
 no_geometry settings none g =
-    let is : is_geometry settings ≡ true = both (nat_le 16 settings.blocks) (nat_le settings.blocks 128 && nat_le (settings.journal + 6) settings.blocks) (le-leb 16 settings.blocks g.least)
-    (both (nat_le settings.blocks 128) (nat_le (settings.journal + 6) settings.blocks) (le-leb settings.blocks 128 g.most) (le-leb (settings.journal + 6) settings.blocks g.room)) in
+    let is : is_geometry settings ≡ true = both (nat_le 16 settings.blocks)
+    (nat_le settings.blocks 128 && nat_le (settings.journal + 6) settings.blocks)
+    (le-leb 16 settings.blocks g.least)
+    (both (nat_le settings.blocks 128) (nat_le (settings.journal + 6) settings.blocks)
+    (le-leb settings.blocks 128 g.most) (le-leb (settings.journal + 6) settings.blocks g.room)) in
     cc
 
-pub refused_geometry : (settings : Settings) (before behind : List Act) → are_acts before ≡ true → are_acts behind ≡ true
+pub refused_geometry : (settings : Settings) (before behind : List Act) → are_acts before ≡ true
+    → are_acts behind ≡ true
     → is_geometry settings ≡ false → IsAnswer (script before behind) settings (Refused BadGeometry)
 refused_geometry settings before behind read read_too none =
-    answers.bad_geometry (numbered_steps 1 before) (trace_steps before behind) (script_is before behind read read_too) (no_geometry settings none)
+    answers.bad_geometry (numbered_steps 1 before) (trace_steps before behind) (script_is before behind read read_too)
+    (no_geometry settings none)
 
 -- more closed sets than the limit
 pub refused_limit : (settings : Settings) (before behind : List Act)
     → are_acts before ≡ true → are_acts behind ≡ true → is_geometry settings ≡ true
     → has_base (base_from (empty_disk settings.blocks settings.journal) (numbered_steps 1 before)) ≡ true
-    → is_accepted (trace_from settings.module (trace_start (base_of settings before)) (trace_steps before behind)) ≡ true
+    → is_accepted (trace_from settings.module (trace_start (base_of settings before)) (trace_steps before behind))
+    ≡ true
     → nat_lt settings.limit (length (closed_sets (deps_of (graph settings before behind)))) ≡ true
     → IsAnswer (script before behind) settings (Refused TooMany)
 refused_limit settings before behind read read_too geometry whole run more =
@@ -178,5 +211,9 @@ refused_limit settings before behind read read_too geometry whole run more =
     let last = trace_of settings.module base (trace_steps before behind) in
     let first = earlier (ordering_rules settings) base last in
     let all = counts_closed patches (length (closed_sets (deps_of patches))) first refl in
-    answers.too_many base last patches (has_graph settings before behind read read_too geometry whole run)
-    (all.0, record { distinct = all.1.distinct; each = all.1.each }, subst (λ (n : ℕ). settings.limit < n) (sym all.2) (ltb-true settings.limit (length (closed_sets (deps_of patches))) more))
+    answers.too_many base last patches (has_graph settings before behind read read_too geometry whole run) (
+      all.0,
+      record { distinct = all.1.distinct; each = all.1.each },
+      subst (λ (n : ℕ). settings.limit < n) (sym all.2) (ltb-true settings.limit
+          (length (closed_sets (deps_of patches))) more),
+    )

@@ -1,5 +1,7 @@
 -- The computed failing sets are all sets that a crash can leave and that fail.
-use Rattle.std.proofs.Common.{◌≡◌, ℕ, zero, suc, ◌+◌, ◌*◌, ◌/◌, ◌%◌, ◌^◌, ◌<◌, List, [], ◌∷◌, ◌++◌, length, Bool, true, false, not, ◌&&◌, ◌||◌, nat_lt, arith, refl, sym, subst, ap, ◌∙◌, pow-suc, inl, inr, get_or, add-one}
+use Rattle.std.proofs.Common.{◌≡◌, ℕ, zero, suc, ◌+◌, ◌*◌, ◌/◌, ◌%◌, ◌^◌, ◌<◌, List, [], ◌∷◌, ◌++◌, length, Bool, true}
+use Rattle.std.proofs.Common.{false, not, ◌&&◌, ◌||◌, nat_lt, arith, refl, sym, subst, ap, ◌∙◌, pow-suc, inl, inr}
+use Rattle.std.proofs.Common.{get_or, add-one}
 use Rattle.std.specs.Prelude.{◌⊎◌, Option, Some, None, ◌==◌, count_ones, Ok, Err, Result}
 use Rattle.std.specs.List.{Contains, filter, list_any, list_all}
 use Rattle.std.proofs.lemmas.List.{get_or_default}
@@ -27,35 +29,48 @@ use Rattle.crash_model.specs.declared.refusals.TraceFault.{TraceFault}
 use Rattle.crash_model.specs.declared.modules.Module.{Module}
 use Rattle.crash_model.specs.declared.steps.Step.{Step}
 use Rattle.worked_example_laws.proofs.Graphs.{graph_is}
-use Rattle.worked_example_laws.specs.Computed.{closed_sets, is_none_found, fails, failing_sets, fails_under, failing_under, ones_below, is_before, is_ordered, is_in, are_in_order, graph_of, HasGraph, ExploresTo, is_accepted, trace_or_start, CountsWith}
+use Rattle.worked_example_laws.specs.Computed.{closed_sets, is_none_found, fails, failing_sets, fails_under}
+use Rattle.worked_example_laws.specs.Computed.{failing_under, ones_below, is_before, is_ordered, is_in, are_in_order}
+use Rattle.worked_example_laws.specs.Computed.{graph_of, HasGraph, ExploresTo, is_accepted, trace_or_start, CountsWith}
 use Rattle.worked_example_laws.proofs.QuickFaults.{replayed, quick_faults, quick_faults_are}
-use Rattle.worked_example_laws.proofs.ClosedSets.{AreApart, closed_are_all, pairs_apart, apart_filter, from_filter, to_filter}
+use Rattle.worked_example_laws.proofs.ClosedSets.{AreApart, closed_are_all, pairs_apart, apart_filter, from_filter}
+use Rattle.worked_example_laws.proofs.ClosedSets.{to_filter}
 
 -- ---- how many
 
-pub list_of : (P : ℕ → Type 0) (xs : List ℕ) → AreApart xs → ((x : ℕ) → Contains xs x → P x) → ((x : ℕ) → P x → Contains xs x) → IsListOf P xs
+pub list_of : (P : ℕ → Type 0) (xs : List ℕ) → AreApart xs → ((x : ℕ) → Contains xs x → P x)
+    → ((x : ℕ) → P x → Contains xs x) → IsListOf P xs
 list_of P xs apart each every = record {
   distinct = pairs_apart xs apart;
   each = λ k d within. each (get_or xs k d) (k, within, get_or_default xs k (get_or xs k d) d within);
   every = every;
 }
 
-pub counts_closed : (patches : List Patch) (n : ℕ) → AreEarlier (deps_of patches) → length (closed_sets (deps_of patches)) ≡ n → CountsClosed patches n
+pub counts_closed : (patches : List Patch) (n : ℕ) → AreEarlier (deps_of patches)
+    → length (closed_sets (deps_of patches)) ≡ n → CountsClosed patches n
 counts_closed patches n before many =
-    let all = closed_are_all (deps_of patches) before in
-    (closed_sets (deps_of patches), list_of (IsClosed (deps_of patches)) (closed_sets (deps_of patches)) all.apart all.each all.every, many)
+    let all = closed_are_all (deps_of patches) before in (
+      closed_sets (deps_of patches),
+      list_of (IsClosed (deps_of patches)) (closed_sets (deps_of patches)) all.apart
+          all.each all.every,
+      many,
+    )
 
 -- with so many of these ids
 counts_with : (patches : List Patch) (ids : List ℕ) (held n : ℕ) → AreEarlier (deps_of patches)
-    → length (filter (λ set. length (filter (has set) ids) == held) (closed_sets (deps_of patches))) ≡ n → CountsWith patches ids held n
+    → length (filter (λ set. length (filter (has set) ids) == held) (closed_sets (deps_of patches))) ≡ n
+    → CountsWith patches ids held n
 counts_with patches ids held n before many =
     let all = closed_are_all (deps_of patches) before in
     let test = λ (set : ℕ). length (filter (has set) ids) == held in (
       filter test (closed_sets (deps_of patches)),
-      list_of (λ set. IsClosed (deps_of patches) set × (length (filter (has set) ids) ≡ held)) (filter test (closed_sets (deps_of patches)))
+      list_of (λ set. IsClosed (deps_of patches) set × (length (filter (has set) ids) ≡ held))
+          (filter test (closed_sets (deps_of patches)))
           (apart_filter test (closed_sets (deps_of patches)) all.apart)
-          (λ set is. let it = from_filter test (closed_sets (deps_of patches)) set is in (all.each set it.0, eq_from_true _ held it.1))
-          (λ set is. to_filter test (closed_sets (deps_of patches)) set (all.every set is.0) (true_from_eq _ held is.1)),
+          (λ set is. let it = from_filter test (closed_sets (deps_of patches)) set is in
+          (all.each set it.0, eq_from_true _ held it.1))
+          (λ set is. to_filter test (closed_sets (deps_of patches)) set (all.every set is.0)
+          (true_from_eq _ held is.1)),
       many,
     )
 
@@ -79,21 +94,29 @@ module _ (kept : Option ℕ) (base : Disk) (patches : List Patch) (before : AreE
       let it = from_filter (fails_under kept base patches) (closed_sets (deps_of patches)) set is in
       record {
         closed = (closed_are_all (deps_of patches) before).each set it.0;
-        unclean = λ clean. none_at_true (faults_under kept (image_after_replay (image_of base patches set))) it.1 clean.faultless;
+        unclean = λ clean. none_at_true (faults_under kept (image_after_replay (image_of base patches set))) it.1
+            clean.faultless;
       }
 
   pub in_under : (set : ℕ) → IsFailingUnder kept base patches set → Contains (failing_under kept base patches) set
   in_under set failing = to_filter (fails_under kept base patches) (closed_sets (deps_of patches)) set
       ((closed_are_all (deps_of patches) before).every set failing.closed)
-      (by_fault (faults_under kept (image_after_replay (image_of base patches set))) (λ none. failing.unclean record { faultless = none }))
+      (by_fault (faults_under kept (image_after_replay (image_of base patches set)))
+      (λ none. failing.unclean record { faultless = none }))
 
 -- the same where nothing is asked of what is kept
 module _ (base : Disk) (patches : List Patch) where
   pub failing_from_under : (set : ℕ) → IsFailingUnder None base patches set → IsFailing base patches set
-  failing_from_under set is = record { closed = is.closed; unclean = λ clean. is.unclean record { faultless = clean.faultless } }
+  failing_from_under set is = record {
+    closed = is.closed;
+    unclean = λ clean. is.unclean record { faultless = clean.faultless };
+  }
 
   pub under_from_failing : (set : ℕ) → IsFailing base patches set → IsFailingUnder None base patches set
-  under_from_failing set is = record { closed = is.closed; unclean = λ clean. is.unclean record { faultless = clean.faultless } }
+  under_from_failing set is = record {
+    closed = is.closed;
+    unclean = λ clean. is.unclean record { faultless = clean.faultless };
+  }
 
 module _ (base : Disk) (patches : List Patch) (before : AreEarlier (deps_of patches)) where
   failing_at : (set : ℕ) → Contains (failing_sets base patches) set → IsFailing base patches set
@@ -106,7 +129,8 @@ module _ (base : Disk) (patches : List Patch) (before : AreEarlier (deps_of patc
   counts_failing n many = (
     failing_sets base patches,
     list_of (IsFailing base patches) (failing_sets base patches)
-        (apart_filter (fails base patches) (closed_sets (deps_of patches)) ((closed_are_all (deps_of patches) before).apart)) failing_at in_failing,
+        (apart_filter (fails base patches) (closed_sets (deps_of patches))
+        ((closed_are_all (deps_of patches) before).apart)) failing_at in_failing,
     many,
   )
 
@@ -114,7 +138,8 @@ module _ (base : Disk) (patches : List Patch) (before : AreEarlier (deps_of patc
 
 ones_are : (n set : ℕ) → set < 2 ^ n → count_ones set ≡ ones_below n set
 ones_are zero set small = omega (arith, ones_le_self set)
-ones_are (suc n) set small = ones_step set ∙ ap (λ k. set % 2 + k) (ones_are n (set / 2) (half (2 ^ n) set (omega (arith, small, pow-suc 2 n))))
+ones_are (suc n) set small = ones_step set ∙ ap (λ k. set % 2 + k)
+    (ones_are n (set / 2) (half (2 ^ n) set (omega (arith, small, pow-suc 2 n))))
   where
     half : (top set : ℕ) → set < top * 2 → set / 2 < top
     half top set small = omega arith
@@ -134,11 +159,13 @@ next_if : (n : ℕ) (sets : List ℕ) → ((set : ℕ) → Contains sets set →
     → (k : ℕ) → k + 1 < length sets → IsBefore (get_or sets k 0) (get_or sets (k + 1) 0)
 next_if n [] small e k within = absurd (omega arith)
 next_if n (a ∷ []) small e k within = absurd (omega arith)
-next_if n (a ∷ b ∷ sets) small e zero within = before_if n a b (small a (zero, omega arith, refl)) (small b (1, omega arith, refl)) (and_parts (is_before n a b) _ e).0
+next_if n (a ∷ b ∷ sets) small e zero within = before_if n a b (small a (zero, omega arith, refl))
+    (small b (1, omega arith, refl)) (and_parts (is_before n a b) _ e).0
 next_if n (a ∷ b ∷ sets) small e (suc k) within =
     let rest : IsBefore (get_or (b ∷ sets) k 0) (get_or (b ∷ sets) (suc k) 0) =
     subst (λ (m : ℕ). IsBefore (get_or (b ∷ sets) k 0) (get_or (b ∷ sets) m 0)) (add-one k)
-    (next_if n (b ∷ sets) (λ set is. small set (suc is.0, omega (arith, is.1), is.2)) (and_parts (is_before n a b) _ e).1 k (omega arith)) in
+    (next_if n (b ∷ sets) (λ set is. small set (suc is.0, omega (arith, is.1), is.2))
+    (and_parts (is_before n a b) _ e).1 k (omega arith)) in
     subst (λ (m : ℕ). IsBefore (get_or (b ∷ sets) k 0) (get_or (a ∷ b ∷ sets) m 0)) (sym (add-one (suc k))) rest
 
 in_if : (sets : List ℕ) (set : ℕ) → is_in sets set ≡ true → Contains sets set
@@ -148,14 +175,17 @@ in_if (s ∷ sets) set e = elim (either (s == set) (list_any (λ t. t == set) se
   | inr more ↦ let it = in_if sets set more in (suc it.0, omega (arith, it.1), it.2)
 ]
 
-pub all_if : (test : ℕ → Bool) (sets : List ℕ) → list_all test sets ≡ true → (set : ℕ) → Contains sets set → test set ≡ true
+pub all_if : (test : ℕ → Bool) (sets : List ℕ) → list_all test sets ≡ true → (set : ℕ) → Contains sets set
+    → test set ≡ true
 all_if test [] e set is = absurd (omega (arith, is.1))
 all_if test (s ∷ sets) e set (zero, within, is) = ap test (sym is) ∙ (and_parts (test s) (list_all test sets) e).0
-all_if test (s ∷ sets) e set (suc k, within, is) = all_if test sets (and_parts (test s) (list_all test sets) e).1 set (k, omega arith, is)
+all_if test (s ∷ sets) e set (suc k, within, is) = all_if test sets (and_parts (test s) (list_all test sets) e).1 set
+    (k, omega arith, is)
 
 -- these sets are all that fail, in canonical order
 pub all_under : (kept : Option ℕ) (base : Disk) (patches : List Patch) (sets : List ℕ) → AreEarlier (deps_of patches)
-    → are_in_order (length (deps_of patches)) sets (failing_under kept base patches) ≡ true → AreAllInOrder (IsFailingUnder kept base patches) sets
+    → are_in_order (length (deps_of patches)) sets (failing_under kept base patches) ≡ true
+    → AreAllInOrder (IsFailingUnder kept base patches) sets
 all_under kept base patches sets before e =
     let found = failing_under kept base patches in
     let ordered = and_parts (is_ordered (length (deps_of patches)) sets) _ e in
@@ -163,17 +193,26 @@ all_under kept base patches sets before e =
     let fails_at = λ (set : ℕ) (is : Contains sets set).
     under_at kept base patches before set (in_if found set (all_if (is_in found) sets same.0 set is)) in
     record {
-      ordered = ordered_from_next sets (next_if (length (deps_of patches)) sets (λ set is. small_from_below set (length (deps_of patches)) (fails_at set is).closed.known) ordered.0);
-      exactly = λ set. (fails_at set, λ failing. in_if sets set (all_if (is_in sets) found same.1 set (in_under kept base patches before set failing)));
+      ordered = ordered_from_next sets (next_if (length (deps_of patches)) sets
+          (λ set is. small_from_below set (length (deps_of patches)) (fails_at set is).closed.known) ordered.0);
+      exactly = λ set. (
+        fails_at set,
+        λ failing. in_if sets set
+            (all_if (is_in sets) found same.1 set (in_under kept base patches before set failing)),
+      );
     }
 
 all_failing : (base : Disk) (patches : List Patch) (sets : List ℕ) → AreEarlier (deps_of patches)
-    → are_in_order (length (deps_of patches)) sets (failing_sets base patches) ≡ true → AreAllInOrder (IsFailing base patches) sets
+    → are_in_order (length (deps_of patches)) sets (failing_sets base patches) ≡ true
+    → AreAllInOrder (IsFailing base patches) sets
 all_failing base patches sets before e =
     let all = all_under None base patches sets before e in
     record {
       ordered = all.ordered;
-      exactly = λ set. ((λ is. failing_from_under base patches set ((all.exactly set).0 is)), (λ failing. (all.exactly set).1 (under_from_failing base patches set failing)));
+      exactly = λ set. (
+        (λ is. failing_from_under base patches set ((all.exactly set).0 is)),
+        (λ failing. (all.exactly set).1 (under_from_failing base patches set failing)),
+      );
     }
 
 pub accepted_is : (base : Disk) (r : Result Tracing TraceFault) → is_accepted r ≡ true → r ≡ Ok (trace_or_start base r)
@@ -188,10 +227,12 @@ at_graph kind base f (Err fault) = None
 at_graph kind base f (Ok s) = Some (f (graph_of (rules_of kind) base s))
 
 pub graph_if : {X : Type 0} (kind : Module) (base : Disk) (steps : List Step) (f : List Patch → X) (x : X)
-    → at_graph kind base f (trace_from kind (trace_start base) steps) ≡ Some x → HasGraph kind base steps (λ patches. f patches ≡ x)
+    → at_graph kind base f (trace_from kind (trace_start base) steps) ≡ Some x
+    → HasGraph kind base steps (λ patches. f patches ≡ x)
 graph_if kind base steps f x e = of_run (trace_from kind (trace_start base) steps) refl e
   where
-    of_run : (r : Result Tracing TraceFault) → trace_from kind (trace_start base) steps ≡ r → at_graph kind base f r ≡ Some x
+    of_run : (r : Result Tracing TraceFault) → trace_from kind (trace_start base) steps ≡ r
+        → at_graph kind base f r ≡ Some x
         → HasGraph kind base steps (λ patches. f patches ≡ x)
     of_run (Err fault) run e = cc
     of_run (Ok s) run e = record {
@@ -204,7 +245,8 @@ graph_if kind base steps f x e = of_run (trace_from kind (trace_start base) step
 
 -- what follows from a property of the graph
 pub graph_then : (kind : Module) (base : Disk) (steps : List Step) (P Q : List Patch → Type 0)
-    → ((patches : List Patch) → AreEarlier (deps_of patches) → P patches → Q patches) → HasGraph kind base steps P → HasGraph kind base steps Q
+    → ((patches : List Patch) → AreEarlier (deps_of patches) → P patches → Q patches) → HasGraph kind base steps P
+    → HasGraph kind base steps Q
 graph_then kind base steps P Q then_is has = record {
   last = has.last;
   run = has.run;
@@ -216,10 +258,12 @@ graph_then kind base steps P Q then_is has = record {
 -- ---- how many, and by how many of some ids
 
 pub counted_if : (kind : Module) (base : Disk) (steps : List Step) (closed : ℕ)
-    → at_graph kind base (λ patches. length (closed_sets (deps_of patches))) (trace_from kind (trace_start base) steps) ≡ Some closed
+    → at_graph kind base (λ patches. length (closed_sets (deps_of patches))) (trace_from kind (trace_start base) steps)
+    ≡ Some closed
     → HasGraph kind base steps (λ patches. CountsClosed patches closed)
 counted_if kind base steps closed e =
-    graph_then kind base steps (λ patches. length (closed_sets (deps_of patches)) ≡ closed) (λ patches. CountsClosed patches closed)
+    graph_then kind base steps (λ patches. length (closed_sets (deps_of patches)) ≡ closed)
+    (λ patches. CountsClosed patches closed)
     (λ patches before is. counts_closed patches closed before is)
     (graph_if kind base steps (λ patches. length (closed_sets (deps_of patches))) closed e)
 
@@ -227,39 +271,47 @@ counted_if kind base steps closed e =
 abbrev pub are_counted_from : ℕ → List ℕ → List ℕ → List ℕ → Bool
 are_counted_from held ids [] sets = true
 are_counted_from held ids (n ∷ counts) sets =
-    (length (filter (λ set. length (filter (has set) ids) == held) sets) == n) && are_counted_from (held + 1) ids counts sets
+    (length (filter (λ set. length (filter (has set) ids) == held) sets) == n)
+    && are_counted_from (held + 1) ids counts sets
 
 abbrev pub are_counted : List ℕ → List ℕ → ℕ → List ℕ → Bool
 are_counted ids counts total sets = (length sets == total) && are_counted_from 0 ids counts sets
 
 pub record HasCounts (kind : Module) (base : Disk) (steps : List Step) (ids counts : List ℕ) (total : ℕ) : Type 0 where
   pub all : HasGraph kind base steps (λ patches. CountsClosed patches total)
-  pub each : (held : ℕ) → held < length counts → HasGraph kind base steps (λ patches. CountsWith patches ids held (get_or counts held 0))
+  pub each : (held : ℕ) → held < length counts → HasGraph kind base steps
+      (λ patches. CountsWith patches ids held (get_or counts held 0))
 
-count_at : (ids counts sets : List ℕ) (from held many : ℕ) → from + held ≡ many → are_counted_from from ids counts sets ≡ true → held < length counts
+count_at : (ids counts sets : List ℕ) (from held many : ℕ) → from + held ≡ many
+    → are_counted_from from ids counts sets ≡ true → held < length counts
     → length (filter (λ set. length (filter (has set) ids) == many) sets) ≡ get_or counts held 0
 count_at ids [] sets from held many sum e within = absurd (omega arith)
 count_at ids (n ∷ counts) sets from zero many sum e within =
     let same : from ≡ many = omega arith in
-    let first = eq_from_true _ n (and_parts (length (filter (λ set. length (filter (has set) ids) == from) sets) == n) _ e).0 in
+    let first = eq_from_true _ n (and_parts (length (filter (λ set. length (filter (has set) ids) == from) sets) == n)
+    _ e).0 in
     subst (λ (m : ℕ). length (filter (λ set. length (filter (has set) ids) == m) sets) ≡ n) same first
 count_at ids (n ∷ counts) sets from (suc held) many sum e within =
     count_at ids counts sets (from + 1) held many (omega arith)
     (and_parts (length (filter (λ set. length (filter (has set) ids) == from) sets) == n) _ e).1 (omega arith)
 
 pub counts_if : (kind : Module) (base : Disk) (steps : List Step) (ids counts : List ℕ) (total : ℕ)
-    → at_graph kind base (λ patches. are_counted ids counts total (closed_sets (deps_of patches))) (trace_from kind (trace_start base) steps) ≡ Some true
+    → at_graph kind base (λ patches. are_counted ids counts total (closed_sets (deps_of patches)))
+    (trace_from kind (trace_start base) steps) ≡ Some true
     → HasCounts kind base steps ids counts total
 counts_if kind base steps ids counts total e =
     let test = λ (patches : List Patch). are_counted ids counts total (closed_sets (deps_of patches)) in
     let has = graph_if kind base steps test true e in
-    let parts = λ (patches : List Patch) (is : test patches ≡ true). and_parts (length (closed_sets (deps_of patches)) == total) _ is in
+    let parts = λ (patches : List Patch) (is : test patches ≡ true).
+    and_parts (length (closed_sets (deps_of patches)) == total) _ is in
     record {
       all = graph_then kind base steps (λ patches. test patches ≡ true) (λ patches. CountsClosed patches total)
           (λ patches before is. counts_closed patches total before (eq_from_true _ total (parts patches is).0)) has;
-      each = λ held within. graph_then kind base steps (λ patches. test patches ≡ true) (λ patches. CountsWith patches ids held (get_or counts held 0))
+      each = λ held within. graph_then kind base steps (λ patches. test patches ≡ true)
+          (λ patches. CountsWith patches ids held (get_or counts held 0))
           (λ patches before is. counts_with patches ids held (get_or counts held 0) before
-          (count_at ids counts (closed_sets (deps_of patches)) 0 held held (omega arith) (parts patches is).1 within)) has;
+          (count_at ids counts (closed_sets (deps_of patches)) 0 held held (omega arith) (parts patches is).1 within))
+          has;
     }
 
 -- ---- which fail
@@ -274,12 +326,16 @@ quick_faults_under_are (Some kept) d = ap (λ found. found ++ strict_faults kept
 
 abbrev pub failing_quickly_under : Option ℕ → Disk → List Patch → List ℕ
 failing_quickly_under kept base patches =
-    filter (λ set. not (is_none_found (quick_faults_under kept (replayed (image_of base patches set))))) (closed_sets (deps_of patches))
+    filter (λ set. not (is_none_found (quick_faults_under kept (replayed (image_of base patches set)))))
+    (closed_sets (deps_of patches))
 
-pub failing_under_are : (kept : Option ℕ) (base : Disk) (patches : List Patch) → failing_quickly_under kept base patches ≡ failing_under kept base patches
+pub failing_under_are : (kept : Option ℕ) (base : Disk) (patches : List Patch)
+    → failing_quickly_under kept base patches ≡ failing_under kept base patches
 failing_under_are kept base patches =
-    filter_agree (λ set. not (is_none_found (quick_faults_under kept (replayed (image_of base patches set))))) (fails_under kept base patches)
-    (λ set. ap (λ found. not (is_none_found found)) (quick_faults_under_are kept (image_after_replay (image_of base patches set)))) (closed_sets (deps_of patches))
+    filter_agree (λ set. not (is_none_found (quick_faults_under kept (replayed (image_of base patches set)))))
+    (fails_under kept base patches)
+    (λ set. ap (λ found. not (is_none_found found)) (quick_faults_under_are kept
+    (image_after_replay (image_of base patches set)))) (closed_sets (deps_of patches))
 
 abbrev pub failing_quickly : Disk → List Patch → List ℕ
 failing_quickly base patches = failing_quickly_under None base patches
@@ -288,25 +344,31 @@ failing_are : (base : Disk) (patches : List Patch) → failing_quickly base patc
 failing_are base patches = failing_under_are None base patches
 
 pub number_if : (kind : Module) (base : Disk) (steps : List Step) (many : ℕ)
-    → at_graph kind base (λ patches. length (failing_quickly base patches)) (trace_from kind (trace_start base) steps) ≡ Some many
+    → at_graph kind base (λ patches. length (failing_quickly base patches)) (trace_from kind (trace_start base) steps)
+    ≡ Some many
     → HasGraph kind base steps (λ patches. HoldsOf (IsFailing base patches) many)
 number_if kind base steps many e =
-    graph_then kind base steps (λ patches. length (failing_quickly base patches) ≡ many) (λ patches. HoldsOf (IsFailing base patches) many)
+    graph_then kind base steps (λ patches. length (failing_quickly base patches) ≡ many)
+    (λ patches. HoldsOf (IsFailing base patches) many)
     (λ patches before is. counts_failing base patches before many (ap length (sym (failing_are base patches)) ∙ is))
     (graph_if kind base steps (λ patches. length (failing_quickly base patches)) many e)
 
 -- one of the closed sets fails
 pub failing_if : (kind : Module) (base : Disk) (steps : List Step) (set : ℕ)
-    → at_graph kind base (λ patches. is_in (failing_quickly base patches) set) (trace_from kind (trace_start base) steps) ≡ Some true
+    → at_graph kind base (λ patches. is_in (failing_quickly base patches) set)
+    (trace_from kind (trace_start base) steps) ≡ Some true
     → HasGraph kind base steps (λ patches. IsFailing base patches set)
 failing_if kind base steps set e =
-    graph_then kind base steps (λ patches. is_in (failing_quickly base patches) set ≡ true) (λ patches. IsFailing base patches set)
+    graph_then kind base steps (λ patches. is_in (failing_quickly base patches) set ≡ true)
+    (λ patches. IsFailing base patches set)
     (λ patches before is. failing_at base patches before set
     (in_if (failing_sets base patches) set (ap (λ found. is_in found set) (sym (failing_are base patches)) ∙ is)))
     (graph_if kind base steps (λ patches. is_in (failing_quickly base patches) set) true e)
 
-pub fails_at_fault : (base : Disk) (patches : List Patch) → AreEarlier (deps_of patches) → (set : ℕ) → is_in (closed_sets (deps_of patches)) set ≡ true
-    → (f : Fault) (fs : List Fault) → faults (image_after_replay (image_of base patches set)) ≡ f ∷ fs → IsFailing base patches set
+pub fails_at_fault : (base : Disk) (patches : List Patch) → AreEarlier (deps_of patches) → (set : ℕ)
+    → is_in (closed_sets (deps_of patches)) set ≡ true
+    → (f : Fault) (fs : List Fault) → faults (image_after_replay (image_of base patches set)) ≡ f ∷ fs
+    → IsFailing base patches set
 fails_at_fault base patches before set is_closed f fs is = record {
   closed = (closed_are_all (deps_of patches) before).each set (in_if (closed_sets (deps_of patches)) set is_closed);
   unclean = λ clean. let none = clean.faultless in cc;
@@ -315,7 +377,8 @@ fails_at_fault base patches before set is_closed f fs is = record {
 -- so many sets are closed, and these are all that fail, in canonical order
 abbrev pub are_explored : Disk → ℕ → List ℕ → List Patch → Bool
 are_explored base closed failing patches =
-    (length (closed_sets (deps_of patches)) == closed) && are_in_order (length (deps_of patches)) failing (failing_quickly base patches)
+    (length (closed_sets (deps_of patches)) == closed) && are_in_order (length (deps_of patches)) failing
+    (failing_quickly base patches)
 
 pub explored_if : (kind : Module) (base : Disk) (steps : List Step) (closed : ℕ) (failing : List ℕ)
     → at_graph kind base (are_explored base closed failing) (trace_from kind (trace_start base) steps) ≡ Some true
@@ -325,6 +388,7 @@ explored_if kind base steps closed failing e =
     (λ patches. CountsClosed patches closed × AreAllInOrder (IsFailing base patches) failing)
     (λ patches before is. let parts = and_parts (length (closed_sets (deps_of patches)) == closed) _ is in (
       counts_closed patches closed before (eq_from_true _ closed parts.0),
-      all_failing base patches failing before (ap (are_in_order (length (deps_of patches)) failing) (sym (failing_are base patches)) ∙ parts.1),
+      all_failing base patches failing before (ap (are_in_order (length (deps_of patches)) failing)
+          (sym (failing_are base patches)) ∙ parts.1),
     ))
     (graph_if kind base steps (are_explored base closed failing) true e)

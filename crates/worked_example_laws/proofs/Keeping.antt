@@ -1,5 +1,6 @@
 -- There is what a checker is told of the inodes that a script keeps, and only that.
-use Rattle.std.proofs.Common.{◌≡◌, ℕ, ◌<◌, List, [], ◌∷◌, Bool, true, false, ◌==◌, not, nat_lt, refl, sym, ap, ◌∙◌, inl, inr}
+use Rattle.std.proofs.Common.{◌≡◌, ℕ, ◌<◌, List, [], ◌∷◌, Bool, true, false, ◌==◌, not, nat_lt, refl, sym, ap, ◌∙◌, inl}
+use Rattle.std.proofs.Common.{inr}
 use Rattle.std.specs.Prelude.{Option, Some, None}
 use Rattle.std.proofs.lemmas.Bool.{cases_Bool, false≢true, and_parts, ltb-true, eqb-true, eq-eqb}
 use Rattle.std.specs.Int.{bit_at}
@@ -23,22 +24,28 @@ module _ (base : Disk) (steps : List Step) where
   kept_is : IsKept base steps (set_below 16 (stays_live base steps))
   kept_is inode = elim (cases_Bool (stays_live base steps inode)) [
     | inl is ↦ has_if _ inode (to_set_below 16 (stays_live base steps) inode (low_if base steps inode is) is) ∙ sym is
-    | inr gone ↦ lacks_if _ inode (λ there. false≢true (sym gone ∙ (from_set_below 16 (stays_live base steps) inode there).1)) ∙ sym gone
+    | inr gone ↦ lacks_if _ inode (λ there. false≢true (sym gone
+        ∙ (from_set_below 16 (stays_live base steps) inode there).1)) ∙ sym gone
   ]
     where
       has_if : (set id : ℕ) → Has set id → has set id ≡ true
       has_if set id is = eq-eqb (bit_at set id) 1 is
 
       lacks_if : (set id : ℕ) → (Has set id → ⊥) → has set id ≡ false
-      lacks_if set id none = elim (cases_Bool (has set id)) [ inl is ↦ absurd (none (eqb-true (bit_at set id) 1 is)) | inr gone ↦ gone ]
+      lacks_if set id none = elim (cases_Bool (has set id)) [
+        | inl is ↦ absurd (none (eqb-true (bit_at set id) 1 is))
+        | inr gone ↦ gone
+      ]
 
   kept_one : (kept other : ℕ) → IsKept base steps kept → IsKept base steps other → kept ≡ other
   kept_one kept other is also = same_set kept other (within kept other is also) (within other kept also is)
     where
       within : (a b : ℕ) → IsKept base steps a → IsKept base steps b → (id : ℕ) → Has a id → Has b id
-      within a b is_a is_b id there = eqb-true (bit_at b id) 1 (is_b id ∙ (sym (is_a id) ∙ eq-eqb (bit_at a id) 1 there))
+      within a b is_a is_b id there = eqb-true (bit_at b id) 1
+          (is_b id ∙ (sym (is_a id) ∙ eq-eqb (bit_at a id) 1 there))
 
-pub is_told_kept : (strict : Bool) (base : Disk) (steps : List Step) → IsToldKept strict base steps (kept_of strict base steps)
+pub is_told_kept : (strict : Bool) (base : Disk) (steps : List Step)
+    → IsToldKept strict base steps (kept_of strict base steps)
 is_told_kept false base steps = refl
 is_told_kept true base steps = (refl, kept_is base steps)
 

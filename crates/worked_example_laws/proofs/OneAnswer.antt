@@ -20,17 +20,22 @@ use Rattle.crash_model.specs.declared.steps.Step.{Step}
 use Rattle.worked_example_laws.proofs.Keeping.{one_kept}
 use Rattle.worked_example_laws.proofs.OneBody.{body_one}
 use Rattle.worked_example_laws.proofs.OneGraph.{graph_one}
-use Rattle.worked_example_laws.proofs.Stages.{ComesOfGraph, ComesOfTrace, ComesOfBase, ComesOfSteps, ComesOfScript, stages}
+use Rattle.worked_example_laws.proofs.Stages.{ComesOfGraph, ComesOfTrace, ComesOfBase, ComesOfSteps, ComesOfScript}
+use Rattle.worked_example_laws.proofs.Stages.{stages}
 use Rattle.worked_example_laws.proofs.Scripts.{script_one, refusal_one, read_or_refused}
 
 module _ (settings : Settings) (base : Disk) (last : Tracing) where
-  report_one : (kept : Option ℕ) (patches : List Patch) (text other : List ℕ) (failing more : ℕ) → IsReport settings kept base last patches text failing
+  report_one : (kept : Option ℕ) (patches : List Patch) (text other : List ℕ) (failing more : ℕ)
+      → IsReport settings kept base last patches text failing
       → IsReport settings kept base last patches other more → Reported text failing ≡ Reported other more
   report_one kept patches text other failing more is also =
-      let total : is.total ≡ also.total = one_number (IsClosed (deps_of patches)) is.total also.total is.counted also.counted in
-      let same : is.sets ≡ also.sets = one_list (IsFailingUnder kept base patches) is.sets also.sets is.exactly also.exactly in
+      let total : is.total ≡ also.total = one_number (IsClosed (deps_of patches)) is.total also.total is.counted
+      also.counted in
+      let same : is.sets ≡ also.sets = one_list (IsFailingUnder kept base patches) is.sets also.sets is.exactly
+      also.exactly in
       let numbers : failing ≡ more = is.number ∙ (ap (λ (some : List ℕ). length some) same ∙ sym also.number) in
-      let bodies : is.body ≡ also.body = body_one settings kept base last patches also.sets is.body also.body (subst (λ some. IsBody settings kept base last patches some is.body) same is.told) also.told in
+      let bodies : is.body ≡ also.body = body_one settings kept base last patches also.sets is.body also.body
+      (subst (λ some. IsBody settings kept base last patches some is.body) same is.told) also.told in
       let texts : text ≡ other = is.whole ∙ ((λ i. report settings (record {
         patches = length patches;
         closed = total i;
@@ -40,42 +45,57 @@ module _ (settings : Settings) (base : Disk) (last : Tracing) where
       })) ∙ sym also.whole) in
       cc (texts, numbers)
 
-  graph_answer_one : (steps : List Step) (patches : List Patch) (answer other : Answer) → ComesOfGraph settings base steps last patches answer
+  graph_answer_one : (steps : List Step) (patches : List Patch) (answer other : Answer)
+      → ComesOfGraph settings base steps last patches answer
       → ComesOfGraph settings base steps last patches other → answer ≡ other
   graph_answer_one steps patches (Refused fault) (Refused more) is also = ap Refused (is.1 ∙ sym also.1)
-  graph_answer_one steps patches (Refused fault) (Reported text failing) is also = absurd (not_more (IsClosed (deps_of patches)) also.2.total settings.limit also.2.counted also.2.within is.0)
-  graph_answer_one steps patches (Reported text failing) (Refused fault) is also = absurd (not_more (IsClosed (deps_of patches)) is.2.total settings.limit is.2.counted is.2.within also.0)
+  graph_answer_one steps patches (Refused fault) (Reported text failing) is also =
+      absurd (not_more (IsClosed (deps_of patches)) also.2.total settings.limit also.2.counted also.2.within is.0)
+  graph_answer_one steps patches (Reported text failing) (Refused fault) is also =
+      absurd (not_more (IsClosed (deps_of patches)) is.2.total settings.limit is.2.counted is.2.within also.0)
   graph_answer_one steps patches (Reported text failing) (Reported other more) is also =
       let same : is.0 ≡ also.0 = one_kept settings.strict base steps is.0 also.0 is.1 also.1 in
-      report_one also.0 patches text other failing more (subst (λ kept. IsReport settings kept base last patches text failing) same is.2) also.2
+      report_one also.0 patches text other failing more (subst
+      (λ kept. IsReport settings kept base last patches text failing) same is.2) also.2
 
 module _ (settings : Settings) (base : Disk) (steps : List Step) where
-  traced_one : (r : Result Tracing TraceFault) (answer other : Answer) → ComesOfTrace settings base steps r answer → ComesOfTrace settings base steps r other → answer ≡ other
+  traced_one : (r : Result Tracing TraceFault) (answer other : Answer) → ComesOfTrace settings base steps r answer
+      → ComesOfTrace settings base steps r other → answer ≡ other
   traced_one (Err fault) answer other is also = is ∙ sym also
   traced_one (Ok s) answer other is also =
       let same : is.0 ≡ also.0 = graph_one (ordering_rules settings) base s is.0 also.0 is.1 also.1 in
-      graph_answer_one settings base s steps also.0 answer other (subst (λ ps. ComesOfGraph settings base steps s ps answer) same is.2) also.2
+      graph_answer_one settings base s steps also.0 answer other
+      (subst (λ ps. ComesOfGraph settings base steps s ps answer) same is.2) also.2
 
 module _ (settings : Settings) where
-  based_one : (r : Result Disk TraceFault) (steps : List Step) (answer other : Answer) → ComesOfBase settings r steps answer → ComesOfBase settings r steps other → answer ≡ other
+  based_one : (r : Result Disk TraceFault) (steps : List Step) (answer other : Answer)
+      → ComesOfBase settings r steps answer → ComesOfBase settings r steps other → answer ≡ other
   based_one (Err fault) steps answer other is also = is ∙ sym also
-  based_one (Ok base) steps answer other is also = traced_one settings base steps (trace_from settings.module (trace_start base) steps) answer other is also
+  based_one (Ok base) steps answer other is also = traced_one settings base steps
+      (trace_from settings.module (trace_start base) steps) answer other is also
 
-  steps_answer_one : (base steps : List Step) (answer other : Answer) → ComesOfSteps settings base steps answer → ComesOfSteps settings base steps other → answer ≡ other
+  steps_answer_one : (base steps : List Step) (answer other : Answer) → ComesOfSteps settings base steps answer
+      → ComesOfSteps settings base steps other → answer ≡ other
   steps_answer_one base steps answer other (inl is) (inl also) = is.1 ∙ sym also.1
   steps_answer_one base steps answer other (inl is) (inr also) = absurd (is.0 also.0)
   steps_answer_one base steps answer other (inr is) (inl also) = absurd (also.0 is.0)
-  steps_answer_one base steps answer other (inr is) (inr also) = based_one (base_from (empty_disk settings.blocks settings.journal) base) steps answer other is.1 also.1
+  steps_answer_one base steps answer other (inr is) (inr also) =
+      based_one (base_from (empty_disk settings.blocks settings.journal) base) steps answer other is.1 also.1
 
-  script_answer_one : (bytes : List ℕ) (answer other : Answer) → ComesOfScript settings bytes answer → ComesOfScript settings bytes other → answer ≡ other
+  script_answer_one : (bytes : List ℕ) (answer other : Answer) → ComesOfScript settings bytes answer
+      → ComesOfScript settings bytes other → answer ≡ other
   script_answer_one bytes answer other (inl is) (inl also) =
       is.2 ∙ (ap (λ f. Refused (run_of_script f)) (refusal_one bytes is.0 also.0 is.1 also.1) ∙ sym also.2)
-  script_answer_one bytes answer other (inl is) (inr also) = absurd (read_or_refused bytes also.0 also.1 is.0 also.2 is.1)
+  script_answer_one bytes answer other (inl is) (inr also) =
+      absurd (read_or_refused bytes also.0 also.1 is.0 also.2 is.1)
   script_answer_one bytes answer other (inr is) (inl also) = absurd (read_or_refused bytes is.0 is.1 also.0 is.2 also.1)
   script_answer_one bytes answer other (inr is) (inr also) =
       let same = script_one bytes is.0 is.1 also.0 also.1 is.2 also.2 in
       steps_answer_one also.0 also.1 answer other
-      (subst (λ b. ComesOfSteps settings b also.1 answer) same.0 (subst (λ t. ComesOfSteps settings is.0 t answer) same.1 is.3)) also.3
+      (subst (λ b. ComesOfSteps settings b also.1 answer) same.0
+      (subst (λ t. ComesOfSteps settings is.0 t answer) same.1 is.3)) also.3
 
-  pub answer_one : (bytes : List ℕ) (answer other : Answer) → IsAnswer bytes settings answer → IsAnswer bytes settings other → answer ≡ other
-  answer_one bytes answer other is also = script_answer_one bytes answer other (stages settings is) (stages settings also)
+  pub answer_one : (bytes : List ℕ) (answer other : Answer) → IsAnswer bytes settings answer
+      → IsAnswer bytes settings other → answer ≡ other
+  answer_one bytes answer other is also = script_answer_one bytes answer other (stages settings is)
+      (stages settings also)

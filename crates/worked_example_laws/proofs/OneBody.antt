@@ -1,5 +1,6 @@
 -- What stands behind a report's head is determined.
-use Rattle.std.proofs.Common.{◌≡◌, ◌≢◌, ℕ, zero, suc, ◌≤◌, List, [], ◌∷◌, ◌++◌, length, map, All, arith, refl, sym, subst, ap, ◌∙◌, inl, inr}
+use Rattle.std.proofs.Common.{◌≡◌, ◌≢◌, ℕ, zero, suc, ◌≤◌, List, [], ◌∷◌, ◌++◌, length, map, All, arith, refl, sym}
+use Rattle.std.proofs.Common.{subst, ap, ◌∙◌, inl, inr}
 use Rattle.std.specs.Prelude.{◌⊎◌, Option, Some, None}
 use Rattle.std.specs.List.{AllPairs, Contains}
 use Rattle.std.specs.Ordering.{ordering_reverse}
@@ -17,11 +18,13 @@ use Rattle.crash_model.specs.Answer.{IsBody, detail_of, ordering_rules}
 use Rattle.crash_model.specs.Disk.{Disk}
 use Rattle.crash_model.specs.Patches.{ExceedsLimit, deps_of, homes_of, image_of}
 use Rattle.crash_model.specs.Strict.{faults_under, IsFailingUnder}
-use Rattle.crash_model.specs.Needs.{Without, RuleUsage, Unused, TooMany, Used, ToldRule, IsFirstNew, IsWithout, IsRuleUsage, AreToldRules}
+use Rattle.crash_model.specs.Needs.{Without, RuleUsage, Unused, TooMany, Used, ToldRule, IsFirstNew, IsWithout}
+use Rattle.crash_model.specs.Needs.{IsRuleUsage, AreToldRules}
 use Rattle.crash_model.specs.Replay.{image_after_replay}
 use Rattle.crash_model.specs.Report.{Section, AreSections, replay_of}
 use Rattle.crash_model.specs.Rules.{rules_in_first}
-use Rattle.crash_model.specs.Summary.{numbers_of, IsFaultBefore, HasFault, IsFirst, IsRow, AreRows, ToldFault, AreToldFaults}
+use Rattle.crash_model.specs.Summary.{numbers_of, IsFaultBefore, HasFault, IsFirst, IsRow, AreRows, ToldFault}
+use Rattle.crash_model.specs.Summary.{AreToldFaults}
 use Rattle.crash_model.specs.Trace.{Tracing}
 use Rattle.crash_model.specs.Whole.{Body, Sets, Faults, Rules}
 use Rattle.crash_model.specs.declared.fault.Fault.{Fault}
@@ -37,7 +40,8 @@ use Rattle.worked_example_laws.proofs.Sets.{order}
 
 -- ---- sections
 
-pub sections_one : (detail : Detail) (base : Disk) (patches : List Patch) (some : List ℕ) (sections others : List Section)
+pub sections_one : (detail : Detail) (base : Disk) (patches : List Patch) (some : List ℕ)
+    (sections others : List Section)
     → AreSections detail base patches some sections → AreSections detail base patches some others → sections ≡ others
 sections_one detail base patches [] sections others are are_too = are ∙ sym are_too
 sections_one detail base patches (set ∷ some) sections others are are_too =
@@ -57,7 +61,8 @@ less_or_greater e = cc
 
 not_both : (f g : Fault) → IsFaultBefore f g → IsFaultBefore g f → ⊥
 not_both f g before behind =
-    less_or_greater (sym before ∙ (nat_list_cmp_total.antisymm (numbers_of f) (numbers_of g) ∙ ap ordering_reverse behind))
+    less_or_greater (sym before ∙ (nat_list_cmp_total.antisymm (numbers_of f) (numbers_of g)
+    ∙ ap ordering_reverse behind))
 
 -- each row's fault comes before those of all rows behind it
 abbrev Ascend : List FaultRow → Type 0
@@ -69,14 +74,17 @@ ascend [] up = tt
 ascend (r ∷ rs) up = (before, ascend rs (λ i j d less within. up (suc i) (suc j) d (omega arith) (omega arith)))
   where
     before : (z : FaultRow) → Contains rs z → IsFaultBefore r.fault z.fault
-    before z (k, within, is) = subst (λ (y : FaultRow). IsFaultBefore r.fault y.fault) is (up zero (suc k) z (omega arith) (omega arith))
+    before z (k, within, is) = subst (λ (y : FaultRow). IsFaultBefore r.fault y.fault) is
+        (up zero (suc k) z (omega arith) (omega arith))
 
-one_order : (xs ys : List FaultRow) → Ascend xs → Ascend ys → ((z : FaultRow) → Contains xs z → Contains ys z) → ((z : FaultRow) → Contains ys z → Contains xs z) → xs ≡ ys
+one_order : (xs ys : List FaultRow) → Ascend xs → Ascend ys → ((z : FaultRow) → Contains xs z → Contains ys z)
+    → ((z : FaultRow) → Contains ys z → Contains xs z) → xs ≡ ys
 one_order [] [] up also to from = refl
 one_order [] (y ∷ ys) up also to from = absurd (in_none y (from y (in_front y ys)))
 one_order (x ∷ xs) [] up also to from = absurd (in_none x (to x (in_front x xs)))
 one_order (x ∷ xs) (y ∷ ys) up also to from =
-    let front : x ≡ y = by (front_or_rest y ys x (to x (in_front x xs))) (front_or_rest x xs y (from y (in_front y ys))) in
+    let front : x ≡ y = by (front_or_rest y ys x (to x (in_front x xs)))
+    (front_or_rest x xs y (from y (in_front y ys))) in
     let rest : xs ≡ ys = one_order xs ys up.1 also.1
     (λ z is. behind_y front z is (front_or_rest y ys z (to z (in_rest x xs z is))))
     (λ z is. behind_x front z is (front_or_rest x xs z (from z (in_rest y ys z is)))) in
@@ -91,15 +99,18 @@ one_order (x ∷ xs) (y ∷ ys) up also to from =
     alone z before = not_both z.fault z.fault before before
 
     behind_y : x ≡ y → (z : FaultRow) → Contains xs z → (y ≡ z) ⊎ Contains ys z → Contains ys z
-    behind_y front z is (inl e) = absurd (alone z (subst (λ (w : FaultRow). IsFaultBefore w.fault z.fault) (front ∙ e) (up.0 z is)))
+    behind_y front z is (inl e) = absurd (alone z (subst (λ (w : FaultRow). IsFaultBefore w.fault z.fault) (front ∙ e)
+        (up.0 z is)))
     behind_y front z is (inr behind) = behind
 
     behind_x : x ≡ y → (z : FaultRow) → Contains ys z → (x ≡ z) ⊎ Contains xs z → Contains xs z
-    behind_x front z is (inl e) = absurd (alone z (subst (λ (w : FaultRow). IsFaultBefore w.fault z.fault) (sym front ∙ e) (also.0 z is)))
+    behind_x front z is (inl e) = absurd (alone z (subst (λ (w : FaultRow). IsFaultBefore w.fault z.fault)
+        (sym front ∙ e) (also.0 z is)))
     behind_x front z is (inr behind) = behind
 
 -- the row of a fault among rows whose faults have it
-row_at : (f : Fault) (rs : List FaultRow) → Contains (map (λ row. row.fault) rs) f → (r : FaultRow) × Contains rs r × (r.fault ≡ f)
+row_at : (f : Fault) (rs : List FaultRow) → Contains (map (λ row. row.fault) rs) f → (r : FaultRow) × Contains rs r
+    × (r.fault ≡ f)
 row_at f [] is = absurd (in_none f is)
 row_at f (r ∷ rs) is = elim (front_or_rest r.fault (map (λ row. row.fault) rs) f is) [
   | inl e ↦ (r, in_front r rs, e)
@@ -119,21 +130,27 @@ module _ (has : Fault → ℕ → Type 0) where
 
   row_one : (row other : FaultRow) → IsRow has row → IsRow has other → row.fault ≡ other.fault → row ≡ other
   row_one row other is also same =
-      let number : row.sets ≡ other.sets = one_number (has other.fault) row.sets other.sets (subst (λ (f : Fault). HoldsOf (has f) row.sets) same is.number) also.number in
-      let first : row.first ≡ other.first = first_one other.fault row.first other.first (subst (λ (f : Fault). IsFirst (has f) row.first) same is.first) also.first in
+      let number : row.sets ≡ other.sets = one_number (has other.fault) row.sets other.sets
+      (subst (λ (f : Fault). HoldsOf (has f) row.sets) same is.number) also.number in
+      let first : row.first ≡ other.first = first_one other.fault row.first other.first
+      (subst (λ (f : Fault). IsFirst (has f) row.first) same is.first) also.first in
       λ i. record { fault = same i; sets = number i; first = first i }
 
-  among : (rows others : List FaultRow) → AreRows has rows → AreRows has others → (z : FaultRow) → Contains rows z → Contains others z
+  among : (rows others : List FaultRow) → AreRows has rows → AreRows has others → (z : FaultRow) → Contains rows z
+      → Contains others z
   among rows others is also z there =
       let row = All-contains (IsRow has) rows z is.each there in
       let at = row_at z.fault others (also.every z.fault z.first row.first.among) in
-      subst (λ (w : FaultRow). Contains others w) (row_one at.0 z (All-contains (IsRow has) others at.0 also.each at.1) row at.2) at.1
+      subst (λ (w : FaultRow). Contains others w) (row_one at.0 z (All-contains (IsRow has) others at.0 also.each at.1)
+      row at.2) at.1
 
   rows_one : (rows others : List FaultRow) → AreRows has rows → AreRows has others → rows ≡ others
   rows_one rows others is also =
-      one_order rows others (ascend rows is.ordered) (ascend others also.ordered) (among rows others is also) (among others rows also is)
+      one_order rows others (ascend rows is.ordered) (ascend others also.ordered) (among rows others is also)
+      (among others rows also is)
 
-same_firsts : (told others : List ToldFault) → map (λ t. t.row) told ≡ map (λ t. t.row) others → map (λ t. t.row.first) told ≡ map (λ t. t.row.first) others
+same_firsts : (told others : List ToldFault) → map (λ t. t.row) told ≡ map (λ t. t.row) others
+    → map (λ t. t.row.first) told ≡ map (λ t. t.row.first) others
 same_firsts [] [] same = refl
 same_firsts [] (o ∷ others) same = cc
 same_firsts (t ∷ told) [] same = cc
@@ -142,7 +159,8 @@ same_firsts (t ∷ told) (o ∷ others) same =
     let rest : map (λ t. t.row.first) told ≡ map (λ t. t.row.first) others = same_firsts told others (tails same) in
     cc (first, rest)
 
-same_told : (told others : List ToldFault) → map (λ t. t.row) told ≡ map (λ t. t.row) others → map (λ t. t.first) told ≡ map (λ t. t.first) others → told ≡ others
+same_told : (told others : List ToldFault) → map (λ t. t.row) told ≡ map (λ t. t.row) others
+    → map (λ t. t.first) told ≡ map (λ t. t.first) others → told ≡ others
 same_told [] [] rows firsts = refl
 same_told [] (o ∷ others) rows firsts = cc
 same_told (t ∷ told) [] rows firsts = cc
@@ -156,46 +174,64 @@ same_told (t ∷ told) (o ∷ others) rows firsts =
 told_faults_one : (detail : Detail) (base : Disk) (patches : List Patch) (told others : List ToldFault)
     → AreToldFaults detail base patches told → AreToldFaults detail base patches others → told ≡ others
 told_faults_one detail base patches told others is also =
-    let rows = rows_one (HasFault detail.kept base patches) (map (λ t. t.row) told) (map (λ t. t.row) others) is.rows also.rows in
-    let firsts = subst (λ some. AreSections detail base patches some (map (λ t. t.first) told)) (same_firsts told others rows) is.firsts in
-    same_told told others rows (sections_one detail base patches (map (λ t. t.row.first) others) (map (λ t. t.first) told) (map (λ t. t.first) others) firsts also.firsts)
+    let rows = rows_one (HasFault detail.kept base patches) (map (λ t. t.row) told) (map (λ t. t.row) others) is.rows
+    also.rows in
+    let firsts = subst (λ some. AreSections detail base patches some (map (λ t. t.first) told))
+    (same_firsts told others rows) is.firsts in
+    same_told told others rows (sections_one detail base patches (map (λ t. t.row.first) others)
+    (map (λ t. t.first) told) (map (λ t. t.first) others) firsts also.firsts)
 
 -- ---- what there is without each rule
 
-same_split : (C : ℕ → Type 0) (front other : List ℕ) (set more : ℕ) (rest last : List ℕ) → front ++ set ∷ rest ≡ other ++ more ∷ last
+same_split : (C : ℕ → Type 0) (front other : List ℕ) (set more : ℕ) (rest last : List ℕ)
+    → front ++ set ∷ rest ≡ other ++ more ∷ last
     → All C front → ¬ (C set) → All C other → ¬ (C more) → set ≡ more
 same_split C [] [] set more rest last e fronts none others un = heads e
-same_split C [] (o ∷ other) set more rest last e fronts none others un = absurd (none (subst C (sym (heads e)) (All-head C o other others)))
-same_split C (f ∷ front) [] set more rest last e fronts none others un = absurd (un (subst C (heads e) (All-head C f front fronts)))
+same_split C [] (o ∷ other) set more rest last e fronts none others un =
+    absurd (none (subst C (sym (heads e)) (All-head C o other others)))
+same_split C (f ∷ front) [] set more rest last e fronts none others un =
+    absurd (un (subst C (heads e) (All-head C f front fronts)))
 same_split C (f ∷ front) (o ∷ other) set more rest last e fronts none others un =
-    same_split C front other set more rest last (tails e) (All-tail C f front fronts) none (All-tail C o other others) un
+    same_split C front other set more rest last (tails e) (All-tail C f front fronts) none (All-tail C o other others)
+    un
 
 module _ (detail : Detail) (base : Disk) (patches changed : List Patch) where
-  not_all : (sets front rest : List ℕ) (set : ℕ) → sets ≡ front ++ set ∷ rest → ¬ (IsClosed (deps_of patches) set) → All (IsClosed (deps_of patches)) sets → ⊥
+  not_all : (sets front rest : List ℕ) (set : ℕ) → sets ≡ front ++ set ∷ rest → ¬ (IsClosed (deps_of patches) set)
+      → All (IsClosed (deps_of patches)) sets → ⊥
   not_all sets front rest set e none all =
-      none (All-contains (IsClosed (deps_of patches)) sets set all (subst (λ (some : List ℕ). Contains some set) (sym e) (Contains-append_right front (set ∷ rest) set (in_front set rest))))
+      none (All-contains (IsClosed (deps_of patches)) sets set all
+      (subst (λ (some : List ℕ). Contains some set) (sym e)
+      (Contains-append_right front (set ∷ rest) set (in_front set rest))))
 
-  first_new_one : (sets : List ℕ) (x y : Option Section) → IsFirstNew detail base patches changed sets x → IsFirstNew detail base patches changed sets y → x ≡ y
+  first_new_one : (sets : List ℕ) (x y : Option Section) → IsFirstNew detail base patches changed sets x
+      → IsFirstNew detail base patches changed sets y → x ≡ y
   first_new_one sets None None is also = refl
   first_new_one sets None (Some b) is also = absurd (not_all sets also.0 also.2 also.1 also.3 also.5 is)
   first_new_one sets (Some a) None is also = absurd (not_all sets is.0 is.2 is.1 is.3 is.5 also)
   first_new_one sets (Some a) (Some b) is also =
-      let same : is.1 ≡ also.1 = same_split (IsClosed (deps_of patches)) is.0 also.0 is.1 also.1 is.2 also.2 (sym is.3 ∙ also.3) is.4 is.5 also.4 also.5 in
-      ap Some (heads (sections_one detail base changed (also.1 ∷ []) (a ∷ []) (b ∷ []) (subst (λ (set : ℕ). AreSections detail base changed (set ∷ []) (a ∷ [])) same is.6) also.6))
+      let same : is.1 ≡ also.1 = same_split (IsClosed (deps_of patches)) is.0 also.0 is.1 also.1 is.2 also.2
+      (sym is.3 ∙ also.3) is.4 is.5 also.4 also.5 in
+      ap Some (heads (sections_one detail base changed (also.1 ∷ []) (a ∷ []) (b ∷ [])
+      (subst (λ (set : ℕ). AreSections detail base changed (set ∷ []) (a ∷ [])) same is.6) also.6))
 
-  without_one : (limit : ℕ) (w v : Without) → IsWithout detail limit base patches changed w → IsWithout detail limit base patches changed v → w ≡ v
+  without_one : (limit : ℕ) (w v : Without) → IsWithout detail limit base patches changed w
+      → IsWithout detail limit base patches changed v → w ≡ v
   without_one limit w v is also =
-      let closed : w.closed ≡ v.closed = one_number (IsClosed (deps_of changed)) w.closed v.closed is.counted also.counted in
-      let same : is.sets ≡ also.sets = one_list (IsFailingUnder detail.kept base changed) is.sets also.sets is.exactly also.exactly in
+      let closed : w.closed ≡ v.closed = one_number (IsClosed (deps_of changed)) w.closed v.closed is.counted
+      also.counted in
+      let same : is.sets ≡ also.sets = one_list (IsFailingUnder detail.kept base changed) is.sets also.sets is.exactly
+      also.exactly in
       let failing : w.failing ≡ v.failing = is.number ∙ (ap (λ (some : List ℕ). length some) same ∙ sym also.number) in
-      let first : w.first ≡ v.first = first_new_one also.sets w.first v.first (subst (λ some. IsFirstNew detail base patches changed some w.first) same is.first) also.first in
+      let first : w.first ≡ v.first = first_new_one also.sets w.first v.first
+      (subst (λ some. IsFirstNew detail base patches changed some w.first) same is.first) also.first in
       λ i. record { closed = closed i; failing = failing i; first = first i }
 
 module _ (detail : Detail) (limit : ℕ) (rules : List Rule) (base : Disk) (s : Tracing) (patches : List Patch) where
   none_or_one : (n m : ℕ) → n ≡ 0 → m ≡ n → 1 ≤ m → ⊥
   none_or_one n m none same one = omega arith
 
-  usage_one : (rule : Rule) (x y : RuleUsage) → IsRuleUsage detail limit rules base s patches rule x → IsRuleUsage detail limit rules base s patches rule y → x ≡ y
+  usage_one : (rule : Rule) (x y : RuleUsage) → IsRuleUsage detail limit rules base s patches rule x
+      → IsRuleUsage detail limit rules base s patches rule y → x ≡ y
   usage_one rule Unused Unused is also = refl
   usage_one rule Unused (TooMany pairs) is also = absurd (none_or_one _ pairs is also.0 also.1)
   usage_one rule Unused (Used pairs w) is also = absurd (none_or_one _ pairs is also.0 also.1)
@@ -203,18 +239,26 @@ module _ (detail : Detail) (limit : ℕ) (rules : List Rule) (base : Disk) (s : 
   usage_one rule (Used pairs w) Unused is also = absurd (none_or_one _ pairs also is.0 is.1)
   usage_one rule (TooMany pairs) (TooMany more) is also = ap TooMany (is.0 ∙ sym also.0)
   usage_one rule (TooMany pairs) (Used more w) is also =
-      let same : is.2.0 ≡ also.2.0 = graph_one (rules_in_first rules (rule ∷ [])) base s is.2.0 also.2.0 is.2.1 also.2.1 in
-      absurd (not_more (IsClosed (deps_of also.2.0)) w.closed limit also.2.2.counted also.2.2.within (subst (λ ps. ExceedsLimit ps limit) same is.2.2))
+      let same : is.2.0 ≡ also.2.0 = graph_one (rules_in_first rules (rule ∷ [])) base s is.2.0 also.2.0 is.2.1
+      also.2.1 in
+      absurd (not_more (IsClosed (deps_of also.2.0)) w.closed limit also.2.2.counted also.2.2.within
+      (subst (λ ps. ExceedsLimit ps limit) same is.2.2))
   usage_one rule (Used pairs w) (TooMany more) is also =
-      let same : also.2.0 ≡ is.2.0 = graph_one (rules_in_first rules (rule ∷ [])) base s also.2.0 is.2.0 also.2.1 is.2.1 in
-      absurd (not_more (IsClosed (deps_of is.2.0)) w.closed limit is.2.2.counted is.2.2.within (subst (λ ps. ExceedsLimit ps limit) same also.2.2))
+      let same : also.2.0 ≡ is.2.0 = graph_one (rules_in_first rules (rule ∷ [])) base s also.2.0 is.2.0 also.2.1
+      is.2.1 in
+      absurd (not_more (IsClosed (deps_of is.2.0)) w.closed limit is.2.2.counted is.2.2.within
+      (subst (λ ps. ExceedsLimit ps limit) same also.2.2))
   usage_one rule (Used pairs w) (Used more v) is also =
-      let same : is.2.0 ≡ also.2.0 = graph_one (rules_in_first rules (rule ∷ [])) base s is.2.0 also.2.0 is.2.1 also.2.1 in
+      let same : is.2.0 ≡ also.2.0 = graph_one (rules_in_first rules (rule ∷ [])) base s is.2.0 also.2.0 is.2.1
+      also.2.1 in
       let number : pairs ≡ more = is.0 ∙ sym also.0 in
-      let there : w ≡ v = without_one detail base patches also.2.0 limit w v (subst (λ ps. IsWithout detail limit base patches ps w) same is.2.2) also.2.2 in
+      let there : w ≡ v = without_one detail base patches also.2.0 limit w v
+      (subst (λ ps. IsWithout detail limit base patches ps w) same is.2.2) also.2.2 in
       cc (number, there)
 
-  told_rules_one : (some : List Rule) (told others : List ToldRule) → AreToldRules detail limit rules base s patches some told → AreToldRules detail limit rules base s patches some others → told ≡ others
+  told_rules_one : (some : List Rule) (told others : List ToldRule)
+      → AreToldRules detail limit rules base s patches some told
+      → AreToldRules detail limit rules base s patches some others → told ≡ others
   told_rules_one [] told others is also = is ∙ sym also
   told_rules_one (rule ∷ some) told others is also =
       let usage : is.0 ≡ also.0 = usage_one rule is.0 also.0 is.2 also.2 in
@@ -232,15 +276,20 @@ set_or_rule by p q = cc
 fault_or_rule : (by : ReportBy) → by ≡ ByFault → by ≡ ByRule → ⊥
 fault_or_rule by p q = cc
 
-module _ (settings : Settings) (kept : Option ℕ) (base : Disk) (last : Tracing) (patches : List Patch) (sets : List ℕ) where
-  pub body_one : (x y : Body) → IsBody settings kept base last patches sets x → IsBody settings kept base last patches sets y → x ≡ y
-  body_one (Sets xs) (Sets ys) is also = ap Sets (sections_one (detail_of settings kept) base patches sets xs ys is.1 also.1)
+module _ (settings : Settings) (kept : Option ℕ) (base : Disk) (last : Tracing) (patches : List Patch)
+    (sets : List ℕ) where
+  pub body_one : (x y : Body) → IsBody settings kept base last patches sets x
+      → IsBody settings kept base last patches sets y → x ≡ y
+  body_one (Sets xs) (Sets ys) is also = ap Sets (sections_one (detail_of settings kept) base patches sets xs ys is.1
+      also.1)
   body_one (Sets xs) (Faults ys) is also = absurd (set_or_fault settings.by is.0 also.0)
   body_one (Sets xs) (Rules ys) is also = absurd (set_or_rule settings.by is.0 also.0)
   body_one (Faults xs) (Sets ys) is also = absurd (set_or_fault settings.by also.0 is.0)
-  body_one (Faults xs) (Faults ys) is also = ap Faults (told_faults_one (detail_of settings kept) base patches xs ys is.1 also.1)
+  body_one (Faults xs) (Faults ys) is also = ap Faults (told_faults_one (detail_of settings kept) base patches xs ys
+      is.1 also.1)
   body_one (Faults xs) (Rules ys) is also = absurd (fault_or_rule settings.by is.0 also.0)
   body_one (Rules xs) (Sets ys) is also = absurd (set_or_rule settings.by also.0 is.0)
   body_one (Rules xs) (Faults ys) is also = absurd (fault_or_rule settings.by also.0 is.0)
   body_one (Rules xs) (Rules ys) is also =
-      ap Rules (told_rules_one (detail_of settings kept) settings.limit (ordering_rules settings) base last patches (ordering_rules settings) xs ys is.1 also.1)
+      ap Rules (told_rules_one (detail_of settings kept) settings.limit (ordering_rules settings) base last patches
+      (ordering_rules settings) xs ys is.1 also.1)

@@ -1,5 +1,6 @@
 -- What a line says, computed from its words: a line says at most one thing.
-use Rattle.std.proofs.Common.{◌≡◌, ◌≢◌, ℕ, zero, suc, ◌<◌, ◌≤◌, List, [], ◌∷◌, ◌++◌, length, map, Bool, true, false, ◌&&◌, nat_lt, nat_le, arith, refl, sym, subst, ap, ◌∙◌, inl, inr}
+use Rattle.std.proofs.Common.{◌≡◌, ◌≢◌, ℕ, zero, suc, ◌<◌, ◌≤◌, List, [], ◌∷◌, ◌++◌, length, map, Bool, true, false}
+use Rattle.std.proofs.Common.{◌&&◌, nat_lt, nat_le, arith, refl, sym, subst, ap, ◌∙◌, inl, inr}
 use Rattle.std.specs.Prelude.{◌==◌, if◌then◌else◌, flat_map, codes, Option, Some, None, option_map, bytes_eq, IsUtf8}
 use Rattle.std.specs.Str.{IsAscii}
 use Rattle.std.specs.List.{All, Contains, list_all}
@@ -10,14 +11,17 @@ use Rattle.std.proofs.lemmas.Str.{IsUtf8-from_ascii}
 use Rattle.crash_model.proofs.Cuts.{Lacks}
 use Rattle.crash_model.specs.Lists.{join_of}
 use Rattle.crash_model.specs.Names.{IsWord, IsName, IsGroupName, is_name_byte, is_group_byte}
-use Rattle.crash_model.specs.Script.{IsPath, IsPathWord, path_text, Operand, PathOperand, GroupOperand, said, operand_text, AreLawful, Fits, HasPaths, HasForm, Line, Skipped, Start, Says, words_of, IsAct, IsSkipped, Reads}
+use Rattle.crash_model.specs.Script.{IsPath, IsPathWord, path_text, Operand, PathOperand, GroupOperand, said}
+use Rattle.crash_model.specs.Script.{operand_text, AreLawful, Fits, HasPaths, HasForm, Line, Skipped, Start, Says}
+use Rattle.crash_model.specs.Script.{words_of, IsAct, IsSkipped, Reads}
 use Rattle.crash_model.specs.declared.operations.Op.TheVariants.{Create, Write, Link, Unlink, Rename, Mkdir, Rmdir}
 use Rattle.crash_model.specs.declared.names.Path.{Path}
 use Rattle.crash_model.specs.declared.steps.Act.{Act}
 use Rattle.crash_model.specs.declared.steps.Act.TheVariants.{Do, Group, End, Depend}
 use Rattle.worked_example_laws.specs.Examples.{root}
 use Rattle.worked_example_laws.specs.Spelled.{is_word}
-use Rattle.worked_example_laws.proofs.Pieces.{onto, pieces, AreLacking, lacking_from, pieces_lack, joined_pieces, pieces_joined, pieces_slashed}
+use Rattle.worked_example_laws.proofs.Pieces.{onto, pieces, AreLacking, lacking_from, pieces_lack, joined_pieces}
+use Rattle.worked_example_laws.proofs.Pieces.{pieces_joined, pieces_slashed}
 
 -- ---- names
 
@@ -53,14 +57,16 @@ path_of_pieces _ = None
 abbrev pub path_of : List ℕ → Option Path
 path_of word = path_of_pieces (pieces 47 word)
 
-path_from_names : (items : List (List ℕ)) (last : List ℕ) → length items ≤ 3 → path_from (items ++ last ∷ []) ≡ Some (record { through = record { items = items }; last = last })
+path_from_names : (items : List (List ℕ)) (last : List ℕ) → length items ≤ 3
+    → path_from (items ++ last ∷ []) ≡ Some (record { through = record { items = items }; last = last })
 path_from_names [] last few = refl
 path_from_names (a ∷ []) last few = refl
 path_from_names (a ∷ b ∷ []) last few = refl
 path_from_names (a ∷ b ∷ c ∷ []) last few = refl
 path_from_names (a ∷ b ∷ c ∷ d ∷ more) last few = absurd (omega arith)
 
-name_lacks : (s : ℕ) (passes : ℕ → Bool) → passes s ≡ false → (word : List ℕ) → list_all passes word ≡ true → Lacks s word
+name_lacks : (s : ℕ) (passes : ℕ → Bool) → passes s ≡ false → (word : List ℕ) → list_all passes word ≡ true
+    → Lacks s word
 name_lacks s passes none [] e = tt
 name_lacks s passes none (c ∷ cs) e =
     let parts = and_parts (passes c) (list_all passes cs) e in
@@ -68,16 +74,20 @@ name_lacks s passes none (c ∷ cs) e =
 
 names_lack : (s : ℕ) → is_name_byte s ≡ false → (names : List (List ℕ)) → All IsName names → AreLacking s names
 names_lack s none [] all = tt
-names_lack s none (name ∷ names) all =
-    (name_lacks s is_name_byte none name (All-head IsName name names all).plain, names_lack s none names (All-tail IsName name names all))
+names_lack s none (name ∷ names) all = (
+  name_lacks s is_name_byte none name (All-head IsName name names all).plain,
+  names_lack s none names (All-tail IsName name names all),
+)
 
 pub names_are : (path : Path) → IsPath path → All IsName (path.through.items ++ path.last ∷ [])
 names_are path is = All-push IsName path.through.items path.last is.through is.last
 
 pub path_is : (path : Path) → IsPath path → path_of (path_text path) ≡ Some path
 path_is path is =
-    ap path_of_pieces (pieces_slashed 47 (path.through.items ++ path.last ∷ []) (names_lack 47 refl (path.through.items ++ path.last ∷ []) (names_are path is)))
-    ∙ (ap (λ b. if b then path_from (path.through.items ++ path.last ∷ []) else None) (names_pass (path.through.items ++ path.last ∷ []) (names_are path is))
+    ap path_of_pieces (pieces_slashed 47 (path.through.items ++ path.last ∷ [])
+    (names_lack 47 refl (path.through.items ++ path.last ∷ []) (names_are path is)))
+    ∙ (ap (λ b. if b then path_from (path.through.items ++ path.last ∷ []) else None)
+    (names_pass (path.through.items ++ path.last ∷ []) (names_are path is))
     ∙ path_from_names path.through.items path.last is.few)
 
 -- a word that is no path
@@ -205,7 +215,8 @@ path_lacks path is = slashed_lacks (path.through.items ++ path.last ∷ []) (nam
     slashed_lacks [] all = tt
     slashed_lacks (name ∷ names) all = (
       (λ e. omega (arith, e)),
-      append_lacks 32 name (flat_map (λ name. 47 ∷ name) names) (name_lacks 32 is_name_byte refl name (All-head IsName name names all).plain)
+      append_lacks 32 name (flat_map (λ name. 47 ∷ name) names)
+          (name_lacks 32 is_name_byte refl name (All-head IsName name names all).plain)
           (slashed_lacks names (All-tail IsName name names all)),
     )
 
@@ -239,9 +250,11 @@ name_low c e = grind (arith, nat_tests)
 group_low : (c : ℕ) → is_group_byte c ≡ true → c < 128
 group_low c e = grind (arith, nat_tests)
 
-low_if : (passes : ℕ → Bool) → ((c : ℕ) → passes c ≡ true → c < 128) → (xs : List ℕ) → list_all passes xs ≡ true → Low xs
+low_if : (passes : ℕ → Bool) → ((c : ℕ) → passes c ≡ true → c < 128) → (xs : List ℕ) → list_all passes xs ≡ true
+    → Low xs
 low_if passes below [] e = tt
-low_if passes below (x ∷ xs) e = let parts = and_parts (passes x) (list_all passes xs) e in (below x parts.0, low_if passes below xs parts.1)
+low_if passes below (x ∷ xs) e = let parts = and_parts (passes x) (list_all passes xs) e in
+    (below x parts.0, low_if passes below xs parts.1)
 
 low_text : (xs : List ℕ) → list_all (λ c. nat_lt c 128) xs ≡ true → Low xs
 low_text xs e = low_if (λ c. nat_lt c 128) (λ c is. ltb-true c 128 is) xs e
@@ -254,7 +267,8 @@ path_low path is = slashed_low (path.through.items ++ path.last ∷ []) (names_a
     slashed_low (name ∷ names) all = (
       omega arith,
       low_append name (flat_map (λ name. 47 ∷ name) names)
-          (low_if is_name_byte name_low name (All-head IsName name names all).plain) (slashed_low names (All-tail IsName name names all)),
+          (low_if is_name_byte name_low name (All-head IsName name names all).plain)
+          (slashed_low names (All-tail IsName name names all)),
     )
 
 low_group : (name : List ℕ) → IsGroupName name → Low name
@@ -328,7 +342,8 @@ begins_comment (c ∷ cs) = c == 35
 -- what the line says, by the act that its words are
 abbrev pub says_by : List ℕ → Option Act → Option Line
 says_by line (Some act) = Some (Says act)
-says_by line None = if bytes_eq line (codes "start") then Some Start else (if begins_comment line then Some Skipped else None)
+says_by line None = if bytes_eq line (codes "start") then Some
+    Start else (if begins_comment line then Some Skipped else None)
 
 abbrev pub says : List ℕ → Option Line
 says line = says_by line (act_of (pieces 32 line))
@@ -344,7 +359,8 @@ pub reads_says : (line : List ℕ) (what : Line) → Reads line what → says li
 reads_says line Skipped (inl empty) = ap says empty
 reads_says line Skipped (inr (text, (rest, is))) = ap says is ∙ comment_says rest
 reads_says line Start is = ap says is
-reads_says line (Says act) (is, spelt) = ap says spelt ∙ ap (says_by (join_of 32 (words_of act))) (ap act_of (act_pieces act is) ∙ act_is act is)
+reads_says line (Says act) (is, spelt) = ap says spelt
+    ∙ ap (says_by (join_of 32 (words_of act))) (ap act_of (act_pieces act is) ∙ act_is act is)
 
 pub reads_one : (line : List ℕ) (what other : Line) → Reads line what → Reads line other → what ≡ other
 reads_one line what other is also = let one = reads_says line what is in let two = reads_says line other also in cc
@@ -356,7 +372,8 @@ pub reads_utf8 : (line : List ℕ) (what : Line) → Reads line what → IsUtf8 
 reads_utf8 line Skipped (inl empty) = subst IsUtf8 (sym empty) (low_utf8 [] tt)
 reads_utf8 line Skipped (inr comment) = comment.0
 reads_utf8 line Start is = subst IsUtf8 (sym is) (low_utf8 (codes "start") (low_text (codes "start") refl))
-reads_utf8 line (Says act) (is, spelt) = subst IsUtf8 (sym spelt) (low_utf8 (join_of 32 (words_of act)) (act_low act is))
+reads_utf8 line (Says act) (is, spelt) = subst IsUtf8 (sym spelt)
+    (low_utf8 (join_of 32 (words_of act)) (act_low act is))
 
 -- ---- forms of lines
 
@@ -376,7 +393,8 @@ fit_is (PathOperand p ∷ operands) ([] ∷ words) fits = absurd (fits.0 refl)
 fit_is (PathOperand p ∷ operands) ((c ∷ cs) ∷ words) fits = fit_is operands words fits.1
 fit_is (GroupOperand a ∷ operands) [] fits = absurd fits
 fit_is (GroupOperand a ∷ operands) (word ∷ words) fits =
-    both (is_word is_group_byte word) (fit operands words) (word_is is_group_byte word fits.0) (fit_is operands words fits.1)
+    both (is_word is_group_byte word) (fit operands words) (word_is is_group_byte word fits.0)
+    (fit_is operands words fits.1)
 
 abbrev pub fits_some : Option Act → List (List ℕ) → Bool
 fits_some None words = false
@@ -405,7 +423,8 @@ no_form line none like words form =
 
 pub plain_from : (s : ℕ) (words : List (List ℕ)) → AreLacking s words → All (λ word. ¬ (Contains word s)) words
 plain_from s [] lacks = All-nil (λ word. ¬ (Contains word s))
-plain_from s (word ∷ words) lacks = All-cons (λ word. ¬ (Contains word s)) word words (lacks_is s word lacks.0) (plain_from s words lacks.1)
+plain_from s (word ∷ words) lacks = All-cons (λ word. ¬ (Contains word s)) word words (lacks_is s word lacks.0)
+    (plain_from s words lacks.1)
 
 -- the form of text that is cut into these words
 pub form_at : (line : List ℕ) (like : Act) (words : List (List ℕ)) → pieces 32 line ≡ (said like).0 ∷ words
@@ -413,7 +432,10 @@ pub form_at : (line : List ℕ) (like : Act) (words : List (List ℕ)) → piece
 form_at line like words cut fits =
     let lacks = subst (AreLacking 32) cut (pieces_lack 32 line) in
     let whole = sym (joined_pieces 32 line) ∙ ap (join_of 32) cut in
-    record { cut = record { plain = plain_from 32 ((said like).0 ∷ words) lacks; some = λ e. cc; whole = whole }; fits = fits }
+    record {
+      cut = record { plain = plain_from 32 ((said like).0 ∷ words) lacks; some = λ e. cc; whole = whole };
+      fits = fits;
+    }
 
 -- ---- a line that says something has a form, with paths where they belong
 
@@ -425,11 +447,13 @@ reads_form line (Says act) is told other =
     let words = texts (said act).1 in
     (act, words, form_at line act words (ap (pieces 32) is.1 ∙ act_pieces act is.0) (has_words (said act).1 is.0).fits)
 
-pub reads_paths : (line : List ℕ) (what : Line) (like : Act) (words : List (List ℕ)) → Reads line what → ¬ (IsSkipped line)
+pub reads_paths : (line : List ℕ) (what : Line) (like : Act) (words : List (List ℕ)) → Reads line what
+    → ¬ (IsSkipped line)
     → HasForm line like words → HasPaths (said like).1 words
 reads_paths line Skipped like words is told form = absurd (told is)
 reads_paths line Start like words is told form =
-    let same : codes "start" ∷ [] ≡ (said like).0 ∷ words = sym (ap (pieces 32) is) ∙ form_pieces line like words form in
+    let same : codes "start" ∷ [] ≡ (said like).0 ∷ words = sym (ap (pieces 32) is)
+    ∙ form_pieces line like words form in
     let heads : codes "start" ≡ (said like).0 = cc in
     let none : None ≡ Some (sampled like).0 = ap like_of heads ∙ (sampled like).1 in
     absurd (cc)
@@ -483,10 +507,12 @@ operands_for (GroupOperand _ ∷ likes) (word ∷ words) fits paths =
     let more = operands_for likes words fits.1 paths in
     (GroupOperand word ∷ more.0, more.1, (fits.0, more.2), cc (more.3))
 
-pub read_as : (line : List ℕ) (like : Act) (words : List (List ℕ)) → HasForm line like words → HasPaths (said like).1 words → Read line
+pub read_as : (line : List ℕ) (like : Act) (words : List (List ℕ)) → HasForm line like words
+    → HasPaths (said like).1 words → Read line
 read_as line like words form paths =
     let it = operands_for (said like).1 words form.fits paths in
     let act = with_operands like it.0 it.1 in
     let text = λ (s : List ℕ × List Operand). join_of 32 (s.0 ∷ texts s.1) in
-    let whole = form.cut.whole ∙ (ap (λ (ws : List (List ℕ)). join_of 32 ((said like).0 ∷ ws)) it.3 ∙ ap text (sym act.1)) in
+    let whole = form.cut.whole ∙ (ap (λ (ws : List (List ℕ)). join_of 32 ((said like).0 ∷ ws)) it.3
+    ∙ ap text (sym act.1)) in
     (Says act.0, (subst (λ (s : List ℕ × List Operand). AreLawful s.1) (sym act.1) it.2, whole))

@@ -1,5 +1,6 @@
 -- The first refused line of a script, by tests of its words.
-use Rattle.std.proofs.Common.{◌≡◌, ◌≢◌, ℕ, ◌+◌, List, [], ◌∷◌, ◌++◌, length, map, Bool, true, false, not, ◌&&◌, refl, inl, inr}
+use Rattle.std.proofs.Common.{◌≡◌, ◌≢◌, ℕ, ◌+◌, List, [], ◌∷◌, ◌++◌, length, map, Bool, true, false, not, ◌&&◌, refl}
+use Rattle.std.proofs.Common.{inl, inr}
 use Rattle.std.specs.Prelude.{◌==◌, codes, Option, Some, None, is_some, IsUtf8}
 use Rattle.std.specs.Str.{is_utf8}
 use Rattle.std.specs.List.{Contains, list_all, list_any}
@@ -8,13 +9,16 @@ use Rattle.std.proofs.lemmas.List.Elements.{All-nil, All-cons}
 use Rattle.std.proofs.lemmas.Str.{IsUtf8-from_is_utf8, is_utf8-from_IsUtf8}
 use Rattle.patch_sets.proofs.Ids.{ne_from_false}
 use Rattle.crash_model.specs.Names.{is_group_byte}
-use Rattle.crash_model.specs.Script.{ArePlain, AreLines, Operand, PathOperand, GroupOperand, said, Fits, HasPaths, Line, Skipped, Start, Reads, IsSkipped, AreAccepted, IsFirstRefused, IsBadLine, IsBadPath, IsScriptRefusal, text_of_lines}
+use Rattle.crash_model.specs.Script.{ArePlain, AreLines, Operand, PathOperand, GroupOperand, said, Fits, HasPaths, Line}
+use Rattle.crash_model.specs.Script.{Skipped, Start, Reads, IsSkipped, AreAccepted, IsFirstRefused, IsBadLine}
+use Rattle.crash_model.specs.Script.{IsBadPath, IsScriptRefusal, text_of_lines}
 use Rattle.crash_model.specs.declared.refusals.ScriptFault.TheVariants.{BadUtf8, BadLine, BadPath, NoStart}
 use Rattle.crash_model.specs.declared.steps.Act.{Act}
 use Rattle.worked_example_laws.specs.Examples.{numbered_steps}
 use Rattle.worked_example_laws.specs.Spelled.{is_word, is_plain, line_of, lines_of, are_acts}
 use Rattle.worked_example_laws.proofs.Pieces.{pieces}
-use Rattle.worked_example_laws.proofs.Readings.{begins_comment, says, reads_says, fit, are_formed, form_at, no_form, read_as}
+use Rattle.worked_example_laws.proofs.Readings.{begins_comment, says, reads_says, fit, are_formed, form_at, no_form}
+use Rattle.worked_example_laws.proofs.Readings.{read_as}
 use Rattle.worked_example_laws.proofs.Scripts.{each_reads, no_start, get_contains, steps_accepted}
 use Rattle.worked_example_laws.proofs.Spelling.{word_if, not_false, lacks_if, plain_lines, steps_are}
 
@@ -24,24 +28,32 @@ pub plain_if : (lines : List (List ℕ)) → list_all is_plain lines ≡ true �
 plain_if [] e = All-nil (λ line. ¬ (Contains line 10))
 plain_if (line ∷ lines) e =
     let parts = and_parts (is_plain line) (list_all is_plain lines) e in
-    All-cons (λ line. ¬ (Contains line 10)) line lines (lacks_if line 10 (not_false (list_any (λ c. c == 10) line) parts.0)) (plain_if lines parts.1)
+    All-cons (λ line. ¬ (Contains line 10)) line lines (lacks_if line 10
+    (not_false (list_any (λ c. c == 10) line) parts.0)) (plain_if lines parts.1)
 
 pub ended_lines : (lines : List (List ℕ)) → list_all is_plain lines ≡ true → AreLines (text_of_lines lines) lines
 ended_lines lines e = record { plain = plain_if lines e; whole = inl refl }
 
-pub open_lines : (front : List (List ℕ)) (last : List ℕ) → list_all is_plain (front ++ last ∷ []) ≡ true → last ≢ [] → AreLines (text_of_lines front ++ last) (front ++ last ∷ [])
-open_lines front last e some = record { plain = plain_if (front ++ last ∷ []) e; whole = inr (front, last, some, refl, refl) }
+pub open_lines : (front : List (List ℕ)) (last : List ℕ) → list_all is_plain (front ++ last ∷ []) ≡ true → last ≢ []
+    → AreLines (text_of_lines front ++ last) (front ++ last ∷ [])
+open_lines front last e some = record {
+  plain = plain_if (front ++ last ∷ []) e;
+  whole = inr (front, last, some, refl, refl);
+}
 
 -- acts before the start line, and with acts behind it
 pub acts_accepted : (acts : List Act) → are_acts acts ≡ true → AreAccepted (map line_of acts)
 acts_accepted acts e = record {
   each = each_reads 1 (map line_of acts) (numbered_steps 1 acts) (steps_are 1 acts e);
-  one_start = λ i j at_i at_j. absurd (no_start 1 (map line_of acts) (numbered_steps 1 acts) (steps_are 1 acts e) (get_contains (map line_of acts) i (codes "start") at_i));
+  one_start = λ i j at_i at_j. absurd (no_start 1 (map line_of acts) (numbered_steps 1 acts) (steps_are 1 acts e)
+      (get_contains (map line_of acts) i (codes "start") at_i));
 }
 
-pub started_accepted : (before behind : List Act) → are_acts before ≡ true → are_acts behind ≡ true → AreAccepted (lines_of before behind)
+pub started_accepted : (before behind : List Act) → are_acts before ≡ true → are_acts behind ≡ true
+    → AreAccepted (lines_of before behind)
 started_accepted before behind e f =
-    steps_accepted 1 1 (map line_of before) (map line_of behind) (numbered_steps 1 before) (numbered_steps 1 behind) (steps_are 1 before e) (steps_are 1 behind f)
+    steps_accepted 1 1 (map line_of before) (map line_of behind) (numbered_steps 1 before) (numbered_steps 1 behind)
+    (steps_are 1 before e) (steps_are 1 behind f)
 
 -- ---- what a line is not
 
@@ -72,9 +84,11 @@ telling line e =
     record { utf8 = IsUtf8-from_is_utf8 line parts.0; other = (λ what is. let one = reads_says line what is in cc) }
 
 -- text of no form
-pub bad_line_if : (before : List (List ℕ)) (line : List ℕ) → is_telling line ≡ true → are_formed (pieces 32 line) ≡ false
+pub bad_line_if : (before : List (List ℕ)) (line : List ℕ) → is_telling line ≡ true
+    → are_formed (pieces 32 line) ≡ false
     → IsBadLine before line
-bad_line_if before line e none = let told = telling line e in inl (told.utf8, told.other Skipped, told.other Start, no_form line none)
+bad_line_if before line e none = let told = telling line e in
+    inl (told.utf8, told.other Skipped, told.other Start, no_form line none)
 
 -- ---- text of a form, in which a word is no path
 
@@ -101,8 +115,10 @@ bad_path_if line like words e cut fits =
 
 -- ---- the first refused line
 
-first_refused : (P : List (List ℕ) → List ℕ → Type 0) (before : List (List ℕ)) (line : List ℕ) (behind : List (List ℕ)) → AreAccepted before
-    → list_all is_plain (before ++ line ∷ behind) ≡ true → P before line → IsFirstRefused (text_of_lines (before ++ line ∷ behind)) (length before + 1) P
+first_refused : (P : List (List ℕ) → List ℕ → Type 0) (before : List (List ℕ)) (line : List ℕ) (behind : List (List ℕ))
+    → AreAccepted before
+    → list_all is_plain (before ++ line ∷ behind) ≡ true → P before line
+    → IsFirstRefused (text_of_lines (before ++ line ∷ behind)) (length before + 1) P
 first_refused P before line behind accepted plain is = record {
   before = before;
   line = line;
@@ -113,12 +129,15 @@ first_refused P before line behind accepted plain is = record {
   refused = is;
 }
 
-pub utf8_refused : (before : List (List ℕ)) (line : List ℕ) (behind : List (List ℕ)) → AreAccepted before → list_all is_plain (before ++ line ∷ behind) ≡ true
+pub utf8_refused : (before : List (List ℕ)) (line : List ℕ) (behind : List (List ℕ)) → AreAccepted before
+    → list_all is_plain (before ++ line ∷ behind) ≡ true
     → is_utf8 line ≡ false → IsScriptRefusal (text_of_lines (before ++ line ∷ behind)) (BadUtf8 (length before + 1))
-utf8_refused before line behind accepted plain e = first_refused (λ _ line. ¬ (IsUtf8 line)) before line behind accepted plain (not_text line e)
+utf8_refused before line behind accepted plain e = first_refused (λ _ line. ¬ (IsUtf8 line)) before line behind accepted
+    plain (not_text line e)
 
 -- the last line, with no line feed behind it
-pub last_utf8_refused : (before : List (List ℕ)) (line : List ℕ) → AreAccepted before → list_all is_plain (before ++ line ∷ []) ≡ true → line ≢ []
+pub last_utf8_refused : (before : List (List ℕ)) (line : List ℕ) → AreAccepted before
+    → list_all is_plain (before ++ line ∷ []) ≡ true → line ≢ []
     → is_utf8 line ≡ false → IsScriptRefusal (text_of_lines before ++ line) (BadUtf8 (length before + 1))
 last_utf8_refused before line accepted plain some e = record {
   before = before;
@@ -130,20 +149,34 @@ last_utf8_refused before line accepted plain some e = record {
   refused = not_text line e;
 }
 
-pub line_refused : (before : List (List ℕ)) (line : List ℕ) (behind : List (List ℕ)) → AreAccepted before → list_all is_plain (before ++ line ∷ behind) ≡ true
-    → is_telling line ≡ true → are_formed (pieces 32 line) ≡ false → IsScriptRefusal (text_of_lines (before ++ line ∷ behind)) (BadLine (length before + 1))
-line_refused before line behind accepted plain e none = first_refused IsBadLine before line behind accepted plain (bad_line_if before line e none)
+pub line_refused : (before : List (List ℕ)) (line : List ℕ) (behind : List (List ℕ)) → AreAccepted before
+    → list_all is_plain (before ++ line ∷ behind) ≡ true
+    → is_telling line ≡ true → are_formed (pieces 32 line) ≡ false
+    → IsScriptRefusal (text_of_lines (before ++ line ∷ behind)) (BadLine (length before + 1))
+line_refused before line behind accepted plain e none = first_refused IsBadLine before line behind accepted plain
+    (bad_line_if before line e none)
 
 -- a second start line
-pub start_refused : (before : List (List ℕ)) (behind : List (List ℕ)) → AreAccepted before → list_all is_plain (before ++ codes "start" ∷ behind) ≡ true
-    → Contains before (codes "start") → IsScriptRefusal (text_of_lines (before ++ codes "start" ∷ behind)) (BadLine (length before + 1))
-start_refused before behind accepted plain first = first_refused IsBadLine before (codes "start") behind accepted plain (inr (refl, first))
+pub start_refused : (before : List (List ℕ)) (behind : List (List ℕ)) → AreAccepted before
+    → list_all is_plain (before ++ codes "start" ∷ behind) ≡ true
+    → Contains before (codes "start") → IsScriptRefusal (text_of_lines (before ++ codes "start" ∷ behind))
+    (BadLine (length before + 1))
+start_refused before behind accepted plain first = first_refused IsBadLine before (codes "start") behind accepted plain
+    (inr (refl, first))
 
-pub path_refused : (before : List (List ℕ)) (line : List ℕ) (behind : List (List ℕ)) → AreAccepted before → list_all is_plain (before ++ line ∷ behind) ≡ true
+pub path_refused : (before : List (List ℕ)) (line : List ℕ) (behind : List (List ℕ)) → AreAccepted before
+    → list_all is_plain (before ++ line ∷ behind) ≡ true
     → IsBadPath line → IsScriptRefusal (text_of_lines (before ++ line ∷ behind)) (BadPath (length before + 1))
-path_refused before line behind accepted plain is = first_refused (λ _ line. IsBadPath line) before line behind accepted plain is
+path_refused before line behind accepted plain is = first_refused (λ _ line. IsBadPath line) before line behind accepted
+    plain is
 
 -- no start line
-pub never_started : (acts : List Act) → are_acts acts ≡ true → IsScriptRefusal (text_of_lines (map line_of acts)) (NoStart (length (map line_of acts) + 1))
-never_started acts e =
-    (map line_of acts, record { plain = plain_lines acts e; whole = inl refl }, acts_accepted acts e, no_start 1 (map line_of acts) (numbered_steps 1 acts) (steps_are 1 acts e), refl)
+pub never_started : (acts : List Act) → are_acts acts ≡ true
+    → IsScriptRefusal (text_of_lines (map line_of acts)) (NoStart (length (map line_of acts) + 1))
+never_started acts e = (
+  map line_of acts,
+  record { plain = plain_lines acts e; whole = inl refl },
+  acts_accepted acts e,
+  no_start 1 (map line_of acts) (numbered_steps 1 acts) (steps_are 1 acts e),
+  refl,
+)

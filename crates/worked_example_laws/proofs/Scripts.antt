@@ -1,9 +1,11 @@
 -- A script is read in one way, or refused in one way.
-use Rattle.std.proofs.Common.{◌≡◌, ℕ, zero, suc, ◌+◌, ◌<◌, List, [], ◌∷◌, ◌++◌, length, arith, refl, sym, subst, ap, ◌∙◌, inl, inr, get_or}
+use Rattle.std.proofs.Common.{◌≡◌, ℕ, zero, suc, ◌+◌, ◌<◌, List, [], ◌∷◌, ◌++◌, length, arith, refl, sym, subst, ap}
+use Rattle.std.proofs.Common.{◌∙◌, inl, inr, get_or}
 use Rattle.std.specs.Prelude.{◌⊎◌, codes, Some, slice_get, IsUtf8}
 use Rattle.std.specs.List.{All, Contains}
 use Rattle.std.proofs.lemmas.List.Elements.{All-nil, All-cons, All-append, All-contains}
-use Rattle.crash_model.specs.Script.{AreLines, Line, Skipped, Start, Says, Reads, AreSteps, IsScript, AreAccepted, IsFirstRefused, IsBadLine, IsBadPath, IsScriptRefusal}
+use Rattle.crash_model.specs.Script.{AreLines, Line, Skipped, Start, Says, Reads, AreSteps, IsScript, AreAccepted}
+use Rattle.crash_model.specs.Script.{IsFirstRefused, IsBadLine, IsBadPath, IsScriptRefusal}
 use Rattle.crash_model.specs.declared.refusals.ScriptFault.{ScriptFault}
 use Rattle.crash_model.specs.declared.refusals.ScriptFault.TheVariants.{BadUtf8, BadLine, BadPath, NoStart, OutOfMemory}
 use Rattle.crash_model.specs.declared.steps.Step.{Step}
@@ -53,7 +55,8 @@ pub get_middle : {X : Type 0} (xs : List X) (x : X) (ys : List X) → slice_get 
 get_middle [] x ys = refl
 get_middle (a ∷ xs) x ys = get_middle xs x ys
 
-pub get_front : {X : Type 0} (xs ys : List X) (k : ℕ) (x : X) → k < length xs → get_or xs k x ≡ x → slice_get (xs ++ ys) k ≡ Some x
+pub get_front : {X : Type 0} (xs ys : List X) (k : ℕ) (x : X) → k < length xs → get_or xs k x ≡ x
+    → slice_get (xs ++ ys) k ≡ Some x
 get_front [] ys k x below e = absurd (omega arith)
 get_front (a ∷ xs) ys zero x below e = ap Some e
 get_front (a ∷ xs) ys (suc k) x below e = get_front xs ys k x (omega arith) e
@@ -63,9 +66,11 @@ abbrev pub IsRefusedLine : List (List ℕ) → List ℕ → Type 0
 IsRefusedLine before line = (¬ (IsUtf8 line)) ⊎ (IsBadLine before line ⊎ IsBadPath line)
 
 -- no line among accepted ones is refused
-none_refused : (before : List (List ℕ)) (line : List ℕ) (more : List (List ℕ)) → AreAccepted (before ++ line ∷ more) → IsRefusedLine before line → ⊥
+none_refused : (before : List (List ℕ)) (line : List ℕ) (more : List (List ℕ)) → AreAccepted (before ++ line ∷ more)
+    → IsRefusedLine before line → ⊥
 none_refused before line more accepted refused =
-    let says = All-contains (λ line. (says : Line) × Reads line says) (before ++ line ∷ more) line accepted.each (in_middle before line more) in
+    let says = All-contains (λ line. (says : Line) × Reads line says) (before ++ line ∷ more) line accepted.each
+    (in_middle before line more) in
     by_kind says.0 says.1 refused
   where
     by_kind : (what : Line) → Reads line what → IsRefusedLine before line → ⊥
@@ -73,8 +78,10 @@ none_refused before line more accepted refused =
     by_kind what is (inr (inl (inl bad))) = let form = reads_form line what is bad.1 bad.2 in bad.3 form.0 form.1 form.2
     by_kind what is (inr (inl (inr second))) =
         let first = second.1 in
-        let at_line : slice_get (before ++ line ∷ more) (length before) ≡ Some (codes "start") = get_middle before line more ∙ ap Some second.0 in
-        let at_first : slice_get (before ++ line ∷ more) first.0 ≡ Some (codes "start") = get_front before (line ∷ more) first.0 (codes "start") first.1 first.2 in
+        let at_line : slice_get (before ++ line ∷ more) (length before) ≡ Some (codes "start") =
+        get_middle before line more ∙ ap Some second.0 in
+        let at_first : slice_get (before ++ line ∷ more) first.0 ≡ Some (codes "start") =
+        get_front before (line ∷ more) first.0 (codes "start") first.1 first.2 in
         let same : first.0 ≡ length before = accepted.one_start first.0 (length before) at_first at_line in
         omega (arith, first.1, same)
     by_kind what is (inr (inr bad)) = not_bad_path line what is bad
@@ -82,29 +89,40 @@ none_refused before line more accepted refused =
 -- ---- one reading
 
 -- no act and no comment is the start line
-pub no_start : (n : ℕ) (lines : List (List ℕ)) (steps : List Step) → AreSteps n lines steps → Contains lines (codes "start") → ⊥
+pub no_start : (n : ℕ) (lines : List (List ℕ)) (steps : List Step) → AreSteps n lines steps
+    → Contains lines (codes "start") → ⊥
 no_start n [] steps are is = omega (arith, is.1)
-no_start n (line ∷ lines) steps (inl skipped) (zero, within, is) = let one : Skipped ≡ Start = reads_one line Skipped Start skipped.0 is in cc
-no_start n (line ∷ lines) steps (inr act) (zero, within, is) = let one : Says act.0 ≡ Start = reads_one line (Says act.0) Start act.2 is in cc
-no_start n (line ∷ lines) steps (inl skipped) (suc k, within, is) = no_start (n + 1) lines steps skipped.1 (k, omega arith, is)
+no_start n (line ∷ lines) steps (inl skipped) (zero, within, is) = let one : Skipped ≡ Start =
+    reads_one line Skipped Start skipped.0 is in cc
+no_start n (line ∷ lines) steps (inr act) (zero, within, is) = let one : Says act.0 ≡ Start =
+    reads_one line (Says act.0) Start act.2 is in cc
+no_start n (line ∷ lines) steps (inl skipped) (suc k, within, is) =
+    no_start (n + 1) lines steps skipped.1 (k, omega arith, is)
 no_start n (line ∷ lines) steps (inr act) (suc k, within, is) = no_start (n + 1) lines act.1 act.3 (k, omega arith, is)
 
-steps_one : (n : ℕ) (lines : List (List ℕ)) (steps others : List Step) → AreSteps n lines steps → AreSteps n lines others → steps ≡ others
+steps_one : (n : ℕ) (lines : List (List ℕ)) (steps others : List Step) → AreSteps n lines steps
+    → AreSteps n lines others → steps ≡ others
 steps_one n [] steps others are are_others = are ∙ sym are_others
 steps_one n (line ∷ lines) steps others (inl skipped) (inl also) = steps_one (n + 1) lines steps others skipped.1 also.1
-steps_one n (line ∷ lines) steps others (inl skipped) (inr act) = let one : Skipped ≡ Says act.0 = reads_one line Skipped (Says act.0) skipped.0 act.2 in cc
-steps_one n (line ∷ lines) steps others (inr act) (inl skipped) = let one : Skipped ≡ Says act.0 = reads_one line Skipped (Says act.0) skipped.0 act.2 in cc
+steps_one n (line ∷ lines) steps others (inl skipped) (inr act) = let one : Skipped ≡ Says act.0 =
+    reads_one line Skipped (Says act.0) skipped.0 act.2 in cc
+steps_one n (line ∷ lines) steps others (inr act) (inl skipped) = let one : Skipped ≡ Says act.0 =
+    reads_one line Skipped (Says act.0) skipped.0 act.2 in cc
 steps_one n (line ∷ lines) steps others (inr act) (inr also) =
     let one : Says act.0 ≡ Says also.0 = reads_one line (Says act.0) (Says also.0) act.2 also.2 in
     let same : act.0 ≡ also.0 = cc in
     let rest : act.1 ≡ also.1 = steps_one (n + 1) lines act.1 also.1 act.3 also.3 in
-    act.4 ∙ (ap (λ a. record { line = n; act = a } ∷ act.1) same ∙ (ap (λ r. record { line = n; act = also.0 } ∷ r) rest ∙ sym also.4))
+    act.4 ∙ (ap (λ a. record { line = n; act = a } ∷ act.1) same
+    ∙ (ap (λ r. record { line = n; act = also.0 } ∷ r) rest ∙ sym also.4))
 
 -- the lines of a script are accepted
-pub each_reads : (n : ℕ) (lines : List (List ℕ)) (steps : List Step) → AreSteps n lines steps → All (λ line. (says : Line) × Reads line says) lines
+pub each_reads : (n : ℕ) (lines : List (List ℕ)) (steps : List Step) → AreSteps n lines steps
+    → All (λ line. (says : Line) × Reads line says) lines
 each_reads n [] steps are = All-nil (λ line. (says : Line) × Reads line says)
-each_reads n (line ∷ lines) steps (inl skipped) = All-cons (λ line. (says : Line) × Reads line says) line lines (Skipped, skipped.0) (each_reads (n + 1) lines steps skipped.1)
-each_reads n (line ∷ lines) steps (inr act) = All-cons (λ line. (says : Line) × Reads line says) line lines (Says act.0, act.2) (each_reads (n + 1) lines act.1 act.3)
+each_reads n (line ∷ lines) steps (inl skipped) = All-cons (λ line. (says : Line) × Reads line says) line lines
+    (Skipped, skipped.0) (each_reads (n + 1) lines steps skipped.1)
+each_reads n (line ∷ lines) steps (inr act) = All-cons (λ line. (says : Line) × Reads line says) line lines
+    (Says act.0, act.2) (each_reads (n + 1) lines act.1 act.3)
 
 pub get_contains : (xs : List (List ℕ)) (k : ℕ) (x : List ℕ) → slice_get xs k ≡ Some x → Contains xs x
 get_contains [] k x e = cc
@@ -112,10 +130,12 @@ get_contains (y ∷ xs) zero x e = (zero, omega arith, (let same : y ≡ x = cc 
 get_contains (y ∷ xs) (suc k) x e = let it = get_contains xs k x e in (suc it.0, omega (arith, it.1), it.2)
 
 -- the one start line stands behind the base
-start_place : (n m : ℕ) (before behind : List (List ℕ)) (base traced : List Step) → AreSteps n before base → AreSteps m behind traced
+start_place : (n m : ℕ) (before behind : List (List ℕ)) (base traced : List Step) → AreSteps n before base
+    → AreSteps m behind traced
     → (i : ℕ) → slice_get (before ++ codes "start" ∷ behind) i ≡ Some (codes "start") → i ≡ length before
 start_place n m [] behind base traced first second zero e = refl
-start_place n m [] behind base traced first second (suc i) e = absurd (no_start m behind traced second (get_contains behind i (codes "start") e))
+start_place n m [] behind base traced first second (suc i) e =
+    absurd (no_start m behind traced second (get_contains behind i (codes "start") e))
 start_place n m (line ∷ before) behind base traced first second zero e =
     absurd (no_start n (line ∷ before) base first (zero, omega arith, (let same : line ≡ codes "start" = cc in same)))
 start_place n m (line ∷ before) behind base traced (inl skipped) second (suc i) e =
@@ -123,35 +143,47 @@ start_place n m (line ∷ before) behind base traced (inl skipped) second (suc i
 start_place n m (line ∷ before) behind base traced (inr act) second (suc i) e =
     ap suc (start_place (n + 1) m before behind act.1 traced act.3 second i e)
 
-pub steps_accepted : (n m : ℕ) (before behind : List (List ℕ)) (base traced : List Step) → AreSteps n before base → AreSteps m behind traced
+pub steps_accepted : (n m : ℕ) (before behind : List (List ℕ)) (base traced : List Step) → AreSteps n before base
+    → AreSteps m behind traced
     → AreAccepted (before ++ codes "start" ∷ behind)
 steps_accepted n m before behind base traced first second = record {
   each = All-append (λ line. (says : Line) × Reads line says) before (codes "start" ∷ behind)
       (each_reads n before base first)
-      (All-cons (λ line. (says : Line) × Reads line says) (codes "start") behind (Start, refl) (each_reads m behind traced second));
-  one_start = λ i j at_i at_j. start_place n m before behind base traced first second i at_i ∙ sym (start_place n m before behind base traced first second j at_j);
+      (All-cons (λ line. (says : Line) × Reads line says) (codes "start") behind (Start, refl)
+      (each_reads m behind traced second));
+  one_start = λ i j at_i at_j. start_place n m before behind base traced first second i at_i
+      ∙ sym (start_place n m before behind base traced first second j at_j);
 }
 
-script_accepted : (bytes : List ℕ) (base traced : List Step) (script : IsScript bytes base traced) → AreAccepted (script.before ++ codes "start" ∷ script.behind)
+script_accepted : (bytes : List ℕ) (base traced : List Step) (script : IsScript bytes base traced)
+    → AreAccepted (script.before ++ codes "start" ∷ script.behind)
 script_accepted bytes base traced script =
-    steps_accepted 1 (length script.before + 2) script.before script.behind base traced script.base_steps script.traced_steps
+    steps_accepted 1 (length script.before + 2) script.before script.behind base traced script.base_steps
+    script.traced_steps
 
-pub script_one : (bytes : List ℕ) (base traced others more : List Step) → IsScript bytes base traced → IsScript bytes others more → (base ≡ others) × (traced ≡ more)
+pub script_one : (bytes : List ℕ) (base traced others more : List Step) → IsScript bytes base traced
+    → IsScript bytes others more → (base ≡ others) × (traced ≡ more)
 script_one bytes base traced others more script other =
     by_parts (parts_at script.before other.before script.behind other.behind (codes "start") (codes "start") same)
   where
     same : script.before ++ codes "start" ∷ script.behind ≡ other.before ++ codes "start" ∷ other.behind
-    same = lines_one bytes (script.before ++ codes "start" ∷ script.behind) (other.before ++ codes "start" ∷ other.behind) script.lines other.lines
+    same = lines_one bytes (script.before ++ codes "start" ∷ script.behind)
+        (other.before ++ codes "start" ∷ other.behind) script.lines other.lines
 
     by_parts : Parts script.before other.before (codes "start") (codes "start") → (base ≡ others) × (traced ≡ more)
     by_parts (Same e s) =
-        let tails : script.behind ≡ other.behind = tail_same (codes "start") (codes "start") script.before other.before script.behind other.behind e same in (
+        let tails : script.behind ≡ other.behind = tail_same (codes "start") (codes "start") script.before other.before
+        script.behind other.behind e same in (
           steps_one 1 other.before base others (subst (λ ls. AreSteps 1 ls base) e script.base_steps) other.base_steps,
           steps_one (length other.before + 2) other.behind traced more
-              (subst (λ ls. AreSteps (length other.before + 2) ls traced) tails (subst (λ ls. AreSteps (length ls + 2) script.behind traced) e script.traced_steps)) other.traced_steps,
+              (subst (λ ls. AreSteps (length other.before + 2) ls traced) tails
+              (subst (λ ls. AreSteps (length ls + 2) script.behind traced) e script.traced_steps))
+              other.traced_steps,
         )
-    by_parts (Earlier ms e) = absurd (no_start 1 other.before others other.base_steps (subst (λ ls. Contains ls (codes "start")) (sym e) (in_middle script.before (codes "start") ms)))
-    by_parts (Later ms e) = absurd (no_start 1 script.before base script.base_steps (subst (λ ls. Contains ls (codes "start")) (sym e) (in_middle other.before (codes "start") ms)))
+    by_parts (Earlier ms e) = absurd (no_start 1 other.before others other.base_steps
+        (subst (λ ls. Contains ls (codes "start")) (sym e) (in_middle script.before (codes "start") ms)))
+    by_parts (Later ms e) = absurd (no_start 1 script.before base script.base_steps
+        (subst (λ ls. Contains ls (codes "start")) (sym e) (in_middle other.before (codes "start") ms)))
 
 -- ---- one refusal
 
@@ -172,12 +204,16 @@ module _ (bytes : List ℕ) (n m : ℕ) (P Q : List (List ℕ) → List ℕ → 
     (first : IsFirstRefused bytes n P) (other : IsFirstRefused bytes m Q) where
   same_line : (first.before ≡ other.before) × (first.line ≡ other.line)
   same_line = by_parts (parts_at first.before other.before first.behind other.behind first.line other.line
-      (lines_one bytes (first.before ++ first.line ∷ first.behind) (other.before ++ other.line ∷ other.behind) first.lines other.lines))
+      (lines_one bytes (first.before ++ first.line ∷ first.behind) (other.before ++ other.line ∷ other.behind)
+      first.lines other.lines))
     where
-      by_parts : Parts first.before other.before first.line other.line → (first.before ≡ other.before) × (first.line ≡ other.line)
+      by_parts : Parts first.before other.before first.line other.line → (first.before ≡ other.before)
+          × (first.line ≡ other.line)
       by_parts (Same e s) = (e, s)
-      by_parts (Earlier more e) = absurd (none_refused first.before first.line more (subst AreAccepted e other.accepted) (bad first.before first.line first.refused))
-      by_parts (Later more e) = absurd (none_refused other.before other.line more (subst AreAccepted e first.accepted) (bad_too other.before other.line other.refused))
+      by_parts (Earlier more e) = absurd (none_refused first.before first.line more (subst AreAccepted e other.accepted)
+          (bad first.before first.line first.refused))
+      by_parts (Later more e) = absurd (none_refused other.before other.line more (subst AreAccepted e first.accepted)
+          (bad_too other.before other.line other.refused))
 
   same_number : n ≡ m
   same_number = first.number ∙ (ap (λ (ls : List (List ℕ)). length ls + 1) same_line.0 ∙ sym other.number)
@@ -204,34 +240,53 @@ accepted_not_refused bytes n P lines bad are accepted first =
     (subst AreAccepted (lines_one bytes lines (first.before ++ first.line ∷ first.behind) are first.lines) accepted)
     (bad first.before first.line first.refused)
 
-pub refusal_one : (bytes : List ℕ) (fault other : ScriptFault) → IsScriptRefusal bytes fault → IsScriptRefusal bytes other → fault ≡ other
+pub refusal_one : (bytes : List ℕ) (fault other : ScriptFault) → IsScriptRefusal bytes fault
+    → IsScriptRefusal bytes other → fault ≡ other
 refusal_one bytes (BadUtf8 n) (BadUtf8 m) is also = ap BadUtf8 (same_number bytes n m _ _ bad_utf8 bad_utf8 is also)
-refusal_one bytes (BadUtf8 n) (BadLine m) is also = absurd (way_one also.before also.line (both_ways bytes n m _ _ bad_utf8 bad_line is also) (inl also.refused))
-refusal_one bytes (BadUtf8 n) (BadPath m) is also = absurd (way_one [] also.line (both_ways bytes n m _ _ bad_utf8 bad_path is also) (inr also.refused))
-refusal_one bytes (BadUtf8 n) (NoStart m) is also = absurd (accepted_not_refused bytes n _ also.0 bad_utf8 also.1 also.2 is)
+refusal_one bytes (BadUtf8 n) (BadLine m) is also = absurd
+    (way_one also.before also.line (both_ways bytes n m _ _ bad_utf8 bad_line is also) (inl also.refused))
+refusal_one bytes (BadUtf8 n) (BadPath m) is also = absurd
+    (way_one [] also.line (both_ways bytes n m _ _ bad_utf8 bad_path is also) (inr also.refused))
+refusal_one bytes (BadUtf8 n) (NoStart m) is also = absurd
+    (accepted_not_refused bytes n _ also.0 bad_utf8 also.1 also.2 is)
 refusal_one bytes (BadUtf8 n) OutOfMemory is also = absurd also
-refusal_one bytes (BadLine n) (BadUtf8 m) is also = absurd (way_one is.before is.line (both_ways bytes m n _ _ bad_utf8 bad_line also is) (inl is.refused))
+refusal_one bytes (BadLine n) (BadUtf8 m) is also = absurd
+    (way_one is.before is.line (both_ways bytes m n _ _ bad_utf8 bad_line also is) (inl is.refused))
 refusal_one bytes (BadLine n) (BadLine m) is also = ap BadLine (same_number bytes n m _ _ bad_line bad_line is also)
-refusal_one bytes (BadLine n) (BadPath m) is also = absurd (line_or_path _ _ (both_ways bytes n m _ _ bad_line bad_path is also) also.refused)
-refusal_one bytes (BadLine n) (NoStart m) is also = absurd (accepted_not_refused bytes n _ also.0 bad_line also.1 also.2 is)
+refusal_one bytes (BadLine n) (BadPath m) is also = absurd
+    (line_or_path _ _ (both_ways bytes n m _ _ bad_line bad_path is also) also.refused)
+refusal_one bytes (BadLine n) (NoStart m) is also = absurd
+    (accepted_not_refused bytes n _ also.0 bad_line also.1 also.2 is)
 refusal_one bytes (BadLine n) OutOfMemory is also = absurd also
-refusal_one bytes (BadPath n) (BadUtf8 m) is also = absurd (way_one [] is.line (both_ways bytes m n _ _ bad_utf8 bad_path also is) (inr is.refused))
-refusal_one bytes (BadPath n) (BadLine m) is also = absurd (line_or_path _ _ (both_ways bytes m n _ _ bad_line bad_path also is) is.refused)
+refusal_one bytes (BadPath n) (BadUtf8 m) is also = absurd
+    (way_one [] is.line (both_ways bytes m n _ _ bad_utf8 bad_path also is) (inr is.refused))
+refusal_one bytes (BadPath n) (BadLine m) is also = absurd
+    (line_or_path _ _ (both_ways bytes m n _ _ bad_line bad_path also is) is.refused)
 refusal_one bytes (BadPath n) (BadPath m) is also = ap BadPath (same_number bytes n m _ _ bad_path bad_path is also)
-refusal_one bytes (BadPath n) (NoStart m) is also = absurd (accepted_not_refused bytes n _ also.0 bad_path also.1 also.2 is)
+refusal_one bytes (BadPath n) (NoStart m) is also = absurd
+    (accepted_not_refused bytes n _ also.0 bad_path also.1 also.2 is)
 refusal_one bytes (BadPath n) OutOfMemory is also = absurd also
 refusal_one bytes (NoStart n) (BadUtf8 m) is also = absurd (accepted_not_refused bytes m _ is.0 bad_utf8 is.1 is.2 also)
 refusal_one bytes (NoStart n) (BadLine m) is also = absurd (accepted_not_refused bytes m _ is.0 bad_line is.1 is.2 also)
 refusal_one bytes (NoStart n) (BadPath m) is also = absurd (accepted_not_refused bytes m _ is.0 bad_path is.1 is.2 also)
 refusal_one bytes (NoStart n) (NoStart m) is also =
-    ap NoStart (is.4 ∙ (ap (λ (ls : List (List ℕ)). length ls + 1) (lines_one bytes is.0 also.0 is.1 also.1) ∙ sym also.4))
+    ap NoStart (is.4 ∙ (ap (λ (ls : List (List ℕ)). length ls + 1) (lines_one bytes is.0 also.0 is.1 also.1)
+    ∙ sym also.4))
 refusal_one bytes (NoStart n) OutOfMemory is also = absurd also
 refusal_one bytes OutOfMemory other is also = absurd is
 
-pub read_or_refused : (bytes : List ℕ) (base traced : List Step) (fault : ScriptFault) → IsScript bytes base traced → IsScriptRefusal bytes fault → ⊥
-read_or_refused bytes base traced (BadUtf8 n) script is = accepted_not_refused bytes n _ (script.before ++ codes "start" ∷ script.behind) bad_utf8 script.lines (script_accepted bytes base traced script) is
-read_or_refused bytes base traced (BadLine n) script is = accepted_not_refused bytes n _ (script.before ++ codes "start" ∷ script.behind) bad_line script.lines (script_accepted bytes base traced script) is
-read_or_refused bytes base traced (BadPath n) script is = accepted_not_refused bytes n _ (script.before ++ codes "start" ∷ script.behind) bad_path script.lines (script_accepted bytes base traced script) is
+pub read_or_refused : (bytes : List ℕ) (base traced : List Step) (fault : ScriptFault) → IsScript bytes base traced
+    → IsScriptRefusal bytes fault → ⊥
+read_or_refused bytes base traced (BadUtf8 n) script is =
+    accepted_not_refused bytes n _ (script.before ++ codes "start" ∷ script.behind) bad_utf8 script.lines
+    (script_accepted bytes base traced script) is
+read_or_refused bytes base traced (BadLine n) script is =
+    accepted_not_refused bytes n _ (script.before ++ codes "start" ∷ script.behind) bad_line script.lines
+    (script_accepted bytes base traced script) is
+read_or_refused bytes base traced (BadPath n) script is =
+    accepted_not_refused bytes n _ (script.before ++ codes "start" ∷ script.behind) bad_path script.lines
+    (script_accepted bytes base traced script) is
 read_or_refused bytes base traced (NoStart n) script is =
-    is.3 (subst (λ ls. Contains ls (codes "start")) (lines_one bytes (script.before ++ codes "start" ∷ script.behind) is.0 script.lines is.1) (in_middle script.before (codes "start") script.behind))
+    is.3 (subst (λ ls. Contains ls (codes "start")) (lines_one bytes (script.before ++ codes "start" ∷ script.behind)
+    is.0 script.lines is.1) (in_middle script.before (codes "start") script.behind))
 read_or_refused bytes base traced OutOfMemory script is = is

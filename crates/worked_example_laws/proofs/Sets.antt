@@ -1,5 +1,6 @@
 -- Lists of sets in canonical order.
-use Rattle.std.proofs.Common.{◌≡◌, ◌≢◌, ℕ, zero, suc, List, [], ◌∷◌, Bool, true, false, cond, arith, refl, sym, subst, inl, inr, get_or}
+use Rattle.std.proofs.Common.{◌≡◌, ◌≢◌, ℕ, zero, suc, List, [], ◌∷◌, Bool, true, false, cond, arith, refl, sym, subst}
+use Rattle.std.proofs.Common.{inl, inr, get_or}
 use Rattle.std.specs.Prelude.{◌⊎◌, count_ones, filter}
 use Rattle.std.specs.List.{AllPairs, Contains}
 use Rattle.std.proofs.lemmas.List.{get_or_default}
@@ -39,7 +40,15 @@ record Inserted (x : ℕ) (ys zs : List ℕ) : Type 0 where
   old : (z : ℕ) → Contains ys z → Contains zs z
 
 insert : (x : ℕ) (ys : List ℕ) → Ascends ys → ¬ (Contains ys x) → (zs : List ℕ) × Inserted x ys zs
-insert x [] up new = (x ∷ [], record { ascends = ((λ z is. absurd (omega (arith, is.1))), tt); from = in_tail x []; here = (zero, omega arith, refl); old = λ z is. absurd (omega (arith, is.1)) })
+insert x [] up new = (
+  x ∷ [],
+  record {
+    ascends = ((λ z is. absurd (omega (arith, is.1))), tt);
+    from = in_tail x [];
+    here = (zero, omega arith, refl);
+    old = λ z is. absurd (omega (arith, is.1));
+  },
+)
 insert x (y ∷ ys) up new =
     by_order (order x y (λ e. new (zero, omega arith, sym e))) (insert x ys up.1 (λ is. new (behind_head y ys x is)))
   where
@@ -47,7 +56,13 @@ insert x (y ∷ ys) up new =
     by_order (inl first) rest = (
       x ∷ y ∷ ys,
       record {
-        ascends = ((λ z is. elim (in_tail y ys z is) [ inl e ↦ subst (IsBefore x) (sym e) first | inr more ↦ before_trans x y z first (up.0 z more) ]), up);
+        ascends = (
+          (λ z is. elim (in_tail y ys z is) [
+            | inl e ↦ subst (IsBefore x) (sym e) first
+            | inr more ↦ before_trans x y z first (up.0 z more)
+          ]),
+          up,
+        );
         from = in_tail x (y ∷ ys);
         here = (zero, omega arith, refl);
         old = behind_head x (y ∷ ys);
@@ -56,13 +71,19 @@ insert x (y ∷ ys) up new =
     by_order (inr last) (zs, rest) = (
       y ∷ zs,
       record {
-        ascends = ((λ z is. elim (rest.from z is) [ inl e ↦ subst (IsBefore y) (sym e) last | inr more ↦ up.0 z more ]), rest.ascends);
+        ascends = (
+          (λ z is. elim (rest.from z is) [ inl e ↦ subst (IsBefore y) (sym e) last | inr more ↦ up.0 z more ]),
+          rest.ascends,
+        );
         from = λ z is. elim (in_tail y zs z is) [
           | inl e ↦ inr (zero, omega arith, sym e)
           | inr more ↦ elim (rest.from z more) [ inl e ↦ inl e | inr old ↦ inr (behind_head y ys z old) ]
         ];
         here = behind_head y zs x rest.here;
-        old = λ z is. elim (in_tail y ys z is) [ inl e ↦ (zero, omega arith, sym e) | inr more ↦ behind_head y zs z (rest.old z more) ];
+        old = λ z is. elim (in_tail y ys z is) [
+          | inl e ↦ (zero, omega arith, sym e)
+          | inr more ↦ behind_head y zs z (rest.old z more)
+        ];
       },
     )
 
@@ -79,15 +100,22 @@ sorted (x ∷ xs) apart =
       more.0,
       record {
         ascends = more.1.ascends;
-        from = λ z is. elim (more.1.from z is) [ inl e ↦ (zero, omega arith, sym e) | inr old ↦ behind_head x xs z (rest.1.from z old) ];
-        to = λ z is. elim (in_tail x xs z is) [ inl e ↦ subst (Contains more.0) (sym e) more.1.here | inr old ↦ more.1.old z (rest.1.to z old) ];
+        from = λ z is. elim (more.1.from z is) [
+          | inl e ↦ (zero, omega arith, sym e)
+          | inr old ↦ behind_head x xs z (rest.1.from z old)
+        ];
+        to = λ z is. elim (in_tail x xs z is) [
+          | inl e ↦ subst (Contains more.0) (sym e) more.1.here
+          | inr old ↦ more.1.old z (rest.1.to z old)
+        ];
       },
     )
 
 pub ascending_pairs : (xs : List ℕ) → Ascends xs → AllPairs IsBefore xs
 ascending_pairs [] up i j d less within = absurd (omega arith)
 ascending_pairs (x ∷ xs) up zero zero d less within = absurd (omega arith)
-ascending_pairs (x ∷ xs) up zero (suc j) d less within = up.0 (get_or xs j d) (j, omega arith, get_or_default xs j (get_or xs j d) d (omega arith))
+ascending_pairs (x ∷ xs) up zero (suc j) d less within =
+    up.0 (get_or xs j d) (j, omega arith, get_or_default xs j (get_or xs j d) d (omega arith))
 ascending_pairs (x ∷ xs) up (suc i) zero d less within = absurd (omega arith)
 ascending_pairs (x ∷ xs) up (suc i) (suc j) d less within = ascending_pairs xs up.1 i j d (omega arith) (omega arith)
 

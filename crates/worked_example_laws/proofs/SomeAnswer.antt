@@ -3,7 +3,8 @@ use Rattle.std.proofs.Common.{◌≡◌, ℕ, ◌<◌, List, length, Bool, true,
 use Rattle.std.specs.Prelude.{◌⊎◌, Result, Ok, Err}
 use Rattle.std.proofs.lemmas.Bool.{ltb-true}
 use Rattle.patch_sets.specs.Closed.{AreEarlier}
-use Rattle.crash_model.specs.Answer.{Answer, Refused, Reported, HasBase, HasGraph, IsAnswer, ordering_rules, bad_script, bad_geometry, bad_base, bad_trace, too_many, reported}
+use Rattle.crash_model.specs.Answer.{Answer, Refused, Reported, HasBase, HasGraph, IsAnswer, ordering_rules, bad_script}
+use Rattle.crash_model.specs.Answer.{bad_geometry, bad_base, bad_trace, too_many, reported}
 use Rattle.crash_model.specs.Disk.{Disk, empty_disk, IsGeometry}
 use Rattle.crash_model.specs.Explain.{explanation}
 use Rattle.crash_model.specs.Lists.{when}
@@ -31,18 +32,24 @@ use Rattle.worked_example_laws.proofs.SomeReading.{some_reading}
 -- ---- answers
 
 module _ (settings : Settings) (bytes : List ℕ) where
-  from_graph : (base : Disk) (last : Tracing) (patches : List Patch) → HasGraph bytes settings base last patches → (answer : Answer) × IsAnswer bytes settings answer
+  from_graph : (base : Disk) (last : Tracing) (patches : List Patch) → HasGraph bytes settings base last patches
+      → (answer : Answer) × IsAnswer bytes settings answer
   from_graph base last patches has = by_limit (nat_lt settings.limit (length (closed_sets (deps_of patches)))) refl
     where
       before : AreEarlier (deps_of patches)
       before = has.graph.earlier
 
-      by_limit : (b : Bool) → nat_lt settings.limit (length (closed_sets (deps_of patches))) ≡ b → (answer : Answer) × IsAnswer bytes settings answer
+      by_limit : (b : Bool) → nat_lt settings.limit (length (closed_sets (deps_of patches))) ≡ b → (answer : Answer)
+          × IsAnswer bytes settings answer
       by_limit true e =
           let all = counts_closed patches (length (closed_sets (deps_of patches))) before refl in (
             Refused TooMany,
-            too_many base last patches has
-                (all.0, record { distinct = all.1.distinct; each = all.1.each }, subst (λ (n : ℕ). settings.limit < n) (sym all.2) (ltb-true settings.limit (length (closed_sets (deps_of patches))) e)),
+            too_many base last patches has (
+              all.0,
+              record { distinct = all.1.distinct; each = all.1.each },
+              subst (λ (n : ℕ). settings.limit < n) (sym all.2)
+                  (ltb-true settings.limit (length (closed_sets (deps_of patches))) e),
+            ),
           )
       by_limit false e =
           let kept = kept_of settings.strict base has.steps in
@@ -57,44 +64,52 @@ module _ (settings : Settings) (bytes : List ℕ) where
             body = body.0;
           } in (
             Reported (report settings told) (length failing.0),
-            reported kept base last patches (report settings told) (length failing.0) has (is_told_kept settings.strict base has.steps) (record {
-              total = length (closed_sets (deps_of patches));
-              counted = counts_closed patches (length (closed_sets (deps_of patches))) before refl;
-              within = not_above settings.limit (length (closed_sets (deps_of patches))) e;
-              sets = failing.0;
-              exactly = failing.1;
-              left = closed_are_left base patches before failing.0 closed;
-              number = refl;
-              body = body.0;
-              told = body.1;
-              whole = refl;
-            }),
+            reported kept base last patches (report settings told) (length failing.0) has
+                (is_told_kept settings.strict base has.steps) (record {
+                  total = length (closed_sets (deps_of patches));
+                  counted = counts_closed patches (length (closed_sets (deps_of patches))) before refl;
+                  within = not_above settings.limit (length (closed_sets (deps_of patches))) e;
+                  sets = failing.0;
+                  exactly = failing.1;
+                  left = closed_are_left base patches before failing.0 closed;
+                  number = refl;
+                  body = body.0;
+                  told = body.1;
+                  whole = refl;
+                }),
           )
 
-  from_base : (base : Disk) (steps : List Step) → HasBase bytes settings base steps → (answer : Answer) × IsAnswer bytes settings answer
+  from_base : (base : Disk) (steps : List Step) → HasBase bytes settings base steps → (answer : Answer)
+      × IsAnswer bytes settings answer
   from_base base steps start = by_trace (trace_from settings.module (trace_start base) steps) refl
     where
-      by_trace : (r : Result Tracing TraceFault) → trace_from settings.module (trace_start base) steps ≡ r → (answer : Answer) × IsAnswer bytes settings answer
+      by_trace : (r : Result Tracing TraceFault) → trace_from settings.module (trace_start base) steps ≡ r
+          → (answer : Answer) × IsAnswer bytes settings answer
       by_trace (Err fault) is = (Refused (run_of_trace fault), bad_trace base steps fault start is)
       by_trace (Ok last) is = from_graph base last (graph_of (ordering_rules settings) base last)
           (record { steps = steps; start = start; run = is; graph = graph_is (ordering_rules settings) base last })
 
-  from_steps : (before steps : List Step) → IsScript bytes before steps → (answer : Answer) × IsAnswer bytes settings answer
+  from_steps : (before steps : List Step) → IsScript bytes before steps → (answer : Answer)
+      × IsAnswer bytes settings answer
   from_steps before steps read = by_geometry (is_geometry settings) refl
     where
-      by_base : IsGeometry settings.blocks settings.journal → (r : Result Disk TraceFault) → base_from (empty_disk settings.blocks settings.journal) before ≡ r
+      by_base : IsGeometry settings.blocks settings.journal → (r : Result Disk TraceFault)
+          → base_from (empty_disk settings.blocks settings.journal) before ≡ r
           → (answer : Answer) × IsAnswer bytes settings answer
       by_base geometry (Err fault) is = (Refused (run_of_trace fault), bad_base before steps fault read geometry is)
-      by_base geometry (Ok base) is = from_base base steps (record { before = before; read = read; geometry = geometry; built = is })
+      by_base geometry (Ok base) is = from_base base steps
+          (record { before = before; read = read; geometry = geometry; built = is })
 
       by_geometry : (b : Bool) → is_geometry settings ≡ b → (answer : Answer) × IsAnswer bytes settings answer
-      by_geometry true e = by_base (geometry_if settings e) (base_from (empty_disk settings.blocks settings.journal) before) refl
+      by_geometry true e = by_base (geometry_if settings e)
+          (base_from (empty_disk settings.blocks settings.journal) before) refl
       by_geometry false e = (Refused BadGeometry, bad_geometry before steps read (no_geometry settings e))
 
   -- there is an answer
   pub some_answer : (answer : Answer) × IsAnswer bytes settings answer
   some_answer = by_reading (some_reading bytes)
     where
-      by_reading : ((base : List Step) × (steps : List Step) × IsScript bytes base steps) ⊎ ((fault : ScriptFault) × IsScriptRefusal bytes fault) → (answer : Answer) × IsAnswer bytes settings answer
+      by_reading : ((base : List Step) × (steps : List Step) × IsScript bytes base steps)
+          ⊎ ((fault : ScriptFault) × IsScriptRefusal bytes fault) → (answer : Answer) × IsAnswer bytes settings answer
       by_reading (inl script) = from_steps script.0 script.1 script.2
       by_reading (inr refused) = (Refused (run_of_script refused.0), bad_script refused.0 refused.1)

@@ -1,5 +1,6 @@
 -- There is what stands behind a report's head.
-use Rattle.std.proofs.Common.{◌≡◌, ◌≢◌, ℕ, zero, suc, ◌<◌, ◌≤◌, Bool, true, false, nat_lt, List, [], ◌∷◌, ◌++◌, length, map, get_or, All, arith, refl, sym, subst, ap, ◌∙◌, inl, inr}
+use Rattle.std.proofs.Common.{◌≡◌, ◌≢◌, ℕ, zero, suc, ◌<◌, ◌≤◌, Bool, true, false, nat_lt, List, [], ◌∷◌, ◌++◌, length}
+use Rattle.std.proofs.Common.{map, get_or, All, arith, refl, sym, subst, ap, ◌∙◌, inl, inr}
 use Rattle.std.specs.Prelude.{◌⊎◌, Option, Some, None, filter}
 use Rattle.std.specs.List.{AllPairs, Contains}
 use Rattle.std.specs.Ordering.{nat_cmp, is_eq, ordering_reverse}
@@ -9,7 +10,8 @@ use Rattle.std.specs.declared.cmp.Ordering.TheVariants.{Less, Equal, Greater}
 use Rattle.std.proofs.lemmas.Bool.{ltb-true}
 use Rattle.std.proofs.lemmas.Bool.Decides.{nat_tests}
 use Rattle.std.proofs.lemmas.List.{get_or_default}
-use Rattle.std.proofs.lemmas.List.Elements.{All-nil, All-cons, All-head, All-tail, Contains-append_left, Contains-append_right, Contains-append_cases}
+use Rattle.std.proofs.lemmas.List.Elements.{All-nil, All-cons, All-head, All-tail, Contains-append_left}
+use Rattle.std.proofs.lemmas.List.Elements.{Contains-append_right, Contains-append_cases}
 use Rattle.state_space.specs.Counts.{HoldsOf}
 use Rattle.patch_sets.specs.Closed.{AreEarlier, IsClosed}
 use Rattle.patch_sets.specs.Sets.{IsBefore, AreAllInOrder}
@@ -20,7 +22,8 @@ use Rattle.crash_model.specs.Answer.{IsBody, detail_of, ordering_rules}
 use Rattle.crash_model.specs.Disk.{Disk}
 use Rattle.crash_model.specs.Patches.{ExceedsLimit, deps_of, image_of}
 use Rattle.crash_model.specs.Strict.{faults_under, IsFailingUnder}
-use Rattle.crash_model.specs.Needs.{pairs_of, Without, RuleUsage, Unused, TooMany, Used, ToldRule, IsFirstNew, IsWithout, IsRuleUsage, AreToldRules}
+use Rattle.crash_model.specs.Needs.{pairs_of, Without, RuleUsage, Unused, TooMany, Used, ToldRule, IsFirstNew}
+use Rattle.crash_model.specs.Needs.{IsWithout, IsRuleUsage, AreToldRules}
 use Rattle.crash_model.specs.Replay.{image_after_replay}
 use Rattle.crash_model.specs.Report.{Section, AreSections, IsLed, replay_of}
 use Rattle.crash_model.specs.Rules.{rules_in_first}
@@ -52,11 +55,16 @@ not_above limit n e = grind (arith, nat_tests)
 pub some_failing : (kept : Option ℕ) (base : Disk) (patches : List Patch) → AreEarlier (deps_of patches)
     → (sets : List ℕ) × AreAllInOrder (IsFailingUnder kept base patches) sets × Ascends sets
 some_failing kept base patches before =
-    let ordered = sorted (failing_under kept base patches) (apart_filter (fails_under kept base patches) (closed_sets (deps_of patches)) (closed_are_all (deps_of patches) before).apart) in (
+    let ordered = sorted (failing_under kept base patches)
+    (apart_filter (fails_under kept base patches) (closed_sets (deps_of patches))
+    (closed_are_all (deps_of patches) before).apart) in (
       ordered.0,
       record {
         ordered = ascending_pairs ordered.0 ordered.1.ascends;
-        exactly = λ set. ((λ is. under_at kept base patches before set (ordered.1.from set is)), (λ failing. ordered.1.to set (in_under kept base patches before set failing)));
+        exactly = λ set. (
+          (λ is. under_at kept base patches before set (ordered.1.from set is)),
+          (λ failing. ordered.1.to set (in_under kept base patches before set failing)),
+        );
       },
       ordered.1.ascends,
     )
@@ -66,9 +74,11 @@ some_failing kept base patches before =
 compare : (f g : Fault) → IsFaultBefore f g ⊎ ((f ≡ g) ⊎ IsFaultBefore g f)
 compare f g = by (slice_cmp nat_cmp (numbers_of f) (numbers_of g)) refl
   where
-    by : (r : Ordering) → slice_cmp nat_cmp (numbers_of f) (numbers_of g) ≡ r → IsFaultBefore f g ⊎ ((f ≡ g) ⊎ IsFaultBefore g f)
+    by : (r : Ordering) → slice_cmp nat_cmp (numbers_of f) (numbers_of g) ≡ r → IsFaultBefore f g
+        ⊎ ((f ≡ g) ⊎ IsFaultBefore g f)
     by Less e = inl e
-    by Equal e = inr (inl (same_fault f g ((bytes_decides (numbers_of f) (numbers_of g)).0 (texts_ties (numbers_of f) (numbers_of g) ∙ ap is_eq e))))
+    by Equal e = inr (inl (same_fault f g ((bytes_decides (numbers_of f) (numbers_of g)).0
+        (texts_ties (numbers_of f) (numbers_of g) ∙ ap is_eq e))))
     by Greater e = inr (inr (nat_list_cmp_total.antisymm (numbers_of g) (numbers_of f) ∙ ap ordering_reverse e))
 
 same_or_not : (f g : Fault) → (f ≡ g) ⊎ (f ≢ g)
@@ -78,7 +88,8 @@ same_or_not f g = by (compare f g)
     less_or_greater e = cc
 
     alone : (h : Fault) → IsFaultBefore h h → ⊥
-    alone h before = less_or_greater (sym before ∙ (nat_list_cmp_total.antisymm (numbers_of h) (numbers_of h) ∙ ap ordering_reverse before))
+    alone h before = less_or_greater (sym before ∙ (nat_list_cmp_total.antisymm (numbers_of h) (numbers_of h)
+        ∙ ap ordering_reverse before))
 
     by : IsFaultBefore f g ⊎ ((f ≡ g) ⊎ IsFaultBefore g f) → (f ≡ g) ⊎ (f ≢ g)
     by (inl first) = inr (λ e. alone g (subst (λ (h : Fault). IsFaultBefore h g) e first))
@@ -109,7 +120,8 @@ place_fault f [] up = (
 )
 place_fault f (g ∷ fs) up = by (compare f g) (place_fault f fs up.1)
   where
-    by : IsFaultBefore f g ⊎ ((f ≡ g) ⊎ IsFaultBefore g f) → (gs : List Fault) × Placed f fs gs → (gs : List Fault) × Placed f (g ∷ fs) gs
+    by : IsFaultBefore f g ⊎ ((f ≡ g) ⊎ IsFaultBefore g f) → (gs : List Fault) × Placed f fs gs → (gs : List Fault)
+        × Placed f (g ∷ fs) gs
     by (inl first) rest = (
       f ∷ g ∷ fs,
       record {
@@ -127,18 +139,32 @@ place_fault f (g ∷ fs) up = by (compare f g) (place_fault f fs up.1)
     )
     by (inr (inl same)) rest = (
       g ∷ fs,
-      record { rise = up; from = λ z is. inr is; here = subst (Contains (g ∷ fs)) (sym same) (in_front g fs); old = λ z is. is },
+      record {
+        rise = up;
+        from = λ z is. inr is;
+        here = subst (Contains (g ∷ fs)) (sym same) (in_front g fs);
+        old = λ z is. is;
+      },
     )
     by (inr (inr last)) (zs, rest) = (
       g ∷ zs,
       record {
-        rise = ((λ z is. elim (rest.from z is) [ inl e ↦ subst (IsFaultBefore g) (sym e) last | inr more ↦ up.0 z more ]), rest.rise);
+        rise = (
+          (λ z is. elim (rest.from z is) [
+            | inl e ↦ subst (IsFaultBefore g) (sym e) last
+            | inr more ↦ up.0 z more
+          ]),
+          rest.rise,
+        );
         from = λ z is. elim (front_or_rest g zs z is) [
           | inl e ↦ inr (subst (Contains (g ∷ fs)) e (in_front g fs))
           | inr more ↦ elim (rest.from z more) [ inl e ↦ inl e | inr old ↦ inr (in_rest g fs z old) ]
         ];
         here = in_rest g zs f rest.here;
-        old = λ z is. elim (front_or_rest g fs z is) [ inl e ↦ subst (Contains (g ∷ zs)) e (in_front g zs) | inr more ↦ in_rest g zs z (rest.old z more) ];
+        old = λ z is. elim (front_or_rest g fs z is) [
+          | inl e ↦ subst (Contains (g ∷ zs)) e (in_front g zs)
+          | inr more ↦ in_rest g zs z (rest.old z more)
+        ];
       },
     )
 
@@ -156,8 +182,14 @@ gather (f ∷ fs) =
       more.0,
       record {
         rise = more.1.rise;
-        from = λ z is. elim (more.1.from z is) [ inl e ↦ subst (Contains (f ∷ fs)) (sym e) (in_front f fs) | inr old ↦ in_rest f fs z (rest.1.from z old) ];
-        to = λ z is. elim (front_or_rest f fs z is) [ inl e ↦ subst (Contains more.0) e more.1.here | inr old ↦ more.1.old z (rest.1.to z old) ];
+        from = λ z is. elim (more.1.from z is) [
+          | inl e ↦ subst (Contains (f ∷ fs)) (sym e) (in_front f fs)
+          | inr old ↦ in_rest f fs z (rest.1.from z old)
+        ];
+        to = λ z is. elim (front_or_rest f fs z is) [
+          | inl e ↦ subst (Contains more.0) e more.1.here
+          | inr old ↦ more.1.old z (rest.1.to z old)
+        ];
       },
     )
 
@@ -177,7 +209,8 @@ rows_rise : (rows : List FaultRow) → Rise (faults_of rows) → AllPairs (λ a 
 rows_rise [] up i j d less within = absurd (omega arith)
 rows_rise (r ∷ rows) up zero zero d less within = absurd (omega arith)
 rows_rise (r ∷ rows) up zero (suc j) d less within =
-    up.0 (get_or rows j d).fault (in_map rows (get_or rows j d) (j, omega arith, get_or_default rows j (get_or rows j d) d (omega arith)))
+    up.0 (get_or rows j d).fault (in_map rows (get_or rows j d)
+    (j, omega arith, get_or_default rows j (get_or rows j d) d (omega arith)))
 rows_rise (r ∷ rows) up (suc i) zero d less within = absurd (omega arith)
 rows_rise (r ∷ rows) up (suc i) (suc j) d less within = rows_rise rows up.1 i j d (omega arith) (omega arith)
 
@@ -195,7 +228,8 @@ any_to : (f : Fault) (fs : List Fault) → Contains fs f → has_fault f fs ≡ 
 any_to f [] is = absurd (in_none f is)
 any_to f (g ∷ fs) is = by (same_or_not g f) (front_or_rest g fs f is) (any_to f fs)
   where
-    by : (d : (g ≡ f) ⊎ (g ≢ f)) → (g ≡ f) ⊎ Contains fs f → (Contains fs f → has_fault f fs ≡ true) → is_one d (has_fault f fs) ≡ true
+    by : (d : (g ≡ f) ⊎ (g ≢ f)) → (g ≡ f) ⊎ Contains fs f → (Contains fs f → has_fault f fs ≡ true)
+        → is_one d (has_fault f fs) ≡ true
     by (inl e) there rest = refl
     by (inr apart) (inl e) rest = absurd (apart e)
     by (inr apart) (inr more) rest = rest more
@@ -204,7 +238,8 @@ any_from : (f : Fault) (fs : List Fault) → has_fault f fs ≡ true → Contain
 any_from f [] e = cc
 any_from f (g ∷ fs) e = by (same_or_not g f) e (any_from f fs)
   where
-    by : (d : (g ≡ f) ⊎ (g ≢ f)) → is_one d (has_fault f fs) ≡ true → (has_fault f fs ≡ true → Contains fs f) → Contains (g ∷ fs) f
+    by : (d : (g ≡ f) ⊎ (g ≢ f)) → is_one d (has_fault f fs) ≡ true → (has_fault f fs ≡ true → Contains fs f)
+        → Contains (g ∷ fs) f
     by (inl same) is rest = subst (Contains (g ∷ fs)) same (in_front g fs)
     by (inr apart) is rest = in_rest g fs f (rest is)
 
@@ -213,14 +248,16 @@ abbrev all_of : (ℕ → List Fault) → List ℕ → List Fault
 all_of found [] = []
 all_of found (set ∷ sets) = found set ++ all_of found sets
 
-in_all : (found : ℕ → List Fault) (sets : List ℕ) (set : ℕ) (f : Fault) → Contains sets set → Contains (found set) f → Contains (all_of found sets) f
+in_all : (found : ℕ → List Fault) (sets : List ℕ) (set : ℕ) (f : Fault) → Contains sets set → Contains (found set) f
+    → Contains (all_of found sets) f
 in_all found [] set f is there = absurd (in_none set is)
 in_all found (s ∷ sets) set f is there = elim (front_or_rest s sets set is) [
   | inl e ↦ Contains-append_left (found s) (all_of found sets) f (subst (λ (n : ℕ). Contains (found n) f) (sym e) there)
   | inr more ↦ Contains-append_right (found s) (all_of found sets) f (in_all found sets set f more there)
 ]
 
-from_all : (found : ℕ → List Fault) (sets : List ℕ) (f : Fault) → Contains (all_of found sets) f → (set : ℕ) × Contains sets set × Contains (found set) f
+from_all : (found : ℕ → List Fault) (sets : List ℕ) (f : Fault) → Contains (all_of found sets) f → (set : ℕ)
+    × Contains sets set × Contains (found set) f
 from_all found [] f is = absurd (in_none f is)
 from_all found (s ∷ sets) f is = elim (Contains-append_cases (found s) (all_of found sets) f is) [
   | inl there ↦ (s, in_front s sets, there)
@@ -234,7 +271,8 @@ head_of (x ∷ xs) w is = (x, xs, refl)
 
 -- ---- each fault once
 
-module _ (detail : Detail) (base : Disk) (patches : List Patch) (before : AreEarlier (deps_of patches)) (sets : List ℕ) (exactly : AreAllInOrder (IsFailingUnder detail.kept base patches) sets) (up : Ascends sets) where
+module _ (detail : Detail) (base : Disk) (patches : List Patch) (before : AreEarlier (deps_of patches)) (sets : List ℕ)
+    (exactly : AreAllInOrder (IsFailingUnder detail.kept base patches) sets) (up : Ascends sets) where
   abbrev found : ℕ → List Fault
   found set = faults_under detail.kept (image_after_replay (image_of base patches set))
 
@@ -247,12 +285,15 @@ module _ (detail : Detail) (base : Disk) (patches : List Patch) (before : AreEar
       record { failing = (exactly.exactly set).0 it.0; found = any_from f (found set) it.1 }
 
   at_has : (f : Fault) (set : ℕ) → HasFault detail.kept base patches f set → Contains (with_fault f) set
-  at_has f set has = to_filter (λ s. has_fault f (found s)) sets set ((exactly.exactly set).1 has.failing) (any_to f (found set) has.found)
+  at_has f set has = to_filter (λ s. has_fault f (found s)) sets set ((exactly.exactly set).1 has.failing)
+      (any_to f (found set) has.found)
 
-  is_first : (f : Fault) (x : ℕ) (rest : List ℕ) → with_fault f ≡ x ∷ rest → IsFirst (HasFault detail.kept base patches f) x
+  is_first : (f : Fault) (x : ℕ) (rest : List ℕ) → with_fault f ≡ x ∷ rest
+      → IsFirst (HasFault detail.kept base patches f) x
   is_first f x rest e = record {
     among = has_at f x (subst (λ (some : List ℕ). Contains some x) (sym e) (in_front x rest));
-    first = λ other has behind. not_before other (front_or_rest x rest other (subst (λ (some : List ℕ). Contains some other) e (at_has f other has))) behind;
+    first = λ other has behind. not_before other (front_or_rest x rest other
+        (subst (λ (some : List ℕ). Contains some other) e (at_has f other has))) behind;
   }
     where
       up_here : Ascends (x ∷ rest)
@@ -272,13 +313,25 @@ module _ (detail : Detail) (base : Disk) (patches : List Patch) (before : AreEar
   tell : (f : Fault) → Contains (all_of found sets) f → (t : ToldFault) × Tells f t
   tell f is =
       let there = from_all found sets f is in
-      let head = head_of (with_fault f) there.0 (to_filter (λ s. has_fault f (found s)) sets there.0 there.1 (any_to f (found there.0) there.2)) in
+      let head = head_of (with_fault f) there.0 (to_filter (λ s. has_fault f (found s)) sets there.0 there.1
+      (any_to f (found there.0) there.2)) in
       let first = is_first f head.0 head.1 head.2 in
       let section = some_section detail base patches head.0 in
       let row : FaultRow = record { fault = f; sets = length (with_fault f); first = head.0 } in
-      let number : HoldsOf (HasFault detail.kept base patches f) (length (with_fault f)) = (with_fault f, list_of (HasFault detail.kept base patches f) (with_fault f) (apart_from_ascends (with_fault f) (ascends_filter (λ s. has_fault f (found s)) sets up)) (has_at f) (at_has f), refl) in (
+      let number : HoldsOf (HasFault detail.kept base patches f) (length (with_fault f)) = (
+        with_fault f,
+        list_of (HasFault detail.kept base patches f) (with_fault f)
+            (apart_from_ascends (with_fault f) (ascends_filter (λ s. has_fault f (found s)) sets up)) (has_at f)
+            (at_has f),
+        refl,
+      ) in (
         record { row = row; first = section.0 },
-        record { fault = refl; row = record { number = number; first = first }; closed = first.among.failing.closed; first = section.1 },
+        record {
+          fault = refl;
+          row = record { number = number; first = first };
+          closed = first.among.failing.closed;
+          first = section.1;
+        },
       )
 
   -- what is told of faults, one after another
@@ -288,18 +341,37 @@ module _ (detail : Detail) (base : Disk) (patches : List Patch) (before : AreEar
     firsts : AreSections detail base patches (map (λ t. t.row.first) told) (map (λ t. t.first) told)
     led : All (λ t. IsLed patches t.first) told
 
-  tell_all : (fs : List Fault) → ((z : Fault) → Contains fs z → Contains (all_of found sets) z) → (told : List ToldFault) × TellsAll fs told
-  tell_all [] from = ([], record { faults = refl; each = All-nil (IsRow (HasFault detail.kept base patches)); firsts = refl; led = All-nil (λ t. IsLed patches t.first) })
+  tell_all : (fs : List Fault) → ((z : Fault) → Contains fs z → Contains (all_of found sets) z)
+      → (told : List ToldFault) × TellsAll fs told
+  tell_all [] from = (
+    [],
+    record {
+      faults = refl;
+      each = All-nil (IsRow (HasFault detail.kept base patches));
+      firsts = refl;
+      led = All-nil (λ t. IsLed patches t.first);
+    },
+  )
   tell_all (f ∷ fs) from =
       let one = tell f (from f (in_front f fs)) in
       let rest = tell_all fs (λ z is. from z (in_rest f fs z is)) in
-      let led = sections_lead base patches before detail (one.0.row.first ∷ []) (one.0.first ∷ []) (All-cons (IsClosed (deps_of patches)) one.0.row.first [] one.1.closed (All-nil (IsClosed (deps_of patches)))) one.1.first in (
+      let led = sections_lead base patches before detail (one.0.row.first ∷ []) (one.0.first ∷ [])
+      (All-cons (IsClosed (deps_of patches)) one.0.row.first [] one.1.closed (All-nil (IsClosed (deps_of patches))))
+      one.1.first in (
         one.0 ∷ rest.0,
         record {
           faults = front one.1.fault rest.1.faults;
-          each = All-cons (IsRow (HasFault detail.kept base patches)) one.0.row (map (λ t. t.row) rest.0) one.1.row rest.1.each;
-          firsts = (one.1.first.0, map (λ t. t.first) rest.0, one.1.first.2, rest.1.firsts, head_is one.0.first (map (λ t. t.first) rest.0) one.1.first);
-          led = All-cons (λ t. IsLed patches t.first) one.0 rest.0 (All-head (IsLed patches) one.0.first [] led) rest.1.led;
+          each = All-cons (IsRow (HasFault detail.kept base patches)) one.0.row (map (λ t. t.row) rest.0) one.1.row
+              rest.1.each;
+          firsts = (
+            one.1.first.0,
+            map (λ t. t.first) rest.0,
+            one.1.first.2,
+            rest.1.firsts,
+            head_is one.0.first (map (λ t. t.first) rest.0) one.1.first,
+          );
+          led = All-cons (λ t. IsLed patches t.first) one.0 rest.0 (All-head (IsLed patches) one.0.first [] led)
+              rest.1.led;
         },
       )
     where
@@ -310,8 +382,14 @@ module _ (detail : Detail) (base : Disk) (patches : List Patch) (before : AreEar
       heads e = cc
 
       -- the section of one set, before others
-      head_is : {set : ℕ} (section : Section) (others : List Section) → (one : AreSections detail base patches (set ∷ []) (section ∷ []))
-          → section ∷ others ≡ record { set = set; writes = one.0; replay = replay_of detail.explain (image_of base patches set); found = faults_under detail.kept (image_after_replay (image_of base patches set)) } ∷ others
+      head_is : {set : ℕ} (section : Section) (others : List Section)
+          → (one : AreSections detail base patches (set ∷ []) (section ∷ []))
+          → section ∷ others ≡ record {
+            set = set;
+            writes = one.0;
+            replay = replay_of detail.explain (image_of base patches set);
+            found = faults_under detail.kept (image_after_replay (image_of base patches set));
+          } ∷ others
       head_is section others one = ap (λ (s : Section). s ∷ others) (heads one.4)
 
   told_faults : (told : List ToldFault) × AreToldFaults detail base patches told × All (λ t. IsLed patches t.first) told
@@ -323,7 +401,8 @@ module _ (detail : Detail) (base : Disk) (patches : List Patch) (before : AreEar
           rows = record {
             ordered = rows_rise (map (λ t. t.row) it.0) (subst Rise (sym it.1.faults) all.1.rise);
             each = it.1.each;
-            every = λ f set has. subst (λ (fs : List Fault). Contains fs f) (sym it.1.faults) (all.1.to f (in_all found sets set f ((exactly.exactly set).1 has.failing) has.found));
+            every = λ f set has. subst (λ (fs : List Fault). Contains fs f) (sym it.1.faults)
+                (all.1.to f (in_all found sets set f ((exactly.exactly set).1 has.failing) has.found));
           };
           firsts = it.1.firsts;
         },
@@ -341,34 +420,61 @@ in_or_not (y ∷ xs) x = by (eq_or_not y x) (in_or_not xs x)
     by (inr apart) (inl more) = inl (in_rest y xs x more)
     by (inr apart) (inr none) = inr (λ is. elim (front_or_rest y xs x is) [ inl e ↦ apart e | inr more ↦ none more ])
 
-closed_or_not : (patches : List Patch) → AreEarlier (deps_of patches) → (set : ℕ) → IsClosed (deps_of patches) set ⊎ (¬ (IsClosed (deps_of patches) set))
+closed_or_not : (patches : List Patch) → AreEarlier (deps_of patches) → (set : ℕ) → IsClosed (deps_of patches) set
+    ⊎ (¬ (IsClosed (deps_of patches) set))
 closed_or_not patches before set = by (in_or_not (closed_sets (deps_of patches)) set)
   where
-    by : Contains (closed_sets (deps_of patches)) set ⊎ (¬ (Contains (closed_sets (deps_of patches)) set)) → IsClosed (deps_of patches) set ⊎ (¬ (IsClosed (deps_of patches) set))
+    by : Contains (closed_sets (deps_of patches)) set ⊎ (¬ (Contains (closed_sets (deps_of patches)) set))
+        → IsClosed (deps_of patches) set ⊎ (¬ (IsClosed (deps_of patches) set))
     by (inl is) = inl ((closed_are_all (deps_of patches) before).each set is)
     by (inr none) = inr (λ closed. none ((closed_are_all (deps_of patches) before).every set closed))
 
 module _ (detail : Detail) (base : Disk) (patches : List Patch) (before : AreEarlier (deps_of patches)) where
   module _ (changed : List Patch) (first : AreEarlier (deps_of changed)) where
-    first_new : (sets : List ℕ) → All (IsClosed (deps_of changed)) sets → (x : Option Section) × IsFirstNew detail base patches changed sets x
+    first_new : (sets : List ℕ) → All (IsClosed (deps_of changed)) sets → (x : Option Section)
+        × IsFirstNew detail base patches changed sets x
     first_new [] closed = (None, All-nil (IsClosed (deps_of patches)))
-    first_new (set ∷ sets) closed = by (closed_or_not patches before set) (first_new sets (All-tail (IsClosed (deps_of changed)) set sets closed))
+    first_new (set ∷ sets) closed = by (closed_or_not patches before set)
+        (first_new sets (All-tail (IsClosed (deps_of changed)) set sets closed))
       where
-        further : IsClosed (deps_of patches) set → (x : Option Section) → IsFirstNew detail base patches changed sets x → IsFirstNew detail base patches changed (set ∷ sets) x
+        further : IsClosed (deps_of patches) set → (x : Option Section) → IsFirstNew detail base patches changed sets x
+            → IsFirstNew detail base patches changed (set ∷ sets) x
         further is None all = All-cons (IsClosed (deps_of patches)) set sets is all
-        further is (Some section) (front, new, rest, split, all, none, told, led) =
-            (set ∷ front, new, rest, ap (λ (some : List ℕ). set ∷ some) split, All-cons (IsClosed (deps_of patches)) set front is all, none, told, led)
+        further is (Some section) (front, new, rest, split, all, none, told, led) = (
+          set ∷ front,
+          new,
+          rest,
+          ap (λ (some : List ℕ). set ∷ some) split,
+          All-cons (IsClosed (deps_of patches)) set front is all,
+          none,
+          told,
+          led,
+        )
 
-        by : IsClosed (deps_of patches) set ⊎ (¬ (IsClosed (deps_of patches) set)) → (x : Option Section) × IsFirstNew detail base patches changed sets x
+        by : IsClosed (deps_of patches) set ⊎ (¬ (IsClosed (deps_of patches) set)) → (x : Option Section)
+            × IsFirstNew detail base patches changed sets x
             → (x : Option Section) × IsFirstNew detail base patches changed (set ∷ sets) x
         by (inl is) rest = (rest.0, further is rest.0 rest.1)
         by (inr none) rest =
             let section = some_section detail base changed set in
             let led = sections_lead base changed first detail (set ∷ []) (section.0 ∷ [])
-            (All-cons (IsClosed (deps_of changed)) set [] (All-head (IsClosed (deps_of changed)) set sets closed) (All-nil (IsClosed (deps_of changed)))) section.1 in
-            (Some section.0, ([], set, sets, refl, All-nil (IsClosed (deps_of patches)), none, section.1, All-head (IsLed changed) section.0 [] led))
+            (All-cons (IsClosed (deps_of changed)) set [] (All-head (IsClosed (deps_of changed)) set sets closed)
+            (All-nil (IsClosed (deps_of changed)))) section.1 in (
+              Some section.0,
+              (
+                [],
+                set,
+                sets,
+                refl,
+                All-nil (IsClosed (deps_of patches)),
+                none,
+                section.1,
+                All-head (IsLed changed) section.0 [] led,
+              ),
+            )
 
-    some_without : (limit : ℕ) → nat_lt limit (length (closed_sets (deps_of changed))) ≡ false → (w : Without) × IsWithout detail limit base patches changed w
+    some_without : (limit : ℕ) → nat_lt limit (length (closed_sets (deps_of changed))) ≡ false → (w : Without)
+        × IsWithout detail limit base patches changed w
     some_without limit e =
         let failing = some_failing detail.kept base changed first in
         let new = first_new failing.0 (failing_closed detail.kept base changed failing.0 failing.1) in (
@@ -385,8 +491,11 @@ module _ (detail : Detail) (base : Disk) (patches : List Patch) (before : AreEar
 
     exceeds : (limit : ℕ) → nat_lt limit (length (closed_sets (deps_of changed))) ≡ true → ExceedsLimit changed limit
     exceeds limit e =
-        let all = counts_closed changed (length (closed_sets (deps_of changed))) first refl in
-        (all.0, record { distinct = all.1.distinct; each = all.1.each }, subst (λ (n : ℕ). limit < n) (sym all.2) (ltb-true limit (length (closed_sets (deps_of changed))) e))
+        let all = counts_closed changed (length (closed_sets (deps_of changed))) first refl in (
+          all.0,
+          record { distinct = all.1.distinct; each = all.1.each },
+          subst (λ (n : ℕ). limit < n) (sym all.2) (ltb-true limit (length (closed_sets (deps_of changed))) e),
+        )
 
   module _ (limit : ℕ) (rules : List Rule) (s : Tracing) where
     some_usage : (rule : Rule) → (usage : RuleUsage) × IsRuleUsage detail limit rules base s patches rule usage
@@ -395,17 +504,30 @@ module _ (detail : Detail) (base : Disk) (patches : List Patch) (before : AreEar
         others : List Rule
         others = rules_in_first rules (rule ∷ [])
 
-        by_limit : (b : Bool) → nat_lt limit (length (closed_sets (deps_of (graph_of others base s)))) ≡ b → 1 ≤ pairs_of rule s.emitted
+        by_limit : (b : Bool) → nat_lt limit (length (closed_sets (deps_of (graph_of others base s)))) ≡ b
+            → 1 ≤ pairs_of rule s.emitted
             → (usage : RuleUsage) × IsRuleUsage detail limit rules base s patches rule usage
-        by_limit true e one =
-            (TooMany (pairs_of rule s.emitted), (refl, one, (graph_of others base s, graph_is others base s, exceeds (graph_of others base s) (earlier others base s) limit e)))
+        by_limit true e one = (
+          TooMany (pairs_of rule s.emitted),
+          (
+            refl,
+            one,
+            (
+              graph_of others base s,
+              graph_is others base s,
+              exceeds (graph_of others base s) (earlier others base s) limit e,
+            ),
+          ),
+        )
         by_limit false e one =
             let w = some_without (graph_of others base s) (earlier others base s) limit e in
             (Used (pairs_of rule s.emitted) w.0, (refl, one, (graph_of others base s, graph_is others base s, w.1)))
 
-        by_pairs : (n : ℕ) → pairs_of rule s.emitted ≡ n → (usage : RuleUsage) × IsRuleUsage detail limit rules base s patches rule usage
+        by_pairs : (n : ℕ) → pairs_of rule s.emitted ≡ n → (usage : RuleUsage)
+            × IsRuleUsage detail limit rules base s patches rule usage
         by_pairs zero e = (Unused, e)
-        by_pairs (suc n) e = by_limit (nat_lt limit (length (closed_sets (deps_of (graph_of others base s))))) refl (omega (arith, e))
+        by_pairs (suc n) e = by_limit (nat_lt limit (length (closed_sets (deps_of (graph_of others base s))))) refl
+            (omega (arith, e))
 
     told_rules : (some : List Rule) → (told : List ToldRule) × AreToldRules detail limit rules base s patches some told
     told_rules [] = ([], refl)
@@ -416,17 +538,28 @@ module _ (detail : Detail) (base : Disk) (patches : List Patch) (before : AreEar
 
 -- ---- the body
 
-module _ (settings : Settings) (kept : Option ℕ) (base : Disk) (last : Tracing) (patches : List Patch) (before : AreEarlier (deps_of patches)) where
-  pub some_body : (sets : List ℕ) → AreAllInOrder (IsFailingUnder kept base patches) sets → Ascends sets → (body : Body) × IsBody settings kept base last patches sets body
+module _ (settings : Settings) (kept : Option ℕ) (base : Disk) (last : Tracing) (patches : List Patch)
+    (before : AreEarlier (deps_of patches)) where
+  pub some_body : (sets : List ℕ) → AreAllInOrder (IsFailingUnder kept base patches) sets → Ascends sets → (body : Body)
+      × IsBody settings kept base last patches sets body
   some_body sets exactly up = by_kind settings.by refl
     where
-      by_kind : (kind : ReportBy) → settings.by ≡ kind → (body : Body) × IsBody settings kept base last patches sets body
+      by_kind : (kind : ReportBy) → settings.by ≡ kind → (body : Body)
+          × IsBody settings kept base last patches sets body
       by_kind BySet e =
-          let sections = some_sections (detail_of settings kept) base patches sets in
-          (Sets sections.0, (e, sections.1, sections_lead base patches before (detail_of settings kept) sets sections.0 (failing_closed kept base patches sets exactly) sections.1))
+          let sections = some_sections (detail_of settings kept) base patches sets in (
+            Sets sections.0,
+            (
+              e,
+              sections.1,
+              sections_lead base patches before (detail_of settings kept) sets sections.0
+                  (failing_closed kept base patches sets exactly) sections.1,
+            ),
+          )
       by_kind ByFault e =
           let told = told_faults (detail_of settings kept) base patches before sets exactly up in
           (Faults told.0, (e, told.1, told.2))
       by_kind ByRule e =
-          let told = told_rules (detail_of settings kept) base patches before settings.limit (ordering_rules settings) last (ordering_rules settings) in
+          let told = told_rules (detail_of settings kept) base patches before settings.limit (ordering_rules settings)
+          last (ordering_rules settings) in
           (Rules told.0, (e, told.1))

@@ -1,5 +1,6 @@
 -- Each script is read or refused.
-use Rattle.std.proofs.Common.{◌≡◌, ◌≢◌, ℕ, zero, suc, ◌+◌, ◌<◌, ◌≤◌, List, [], ◌∷◌, ◌++◌, length, Bool, true, false, arith, refl, sym, subst, ap, ◌∙◌, inl, inr, append_assoc, append-nil}
+use Rattle.std.proofs.Common.{◌≡◌, ◌≢◌, ℕ, zero, suc, ◌+◌, ◌<◌, ◌≤◌, List, [], ◌∷◌, ◌++◌, length, Bool, true, false}
+use Rattle.std.proofs.Common.{arith, refl, sym, subst, ap, ◌∙◌, inl, inr, append_assoc, append-nil}
 use Rattle.std.specs.Prelude.{◌⊎◌, codes, flat_map, Option, Some, None, bytes_eq, IsUtf8, slice_get, if◌then◌else◌}
 use Rattle.std.specs.Str.{is_utf8}
 use Rattle.std.specs.List.{All, Contains, list_all}
@@ -11,7 +12,9 @@ use Rattle.patch_sets.proofs.Ids.{false_from_ne}
 use Rattle.crash_model.proofs.Cuts.{Lacks}
 use Rattle.crash_model.specs.Lists.{join_of}
 use Rattle.crash_model.specs.Names.{IsName, is_name_byte}
-use Rattle.crash_model.specs.Script.{AreLines, text_of_lines, path_text, IsPath, IsPathWord, Operand, PathOperand, GroupOperand, said, HasPaths, HasForm, Line, Skipped, Start, Says, IsSkipped, Reads, AreSteps, IsScript, AreAccepted, IsScriptRefusal}
+use Rattle.crash_model.specs.Script.{AreLines, text_of_lines, path_text, IsPath, IsPathWord, Operand, PathOperand}
+use Rattle.crash_model.specs.Script.{GroupOperand, said, HasPaths, HasForm, Line, Skipped, Start, Says, IsSkipped}
+use Rattle.crash_model.specs.Script.{Reads, AreSteps, IsScript, AreAccepted, IsScriptRefusal}
 use Rattle.crash_model.specs.declared.names.Path.{Path}
 use Rattle.crash_model.specs.declared.refusals.ScriptFault.{ScriptFault}
 use Rattle.crash_model.specs.declared.refusals.ScriptFault.TheVariants.{BadUtf8, BadLine, BadPath, NoStart}
@@ -19,7 +22,9 @@ use Rattle.crash_model.specs.declared.steps.Act.{Act}
 use Rattle.crash_model.specs.declared.steps.Step.{Step}
 use Rattle.worked_example_laws.specs.Spelled.{is_word}
 use Rattle.worked_example_laws.proofs.Pieces.{AreLacking, pieces, some_pieces, joined_pieces}
-use Rattle.worked_example_laws.proofs.Readings.{path_from, path_of_pieces, path_of, no_path, Read, read_as, samples, begun_by, like_of, fit, fits_some, are_formed, form_at, no_form, plain_from}
+use Rattle.worked_example_laws.proofs.Readings.{path_from, path_of_pieces, path_of, no_path, Read, read_as, samples}
+use Rattle.worked_example_laws.proofs.Readings.{begun_by, like_of, fit, fits_some, are_formed, form_at, no_form}
+use Rattle.worked_example_laws.proofs.Readings.{plain_from}
 use Rattle.worked_example_laws.proofs.Refused.{fits_if, not_skipped, not_text}
 use Rattle.std.proofs.lemmas.Option.{slice_get-get_or}
 use Rattle.worked_example_laws.proofs.Scripts.{IsRefusedLine, get_contains, get_front, get_middle}
@@ -44,25 +49,58 @@ cut_of : (bytes : List ℕ) → (front : List (List ℕ)) × (last : List ℕ) �
 cut_of [] = ([], [], record { lacks = tt; lacks_last = tt; whole = refl })
 cut_of (c ∷ cs) = by_byte (eq_or_not c 10) (cut_of cs)
   where
-    by_front : (front : List (List ℕ)) (last : List ℕ) → c ≢ 10 → AreCut cs front last → (front : List (List ℕ)) × (last : List ℕ) × AreCut (c ∷ cs) front last
-    by_front [] last other cut = ([], c ∷ last, record { lacks = tt; lacks_last = (other, cut.lacks_last); whole = ap (λ bs. c ∷ bs) cut.whole })
-    by_front (line ∷ front) last other cut =
-        ((c ∷ line) ∷ front, last, record { lacks = ((other, cut.lacks.0), cut.lacks.1); lacks_last = cut.lacks_last; whole = ap (λ bs. c ∷ bs) cut.whole })
+    by_front : (front : List (List ℕ)) (last : List ℕ) → c ≢ 10 → AreCut cs front last → (front : List (List ℕ))
+        × (last : List ℕ) × AreCut (c ∷ cs) front last
+    by_front [] last other cut = (
+      [],
+      c ∷ last,
+      record {
+        lacks = tt;
+        lacks_last = (other, cut.lacks_last);
+        whole = ap (λ bs. c ∷ bs) cut.whole;
+      },
+    )
+    by_front (line ∷ front) last other cut = (
+      (c ∷ line) ∷ front,
+      last,
+      record {
+        lacks = ((other, cut.lacks.0), cut.lacks.1);
+        lacks_last = cut.lacks_last;
+        whole = ap (λ bs. c ∷ bs) cut.whole;
+      },
+    )
 
-    by_byte : (c ≡ 10) ⊎ (c ≢ 10) → (front : List (List ℕ)) × (last : List ℕ) × AreCut cs front last → (front : List (List ℕ)) × (last : List ℕ) × AreCut (c ∷ cs) front last
-    by_byte (inl same) (front, last, cut) =
-        ([] ∷ front, last, record { lacks = (tt, cut.lacks); lacks_last = cut.lacks_last; whole = ap (λ b. b ∷ cs) same ∙ ap (λ bs. 10 ∷ bs) cut.whole })
+    by_byte : (c ≡ 10) ⊎ (c ≢ 10) → (front : List (List ℕ)) × (last : List ℕ) × AreCut cs front last
+        → (front : List (List ℕ)) × (last : List ℕ) × AreCut (c ∷ cs) front last
+    by_byte (inl same) (front, last, cut) = (
+      [] ∷ front,
+      last,
+      record {
+        lacks = (tt, cut.lacks);
+        lacks_last = cut.lacks_last;
+        whole = ap (λ b. b ∷ cs) same
+            ∙ ap (λ bs. 10 ∷ bs) cut.whole;
+      },
+    )
     by_byte (inr other) (front, last, cut) = by_front front last other cut
 
 pub some_lines : (bytes : List ℕ) → (lines : List (List ℕ)) × AreLines bytes lines
 some_lines bytes = by_last (cut_of bytes)
   where
-    lacking_push : (front : List (List ℕ)) (last : List ℕ) → AreLacking 10 front → Lacks 10 last → AreLacking 10 (front ++ last ∷ [])
+    lacking_push : (front : List (List ℕ)) (last : List ℕ) → AreLacking 10 front → Lacks 10 last
+        → AreLacking 10 (front ++ last ∷ [])
     lacking_push [] last lacks more = (more, tt)
     lacking_push (line ∷ front) last lacks more = (lacks.0, lacking_push front last lacks.1 more)
 
-    by_last : (front : List (List ℕ)) × (last : List ℕ) × AreCut bytes front last → (lines : List (List ℕ)) × AreLines bytes lines
-    by_last (front, [], cut) = (front, record { plain = plain_from 10 front cut.lacks; whole = inl (cut.whole ∙ append-nil (text_of_lines front)) })
+    by_last : (front : List (List ℕ)) × (last : List ℕ) × AreCut bytes front last → (lines : List (List ℕ))
+        × AreLines bytes lines
+    by_last (front, [], cut) = (
+      front,
+      record {
+        plain = plain_from 10 front cut.lacks;
+        whole = inl (cut.whole ∙ append-nil (text_of_lines front));
+      },
+    )
     by_last (front, c ∷ cs, cut) = (
       front ++ (c ∷ cs) ∷ [],
       record {
@@ -73,7 +111,8 @@ some_lines bytes = by_last (cut_of bytes)
 
 -- ---- paths
 
-joined_slashed : (name : List ℕ) (names : List (List ℕ)) → join_of 47 ([] ∷ name ∷ names) ≡ flat_map (λ n. 47 ∷ n) (name ∷ names)
+joined_slashed : (name : List ℕ) (names : List (List ℕ))
+    → join_of 47 ([] ∷ name ∷ names) ≡ flat_map (λ n. 47 ∷ n) (name ∷ names)
 joined_slashed name [] = ap (λ xs. 47 ∷ xs) (sym (append-nil name))
 joined_slashed name (next ∷ names) = ap (λ xs. 47 ∷ (name ++ xs)) (joined_slashed next names)
 
@@ -88,15 +127,18 @@ named_from (a ∷ []) path e = subst (IsNamed (a ∷ [])) (inside e) (record { f
   where
     inside : {p q : Path} → Some p ≡ Some q → p ≡ q
     inside e = cc
-named_from (a ∷ b ∷ []) path e = subst (IsNamed (a ∷ b ∷ [])) (inside e) (record { few = omega arith; names_are = refl })
+named_from (a ∷ b ∷ []) path e = subst (IsNamed (a ∷ b ∷ [])) (inside e)
+    (record { few = omega arith; names_are = refl })
   where
     inside : {p q : Path} → Some p ≡ Some q → p ≡ q
     inside e = cc
-named_from (a ∷ b ∷ c ∷ []) path e = subst (IsNamed (a ∷ b ∷ c ∷ [])) (inside e) (record { few = omega arith; names_are = refl })
+named_from (a ∷ b ∷ c ∷ []) path e = subst (IsNamed (a ∷ b ∷ c ∷ [])) (inside e)
+    (record { few = omega arith; names_are = refl })
   where
     inside : {p q : Path} → Some p ≡ Some q → p ≡ q
     inside e = cc
-named_from (a ∷ b ∷ c ∷ d ∷ []) path e = subst (IsNamed (a ∷ b ∷ c ∷ d ∷ [])) (inside e) (record { few = omega arith; names_are = refl })
+named_from (a ∷ b ∷ c ∷ d ∷ []) path e = subst (IsNamed (a ∷ b ∷ c ∷ d ∷ [])) (inside e)
+    (record { few = omega arith; names_are = refl })
   where
     inside : {p q : Path} → Some p ≡ Some q → p ≡ q
     inside e = cc
@@ -111,18 +153,23 @@ names_front (x ∷ xs) ys all =
 path_here : (word : List ℕ) (path : Path) → path_of word ≡ Some path → IsPath path × (word ≡ path_text path)
 path_here word path e = by_pieces (pieces 47 word) refl e
   where
-    by_names : (names : List (List ℕ)) → pieces 47 word ≡ [] ∷ names → (b : Bool) → list_all (is_word is_name_byte) names ≡ b → (if b then path_from names else None) ≡ Some path → IsPath path × (word ≡ path_text path)
+    by_names : (names : List (List ℕ)) → pieces 47 word ≡ [] ∷ names → (b : Bool)
+        → list_all (is_word is_name_byte) names ≡ b → (if b then path_from names else None) ≡ Some path → IsPath path
+        × (word ≡ path_text path)
     by_names [] is true all e = cc
     by_names (name ∷ names) is true all e =
         let named = named_from (name ∷ names) path e in
-        let each : All IsName (path.through.items ++ path.last ∷ []) = subst (All IsName) named.names_are (names_if (name ∷ names) all) in
+        let each : All IsName (path.through.items ++ path.last ∷ []) =
+        subst (All IsName) named.names_are (names_if (name ∷ names) all) in
         let parts = names_front path.through.items (path.last ∷ []) each in (
           record { few = named.few; through = parts.0; last = All-head IsName path.last [] parts.1 },
-          sym (joined_pieces 47 word) ∙ (ap (join_of 47) is ∙ (joined_slashed name names ∙ ap (λ ns. flat_map (λ n. 47 ∷ n) ns) named.names_are)),
+          sym (joined_pieces 47 word) ∙ (ap (join_of 47) is ∙ (joined_slashed name names
+              ∙ ap (λ ns. flat_map (λ n. 47 ∷ n) ns) named.names_are)),
         )
     by_names names is false all e = cc
 
-    by_pieces : (ps : List (List ℕ)) → pieces 47 word ≡ ps → path_of_pieces ps ≡ Some path → IsPath path × (word ≡ path_text path)
+    by_pieces : (ps : List (List ℕ)) → pieces 47 word ≡ ps → path_of_pieces ps ≡ Some path → IsPath path
+        × (word ≡ path_text path)
     by_pieces [] is e = cc
     by_pieces ([] ∷ names) is e = by_names names is (list_all (is_word is_name_byte) names) refl e
     by_pieces ((c ∷ cs) ∷ names) is e = cc
@@ -134,7 +181,8 @@ path_or_not word = by_case (path_of word) refl
     by_case None e = inr (no_path word e)
     by_case (Some path) e = let it = path_here word path e in inl (path, it.0, it.1)
 
-paths_or_not : (operands : List Operand) (words : List (List ℕ)) → HasPaths operands words ⊎ (¬ (HasPaths operands words))
+paths_or_not : (operands : List Operand) (words : List (List ℕ)) → HasPaths operands words
+    ⊎ (¬ (HasPaths operands words))
 paths_or_not [] words = inl (none words)
   where
     none : (words : List (List ℕ)) → HasPaths [] words
@@ -143,7 +191,8 @@ paths_or_not [] words = inl (none words)
 paths_or_not (PathOperand p ∷ operands) [] = inl tt
 paths_or_not (PathOperand p ∷ operands) (word ∷ words) = by_parts (path_or_not word) (paths_or_not operands words)
   where
-    by_parts : IsPathWord word ⊎ (¬ (IsPathWord word)) → HasPaths operands words ⊎ (¬ (HasPaths operands words)) → HasPaths (PathOperand p ∷ operands) (word ∷ words) ⊎ (¬ (HasPaths (PathOperand p ∷ operands) (word ∷ words)))
+    by_parts : IsPathWord word ⊎ (¬ (IsPathWord word)) → HasPaths operands words ⊎ (¬ (HasPaths operands words))
+        → HasPaths (PathOperand p ∷ operands) (word ∷ words) ⊎ (¬ (HasPaths (PathOperand p ∷ operands) (word ∷ words)))
     by_parts (inl here) (inl more) = inl (here, more)
     by_parts (inl here) (inr none) = inr (λ paths. none paths.1)
     by_parts (inr none) more = inr (λ paths. none paths.0)
@@ -175,7 +224,8 @@ module _ (line : List ℕ) where
     no_form_here : are_formed (first ∷ words) ≡ false → Judged
     no_form_here none = inr (λ before. inr (inl (inl (text, told, other, no_form line (ap are_formed is ∙ none)))))
 
-    by_paths : (like : Act) → HasForm line like words → HasPaths (said like).1 words ⊎ (¬ (HasPaths (said like).1 words))
+    by_paths : (like : Act) → HasForm line like words → HasPaths (said like).1 words
+        ⊎ (¬ (HasPaths (said like).1 words))
         → Judged
     by_paths like form (inl paths) = inl (read_as line like words form paths)
     by_paths like form (inr none) = inr (λ before. inr (inr (text, told, (like, words, form, none))))
@@ -203,7 +253,8 @@ judged line = by_text line (is_utf8 line) refl
     by_line [] text = inl (Skipped, inl refl)
     by_line (c ∷ cs) text = elim (eq_or_not c 35) [
       | inl same ↦ inl (Skipped, inr (text, (cs, ap (λ b. b ∷ cs) same)))
-      | inr other ↦ by_told (c ∷ cs) text (not_skipped (c ∷ cs) (false_from_ne c 35 other)) (same_bytes (c ∷ cs) (codes "start"))
+      | inr other ↦ by_told (c ∷ cs) text (not_skipped (c ∷ cs) (false_from_ne c 35 other))
+          (same_bytes (c ∷ cs) (codes "start"))
     ]
 
     by_text : (line : List ℕ) (b : Bool) → is_utf8 line ≡ b → Judged line
@@ -212,7 +263,8 @@ judged line = by_text line (is_utf8 line) refl
 
 -- ---- scripts
 
-not_in : (line : List ℕ) (lines : List (List ℕ)) → line ≢ codes "start" → ¬ (Contains lines (codes "start")) → Contains (line ∷ lines) (codes "start") → ⊥
+not_in : (line : List ℕ) (lines : List (List ℕ)) → line ≢ codes "start" → ¬ (Contains lines (codes "start"))
+    → Contains (line ∷ lines) (codes "start") → ⊥
 not_in line lines other none (zero, within, is) = other is
 not_in line lines other none (suc k, within, is) = none (k, omega arith, is)
 
@@ -227,13 +279,18 @@ start_or_not (line ∷ lines) = elim (same_bytes line (codes "start")) [
 ]
 
 -- where the start line stands, in lines with one more at the end
-place_of : (before : List (List ℕ)) (line : List ℕ) (i : ℕ) → slice_get (before ++ line ∷ []) i ≡ Some (codes "start") → (slice_get before i ≡ Some (codes "start")) ⊎ ((i ≡ length before) × (line ≡ codes "start"))
+place_of : (before : List (List ℕ)) (line : List ℕ) (i : ℕ) → slice_get (before ++ line ∷ []) i ≡ Some (codes "start")
+    → (slice_get before i ≡ Some (codes "start")) ⊎ ((i ≡ length before) × (line ≡ codes "start"))
 place_of [] line zero e = inr (refl, (let same : line ≡ codes "start" = cc in same))
 place_of [] line (suc i) e = cc
 place_of (x ∷ before) line zero e = inl e
-place_of (x ∷ before) line (suc i) e = elim (place_of before line i e) [ inl at ↦ inl at | inr it ↦ inr (ap suc it.0, it.1) ]
+place_of (x ∷ before) line (suc i) e = elim (place_of before line i e) [
+  | inl at ↦ inl at
+  | inr it ↦ inr (ap suc it.0, it.1)
+]
 
-accepted_push : (before : List (List ℕ)) (line : List ℕ) → AreAccepted before → Read line → (line ≡ codes "start" → ¬ (Contains before (codes "start"))) → AreAccepted (before ++ line ∷ [])
+accepted_push : (before : List (List ℕ)) (line : List ℕ) → AreAccepted before → Read line
+    → (line ≡ codes "start" → ¬ (Contains before (codes "start"))) → AreAccepted (before ++ line ∷ [])
 accepted_push before line accepted read only = record {
   each = All-push (λ line. (says : Line) × Reads line says) before line accepted.each read;
   one_start = λ i j at_i at_j. by_places i j (place_of before line i at_i) (place_of before line j at_j);
@@ -249,94 +306,157 @@ accepted_push before line accepted read only = record {
 -- all lines are accepted, or there is a first that is refused
 abbrev Scanned : List (List ℕ) → Type 0
 Scanned lines = AreAccepted lines
-    ⊎ ((before : List (List ℕ)) × (line : List ℕ) × (behind : List (List ℕ)) × (lines ≡ before ++ line ∷ behind) × AreAccepted before × IsRefusedLine before line)
+    ⊎ ((before : List (List ℕ)) × (line : List ℕ) × (behind : List (List ℕ)) × (lines ≡ before ++ line ∷ behind)
+    × AreAccepted before × IsRefusedLine before line)
 
-scan_step : (line : List ℕ) (rest before : List (List ℕ)) → AreAccepted before → Judged line → ((more : List (List ℕ)) → AreAccepted more → Scanned (more ++ rest)) → Scanned (before ++ line ∷ rest)
+scan_step : (line : List ℕ) (rest before : List (List ℕ)) → AreAccepted before → Judged line
+    → ((more : List (List ℕ)) → AreAccepted more → Scanned (more ++ rest)) → Scanned (before ++ line ∷ rest)
 scan_step line rest before accepted (inr refused) more = inr (before, line, rest, refl, accepted, refused before)
 scan_step line rest before accepted (inl read) more = by_start (same_bytes line (codes "start")) (start_or_not before)
   where
     go_on : (line ≡ codes "start" → ¬ (Contains before (codes "start"))) → Scanned (before ++ line ∷ rest)
-    go_on only = subst Scanned (append_assoc before (line ∷ []) rest) (more (before ++ line ∷ []) (accepted_push before line accepted read only))
+    go_on only = subst Scanned (append_assoc before (line ∷ []) rest)
+        (more (before ++ line ∷ []) (accepted_push before line accepted read only))
 
-    by_start : (line ≡ codes "start") ⊎ (line ≢ codes "start") → Contains before (codes "start") ⊎ (¬ (Contains before (codes "start"))) → Scanned (before ++ line ∷ rest)
+    by_start : (line ≡ codes "start") ⊎ (line ≢ codes "start") → Contains before (codes "start")
+        ⊎ (¬ (Contains before (codes "start"))) → Scanned (before ++ line ∷ rest)
     by_start (inl same) (inl is) = inr (before, line, rest, refl, accepted, inr (inl (inr (same, is))))
     by_start (inl same) (inr none) = go_on (λ e. none)
     by_start (inr other) where_it_is = go_on (λ e. absurd (other e))
 
 scan : (rest before : List (List ℕ)) → AreAccepted before → Scanned (before ++ rest)
 scan [] before accepted = inl (subst AreAccepted (sym (append-nil before)) accepted)
-scan (line ∷ rest) before accepted = scan_step line rest before accepted (judged line) (λ more good. scan rest more good)
+scan (line ∷ rest) before accepted = scan_step line rest before accepted (judged line)
+    (λ more good. scan rest more good)
 
-split_start : (lines : List (List ℕ)) → Contains lines (codes "start") → (before : List (List ℕ)) × (behind : List (List ℕ)) × (lines ≡ before ++ codes "start" ∷ behind)
+split_start : (lines : List (List ℕ)) → Contains lines (codes "start") → (before : List (List ℕ))
+    × (behind : List (List ℕ)) × (lines ≡ before ++ codes "start" ∷ behind)
 split_start [] is = absurd (omega (arith, is.1))
 split_start (line ∷ lines) (zero, within, is) = ([], lines, ap (λ l. l ∷ lines) is)
-split_start (line ∷ lines) (suc k, within, is) = let it = split_start lines (k, omega arith, is) in (line ∷ it.0, it.1, ap (λ ls. line ∷ ls) it.2)
+split_start (line ∷ lines) (suc k, within, is) = let it = split_start lines (k, omega arith, is) in
+    (line ∷ it.0, it.1, ap (λ ls. line ∷ ls) it.2)
 
-get_behind : (xs : List (List ℕ)) (x : List ℕ) (ys : List (List ℕ)) (k : ℕ) (z : List ℕ) → slice_get ys k ≡ Some z → (i : ℕ) × (length xs < i) × (slice_get (xs ++ x ∷ ys) i ≡ Some z)
+get_behind : (xs : List (List ℕ)) (x : List ℕ) (ys : List (List ℕ)) (k : ℕ) (z : List ℕ) → slice_get ys k ≡ Some z
+    → (i : ℕ) × (length xs < i) × (slice_get (xs ++ x ∷ ys) i ≡ Some z)
 get_behind [] x ys k z e = (suc k, omega arith, e)
 get_behind (a ∷ xs) x ys k z e = let it = get_behind xs x ys k z e in (suc it.0, omega (arith, it.1), it.2)
 
 -- steps for lines of which none is the start line
-some_steps : (n : ℕ) (lines : List (List ℕ)) → All (λ line. (says : Line) × Reads line says) lines → ¬ (Contains lines (codes "start")) → (steps : List Step) × AreSteps n lines steps
+some_steps : (n : ℕ) (lines : List (List ℕ)) → All (λ line. (says : Line) × Reads line says) lines
+    → ¬ (Contains lines (codes "start")) → (steps : List Step) × AreSteps n lines steps
 some_steps n [] all none = ([], refl)
 some_steps n (line ∷ lines) all none =
     let read = All-head (λ line. (says : Line) × Reads line says) line lines all in
-    by_line read.0 read.1 (some_steps (n + 1) lines (All-tail (λ line. (says : Line) × Reads line says) line lines all) (λ is. none (suc is.0, omega (arith, is.1), is.2)))
+    by_line read.0 read.1 (some_steps (n + 1) lines (All-tail (λ line. (says : Line) × Reads line says) line lines all)
+    (λ is. none (suc is.0, omega (arith, is.1), is.2)))
   where
-    by_line : (what : Line) → Reads line what → (steps : List Step) × AreSteps (n + 1) lines steps → (steps : List Step) × AreSteps n (line ∷ lines) steps
+    by_line : (what : Line) → Reads line what → (steps : List Step) × AreSteps (n + 1) lines steps → (steps : List Step)
+        × AreSteps n (line ∷ lines) steps
     by_line Skipped is rest = (rest.0, inl (is, rest.1))
     by_line Start is rest = absurd (none (zero, omega arith, is))
     by_line (Says act) is rest = (record { line = n; act = act } ∷ rest.0, inr (act, rest.0, is, rest.1, refl))
 
 -- a script is read or refused
-pub some_reading : (bytes : List ℕ) → ((base : List Step) × (traced : List Step) × IsScript bytes base traced) ⊎ ((fault : ScriptFault) × IsScriptRefusal bytes fault)
+pub some_reading : (bytes : List ℕ) → ((base : List Step) × (traced : List Step) × IsScript bytes base traced)
+    ⊎ ((fault : ScriptFault) × IsScriptRefusal bytes fault)
 some_reading bytes = by_scan (some_lines bytes).0 (some_lines bytes).1 (scan (some_lines bytes).0 [] no_lines)
   where
     no_lines : AreAccepted []
-    no_lines = record { each = All-nil (λ line. (says : Line) × Reads line says); one_start = λ i j at_i at_j. absurd (none_there i at_i) }
+    no_lines = record {
+      each = All-nil (λ line. (says : Line) × Reads line says);
+      one_start = λ i j at_i at_j. absurd (none_there i at_i);
+    }
       where
         none_there : (i : ℕ) → slice_get {X = List ℕ} [] i ≡ Some (codes "start") → ⊥
         none_there i e = cc
 
-    from_split : (lines : List (List ℕ)) → AreLines bytes lines → AreAccepted lines → (before : List (List ℕ)) × (behind : List (List ℕ)) × (lines ≡ before ++ codes "start" ∷ behind)
+    from_split : (lines : List (List ℕ)) → AreLines bytes lines → AreAccepted lines → (before : List (List ℕ))
+        × (behind : List (List ℕ)) × (lines ≡ before ++ codes "start" ∷ behind)
         → (base : List Step) × (traced : List Step) × IsScript bytes base traced
     from_split lines are accepted (before, behind, e) =
         let good : AreAccepted (before ++ codes "start" ∷ behind) = subst AreAccepted e accepted in
         let none_before : ¬ (Contains before (codes "start")) = λ is.
-        let same : is.0 ≡ length before = good.one_start is.0 (length before) (get_front before (codes "start" ∷ behind) is.0 (codes "start") is.1 is.2) (get_middle before (codes "start") behind) in
+        let same : is.0 ≡ length before = good.one_start is.0 (length before)
+        (get_front before (codes "start" ∷ behind) is.0 (codes "start") is.1 is.2)
+        (get_middle before (codes "start") behind) in
         omega (arith, is.1, same) in
         let none_behind : ¬ (Contains behind (codes "start")) = λ is.
-        let at = get_behind before (codes "start") behind is.0 (codes "start") (slice_get-get_or behind is.0 (codes "start") is.1 ∙ ap Some is.2) in
-        let same : at.0 ≡ length before = good.one_start at.0 (length before) at.2 (get_middle before (codes "start") behind) in
+        let at = get_behind before (codes "start") behind is.0 (codes "start")
+        (slice_get-get_or behind is.0 (codes "start") is.1 ∙ ap Some is.2) in
+        let same : at.0 ≡ length before = good.one_start at.0 (length before) at.2
+        (get_middle before (codes "start") behind) in
         omega (arith, at.1, same) in
         let parts = reads_apart before (codes "start" ∷ behind) good.each in
         let base = some_steps 1 before parts.0 none_before in
-        let traced = some_steps (length before + 2) behind (All-tail (λ line. (says : Line) × Reads line says) (codes "start") behind parts.1) none_behind in
-        (base.0, traced.0, record { before = before; behind = behind; lines = subst (AreLines bytes) e are; base_steps = base.1; traced_steps = traced.1 })
+        let traced = some_steps (length before + 2) behind (All-tail (λ line. (says : Line) × Reads line says)
+        (codes "start") behind parts.1) none_behind in (
+          base.0,
+          traced.0,
+          record {
+            before = before;
+            behind = behind;
+            lines = subst (AreLines bytes) e are;
+            base_steps = base.1;
+            traced_steps = traced.1;
+          },
+        )
       where
-        reads_apart : (xs ys : List (List ℕ)) → All (λ line. (says : Line) × Reads line says) (xs ++ ys) → All (λ line. (says : Line) × Reads line says) xs × All (λ line. (says : Line) × Reads line says) ys
+        reads_apart : (xs ys : List (List ℕ)) → All (λ line. (says : Line) × Reads line says) (xs ++ ys)
+            → All (λ line. (says : Line) × Reads line says) xs × All (λ line. (says : Line) × Reads line says) ys
         reads_apart [] ys all = (All-nil (λ line. (says : Line) × Reads line says), all)
         reads_apart (x ∷ xs) ys all =
-            let rest = reads_apart xs ys (All-tail (λ line. (says : Line) × Reads line says) x (xs ++ ys) all) in
-            (All-cons (λ line. (says : Line) × Reads line says) x xs (All-head (λ line. (says : Line) × Reads line says) x (xs ++ ys) all) rest.0, rest.1)
+            let rest = reads_apart xs ys (All-tail (λ line. (says : Line) × Reads line says) x (xs ++ ys) all) in (
+              All-cons (λ line. (says : Line) × Reads line says) x xs
+                  (All-head (λ line. (says : Line) × Reads line says) x (xs ++ ys) all) rest.0,
+              rest.1,
+            )
 
-    by_way : (lines before : List (List ℕ)) (line : List ℕ) (behind : List (List ℕ)) → AreLines bytes lines → lines ≡ before ++ line ∷ behind → AreAccepted before → IsRefusedLine before line → (fault : ScriptFault) × IsScriptRefusal bytes fault
+    by_way : (lines before : List (List ℕ)) (line : List ℕ) (behind : List (List ℕ)) → AreLines bytes lines
+        → lines ≡ before ++ line ∷ behind → AreAccepted before → IsRefusedLine before line → (fault : ScriptFault)
+        × IsScriptRefusal bytes fault
     by_way lines before line behind are e accepted (inl bad) = (
       BadUtf8 (length before + 1),
-      record { before = before; line = line; behind = behind; lines = subst (AreLines bytes) e are; accepted = accepted; number = refl; refused = bad },
+      record {
+        before = before;
+        line = line;
+        behind = behind;
+        lines = subst (AreLines bytes) e are;
+        accepted = accepted;
+        number = refl;
+        refused = bad;
+      },
     )
     by_way lines before line behind are e accepted (inr (inl bad)) = (
       BadLine (length before + 1),
-      record { before = before; line = line; behind = behind; lines = subst (AreLines bytes) e are; accepted = accepted; number = refl; refused = bad },
+      record {
+        before = before;
+        line = line;
+        behind = behind;
+        lines = subst (AreLines bytes) e are;
+        accepted = accepted;
+        number = refl;
+        refused = bad;
+      },
     )
     by_way lines before line behind are e accepted (inr (inr bad)) = (
       BadPath (length before + 1),
-      record { before = before; line = line; behind = behind; lines = subst (AreLines bytes) e are; accepted = accepted; number = refl; refused = bad },
+      record {
+        before = before;
+        line = line;
+        behind = behind;
+        lines = subst (AreLines bytes) e are;
+        accepted = accepted;
+        number = refl;
+        refused = bad;
+      },
     )
 
-    by_scan : (lines : List (List ℕ)) → AreLines bytes lines → Scanned lines → ((base : List Step) × (traced : List Step) × IsScript bytes base traced) ⊎ ((fault : ScriptFault) × IsScriptRefusal bytes fault)
+    by_scan : (lines : List (List ℕ)) → AreLines bytes lines → Scanned lines
+        → ((base : List Step) × (traced : List Step) × IsScript bytes base traced)
+        ⊎ ((fault : ScriptFault) × IsScriptRefusal bytes fault)
     by_scan lines are (inl accepted) = elim (start_or_not lines) [
       | inl is ↦ inl (from_split lines are accepted (split_start lines is))
       | inr none ↦ inr (NoStart (length lines + 1), (lines, are, accepted, none, refl))
     ]
-    by_scan lines are (inr (before, line, behind, e, accepted, refused)) = inr (by_way lines before line behind are e accepted refused)
+    by_scan lines are (inr (before, line, behind, e, accepted, refused)) =
+        inr (by_way lines before line behind are e accepted refused)

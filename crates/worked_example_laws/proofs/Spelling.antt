@@ -1,11 +1,13 @@
 -- A script that is written down as acts is read as these acts.
-use Rattle.std.proofs.Common.{◌≡◌, ℕ, zero, suc, ◌+◌, List, [], ◌∷◌, length, map, Bool, true, false, not, ◌&&◌, ◌||◌, nat_lt, nat_le, arith, refl, inl, inr}
+use Rattle.std.proofs.Common.{◌≡◌, ℕ, zero, suc, ◌+◌, List, [], ◌∷◌, length, map, Bool, true, false, not, ◌&&◌, ◌||◌}
+use Rattle.std.proofs.Common.{nat_lt, nat_le, arith, refl, inl, inr}
 use Rattle.std.specs.Prelude.{◌==◌, codes}
 use Rattle.std.specs.List.{All, Contains, list_all, list_any}
 use Rattle.std.proofs.lemmas.Bool.{and_parts, ltb-true, leb-true}
 use Rattle.std.proofs.lemmas.List.Elements.{All-nil, All-cons, All-append}
 use Rattle.crash_model.specs.Names.{IsWord, IsName, is_name_byte, is_group_byte}
-use Rattle.crash_model.specs.Script.{ArePlain, IsPath, Operand, PathOperand, GroupOperand, said, AreLawful, AreSteps, IsScript}
+use Rattle.crash_model.specs.Script.{ArePlain, IsPath, Operand, PathOperand, GroupOperand, said, AreLawful, AreSteps}
+use Rattle.crash_model.specs.Script.{IsScript}
 use Rattle.crash_model.specs.declared.names.Path.{Path}
 use Rattle.crash_model.specs.declared.steps.Act.{Act}
 use Rattle.worked_example_laws.specs.Examples.{numbered_steps}
@@ -26,9 +28,15 @@ names_if (name ∷ names) e =
 
 path_if : (path : Path) → is_path path ≡ true → IsPath path
 path_if path e =
-    let first = and_parts (nat_le (length path.through.items) 3) (list_all (is_word is_name_byte) path.through.items && is_word is_name_byte path.last) e in
-    let more = and_parts (list_all (is_word is_name_byte) path.through.items) (is_word is_name_byte path.last) first.1 in
-    record { few = leb-true (length path.through.items) 3 first.0; through = names_if path.through.items more.0; last = word_if is_name_byte path.last more.1 }
+    let first = and_parts (nat_le (length path.through.items) 3)
+    (list_all (is_word is_name_byte) path.through.items && is_word is_name_byte path.last) e in
+    let more = and_parts (list_all (is_word is_name_byte) path.through.items) (is_word is_name_byte path.last)
+    first.1 in
+    record {
+      few = leb-true (length path.through.items) 3 first.0;
+      through = names_if path.through.items more.0;
+      last = word_if is_name_byte path.last more.1;
+    }
 
 lawful_if : (operands : List Operand) → are_lawful operands ≡ true → AreLawful operands
 lawful_if [] e = tt
@@ -43,11 +51,13 @@ lawful_if (GroupOperand name ∷ operands) e =
 
 pub lacks_if : (line : List ℕ) (c : ℕ) → list_any (λ b. b == c) line ≡ false → Contains line c → ⊥
 lacks_if [] c e (k, within, is) = omega arith
-lacks_if (b ∷ line) c e (zero, within, is) = let here : (b == c) ≡ true = true_from_eq b c is in either_none (b == c) (list_any (λ b. b == c) line) e here
+lacks_if (b ∷ line) c e (zero, within, is) = let here : (b == c) ≡ true = true_from_eq b c is in
+    either_none (b == c) (list_any (λ b. b == c) line) e here
   where
     either_none : (p q : Bool) → (p || q) ≡ false → p ≡ true → ⊥
     either_none p q e h = cc
-lacks_if (b ∷ line) c e (suc k, within, is) = lacks_if line c (second (b == c) (list_any (λ b. b == c) line) e) (k, omega arith, is)
+lacks_if (b ∷ line) c e (suc k, within, is) = lacks_if line c (second (b == c) (list_any (λ b. b == c) line) e)
+    (k, omega arith, is)
   where
     second : (p q : Bool) → (p || q) ≡ false → q ≡ false
     second false q e = e
@@ -73,13 +83,16 @@ steps_are n (act ∷ acts) e =
     inr (act, numbered_steps (n + 1) acts, (lawful_if (said act).1 mine.0, refl), steps_are (n + 1) acts parts.1, refl)
 
 pub script_is : (before behind : List Act) → are_acts before ≡ true → are_acts behind ≡ true
-    → IsScript (script before behind) (numbered_steps 1 before) (numbered_steps (length (map line_of before) + 2) behind)
+    → IsScript (script before behind) (numbered_steps 1 before)
+    (numbered_steps (length (map line_of before) + 2) behind)
 script_is before behind e f = record {
   before = map line_of before;
   behind = map line_of behind;
   lines = record {
-    plain = All-append (λ line. ¬ (Contains line 10)) (map line_of before) (codes "start" ∷ map line_of behind) (plain_lines before e)
-        (All-cons (λ line. ¬ (Contains line 10)) (codes "start") (map line_of behind) (lacks_if (codes "start") 10 refl) (plain_lines behind f));
+    plain = All-append (λ line. ¬ (Contains line 10)) (map line_of before) (codes "start" ∷ map line_of behind)
+        (plain_lines before e)
+        (All-cons (λ line. ¬ (Contains line 10)) (codes "start") (map line_of behind) (lacks_if (codes "start") 10 refl)
+        (plain_lines behind f));
     whole = inl refl;
   };
   base_steps = steps_are 1 before e;

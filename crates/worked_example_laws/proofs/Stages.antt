@@ -1,7 +1,8 @@
 -- An answer as what comes of the script, its base, its trace and its graph, one after another.
 use Rattle.std.proofs.Common.{◌≡◌, ℕ, List, refl, sym, subst, inl, inr}
 use Rattle.std.specs.Prelude.{◌⊎◌, Option, Result, Ok, Err}
-use Rattle.crash_model.specs.Answer.{Answer, Refused, Reported, HasBase, HasGraph, IsReport, IsAnswer, ordering_rules, bad_script, bad_geometry, bad_base, bad_trace, too_many, reported}
+use Rattle.crash_model.specs.Answer.{Answer, Refused, Reported, HasBase, HasGraph, IsReport, IsAnswer, ordering_rules}
+use Rattle.crash_model.specs.Answer.{bad_script, bad_geometry, bad_base, bad_trace, too_many, reported}
 use Rattle.crash_model.specs.Disk.{Disk, empty_disk, IsGeometry}
 use Rattle.crash_model.specs.Patches.{ExceedsLimit}
 use Rattle.crash_model.specs.Refusals.{run_of_script, run_of_trace}
@@ -19,21 +20,25 @@ module _ (settings : Settings) where
   abbrev pub ComesOfGraph : Disk → List Step → Tracing → List Patch → Answer → Type 0
   ComesOfGraph base steps last patches (Refused fault) = ExceedsLimit patches settings.limit × (fault ≡ TooMany)
   ComesOfGraph base steps last patches (Reported text failing) =
-      (kept : Option ℕ) × IsToldKept settings.strict base steps kept × IsReport settings kept base last patches text failing
+      (kept : Option ℕ) × IsToldKept settings.strict base steps kept
+      × IsReport settings kept base last patches text failing
 
   abbrev pub ComesOfTrace : Disk → List Step → Result Tracing TraceFault → Answer → Type 0
   ComesOfTrace base steps (Err fault) answer = answer ≡ Refused (run_of_trace fault)
   ComesOfTrace base steps (Ok last) answer =
-      (patches : List Patch) × IsGraphOf (ordering_rules settings) base last patches × ComesOfGraph base steps last patches answer
+      (patches : List Patch) × IsGraphOf (ordering_rules settings) base last patches
+      × ComesOfGraph base steps last patches answer
 
   abbrev pub ComesOfBase : Result Disk TraceFault → List Step → Answer → Type 0
   ComesOfBase (Err fault) steps answer = answer ≡ Refused (run_of_trace fault)
-  ComesOfBase (Ok base) steps answer = ComesOfTrace base steps (trace_from settings.module (trace_start base) steps) answer
+  ComesOfBase (Ok base) steps answer = ComesOfTrace base steps (trace_from settings.module (trace_start base) steps)
+      answer
 
   abbrev pub ComesOfSteps : List Step → List Step → Answer → Type 0
   ComesOfSteps before steps answer =
       ((¬ (IsGeometry settings.blocks settings.journal)) × (answer ≡ Refused BadGeometry))
-      ⊎ (IsGeometry settings.blocks settings.journal × ComesOfBase (base_from (empty_disk settings.blocks settings.journal) before) steps answer)
+      ⊎ (IsGeometry settings.blocks settings.journal × ComesOfBase
+      (base_from (empty_disk settings.blocks settings.journal) before) steps answer)
 
   abbrev pub ComesOfScript : List ℕ → Answer → Type 0
   ComesOfScript bytes answer =
@@ -41,21 +46,43 @@ module _ (settings : Settings) where
       ⊎ ((before : List Step) × (steps : List Step) × IsScript bytes before steps × ComesOfSteps before steps answer)
 
   from_base : (bytes : List ℕ) (base : Disk) (steps : List Step) (answer : Answer) → HasBase bytes settings base steps
-      → ComesOfTrace base steps (trace_from settings.module (trace_start base) steps) answer → ComesOfScript bytes answer
+      → ComesOfTrace base steps (trace_from settings.module (trace_start base) steps) answer
+      → ComesOfScript bytes answer
   from_base bytes base steps answer start comes =
-      inr (start.before, steps, start.read, inr (start.geometry, subst (λ r. ComesOfBase r steps answer) (sym start.built) comes))
+      inr (
+        start.before,
+        steps,
+        start.read,
+        inr (
+          start.geometry,
+          subst (λ r. ComesOfBase r steps answer) (sym start.built) comes,
+        ),
+      )
 
-  from_graph : (bytes : List ℕ) (base : Disk) (last : Tracing) (patches : List Patch) (answer : Answer) → (has : HasGraph bytes settings base last patches)
+  from_graph : (bytes : List ℕ) (base : Disk) (last : Tracing) (patches : List Patch) (answer : Answer)
+      → (has : HasGraph bytes settings base last patches)
       → ComesOfGraph base has.steps last patches answer → ComesOfScript bytes answer
   from_graph bytes base last patches answer has comes =
-      from_base bytes base has.steps answer has.start (subst (λ r. ComesOfTrace base has.steps r answer) (sym has.run) (patches, has.graph, comes))
+      from_base bytes base has.steps answer has.start (subst (λ r. ComesOfTrace base has.steps r answer) (sym has.run)
+      (patches, has.graph, comes))
 
   pub stages : {bytes : List ℕ} {answer : Answer} → IsAnswer bytes settings answer → ComesOfScript bytes answer
   stages (bad_script fault refused) = inl (fault, refused, refl)
   stages (bad_geometry before steps read none) = inr (before, steps, read, inl (none, refl))
   stages (bad_base before steps fault read geometry is) =
-      inr (before, steps, read, inr (geometry, subst (λ r. ComesOfBase r steps (Refused (run_of_trace fault))) (sym is) refl))
+      inr (
+        before,
+        steps,
+        read,
+        inr (
+          geometry,
+          subst (λ r. ComesOfBase r steps (Refused (run_of_trace fault))) (sym is)
+              refl,
+        ),
+      )
   stages (bad_trace base steps fault start is) =
-      from_base _ base steps _ start (subst (λ r. ComesOfTrace base steps r (Refused (run_of_trace fault))) (sym is) refl)
+      from_base _ base steps _ start (subst (λ r. ComesOfTrace base steps r (Refused (run_of_trace fault))) (sym is)
+      refl)
   stages (too_many base last patches has more) = from_graph _ base last patches _ has (more, refl)
-  stages (reported kept base last patches text failing has is_kept report) = from_graph _ base last patches _ has (kept, is_kept, report)
+  stages (reported kept base last patches text failing has is_kept report) =
+      from_graph _ base last patches _ has (kept, is_kept, report)

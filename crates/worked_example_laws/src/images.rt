@@ -1,5 +1,5 @@
 //! What the checker and replay make of images that no operation leaves.
-#![tactic(auto, unfolding(crash_model::specs::Disk::overwrite, crash_model::specs::Lists::each_below, crash_model::specs::Lists::some_below, crash_model::specs::Lists::first_below, crash_model::specs::Faults::each_slot, crash_model::specs::Faults::each_entry, crash_model::specs::Faults::namers, crash_model::specs::Faults::entries_to, crash_model::specs::Faults::faults))]
+#![tactic(auto, unfolding(crate::specs::Opened::checker))]
 
 ghost use Rattle.std.specs.Prelude.{◌≡◌, ℕ, ◌+◌, ◌*◌, [], ◌∷◌, ◌++◌, replicate, map, flat_map};
 ghost use Rattle.std.specs.List.{range_with_len};

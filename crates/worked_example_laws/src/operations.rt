@@ -1,5 +1,5 @@
 //! What operations change, and when they are refused, on small disks.
-#![tactic(auto, unfolding(crash_model::specs::Disk::overwrite, crash_model::specs::Lists::each_below, crash_model::specs::Lists::some_below, crash_model::specs::Lists::first_below, crash_model::specs::Plan::plan_of))]
+#![tactic(auto, unfolding(crate::specs::Opened::planner))]
 
 ghost use Rattle.std.specs.Prelude.{◌≡◌, [], ◌∷◌, ◌++◌, replicate, codes, Ok, Err, take};
 ghost use Rattle.crash_model.specs.Disk.{Disk, block_of, with_bytes, empty_disk};

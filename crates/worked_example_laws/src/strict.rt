@@ -1,5 +1,5 @@
 //! What is reached, what a script keeps, and what a strict checker finds, on small disks.
-#![tactic(auto, unfolding(crash_model::specs::Disk::overwrite, crash_model::specs::Lists::each_below, crash_model::specs::Lists::some_below, crash_model::specs::Lists::first_below, crash_model::specs::Plan::plan_of, crash_model::specs::Faults::each_slot, crash_model::specs::Faults::each_entry, crash_model::specs::Faults::namers, crash_model::specs::Faults::entries_to, crash_model::specs::Faults::faults, crash_model::specs::Strict::reach_in, crash_model::specs::Strict::is_reached, crash_model::specs::Strict::strict_faults))]
+#![tactic(auto, unfolding(crate::specs::Opened::strict_checker))]
 
 ghost use Rattle.std.specs.Prelude.{◌≡◌, ◌↔◌, ℕ, List, [], ◌∷◌, ◌++◌, Some, None, true, false, replicate};
 ghost use Rattle.crash_model.specs.Disk.{Disk, with_bytes};

@@ -15,9 +15,16 @@ loop-set-preserved c =
     let told = c.in_ok-judge.ensures.good in
     elim c.if-not-branch.branch [
       | then-not-branch w ↦
-          let ill : good (get_or sets i 0) → ⊥ = λ well. let no : false ≡ true = sym w.if-not-branch.true ∙ told.1 well in cc in
-          (c.in_ok-judge.ensures.own, omega (arith, w.failing-is, c.loop-set.invariant.1), subst (IsCountOfOthers good (take (i + 1) sets)) (sym w.failing-is) (more.1 ill))
+          let ill : good (get_or sets i 0) → ⊥ = λ well. let no : false ≡ true = sym w.if-not-branch.true
+          ∙ told.1 well in cc in (
+            c.in_ok-judge.ensures.own,
+            omega (arith, w.failing-is, c.loop-set.invariant.1),
+            subst (IsCountOfOthers good (take (i + 1) sets)) (sym w.failing-is) (more.1 ill),
+          )
       | else-not-branch w ↦
-          let well : good (get_or sets i 0) = told.0 w.if-not-branch.false in
-          (c.in_ok-judge.ensures.own, omega (arith, w.failing-is, c.loop-set.invariant.1), subst (IsCountOfOthers good (take (i + 1) sets)) (sym w.failing-is) (more.0 well))
+          let well : good (get_or sets i 0) = told.0 w.if-not-branch.false in (
+            c.in_ok-judge.ensures.own,
+            omega (arith, w.failing-is, c.loop-set.invariant.1),
+            subst (IsCountOfOthers good (take (i + 1) sets)) (sym w.failing-is) (more.0 well),
+          )
     ]

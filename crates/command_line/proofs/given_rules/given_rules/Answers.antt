@@ -9,4 +9,5 @@ pub loop-word-preserved : goal.loop-word-preserved
 loop-word-preserved c =
     let words = c.args.words.now in
     subst (AreWrittenIn words) (sym c.push.ensures.items)
-    (All-push (λ (r : Rule). is_written_in words (rule_text r) ≡ true) c.loop-word.rules.items c.in-Ok.rule c.loop-word.invariant c.in-Ok.ensures.written)
+    (All-push (λ (r : Rule). is_written_in words (rule_text r) ≡ true) c.loop-word.rules.items c.in-Ok.rule
+    c.loop-word.invariant c.in-Ok.ensures.written)

@@ -12,14 +12,17 @@ loop-id-preserved g c =
     let x = c.patch.result.now in
     let inside : id < length graph = omega (arith, c.loop-id-test.true, c.len-id-end.ensures.number) in
     let at : get_or graph id x ≡ x = get_or_from_slice_get graph id x x c.patch.ensures.at in
-    let read : get_or (deps_of graph) id 0 ≡ x.deps = get_or-map (λ p. p.deps) graph id x 0 inside ∙ ap (λ p. p.deps) at in
+    let read : get_or (deps_of graph) id 0 ≡ x.deps = get_or-map (λ p. p.deps) graph id x 0 inside
+    ∙ ap (λ p. p.deps) at in
     let many : id < length (deps_of graph) = omega (arith, inside, length-map graph (λ p. p.deps)) in
-    c.push.ensures.items ∙ (ap (λ xs. xs ++ x.deps ∷ []) c.loop-id.invariant ∙ (ap (λ d. take id (deps_of graph) ++ d ∷ []) (sym read) ∙ sym (take_more (deps_of graph) id 0 many)))
+    c.push.ensures.items ∙ (ap (λ xs. xs ++ x.deps ∷ []) c.loop-id.invariant
+    ∙ (ap (λ d. take id (deps_of graph) ++ d ∷ []) (sym read) ∙ sym (take_more (deps_of graph) id 0 many)))
 
 pub returns-clause-exact : goal.returns-clause-exact
 returns-clause-exact g c =
     let graph = c.args.graph.now in
-    c.loop-id.invariant ∙ take_all c.loop-id.id (deps_of graph) (omega (arith, length-map graph (λ p. p.deps), c.loop-id-test.false, c.len-id-end.ensures.number))
+    c.loop-id.invariant ∙ take_all c.loop-id.id (deps_of graph)
+    (omega (arith, length-map graph (λ p. p.deps), c.loop-id-test.false, c.len-id-end.ensures.number))
 
 pub returns-clause-few : goal.returns-clause-few
 returns-clause-few g c =

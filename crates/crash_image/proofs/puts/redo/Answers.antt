@@ -10,9 +10,13 @@ loop-id-preserved g c =
     let p = c.patch-patch.result.now in
     let put_is : c.put.new.self ≡ with_patch p c.loop-id.image = cc in
     record {
-      rest = redo_step c.loop-id.image c.put.new.self (image_of c.args.image.now c.args.graph.now c.args.set) c.args.graph.now c.loop-id.left c.in-Some.id
-          c.without_lowest-left.result p c.patch-patch.ensures.at (c.without_lowest-left.ensures.others c.in-Some.id c.in-Some.ensures.found) c.in-Some.ensures.found put_is c.loop-id.invariant.rest;
-      known = still_below (length c.args.graph.now) c.loop-id.left c.in-Some.id c.without_lowest-left.result (c.without_lowest-left.ensures.others c.in-Some.id c.in-Some.ensures.found) c.loop-id.invariant.known;
+      rest = redo_step c.loop-id.image c.put.new.self (image_of c.args.image.now c.args.graph.now c.args.set)
+          c.args.graph.now c.loop-id.left c.in-Some.id
+          c.without_lowest-left.result p c.patch-patch.ensures.at
+          (c.without_lowest-left.ensures.others c.in-Some.id c.in-Some.ensures.found) c.in-Some.ensures.found put_is
+          c.loop-id.invariant.rest;
+      known = still_below (length c.args.graph.now) c.loop-id.left c.in-Some.id c.without_lowest-left.result
+          (c.without_lowest-left.ensures.others c.in-Some.id c.in-Some.ensures.found) c.loop-id.invariant.known;
       blocks = ap (λ (d : Disk). d.blocks) put_is ∙ c.loop-id.invariant.blocks;
     }
 

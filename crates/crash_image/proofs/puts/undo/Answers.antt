@@ -9,9 +9,12 @@ loop-id-preserved g c =
     let p = c.patch-patch.result.now in
     let put_is : c.put.new.self ≡ without_patch p c.loop-id.image = cc in
     record {
-      rest = undo_step c.loop-id.image c.put.new.self (without_set c.args.image.now c.args.graph.now c.args.set) c.args.graph.now c.loop-id.left c.in-Some.id
-          c.without-left.result p c.patch-patch.ensures.at c.without-left.ensures.others c.in-Some.ensures.found put_is c.loop-id.invariant.rest;
-      known = still_below (length c.args.graph.now) c.loop-id.left c.in-Some.id c.without-left.result c.without-left.ensures.others c.loop-id.invariant.known;
+      rest = undo_step c.loop-id.image c.put.new.self (without_set c.args.image.now c.args.graph.now c.args.set)
+          c.args.graph.now c.loop-id.left c.in-Some.id
+          c.without-left.result p c.patch-patch.ensures.at c.without-left.ensures.others c.in-Some.ensures.found put_is
+          c.loop-id.invariant.rest;
+      known = still_below (length c.args.graph.now) c.loop-id.left c.in-Some.id c.without-left.result
+          c.without-left.ensures.others c.loop-id.invariant.known;
       blocks = ap (λ (d : Disk). d.blocks) put_is ∙ c.loop-id.invariant.blocks;
     }
 

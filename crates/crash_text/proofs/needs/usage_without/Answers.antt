@@ -6,7 +6,8 @@ use Rattle.crash_text.proofs.needs.usage_without.Goals as goal
 pub returns-in_ok-first_section-in-Ok : goal.returns-in_ok-first_section-in-Ok
 returns-in_ok-first_section-in-Ok g c =
     let counted = c.in-Ok.ensures.counted in
-    let limit : c.args.finder.now.settings.now.limit ≡ c.args.findings.now.settings.now.limit = ap (λ (s : Settings). s.limit) c.requires.same in (
+    let limit : c.args.finder.now.settings.now.limit ≡ c.args.findings.now.settings.now.limit =
+    ap (λ (s : Settings). s.limit) c.requires.same in (
       refl,
       record {
         counted = counted.totals.counted;
@@ -21,5 +22,6 @@ returns-in_ok-first_section-in-Ok g c =
 pub returns-in-Err-TooMany : goal.returns-in-Err-TooMany
 returns-in-Err-TooMany g c =
     let more : ExceedsLimit c.args.changed.now c.args.findings.now.settings.now.limit =
-    subst (λ (s : Settings). ExceedsLimit c.args.changed.now s.limit) c.requires.same (c.in-Err-TooMany.ensures.too_many (search rules)).1 in
+    subst (λ (s : Settings). ExceedsLimit c.args.changed.now s.limit) c.requires.same
+    (c.in-Err-TooMany.ensures.too_many (search rules)).1 in
     (refl, more)

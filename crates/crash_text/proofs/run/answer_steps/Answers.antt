@@ -16,7 +16,11 @@ use Rattle.crash_text.specs.Telling.{IsTraceOf}
 use Rattle.crash_text.proofs.run.answer_steps.Goals as goal
 
 -- what is traced under an ordering of these settings is traced under the settings
-of_settings : (settings : Settings) (base : Disk) (steps : List Step) (by : Module) (rules : List Rule) (last : Tracing) (patches : List Patch) → by ≡ settings.module → rules ≡ ordering_rules settings → trace_from by (trace_start base) steps ≡ Ok last → IsGraphOf rules base last patches → (trace_from settings.module (trace_start base) steps ≡ Ok last) × IsGraphOf (ordering_rules settings) base last patches
+of_settings : (settings : Settings) (base : Disk) (steps : List Step) (by : Module) (rules : List Rule) (last : Tracing)
+    (patches : List Patch) → by ≡ settings.module → rules ≡ ordering_rules settings
+    → trace_from by (trace_start base) steps ≡ Ok last → IsGraphOf rules base last patches
+    → (trace_from settings.module (trace_start base) steps ≡ Ok last)
+    × IsGraphOf (ordering_rules settings) base last patches
 of_settings settings base steps by rules last patches module_is rules_are run graph = (
   subst (λ (m : Module). trace_from m (trace_start base) steps ≡ Ok last) module_is run,
   subst (λ (rs : List Rule). IsGraphOf rs base last patches) rules_are graph,
@@ -26,8 +30,11 @@ pub returns-clause-full : goal.returns-clause-full
 returns-clause-full g c = λ full none.
     let settings = c.args.finder.now.settings.now in
     let ordering = c.ordering-ordering.ensures in
-    let all : c.ordering-ordering.result.rules.items ≡ rules_under Full [] settings.with.items = ordering.rules ∙ (ap (λ (k : Module). rules_under k settings.without.items settings.with.items) full ∙ ap (λ (rs : List Rule). rules_under Full rs settings.with.items) none) in
-    let among : AreAmong (rules_of Full) c.ordering-ordering.result.rules.items = subst (λ (rs : List Rule). AreAmong (rules_of Full) rs) (sym all) (put_in_among Full settings.with.items) in
+    let all : c.ordering-ordering.result.rules.items ≡ rules_under Full [] settings.with.items = ordering.rules
+    ∙ (ap (λ (k : Module). rules_under k settings.without.items settings.with.items) full
+    ∙ ap (λ (rs : List Rule). rules_under Full rs settings.with.items) none) in
+    let among : AreAmong (rules_of Full) c.ordering-ordering.result.rules.items =
+    subst (λ (rs : List Rule). AreAmong (rules_of Full) rs) (sym all) (put_in_among Full settings.with.items) in
     let safe = c.in_ok-traced.ensures.full (ordering.«module» ∙ full) among c.requires.sound.0 c.requires.sound.1 in
     let disk : IsDisk c.args.base.now = search rules in
     c.answer_traced.ensures.full disk safe

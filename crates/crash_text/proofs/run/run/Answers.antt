@@ -22,8 +22,10 @@ returns-in_err-base-clause-refused g c =
     let fault = c.in_err-base.field-0.0 in
     let same : c.from_residual-in_err-base.result ≡ Err fault = search rules in
     subst (λ r. IfErr r (λ f. f ≢ OutOfMemory → IsAnswer c.args.script.now c.args.settings.now (Refused f))) (sym same)
-    (λ memory. refused_base c.args.script.now c.args.settings.now script.base.items script.traced.items fault c.in_ok-script.ensures.ok
-    (subst (λ s. IsBaseRefusal c.args.settings.now s fault) c.deref.ensures.value (c.in_err-base.ensures.refused memory)))
+    (λ memory. refused_base c.args.script.now c.args.settings.now script.base.items script.traced.items fault
+    c.in_ok-script.ensures.ok
+    (subst (λ s. IsBaseRefusal c.args.settings.now s fault) c.deref.ensures.value
+    (c.in_err-base.ensures.refused memory)))
 
 pub returns-clause-refused : goal.returns-clause-refused
 returns-clause-refused g c =
@@ -48,5 +50,6 @@ returns-clause-reported g c =
     IfOk-weaker c.answer_steps.result _ _
     (λ outcome reported.
     reported_steps c.args.script.now settings base script.traced.items (string_bytes outcome.text) outcome.failing start
-    (subst (λ s. AreReported settings base s (string_bytes outcome.text) outcome.failing) c.deref-2.ensures.value reported))
+    (subst (λ s. AreReported settings base s (string_bytes outcome.text) outcome.failing) c.deref-2.ensures.value
+    reported))
     c.answer_steps.ensures.reported

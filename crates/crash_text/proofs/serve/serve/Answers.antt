@@ -13,13 +13,15 @@ returns-in_err-script-clause-refused g c =
     let fault = c.in_err-script.field-0.0 in
     let coming = g.S.Source.coming c.args.source.now in
     let same : c.from_residual.result ≡ Err fault = search rules in
-    subst (λ r. IfErr r (IsRefusedBy coming c.args.settings.now)) (sym same) (unread_refused coming c.args.settings.now fault c.in_err-script.ensures.kinds)
+    subst (λ r. IfErr r (IsRefusedBy coming c.args.settings.now)) (sym same)
+    (unread_refused coming c.args.settings.now fault c.in_err-script.ensures.kinds)
 
 pub returns-in_err-script-clause-bounded : goal.returns-in_err-script-clause-bounded
 returns-in_err-script-clause-bounded g c =
     let fault = c.in_err-script.field-0.0 in
     let same : c.from_residual.result ≡ Err fault = search rules in
-    known-any (λ bytes. 1048576 < length bytes → IsErrAnd c.from_residual.result IsReadFault) (g.S.Source.coming c.args.source.now)
+    known-any (λ bytes. 1048576 < length bytes → IsErrAnd c.from_residual.result IsReadFault)
+    (g.S.Source.coming c.args.source.now)
     (λ bytes more. subst (λ r. IsErrAnd r IsReadFault) (sym same) c.in_err-script.ensures.kinds)
 
 pub returns-in_err-outcome-clause-refused : goal.returns-in_err-outcome-clause-refused
@@ -30,7 +32,12 @@ returns-in_err-outcome-clause-refused g c =
     let read = whole coming _ bytes c.in_ok-script.ensures.whole in
     let same : c.from_residual-in_err-outcome.result ≡ Err fault = search rules in
     subst (λ r. IfErr r (IsRefusedBy coming c.args.settings.now)) (sym same)
-    (λ _ _ _ memory. (bytes, read, subst (λ xs. IsAnswer xs c.args.settings.now (Refused fault)) c.as_slice.ensures.value (c.in_err-outcome.ensures.refused memory)))
+    (λ _ _ _ memory. (
+      bytes,
+      read,
+      subst (λ xs. IsAnswer xs c.args.settings.now (Refused fault))
+          c.as_slice.ensures.value (c.in_err-outcome.ensures.refused memory),
+    ))
 
 pub returns-in_err-outcome-clause-bounded : goal.returns-in_err-outcome-clause-bounded
 returns-in_err-outcome-clause-bounded g c = not_longer _ (g.S.Source.coming c.args.source.now) _
@@ -66,8 +73,10 @@ returns-in-Ok-clause-served g c =
       bytes = bytes;
       read = whole coming _ bytes c.in_ok-script.ensures.whole;
       text = text;
-      answer = subst (λ xs. IsAnswer xs c.args.settings.now (Reported text c.in_ok-outcome.outcome.failing)) c.as_slice.ensures.value c.in_ok-outcome.ensures.reported;
-      taken = subst (λ xs. Appends (g.K.Sink.taken c.args.sink.now) (g.K.Sink.taken c.write_all.new.sink) xs) same c.in-Ok.ensures.taken;
+      answer = subst (λ xs. IsAnswer xs c.args.settings.now (Reported text c.in_ok-outcome.outcome.failing))
+          c.as_slice.ensures.value c.in_ok-outcome.ensures.reported;
+      taken = subst (λ xs. Appends (g.K.Sink.taken c.args.sink.now) (g.K.Sink.taken c.write_all.new.sink) xs) same
+          c.in-Ok.ensures.taken;
     }
 
 pub returns-in-Ok-clause-bounded : goal.returns-in-Ok-clause-bounded
@@ -87,8 +96,10 @@ returns-clause-cut g c = λ _.
       front = begun.0;
       rest = begun.1;
       failing = c.in_ok-outcome.outcome.failing;
-      answer = subst (λ t. IsAnswer bytes c.args.settings.now (Reported t c.in_ok-outcome.outcome.failing)) (sym same ∙ begun.2)
-          (subst (λ xs. IsAnswer xs c.args.settings.now (Reported text c.in_ok-outcome.outcome.failing)) c.as_slice.ensures.value c.in_ok-outcome.ensures.reported);
+      answer = subst (λ t. IsAnswer bytes c.args.settings.now (Reported t c.in_ok-outcome.outcome.failing))
+          (sym same ∙ begun.2)
+          (subst (λ xs. IsAnswer xs c.args.settings.now (Reported text c.in_ok-outcome.outcome.failing))
+          c.as_slice.ensures.value c.in_ok-outcome.ensures.reported);
       taken = begun.3;
     }
 

@@ -14,11 +14,13 @@ returns-clause-found g c =
     let start = g.S.Space.initial s in
     let good = g.S.Space.is_good s in
     let l = c.in_ok-broken.broken.items in
-    let short : AreShort e.rows = λ q near. let fits = c.requires.entries.short q near in omega (arith, fits, c.requires.small) in
+    let short : AreShort e.rows = λ q near. let fits = c.requires.entries.short q near in
+    omega (arith, fits, c.requires.small) in
     record {
       total = (concat e.rows, c.requires.done.list, sym c.count_entries-total.ensures);
       within = c.if-total-room.false;
       broken = all_in_order (λ w. IsReached next start w × (good w → ⊥)) l c.in_order.result.items
-          (broken_all e next start c.args.room.places good l c.requires.entries c.requires.settled c.requires.done short c.in_ok-broken.ensures)
+          (broken_all e next start c.args.room.places good l c.requires.entries c.requires.settled c.requires.done short
+          c.in_ok-broken.ensures)
           c.in_order.ensures.same c.in_order.ensures.ordered;
     }

@@ -11,4 +11,5 @@ returns g c =
     let q = c.args.shard in
     let l = c.loop-at.broken.items in
     let all : c.loop-at.at ≡ length (row_of e.rows q) = omega (arith, c.loop-at-test.false, c.loop-at.invariant.end) in
-    row_done e c.requires.short q l c.requires.shard (subst (λ k. IsListOf (IsBrokenBefore e q k) l) all c.loop-at.invariant.list)
+    row_done e c.requires.short q l c.requires.shard (subst (λ k. IsListOf (IsBrokenBefore e q k) l) all
+    c.loop-at.invariant.list)

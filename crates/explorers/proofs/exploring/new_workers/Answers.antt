@@ -10,8 +10,10 @@ loop-hand-preserved g c =
     record {
       idle = c.new_worker.ensures.idle;
       start = rw c.new_worker.ensures.seen c.loop-hand.invariant.start;
-      ready = rw c.in_ok-push.ensures.items (All-push (IsReady b c.args.space.now g.S.Space.is_own) c.loop-hand.workers.items c.in_ok-worker.worker c.loop-hand.invariant.ready c.in_ok-worker.ensures.ready);
-      ways = (All-pop (λ hand. length hand.ways ≡ c.len-count.result) c.loop-hand.hands.items c.pop.new.self.items c.pop.result c.pop.ensures.items c.loop-hand.invariant.ways).0;
+      ready = rw c.in_ok-push.ensures.items (All-push (IsReady b c.args.space.now g.S.Space.is_own)
+          c.loop-hand.workers.items c.in_ok-worker.worker c.loop-hand.invariant.ready c.in_ok-worker.ensures.ready);
+      ways = (All-pop (λ hand. length hand.ways ≡ c.len-count.result) c.loop-hand.hands.items c.pop.new.self.items
+          c.pop.result c.pop.ensures.items c.loop-hand.invariant.ways).0;
       count = omega (arith, c.in-Some.ensures.cases, c.in_ok-push.ensures.len, c.loop-hand.invariant.count);
     }
 
@@ -26,6 +28,8 @@ loop-hand-init g c = record {
 
 pub new-tasks-requires-clause-ways : goal.new-tasks-requires-clause-ways
 new-tasks-requires-clause-ways g c =
-    let taken = All-pop (λ hand. length hand.ways ≡ c.len-count.result) c.loop-hand.hands.items c.pop.new.self.items c.pop.result c.pop.ensures.items c.loop-hand.invariant.ways in
-    let here : length c.in-Some.hand.ways ≡ c.len-count.result = subst (λ r. IfSome r (λ hand. length hand.ways ≡ c.len-count.result)) c.in-Some.is taken.1 in
+    let taken = All-pop (λ hand. length hand.ways ≡ c.len-count.result) c.loop-hand.hands.items c.pop.new.self.items
+    c.pop.result c.pop.ensures.items c.loop-hand.invariant.ways in
+    let here : length c.in-Some.hand.ways ≡ c.len-count.result =
+    subst (λ r. IfSome r (λ hand. length hand.ways ≡ c.len-count.result)) c.in-Some.is taken.1 in
     omega (arith, here)

@@ -16,4 +16,5 @@ pub returns-clause-total : goal.returns-clause-total
 returns-clause-total g c = rw (← c.requires.deps) (sweep_counts _ _ _ _ c.in_ok-swept.ensures.swept)
 
 pub returns-in_err-swept-clause-too_many : goal.returns-in_err-swept-clause-too_many
-returns-in_err-swept-clause-too_many g c = let p = err_from_is_err_and c.from_residual.result c.from_residual.ensures.1 in rw (p.1, p.2) (λ is. rw (← c.requires.deps) (c.in_err-swept.ensures.too_many cc))
+returns-in_err-swept-clause-too_many g c = let p = err_from_is_err_and c.from_residual.result
+    c.from_residual.ensures.1 in rw (p.1, p.2) (λ is. rw (← c.requires.deps) (c.in_err-swept.ensures.too_many cc))

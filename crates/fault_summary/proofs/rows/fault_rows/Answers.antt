@@ -10,7 +10,8 @@ use Rattle.fault_summary.proofs.rows.fault_rows.Goals as goal
 pub rebuild-requires-clause-known : goal.rebuild-requires-clause-known
 rebuild-requires-clause-known g c id has =
     let sets = c.args.sets.now in
-    let failing = (c.requires.exactly.exactly (get_or sets c.loop-set.set-index 0)).0 (Contains-get_or sets c.loop-set.set-index 0 c.loop-set-test.true) in
+    let failing = (c.requires.exactly.exactly (get_or sets c.loop-set.set-index 0)).0
+    (Contains-get_or sets c.loop-set.set-index 0 c.loop-set-test.true) in
     subst (λ (n : ℕ). id < n) (length-map c.args.graph.now (λ p. p.deps)) (failing.closed.known id has)
 
 pub loop-set-preserved : goal.loop-set-preserved
@@ -21,11 +22,16 @@ loop-set-preserved g c =
     let set = get_or sets c.loop-set.set-index 0 in
     let short : length sets < 2 ^ 64 = omega arith in
     let listed = c.deref.ensures.value ∙ c.in_ok-found.ensures in
-    let found : c.deref.result.now ≡ faults_after c.args.kept base patches set = found_faults c.args.kept base patches set c.rebuild.new.image c.replay.new.image c.deref.result.now c.rebuild.ensures c.replay.ensures.replayed listed in
+    let found : c.deref.result.now ≡ faults_after c.args.kept base patches set =
+    found_faults c.args.kept base patches set c.rebuild.new.image c.replay.new.image c.deref.result.now
+    c.rebuild.ensures c.replay.ensures.replayed listed in
     record {
-      summed = next_set (faults_after c.args.kept base patches) sets c.loop-set.set-index c.loop-set.summary c.add.new.self (each_once sets c.requires.exactly.ordered) short c.loop-set-test.true c.loop-set.invariant.summed
+      summed = next_set (faults_after c.args.kept base patches) sets c.loop-set.set-index c.loop-set.summary
+          c.add.new.self (each_once sets c.requires.exactly.ordered) short c.loop-set-test.true
+          c.loop-set.invariant.summed
           (subst (λ (fs : List Fault). AddsFaults c.loop-set.summary set fs c.add.new.self) found c.in_ok-add.ensures);
-      size = still_sized base patches set c.rebuild.new.image c.replay.new.image c.rebuild.ensures c.replay.ensures.replayed;
+      size = still_sized base patches set c.rebuild.new.image c.replay.new.image c.rebuild.ensures
+          c.replay.ensures.replayed;
     }
 
 pub returns : goal.returns
@@ -33,5 +39,6 @@ returns g c =
     let base = c.args.base.now in
     let patches = c.args.graph.now in
     failing_rows c.args.kept base patches c.args.sets.now c.loop-set.summary c.into_rows.result.items c.requires.exactly
-    (subst (λ (ss : List ℕ). AreSummed (HasAmong (faults_after c.args.kept base patches) ss) c.loop-set.summary) (take_all c.loop-set.set-index c.args.sets.now c.loop-set-test.false) c.loop-set.invariant.summed)
+    (subst (λ (ss : List ℕ). AreSummed (HasAmong (faults_after c.args.kept base patches) ss) c.loop-set.summary)
+    (take_all c.loop-set.set-index c.args.sets.now c.loop-set-test.false) c.loop-set.invariant.summed)
     c.into_rows.ensures.same c.into_rows.ensures.ordered

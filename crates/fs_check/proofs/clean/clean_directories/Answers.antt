@@ -3,12 +3,19 @@ use Rattle.crash_model.specs.Layout.{kind_of}
 use Rattle.fs_check.specs.Passed.{entries_of}
 use Rattle.fs_check.proofs.Passed.{passed-start}
 use Rattle.fs_check.proofs.Entries.{entries-uncounted, entries-all}
-use Rattle.fs_check.proofs.Reaching.{AreDirectoriesBelow, directories-start, directories-one, directories-none, sets-start, sets-one, sets-none, counts-directory}
+use Rattle.fs_check.proofs.Reaching.{AreDirectoriesBelow, directories-start, directories-one, directories-none}
+use Rattle.fs_check.proofs.Reaching.{sets-start, sets-one, sets-none, counts-directory}
 use Rattle.fs_check.proofs.clean.clean_directories.Goals as goal
-use Rattle.fs_check.proofs.clean.clean_directories.Goals.{then-kind-eq-DIRECTORY_KIND+then-counts+in_ok-named, then-kind-eq-DIRECTORY_KIND+else-counts, else-kind-eq-DIRECTORY_KIND}
+use Rattle.fs_check.proofs.clean.clean_directories.Goals.{then-kind-eq-DIRECTORY_KIND+then-counts+in_ok-named}
+use Rattle.fs_check.proofs.clean.clean_directories.Goals.{then-kind-eq-DIRECTORY_KIND+else-counts}
+use Rattle.fs_check.proofs.clean.clean_directories.Goals.{else-kind-eq-DIRECTORY_KIND}
 
 pub loop-dir-init : goal.loop-dir-init
-loop-dir-init g c = (passed-start (entries_of c.args.image.now), sets-start c.args.image.now, directories-start c.args.image.now)
+loop-dir-init g c = (
+  passed-start (entries_of c.args.image.now),
+  sets-start c.args.image.now,
+  directories-start c.args.image.now,
+)
 
 pub loop-dir-preserved : goal.loop-dir-preserved
 loop-dir-preserved g c =
@@ -17,14 +24,16 @@ loop-dir-preserved g c =
     let all = c.loop-dir.invariant in
     elim c.if-kind-eq-DIRECTORY_KIND.branch [
       | then-kind-eq-DIRECTORY_KIND+then-counts+in_ok-named w ↦
-          let inodes = directories-one d dir c.loop-dir.inodes (sym c.kind.ensures ∙ w.if-kind-eq-DIRECTORY_KIND.true) all.2 in (
+          let inodes = directories-one d dir c.loop-dir.inodes (sym c.kind.ensures ∙ w.if-kind-eq-DIRECTORY_KIND.true)
+          all.2 in (
             rw w.entries-is (w.in_ok-named.ensures.1),
             rw w.named-is (sets-one d dir _ c.loop-dir.named c.loop-dir-test.true w.in_ok-named.ensures.0 all.1),
             rw (w.inodes-is, w.with_inode-inodes.ensures) inodes,
           )
       | then-kind-eq-DIRECTORY_KIND+else-counts w ↦
           let not_so = sym w.counts.ensures ∙ w.if-counts.false in
-          let inodes = directories-one d dir c.loop-dir.inodes (sym c.kind.ensures ∙ w.if-kind-eq-DIRECTORY_KIND.true) all.2 in (
+          let inodes = directories-one d dir c.loop-dir.inodes (sym c.kind.ensures ∙ w.if-kind-eq-DIRECTORY_KIND.true)
+          all.2 in (
             rw w.entries-is (entries-uncounted d dir c.loop-dir.entries not_so all.0),
             rw w.named-is (sets-none d dir c.loop-dir.named not_so all.1),
             rw (w.inodes-is, w.with_inode-inodes.ensures) inodes,

@@ -6,17 +6,24 @@ use Rattle.fs_check.proofs.Passed.{passed-row}
 use Rattle.fs_check.proofs.Entries.{live-below, entries-free, entries-leading, faulty-dangling, faulty-links}
 use Rattle.fs_check.proofs.Reaching.{AreNamed, named-start, named-step, adds-live, adds-free}
 use Rattle.fs_check.proofs.clean.clean_directory.Goals as goal
-use Rattle.fs_check.proofs.clean.clean_directory.Goals.{then-not-is_live-via-then-not-is_live, then-not-is_live-via-else-not-is_live+then-entries-inode, then-entry-ne0+else-not-is_live+else-entries-inode, else-entry-ne0}
+use Rattle.fs_check.proofs.clean.clean_directory.Goals.{then-not-is_live-via-then-not-is_live}
+use Rattle.fs_check.proofs.clean.clean_directory.Goals.{then-not-is_live-via-else-not-is_live+then-entries-inode}
+use Rattle.fs_check.proofs.clean.clean_directory.Goals.{then-entry-ne0+else-not-is_live+else-entries-inode}
+use Rattle.fs_check.proofs.clean.clean_directory.Goals.{else-entry-ne0}
 
 pub returns-then-not-is_live : goal.returns-then-not-is_live
 returns-then-not-is_live g c =
-    let some = λ (e : entry_of c.args.image.now c.args.dir c.loop-k.k ≡ 0). c.if-entry-ne0.true (c.entry-entry.ensures ∙ e) in
+    let some = λ (e : entry_of c.args.image.now c.args.dir c.loop-k.k ≡ 0).
+    c.if-entry-ne0.true (c.entry-entry.ensures ∙ e) in
     let leads = ap (λ (e : ℕ). e - 1) (sym c.entry-entry.ensures) in
     elim c.then-not-is_live.branch [
       | then-not-is_live-via-then-not-is_live w ↦
-          faulty-dangling c.args.image.now c.args.dir c.loop-k.k (c.entry-entry.result - 1) c.requires.dir c.loop-k-test.true c.requires.counts some leads (sym c.is_live.ensures ∙ w.if-not-is_live.true)
+          faulty-dangling c.args.image.now c.args.dir c.loop-k.k (c.entry-entry.result - 1) c.requires.dir
+          c.loop-k-test.true c.requires.counts some leads (sym c.is_live.ensures ∙ w.if-not-is_live.true)
       | then-not-is_live-via-else-not-is_live+then-entries-inode w ↦
-          faulty-links c.args.image.now c.args.dir c.loop-k.k (c.entry-entry.result - 1) c.loop-k.entries c.requires.dir c.loop-k-test.true c.requires.counts some leads (sym c.is_live.ensures ∙ w.if-not-is_live.false) (omega (arith, w.links.ensures, w.if-entries-inode.true)) c.loop-k.invariant.0
+          faulty-links c.args.image.now c.args.dir c.loop-k.k (c.entry-entry.result - 1) c.loop-k.entries c.requires.dir
+          c.loop-k-test.true c.requires.counts some leads (sym c.is_live.ensures ∙ w.if-not-is_live.false)
+          (omega (arith, w.links.ensures, w.if-entries-inode.true)) c.loop-k.invariant.0
     ]
 
 pub loop-k-init : goal.loop-k-init
@@ -35,8 +42,15 @@ loop-k-preserved g c =
       | then-entry-ne0+else-not-is_live+else-entries-inode w ↦
           let some = λ (e : entry_of d dir k ≡ 0). w.if-entry-ne0.true (c.entry-entry.ensures ∙ e) in
           let live = sym w.is_live.ensures ∙ w.if-not-is_live.false in (
-            rw w.entries-is (entries-leading d dir k (entry - 1) c.loop-k.entries c.requires.counts some leads live (omega (arith, c.loop-k.invariant.0.few (entry - 1) (live-below d (entry - 1) live), w.links.ensures, w.if-entries-inode.false)) c.loop-k.invariant.0),
-            rw (w.named-is, w.with_inode-named.ensures) (named-step d dir k named (with_id named (entry - 1)) (adds-live d dir k entry named c.requires.counts is w.if-entry-ne0.true live) c.loop-k.invariant.1),
+            rw w.entries-is (entries-leading d dir k (entry - 1) c.loop-k.entries c.requires.counts some leads live
+                (omega (
+                  arith,
+                  c.loop-k.invariant.0.few (entry - 1) (live-below d (entry - 1) live),
+                  w.links.ensures,
+                  w.if-entries-inode.false,
+                )) c.loop-k.invariant.0),
+            rw (w.named-is, w.with_inode-named.ensures) (named-step d dir k named (with_id named (entry - 1))
+                (adds-live d dir k entry named c.requires.counts is w.if-entry-ne0.true live) c.loop-k.invariant.1),
           )
       | else-entry-ne0 w ↦
           let free = is ∙ w.if-entry-ne0.false in (

@@ -4,4 +4,5 @@ use Rattle.fs_check.specs.References.{fault_of}
 use Rattle.fs_check.proofs.list.push_wrong.Given as goal
 
 abbrev pub invariant-loop-pointer : goal.invariant-loop-pointer
-invariant-loop-pointer g l = l.found.items ≡ l.fn.found.items ++ filter_map (fault_of l.image l.test) (take l.pointer-index l.pointers)
+invariant-loop-pointer g l = l.found.items ≡ l.fn.found.items ++ filter_map (fault_of l.image l.test)
+    (take l.pointer-index l.pointers)

@@ -10,7 +10,10 @@ use Rattle.fs_check.proofs.references.push_dangling.Goals as goal
 use Rattle.fs_check.proofs.references.push_dangling.Goals.{then-counts+in_ok-push_dangling_of, else-counts}
 
 pub loop-dir-init : goal.loop-dir-init
-loop-dir-init g c = record { found = rw (each_below-zero, append-nil) refl; led = tally-start 10 (led_at c.args.image.now) 16 }
+loop-dir-init g c = record {
+  found = rw (each_below-zero, append-nil) refl;
+  led = tally-start 10 (led_at c.args.image.now) 16;
+}
 
 pub loop-dir-preserved : goal.loop-dir-preserved
 loop-dir-preserved g c =
@@ -26,7 +29,8 @@ loop-dir-preserved g c =
         led = w.in_ok-push_dangling_of.ensures.led;
       })
       | else-counts w ↦ rw (w.found-is, w.led-is) (record {
-        found = row_passed rows dir old before (dangling-uncounted d dir (sym c.counts.ensures ∙ w.if-counts.false)) all.found;
+        found = row_passed rows dir old before (dangling-uncounted d dir (sym c.counts.ensures ∙ w.if-counts.false))
+            all.found;
         led = led-uncounted d dir c.loop-dir.led (sym c.counts.ensures ∙ w.if-counts.false) all.led;
       })
     ]

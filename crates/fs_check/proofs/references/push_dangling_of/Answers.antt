@@ -9,7 +9,8 @@ use Rattle.fs_check.proofs.Entries.{live-below}
 use Rattle.fs_check.proofs.Found.{pushed, passed_over, dangling-here, dangling-led, dangling-none}
 use Rattle.fs_check.proofs.Counted.{led-none, led-dead, led-live, led-most}
 use Rattle.fs_check.proofs.references.push_dangling_of.Goals as goal
-use Rattle.fs_check.proofs.references.push_dangling_of.Goals.{then-entry-ne0+then-is_live, then-entry-ne0+else-is_live+in_ok-push, else-entry-ne0}
+use Rattle.fs_check.proofs.references.push_dangling_of.Goals.{then-entry-ne0+then-is_live}
+use Rattle.fs_check.proofs.references.push_dangling_of.Goals.{then-entry-ne0+else-is_live+in_ok-push, else-entry-ne0}
 
 pub loop-k-init : goal.loop-k-init
 loop-k-init g c = record { found = rw (some_below-zero, append-nil) refl; size = c.told-led; led = c.requires.led }
@@ -17,7 +18,11 @@ loop-k-init g c = record { found = rw (some_below-zero, append-nil) refl; size =
 pub overflow_add-led : goal.overflow_add-led
 overflow_add-led g c =
     let inode : ℕ = c.byte-entry.result - 1 in
-    let within : inode < length c.loop-k.led = omega (arith, live-below c.args.image.now inode (sym c.is_live.ensures ∙ c.if-is_live.true), c.loop-k.invariant.size) in
+    let within : inode < length c.loop-k.led = omega (
+      arith,
+      live-below c.args.image.now inode (sym c.is_live.ensures ∙ c.if-is_live.true),
+      c.loop-k.invariant.size,
+    ) in
     omega (arith, led-most c.args.image.now c.args.dir c.loop-k.k inode c.loop-k.led within c.loop-k.invariant.led)
 
 pub loop-k-preserved : goal.loop-k-preserved
@@ -46,16 +51,19 @@ loop-k-preserved g c =
           let dead = sym w.is_live.ensures ∙ w.if-is_live.false in
           rw (w.found-is, w.led-is) (record {
             found = pushed (dangling_at d dir) k (Dangling dir k (entry - 1)) old before _
-                (dangling-here d dir k entry c.requires.counts is w.if-entry-ne0.true dead) w.in_ok-push.ensures.items all.found;
+                (dangling-here d dir k entry c.requires.counts is w.if-entry-ne0.true dead) w.in_ok-push.ensures.items
+                all.found;
             size = all.size;
             led = led-dead d dir led k (entry - 1) leads dead all.led;
           })
       | else-entry-ne0 w ↦ rw (w.found-is, w.led-is) (record {
-        found = passed_over (dangling_at d dir) k old before (dangling-none d dir k (is ∙ w.if-entry-ne0.false)) all.found;
+        found = passed_over (dangling_at d dir) k old before (dangling-none d dir k (is ∙ w.if-entry-ne0.false))
+            all.found;
         size = all.size;
         led = led-none d dir led k (is ∙ w.if-entry-ne0.false) all.led;
       })
     ]
 
 pub returns-clause-led : goal.returns-clause-led
-returns-clause-led g c = tally-row 10 (led_at c.args.image.now) c.args.dir c.loop-k.k c.loop-k.led (omega arith) c.loop-k.invariant.led
+returns-clause-led g c = tally-row 10 (led_at c.args.image.now) c.args.dir c.loop-k.k c.loop-k.led (omega arith)
+    c.loop-k.invariant.led

@@ -28,7 +28,8 @@ loop-inode-preserved g c =
         named = w.read_slots.ensures.named;
       })
       | else-is_live w ↦ rw (w.wrong-is, w.named-is) (record {
-        wrong = row_passed rows inode [] c.loop-inode.wrong.items (wrong-dead d inode (sym c.is_live.ensures ∙ w.if-is_live.false)) all.wrong;
+        wrong = row_passed rows inode [] c.loop-inode.wrong.items
+            (wrong-dead d inode (sym c.is_live.ensures ∙ w.if-is_live.false)) all.wrong;
         room = omega (arith, all.room);
         named = named-dead d inode c.loop-inode.named (sym c.is_live.ensures ∙ w.if-is_live.false) all.named;
       })

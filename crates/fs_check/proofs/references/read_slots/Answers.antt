@@ -6,10 +6,15 @@ use Rattle.fs_check.proofs.Counting.{tally-row}
 use Rattle.fs_check.proofs.Found.{pushed, passed_over, wrong-here, wrong-right, wrong-none}
 use Rattle.fs_check.proofs.Counted.{named-none}
 use Rattle.fs_check.proofs.references.read_slots.Goals as goal
-use Rattle.fs_check.proofs.references.read_slots.Goals.{then-block-ne0+then-not-is_right_block, then-block-ne0+else-not-is_right_block, else-block-ne0}
+use Rattle.fs_check.proofs.references.read_slots.Goals.{then-block-ne0+then-not-is_right_block}
+use Rattle.fs_check.proofs.references.read_slots.Goals.{then-block-ne0+else-not-is_right_block, else-block-ne0}
 
 pub loop-slot-init : goal.loop-slot-init
-loop-slot-init g c = record { wrong = rw (some_below-zero, append-nil) refl; room = omega (arith, c.requires.room); named = c.requires.named }
+loop-slot-init g c = record {
+  wrong = rw (some_below-zero, append-nil) refl;
+  room = omega (arith, c.requires.room);
+  named = c.requires.named;
+}
 
 pub loop-slot-preserved : goal.loop-slot-preserved
 loop-slot-preserved g c =
@@ -24,23 +29,27 @@ loop-slot-preserved g c =
     elim c.if-block-ne0.branch [
       | then-block-ne0+then-not-is_right_block w ↦ rw (w.wrong-is, w.named-is) (record {
         wrong = pushed (wrong_at d inode) slot (pointer inode slot block) old before _
-            (wrong-here d inode slot block c.requires.live points w.if-block-ne0.true (sym w.is_right_block.ensures.value ∙ w.if-not-is_right_block.true))
+            (wrong-here d inode slot block c.requires.live points w.if-block-ne0.true
+            (sym w.is_right_block.ensures.value ∙ w.if-not-is_right_block.true))
             w.push.ensures.items all.wrong;
         room = omega (arith, w.push.ensures.len, all.room);
         named = w.count_pointer.ensures;
       })
       | then-block-ne0+else-not-is_right_block w ↦ rw (w.wrong-is, w.named-is) (record {
         wrong = passed_over (wrong_at d inode) slot old before
-            (wrong-right d inode slot block points (sym w.is_right_block.ensures.value ∙ w.if-not-is_right_block.false)) all.wrong;
+            (wrong-right d inode slot block points (sym w.is_right_block.ensures.value ∙ w.if-not-is_right_block.false))
+            all.wrong;
         room = omega (arith, all.room);
         named = w.count_pointer.ensures;
       })
       | else-block-ne0 w ↦ rw (w.wrong-is, w.named-is) (record {
-        wrong = passed_over (wrong_at d inode) slot old before (wrong-none d inode slot (points ∙ w.if-block-ne0.false)) all.wrong;
+        wrong = passed_over (wrong_at d inode) slot old before (wrong-none d inode slot (points ∙ w.if-block-ne0.false))
+            all.wrong;
         room = omega (arith, all.room);
         named = named-none d inode c.loop-slot.named slot (points ∙ w.if-block-ne0.false) all.named;
       })
     ]
 
 pub returns-clause-named : goal.returns-clause-named
-returns-clause-named g c = tally-row 4 (named_at c.args.image.now) c.args.inode c.loop-slot.slot c.loop-slot.named (omega arith) c.loop-slot.invariant.named
+returns-clause-named g c = tally-row 4 (named_at c.args.image.now) c.args.inode c.loop-slot.slot c.loop-slot.named
+    (omega arith) c.loop-slot.invariant.named

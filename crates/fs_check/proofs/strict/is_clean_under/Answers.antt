@@ -11,12 +11,17 @@ returns-then-has_clean_pointers g c =
     rw c.in-Some.is (
       λ is.
           let both = c.has_clean_tree.ensures.0 is in
-          clean_under kept d (halves_clean d (c.has_clean_pointers.ensures.0 c.if-has_clean_pointers.true, both.0)) both.1,
-      λ under. c.has_clean_tree.ensures.1 ((clean_halves d (clean_from_under kept d under)).1, loses_from_under kept d under),
+          clean_under kept d (halves_clean d (c.has_clean_pointers.ensures.0 c.if-has_clean_pointers.true, both.0))
+          both.1,
+      λ under. c.has_clean_tree.ensures.1 (
+        (clean_halves d (clean_from_under kept d under)).1,
+        loses_from_under kept d under,
+      ),
     )
 
 pub returns-else-has_clean_pointers : goal.returns-else-has_clean_pointers
 returns-else-has_clean_pointers g c = rw c.in-Some.is (
   λ is. absurd (false≢true (sym c.if-has_clean_pointers.false ∙ is)),
-  λ under. c.has_clean_pointers.ensures.1 (clean_halves c.args.image.now (clean_from_under c.in-Some.kept c.args.image.now under)).0,
+  λ under. c.has_clean_pointers.ensures.1 (clean_halves c.args.image.now
+      (clean_from_under c.in-Some.kept c.args.image.now under)).0,
 )

@@ -20,28 +20,39 @@ loop-hand-init g c =
       part = c.requires.part;
       parts = ap (λ hands. (worker_view c.args.deque).parts + length hands) same ∙ c.requires.parts;
       pushed = refl;
-      taken = λ e weight. ap (λ hands. weigh weight (worker_view c.args.deque).taken + sum_by (weigh_taken weight of e) hands) same;
+      taken = λ e weight. ap (λ hands. weigh weight (worker_view c.args.deque).taken + sum_by (weigh_taken weight of e)
+          hands) same;
     }
 
 pub swap_remove-requires : goal.swap_remove-requires
 swap_remove-requires g c =
-    let here = first-leads _ _ _ _ c.loop-hand.hand-iterator.rest.items c.in-Some.ensures.steps.0 c.loop-hand.invariant.ways in
-    let within = subst (λ (h : Known g.row.T.Denot g.row.A.Denot). c.args.of < length h.ways) (sym c.hand.view_is) here.0 in
+    let here = first-leads _ _ _ _ c.loop-hand.hand-iterator.rest.items c.in-Some.ensures.steps.0
+    c.loop-hand.invariant.ways in
+    let within = subst (λ (h : Known g.row.T.Denot g.row.A.Denot). c.args.of < length h.ways) (sym c.hand.view_is)
+    here.0 in
     omega (arith, within, c.hand.inside.reaches.ok.0)
 
 pub absorb-requires-clause-table : goal.absorb-requires-clause-table
 absorb-requires-clause-table g c =
     let way = c.swap_remove.result in
-    let here = first-leads _ _ _ _ c.loop-hand.hand-iterator.rest.items c.in-Some.ensures.steps.0 c.loop-hand.invariant.ways in
-    let at = c.swap_remove.ensures.value ∙ ap (λ (h : Known g.row.T.Denot g.row.A.Denot). get_or h.ways c.args.of way) c.hand.view_is in
-    let home = ap (λ (w : Way g.row.T.Denot g.row.A.Denot). w.home) at ∙ (here.1 way).0 ∙ sym c.loop-hand.invariant.home in
+    let here = first-leads _ _ _ _ c.loop-hand.hand-iterator.rest.items c.in-Some.ensures.steps.0
+    c.loop-hand.invariant.ways in
+    let at = c.swap_remove.ensures.value ∙ ap (λ (h : Known g.row.T.Denot g.row.A.Denot). get_or h.ways c.args.of way)
+    c.hand.view_is in
+    let home = ap (λ (w : Way g.row.T.Denot g.row.A.Denot). w.home) at ∙ (here.1 way).0
+    ∙ sym c.loop-hand.invariant.home in
     subst (λ to. IsPassOf to c.into_pass.result) home c.into_pass.ensures.deque
 
 pub absorb-requires-clause-rule : goal.absorb-requires-clause-rule
 absorb-requires-clause-rule g c = merges _ _ _ _ c.loop-hand.invariant.part
 
 pub loop-hand-smaller : goal.loop-hand-smaller
-loop-hand-smaller g c = omega (arith, ap length c.in-Some.ensures.steps.0, c.loop-hand.hand-iterator.rest.ok.0, c.next.new.self.rest.ok.0)
+loop-hand-smaller g c = omega (
+  arith,
+  ap length c.in-Some.ensures.steps.0,
+  c.loop-hand.hand-iterator.rest.ok.0,
+  c.next.new.self.rest.ok.0,
+)
 
 pub loop-hand-preserved : goal.loop-hand-preserved
 loop-hand-preserved g c =
@@ -54,10 +65,12 @@ loop-hand-preserved g c =
     let way = c.swap_remove.result in
     let ways : All (LeadsTo home of) (hand ∷ rest) = subst (All (LeadsTo home of)) step kept.ways in
     let here : LeadsTo home of hand = ways 0 hand (omega arith) in
-    let at : way ≡ get_or hand.ways of way = c.swap_remove.ensures.value ∙ ap (λ (h : Known g.row.T.Denot g.row.A.Denot). get_or h.ways of way) c.hand.view_is in
+    let at : way ≡ get_or hand.ways of way = c.swap_remove.ensures.value
+    ∙ ap (λ (h : Known g.row.T.Denot g.row.A.Denot). get_or h.ways of way) c.hand.view_is in
     let is : IsWay way = subst IsWay (sym at) (here.1 way).1 in
     let holds = c.into_pass.ensures.holds in
-    let back = absorbed (worker_view c.loop-hand.deque) (worker_view c.absorb.new.self) _ c.absorb.ensures.rule (ap (λ v. v.pushed) holds ∙ is.1) in
+    let back = absorbed (worker_view c.loop-hand.deque) (worker_view c.absorb.new.self) _ c.absorb.ensures.rule
+    (ap (λ v. v.pushed) holds ∙ is.1) in
     record {
       home = c.absorb.ensures.same.0.0 ∙ kept.home;
       ways = λ k d lt. ways (suc k) d (omega (arith, lt));
@@ -66,7 +79,8 @@ loop-hand-preserved g c =
       pushed = back.0 ∙ kept.pushed;
       taken = λ e weight.
           let sums = ap (sum_by (weigh_taken weight of e)) step ∙ sum_by-cons (weigh_taken weight of e) hand rest in
-          let same = ap (λ (w : Way g.row.T.Denot g.row.A.Denot). weigh weight w.holds.taken) (same-way hand of e way here.0 at) in
+          let same = ap (λ (w : Way g.row.T.Denot g.row.A.Denot). weigh weight w.holds.taken)
+          (same-way hand of e way here.0 at) in
           let before = kept.taken e weight in
           let more = back.2 weight in
           omega (arith, sums, same, before, more, ap (λ v. weigh weight v.taken) holds);
@@ -86,5 +100,11 @@ returns g c =
       λ e weight.
           let balance = left.2 (omega (arith, kept.parts, ap length none)) weight in
           let taken = kept.taken e weight in
-          omega (arith, balance, taken, ap (weigh weight) kept.pushed, ap (sum_by (weigh_taken weight c.args.of e)) none),
+          omega (
+            arith,
+            balance,
+            taken,
+            ap (weigh weight) kept.pushed,
+            ap (sum_by (weigh_taken weight c.args.of e)) none,
+          ),
     )

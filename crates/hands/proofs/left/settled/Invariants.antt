@@ -15,6 +15,7 @@ invariant-loop-hand g l =
       part : 0 < (worker_view l.deque).parts;
       parts : (worker_view l.deque).parts + length rest ≡ 17;
       pushed : (worker_view l.deque).pushed ≡ (worker_view l.fn.deque).pushed;
-      taken : (e : Way g.row.T.Denot g.row.A.Denot) (weight : g.row.T.Denot → ℕ) → weigh weight (worker_view l.deque).taken + sum_by (weigh_taken weight l.fn.of e) rest
+      taken : (e : Way g.row.T.Denot g.row.A.Denot) (weight : g.row.T.Denot → ℕ)
+          → weigh weight (worker_view l.deque).taken + sum_by (weigh_taken weight l.fn.of e) rest
           ≡ weigh weight (worker_view l.fn.deque).taken + sum_by (weigh_taken weight l.fn.of e) l.fn.others.items;
     }

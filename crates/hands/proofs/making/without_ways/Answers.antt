@@ -16,6 +16,8 @@ loop-preserved g c =
     let hands = c.loop.hands.items in
     let pushed = c.in_ok-push.ensures.items in
     record {
-      count = subst (λ now. length now ≡ c.loop.counter + 1) (sym pushed) (length_push hands _ ∙ ap (λ n. n + 1) c.loop.invariant.count);
-      bare = All-same IsBare _ _ pushed (All-push IsBare hands _ c.loop.invariant.bare (c.in_ok-lifo_as.ensures.4, c.new.ensures.items));
+      count = subst (λ now. length now ≡ c.loop.counter + 1) (sym pushed)
+          (length_push hands _ ∙ ap (λ n. n + 1) c.loop.invariant.count);
+      bare = All-same IsBare _ _ pushed (All-push IsBare hands _ c.loop.invariant.bare
+          (c.in_ok-lifo_as.ensures.4, c.new.ensures.items));
     }

@@ -9,6 +9,8 @@ loop-inode-preserved g c =
     let n = c.loop-inode.inode in
     let live = c.loop-inode.live in
     elim c.if-is_live.branch [
-      | then-is_live w ↦ rw (w.live-is, w.with_inode-live.ensures) (live-more d n live (sym c.is_live.ensures ∙ w.if-is_live.true) c.loop-inode.invariant)
-      | else-is_live w ↦ rw w.live-is (live-none d n live (sym c.is_live.ensures ∙ w.if-is_live.false) c.loop-inode.invariant)
+      | then-is_live w ↦ rw (w.live-is, w.with_inode-live.ensures)
+          (live-more d n live (sym c.is_live.ensures ∙ w.if-is_live.true) c.loop-inode.invariant)
+      | else-is_live w ↦ rw w.live-is (live-none d n live (sym c.is_live.ensures ∙ w.if-is_live.false)
+          c.loop-inode.invariant)
     ]

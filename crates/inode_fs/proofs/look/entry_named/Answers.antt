@@ -8,14 +8,17 @@ use Rattle.inode_fs.proofs.look.entry_named.Goals as goal
 
 -- a test of the spelling is a test of the name
 named : (d : Disk) (dir k : ℕ) (name spelling : List ℕ) (test : Bool) → spelling ≡ name_spelling name
-    → test ≡ ((is_entry d dir k && is_live d (target_of d dir k)) && bytes_eq (spelling_of d dir k) spelling) → is_named d dir name k ≡ test
+    → test ≡ ((is_entry d dir k && is_live d (target_of d dir k)) && bytes_eq (spelling_of d dir k) spelling)
+    → is_named d dir name k ≡ test
 named d dir k name spelling test same is = rw (← same) (sym is)
 
 pub returns-then-is_spelled-clause-value : goal.returns-then-is_spelled-clause-value
 returns-then-is_spelled-clause-value g c =
     let d = c.args.image.now in
     sym (first_below-lowest 10 c.loop-k.k (is_named d c.args.dir c.args.name.now) (omega arith) c.loop-k.invariant
-    (named d c.args.dir c.loop-k.k c.args.name.now _ _ (c.as_slice.ensures.value ∙ c.spelled-spelled.ensures.bytes) c.is_spelled.ensures ∙ c.if-is_spelled.true))
+    (named d c.args.dir c.loop-k.k c.args.name.now _ _ (c.as_slice.ensures.value ∙ c.spelled-spelled.ensures.bytes)
+    c.is_spelled.ensures ∙ c.if-is_spelled.true))
 
 pub returns-clause-value : goal.returns-clause-value
-returns-clause-value g c = sym (first_below-none 10 (is_named c.args.image.now c.args.dir c.args.name.now) (λ k below. c.loop-k.invariant k (omega arith)))
+returns-clause-value g c = sym (first_below-none 10 (is_named c.args.image.now c.args.dir c.args.name.now)
+    (λ k below. c.loop-k.invariant k (omega arith)))

@@ -6,7 +6,9 @@ use Rattle.inode_fs.proofs.look.free_inode.Goals as goal
 
 pub returns-then-kind-eq-FREE_KIND-clause-value : goal.returns-then-kind-eq-FREE_KIND-clause-value
 returns-then-kind-eq-FREE_KIND-clause-value g c =
-    sym (first_below-lowest 16 c.loop-i.i (is_free_inode c.args.image.now) (omega arith) c.loop-i.invariant (grind (arith, common_steps)))
+    sym (first_below-lowest 16 c.loop-i.i (is_free_inode c.args.image.now) (omega arith) c.loop-i.invariant
+    (grind (arith, common_steps)))
 
 pub returns-clause-value : goal.returns-clause-value
-returns-clause-value g c = sym (first_below-none 16 (is_free_inode c.args.image.now) (λ k below. c.loop-i.invariant k (omega arith)))
+returns-clause-value g c = sym (first_below-none 16 (is_free_inode c.args.image.now)
+    (λ k below. c.loop-i.invariant k (omega arith)))

@@ -13,7 +13,8 @@ returns-then-not-counts g c =
 pub returns-then-entry-ne0 : goal.returns-then-entry-ne0
 returns-then-entry-ne0 g c =
     let d = c.args.image.now in
-    sym (ap is_some (first_below-lowest 10 c.loop-k.k (is_entry d c.args.dir) (omega arith) c.loop-k.invariant (grind (arith, common_steps))))
+    sym (ap is_some (first_below-lowest 10 c.loop-k.k (is_entry d c.args.dir) (omega arith) c.loop-k.invariant
+    (grind (arith, common_steps))))
 
 pub returns : goal.returns
 returns g c =

@@ -11,21 +11,24 @@ pub returns-clause-count : goal.returns-clause-count
 returns-clause-count g c =
     let d = c.args.image.now in
     let op = c.args.op.now in
-    ok-both c.changes_of.result _ c.changes_of.ensures.changes c.changes_of.ensures.name (λ plan is name. plan-count d op plan.items is)
+    ok-both c.changes_of.result _ c.changes_of.ensures.changes c.changes_of.ensures.name
+    (λ plan is name. plan-count d op plan.items is)
 
 pub returns-clause-inside : goal.returns-clause-inside
 returns-clause-inside g c =
     let d = c.args.image.now in
     let op = c.args.op.now in
     let disk : IsDisk d = c.blocks-blocks.ensures.disk in
-    ok-both c.changes_of.result _ c.changes_of.ensures.changes c.changes_of.ensures.name (λ plan is name. all-inside d plan.items (plan-lands d op plan.items disk name is))
+    ok-both c.changes_of.result _ c.changes_of.ensures.changes c.changes_of.ensures.name
+    (λ plan is name. all-inside d plan.items (plan-lands d op plan.items disk name is))
 
 pub returns-clause-journal : goal.returns-clause-journal
 returns-clause-journal g c =
     let d = c.args.image.now in
     let op = c.args.op.now in
     let disk : IsDisk d = c.blocks-blocks.ensures.disk in
-    ok-both c.changes_of.result _ c.changes_of.ensures.changes c.changes_of.ensures.name (λ plan is name. with_changes-journal d plan.items disk (plan-lands d op plan.items disk name is))
+    ok-both c.changes_of.result _ c.changes_of.ensures.changes c.changes_of.ensures.name
+    (λ plan is name. with_changes-journal d plan.items disk (plan-lands d op plan.items disk name is))
 
 pub returns-clause-refused : goal.returns-clause-refused
 returns-clause-refused g c = λ sound fault.
@@ -41,11 +44,13 @@ returns-clause-sound g c = λ sound.
     let d = c.args.image.now in
     let op = c.args.op.now in
     let disk : IsDisk d = c.blocks-blocks.ensures.disk in
-    ok-both c.changes_of.result _ c.changes_of.ensures.changes c.changes_of.ensures.name (λ plan is name. plan-keeps d op plan.items disk sound name is)
+    ok-both c.changes_of.result _ c.changes_of.ensures.changes c.changes_of.ensures.name
+    (λ plan is name. plan-keeps d op plan.items disk sound name is)
 
 pub returns-clause-means : goal.returns-clause-means
 returns-clause-means g c = λ sound.
     let d = c.args.image.now in
     let op = c.args.op.now in
     let disk : IsDisk d = c.blocks-blocks.ensures.disk in
-    ok-both c.changes_of.result _ c.changes_of.ensures.changes c.changes_of.ensures.name (λ plan is name. plan-means d op plan.items disk sound name is)
+    ok-both c.changes_of.result _ c.changes_of.ensures.changes c.changes_of.ensures.name
+    (λ plan is name. plan-means d op plan.items disk sound name is)

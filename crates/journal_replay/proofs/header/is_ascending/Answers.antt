@@ -8,4 +8,5 @@ short (x ∷ []) h = refl
 short (x ∷ y ∷ ys) h = absurd (omega arith)
 
 pub returns : goal.returns
-returns c = sym (short (drop (c.loop-i.i - 1) c.args.numbers.now) (omega (arith, length-drop (c.loop-i.i - 1) c.args.numbers.now))) ∙ c.loop-i.invariant
+returns c = sym (short (drop (c.loop-i.i - 1) c.args.numbers.now)
+    (omega (arith, length-drop (c.loop-i.i - 1) c.args.numbers.now))) ∙ c.loop-i.invariant

@@ -7,8 +7,10 @@ loop-block-init c = record { old = λ id member. member; more = first_none c.arg
 
 pub loop-block-preserved : goal.loop-block-preserved
 loop-block-preserved c = record {
-  old = subset_more c.args.set c.loop-block.all c.with-all.result c.from.result c.with-all.ensures c.loop-block.invariant.old;
-  more = first_more c.loop-block.all c.with-all.result c.from.result c.loop-block.block-index c.args.blocks.now c.with-all.ensures c.from.ensures c.loop-block.invariant.more;
+  old = subset_more c.args.set c.loop-block.all c.with-all.result c.from.result c.with-all.ensures
+      c.loop-block.invariant.old;
+  more = first_more c.loop-block.all c.with-all.result c.from.result c.loop-block.block-index c.args.blocks.now
+      c.with-all.ensures c.from.ensures c.loop-block.invariant.more;
 }
 
 pub returns-clause-more : goal.returns-clause-more

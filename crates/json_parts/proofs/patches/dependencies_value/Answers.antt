@@ -12,5 +12,8 @@ loop-earlier-init g c = λ q at. rw (c.new-after.ensures.items, some_below-zero)
 
 pub loop-earlier-preserved : goal.loop-earlier-preserved
 loop-earlier-preserved g c = λ q at.
-    data_more dependency_data c.loop-earlier.earlier (dependency_at c.args.traced.now q) (map view c.loop-earlier.after.items) (map view c.push_some.new.values.items) (option_map view c.in_ok-dependency.dependency) (c.loop-earlier.invariant q at)
-    (c.in_ok-dependency.ensures q at) (view_listed view c.loop-earlier.after.items c.push_some.new.values.items c.in_ok-dependency.dependency c.in_ok-push_some.ensures)
+    data_more dependency_data c.loop-earlier.earlier (dependency_at c.args.traced.now q)
+    (map view c.loop-earlier.after.items) (map view c.push_some.new.values.items)
+    (option_map view c.in_ok-dependency.dependency) (c.loop-earlier.invariant q at)
+    (c.in_ok-dependency.ensures q at) (view_listed view c.loop-earlier.after.items c.push_some.new.values.items
+    c.in_ok-dependency.dependency c.in_ok-push_some.ensures)

@@ -9,4 +9,5 @@ use Rattle.json_parts.proofs.patches.dependencies_value.Given as goal
 
 abbrev pub invariant-loop-earlier : goal.invariant-loop-earlier
 invariant-loop-earlier g l =
-    (q : Emitted) → slice_get l.traced.emitted l.later ≡ Some q → map view l.after.items ≡ map dependency_data (some_below l.earlier (dependency_at l.traced q))
+    (q : Emitted) → slice_get l.traced.emitted l.later ≡ Some q
+    → map view l.after.items ≡ map dependency_data (some_below l.earlier (dependency_at l.traced q))

@@ -13,7 +13,10 @@ returns g c =
     let t = c.args.traced.now in
     let p = c.patch.result.now in
     let q = emitted_at (place p.block p.offset p.new.items) c.label.result.now in
-    let there : slice_get t.patches c.args.id ≡ Some p = subst (λ (ps : List Patch). slice_get ps c.args.id ≡ Some p) c.graph.ensures c.patch.ensures.at in
+    let there : slice_get t.patches c.args.id ≡ Some p = subst (λ (ps : List Patch). slice_get ps c.args.id ≡ Some p)
+    c.graph.ensures c.patch.ensures.at in
     let at = c.label.ensures.patch p there in
-    told_written t c.args.id q p.undo.items (view c.in_ok-after.after) c.patch_object.result (told_is t c.args.id q p at there) (c.in_ok-after.ensures q at) c.patch_object.ensures.value c.patch_object.ensures.new c.patch_object.ensures.undo
+    told_written t c.args.id q p.undo.items (view c.in_ok-after.after) c.patch_object.result
+    (told_is t c.args.id q p at there) (c.in_ok-after.ensures q at) c.patch_object.ensures.value
+    c.patch_object.ensures.new c.patch_object.ensures.undo
     c.patch_object.ensures.act

@@ -7,4 +7,5 @@ use Rattle.json_parts.proofs.values.ids_value.Given as goal
 
 -- with the ids that are left the values are whole
 abbrev pub invariant-loop-id : goal.invariant-loop-id
-invariant-loop-id l = map view l.ids.items ++ map number_data (ids_left l.id-iterator) ≡ map number_data (ids_of l.fn.patches l.fn.set)
+invariant-loop-id l = map view l.ids.items ++ map number_data (ids_left l.id-iterator)
+    ≡ map number_data (ids_of l.fn.patches l.fn.set)

@@ -12,4 +12,5 @@ returns g c =
     let s = section_of c.args.section.now in
     let wrote = c.in_ok-put_section.ensures in
     section_written c.args.patches s _ wrote.bytes
-    (view-Object c.put_section.new.members ∙ ap object (wrote.members ∙ ap (λ es. section_put c.args.patches s (members_view es)) c.new-members.ensures.empty))
+    (view-Object c.put_section.new.members ∙ ap object (wrote.members
+    ∙ ap (λ es. section_put c.args.patches s (members_view es)) c.new-members.ensures.empty))

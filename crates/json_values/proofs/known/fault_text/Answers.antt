@@ -9,5 +9,7 @@ use Rattle.json_values.proofs.known.fault_text.Goals as goal
 pub returns : goal.returns
 returns c =
     let value = view c.in_ok-value.value in
-    IfOk-weaker c.to_string.result (λ text. has_float value ≡ false → string_bytes text ≡ compact_text value) (λ text. string_bytes text ≡ fault_json c.args.fault)
-    (λ text told. told (ap has_float c.in_ok-value.ensures ∙ refl) ∙ (ap compact_text c.in_ok-value.ensures ∙ fault_bytes c.args.fault)) c.to_string.ensures.text
+    IfOk-weaker c.to_string.result (λ text. has_float value ≡ false → string_bytes text ≡ compact_text value)
+    (λ text. string_bytes text ≡ fault_json c.args.fault)
+    (λ text told. told (ap has_float c.in_ok-value.ensures ∙ refl)
+    ∙ (ap compact_text c.in_ok-value.ensures ∙ fault_bytes c.args.fault)) c.to_string.ensures.text

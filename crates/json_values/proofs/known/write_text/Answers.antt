@@ -9,5 +9,7 @@ use Rattle.json_values.proofs.known.write_text.Goals as goal
 pub returns : goal.returns
 returns c =
     let value = view c.in_ok-value.value in
-    IfOk-weaker c.to_string.result (λ text. has_float value ≡ false → string_bytes text ≡ compact_text value) (λ text. string_bytes text ≡ write_json c.args.patches c.args.write)
-    (λ text told. told (ap has_float c.in_ok-value.ensures ∙ write_no_float c.args.patches c.args.write) ∙ (ap compact_text c.in_ok-value.ensures ∙ write_bytes c.args.patches c.args.write)) c.to_string.ensures.text
+    IfOk-weaker c.to_string.result (λ text. has_float value ≡ false → string_bytes text ≡ compact_text value)
+    (λ text. string_bytes text ≡ write_json c.args.patches c.args.write)
+    (λ text told. told (ap has_float c.in_ok-value.ensures ∙ write_no_float c.args.patches c.args.write)
+    ∙ (ap compact_text c.in_ok-value.ensures ∙ write_bytes c.args.patches c.args.write)) c.to_string.ensures.text

@@ -12,4 +12,5 @@ returns g c =
     let rule = told_rule c.args.rule.now in
     let wrote = c.in_ok-put_rule.ensures in
     told_rule_written c.args.patches rule wrote.0 _ wrote.1
-    (view-Object c.put_rule.new.members ∙ ap object (wrote.2 ∙ ap (λ es. rule_put rule wrote.0 (members_view es)) c.new-members.ensures.empty))
+    (view-Object c.put_rule.new.members ∙ ap object (wrote.2
+    ∙ ap (λ es. rule_put rule wrote.0 (members_view es)) c.new-members.ensures.empty))

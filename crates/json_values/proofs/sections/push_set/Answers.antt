@@ -9,5 +9,7 @@ write_value-requires c = ap has_float c.in_ok-value.ensures ∙ ids_no_float c.a
 
 pub returns : goal.returns
 returns c =
-    subst (λ (text : List ℕ). OnOk c.write_value.result (string_bytes c.write_value.new.out ≡ string_bytes c.args.out.now ++ text)) (ap compact_text c.in_ok-value.ensures ∙ ids_bytes c.args.patches c.args.set)
+    subst (λ (text : List ℕ). OnOk c.write_value.result (string_bytes c.write_value.new.out
+    ≡ string_bytes c.args.out.now ++ text)) (ap compact_text c.in_ok-value.ensures
+    ∙ ids_bytes c.args.patches c.args.set)
     c.write_value.ensures

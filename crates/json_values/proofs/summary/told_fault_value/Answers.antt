@@ -13,4 +13,5 @@ returns g c =
     let first = section_of c.args.first.now in
     let wrote = c.in_ok-put_fault.ensures in
     fault_written c.args.patches row first _ wrote.bytes
-    (view-Object c.put_fault.new.members ∙ ap object (wrote.members ∙ ap (λ es. fault_put c.args.patches row first (members_view es)) c.new-members.ensures.empty))
+    (view-Object c.put_fault.new.members ∙ ap object (wrote.members
+    ∙ ap (λ es. fault_put c.args.patches row first (members_view es)) c.new-members.ensures.empty))

@@ -8,7 +8,9 @@ use Rattle.order_modules.proofs.base.build_base.Goals as goal
 
 pub returns-in_default : goal.returns-in_default
 returns-in_default g c =
-    let split : drop c.loop-step.step-index c.args.steps.now ≡ c.step-item.result ∷ drop (c.loop-step.step-index + 1) c.args.steps.now = drop_step c.args.steps.now c.loop-step.step-index c.step-item.result c.loop-step-test.true c.step-item.is in record {
+    let split : drop c.loop-step.step-index c.args.steps.now ≡ c.step-item.result ∷ drop (c.loop-step.step-index + 1)
+    c.args.steps.now = drop_step c.args.steps.now c.loop-step.step-index c.step-item.result c.loop-step-test.true
+    c.step-item.is in record {
       built = search rules;
       refused = search rules;
       before = search rules;
@@ -17,21 +19,33 @@ returns-in_default g c =
       means = λ _. tt;
       stops = λ sound.
           let fault = GroupFault c.step-item.result.line in
-          let there : StepsStop c.loop-step.image (c.step-item.result ∷ drop (c.loop-step.step-index + 1) c.args.steps.now) c.loop-step.image fault = inl (inr (c.in_default.not-Do, refl), refl) in
-          c.loop-step.invariant.stops sound c.loop-step.image fault (subst (λ (l : List Step). StepsStop c.loop-step.image l c.loop-step.image fault) (sym split) there);
+          let there : StepsStop c.loop-step.image (c.step-item.result ∷ drop (c.loop-step.step-index + 1)
+          c.args.steps.now) c.loop-step.image fault = inl (inr (c.in_default.not-Do, refl), refl) in
+          c.loop-step.invariant.stops sound c.loop-step.image fault
+          (subst (λ (l : List Step). StepsStop c.loop-step.image l c.loop-step.image fault) (sym split) there);
     }
 
 pub loop-step-preserved : goal.loop-step-preserved
 loop-step-preserved g c =
     let d = c.loop-step.image in
     let next = c.apply.new.image in
-    let split : drop c.loop-step.step-index c.args.steps.now ≡ c.step-item.result ∷ drop (c.loop-step.step-index + 1) c.args.steps.now = drop_step c.args.steps.now c.loop-step.step-index c.step-item.result c.loop-step-test.true c.step-item.is in
-    let turn : IsSound c.args.image.now → StepTurns d c.step-item.result next = λ sound. (c.in-Do.op, c.in-Do.is, rw c.apply.ensures.changes (c.in-Ok.ensures.means (c.loop-step.invariant.sound sound))) in record {
+    let split : drop c.loop-step.step-index c.args.steps.now ≡ c.step-item.result ∷ drop (c.loop-step.step-index + 1)
+    c.args.steps.now = drop_step c.args.steps.now c.loop-step.step-index c.step-item.result c.loop-step-test.true
+    c.step-item.is in
+    let turn : IsSound c.args.image.now → StepTurns d c.step-item.result next =
+    λ sound. (
+      c.in-Do.op,
+      c.in-Do.is,
+      rw c.apply.ensures.changes
+          (c.in-Ok.ensures.means (c.loop-step.invariant.sound sound)),
+    ) in record {
       built = search rules;
       journal = search rules;
       same_journal = search rules;
       sound = search rules;
-      means = λ sound. turns_on c.args.image.now d next c.args.steps.now c.loop-step.step-index c.step-item.result split (turn sound) (c.loop-step.invariant.means sound);
-      stops = λ sound. stops_on c.args.image.now d next c.args.steps.now c.loop-step.step-index c.step-item.result split (turn sound) (c.loop-step.invariant.stops sound);
+      means = λ sound. turns_on c.args.image.now d next c.args.steps.now c.loop-step.step-index c.step-item.result split
+          (turn sound) (c.loop-step.invariant.means sound);
+      stops = λ sound. stops_on c.args.image.now d next c.args.steps.now c.loop-step.step-index c.step-item.result split
+          (turn sound) (c.loop-step.invariant.stops sound);
       before = search rules;
     }

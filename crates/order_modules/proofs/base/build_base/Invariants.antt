@@ -13,7 +13,9 @@ invariant-loop-step g l = record {
   journal : HasSameJournal l.fn.image l.image;
   same_journal : l.image.journal ≡ l.fn.image.journal;
   sound : IsSound l.fn.image → IsSound l.image;
-  means : IsSound l.fn.image → (end : Disk) → StepsTurn l.image (drop l.step-index l.steps) end → StepsTurn l.fn.image l.steps end;
-  stops : IsSound l.fn.image → (end : Disk) (fault : TraceFault) → StepsStop l.image (drop l.step-index l.steps) end fault → StepsStop l.fn.image l.steps end fault;
+  means : IsSound l.fn.image → (end : Disk) → StepsTurn l.image (drop l.step-index l.steps) end
+      → StepsTurn l.fn.image l.steps end;
+  stops : IsSound l.fn.image → (end : Disk) (fault : TraceFault)
+      → StepsStop l.image (drop l.step-index l.steps) end fault → StepsStop l.fn.image l.steps end fault;
   before : disk_before_refusal l.image (drop l.step-index l.steps) ≡ disk_before_refusal l.fn.image l.steps;
 }

@@ -23,12 +23,19 @@ loop-id-preserved c =
     let P = WaitsAt rules links labels later in
     elim c.if-waits.branch [
       | then-waits w ↦
-          let is : P id = (x, slice_get_read labels (length labels) id x refl c.loop-id-test.true c.index-labels-id.is, sym c.waits.ensures ∙ w.if-waits.true) in
-          subst (Collects P (id + 1)) (sym (w.ids-is ∙ w.with-ids.ensures)) (collects_one P id c.loop-id.ids c.loop-id.invariant is)
+          let is : P id = (
+            x,
+            slice_get_read labels (length labels) id x refl c.loop-id-test.true c.index-labels-id.is,
+            sym c.waits.ensures ∙ w.if-waits.true,
+          ) in
+          subst (Collects P (id + 1)) (sym (w.ids-is ∙ w.with-ids.ensures))
+          (collects_one P id c.loop-id.ids c.loop-id.invariant is)
       | else-waits w ↦
           subst (Collects P (id + 1)) (sym w.ids-is) (collects_skip P id c.loop-id.ids c.loop-id.invariant
           (λ is. let same : is.0 ≡ x = sym (get_or_from_slice_get labels id is.0 x is.1) ∙ sym c.index-labels-id.is in
-          let no : false ≡ true = sym w.if-waits.false ∙ c.waits.ensures ∙ subst (λ y. IsTrue (groups_depend links (emitted_of later) (emitted_of y) || list_any (λ rule. applies rule (emitted_of later) (emitted_of y)) rules)) same is.2 in cc))
+          let no : false ≡ true = sym w.if-waits.false ∙ c.waits.ensures
+          ∙ subst (λ y. IsTrue (groups_depend links (emitted_of later) (emitted_of y)
+          || list_any (λ rule. applies rule (emitted_of later) (emitted_of y)) rules)) same is.2 in cc))
     ]
 
 pub returns : goal.returns

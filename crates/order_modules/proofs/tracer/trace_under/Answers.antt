@@ -17,8 +17,10 @@ returns-clause-ok g c =
     let made = c.in_ok-traced.ensures.ok in (
       made.0,
       subst (λ (k : Module). trace_from k (trace_start base) steps ≡ Ok made.0) c.of-ordering.ensures.«module» made.1,
-      subst (λ (patches : List Patch). IsGraphOf (rules_of c.args.«module») base made.0 patches) (sym c.into_graph.ensures)
-          (subst (λ (rules : List Rule). IsGraphOf rules base made.0 c.in_ok-traced.traced.patches) c.of-ordering.ensures.rules made.2),
+      subst (λ (patches : List Patch). IsGraphOf (rules_of c.args.«module») base made.0 patches)
+          (sym c.into_graph.ensures)
+          (subst (λ (rules : List Rule). IsGraphOf rules base made.0 c.in_ok-traced.traced.patches)
+          c.of-ordering.ensures.rules made.2),
     )
 
 pub returns-clause-full : goal.returns-clause-full
@@ -26,5 +28,7 @@ returns-clause-full g c = λ full sound zeros.
     let base = c.args.image.now in
     let steps = c.args.steps.now in
     let rules = c.of-ordering.result.rules.items in
-    let among : AreAmong (rules_of Full) rules = subst (λ (all : List Rule). AreAmong (rules_of Full) all) (sym (c.of-ordering.ensures.rules ∙ ap rules_of full)) (All-contains_itself (rules_of Full)) in
-    subst (λ (patches : List Patch). IsFullSafe base steps patches) (sym c.into_graph.ensures) (c.in_ok-traced.ensures.full (c.of-ordering.ensures.«module» ∙ full) among sound zeros)
+    let among : AreAmong (rules_of Full) rules = subst (λ (all : List Rule). AreAmong (rules_of Full) all)
+    (sym (c.of-ordering.ensures.rules ∙ ap rules_of full)) (All-contains_itself (rules_of Full)) in
+    subst (λ (patches : List Patch). IsFullSafe base steps patches) (sym c.into_graph.ensures)
+    (c.in_ok-traced.ensures.full (c.of-ordering.ensures.«module» ∙ full) among sound zeros)

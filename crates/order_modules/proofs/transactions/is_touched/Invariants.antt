@@ -5,4 +5,5 @@ use Rattle.order_modules.specs.Transactions.{changes_in_place}
 use Rattle.order_modules.proofs.transactions.is_touched.Given as goal
 
 abbrev pub invariant-loop-change : goal.invariant-loop-change
-invariant-loop-change l = list_any (λ c. c.block == l.block) (changes_in_place l.module (take l.change-index l.changes)) ≡ false
+invariant-loop-change l = list_any (λ c. c.block == l.block) (changes_in_place l.module (take l.change-index l.changes))
+    ≡ false

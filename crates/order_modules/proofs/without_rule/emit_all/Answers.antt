@@ -25,8 +25,10 @@ emit-requires-clause-block g c =
     let id = c.loop-id.id in
     let within : id < length graph = omega (arith, c.loop-id-test.true, c.len-id-end.ensures.number) in
     let fits : (get_or graph id patch).block < c.args.log.now.base.blocks = c.requires.fits id patch within in
-    let same : (get_or graph id patch).block ≡ patch.block = ap (λ (p : Patch). p.block) (get_or_from_slice_get graph id patch patch c.patch-patch.ensures.at) in
-    let based : c.loop-id.log.base.blocks ≡ c.args.log.now.base.blocks = ap (λ (d : Disk). d.blocks) c.loop-id.invariant.base in
+    let same : (get_or graph id patch).block ≡ patch.block =
+    ap (λ (p : Patch). p.block) (get_or_from_slice_get graph id patch patch c.patch-patch.ensures.at) in
+    let based : c.loop-id.log.base.blocks ≡ c.args.log.now.base.blocks =
+    ap (λ (d : Disk). d.blocks) c.loop-id.invariant.base in
     omega (arith, fits, same, based)
 
 pub emit-requires-clause-room : goal.emit-requires-clause-room
@@ -54,9 +56,16 @@ loop-id-preserved g c =
     let label : Label = c.index-labels-id.result in
     let before : List Emitted = emitted_by (places_of graph) (take id labels) in
     let one : Emitted = emitted_at (place patch.block patch.offset patch.new.items) label in
-    let inside : id < length labels = omega (arith, c.loop-id-test.true, c.len-id-end.ensures.number, c.requires.labelled) in
+    let inside : id < length labels = omega (
+      arith,
+      c.loop-id-test.true,
+      c.len-id-end.ensures.number,
+      c.requires.labelled,
+    ) in
     let added : Adds c.loop-id.log c.emit.new.self (one ∷ []) =
-    subst (λ (bytes : List ℕ). Adds c.loop-id.log c.emit.new.self (emitted_at (place patch.block patch.offset bytes) label ∷ [])) c.as_slice.ensures.value c.in_ok-emit.ensures.ok in
+    subst (λ (bytes : List ℕ). Adds c.loop-id.log c.emit.new.self
+    (emitted_at (place patch.block patch.offset bytes) label ∷ [])) c.as_slice.ensures.value
+    c.in_ok-emit.ensures.ok in
     adds-same log c.emit.new.self (before ++ one ∷ []) (emitted_by (places_of graph) (take (id + 1) labels))
     (sym (emitted_more graph labels id label patch inside c.index-labels-id.is c.patch-patch.ensures.at))
     (adds-then log c.loop-id.log c.emit.new.self before (one ∷ []) c.loop-id.invariant added)

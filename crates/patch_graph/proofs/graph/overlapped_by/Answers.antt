@@ -17,11 +17,19 @@ loop-id-preserved c =
     let x = c.index-patches-id.result in
     elim c.if-overlaps.branch [
       | then-overlaps w ↦
-          let is : OverlapsAt patches later id = (x, at_read patches id x c.loop-id-test.true c.index-patches-id.is, c.overlaps.ensures.0 w.if-overlaps.true) in
-          subst (Collects (OverlapsAt patches later) (id + 1)) (sym (w.ids-is ∙ w.with-ids.ensures)) (collects_one (OverlapsAt patches later) id c.loop-id.ids c.loop-id.invariant is)
+          let is : OverlapsAt patches later id = (
+            x,
+            at_read patches id x c.loop-id-test.true c.index-patches-id.is,
+            c.overlaps.ensures.0 w.if-overlaps.true,
+          ) in
+          subst (Collects (OverlapsAt patches later) (id + 1)) (sym (w.ids-is ∙ w.with-ids.ensures))
+          (collects_one (OverlapsAt patches later) id c.loop-id.ids c.loop-id.invariant is)
       | else-overlaps w ↦
-          subst (Collects (OverlapsAt patches later) (id + 1)) (sym w.ids-is) (collects_skip (OverlapsAt patches later) id c.loop-id.ids c.loop-id.invariant
-          (λ is. let no : false ≡ true = sym w.if-overlaps.false ∙ c.overlaps.ensures.1 (subst (λ y. Overlaps y later) (same_at patches id x c.loop-id-test.true c.index-patches-id.is is.0 is.1) is.2) in cc))
+          subst (Collects (OverlapsAt patches later) (id + 1)) (sym w.ids-is)
+          (collects_skip (OverlapsAt patches later) id c.loop-id.ids c.loop-id.invariant
+          (λ is. let no : false ≡ true = sym w.if-overlaps.false
+          ∙ c.overlaps.ensures.1 (subst (λ y. Overlaps y later)
+          (same_at patches id x c.loop-id-test.true c.index-patches-id.is is.0 is.1) is.2) in cc))
     ]
 
 pub returns : goal.returns

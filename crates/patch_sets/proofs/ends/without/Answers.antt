@@ -6,4 +6,5 @@ pub returns-clause-others : goal.returns-clause-others
 returns-clause-others c = without_id c.args.set c.args.id c.requires c.ranges.set.fits
 
 pub returns-clause-smaller : goal.returns-clause-smaller
-returns-clause-smaller c = smaller_without c.args.set c.args.id _ (and_le_l c.args.set _) (without_id c.args.set c.args.id c.requires c.ranges.set.fits)
+returns-clause-smaller c = smaller_without c.args.set c.args.id _ (and_le_l c.args.set _)
+    (without_id c.args.set c.args.id c.requires c.ranges.set.fits)

@@ -14,5 +14,6 @@ no_rule = same_rule (Change InodeInit) (Change InodeInit)
 pub loop-at-preserved : goal.loop-at-preserved
 loop-at-preserved c =
     let text = json_string (rule_text (get_or c.args.rules.now c.loop-at.at no_rule)) in
-    taken_more (λ r. json_string (rule_text r)) c.args.rules.now c.loop-at.at no_rule (string_bytes c.args.out.now) (string_bytes c.loop-at.out) (string_bytes c.write.new.self) text c.loop-at-test.true c.loop-at.invariant refl
+    taken_more (λ r. json_string (rule_text r)) c.args.rules.now c.loop-at.at no_rule (string_bytes c.args.out.now)
+    (string_bytes c.loop-at.out) (string_bytes c.write.new.self) text c.loop-at-test.true c.loop-at.invariant refl
     (c.in_ok-write.ensures.bytes ∙ ap (λ (t : List ℕ). t ++ text) c.in_ok-write_comma.ensures)

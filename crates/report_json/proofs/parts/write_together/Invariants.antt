@@ -3,4 +3,5 @@ use Rattle.report_json.specs.JsonReport.{WritesSections}
 use Rattle.report_json.proofs.parts.write_together.Given as goal
 
 abbrev pub invariant-loop-at : goal.invariant-loop-at
-invariant-loop-at g l = WritesSections l.report.detail l.report.base.now l.report.traced.now.patches (take (l.at * l.size) l.sets) (string_bytes l.initial.out) (string_bytes l.out)
+invariant-loop-at g l = WritesSections l.report.detail l.report.base.now l.report.traced.now.patches
+    (take (l.at * l.size) l.sets) (string_bytes l.initial.out) (string_bytes l.out)

@@ -19,9 +19,18 @@ loop-block-preserved g c =
     let base = c.args.base.now in
     let n = c.loop-block.block in
     let blocks = map (block_of base) (range_with_len 0 n) in
-    let all : string_bytes c.loop-block.out ≡ string_bytes c.args.out.now ++ join_of 44 (map hex_json blocks) = c.loop-block.invariant in
-    let place : n ≡ length (map hex_json blocks) = omega (arith, length-map blocks hex_json, length-map-range_with_len (block_of base) 0 n) in
-    let is : compact_text _ ≡ hex_json (block_of base n) = ap compact_text c.in_ok-value.ensures.value ∙ (hex_bytes c.block.result.now c.in_ok-value.ensures.bytes ∙ ap hex_json c.block.ensures.bytes) in
-    item_more (map hex_json blocks) n (string_bytes c.args.out.now) (string_bytes c.loop-block.out) (string_bytes c.write_item.new.out) (hex_json (block_of base n)) place all
+    let all : string_bytes c.loop-block.out ≡ string_bytes c.args.out.now ++ join_of 44 (map hex_json blocks) =
+    c.loop-block.invariant in
+    let place : n ≡ length (map hex_json blocks) = omega (
+      arith,
+      length-map blocks hex_json,
+      length-map-range_with_len (block_of base) 0 n,
+    ) in
+    let is : compact_text _ ≡ hex_json (block_of base n) = ap compact_text c.in_ok-value.ensures.value
+    ∙ (hex_bytes c.block.result.now c.in_ok-value.ensures.bytes ∙ ap hex_json c.block.ensures.bytes) in
+    item_more (map hex_json blocks) n (string_bytes c.args.out.now) (string_bytes c.loop-block.out)
+    (string_bytes c.write_item.new.out) (hex_json (block_of base n)) place all
     (c.in_ok-write_item.ensures ∙ ap (λ (t : List ℕ). string_bytes c.loop-block.out ++ comma_before n ++ t) is)
-    ∙ ap (λ (ts : List (List ℕ)). string_bytes c.args.out.now ++ join_of 44 ts) (sym (ap (map hex_json) (map-range_with_len_more (block_of base) 0 n n (omega arith)) ∙ map-append hex_json blocks _))
+    ∙ ap (λ (ts : List (List ℕ)). string_bytes c.args.out.now ++ join_of 44 ts)
+    (sym (ap (map hex_json) (map-range_with_len_more (block_of base) 0 n n (omega arith))
+    ∙ map-append hex_json blocks _))

@@ -6,4 +6,5 @@ use Rattle.crash_model.specs.Lists.{join_of}
 use Rattle.report_json.proofs.patches.write_blocks.Given as goal
 
 abbrev pub invariant-loop-block : goal.invariant-loop-block
-invariant-loop-block g l = string_bytes l.out ≡ string_bytes l.initial.out ++ join_of 44 (map hex_json (map (block_of l.base) (range_with_len 0 l.block)))
+invariant-loop-block g l = string_bytes l.out ≡ string_bytes l.initial.out
+    ++ join_of 44 (map hex_json (map (block_of l.base) (range_with_len 0 l.block)))

@@ -15,4 +15,6 @@ write_item-requires g c = c.in_ok-value.ensures.2.plain
 pub loop-id-preserved : goal.loop-id-preserved
 loop-id-preserved g c =
     let told = c.in_ok-value.ensures in
-    tells_more told_json c.loop-id.id (told_at c.args.traced.now) told.0 (string_bytes c.args.out.now) (string_bytes c.loop-id.out) (string_bytes c.write_item.new.out) _ c.loop-id.invariant told.1 told.2.whole c.in_ok-write_item.ensures
+    tells_more told_json c.loop-id.id (told_at c.args.traced.now) told.0 (string_bytes c.args.out.now)
+    (string_bytes c.loop-id.out) (string_bytes c.write_item.new.out) _ c.loop-id.invariant told.1 told.2.whole
+    c.in_ok-write_item.ensures

@@ -10,7 +10,8 @@ use Rattle.report_json.proofs.report.write_each_fault.Goals as goal
 pub write_fault-requires : goal.write_fault-requires
 write_fault-requires g c =
     let rows = c.args.rows.now in
-    subst (λ (m : Reported). IsClosed (deps_of m.patches) (get_or rows c.loop-at.at no_row).first) (sym c.loop-at.invariant.maker)
+    subst (λ (m : Reported). IsClosed (deps_of m.patches) (get_or rows c.loop-at.at no_row).first)
+    (sym c.loop-at.invariant.maker)
     (first_closed c.args.maker.now.patches rows c.loop-at.at c.requires.closed c.loop-at-test.true)
 
 pub loop-at-preserved : goal.loop-at-preserved
@@ -20,8 +21,10 @@ loop-at-preserved g c =
     let before = c.loop-at.invariant in
     let wrote = c.in_ok-write_fault.ensures in
     let told = wrote.told in
-    let is = subst (λ (m : Reported). IsSection m.detail m.base m.patches (get_or rows c.loop-at.at no_row).first told.0) before.maker told.1 in
+    let is = subst (λ (m : Reported). IsSection m.detail m.base m.patches (get_or rows c.loop-at.at no_row).first
+    told.0) before.maker told.1 in
     record {
-      told = fault_more maker.detail maker.base maker.patches rows c.loop-at.at c.args.patches no_row _ _ _ _ told.0 c.loop-at-test.true c.requires.patches before.told is refl told.2;
+      told = fault_more maker.detail maker.base maker.patches rows c.loop-at.at c.args.patches no_row _ _ _ _ told.0
+          c.loop-at-test.true c.requires.patches before.told is refl told.2;
       maker = wrote.maker ∙ before.maker;
     }

@@ -14,6 +14,9 @@ returns-clause-told g c =
     let maker = c.args.maker.now in
     let before = string_bytes c.args.out.now ++ comma_before c.args.at in
     on_ok_weaker {P = string_bytes c.write_item.new.out ≡ before ++ compact_text (view c.in_ok-value.value)}
-    {Q = (s : Section _) × IsSection maker.detail maker.base maker.patches c.args.row.now.first s × (string_bytes c.write_item.new.out ≡ before ++ told_fault_json c.args.patches (record { row = c.args.row.now; first = section_of s }))}
+    {Q = (s : Section _) × IsSection maker.detail maker.base maker.patches c.args.row.now.first s
+    × (string_bytes c.write_item.new.out ≡ before ++ told_fault_json c.args.patches
+    (record { row = c.args.row.now; first = section_of s }))}
     c.write_item.result
-    (λ wrote. (first, c.in_ok-first.ensures.told, wrote ∙ ap (λ (t : List ℕ). before ++ t) c.in_ok-value.ensures.whole)) c.write_item.ensures
+    (λ wrote. (first, c.in_ok-first.ensures.told, wrote ∙ ap (λ (t : List ℕ). before ++ t) c.in_ok-value.ensures.whole))
+    c.write_item.ensures

@@ -15,9 +15,13 @@ returns-in_ok-push_str-in-Rules-2 g c = λ body tells.
     let patches = report.traced.now.patches in
     let rules = c.in-Rules.rules.now in
     let number : c.len.result ≡ length patches = cc in
-    let same : body ≡ whole.Rules (map told_rule rules) = subst (λ b. TellsBody report.detail report.base.now patches b body) c.in-Rules.is tells in
+    let same : body ≡ whole.Rules (map told_rule rules) =
+    subst (λ b. TellsBody report.detail report.base.now patches b body) c.in-Rules.is tells in
     let items = c.in_ok-write_rules-in-Rules.ensures
-    ∙ (ap (λ (k : ℕ). string_bytes c.push_str.new.self ++ join_of 44 (map (λ rule. told_rule_json k (told_rule rule)) rules)) number
-    ∙ ap (λ ts. string_bytes c.push_str.new.self ++ join_of 44 ts) (sym (map-map (told_rule_json (length patches)) told_rule rules))) in
-    array_pieces _ _ _ _ (codes ",\"rules\":") _ c.in_ok-push_str-in-Rules.ensures.bytes items c.in_ok-push_str-in-Rules-2.ensures.bytes
+    ∙ (ap (λ (k : ℕ). string_bytes c.push_str.new.self ++ join_of 44
+    (map (λ rule. told_rule_json k (told_rule rule)) rules)) number
+    ∙ ap (λ ts. string_bytes c.push_str.new.self ++ join_of 44 ts)
+    (sym (map-map (told_rule_json (length patches)) told_rule rules))) in
+    array_pieces _ _ _ _ (codes ",\"rules\":") _ c.in_ok-push_str-in-Rules.ensures.bytes items
+    c.in_ok-push_str-in-Rules-2.ensures.bytes
     ∙ ap (λ (b : whole.Body). string_bytes c.args.out.now ++ late_json (length patches) report.failing b) (sym same)

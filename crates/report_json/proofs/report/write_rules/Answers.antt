@@ -13,9 +13,15 @@ write_item-requires g c = c.in_ok-value.ensures.plain
 
 pub loop-at-preserved : goal.loop-at-preserved
 loop-at-preserved g c =
-    taken_more (λ rule. told_rule_json c.args.patches (told_rule rule)) c.args.rules.now c.loop-at.at c.index-rules-at.result (string_bytes c.args.out.now) (string_bytes c.loop-at.out) (string_bytes c.write_item.new.out) (compact_text (view c.in_ok-value.value)) c.loop-at-test.true c.loop-at.invariant
-    (c.in_ok-value.ensures.whole ∙ ap (λ rule. told_rule_json c.args.patches (told_rule rule)) (c.index-rules-at.is)) c.in_ok-write_item.ensures
+    taken_more (λ rule. told_rule_json c.args.patches (told_rule rule)) c.args.rules.now c.loop-at.at
+    c.index-rules-at.result (string_bytes c.args.out.now) (string_bytes c.loop-at.out)
+    (string_bytes c.write_item.new.out) (compact_text (view c.in_ok-value.value)) c.loop-at-test.true
+    c.loop-at.invariant
+    (c.in_ok-value.ensures.whole ∙ ap (λ rule. told_rule_json c.args.patches (told_rule rule)) (c.index-rules-at.is))
+    c.in_ok-write_item.ensures
 
 pub returns : goal.returns
 returns g c =
-    c.loop-at.invariant ∙ ap (λ rs. string_bytes c.args.out.now ++ join_of 44 (map (λ rule. told_rule_json c.args.patches (told_rule rule)) rs)) (take_all c.loop-at.at c.args.rules.now c.loop-at-test.false)
+    c.loop-at.invariant ∙ ap (λ rs. string_bytes c.args.out.now
+    ++ join_of 44 (map (λ rule. told_rule_json c.args.patches (told_rule rule)) rs))
+    (take_all c.loop-at.at c.args.rules.now c.loop-at-test.false)

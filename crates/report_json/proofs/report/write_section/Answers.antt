@@ -12,6 +12,13 @@ returns-clause-told g c =
     let text = section_json c.args.known.now (section_of section) in
     let maker = c.args.maker.now in
     on_ok_weaker {P = string_bytes c.push_section.new.out ≡ string_bytes c.write_comma.new.out ++ text}
-    {Q = (s : Section _) × IsSection maker.detail maker.base maker.patches c.args.set s × (string_bytes c.push_section.new.out ≡ string_bytes c.args.out.now ++ comma_before c.args.at ++ section_json c.args.known.now (section_of s))}
+    {Q = (s : Section _) × IsSection maker.detail maker.base maker.patches c.args.set s
+    × (string_bytes c.push_section.new.out ≡ string_bytes c.args.out.now ++ comma_before c.args.at
+    ++ section_json c.args.known.now (section_of s))}
     c.push_section.result
-    (λ wrote. (section, c.in_ok-section.ensures.told, wrote ∙ ap (λ (t : List ℕ). t ++ text) c.in_ok-write_comma.ensures)) c.push_section.ensures.text
+    (λ wrote. (
+      section,
+      c.in_ok-section.ensures.told,
+      wrote
+          ∙ ap (λ (t : List ℕ). t ++ text) c.in_ok-write_comma.ensures,
+    )) c.push_section.ensures.text

@@ -3,4 +3,5 @@ use Rattle.crash_model.specs.Whole.{rule_lines}
 use Rattle.report_text.proofs.head.write_rule_lines.Given as goal
 
 abbrev pub invariant-loop-rule : goal.invariant-loop-rule
-invariant-loop-rule g l = string_bytes l.out ≡ string_bytes l.initial.out ++ rule_lines l.word (take l.rule-index l.rules)
+invariant-loop-rule g l = string_bytes l.out ≡ string_bytes l.initial.out
+    ++ rule_lines l.word (take l.rule-index l.rules)

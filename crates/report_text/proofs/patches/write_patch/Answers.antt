@@ -17,13 +17,18 @@ loop-earlier-init g c = λ q at. rw (some_below-zero, append-nil) refl
 
 pub loop-earlier-preserved : goal.loop-earlier-preserved
 loop-earlier-preserved g c = λ q at.
-    below_told dependency_text c.loop-earlier.earlier (dependency_at c.args.traced.now q) (string_bytes c.write_label.new.out) (string_bytes c.loop-earlier.out) (string_bytes c.write_dependency.new.out) (c.loop-earlier.invariant q at) (c.in_ok-write_dependency.ensures q at)
+    below_told dependency_text c.loop-earlier.earlier (dependency_at c.args.traced.now q)
+    (string_bytes c.write_label.new.out) (string_bytes c.loop-earlier.out) (string_bytes c.write_dependency.new.out)
+    (c.loop-earlier.invariant q at) (c.in_ok-write_dependency.ensures q at)
 
 pub returns : goal.returns
 returns g c =
     let p = c.patch.result.now in
     let q = emitted_at (place p.block p.offset p.new.items) c.label.result.now in
-    let there : slice_get c.args.traced.now.patches c.args.id ≡ Some p = subst (λ (ps : List Patch). slice_get ps c.args.id ≡ Some p) c.graph.ensures c.patch.ensures.at in
+    let there : slice_get c.args.traced.now.patches c.args.id ≡ Some p =
+    subst (λ (ps : List Patch). slice_get ps c.args.id ≡ Some p) c.graph.ensures c.patch.ensures.at in
     let at = c.label.ensures.patch p there in
-    patch_told c.args.traced.now c.args.id q p (string_bytes c.args.out.now) (string_bytes c.write_label.new.out) (string_bytes c.loop-earlier.out) at there c.in_ok-write_label.ensures
-    (subst (λ (n : ℕ). string_bytes c.loop-earlier.out ≡ string_bytes c.write_label.new.out ++ flat_map dependency_text (some_below n (dependency_at c.args.traced.now q))) (omega arith) (c.loop-earlier.invariant q at))
+    patch_told c.args.traced.now c.args.id q p (string_bytes c.args.out.now) (string_bytes c.write_label.new.out)
+    (string_bytes c.loop-earlier.out) at there c.in_ok-write_label.ensures
+    (subst (λ (n : ℕ). string_bytes c.loop-earlier.out ≡ string_bytes c.write_label.new.out ++ flat_map dependency_text
+    (some_below n (dependency_at c.args.traced.now q))) (omega arith) (c.loop-earlier.invariant q at))

@@ -10,4 +10,5 @@ use Rattle.report_text.proofs.patches.write_patch.Given as goal
 abbrev pub invariant-loop-earlier : goal.invariant-loop-earlier
 invariant-loop-earlier g l =
     (q : Emitted) → slice_get l.traced.emitted l.id ≡ Some q
-    → string_bytes l.out ≡ string_bytes l.initial.out ++ flat_map dependency_text (some_below l.earlier (dependency_at l.traced q))
+    → string_bytes l.out ≡ string_bytes l.initial.out ++ flat_map dependency_text
+    (some_below l.earlier (dependency_at l.traced q))

@@ -11,4 +11,6 @@ loop-id-init g c = rw (some_below-zero, append-nil) refl
 
 pub loop-id-preserved : goal.loop-id-preserved
 loop-id-preserved g c =
-    below_told told_text c.loop-id.id (told_at c.args.traced.now) (string_bytes c.args.out.now) (string_bytes c.loop-id.out) (string_bytes c.write_patch.new.out) c.loop-id.invariant c.in_ok-write_patch.ensures
+    below_told told_text c.loop-id.id (told_at c.args.traced.now) (string_bytes c.args.out.now)
+    (string_bytes c.loop-id.out) (string_bytes c.write_patch.new.out) c.loop-id.invariant
+    c.in_ok-write_patch.ensures

@@ -6,4 +6,5 @@ use Rattle.traced_patches.specs.Traced.{told_at}
 use Rattle.report_text.proofs.patches.write_patches.Given as goal
 
 abbrev pub invariant-loop-id : goal.invariant-loop-id
-invariant-loop-id g l = string_bytes l.out ≡ string_bytes l.initial.out ++ flat_map told_text (some_below l.id (told_at l.traced))
+invariant-loop-id g l = string_bytes l.out ≡ string_bytes l.initial.out
+    ++ flat_map told_text (some_below l.id (told_at l.traced))

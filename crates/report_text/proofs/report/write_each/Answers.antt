@@ -19,9 +19,11 @@ loop-set-preserved g c =
     let maker = c.args.maker.now in
     let before = c.loop-set.invariant in
     let set = get_or c.args.sets.now c.loop-set.set-index 0 in
-    let one = subst (λ (m : Reported). WritesSections m.detail m.base m.patches (set ∷ []) (string_bytes c.loop-set.out) (string_bytes c.write_one.new.out)) before.same_maker c.in_ok-write_one.ensures.text in
+    let one = subst (λ (m : Reported). WritesSections m.detail m.base m.patches (set ∷ []) (string_bytes c.loop-set.out)
+    (string_bytes c.write_one.new.out)) before.same_maker c.in_ok-write_one.ensures.text in
     record {
-      told = section_more maker.detail maker.base maker.patches c.args.sets.now c.loop-set.set-index _ _ _ c.loop-set-test.true before.told one;
+      told = section_more maker.detail maker.base maker.patches c.args.sets.now c.loop-set.set-index
+          _ _ _ c.loop-set-test.true before.told one;
       same_maker = c.in_ok-write_one.ensures.maker ∙ before.same_maker;
       same_lines = c.in_ok-write_one.ensures.lines ∙ before.same_lines;
     }

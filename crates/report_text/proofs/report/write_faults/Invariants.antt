@@ -4,6 +4,11 @@ use Rattle.report_text.proofs.report.write_faults.Given as goal
 
 abbrev pub invariant-loop-row : goal.invariant-loop-row
 invariant-loop-row g l = record {
-  told : WritesFaults l.report.detail l.report.base.now l.report.traced.now.patches (take l.row-index l.rows) (string_bytes l.initial.out) (string_bytes l.out);
-  of_report : l.maker ≡ record { base = l.report.base.now; patches = l.report.traced.now.patches; detail = l.report.detail };
+  told : WritesFaults l.report.detail l.report.base.now l.report.traced.now.patches (take l.row-index l.rows)
+      (string_bytes l.initial.out) (string_bytes l.out);
+  of_report : l.maker ≡ record {
+    base = l.report.base.now;
+    patches = l.report.traced.now.patches;
+    detail = l.report.detail;
+  };
 }

@@ -11,13 +11,23 @@ use Rattle.report_text.proofs.report.write_one.Goals as goal
 pub returns-clause-text : goal.returns-clause-text
 returns-clause-text g c =
     let maker = c.args.maker.now in
-    section_one maker.detail maker.base maker.patches c.args.set c.patches.result c.tell.new.outcome _ (string_bytes c.write_set.new.out) (string_bytes c.push_writes.new.out) (string_bytes c.write_replay.new.out) _
-    (c.patches.ensures ∙ ap (λ (ps : List Patch). length ps) (sym c.requires.same)) c.in_ok-tell.ensures.told c.in_ok-write_set.ensures
-    (subst (λ (ps : List Patch). WritesRuns ps c.args.set (string_bytes c.write_set.new.out) (string_bytes c.push_writes.new.out)) (sym c.requires.same) c.in_ok-push_writes.ensures.text)
+    section_one maker.detail maker.base maker.patches c.args.set c.patches.result c.tell.new.outcome
+    _ (string_bytes c.write_set.new.out) (string_bytes c.push_writes.new.out) (string_bytes c.write_replay.new.out)
+    _
+    (c.patches.ensures ∙ ap (λ (ps : List Patch). length ps) (sym c.requires.same)) c.in_ok-tell.ensures.told
+    c.in_ok-write_set.ensures
+    (subst (λ (ps : List Patch). WritesRuns ps c.args.set (string_bytes c.write_set.new.out)
+    (string_bytes c.push_writes.new.out)) (sym c.requires.same) c.in_ok-push_writes.ensures.text)
     c.in_ok-write_replay.ensures
-    (c.in_ok-push_faults.ensures.text ∙ ap (λ (fs : List Fault). string_bytes c.write_replay.new.out ++ flat_map fault_line fs) c.deref.ensures.value)
+    (c.in_ok-push_faults.ensures.text ∙ ap (λ (fs : List Fault). string_bytes c.write_replay.new.out
+    ++ flat_map fault_line fs) c.deref.ensures.value)
 
 pub push_writes-requires : goal.push_writes-requires
 push_writes-requires g c = λ id has.
     let known = c.requires.closed.known id has in
-    omega (arith, known, length-map c.args.maker.now.patches (λ (p : Patch). p.deps), ap (λ (ps : List Patch). length ps) c.requires.same)
+    omega (
+      arith,
+      known,
+      length-map c.args.maker.now.patches (λ (p : Patch). p.deps),
+      ap (λ (ps : List Patch). length ps) c.requires.same,
+    )

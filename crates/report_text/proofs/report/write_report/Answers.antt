@@ -15,8 +15,10 @@ returns-in_ok-write_together-in-Sets g c =
     let number : c.len-patches.result ≡ length patches = cc in
     let wrote = c.in_ok-write_together-in-Sets.ensures in (
       whole.Sets wrote.sections,
-      subst (λ b. TellsBody report.detail report.base.now patches b (whole.Sets wrote.sections)) (sym c.in-Sets.is) (wrote.sections, wrote.are, refl),
-      whole_text report c.len-patches.result (whole.Sets wrote.sections) _ _ _ _ c.requires.empty number c.in_ok-write_head.ensures c.in_ok-write_explanation.ensures wrote.whole,
+      subst (λ b. TellsBody report.detail report.base.now patches b (whole.Sets wrote.sections)) (sym c.in-Sets.is)
+          (wrote.sections, wrote.are, refl),
+      whole_text report c.len-patches.result (whole.Sets wrote.sections) _ _ _ _ c.requires.empty number
+          c.in_ok-write_head.ensures c.in_ok-write_explanation.ensures wrote.whole,
     )
 
 pub returns-in_ok-write_faults-in-Faults : goal.returns-in_ok-write_faults-in-Faults
@@ -26,8 +28,10 @@ returns-in_ok-write_faults-in-Faults g c =
     let number : c.len-patches.result ≡ length patches = cc in
     let wrote = c.in_ok-write_faults-in-Faults.ensures in (
       whole.Faults wrote.told,
-      subst (λ b. TellsBody report.detail report.base.now patches b (whole.Faults wrote.told)) (sym c.in-Faults.is) (wrote.told, wrote.of_rows, wrote.firsts, refl),
-      whole_text report c.len-patches.result (whole.Faults wrote.told) _ _ _ _ c.requires.empty number c.in_ok-write_head.ensures c.in_ok-write_explanation.ensures wrote.whole,
+      subst (λ b. TellsBody report.detail report.base.now patches b (whole.Faults wrote.told)) (sym c.in-Faults.is)
+          (wrote.told, wrote.of_rows, wrote.firsts, refl),
+      whole_text report c.len-patches.result (whole.Faults wrote.told) _ _ _ _ c.requires.empty number
+          c.in_ok-write_head.ensures c.in_ok-write_explanation.ensures wrote.whole,
     )
 
 pub returns-in_ok-write_rules-in-Rules : goal.returns-in_ok-write_rules-in-Rules
@@ -40,7 +44,9 @@ returns-in_ok-write_rules-in-Rules g c =
     let before = string_bytes c.write_explanation.new.out in (
       whole.Rules told,
       subst (λ b. TellsBody report.detail report.base.now patches b (whole.Rules told)) (sym c.in-Rules.is) refl,
-      whole_text report c.len-patches.result (whole.Rules told) _ _ _ _ c.requires.empty number c.in_ok-write_head.ensures c.in_ok-write_explanation.ensures
-          (c.in_ok-write_rules-in-Rules.ensures ∙ (ap (λ (k : ℕ). before ++ flat_map (λ rule. told_rule_text k (told_rule rule)) rules) number
+      whole_text report c.len-patches.result (whole.Rules told) _ _ _ _ c.requires.empty number
+          c.in_ok-write_head.ensures c.in_ok-write_explanation.ensures
+          (c.in_ok-write_rules-in-Rules.ensures ∙ (ap (λ (k : ℕ). before
+          ++ flat_map (λ rule. told_rule_text k (told_rule rule)) rules) number
           ∙ ap (λ (t : List ℕ). before ++ t) (sym (flat_map-map (told_rule_text (length patches)) told_rule rules)))),
     )

@@ -5,4 +5,5 @@ use Rattle.report_sections.specs.ToldRules.{told_rule}
 use Rattle.report_text.proofs.rules.write_rules.Given as goal
 
 abbrev pub invariant-loop-rule : goal.invariant-loop-rule
-invariant-loop-rule g l = string_bytes l.out ≡ string_bytes l.initial.out ++ flat_map (λ rule. told_rule_text l.patches (told_rule rule)) (take l.rule-index l.rules)
+invariant-loop-rule g l = string_bytes l.out ≡ string_bytes l.initial.out
+    ++ flat_map (λ rule. told_rule_text l.patches (told_rule rule)) (take l.rule-index l.rules)

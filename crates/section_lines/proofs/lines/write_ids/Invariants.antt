@@ -6,7 +6,8 @@ use Rattle.section_lines.proofs.lines.write_ids.Given as goal
 
 -- with the ids that are left the text is whole
 abbrev pub invariant-loop-run : goal.invariant-loop-run
-invariant-loop-run g l = string_bytes l.out ++ numbers (ids_of most_ids l.left) ≡ string_bytes l.fn.out ++ numbers (ids_of l.fn.patches l.fn.set)
+invariant-loop-run g l = string_bytes l.out ++ numbers (ids_of most_ids l.left) ≡ string_bytes l.fn.out
+    ++ numbers (ids_of l.fn.patches l.fn.set)
 
 abbrev pub decreases-loop-run : goal.decreases-loop-run
 decreases-loop-run g l = l.left

@@ -6,4 +6,6 @@ use Rattle.section_lines.proofs.lines.write_replayed_blocks.Goals as goal
 
 pub loop-replayed-preserved : goal.loop-replayed-preserved
 loop-replayed-preserved g c =
-    mapped_told replayed_text told_block c.args.replay.now c.loop-replayed.replayed-index _ (string_bytes c.args.out.now) (string_bytes c.loop-replayed.out) (string_bytes c.write_replayed.new.out) c.loop-replayed-test.true c.loop-replayed.invariant c.in_ok-write_replayed.ensures
+    mapped_told replayed_text told_block c.args.replay.now c.loop-replayed.replayed-index
+    _ (string_bytes c.args.out.now) (string_bytes c.loop-replayed.out) (string_bytes c.write_replayed.new.out)
+    c.loop-replayed-test.true c.loop-replayed.invariant c.in_ok-write_replayed.ensures

@@ -5,4 +5,5 @@ use Rattle.report_sections.specs.Replay.{told_block}
 use Rattle.section_lines.proofs.lines.write_replayed_blocks.Given as goal
 
 abbrev pub invariant-loop-replayed : goal.invariant-loop-replayed
-invariant-loop-replayed g l = string_bytes l.out ≡ string_bytes l.initial.out ++ flat_map replayed_text (map told_block (take l.replayed-index l.replay))
+invariant-loop-replayed g l = string_bytes l.out ≡ string_bytes l.initial.out ++ flat_map replayed_text
+    (map told_block (take l.replayed-index l.replay))

@@ -1,4 +1,6 @@
-use Rattle.std.proofs.Common.{◌≡◌, ℕ, zero, suc, ◌+◌, ◌-◌, ◌/◌, ◌%◌, ◌<◌, ◌≤◌, ◌++◌, List, [], ◌∷◌, true, cond, inl, inr, map, take, drop, get_or, nat_lt, codes, decimal, IsAscii, refl, sym, ap, ap₂, ◌∙◌, arith}
+use Rattle.std.proofs.Common.{◌≡◌, ℕ, zero, suc, ◌+◌, ◌-◌, ◌/◌, ◌%◌, ◌<◌, ◌≤◌, ◌++◌, List, [], ◌∷◌, true, cond, inl}
+use Rattle.std.proofs.Common.{inr, map, take, drop, get_or, nat_lt, codes, decimal, IsAscii, refl, sym, ap, ap₂, ◌∙◌}
+use Rattle.std.proofs.Common.{arith}
 use Rattle.std.proofs.Math.Seq.{take-add}
 use Rattle.std.proofs.lemmas.Bool.{ltb-true, lt-ltb, le-ltb, cases_lt, and_parts}
 use Rattle.std.proofs.lemmas.Fmt.{decimal_digit}
@@ -19,7 +21,8 @@ abbrev shown : ℕ → List ℕ
 shown n = 32 ∷ cond (nat_lt n 10) ((48 + n) ∷ []) (cond (nat_lt n 100) (pair n) ((48 + n / 100) ∷ pair (n % 100)))
 
 decimal_three : (n : ℕ) → 100 ≤ n → n < 256 → decimal n ≡ (48 + n / 100) ∷ pair (n % 100)
-decimal_three n lo hi = decimal_pair n lo (omega arith) ∙ ap (λ (t : List ℕ). t ++ pair (n % 100)) (decimal_digit (n / 100) (omega arith))
+decimal_three n lo hi = decimal_pair n lo (omega arith)
+    ∙ ap (λ (t : List ℕ). t ++ pair (n % 100)) (decimal_digit (n / 100) (omega arith))
 
 shown_is : (n : ℕ) → n < 256 → shown n ≡ codes " " ++ decimal n
 shown_is n below = elim (cases_lt n 10) [
@@ -38,9 +41,11 @@ piece_is n h = sym (get_or-map-range_with_len piece 0 256 n n [] h (omega arith)
     ∙ ap (λ t. get_or t n []) table_is ∙ get_or-map-range_with_len shown 0 256 n n [] h (omega arith) ∙ shown_is n h
 
 -- a run starts with its first number
-run_is : (k a : ℕ) → a + k ≤ 256 → take (number_start (a + k) - number_start a) (drop (number_start a) NUMBERS.now) ≡ numbers (range_with_len a k)
+run_is : (k a : ℕ) → a + k ≤ 256 → take (number_start (a + k) - number_start a) (drop (number_start a) NUMBERS.now)
+    ≡ numbers (range_with_len a k)
 run_is zero a within =
-    ap (λ (n : ℕ). take n (drop (number_start a) NUMBERS.now)) (let e : number_start (a + 0) - number_start a ≡ 0 = omega arith in e)
+    ap (λ (n : ℕ). take n (drop (number_start a) NUMBERS.now))
+    (let e : number_start (a + 0) - number_start a ≡ 0 = omega arith in e)
 run_is (suc k) a within =
     let s = number_start a in
     let m = number_start (a + 1) - number_start a in
@@ -50,7 +55,8 @@ run_is (suc k) a within =
     ap (λ (t : ℕ). take t (drop s NUMBERS.now)) size
     ∙ (take-add m n (drop s NUMBERS.now)
     ∙ ap₂ (λ (x y : List ℕ). x ++ y) (piece_is a (omega arith))
-    (ap (take n) (drop-drop m s NUMBERS.now ∙ ap (λ (t : ℕ). drop t NUMBERS.now) next) ∙ run_is k (a + 1) (omega arith)))
+    (ap (take n) (drop-drop m s NUMBERS.now ∙ ap (λ (t : ℕ). drop t NUMBERS.now) next)
+    ∙ run_is k (a + 1) (omega arith)))
 
 ascii_from : (bs : List ℕ) → list_all (λ b. nat_lt b 128) bs ≡ true → IsAscii bs
 ascii_from [] e = IsAscii-nil
@@ -66,13 +72,19 @@ range-requires-clause-start_boundary c =
     λ _. (omega arith, λ a b. absurd (omega (arith, IsAscii-table c.number_start.result)))
 
 pub range-requires-clause-end_boundary : goal.range-requires-clause-end_boundary
-range-requires-clause-end_boundary c = (omega arith, λ a b. absurd (omega (arith, IsAscii-table c.number_start-2.result)))
+range-requires-clause-end_boundary c = (
+  omega arith,
+  λ a b.
+      absurd (omega (arith, IsAscii-table c.number_start-2.result)),
+)
 
 pub returns : goal.returns
 returns c =
     let from = c.args.from in
     let end = c.args.end in
     let whole : from + (end - from) ≡ end = omega arith in
-    let read : c.range.result.now ≡ take (c.number_start-2.result - c.number_start.result) (drop c.number_start.result NUMBERS.now) = c.range.ensures.value in
-    read ∙ ap₂ (λ (s t : ℕ). take (t - s) (drop s NUMBERS.now)) c.number_start.ensures (c.number_start-2.ensures ∙ ap number_start (sym whole))
+    let read : c.range.result.now ≡ take (c.number_start-2.result - c.number_start.result)
+    (drop c.number_start.result NUMBERS.now) = c.range.ensures.value in
+    read ∙ ap₂ (λ (s t : ℕ). take (t - s) (drop s NUMBERS.now)) c.number_start.ensures
+    (c.number_start-2.ensures ∙ ap number_start (sym whole))
     ∙ run_is (end - from) from (omega arith)

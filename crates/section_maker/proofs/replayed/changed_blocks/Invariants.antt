@@ -8,4 +8,5 @@ use Rattle.section_maker.proofs.replayed.changed_blocks.Given as goal
 abbrev pub invariant-loop-block : goal.invariant-loop-block
 invariant-loop-block g l =
     map told_block l.changed.items
-    ≡ some_below l.block (λ b. when (not (bytes_eq (block_of l.before b) (block_of l.after b))) (record { block = b; bytes = block_of l.after b }))
+    ≡ some_below l.block (λ b. when (not (bytes_eq (block_of l.before b) (block_of l.after b)))
+    (record { block = b; bytes = block_of l.after b }))

@@ -12,7 +12,9 @@ loop-id-preserved c =
     let before = c.loop-id.closures in
     record {
       long = length-set before c.loop-id.id c.closure_of.result ∙ c.loop-id.invariant.long;
-      each = closures_set c.args.deps.now before c.loop-id.id c.closure_of.result (omega (arith, c.loop-id-test.true, c.loop-id.invariant.long, c.requires.few)) c.loop-id.invariant.each c.closure_of.ensures;
+      each = closures_set c.args.deps.now before c.loop-id.id c.closure_of.result
+          (omega (arith, c.loop-id-test.true, c.loop-id.invariant.long, c.requires.few)) c.loop-id.invariant.each
+          c.closure_of.ensures;
     }
 
 pub returns : goal.returns

@@ -9,10 +9,12 @@ in_canonical_order-requires g c =
     swept.told.ascend swept.closed.ascend
 
 pub returns-clause-total : goal.returns-clause-total
-returns-clause-total g c = sweep_counts _ c.args.deps.now c.in_ok-swept.swept.total c.in_ok-swept.swept.tally c.in_ok-swept.ensures.swept
+returns-clause-total g c = sweep_counts _ c.args.deps.now c.in_ok-swept.swept.total c.in_ok-swept.swept.tally
+    c.in_ok-swept.ensures.swept
 
 pub returns-clause-broken : goal.returns-clause-broken
 returns-clause-broken g c =
     let swept = c.in_ok-swept.ensures.swept in
     let good = g.S.Space.is_good c.args.space.now in
-    picked_in_order (IsClosed c.args.deps.now) (λ set. good set → ⊥) swept.sets c.in_ok-swept.swept.tally.items c.in_ok-in_canonical_order.field-0.items swept.closed swept.told c.in_ok-in_canonical_order.ensures
+    picked_in_order (IsClosed c.args.deps.now) (λ set. good set → ⊥) swept.sets c.in_ok-swept.swept.tally.items
+    c.in_ok-in_canonical_order.field-0.items swept.closed swept.told c.in_ok-in_canonical_order.ensures

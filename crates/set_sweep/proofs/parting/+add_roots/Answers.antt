@@ -13,7 +13,8 @@ loop-id-init g t c =
     let low = c.args.low in
     let set = c.args.set in
     let next = c.next_out-id.ensures in
-    let pushed = parts_push deps low set c.args.roots.now.items c.requires.parts (root_lower deps c.args.k low set c.requires.known.0 c.requires.root) in
+    let pushed = parts_push deps low set c.args.roots.now.items c.requires.parts
+    (root_lower deps c.args.k low set c.requires.known.0 c.requires.root) in
     record {
       up = next.from;
       at = outside_next c.args.k c.requires.known.0 next;
@@ -42,7 +43,8 @@ add_roots-requires g t c κs within =
     )
 
 pub next_out-id-requires-in-loop-id-clause-small : goal.next_out-id-requires-in-loop-id-clause-small
-next_out-id-requires-in-loop-id-clause-small g t c = set_small c.args.deps.now c.args.set c.requires.root.closed c.requires.few
+next_out-id-requires-in-loop-id-clause-small g t c = set_small c.args.deps.now c.args.set c.requires.root.closed
+    c.requires.few
 
 pub loop-id-preserved : goal.loop-id-preserved
 loop-id-preserved g t c =

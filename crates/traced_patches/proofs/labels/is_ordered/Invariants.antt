@@ -5,4 +5,5 @@ use Rattle.traced_patches.specs.Labels.{emitted_of}
 use Rattle.traced_patches.proofs.labels.is_ordered.Given as goal
 
 abbrev pub invariant-loop-rule : goal.invariant-loop-rule
-invariant-loop-rule l = list_any (λ rule. applies rule (emitted_of l.later) (emitted_of l.earlier)) (take l.rule-index l.rules) ≡ false
+invariant-loop-rule l = list_any (λ rule. applies rule (emitted_of l.later) (emitted_of l.earlier))
+    (take l.rule-index l.rules) ≡ false

@@ -15,10 +15,14 @@ loop-id-preserved c =
     let earlier : Label = c.index-labels-id.result in
     let waits : Label → Bool = λ label. applies rule (emitted_of label) (emitted_of earlier) in
     let left = length-drop (id + 1) labels in
-    let later : take (length labels - (id + 1)) (drop (id + 1) labels) ≡ drop (id + 1) labels = take_all (length labels - (id + 1)) (drop (id + 1) labels) (omega (arith, left)) in
-    let number : c.waiting-pairs.result ≡ length (filter waits (take (length labels - (id + 1)) (drop (id + 1) labels))) = c.waiting-pairs.ensures.number in
-    let counted : c.waiting-pairs.result ≡ length (filter waits (drop (id + 1) labels)) = number ∙ ap (λ (ls : List Label). length (filter waits ls)) later in
-    let few : c.waiting-pairs.result ≤ length (take (length labels - (id + 1)) (drop (id + 1) labels)) = c.waiting-pairs.ensures.few in
+    let later : take (length labels - (id + 1)) (drop (id + 1) labels) ≡ drop (id + 1) labels =
+    take_all (length labels - (id + 1)) (drop (id + 1) labels) (omega (arith, left)) in
+    let number : c.waiting-pairs.result ≡ length (filter waits
+    (take (length labels - (id + 1)) (drop (id + 1) labels))) = c.waiting-pairs.ensures.number in
+    let counted : c.waiting-pairs.result ≡ length (filter waits (drop (id + 1) labels)) = number
+    ∙ ap (λ (ls : List Label). length (filter waits ls)) later in
+    let few : c.waiting-pairs.result ≤ length (take (length labels - (id + 1)) (drop (id + 1) labels)) =
+    c.waiting-pairs.ensures.few in
     let more = pairs_more rule labels id earlier c.loop-id-test.true c.index-labels-id.is in
     let so_far = c.loop-id.invariant.counted in
     record {

@@ -19,9 +19,14 @@ use Rattle.worked_example_laws.proofs.Answering.{reported}
 use Rattle.worked_example_laws.proofs.answers.a_file_that_loses_its_names_is_reported.Goals as goal
 
 pub returns-clause-strict : goal.returns-clause-strict
-unfolding overwrite each_below some_below first_below plan_of each_slot each_entry namers entries_to faults reach_in is_reached strict_faults fault_text text_report json_report digits
-returns-clause-strict c = reported (strict_settings_of Soft 16 0 4096 true) (Do (Create (root (codes "a"))) ∷ []) (Do (Link (root (codes "a")) (root (codes "b"))) ∷ Do (Unlink (root (codes "a"))) ∷ []) 8 (4 ∷ 5 ∷ 13 ∷ []) _ refl refl refl
+unfolding overwrite each_below some_below first_below plan_of each_slot each_entry namers entries_to faults reach_in
+    is_reached strict_faults fault_text text_report json_report digits
+returns-clause-strict c = reported (strict_settings_of Soft 16 0 4096 true) (Do (Create (root (codes "a"))) ∷ [])
+    (Do (Link (root (codes "a")) (root (codes "b"))) ∷ Do (Unlink (root (codes "a"))) ∷ []) 8 (4 ∷ 5 ∷ 13 ∷ []) _ refl
+    refl refl
 
 pub returns-clause-unasked : goal.returns-clause-unasked
-unfolding overwrite each_below some_below first_below plan_of each_slot each_entry namers entries_to faults fault_text text_report json_report digits
-returns-clause-unasked c = reported (settings_of Soft 16 0 4096 true) (Do (Create (root (codes "a"))) ∷ []) (Do (Link (root (codes "a")) (root (codes "b"))) ∷ Do (Unlink (root (codes "a"))) ∷ []) 8 [] _ refl refl refl
+unfolding overwrite each_below some_below first_below plan_of each_slot each_entry namers entries_to faults fault_text
+    text_report json_report digits
+returns-clause-unasked c = reported (settings_of Soft 16 0 4096 true) (Do (Create (root (codes "a"))) ∷ [])
+    (Do (Link (root (codes "a")) (root (codes "b"))) ∷ Do (Unlink (root (codes "a"))) ∷ []) 8 [] _ refl refl refl

@@ -14,5 +14,6 @@ use Rattle.worked_example_laws.proofs.Answering.{reported}
 use Rattle.worked_example_laws.proofs.answers.a_journal_may_leave_six_blocks.Goals as goal
 
 pub returns : goal.returns
-unfolding overwrite each_below some_below first_below plan_of each_slot each_entry namers entries_to faults fault_text text_report json_report digits
+unfolding overwrite each_below some_below first_below plan_of each_slot each_entry namers entries_to faults fault_text
+    text_report json_report digits
 returns c = reported (settings_of Async 16 10 4096 false) ([]) ([]) 1 [] _ refl refl refl

@@ -18,5 +18,7 @@ use Rattle.worked_example_laws.proofs.Answering.{reported}
 use Rattle.worked_example_laws.proofs.answers.a_new_file_is_reported_in_json.Goals as goal
 
 pub returns : goal.returns
-unfolding overwrite each_below some_below first_below plan_of each_slot each_entry namers entries_to faults fault_text text_report json_report digits
-returns c = reported (settings_of Async 16 0 4096 true) ([]) (Do (Create (root (codes "a"))) ∷ []) 4 (2 ∷ []) _ refl refl refl
+unfolding overwrite each_below some_below first_below plan_of each_slot each_entry namers entries_to faults fault_text
+    text_report json_report digits
+returns c = reported (settings_of Async 16 0 4096 true) ([]) (Do (Create (root (codes "a"))) ∷ []) 4 (2 ∷ []) _ refl
+    refl refl

@@ -18,9 +18,13 @@ use Rattle.worked_example_laws.proofs.Answering.{reported}
 use Rattle.worked_example_laws.proofs.answers.a_new_file_is_reported_in_text.Goals as goal
 
 pub returns-clause-unordered : goal.returns-clause-unordered
-unfolding overwrite each_below some_below first_below plan_of each_slot each_entry namers entries_to faults fault_text text_report json_report digits
-returns-clause-unordered c = reported (settings_of Async 16 0 4096 false) ([]) (Do (Create (root (codes "a"))) ∷ []) 4 (2 ∷ []) _ refl refl refl
+unfolding overwrite each_below some_below first_below plan_of each_slot each_entry namers entries_to faults fault_text
+    text_report json_report digits
+returns-clause-unordered c = reported (settings_of Async 16 0 4096 false) ([]) (Do (Create (root (codes "a"))) ∷ []) 4
+    (2 ∷ []) _ refl refl refl
 
 pub returns-clause-soft : goal.returns-clause-soft
-unfolding overwrite each_below some_below first_below plan_of each_slot each_entry namers entries_to faults fault_text text_report json_report digits
-returns-clause-soft c = reported (settings_of Soft 16 0 4096 false) ([]) (Do (Create (root (codes "a"))) ∷ []) 3 [] _ refl refl refl
+unfolding overwrite each_below some_below first_below plan_of each_slot each_entry namers entries_to faults fault_text
+    text_report json_report digits
+returns-clause-soft c = reported (settings_of Soft 16 0 4096 false) ([]) (Do (Create (root (codes "a"))) ∷ []) 3 []
+    _ refl refl refl

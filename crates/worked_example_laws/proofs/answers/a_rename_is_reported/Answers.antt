@@ -18,5 +18,7 @@ use Rattle.worked_example_laws.proofs.Answering.{reported}
 use Rattle.worked_example_laws.proofs.answers.a_rename_is_reported.Goals as goal
 
 pub returns : goal.returns
-unfolding overwrite each_below some_below first_below plan_of each_slot each_entry namers entries_to faults fault_text text_report json_report digits
-returns c = reported (settings_of Async 16 0 4096 false) (Do (Create (root (codes "a"))) ∷ []) (Do (Rename (root (codes "a")) (root (codes "b"))) ∷ []) 12 (2 ∷ 11 ∷ []) _ refl refl refl
+unfolding overwrite each_below some_below first_below plan_of each_slot each_entry namers entries_to faults fault_text
+    text_report json_report digits
+returns c = reported (settings_of Async 16 0 4096 false) (Do (Create (root (codes "a"))) ∷ [])
+    (Do (Rename (root (codes "a")) (root (codes "b"))) ∷ []) 12 (2 ∷ 11 ∷ []) _ refl refl refl

@@ -18,9 +18,13 @@ use Rattle.worked_example_laws.proofs.Answering.{reported}
 use Rattle.worked_example_laws.proofs.answers.a_second_link_is_reported.Goals as goal
 
 pub returns-clause-text : goal.returns-clause-text
-unfolding overwrite each_below some_below first_below plan_of each_slot each_entry namers entries_to faults fault_text text_report json_report digits
-returns-clause-text c = reported (settings_of Async 16 0 4096 false) (Do (Create (root (codes "a"))) ∷ []) (Do (Link (root (codes "a")) (root (codes "b"))) ∷ []) 4 (2 ∷ []) _ refl refl refl
+unfolding overwrite each_below some_below first_below plan_of each_slot each_entry namers entries_to faults fault_text
+    text_report json_report digits
+returns-clause-text c = reported (settings_of Async 16 0 4096 false) (Do (Create (root (codes "a"))) ∷ [])
+    (Do (Link (root (codes "a")) (root (codes "b"))) ∷ []) 4 (2 ∷ []) _ refl refl refl
 
 pub returns-clause-json : goal.returns-clause-json
-unfolding overwrite each_below some_below first_below plan_of each_slot each_entry namers entries_to faults fault_text text_report json_report digits
-returns-clause-json c = reported (settings_of Async 16 0 4096 true) (Do (Create (root (codes "a"))) ∷ []) (Do (Link (root (codes "a")) (root (codes "b"))) ∷ []) 4 (2 ∷ []) _ refl refl refl
+unfolding overwrite each_below some_below first_below plan_of each_slot each_entry namers entries_to faults fault_text
+    text_report json_report digits
+returns-clause-json c = reported (settings_of Async 16 0 4096 true) (Do (Create (root (codes "a"))) ∷ [])
+    (Do (Link (root (codes "a")) (root (codes "b"))) ∷ []) 4 (2 ∷ []) _ refl refl refl

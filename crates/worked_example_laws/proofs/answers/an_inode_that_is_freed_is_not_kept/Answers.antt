@@ -19,5 +19,7 @@ use Rattle.worked_example_laws.proofs.Answering.{reported}
 use Rattle.worked_example_laws.proofs.answers.an_inode_that_is_freed_is_not_kept.Goals as goal
 
 pub returns : goal.returns
-unfolding overwrite each_below some_below first_below plan_of each_slot each_entry namers entries_to faults reach_in is_reached strict_faults fault_text text_report json_report digits
-returns c = reported (strict_settings_of Soft 16 0 4096 false) (Do (Create (root (codes "a"))) ∷ []) (Do (Unlink (root (codes "a"))) ∷ Do (Create (root (codes "b"))) ∷ []) 5 [] _ refl refl refl
+unfolding overwrite each_below some_below first_below plan_of each_slot each_entry namers entries_to faults reach_in
+    is_reached strict_faults fault_text text_report json_report digits
+returns c = reported (strict_settings_of Soft 16 0 4096 false) (Do (Create (root (codes "a"))) ∷ [])
+    (Do (Unlink (root (codes "a"))) ∷ Do (Create (root (codes "b"))) ∷ []) 5 [] _ refl refl refl

@@ -18,13 +18,18 @@ use Rattle.worked_example_laws.proofs.Answering.{refused_geometry, refused_limit
 use Rattle.worked_example_laws.proofs.answers.settings_are_refused.Goals as goal
 
 pub returns-clause-room : goal.returns-clause-room
-unfolding overwrite each_below some_below first_below plan_of each_slot each_entry namers entries_to faults fault_text text_report json_report digits
+unfolding overwrite each_below some_below first_below plan_of each_slot each_entry namers entries_to faults fault_text
+    text_report json_report digits
 returns-clause-room c = refused_geometry (settings_of Async 16 11 4096 false) ([]) ([]) refl refl refl
 
 pub returns-clause-limit : goal.returns-clause-limit
-unfolding overwrite each_below some_below first_below plan_of each_slot each_entry namers entries_to faults fault_text text_report json_report digits
-returns-clause-limit c = refused_limit (settings_of Async 16 0 23 false) ([]) (Do (Create (root (codes "a"))) ∷ Do (Write (root (codes "a"))) ∷ []) refl refl refl refl refl refl
+unfolding overwrite each_below some_below first_below plan_of each_slot each_entry namers entries_to faults fault_text
+    text_report json_report digits
+returns-clause-limit c = refused_limit (settings_of Async 16 0 23 false) ([])
+    (Do (Create (root (codes "a"))) ∷ Do (Write (root (codes "a"))) ∷ []) refl refl refl refl refl refl
 
 pub returns-clause-one : goal.returns-clause-one
-unfolding overwrite each_below some_below first_below plan_of each_slot each_entry namers entries_to faults fault_text text_report json_report digits
-returns-clause-one c = refused_limit (settings_of Async 16 0 1 false) ([]) (Do (Create (root (codes "a"))) ∷ []) refl refl refl refl refl refl
+unfolding overwrite each_below some_below first_below plan_of each_slot each_entry namers entries_to faults fault_text
+    text_report json_report digits
+returns-clause-one c = refused_limit (settings_of Async 16 0 1 false) ([]) (Do (Create (root (codes "a"))) ∷ []) refl
+    refl refl refl refl refl

@@ -10,5 +10,6 @@ use Rattle.worked_example_laws.proofs.Runs.{runs_if}
 use Rattle.worked_example_laws.proofs.answers.writes_are_cut_where_the_block_changes.Goals as goal
 
 pub returns : goal.returns
-unfolding overwrite each_below some_below first_below plan_of each_slot each_entry namers entries_to faults fault_text text_report json_report digits
+unfolding overwrite each_below some_below first_below plan_of each_slot each_entry namers entries_to faults fault_text
+    text_report json_report digits
 returns c = runs_if _ _ _ refl

@@ -12,7 +12,8 @@ pub returns-clause-unordered : goal.returns-clause-unordered
 unfolding overwrite each_below some_below first_below plan_of
 returns-clause-unordered c =
     explored_if Async fresh_disk written_file 24 (sets
-    ((1 ∷ []) ∷ (1 ∷ 2 ∷ []) ∷ (1 ∷ 3 ∷ []) ∷ (0 ∷ 4 ∷ []) ∷ (1 ∷ 2 ∷ 3 ∷ []) ∷ (0 ∷ 1 ∷ 4 ∷ []) ∷ (0 ∷ 2 ∷ 4 ∷ []) ∷ (0 ∷ 3 ∷ 4 ∷ [])
+    ((1 ∷ []) ∷ (1 ∷ 2 ∷ []) ∷ (1 ∷ 3 ∷ []) ∷ (0 ∷ 4 ∷ []) ∷ (1 ∷ 2 ∷ 3 ∷ []) ∷ (0 ∷ 1 ∷ 4 ∷ []) ∷ (0 ∷ 2 ∷ 4 ∷ [])
+    ∷ (0 ∷ 3 ∷ 4 ∷ [])
     ∷ (0 ∷ 1 ∷ 2 ∷ 4 ∷ []) ∷ (0 ∷ 1 ∷ 3 ∷ 4 ∷ []) ∷ [])) refl
 
 pub returns-clause-soft : goal.returns-clause-soft

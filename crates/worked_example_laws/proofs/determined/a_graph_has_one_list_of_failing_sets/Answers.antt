@@ -13,4 +13,5 @@ pub returns-clause-list : goal.returns-clause-list
 returns-clause-list c = λ base patches sets others are also. one_list (IsFailing base patches) sets others are also
 
 pub returns-clause-under : goal.returns-clause-under
-returns-clause-under c = λ kept base patches sets others are also. one_list (IsFailingUnder kept base patches) sets others are also
+returns-clause-under c = λ kept base patches sets others are also. one_list (IsFailingUnder kept base patches) sets
+    others are also

@@ -11,4 +11,5 @@ use Rattle.worked_example_laws.proofs.refused_scripts.a_bad_line_is_told_before_
 
 pub returns : goal.returns
 unfolding is_utf8 chars encode
-returns c = line_refused (lines_of [] (Do (Create (inside (codes "x") (codes "y"))) ∷ [])) (codes "crate /a") [] (started_accepted [] (Do (Create (inside (codes "x") (codes "y"))) ∷ []) refl refl) refl refl refl
+returns c = line_refused (lines_of [] (Do (Create (inside (codes "x") (codes "y"))) ∷ [])) (codes "crate /a") []
+    (started_accepted [] (Do (Create (inside (codes "x") (codes "y"))) ∷ []) refl refl) refl refl refl

@@ -23,4 +23,5 @@ returns-clause-deep c =
 
 pub returns-clause-spaces : goal.returns-clause-spaces
 unfolding is_utf8 chars encode
-returns-clause-spaces c = line_refused (lines_of [] []) (codes "mkdir  /a") [] (started_accepted [] [] refl refl) refl refl refl
+returns-clause-spaces c = line_refused (lines_of [] []) (codes "mkdir  /a") [] (started_accepted [] [] refl refl) refl
+    refl refl

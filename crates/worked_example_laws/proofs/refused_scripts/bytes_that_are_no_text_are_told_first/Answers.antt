@@ -7,7 +7,8 @@ use Rattle.worked_example_laws.proofs.refused_scripts.bytes_that_are_no_text_are
 
 pub returns-clause-last : goal.returns-clause-last
 unfolding is_utf8 chars encode
-returns-clause-last c = last_utf8_refused (lines_of [] []) (0xFF ∷ []) (started_accepted [] [] refl refl) refl (λ e. cc) refl
+returns-clause-last c = last_utf8_refused (lines_of [] []) (0xFF ∷ []) (started_accepted [] [] refl refl) refl (λ e. cc)
+    refl
 
 pub returns-clause-comment : goal.returns-clause-comment
 unfolding is_utf8 chars encode

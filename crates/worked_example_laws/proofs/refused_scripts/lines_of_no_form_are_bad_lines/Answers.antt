@@ -40,4 +40,5 @@ returns-clause-behind c = line_refused [] (codes "link /a ") [] (acts_accepted [
 
 pub returns-clause-second : goal.returns-clause-second
 unfolding is_utf8 chars encode
-returns-clause-second c = start_refused (lines_of [] []) [] (started_accepted [] [] refl refl) refl (0, omega arith, refl)
+returns-clause-second c = start_refused (lines_of [] []) [] (started_accepted [] [] refl refl) refl
+    (0, omega arith, refl)

@@ -32,12 +32,15 @@ is_found : HasGraph Meta with_directory reused_directory IsFound
 unfolding overwrite each_below some_below first_below plan_of
 is_found = graph_if Meta with_directory reused_directory found (true, 4 ∷ 7 ∷ 11 ∷ [], Unwritten 3 0 17 ∷ []) refl
 
-faults_are : (patches : List Patch) → IsFound patches → faults (image_after_replay (image_of with_directory patches left)) ≡ Unwritten 3 0 17 ∷ []
-faults_are patches is = sym (quick_faults_are (image_after_replay (image_of with_directory patches left))) ∙ ap (λ t. t.2) is
+faults_are : (patches : List Patch) → IsFound patches → faults
+    (image_after_replay (image_of with_directory patches left)) ≡ Unwritten 3 0 17 ∷ []
+faults_are patches is = sym (quick_faults_are (image_after_replay (image_of with_directory patches left)))
+    ∙ ap (λ t. t.2) is
 
 pub returns-clause-failing : goal.returns-clause-failing
 returns-clause-failing c =
-    graph_then _ _ _ IsFound _ (λ patches before is. fails_at_fault with_directory patches before left (ap (λ t. t.0) is) _ _ (faults_are patches is)) is_found
+    graph_then _ _ _ IsFound _ (λ patches before is. fails_at_fault with_directory patches before left
+    (ap (λ t. t.0) is) _ _ (faults_are patches is)) is_found
 
 pub returns-clause-headers : goal.returns-clause-headers
 returns-clause-headers c = graph_then _ _ _ IsFound _ (λ patches before is. ap (λ t. t.1) is) is_found

@@ -9,7 +9,8 @@ use Rattle.fault_summary.proofs.Prevented.{first_like}
 use Rattle.crash_finding.proofs.finder.Finder.count_failing.Goals as goal
 
 pub first_prevented-requires : goal.first_prevented-requires
-first_prevented-requires g c = subst (λ (ss : List ℕ). AllPairs IsBefore ss) (sym c.deref.ensures.value) c.in_ok-found.ensures.failing.ordered
+first_prevented-requires g c = subst (λ (ss : List ℕ). AllPairs IsBefore ss) (sym c.deref.ensures.value)
+    c.in_ok-found.ensures.failing.ordered
 
 pub returns-clause-counted : goal.returns-clause-counted
 returns-clause-counted g c =
@@ -25,6 +26,8 @@ returns-clause-counted g c =
         exactly = c.in_ok-found.ensures.failing;
         number = number;
       };
-      first = first_like (Contains sets) (IsFailingUnder c.args.crashes.now.kept c.args.crashes.now.base.now c.args.crashes.now.graph.now) allowed c.in_ok-found.ensures.failing.exactly c.first_prevented.result
-          (subst (λ (ss : List ℕ). IsFirstPrevented (Contains ss) allowed c.first_prevented.result) c.deref.ensures.value c.first_prevented.ensures);
+      first = first_like (Contains sets) (IsFailingUnder c.args.crashes.now.kept c.args.crashes.now.base.now
+          c.args.crashes.now.graph.now) allowed c.in_ok-found.ensures.failing.exactly c.first_prevented.result
+          (subst (λ (ss : List ℕ). IsFirstPrevented (Contains ss) allowed c.first_prevented.result)
+          c.deref.ensures.value c.first_prevented.ensures);
     }

@@ -23,8 +23,11 @@ returns-in-Err-TooMany-clause-too_many g c =
     let patches = c.args.crashes.now.graph.now in
     let sets = c.in-Some.sets in
     let counted : CountsClosed patches sets =
-    subst (λ deps. HoldsOf (IsClosed deps) sets) (c.deref.ensures.0 ∙ c.dependencies-deps.ensures.exact) c.in-Some.ensures.0 in
+    subst (λ deps. HoldsOf (IsClosed deps) sets) (c.deref.ensures.0 ∙ c.dependencies-deps.ensures.exact)
+    c.in-Some.ensures.0 in
     let more : ExceedsLimit patches c.prime_at_least-limit.result =
     subst (λ s. ExceedsLimit s.patches c.prime_at_least-limit.result) c.new-space.ensures
-    (c.exploring_finds_the_failing_sets.ensures.too_many c.prime_at_least-limit.result (c.in-Err-TooMany.ensures.too_many (search rules))) in
-    absurd (not_more (IsClosed (deps_of patches)) sets c.prime_at_least-limit.result counted c.prime_at_least-limit.ensures.enough more)
+    (c.exploring_finds_the_failing_sets.ensures.too_many c.prime_at_least-limit.result
+    (c.in-Err-TooMany.ensures.too_many (search rules))) in
+    absurd (not_more (IsClosed (deps_of patches)) sets c.prime_at_least-limit.result counted
+    c.prime_at_least-limit.ensures.enough more)

@@ -4,4 +4,5 @@ use Rattle.crash_model.proofs.names.Name.as_str.Goals as goal
 
 pub unreachable-requires : goal.unreachable-requires
 unreachable-requires c =
-    c.in_default.ensures.cases.0 (subst (λ (s : List ℕ). IsUtf8 s) (sym c.as_slice.ensures.value) (name_utf8 c.self.inside.bytes.items c.self.invariant))
+    c.in_default.ensures.cases.0 (subst (λ (s : List ℕ). IsUtf8 s) (sym c.as_slice.ensures.value)
+    (name_utf8 c.self.inside.bytes.items c.self.invariant))

@@ -18,7 +18,8 @@ pub returns-then-is_full : goal.returns-then-is_full
 returns-then-is_full c word =
     let loop = c.loop-rest in
     let kept = loop.invariant in
-    let on = path_goes_on c.args.text.now (loop.through.items ++ loop.last ∷ []) loop.rest.now kept.names kept.text kept.ends (not_empty _ (grind (arith, nat_tests))) word in
+    let on = path_goes_on c.args.text.now (loop.through.items ++ loop.last ∷ []) loop.rest.now kept.names kept.text
+    kept.ends (not_empty _ (grind (arith, nat_tests))) word in
     let lengths = length_push loop.through.items loop.last in
     grind (arith, nat_tests)
 
@@ -26,7 +27,9 @@ pub returns-in_err-name : goal.returns-in_err-name
 returns-in_err-name c =
     let loop = c.loop-rest in
     let kept = loop.invariant in
-    let none : ¬ (IsPathWord c.args.text.now) = λ word. c.in_err-name.ensures (path_goes_on c.args.text.now (loop.through.items ++ loop.last ∷ []) loop.rest.now kept.names kept.text kept.ends (not_empty _ (grind (arith, nat_tests))) word).0 in
+    let none : ¬ (IsPathWord c.args.text.now) = λ word. c.in_err-name.ensures
+    (path_goes_on c.args.text.now (loop.through.items ++ loop.last ∷ []) loop.rest.now kept.names kept.text
+    kept.ends (not_empty _ (grind (arith, nat_tests))) word).0 in
     rw c.from_residual-in_err-name.ensures none
 
 pub loop-rest-preserved : goal.loop-rest-preserved
@@ -42,7 +45,8 @@ loop-rest-preserved c =
     rw (through, last) (record {
       few = few;
       names = All-push IsName names c.in_ok-name.name kept.names first.is_name;
-      text = slash_text-push names c.in_ok-name.name loop.rest.now c.args.text.now c.in_ok-name.behind.now kept.text first.whole;
+      text = slash_text-push names c.in_ok-name.name loop.rest.now c.args.text.now c.in_ok-name.behind.now kept.text
+          first.whole;
       ends = first.ends;
     })
 
@@ -50,7 +54,8 @@ pub returns : goal.returns
 returns c =
     let loop = c.loop-rest in
     let kept = loop.invariant in
-    path_ends loop.through loop.last loop.rest.now c.args.text.now kept.few kept.names kept.text (empty _ (grind (arith, nat_tests)))
+    path_ends loop.through loop.last loop.rest.now c.args.text.now kept.few kept.names kept.text
+    (empty _ (grind (arith, nat_tests)))
   where
     empty : (xs : List ℕ) → length xs ≡ 0 → xs ≡ []
     empty [] e = refl

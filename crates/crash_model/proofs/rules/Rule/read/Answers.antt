@@ -8,16 +8,20 @@ use Rattle.crash_model.proofs.rules.Rule.read.Goals as goal
 
 pub returns-in_err-later : goal.returns-in_err-later
 returns-in_err-later c =
-    rw c.from_residual.ensures (needs_colon c.args.text.now (split_text_parts (codes ":") c.args.text.now None c.in_err-later.ensures.cases))
+    rw c.from_residual.ensures (needs_colon c.args.text.now
+    (split_text_parts (codes ":") c.args.text.now None c.in_err-later.ensures.cases))
 
 pub returns-in_err-read : goal.returns-in_err-read
 returns-in_err-read c =
-    let cut = split_text_parts (codes ":") c.args.text.now (Some (c.in_ok-later.later, c.in_ok-later.rest)) c.in_ok-later.ensures.cases in
-    rw c.from_residual-in_err-read.ensures (needs_later c.args.text.now c.in_ok-later.later.now c.in_ok-later.rest.now cut c.in_err-read.ensures)
+    let cut = split_text_parts (codes ":") c.args.text.now (Some (c.in_ok-later.later, c.in_ok-later.rest))
+    c.in_ok-later.ensures.cases in
+    rw c.from_residual-in_err-read.ensures (needs_later c.args.text.now c.in_ok-later.later.now c.in_ok-later.rest.now
+    cut c.in_err-read.ensures)
 
 pub returns-in_err-read-2 : goal.returns-in_err-read-2
 returns-in_err-read-2 c =
-    let cut = split_text_parts (codes ":") c.args.text.now (Some (c.in_ok-later.later, c.in_ok-later.rest)) c.in_ok-later.ensures.cases in
+    let cut = split_text_parts (codes ":") c.args.text.now (Some (c.in_ok-later.later, c.in_ok-later.rest))
+    c.in_ok-later.ensures.cases in
     let text = c.args.text.now in
     let later = c.in_ok-later.later.now in
     let rest = c.in_ok-later.rest.now in
@@ -25,8 +29,11 @@ returns-in_err-read-2 c =
     rw c.from_residual-in_err-read-2.ensures (elim c.match-strip_prefix.branch [
       | in-Some w ↦
           let found = w.in-Some.ensures.cases in
-          let scoped : rest ≡ codes "previous-" ++ w.in-Some.earlier.now = found.1.1 ∙ ap (λ (t : List ℕ). codes "previous-" ++ t) (sym found.2) in
-          needs_earlier text later rest cut w.in-Some.earlier.now scoped (subst (λ (s : Scope × Bor (List ℕ)). IsNoRulePart s.1.now) w.scope-is no_part)
+          let scoped : rest ≡ codes "previous-" ++ w.in-Some.earlier.now = found.1.1
+          ∙ ap (λ (t : List ℕ). codes "previous-" ++ t) (sym found.2) in
+          needs_earlier text later rest cut w.in-Some.earlier.now scoped
+          (subst (λ (s : Scope × Bor (List ℕ)). IsNoRulePart s.1.now) w.scope-is no_part)
       | in-None w ↦
-          needs_part text later rest cut w.in-None.ensures.cases (subst (λ (s : Scope × Bor (List ℕ)). IsNoRulePart s.1.now) w.scope-is no_part)
+          needs_part text later rest cut w.in-None.ensures.cases
+          (subst (λ (s : Scope × Bor (List ℕ)). IsNoRulePart s.1.now) w.scope-is no_part)
     ])

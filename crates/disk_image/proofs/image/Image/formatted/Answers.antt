@@ -7,6 +7,11 @@ use Rattle.disk_image.proofs.image.Image.formatted.Goals as goal
 
 pub returns-clause-sound : goal.returns-clause-sound
 returns-clause-sound g c =
-    let good : IsGeometry c.args.blocks c.args.journal = record { least = omega arith; most = omega arith; room = omega arith } in
+    let good : IsGeometry c.args.blocks c.args.journal = record {
+      least = omega arith;
+      most = omega arith;
+      room = omega arith;
+    } in
     let made : c.put-3.new.self ≡ empty_disk c.args.blocks c.args.journal = grind (arith, common_steps) in
-    subst (λ (d : Disk). IsSound d × HasZeroJournal d) (sym made) (sound-empty_disk c.args.blocks c.args.journal good, zero-journal-empty_disk c.args.blocks c.args.journal good)
+    subst (λ (d : Disk). IsSound d × HasZeroJournal d) (sym made)
+    (sound-empty_disk c.args.blocks c.args.journal good, zero-journal-empty_disk c.args.blocks c.args.journal good)

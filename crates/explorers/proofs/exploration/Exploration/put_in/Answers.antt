@@ -21,16 +21,22 @@ returns-in-Over-clause-free g c = record {
   of = search rules;
   free = search rules;
   own = c.requires.free.own;
-  met = met_on c.args.mine.now.met c.args.mine.now.seat.seen c.insert-put.new.seat.seen (put_sees c.args.word c.args.mine.now.seat c.insert-put.new.seat c.insert-put.result c.insert-put.ensures.put) c.requires.free.met;
+  met = met_on c.args.mine.now.met c.args.mine.now.seat.seen c.insert-put.new.seat.seen
+      (put_sees c.args.word c.args.mine.now.seat c.insert-put.new.seat c.insert-put.result c.insert-put.ensures.put)
+      c.requires.free.met;
 }
 
 pub returns-in-Ok : goal.returns-in-Ok
 returns-in-Ok g c =
     let seat = c.args.mine.now.seat in
     record {
-      free = free_after c.args.self.now.board.now c.args.self.now.space.now g.S.Space.is_own c.args.mine.now (record c.args.mine.now { seat = c.insert-put.new.seat; tasks = c.push.new.self; met = c.keep.new.self }) c.args.word c.insert-put.result c.requires.free c.insert-put.ensures.put c.in_default.not-Over c.insert-put.ensures.done c.requires.free.own c.keep.ensures;
+      free = free_after c.args.self.now.board.now c.args.self.now.space.now g.S.Space.is_own c.args.mine.now
+          (record c.args.mine.now { seat = c.insert-put.new.seat; tasks = c.push.new.self; met = c.keep.new.self })
+          c.args.word c.insert-put.result c.requires.free c.insert-put.ensures.put c.in_default.not-Over
+          c.insert-put.ensures.done c.requires.free.own c.keep.ensures;
       sees = put_sees c.args.word seat c.insert-put.new.seat c.insert-put.result c.insert-put.ensures.put;
-      within = λ _. puts_in c.args.word seat c.insert-put.new.seat c.insert-put.result c.insert-put.ensures.put c.in_default.not-Over c.insert-put.ensures.done;
+      within = λ _. puts_in c.args.word seat c.insert-put.new.seat c.insert-put.result c.insert-put.ensures.put
+          c.in_default.not-Over c.insert-put.ensures.done;
       over = search rules;
     }
 
@@ -38,9 +44,16 @@ pub returns-in_default-put : goal.returns-in_default-put
 returns-in_default-put g c =
     let seat = c.args.mine.now.seat in
     record {
-      free = free_after c.args.self.now.board.now c.args.self.now.space.now g.S.Space.is_own c.args.mine.now (record c.args.mine.now { seat = c.insert-put.new.seat; tasks = c.args.mine.now.tasks; met = c.keep.new.self }) c.args.word c.insert-put.result c.requires.free c.insert-put.ensures.put c.in_default.not-Over c.insert-put.ensures.done c.requires.free.own c.keep.ensures;
+      free = free_after c.args.self.now.board.now c.args.self.now.space.now g.S.Space.is_own c.args.mine.now
+          (record c.args.mine.now {
+            seat = c.insert-put.new.seat;
+            tasks = c.args.mine.now.tasks;
+            met = c.keep.new.self;
+          }) c.args.word c.insert-put.result c.requires.free c.insert-put.ensures.put
+          c.in_default.not-Over c.insert-put.ensures.done c.requires.free.own c.keep.ensures;
       sees = put_sees c.args.word seat c.insert-put.new.seat c.insert-put.result c.insert-put.ensures.put;
-      within = λ _. puts_in c.args.word seat c.insert-put.new.seat c.insert-put.result c.insert-put.ensures.put c.in_default.not-Over c.insert-put.ensures.done;
+      within = λ _. puts_in c.args.word seat c.insert-put.new.seat c.insert-put.result c.insert-put.ensures.put
+          c.in_default.not-Over c.insert-put.ensures.done;
       over = search rules;
     }
 
@@ -48,7 +61,10 @@ pub returns-in-Err : goal.returns-in-Err
 returns-in-Err g c =
     let seat = c.args.mine.now.seat in
     record {
-      free = free_after c.args.self.now.board.now c.args.self.now.space.now g.S.Space.is_own c.args.mine.now (record c.args.mine.now { seat = c.insert-put.new.seat; tasks = c.push.new.self; met = c.keep.new.self }) c.args.word c.insert-put.result c.requires.free c.insert-put.ensures.put c.in_default.not-Over c.insert-put.ensures.done c.requires.free.own c.keep.ensures;
+      free = free_after c.args.self.now.board.now c.args.self.now.space.now g.S.Space.is_own c.args.mine.now
+          (record c.args.mine.now { seat = c.insert-put.new.seat; tasks = c.push.new.self; met = c.keep.new.self })
+          c.args.word c.insert-put.result c.requires.free c.insert-put.ensures.put c.in_default.not-Over
+          c.insert-put.ensures.done c.requires.free.own c.keep.ensures;
       sees = put_sees c.args.word seat c.insert-put.new.seat c.insert-put.result c.insert-put.ensures.put;
       within = search rules;
       over = search rules;

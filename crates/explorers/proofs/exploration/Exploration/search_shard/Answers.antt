@@ -16,5 +16,10 @@ loop-at-init g c =
 pub loop-at-preserved : goal.loop-at-preserved
 loop-at-preserved g c = record {
   ready = c.visit.ensures.ready;
-  seen = omega (arith, c.loop-at.invariant.seen, starts-length (row_of c.visit.new.mine.seat.seen c.args.shard) (row_of c.loop-at.mine.seat.seen c.args.shard) (c.visit.ensures.sees c.args.shard c.requires.shard));
+  seen = omega (
+    arith,
+    c.loop-at.invariant.seen,
+    starts-length (row_of c.visit.new.mine.seat.seen c.args.shard)
+        (row_of c.loop-at.mine.seat.seen c.args.shard) (c.visit.ensures.sees c.args.shard c.requires.shard),
+  );
 }

@@ -4,4 +4,7 @@ use Rattle.explorers.specs.Ready.{IsReady}
 use Rattle.explorers.proofs.exploration.Exploration.search_shard.Given as goal
 
 abbrev pub invariant-loop-at : goal.invariant-loop-at
-invariant-loop-at g l = record { ready : IsReady l.self.board.now l.self.space.now g.S.Space.is_own l.mine; seen : l.count ≤ length (row_of l.mine.seat.seen l.shard) }
+invariant-loop-at g l = record {
+  ready : IsReady l.self.board.now l.self.space.now g.S.Space.is_own l.mine;
+  seen : l.count ≤ length (row_of l.mine.seat.seen l.shard);
+}

@@ -6,12 +6,14 @@ use Rattle.fault_summary.proofs.count.CountVisitor.count_of.Goals as goal
 -- what a test of the code denies does not hold
 denied : (P : Compared → Type 0) (inner v : Compared) (test : Bool) → inner ≡ v → (P inner → test ≡ true)
     → test ≡ false → ¬ (P v)
-denied P inner v test view is refused holds = let clash : false ≡ true = sym refused ∙ is (subst P (sym view) holds) in cc
+denied P inner v test view is refused holds = let clash : false ≡ true = sym refused ∙ is (subst P (sym view) holds) in
+    cc
 
 pub returns-then-branch-clause-counted : goal.returns-then-branch-clause-counted
 returns-then-branch-clause-counted g c =
     let v = c.args.self.now in
-    let well : IsWell v c.args.set = subst (λ (w : Compared). IsWell w c.args.set) c.self.view_is (c.in_ok-judge.ensures.good.0 c.if-branch.true) in
+    let well : IsWell v c.args.set = subst (λ (w : Compared). IsWell w c.args.set) c.self.view_is
+    (c.in_ok-judge.ensures.good.0 c.if-branch.true) in
     good_count (IsBad v) (IsAllowed v) c.args.set (λ bad. bad well)
 
 pub returns-then-is_closed-clause-counted : goal.returns-then-is_closed-clause-counted

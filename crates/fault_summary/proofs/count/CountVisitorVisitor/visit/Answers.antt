@@ -7,4 +7,6 @@ pub returns-clause-told : goal.returns-clause-told
 returns-clause-told g c = λ sets told.
     let tally = c.args.tally.now in
     let one = c.in_ok-one.one in
-    counts_joined (IsBad c.args.self.now) (IsAllowed c.args.self.now) sets (c.args.set ∷ []) tally.failing one.failing c.join.result.failing tally.first one.first c.join.result.first c.join.ensures told (λ apart short. c.in_ok-one.ensures.counted)
+    counts_joined (IsBad c.args.self.now) (IsAllowed c.args.self.now) sets (c.args.set ∷ []) tally.failing one.failing
+    c.join.result.failing tally.first one.first c.join.result.first c.join.ensures told
+    (λ apart short. c.in_ok-one.ensures.counted)

@@ -9,6 +9,10 @@ returns-clause-same g c = (
   ap (λ (h : Known g.row.T.Denot g.row.A.Denot). h.home) c.self.view_is,
   λ homes is.
       let was = subst (IsHandOf homes) (sym c.self.view_is) is in
-      let kept = way-kept c.steal.result c.index_mut.result.now c.steal.new.self c.steal.ensures in
-      (was.0, ways-set homes c.self.inside.reaches.items c.args.from c.index_mut.result.now c.steal.new.self (omega (arith, c.requires, ap (λ (h : Known g.row.T.Denot g.row.A.Denot). length h.ways) c.self.view_is)) c.index_mut.ensures.value kept.0 kept.1 was.1),
+      let kept = way-kept c.steal.result c.index_mut.result.now c.steal.new.self c.steal.ensures in (
+        was.0,
+        ways-set homes c.self.inside.reaches.items c.args.from c.index_mut.result.now c.steal.new.self
+            (omega (arith, c.requires, ap (λ (h : Known g.row.T.Denot g.row.A.Denot). length h.ways) c.self.view_is))
+            c.index_mut.ensures.value kept.0 kept.1 was.1,
+      ),
 )

@@ -12,12 +12,16 @@ pub returns-clause-text : goal.returns-clause-text
 returns-clause-text g c =
     let patches = c.args.self.now in
     let s = c.args.section.now in
-    let faults = ap (λ (fs : List Fault). string_bytes c.push_str.new.self ++ join_of 44 (map fault_json fs)) c.deref.ensures.value in
+    let faults = ap (λ (fs : List Fault). string_bytes c.push_str.new.self ++ join_of 44 (map fault_json fs))
+    c.deref.ensures.value in
     let same : c.push_faults.new.self ≡ patches = c.in_ok-push_faults.ensures.kept in
     let ids = ap (λ (n : ℕ). string_bytes c.push_str-3.new.self ++ ids_json n s.set) (c.patches.ensures ∙ same) in
-    let writes = ap (λ (n : ℕ). string_bytes c.push_str-4.new.self ++ join_of 44 (map (write_json n) c.deref-2.result.now)) same
-    ∙ ap (λ (ws : List BlockWrite). string_bytes c.push_str-4.new.self ++ join_of 44 (map (write_json patches) ws)) c.deref-2.ensures.value in
-    section_pieces patches (section_of s) (string_bytes c.args.out.now) _ _ _ _ _ _ _ _ (string_bytes c.push_str-5.new.self)
+    let writes = ap (λ (n : ℕ). string_bytes c.push_str-4.new.self
+    ++ join_of 44 (map (write_json n) c.deref-2.result.now)) same
+    ∙ ap (λ (ws : List BlockWrite). string_bytes c.push_str-4.new.self ++ join_of 44 (map (write_json patches) ws))
+    c.deref-2.ensures.value in
+    section_pieces patches (section_of s) (string_bytes c.args.out.now)
+    _ _ _ _ _ _ _ _ (string_bytes c.push_str-5.new.self)
     c.in_ok-push_str.ensures.bytes
     (c.in_ok-push_faults.ensures.text ∙ faults)
     c.in_ok-push_str-2.ensures.bytes

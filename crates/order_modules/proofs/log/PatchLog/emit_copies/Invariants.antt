@@ -7,5 +7,6 @@ use Rattle.order_modules.proofs.log.PatchLog.emit_copies.Given as goal
 abbrev pub invariant-loop-target : goal.invariant-loop-target
 invariant-loop-target g l = record {
   block : l.block ≡ l.first + l.target-index;
-  adds : Adds l.initial.self l.self (copies l.after l.turn l.first (origin_by l.origin) (take l.target-index l.targets));
+  adds : Adds l.initial.self l.self (copies l.after l.turn l.first (origin_by l.origin)
+      (take l.target-index l.targets));
 }

@@ -14,7 +14,9 @@ emit-requires-clause-room g c =
     let x = c.change-item.result in
     let t : is_ahead c.args.self.now.kind x ≡ true = ahead_read c.args.self.now.kind c.loop-change.self.kind
     c.module.result x true c.module.ensures c.loop-change.invariant.kind c.if-is_ahead.ensures in
-    chosen_space c.args.self.now c.loop-change.self (is_ahead c.args.self.now.kind) (file_data c.args.turn (origin_by c.args.origin)) c.args.changes.now c.loop-change.change-index x c.loop-change-test.true c.change-item.is c.loop-change.invariant (t) c.requires.room
+    chosen_space c.args.self.now c.loop-change.self (is_ahead c.args.self.now.kind)
+    (file_data c.args.turn (origin_by c.args.origin)) c.args.changes.now c.loop-change.change-index x
+    c.loop-change-test.true c.change-item.is c.loop-change.invariant (t) c.requires.room
 
 pub loop-change-preserved : goal.loop-change-preserved
 loop-change-preserved g c =
@@ -27,9 +29,13 @@ loop-change-preserved g c =
     elim c.if-is_ahead.branch [
       | then-is_ahead+in_ok-emit w ↦
           let t : is_ahead old.kind x ≡ true = same ∙ w.if-is_ahead.true in
-          let one = adds-same now w.emit.new.self _ (f x ∷ []) (ap (λ (new : List ℕ). part_of turn origin part.FileData x.block x.offset new ∷ []) w.as_slice.ensures.value) w.in_ok-emit.ensures.ok in
-          subst next (sym w.self-is) (chosen_next old now p f c.args.changes.now i x c.loop-change-test.true c.change-item.is c.loop-change.invariant w.emit.new.self (t) one)
+          let one = adds-same now w.emit.new.self _ (f x ∷ [])
+          (ap (λ (new : List ℕ). part_of turn origin part.FileData x.block x.offset new ∷ [])
+          w.as_slice.ensures.value) w.in_ok-emit.ensures.ok in
+          subst next (sym w.self-is) (chosen_next old now p f c.args.changes.now i x c.loop-change-test.true
+          c.change-item.is c.loop-change.invariant w.emit.new.self (t) one)
       | else-is_ahead w ↦
           let t : is_ahead old.kind x ≡ false = same ∙ w.if-is_ahead.false in
-          subst next (sym w.self-is) (chosen_skip old now p f c.args.changes.now i x c.loop-change-test.true c.change-item.is c.loop-change.invariant (t))
+          subst next (sym w.self-is) (chosen_skip old now p f c.args.changes.now i x c.loop-change-test.true
+          c.change-item.is c.loop-change.invariant (t))
     ]

@@ -14,7 +14,9 @@ emit-requires-clause-room g c =
     let x = c.change-item.result in
     let t : is_ahead c.args.self.now.kind x ≡ false = ahead_read c.args.self.now.kind c.loop-change.self.kind
     c.module.result x false c.module.ensures c.loop-change.invariant.kind c.if-not-is_ahead.ensures in
-    chosen_space c.args.self.now c.loop-change.self (is_placed c.args.self.now.kind) (in_place_patch c.args.turn (origin_by c.args.origin)) c.args.changes.now c.loop-change.change-index x c.loop-change-test.true c.change-item.is c.loop-change.invariant (ap not t) c.requires.room
+    chosen_space c.args.self.now c.loop-change.self (is_placed c.args.self.now.kind)
+    (in_place_patch c.args.turn (origin_by c.args.origin)) c.args.changes.now c.loop-change.change-index x
+    c.loop-change-test.true c.change-item.is c.loop-change.invariant (ap not t) c.requires.room
 
 pub loop-change-preserved : goal.loop-change-preserved
 loop-change-preserved g c =
@@ -27,9 +29,13 @@ loop-change-preserved g c =
     elim c.if-not-is_ahead.branch [
       | then-not-is_ahead+in_ok-emit w ↦
           let t : is_ahead old.kind x ≡ false = same ∙ w.if-not-is_ahead.true in
-          let one = adds-same now w.emit.new.self _ (f x ∷ []) (ap (λ (new : List ℕ). part_of turn origin (part.InPlace x.role) x.block x.offset new ∷ []) w.as_slice.ensures.value) w.in_ok-emit.ensures.ok in
-          subst next (sym w.self-is) (chosen_next old now p f c.args.changes.now i x c.loop-change-test.true c.change-item.is c.loop-change.invariant w.emit.new.self (ap not t) one)
+          let one = adds-same now w.emit.new.self _ (f x ∷ [])
+          (ap (λ (new : List ℕ). part_of turn origin (part.InPlace x.role) x.block x.offset new ∷ [])
+          w.as_slice.ensures.value) w.in_ok-emit.ensures.ok in
+          subst next (sym w.self-is) (chosen_next old now p f c.args.changes.now i x c.loop-change-test.true
+          c.change-item.is c.loop-change.invariant w.emit.new.self (ap not t) one)
       | else-not-is_ahead w ↦
           let t : is_ahead old.kind x ≡ true = same ∙ w.if-not-is_ahead.false in
-          subst next (sym w.self-is) (chosen_skip old now p f c.args.changes.now i x c.loop-change-test.true c.change-item.is c.loop-change.invariant (ap not t))
+          subst next (sym w.self-is) (chosen_skip old now p f c.args.changes.now i x c.loop-change-test.true
+          c.change-item.is c.loop-change.invariant (ap not t))
     ]

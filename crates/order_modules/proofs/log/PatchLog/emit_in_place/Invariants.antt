@@ -6,4 +6,6 @@ use Rattle.order_modules.specs.Transactions.{changes_in_place}
 use Rattle.order_modules.proofs.log.PatchLog.emit_in_place.Given as goal
 
 abbrev pub invariant-loop-change : goal.invariant-loop-change
-invariant-loop-change g l = Adds l.initial.self l.self (map (in_place_patch l.turn (origin_by l.origin)) (changes_in_place l.initial.self.kind (take l.change-index l.changes)))
+invariant-loop-change g l = Adds l.initial.self l.self
+    (map (in_place_patch l.turn (origin_by l.origin)) (changes_in_place l.initial.self.kind
+    (take l.change-index l.changes)))

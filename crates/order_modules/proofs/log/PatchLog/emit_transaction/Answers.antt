@@ -1,9 +1,14 @@
 use Rattle.std.proofs.Common.{arith}
-use Rattle.order_modules.proofs.Adding.{transaction_room, room_for_copies, room_for_commit, room_in_place, room_for_done}
+use Rattle.order_modules.proofs.Adding.{transaction_room, room_for_copies, room_for_commit, room_in_place}
+use Rattle.order_modules.proofs.Adding.{room_for_done}
 use Rattle.order_modules.proofs.log.PatchLog.emit_transaction.Goals as goal
 
 pub emit_file_data-requires-clause-room : goal.emit_file_data-requires-clause-room
-emit_file_data-requires-clause-room g c = omega (arith, c.requires.room, transaction_room c.args.self.now.kind c.args.changes.now)
+emit_file_data-requires-clause-room g c = omega (
+  arith,
+  c.requires.room,
+  transaction_room c.args.self.now.kind c.args.changes.now,
+)
 
 pub emit_copies-requires-clause-room : goal.emit_copies-requires-clause-room
 emit_copies-requires-clause-room g c = room_for_copies _ _ c.args.changes.now c.args.targets.now _ c.requires.room

@@ -9,7 +9,9 @@ use Rattle.order_modules.specs.Log.{Log}
 use Rattle.order_modules.specs.Tracer.{Trace, Moves, names_by, trace_of}
 use Rattle.order_modules.proofs.Grouping.{refused, accepted, or_first, or_second, or_neither, among_read}
 use Rattle.order_modules.proofs.tracer.Tracer.depend.Goals as goal
-use Rattle.order_modules.proofs.tracer.Tracer.depend.Goals.{then-not-is_among-via-then-not-is_among, then-not-is_among-via-else-not-is_among+then-is_same, then-not-is_among-via-else-not-is_among+else-is_same+then-has_patch_in}
+use Rattle.order_modules.proofs.tracer.Tracer.depend.Goals.{then-not-is_among-via-then-not-is_among}
+use Rattle.order_modules.proofs.tracer.Tracer.depend.Goals.{then-not-is_among-via-else-not-is_among+then-is_same}
+use Rattle.order_modules.proofs.tracer.Tracer.depend.Goals.{then-not-is_among-via-else-not-is_among+else-is_same+then-has_patch_in}
 
 pub returns-then-not-is_among-clause-refused : goal.returns-then-not-is_among-clause-refused
 returns-then-not-is_among-clause-refused g c = λ _.
@@ -20,12 +22,16 @@ returns-then-not-is_among-clause-refused g c = λ _.
     let a : Bool = not (is_among earlier s.ended) in
     let b : Bool = bytes_eq later earlier in
     let p : Bool = list_any (λ e. is_same_group e.origin.group later) s.emitted in
-    let among = among_read c.args.self.now earlier i.ended.items c.as_slice.result.now c.is_among.result s.ended c.is_among.ensures c.as_slice.ensures.value (ap (λ (t : Trace). t.tracing.ended) c.self.view_is) in
+    let among = among_read c.args.self.now earlier i.ended.items c.as_slice.result.now c.is_among.result s.ended
+    c.is_among.ensures c.as_slice.ensures.value (ap (λ (t : Trace). t.tracing.ended) c.self.view_is) in
     refused (a || b || p) (fault.GroupFault c.args.line) _ (elim c.then-not-is_among.branch [
-      | then-not-is_among-via-then-not-is_among w ↦ or_first (a || b) p (or_first a b (ap not (among ∙ w.if-not-is_among.true)))
-      | then-not-is_among-via-else-not-is_among+then-is_same w ↦ or_first (a || b) p (or_second a b (sym w.is_same.ensures ∙ w.if-is_same.true))
+      | then-not-is_among-via-then-not-is_among w ↦ or_first (a || b) p
+          (or_first a b (ap not (among ∙ w.if-not-is_among.true)))
+      | then-not-is_among-via-else-not-is_among+then-is_same w ↦
+          or_first (a || b) p (or_second a b (sym w.is_same.ensures ∙ w.if-is_same.true))
       | then-not-is_among-via-else-not-is_among+else-is_same+then-has_patch_in w ↦
-          or_second (a || b) p (ap (λ (t : Trace). list_any (λ e. is_same_group e.origin.group later) t.tracing.emitted) (sym c.self.view_is) ∙ sym w.has_patch_in.ensures ∙ w.if-has_patch_in.true)
+          or_second (a || b) p (ap (λ (t : Trace). list_any (λ e. is_same_group e.origin.group later) t.tracing.emitted)
+          (sym c.self.view_is) ∙ sym w.has_patch_in.ensures ∙ w.if-has_patch_in.true)
     ])
 
 pub returns-clause-ok : goal.returns-clause-ok
@@ -34,21 +40,26 @@ returns-clause-ok g c =
     let later = c.args.later.now in
     let earlier = c.args.earlier.now in
     let line = c.args.line in
-    let old : Trace = trace_of i.log i.disk i.turn i.next (group_by i.current) (names_by i.opened.items) (names_by i.ended.items) in
+    let old : Trace = trace_of i.log i.disk i.turn i.next (group_by i.current) (names_by i.opened.items)
+    (names_by i.ended.items) in
     let a : Bool = not (is_among earlier (names_by i.ended.items)) in
     let b : Bool = bytes_eq later earlier in
     let p : Bool = list_any (λ e. is_same_group e.origin.group later) i.log.emitted in
-    let among = among_read old earlier i.ended.items c.as_slice.result.now c.is_among.result (names_by i.ended.items) c.is_among.ensures c.as_slice.ensures.value refl in
+    let among = among_read old earlier i.ended.items c.as_slice.result.now c.is_among.result (names_by i.ended.items)
+    c.is_among.ensures c.as_slice.ensures.value refl in
     let linked = c.in_ok-link.ensures.ok in
-    subst (λ (t : Trace). Moves t (trace_of c.link.new.self i.disk i.turn i.next (group_by i.current) (names_by i.opened.items) (names_by i.ended.items))
-    (unless (not (is_among earlier t.tracing.ended) || bytes_eq later earlier || list_any (λ e. is_same_group e.origin.group later) t.tracing.emitted) (fault.GroupFault line)
-        (Ok (record t.tracing { links = t.tracing.links ++ (later, earlier) ∷ [] })))) c.self.view_is
+    subst (λ (t : Trace). Moves t (trace_of c.link.new.self i.disk i.turn i.next (group_by i.current)
+    (names_by i.opened.items) (names_by i.ended.items))
+    (unless (not (is_among earlier t.tracing.ended) || bytes_eq later earlier
+    || list_any (λ e. is_same_group e.origin.group later) t.tracing.emitted) (fault.GroupFault line)
+    (Ok (record t.tracing { links = t.tracing.links ++ (later, earlier) ∷ [] })))) c.self.view_is
     (record {
       base = ap (λ (l : Log). l.base) linked;
       kind = ap (λ (l : Log). l.kind) linked;
       rules = ap (λ (l : Log). l.rules) linked;
       turns = omega arith;
       answered = accepted (a || b || p) (fault.GroupFault line) _
-          (or_neither (a || b) p (or_neither a b (ap not (among ∙ c.if-not-is_among.false)) (sym c.is_same.ensures ∙ c.if-is_same.false)) (sym c.has_patch_in.ensures ∙ c.if-has_patch_in.false))
+          (or_neither (a || b) p (or_neither a b (ap not (among ∙ c.if-not-is_among.false))
+          (sym c.is_same.ensures ∙ c.if-is_same.false)) (sym c.has_patch_in.ensures ∙ c.if-has_patch_in.false))
           ∙ ap (λ (l : Log). Ok (record old.tracing { emitted = l.emitted; links = l.links })) (sym linked);
     })

@@ -16,5 +16,6 @@ returns g c =
       emitted = told.emitted ∙ ap (λ (t : Trace). t.tracing.emitted) same;
       links = told.links ∙ ap (λ (t : Trace). t.tracing.links) same;
       rules = told.rules ∙ ap (λ (t : Trace). t.log.rules) same;
-      fits = subst (λ (t : Trace). All (λ patch. patch.block < t.log.base.blocks) c.into_traced.result.patches) same (rw told.patches told.log.known);
+      fits = subst (λ (t : Trace). All (λ patch. patch.block < t.log.base.blocks) c.into_traced.result.patches) same
+          (rw told.patches told.log.known);
     }

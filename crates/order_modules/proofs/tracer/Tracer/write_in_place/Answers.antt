@@ -13,8 +13,10 @@ pub emit_in_place-requires-clause-room : goal.emit_in_place-requires-clause-room
 emit_in_place-requires-clause-room g c =
     let i = c.self.inside in
     let order = subst (λ (t : Trace). IsOrdered t.log.kind) (sym c.self.view_is) c.requires.order in
-    let all : length (changes_in_place i.log.kind c.as_slice.result.now) ≡ length c.as_slice.result.now = ap (λ (xs : List Change). length xs) (placed_all i.log.kind c.as_slice.result.now order) in
-    let same : length c.as_slice.result.now ≡ length c.args.plan.now.items = ap (λ (xs : List Change). length xs) c.as_slice.ensures.value in
+    let all : length (changes_in_place i.log.kind c.as_slice.result.now) ≡ length c.as_slice.result.now =
+    ap (λ (xs : List Change). length xs) (placed_all i.log.kind c.as_slice.result.now order) in
+    let same : length c.as_slice.result.now ≡ length c.args.plan.now.items =
+    ap (λ (xs : List Change). length xs) c.as_slice.ensures.value in
     let room : length i.log.emitted + c.len.result ≤ 124 = c.has_room.ensures.0 c.if-not-has_room.false in
     omega (arith, all, same, room, c.len.ensures.value)
 
@@ -35,10 +37,17 @@ invariant_of-self-2 g c =
 pub returns-clause-ok : goal.returns-clause-ok
 returns-clause-ok g c =
     let i = c.self.inside in
-    let old : Trace = trace_of i.log i.disk i.turn i.next (group_by i.current) (names_by i.opened.items) (names_by i.ended.items) in
+    let old : Trace = trace_of i.log i.disk i.turn i.next (group_by i.current) (names_by i.opened.items)
+    (names_by i.ended.items) in
     let cs = c.args.plan.now.items in
     let order = subst (λ (t : Trace). IsOrdered t.log.kind) (sym c.self.view_is) c.requires.order in
     let room : length i.log.emitted + c.len.result ≤ 124 = c.has_room.ensures.0 c.if-not-has_room.false in
-    let adds = subst (λ (xs : List Change). Adds i.log c.emit_in_place.new.self (map (in_place_patch i.turn (origin_at c.args.line c.args.op.now (group_by i.current))) (changes_in_place i.log.kind xs))) c.as_slice.ensures.value c.in_ok-emit_in_place.ensures.ok in
-    subst (λ (t : Trace). Moves t (trace_of c.emit_in_place.new.self c.apply.new.image (i.turn + 1) i.next (group_by i.current) (names_by i.opened.items) (names_by i.ended.items)) (trace_of_plan t.log.kind c.args.line c.args.op.now t.tracing (Ok cs))) c.self.view_is
-    (moves_in_place old c.args.line c.args.op.now cs c.emit_in_place.new.self c.apply.new.image (i.turn + 1) i.next refl refl c.apply.ensures.changes order adds refl refl c.self.invariant.to (omega (arith, room, c.len.ensures.value)))
+    let adds = subst (λ (xs : List Change). Adds i.log c.emit_in_place.new.self
+    (map (in_place_patch i.turn (origin_at c.args.line c.args.op.now (group_by i.current)))
+    (changes_in_place i.log.kind xs))) c.as_slice.ensures.value c.in_ok-emit_in_place.ensures.ok in
+    subst (λ (t : Trace). Moves t (trace_of c.emit_in_place.new.self c.apply.new.image (i.turn + 1) i.next
+    (group_by i.current) (names_by i.opened.items) (names_by i.ended.items))
+    (trace_of_plan t.log.kind c.args.line c.args.op.now t.tracing (Ok cs))) c.self.view_is
+    (moves_in_place old c.args.line c.args.op.now cs c.emit_in_place.new.self c.apply.new.image (i.turn + 1) i.next refl
+    refl c.apply.ensures.changes order adds refl refl c.self.invariant.to
+    (omega (arith, room, c.len.ensures.value)))

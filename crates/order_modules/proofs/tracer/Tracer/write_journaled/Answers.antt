@@ -4,7 +4,8 @@ use Rattle.crash_model.specs.Trace.{origin_at, trace_of_plan}
 use Rattle.traced_patches.specs.Labels.{group_by}
 use Rattle.order_modules.specs.Tracer.{Trace, Moves, IsJournaled, names_by, trace_of}
 use Rattle.order_modules.specs.Transactions.{targets_of}
-use Rattle.order_modules.proofs.Planning.{trace_kept, moves_journaled, refused_full, refused_many, past_room, transaction_read, known_read}
+use Rattle.order_modules.proofs.Planning.{trace_kept, moves_journaled, refused_full, refused_many, past_room}
+use Rattle.order_modules.proofs.Planning.{transaction_read, known_read}
 use Rattle.order_modules.proofs.tracer.Tracer.write_journaled.Goals as goal
 
 pub returns-then-next-journal-clause-refused : goal.returns-then-next-journal-clause-refused
@@ -51,7 +52,8 @@ invariant_of-self-2 g c = trace_kept _ _ c.emit_transaction.new.self c.apply.new
 pub returns-clause-ok : goal.returns-clause-ok
 returns-clause-ok g c =
     let i = c.self.inside in
-    let old : Trace = trace_of i.log i.disk i.turn i.next (group_by i.current) (names_by i.opened.items) (names_by i.ended.items) in
+    let old : Trace = trace_of i.log i.disk i.turn i.next (group_by i.current) (names_by i.opened.items)
+    (names_by i.ended.items) in
     let cs = c.args.plan.now.items in
     let targets = c.touched_by-targets.result.items in
     let order = subst (λ (t : Trace). IsJournaled t.log.kind) (sym c.self.view_is) c.requires.order in
@@ -62,6 +64,10 @@ returns-clause-ok g c =
     (origin_at c.args.line c.args.op.now (group_by i.current)) targets c.as_slice.result.now cs
     c.as_slice-2.result.now c.in_ok-emit_transaction.ensures.ok c.as_slice.ensures.value
     c.as_slice-2.ensures.value in
-    subst (λ (t : Trace). Moves t (trace_of c.emit_transaction.new.self c.apply.new.image (i.turn + 1) (i.next + 1 + c.len.result) (group_by i.current) (names_by i.opened.items) (names_by i.ended.items)) (trace_of_plan t.log.kind c.args.line c.args.op.now t.tracing (Ok cs))) c.self.view_is
-    (moves_journaled old c.args.line c.args.op.now cs c.emit_transaction.new.self c.apply.new.image (i.turn + 1) (i.next + 1 + c.len.result) refl refl c.apply.ensures.changes targets order are adds refl
-    (omega (arith, c.len.ensures.value)) (omega (arith, c.if-next-journal.false, c.journal.ensures.value)) (omega (arith, room, c.len-2.ensures.value, c.len-3.ensures.value)))
+    subst (λ (t : Trace). Moves t (trace_of c.emit_transaction.new.self c.apply.new.image (i.turn + 1)
+    (i.next + 1 + c.len.result) (group_by i.current) (names_by i.opened.items) (names_by i.ended.items))
+    (trace_of_plan t.log.kind c.args.line c.args.op.now t.tracing (Ok cs))) c.self.view_is
+    (moves_journaled old c.args.line c.args.op.now cs c.emit_transaction.new.self c.apply.new.image (i.turn + 1)
+    (i.next + 1 + c.len.result) refl refl c.apply.ensures.changes targets order are adds refl
+    (omega (arith, c.len.ensures.value)) (omega (arith, c.if-next-journal.false, c.journal.ensures.value))
+    (omega (arith, room, c.len-2.ensures.value, c.len-3.ensures.value)))

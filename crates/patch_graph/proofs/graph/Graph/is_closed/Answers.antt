@@ -11,7 +11,8 @@ returns-clause-crash g c =
     let patches = c.args.self.now in
     let set = c.args.set in
     let closed : IsTrue c.is_closed_in.result ↔ IsClosed (deps_of patches) set =
-    subst (λ (xs : List Patch). IsTrue c.is_closed_in.result ↔ IsClosed (deps_of xs) set) (c.deref.ensures.value ∙ c.self.view_is) c.is_closed_in.ensures in
+    subst (λ (xs : List Patch). IsTrue c.is_closed_in.result ↔ IsClosed (deps_of xs) set)
+    (c.deref.ensures.value ∙ c.self.view_is) c.is_closed_in.ensures in
     let earlier = subst (λ (xs : List Patch). AreEarlier (deps_of xs)) c.self.view_is c.self.invariant.0.earlier in (
       λ yes. closed_left (deps_of patches) (homes_of patches) set earlier (closed.0 yes),
       λ can. closed.1 (left_closed (deps_of patches) (homes_of patches) set can),

@@ -30,18 +30,22 @@ loop-id-preserved g c =
       collected = elim c.if-is_ready.branch [
         | then-is_ready w ↦
             subst (Collects P (id + 1)) (sym (w.ready-is ∙ w.with-ready.ensures))
-            (collects_one P id c.loop-id.ready c.loop-id.invariant.collected (ready_of (deps_of patches) set id x.deps known read (c.is_ready.ensures.0 w.if-is_ready.true)))
+            (collects_one P id c.loop-id.ready c.loop-id.invariant.collected
+            (ready_of (deps_of patches) set id x.deps known read (c.is_ready.ensures.0 w.if-is_ready.true)))
         | else-is_ready w ↦
             subst (Collects P (id + 1)) (sym w.ready-is)
             (collects_skip P id c.loop-id.ready c.loop-id.invariant.collected
-            (λ is. let no : false ≡ true = sym w.if-is_ready.false ∙ c.is_ready.ensures.1 (of_ready (deps_of patches) set id x.deps known read is) in cc))
+            (λ is. let no : false ≡ true = sym w.if-is_ready.false
+            ∙ c.is_ready.ensures.1 (of_ready (deps_of patches) set id x.deps known read is) in cc))
       ];
     }
 
 pub returns : goal.returns
 returns g c = λ id. (
   λ is. ((c.loop-id.invariant.collected id).0 is).1,
-  λ ready. let inside : id < length c.args.self.now = subst (λ n. id < n) (length-map c.args.self.now (λ p. p.deps)) ready.known in
-      let all : length c.deref-patch-items.result.now ≡ length c.args.self.now = ap length c.loop-id.invariant.patches in
+  λ ready. let inside : id < length c.args.self.now = subst (λ n. id < n) (length-map c.args.self.now (λ p. p.deps))
+      ready.known in
+      let all : length c.deref-patch-items.result.now ≡ length c.args.self.now =
+      ap length c.loop-id.invariant.patches in
       (c.loop-id.invariant.collected id).1 (omega (arith, inside, all, c.loop-id-test.false), ready),
 )

@@ -14,11 +14,13 @@ overflow_add-count g c =
 
 pub loop-id-preserved : goal.loop-id-preserved
 loop-id-preserved g c =
-    readies_next (deps_of c.args.self.now) c.args.set c.len-len.ensures.kept.earlier c.loop-id.left c.loop-id.count c.loop-id.invariant c.in-Some.id c.in-Some.ensures.found
+    readies_next (deps_of c.args.self.now) c.args.set c.len-len.ensures.kept.earlier c.loop-id.left c.loop-id.count
+    c.loop-id.invariant c.in-Some.id c.in-Some.ensures.found
     c.without-left.result c.without-left.ensures.others
 
 pub loop-id-smaller : goal.loop-id-smaller
 loop-id-smaller g c = c.without-left.ensures.smaller c.in-Some.ensures.found.inside
 
 pub returns : goal.returns
-returns g c = leaves_all (deps_of c.args.self.now) c.args.set c.len-len.ensures.kept.earlier c.loop-id.left c.loop-id.count c.loop-id.invariant.leaves c.in_default.ensures.found
+returns g c = leaves_all (deps_of c.args.self.now) c.args.set c.len-len.ensures.kept.earlier c.loop-id.left
+    c.loop-id.count c.loop-id.invariant.leaves c.in_default.ensures.found

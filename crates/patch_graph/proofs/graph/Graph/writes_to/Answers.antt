@@ -1,4 +1,5 @@
-use Rattle.std.proofs.Common.{◌≡◌, ℕ, ◌<◌, ◌≤◌, ◌↔◌, List, [], ◌∷◌, ◌++◌, length, get_or, bit_and, arith, refl, sym, ap, subst, ◌∙◌}
+use Rattle.std.proofs.Common.{◌≡◌, ℕ, ◌<◌, ◌≤◌, ◌↔◌, List, [], ◌∷◌, ◌++◌, length, get_or, bit_and, arith, refl, sym, ap}
+use Rattle.std.proofs.Common.{subst, ◌∙◌}
 use Rattle.std.proofs.lemmas.List.{length-map}
 use Rattle.std.specs.Prelude.{slice_index}
 use Rattle.patch_sets.specs.Sets.{Has}
@@ -17,7 +18,8 @@ use Rattle.patch_graph.proofs.graph.Graph.writes_to.Goals as goal
 
 pub loop-id-init : goal.loop-id-init
 loop-id-init g c =
-    subst (λ (writes : List BlockWrite). IsRest (homes_of c.args.self.now) c.args.set (bit_and c.args.set c.ids.result) writes) (sym c.in_ok-writes.ensures.items)
+    subst (λ (writes : List BlockWrite). IsRest (homes_of c.args.self.now) c.args.set (bit_and c.args.set c.ids.result)
+    writes) (sym c.in_ok-writes.ensures.items)
     (rest_start c.args.self.now c.args.set c.ids.result c.ids.ensures)
 
 -- with a write of the run that the lowest id begins, less is left
@@ -67,13 +69,18 @@ loop-id-preserved g c =
 pub returns-clause-runs : goal.returns-clause-runs
 returns-clause-runs g c =
     let homes = homes_of c.args.self.now in
-    runs_from_cut homes c.args.set c.loop-id.writes.items (rest_none homes c.args.set c.loop-id.left c.loop-id.writes.items c.loop-id.invariant c.in_default.ensures.found) c.loop-id.invariant.cut
+    runs_from_cut homes c.args.set c.loop-id.writes.items
+    (rest_none homes c.args.set c.loop-id.left c.loop-id.writes.items c.loop-id.invariant
+    c.in_default.ensures.found) c.loop-id.invariant.cut
 
 pub returns-clause-leads : goal.returns-clause-leads
 returns-clause-leads g c = λ closed.
     let patches = c.args.self.now in
     let homes = homes_of patches in
-    let runs = runs_from_cut homes c.args.set c.loop-id.writes.items (rest_none homes c.args.set c.loop-id.left c.loop-id.writes.items c.loop-id.invariant c.in_default.ensures.found) c.loop-id.invariant.cut in
+    let runs = runs_from_cut homes c.args.set c.loop-id.writes.items
+    (rest_none homes c.args.set c.loop-id.left c.loop-id.writes.items c.loop-id.invariant
+    c.in_default.ensures.found) c.loop-id.invariant.cut in
     let earlier = subst (λ (xs : List Patch). AreEarlier (deps_of xs)) c.self.view_is c.self.invariant.0.earlier in
-    let long : length homes ≡ length (deps_of patches) = length-map patches (λ p. p.block) ∙ sym (length-map patches (λ p. p.deps)) in
+    let long : length homes ≡ length (deps_of patches) = length-map patches (λ p. p.block)
+    ∙ sym (length-map patches (λ p. p.deps)) in
     runs_lead (deps_of patches) homes long c.args.set earlier closed c.loop-id.writes.items runs

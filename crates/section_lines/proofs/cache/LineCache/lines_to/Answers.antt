@@ -12,8 +12,10 @@ returns g c =
     let writes = c.in_ok-writes.writes.items in
     record {
       writes = writes;
-      runs = subst (λ (ps : List Patch). AreRuns (homes_of ps) c.args.ids writes) c.self.view_is c.in_ok-writes.ensures.runs;
+      runs = subst (λ (ps : List Patch). AreRuns (homes_of ps) c.args.ids writes) c.self.view_is
+          c.in_ok-writes.ensures.runs;
       whole = c.in_ok-write_writes.ensures
-          ∙ (ap (λ (text : List ℕ). text ++ flat_map (write_text c.patches.result) c.deref.result.now) c.in_ok-lines.ensures.bytes
+          ∙ (ap (λ (text : List ℕ). text ++ flat_map (write_text c.patches.result) c.deref.result.now)
+          c.in_ok-lines.ensures.bytes
           ∙ ap₂ (λ (n : ℕ) (ws : List BlockWrite). flat_map (write_text n) ws) c.patches.ensures c.deref.ensures.value);
     }

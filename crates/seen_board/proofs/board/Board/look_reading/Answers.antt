@@ -7,7 +7,11 @@ pub look_from-found-requires-clause-before : goal.look_from-found-requires-claus
 look_from-found-requires-clause-before g c = λ k h. absurd (omega (arith, h))
 
 pub returns-in-Some-clause-returns : goal.returns-in-Some-clause-returns
-returns-in-Some-clause-returns g c = returns_from c.args.seat.now c.try_read.new.seat c.leave.new.seat 1 c.args.probe.shard (c.try_read.ensures.right c.in-Right.is) (c.leave.ensures ∙ ap (λ (s : Known). record s { right = 0 }) c.look_from-found.ensures.same)
+returns-in-Some-clause-returns g c = returns_from c.args.seat.now c.try_read.new.seat c.leave.new.seat 1
+    c.args.probe.shard (c.try_read.ensures.right c.in-Right.is)
+    (c.leave.ensures ∙ ap (λ (s : Known). record s { right = 0 }) c.look_from-found.ensures.same)
 
 pub returns-in-None-clause-returns : goal.returns-in-None-clause-returns
-returns-in-None-clause-returns g c = returns_from c.args.seat.now c.try_read.new.seat c.leave.new.seat 1 c.args.probe.shard (c.try_read.ensures.right c.in-Right.is) (c.leave.ensures ∙ ap (λ (s : Known). record s { right = 0 }) c.look_from-found.ensures.same)
+returns-in-None-clause-returns g c = returns_from c.args.seat.now c.try_read.new.seat c.leave.new.seat 1
+    c.args.probe.shard (c.try_read.ensures.right c.in-Right.is)
+    (c.leave.ensures ∙ ap (λ (s : Known). record s { right = 0 }) c.look_from-found.ensures.same)

@@ -8,5 +8,6 @@ invariant-loop-t g l = record {
   table : l.seat.table_id ≡ l.initial.seat.table_id;
   id : l.seat.id ≡ l.initial.seat.id;
   same : l.seat.me ≡ l.initial.seat.me;
-  missed : (u k : ℕ) → u < l.t → slice_index l.initial.seat.me.0.rows.marks (slot l.initial.self.places l.probe.word u) ≡ k + 1 → slice_index (row_of l.initial.seat.me.0.rows.seen l.probe.shard) k ≢ l.probe.word;
+  missed : (u k : ℕ) → u < l.t → slice_index l.initial.seat.me.0.rows.marks (slot l.initial.self.places l.probe.word u)
+      ≡ k + 1 → slice_index (row_of l.initial.seat.me.0.rows.seen l.probe.shard) k ≢ l.probe.word;
 }

@@ -5,4 +5,7 @@ use Rattle.seen_board.specs.Known.{Known}
 use Rattle.seen_board.proofs.board.Board.write.Goals as goal
 
 pub returns-in-Right : goal.returns-in-Right
-returns-in-Right g c = record { right = subst (λ (s : Known). Gains s writer c.args.shard c.try_write.new.seat) c.loop.invariant (c.try_write.ensures.right c.in-Right.is) }
+returns-in-Right g c = record {
+  right = subst (λ (s : Known). Gains s writer c.args.shard c.try_write.new.seat)
+      c.loop.invariant (c.try_write.ensures.right c.in-Right.is);
+}

@@ -11,10 +11,12 @@ nothing sets tally = Unit {0}
 pub returns-then-count-self : goal.returns-then-count-self
 returns-then-count-self t c =
     let self = c.args.self.now in
-    too_many {T = Unit {0}} nothing self.deps.now 0 c.args.set c.args.count (tt {0}) c.requires.counted c.requires.root.closed self.limit c.if-count-self.true
+    too_many {T = Unit {0}} nothing self.deps.now 0 c.args.set c.args.count (tt {0}) c.requires.counted
+    c.requires.root.closed self.limit c.if-count-self.true
 
 pub next_out-id-requires-clause-small : goal.next_out-id-requires-clause-small
-next_out-id-requires-clause-small t c = set_small c.args.self.now.deps.now c.args.set c.requires.root.closed c.args.self.now.few
+next_out-id-requires-clause-small t c = set_small c.args.self.now.deps.now c.args.set c.requires.root.closed
+    c.args.self.now.few
 
 pub loop-id-init : goal.loop-id-init
 loop-id-init t c =
@@ -41,7 +43,8 @@ count_from-requires t c =
     )
 
 pub next_out-id-requires-in-loop-id-clause-small : goal.next_out-id-requires-in-loop-id-clause-small
-next_out-id-requires-in-loop-id-clause-small t c = set_small c.args.self.now.deps.now c.args.set c.requires.root.closed c.args.self.now.few
+next_out-id-requires-in-loop-id-clause-small t c = set_small c.args.self.now.deps.now c.args.set c.requires.root.closed
+    c.args.self.now.few
 
 pub loop-id-preserved : goal.loop-id-preserved
 loop-id-preserved t c =

@@ -7,10 +7,13 @@ pub returns-in_ok-push-clause-told : goal.returns-in_ok-push-clause-told
 returns-in_ok-push-clause-told g c = λ sets told.
     let good = g.S.Space.is_good c.args.self.now.space.now in
     let set = c.args.set in
-    let ill : good set → ⊥ = λ well. let no : false ≡ true = sym c.if-not-branch.true ∙ c.in_ok-judge.ensures.good.1 well in cc in
-    subst (IsPickOf (λ set. good set → ⊥) (sets ++ set ∷ [])) (sym c.in_ok-push.ensures.items) (pick_more (λ set. good set → ⊥) sets c.args.tally.now.items set told ill)
+    let ill : good set → ⊥ = λ well. let no : false ≡ true = sym c.if-not-branch.true
+    ∙ c.in_ok-judge.ensures.good.1 well in cc in
+    subst (IsPickOf (λ set. good set → ⊥) (sets ++ set ∷ [])) (sym c.in_ok-push.ensures.items)
+    (pick_more (λ set. good set → ⊥) sets c.args.tally.now.items set told ill)
 
 pub returns-else-not-branch-clause-told : goal.returns-else-not-branch-clause-told
 returns-else-not-branch-clause-told g c = λ sets told.
     let good = g.S.Space.is_good c.args.self.now.space.now in
-    pick_same (λ set. good set → ⊥) sets c.args.tally.now.items c.args.set told (λ ill. ill (c.in_ok-judge.ensures.good.0 c.if-not-branch.false))
+    pick_same (λ set. good set → ⊥) sets c.args.tally.now.items c.args.set told
+    (λ ill. ill (c.in_ok-judge.ensures.good.0 c.if-not-branch.false))

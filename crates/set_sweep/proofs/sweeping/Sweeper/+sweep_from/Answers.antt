@@ -6,7 +6,8 @@ use Rattle.set_sweep.proofs.Roots.{child_of, outside_next, end_next, end_outside
 use Rattle.set_sweep.proofs.sweeping.Sweeper.+sweep_from.Goals as goal
 
 pub next_out-id-requires-clause-small : goal.next_out-id-requires-clause-small
-next_out-id-requires-clause-small g t c = set_small c.args.self.now.deps.now c.args.set c.requires.root.closed c.args.self.now.few
+next_out-id-requires-clause-small g t c = set_small c.args.self.now.deps.now c.args.set c.requires.root.closed
+    c.args.self.now.few
 
 pub loop-id-init : goal.loop-id-init
 loop-id-init g t c =
@@ -52,7 +53,8 @@ pub returns-in_err-sweep_from-clause-root : goal.returns-in_err-sweep_from-claus
 returns-in_err-sweep_from-clause-root g t c = c.sweep_from.ensures.root ∙ c.loop-id.invariant.root
 
 pub next_out-id-requires-in-loop-id-clause-small : goal.next_out-id-requires-in-loop-id-clause-small
-next_out-id-requires-in-loop-id-clause-small g t c = set_small c.args.self.now.deps.now c.args.set c.requires.root.closed c.args.self.now.few
+next_out-id-requires-in-loop-id-clause-small g t c = set_small c.args.self.now.deps.now c.args.set
+    c.requires.root.closed c.args.self.now.few
 
 pub loop-id-preserved : goal.loop-id-preserved
 loop-id-preserved g t c =
@@ -90,7 +92,9 @@ returns-clause-swept g t c =
     (end_outside inv.at c.loop-id-test.false) inv.swept
 
 pub returns-in_err-visit-clause-too_many : goal.returns-in_err-visit-clause-too_many
-returns-in_err-visit-clause-too_many g t c = let p = err_from_is_err_and c.from_residual.result c.from_residual.ensures.1 in rw (p.1, p.2) c.in_err-visit.ensures.too_many
+returns-in_err-visit-clause-too_many g t c = let p = err_from_is_err_and c.from_residual.result
+    c.from_residual.ensures.1 in rw (p.1, p.2) c.in_err-visit.ensures.too_many
 
 pub returns-in_err-sweep_from-clause-too_many : goal.returns-in_err-sweep_from-clause-too_many
-returns-in_err-sweep_from-clause-too_many g t c = let p = err_from_is_err_and c.from_residual-in_err-sweep_from.result c.from_residual-in_err-sweep_from.ensures.1 in rw (p.1, p.2) c.in_err-sweep_from.ensures.too_many
+returns-in_err-sweep_from-clause-too_many g t c = let p = err_from_is_err_and c.from_residual-in_err-sweep_from.result
+    c.from_residual-in_err-sweep_from.ensures.1 in rw (p.1, p.2) c.in_err-sweep_from.ensures.too_many

@@ -21,4 +21,5 @@ pub returns-clause-done : goal.returns-clause-done
 returns-clause-done g c = record { known = omega (arith, c.if-at-self.false); swept = c.in_ok-part.ensures.swept }
 
 pub returns-in_err-part-clause-too_many : goal.returns-in_err-part-clause-too_many
-returns-in_err-part-clause-too_many g c = let p = err_from_is_err_and c.from_residual.result c.from_residual.ensures.1 in rw (p.1, p.2) (λ is. c.in_err-part.ensures.too_many cc)
+returns-in_err-part-clause-too_many g c = let p = err_from_is_err_and c.from_residual.result
+    c.from_residual.ensures.1 in rw (p.1, p.2) (λ is. c.in_err-part.ensures.too_many cc)

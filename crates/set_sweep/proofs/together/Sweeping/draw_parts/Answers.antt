@@ -11,7 +11,8 @@ loop-init g c =
     let sweeper = self.sweeper.now in
     record {
       own = c.requires.own;
-      done = rw c.new-all.ensures.items (All-nil (IsDone (g.V.Visitor.tells sweeper.visitor.now) sweeper.deps.now self.low self.roots.now));
+      done = rw c.new-all.ensures.items (All-nil (IsDone (g.V.Visitor.tells sweeper.visitor.now) sweeper.deps.now
+          self.low self.roots.now));
     }
 
 pub draw_part-requires-clause-known : goal.draw_part-requires-clause-known
@@ -33,11 +34,13 @@ loop-preserved g c =
     let done = IsDone (g.V.Visitor.tells sweeper.visitor.now) sweeper.deps.now self.low self.roots.now in
     record {
       own = c.in_ok-done.ensures.own;
-      done = rw c.in_ok-push.ensures.items (All-push done c.loop.all.items c.in-Some.done c.loop.invariant.done (subst (λ drawn. IfSome drawn done) c.in-Some.is c.in_ok-done.ensures.done));
+      done = rw c.in_ok-push.ensures.items (All-push done c.loop.all.items c.in-Some.done c.loop.invariant.done
+          (subst (λ drawn. IfSome drawn done) c.in-Some.is c.in_ok-done.ensures.done));
     }
 
 pub returns-clause-done : goal.returns-clause-done
 returns-clause-done g c = c.loop.invariant.done
 
 pub returns-in_err-done-clause-too_many : goal.returns-in_err-done-clause-too_many
-returns-in_err-done-clause-too_many g c = let p = err_from_is_err_and c.from_residual.result c.from_residual.ensures.1 in rw (p.1, p.2) (λ is. c.in_err-done.ensures.too_many cc)
+returns-in_err-done-clause-too_many g c = let p = err_from_is_err_and c.from_residual.result
+    c.from_residual.ensures.1 in rw (p.1, p.2) (λ is. c.in_err-done.ensures.too_many cc)

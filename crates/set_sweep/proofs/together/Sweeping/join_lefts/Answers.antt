@@ -19,7 +19,8 @@ loop-left-preserved g c =
     × (IsErrOf left fault.TooMany → Outnumbers (IsClosed deps) self.sweeper.now.limit)) c.loop-left.lefts.items
     c.pop.new.self.items (Some c.in-Some.left) c.in-Some.ensures.items inv.lefts in
     let some : IfOk c.in-Some.left (λ some. All done some.items) = popped.1.0 in
-    let left : All done c.in_ok-left.left.items = subst (λ r. IfOk r (λ some. All done some.items)) c.in_ok-left.was some in
+    let left : All done c.in_ok-left.left.items = subst (λ r. IfOk r (λ some. All done some.items)) c.in_ok-left.was
+    some in
     record {
       all = subst (All done) (sym c.in_ok-append.ensures.items)
           (All-append done c.loop-left.all.items c.in_ok-left.left.items inv.all left);
@@ -29,7 +30,8 @@ loop-left-preserved g c =
 pub loop-left-init : goal.loop-left-init
 loop-left-init g c =
     let self = c.args.self.now in
-    let done = IsDone (g.V.Visitor.tells self.sweeper.now.visitor.now) self.sweeper.now.deps.now self.low self.roots.now in
+    let done = IsDone (g.V.Visitor.tells self.sweeper.now.visitor.now) self.sweeper.now.deps.now self.low
+    self.roots.now in
     record { all = rw c.new-all.ensures.items (All-nil done); lefts = c.requires }
 
 pub returns-clause-done : goal.returns-clause-done
@@ -44,4 +46,5 @@ returns-in_err-left-clause-too_many g c =
     × (IsErrOf left fault.TooMany → Outnumbers (IsClosed deps) self.sweeper.now.limit)) c.loop-left.lefts.items
     c.pop.new.self.items (Some c.in-Some.left) c.in-Some.ensures.items c.loop-left.invariant.lefts in
     let p = err_from_is_err_and c.from_residual.result c.from_residual.ensures.1 in
-    rw (p.1, p.2) (subst (λ left. IsErrOf left fault.TooMany → Outnumbers (IsClosed deps) self.sweeper.now.limit) c.in_err-left.was popped.1.1)
+    rw (p.1, p.2) (subst (λ left. IsErrOf left fault.TooMany → Outnumbers (IsClosed deps) self.sweeper.now.limit)
+    c.in_err-left.was popped.1.1)

@@ -13,7 +13,8 @@ pub returns : goal.returns
 returns g c =
     let i = c.self.inside in
     let rule = c.args.rule in
-    let placed : length (places_of i.graph) ≡ length i.graph = length-map i.graph (λ (p : Patch). place p.block p.offset p.new.items) in
+    let placed : length (places_of i.graph) ≡ length i.graph =
+    length-map i.graph (λ (p : Patch). place p.block p.offset p.new.items) in
     let labelled : length i.labels.items ≡ length (places_of i.graph) = omega (arith, placed, c.self.invariant) in
     c.pairs_in.ensures
     ∙ ap (λ (labels : List Label). pairs_of rule (map emitted_of labels)) c.as_slice.ensures.value

@@ -1,0 +1,21 @@
+-- What worked examples compute, opened by one name each.
+use Rattle.crash_model.specs.Lists.{each_below, some_below, first_below}
+use Rattle.crash_model.specs.Disk.{overwrite}
+use Rattle.crash_model.specs.Plan.{plan_of}
+use Rattle.crash_model.specs.Faults.{each_slot, each_entry, namers, entries_to, faults}
+use Rattle.crash_model.specs.Strict.{reach_in, is_reached, strict_faults}
+
+-- operations on a disk
+unfoldable pub planner : Unit {0}
+unfolding overwrite each_below some_below first_below plan_of
+planner = tt
+
+-- the six faults of a disk
+unfoldable pub checker : Unit {0}
+unfolding overwrite each_below some_below first_below each_slot each_entry namers entries_to faults
+checker = tt
+
+-- those of a strict checker, after operations
+unfoldable pub strict_checker : Unit {0}
+unfolding planner checker reach_in is_reached strict_faults
+strict_checker = tt
