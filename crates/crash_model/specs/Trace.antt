@@ -1,6 +1,6 @@
 -- The patches of a script's steps, and which depends on which.
 use Rattle.std.specs.Prelude.{◌≡◌, ℕ, ◌+◌, ◌<◌, List, [], ◌∷◌, ◌++◌, length, map, filter, Bool, true, false, ◌&&◌, ◌||◌}
-use Rattle.std.specs.Prelude.{◌==◌, not, nat_lt, if◌then◌else◌, Option, Some, None, is_some, Result, Ok, Err, bytes_eq}
+use Rattle.std.specs.Prelude.{◌==◌, not, nat_lt, Option, Some, None, is_some, Result, Ok, Err, bytes_eq}
 use Rattle.std.specs.Prelude.{◌↔◌, slice_get, slice_index, IsTrue}
 use Rattle.std.specs.List.{range_with_len, list_any}
 use Rattle.crash_model.specs.declared.disk_bytes.TheConstants.{COMMITTED_MARK, DONE_MARK}

@@ -1,5 +1,5 @@
 -- A hand stays a hand of its call.
-use Rattle.std.proofs.Common.{◌≡◌, ◌+◌, ◌<◌, ℕ, suc, List, [], ◌∷◌, ◌++◌, Option, Some, None, MatchOption, set, take}
+use Rattle.std.proofs.Common.{◌≡◌, ◌+◌, ◌<◌, ℕ, suc, List, ◌∷◌, Option, Some, None, MatchOption, set, take}
 use Rattle.std.proofs.Common.{drop, sum_by, get_or, length, All, ap, sym, subst, ◌∙◌, arith}
 use Rattle.std.proofs.lemmas.List.{length-map, map-set, set-get_or, get_or-map, get_or_default}
 use Rattle.std.specs.List.{remove}
