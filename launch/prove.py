@@ -10,6 +10,7 @@ import contextlib
 import fcntl
 import glob
 import os
+import re
 import shutil
 import signal
 import subprocess
@@ -214,7 +215,7 @@ class Run:
             self.lanes.append(lane)
             del self.working[crate.name]
             if process.returncode:
-                self.failed = self.failed or f"{crate.name}: {said}"
+                self.failed = self.failed or (crate.name, said)
             else:
                 self.proved.add(crate.name)
                 done = f"{len(self.proved)} of {len(self.crates) + 1}"
@@ -234,7 +235,7 @@ class Run:
             self.begin(crate, min(spare + 1, self.processors) if spare > 0 else 1)
 
     def to_the_end(self):
-        """Proves all crates. Returns what a check said that failed, if one did."""
+        """Proves all crates. Returns the name of one that is not proved, and what its check said, if there is one."""
         with self.turn:
             while not self.failed and len(self.proved) < len(self.crates):
                 self.begin_some()
@@ -250,7 +251,8 @@ class Run:
 
 
 def prove_all(top):
-    """Proves all crates below the program. Returns what a check said that failed, if one did."""
+    """Proves all crates below the program. Returns the name of one that is not proved, and what its check said, if there
+    is one."""
     crates = read_crates(top)
     out = f"{top}/crates/{PROGRAM}/out"
     os.makedirs(out, exist_ok=True)
@@ -268,11 +270,12 @@ def prove_all(top):
                 run.stop()
 
 
-def what_failed(said):
-    """Returns the lines of a check that tell what it could not prove or read, twenty at most."""
-    passed = ("library ", "statements ", "logic ")
-    lines = [it for it in said.splitlines() if not it.startswith(passed) and not it.endswith(": proved")]
-    return "\n".join(lines[-20:])
+def tell(name, said):
+    """Tells which crate is not proved, and what its check says of it, in twenty lines at most."""
+    lines = said.splitlines()
+    told = [it for it in lines if re.search(r"error[:\[]|not proved|no proof|did not prove|^rt: ", it)]
+    say(f"{name} is not proved: rt check in crates/{name} tells more")
+    print("\n".join(told[:20] or lines[-20:]), file=sys.stderr)
 
 
 def main():
@@ -283,7 +286,7 @@ def main():
         signal.signal(number, lambda number, _: sys.exit(128 + number))
     failed = prove_all(top)
     if failed:
-        print(what_failed(failed), file=sys.stderr)
+        tell(*failed)
     return 1 if failed else 0
 
 
