@@ -251,8 +251,8 @@ class Run:
 
 
 def prove_all(top):
-    """Proves all crates below the program. Returns the name of one that is not proved, and what its check said, if there
-    is one."""
+    """Proves all crates below the program. Returns the name of one that is not proved, and what its check said, if
+    there is one."""
     crates = read_crates(top)
     out = f"{top}/crates/{PROGRAM}/out"
     os.makedirs(out, exist_ok=True)
