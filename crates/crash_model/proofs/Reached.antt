@@ -10,7 +10,7 @@ use Rattle.patch_sets.specs.Sets.{ids_below}
 use Rattle.patch_sets.proofs.Ids.{eq_from_true, true_from_eq, from_ids, to_ids, ids_suc}
 use Rattle.crash_model.specs.Disk.{Disk}
 use Rattle.crash_model.specs.Layout.{kind_of, is_live}
-use Rattle.crash_model.specs.Strict.{is_in, is_named, reach_in, is_reached}
+use Rattle.crash_model.specs.Strict.{is_in, has_entry_to, reach_in, is_reached}
 
 -- ---- tests
 
@@ -121,7 +121,7 @@ module _ (d : Disk) where
   abbrev passes : ℕ → ℕ → Bool
   passes zero inode = inode == 0 && kind_of d 0 == 2
   passes (suc n) inode = is_in (reach_in d n) inode || (is_live d inode
-      && list_any (λ dir. is_named d dir inode) (reach_in d n))
+      && list_any (λ dir. has_entry_to d dir inode) (reach_in d n))
 
   reached-ids : (n : ℕ) → reach_in d n ≡ ids_below 16 (passes n)
   unfolding reach_in
@@ -149,10 +149,10 @@ module _ (d : Disk) where
   live_below i live = grind (arith, live)
 
   -- an entry leads one step further
-  step_in : (n dir i : ℕ) → is_in (reach_in d n) dir ≡ true → is_named d dir i ≡ true → is_live d i ≡ true
+  step_in : (n dir i : ℕ) → is_in (reach_in d n) dir ≡ true → has_entry_to d dir i ≡ true → is_live d i ≡ true
       → is_in (reach_in d (suc n)) i ≡ true
   step_in n dir i is names live = to_reached (suc n) i (live_below i live) (or_right (is_in (reach_in d n) i) _
-      (and_both (is_live d i) _ live (any_to (λ (x : ℕ). is_named d x i) (reach_in d n) dir is names)))
+      (and_both (is_live d i) _ live (any_to (λ (x : ℕ). has_entry_to d x i) (reach_in d n) dir is names)))
 
   -- ---- the last step at which something is added
 
@@ -164,7 +164,7 @@ module _ (d : Disk) where
     | inl before ↦ before
     | inr led ↦
         let parts = and_parts (is_live d i) _ led in
-        let found = any_from (λ (dir : ℕ). is_named d dir i) (reach_in d (suc n)) parts.1 in
+        let found = any_from (λ (dir : ℕ). has_entry_to d dir i) (reach_in d (suc n)) parts.1 in
         step_in n found.0 i (still found.0 found.1) found.2 parts.0
   ]
 
@@ -203,13 +203,13 @@ module _ (d : Disk) where
   reached-root is = kept_on 0 16 0 (to_reached 0 0 (omega arith)
       (and_both (0 == 0) (kind_of d 0 == 2) refl (true_from_eq (kind_of d 0) 2 is)))
 
-  pub reached-step : (dir i : ℕ) → is_reached d dir ≡ true → is_named d dir i ≡ true → is_live d i ≡ true
+  pub reached-step : (dir i : ℕ) → is_reached d dir ≡ true → has_entry_to d dir i ≡ true → is_live d i ≡ true
       → is_reached d i ≡ true
   unfolding is_reached
   reached-step dir i is names live = still_at_last i (step_in 16 dir i is names live)
 
   module _ (P : ℕ → Type 0) (root : kind_of d 0 ≡ 2 → P 0)
-      (step : (dir i : ℕ) → P dir → is_named d dir i ≡ true → is_live d i ≡ true → P i) where
+      (step : (dir i : ℕ) → P dir → has_entry_to d dir i ≡ true → is_live d i ≡ true → P i) where
     least_in : (n i : ℕ) → is_in (reach_in d n) i ≡ true → P i
     least_in zero i is =
         let parts = and_parts (i == 0) (kind_of d 0 == 2) (from_reached 0 i is).1 in
@@ -218,7 +218,7 @@ module _ (d : Disk) where
       | inl before ↦ least_in n i before
       | inr led ↦
           let parts = and_parts (is_live d i) _ led in
-          let found = any_from (λ (dir : ℕ). is_named d dir i) (reach_in d n) parts.1 in
+          let found = any_from (λ (dir : ℕ). has_entry_to d dir i) (reach_in d n) parts.1 in
           step found.0 i (least_in n found.0 found.1) found.2 parts.0
     ]
 

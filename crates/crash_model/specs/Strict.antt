@@ -46,15 +46,15 @@ abbrev pub is_in : List ℕ → ℕ → Bool
 is_in inodes inode = list_any (λ i. inode == i) inodes
 
 -- an entry of a directory leads to an inode
-abbrev pub is_named : Disk → ℕ → ℕ → Bool
-is_named d dir inode = list_any (λ k. leads_to d dir k inode) (range_with_len 0 10)
+abbrev pub has_entry_to : Disk → ℕ → ℕ → Bool
+has_entry_to d dir inode = list_any (λ k. leads_to d dir k inode) (range_with_len 0 10)
 
 -- the inodes to which entries lead from inode 0, a directory, in at most so many steps, each to a live inode
 unfoldable pub reach_in : Disk → ℕ → List ℕ
 reach_in d zero = ids_below 16 (λ inode. inode == 0 && kind_of d 0 == DIRECTORY_KIND)
 reach_in d (suc n) =
     let before = reach_in d n in
-    ids_below 16 (λ inode. is_in before inode || (is_live d inode && list_any (λ dir. is_named d dir inode) before))
+    ids_below 16 (λ inode. is_in before inode || (is_live d inode && list_any (λ dir. has_entry_to d dir inode) before))
 
 -- of 16 inodes each that is reached at all is reached in 16 steps
 unfoldable pub is_reached : Disk → ℕ → Bool

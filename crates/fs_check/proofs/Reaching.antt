@@ -20,7 +20,7 @@ use Rattle.crash_model.specs.Layout.{kind_of, pointer_of, is_live, counts, entry
 use Rattle.crash_model.specs.Lists.{some_below}
 use Rattle.crash_model.specs.Faults.{leads_to}
 use Rattle.crash_model.specs.declared.fault.Fault.{Fault}
-use Rattle.crash_model.specs.Strict.{is_named, is_reached, is_lost, LosesNothing, strict_faults}
+use Rattle.crash_model.specs.Strict.{has_entry_to, is_reached, is_lost, LosesNothing, strict_faults}
 use Rattle.crash_model.proofs.Reached.{reached-root, reached-step, reached-least}
 use Rattle.fs_check.specs.Strict.{lost_at, bare_at, IsNamedBy}
 use Rattle.fs_check.proofs.Entries.{live-below}
@@ -147,7 +147,7 @@ module _ (d : Disk) (dir : ℕ) where
   uncounted not_so [] inode = refl
   uncounted not_so (k ∷ ks) inode = rw (not_so, uncounted not_so ks inode) refl
 
-  pub named-uncounted : counts d dir ≡ false → (inode : ℕ) → has 0 inode ≡ (is_live d inode && is_named d dir inode)
+  pub named-uncounted : counts d dir ≡ false → (inode : ℕ) → has 0 inode ≡ (is_live d inode && has_entry_to d dir inode)
   named-uncounted not_so inode = has_false 0 inode (none_in_empty inode)
       ∙ sym (and_right (is_live d inode) _ (uncounted not_so (range_with_len 0 10) inode))
 
@@ -156,7 +156,7 @@ module _ (d : Disk) (dir : ℕ) where
 pub record Reaching (d : Disk) (reached unread : ℕ) : Type 0 where
   pub sound : (i : ℕ) → has reached i ≡ true → is_reached d i ≡ true
   pub root : kind_of d 0 ≡ 2 → has reached 0 ≡ true
-  pub read : (e i : ℕ) → e < 16 → has unread e ≡ false → is_named d e i ≡ true → is_live d i ≡ true
+  pub read : (e i : ℕ) → e < 16 → has unread e ≡ false → has_entry_to d e i ≡ true → is_live d i ≡ true
       → has reached i ≡ true
   pub few : (i : ℕ) → has unread i ≡ true → i < 16
 
@@ -197,14 +197,14 @@ module _ (d : Disk) where
     sound = λ i t. elim (in_or_cases reached named i (from_has (bit_or reached named) i t)) [
       | inl before ↦ old.sound i (has_true reached i before)
       | inr more ↦
-          let parts = and_parts (is_live d i) (is_named d dir i) (sym (by i) ∙ has_true named i more) in
+          let parts = and_parts (is_live d i) (has_entry_to d dir i) (sym (by i) ∙ has_true named i more) in
           reached-step d dir i (old.sound dir there) parts.1 parts.0
     ];
     root = λ e. has_true (bit_or reached named) 0 (in_or_left reached named 0 (from_has reached 0 (old.root e)));
     read = λ e i below gone names live. elim (cases_eq e dir) [
       | inl same ↦ has_true (bit_or reached named) i (in_or_right reached named i (from_has named i
-          (by i ∙ both_true (is_live d i) (is_named d dir i) live
-          (subst (λ (x : ℕ). is_named d x i ≡ true) same names))))
+          (by i ∙ both_true (is_live d i) (has_entry_to d dir i) live
+          (subst (λ (x : ℕ). has_entry_to d x i ≡ true) same names))))
       | inr other ↦
           let before : has unread e ≡ false = has_false unread e
           (λ is. false≢true (sym gone ∙ has_true rest e ((without.others e other).1 is))) in
@@ -347,7 +347,7 @@ module _ (d : Disk) where
   pub counts-directory : (e : ℕ) → kind_of d e ≢ 2 → counts d e ≡ false
   counts-directory e is_not = rw (ne_eqb (kind_of d e) 2 is_not) refl
 
-  names_none : (e i : ℕ) → kind_of d e ≢ 2 → is_named d e i ≡ false
+  names_none : (e i : ℕ) → kind_of d e ≢ 2 → has_entry_to d e i ≡ false
   names_none e i is_not = uncounted d e (counts-directory e is_not) (range_with_len 0 10) i
 
   -- what is no directory has no entries to be read

@@ -5,7 +5,7 @@ use Rattle.patch_sets.specs.Sets.{Has, has}
 use Rattle.crash_model.specs.Disk.{Disk}
 use Rattle.crash_model.specs.Layout.{kind_of, is_live}
 use Rattle.crash_model.specs.Lists.{when}
-use Rattle.crash_model.specs.Strict.{is_named, is_lost, lacks_block}
+use Rattle.crash_model.specs.Strict.{has_entry_to, is_lost, lacks_block}
 use Rattle.crash_model.specs.declared.fault.Fault.{Fault}
 use Rattle.crash_model.specs.declared.fault.Fault.TheVariants.{Lost, NoBlock}
 use Rattle.fs_check.specs.declared.clean.Directories.{Directories}
@@ -19,7 +19,7 @@ bare_at d inode = when (lacks_block d inode) (NoBlock inode)
 
 -- the set of the live inodes to which an inode's entries lead
 abbrev pub IsNamedBy : Disk → ℕ → ℕ → Type 0
-IsNamedBy d dir named = (inode : ℕ) → has named inode ≡ (is_live d inode && is_named d dir inode)
+IsNamedBy d dir named = (inode : ℕ) → has named inode ≡ (is_live d inode && has_entry_to d dir inode)
 
 -- that set of each inode, and the set of the directories
 pub record AreDirectories (d : Disk) (found : Directories) : Type 0 where

@@ -15,7 +15,7 @@ use Rattle.crash_model.specs.Sound.{IsSound, ReachedIn}
 use Rattle.crash_model.specs.Patches.{image_of}
 use Rattle.crash_model.specs.Plan.{plan_of, with_plan}
 use Rattle.crash_model.specs.Replay.{image_after_replay}
-use Rattle.crash_model.specs.Strict.{disk_after, stays_live, IsKept, is_named, is_reached, LosesNothing, IsCleanUnder}
+use Rattle.crash_model.specs.Strict.{disk_after, stays_live, IsKept, has_entry_to, is_reached, LosesNothing, IsCleanUnder}
 use Rattle.crash_model.specs.Trace.{Tracing}
 use Rattle.crash_model.specs.declared.patches.Patch.{Patch}
 use Rattle.crash_model.specs.declared.steps.Act.{Act}
@@ -37,7 +37,7 @@ not_dead false live e is = absurd (false≢true is)
 module _ (d : Disk) (sound : IsSound d) where
   -- the entry at a place leads to its target
   named-by : (dir k inode : ℕ) → k < 10 → is_entry d dir k ≡ true → target_of d dir k ≡ inode
-      → is_named d dir inode ≡ true
+      → has_entry_to d dir inode ≡ true
   named-by dir k inode below used is =
       let at : get_or (range_with_len 0 10) k 0 ≡ 0 + k = get_or-range_with_len 0 10 k 0 below in
       let same : get_or (range_with_len 0 10) k 0 ≡ k = omega (arith, at) in
