@@ -8,7 +8,7 @@ if [ ! -x "$1" ]; then
     exit 1
 fi
 passed=0 failed=0
-for part in refused devices progress gallery page; do
+for part in refused devices progress gallery page launcher; do
     said=$(bash "$here/$part.sh" "$1") || true
     echo "${said%$'\n'*}"
     read -r well _ bad _ <<<"${said##*$'\n'}"

@@ -16,11 +16,10 @@
 # part of less than a millisecond drowns in what two runs differ by, and may come out negative.
 set -eu
 top=$(cd "$(dirname "${BASH_SOURCE[0]}")/.." && pwd)
-printf 'start\n' | "$top/crashmap" >/dev/null # builds it where it is not built
-(cd "$top/crates/bench_judge" && rt run <stdin >/dev/null 2>&1)
-program=$top/crates/crashmap/out/crashmap
-eval "$(grep '^tunables=' "$top/crashmap")"
-judge=$top/crates/bench_judge/out/bench_judge
+. "$top/launch/programs.sh"
+for name in crashmap bench_judge; do is_built "$name" || build "$name"; done
+program=$(program_of crashmap)
+judge=$(program_of bench_judge)
 rival=${RIVAL:-}
 rounds=${ROUNDS:-15}
 limit=32768

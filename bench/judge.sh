@@ -4,9 +4,9 @@
 # Not part of the gate.
 set -eu
 top=$(cd "$(dirname "${BASH_SOURCE[0]}")/.." && pwd)
-crate=$top/crates/bench_judge
-(cd "$crate" && rt run <stdin >/dev/null 2>&1) # builds it where it is not built
-program=$crate/out/bench_judge
+. "$top/launch/programs.sh"
+is_built bench_judge || build bench_judge
+program=$(program_of bench_judge)
 
 if [ $# -gt 0 ]; then
     script=$1
@@ -14,5 +14,5 @@ if [ $# -gt 0 ]; then
     exec "$program" "$@" <"$script"
 fi
 for order in async soft meta full; do
-    echo "$order: $("$program" --module "$order" --blocks 24 --journal 12 --limit 32768 <"$crate/stdin" 2>&1 | paste -sd ' ')"
+    echo "$order: $("$program" --module "$order" --blocks 24 --journal 12 --limit 32768 <"$top/crates/bench_judge/stdin" 2>&1 | paste -sd ' ')"
 done

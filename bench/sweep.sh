@@ -11,9 +11,9 @@
 # is told as well; CRASHMAP_ENGINE is 'list' for it.
 set -eu
 top=$(cd "$(dirname "${BASH_SOURCE[0]}")/.." && pwd)
-printf 'start\n' | "$top/crashmap" >/dev/null # builds it where it is not built
-program=$top/crates/crashmap/out/crashmap
-eval "$(grep '^tunables=' "$top/crashmap")"
+. "$top/launch/programs.sh"
+is_built crashmap || build crashmap
+program=$(program_of crashmap)
 rival=${RIVAL:-}
 rounds=${ROUNDS:-15}
 export CRASHMAP_ENGINE=list
