@@ -18,10 +18,10 @@ SOURCES = ("src", "specs", "proofs")
 # What a program is tried on once it is built, and what it must write.
 TRIAL = ("args", "stdin", "stdout")
 
-# What a processor needs for a line of source, specs or proofs, and what building the program takes, in seconds: as
-# measured on a slow machine, until the run itself tells better.
-OF_A_LINE = 0.05
-OF_THE_BUILD = 180
+# What a processor needs for a line of source, specs or proofs, and what building the program takes, in seconds: in the
+# middle between a slow machine and a fast one, until the run itself tells better.
+OF_A_LINE = 0.04
+OF_THE_BUILD = 130
 
 
 def say(text):
