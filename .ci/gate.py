@@ -70,7 +70,8 @@ class Clock(threading.Thread):
                 here[int(name)] = (int(name), fields[19]), (int(fields[11]) + int(fields[12])) / TICKS
         for process, (key, seconds) in here.items():
             if self.is_below(process, parents):
-                crate = self.crates.get(key) or crate_of(process) or self.crates.get(here.get(parents[process], (None,))[0])
+                above, *_ = here.get(parents[process], (None,))
+                crate = self.crates.get(key) or crate_of(process) or self.crates.get(above)
                 self.crates[key], self.took[key] = crate, seconds
                 busy.add(crate)
                 if is_edit(process):
@@ -117,7 +118,8 @@ def main():
     began = time.time()
     passed, failed, watch = follow(["rt", "ci"], True)
     for crate, minutes, edits, span in watch.table():
-        print(f"time: {crate}: {minutes:.1f} minutes of processor time, {edits:.1f} of them on edits, {span:.1f} by the clock")
+        print(f"time: {crate}: {minutes:.1f} minutes of processor time, {edits:.1f} of them on edits,"
+              f" {span:.1f} by the clock")
     used = resource.getrusage(resource.RUSAGE_CHILDREN)
     whole, clock = (used.ru_utime + used.ru_stime) / 60, (time.time() - began) / 60
     print(f"time: rt ci in all: {whole:.0f} minutes of processor time, {clock:.0f} by the clock", flush=True)

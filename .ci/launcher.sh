@@ -10,7 +10,8 @@ passed=0 failed=0
 top=$work/top
 said=$work/said
 export TMPDIR=$work/tmp FAKE=$work/fake
-mkdir -p "$TMPDIR" "$FAKE" "$work/bin" "$top/crates/low/"{src,proofs,must-fail,out} "$top/crates/prog/src" "$top/crates/other/src"
+mkdir -p "$TMPDIR" "$FAKE" "$work/bin"
+mkdir -p "$top/crates/low/"{src,proofs,must-fail,out} "$top/crates/"{prog,other}/src
 cp -r "$home/launch" "$top/launch"
 echo 'Handles allowed: none.' >"$top/HANDLES"
 printf '# two crates and one beside\nlow:\nprog may_wait=1: low clap\nother: low\n' >"$top/crates.txt"
@@ -83,8 +84,8 @@ must 'it tells how much there is to do' says 'proving and building prog: 2 crate
 must 'it tells of each crate' says 'proved low, 1 of 2; about '
 must 'it tells of the last crate' says 'proved prog, 2 of 2'
 must 'the built program runs' [ "$("$top/crates/prog/out/prog" 1 2)" = 'runs 1 2' ]
-printf '%s\n' ./HANDLES ./crates.txt ./crates/low/{proofs/Lib.antt,src/lib.rt} ./crates/prog/{src/main.rt,stdin,stdout} \
-    'low:' 'prog may_wait=1: low clap' >"$work/wanted"
+printf '%s\n' ./HANDLES ./crates.txt ./crates/low/{proofs/Lib.antt,src/lib.rt} \
+    ./crates/prog/{src/main.rt,stdin,stdout} 'low:' 'prog may_wait=1: low clap' >"$work/wanted"
 must 'rt is given what is proved, and nothing beside' cmp "$work/wanted" "$FAKE/files"
 must 'it is the gate that is asked' [ "$(cat "$FAKE/calls")" = ci ]
 must 'nothing is left behind' [ -z "$(left)" ]

@@ -6,7 +6,8 @@ python3 - "$(realpath "$1")" <<'P'
 import os, pty, re, subprocess, sys, time
 
 # ten files are created and five of them written: 39,135,393 closed sets, some seconds of work
-script = "".join(["start\n", *(f"create /{name}\n" for name in "abcdefghij"), *(f"write /{name}\n" for name in "abcde")])
+script = "start\n" + "".join(f"create /{name}\n" for name in "abcdefghij")
+script += "".join(f"write /{name}\n" for name in "abcde")
 words = [sys.argv[1], "--limit", "1000000000", "--workers", "2"]
 report = b"module soft\npatches 35\nclosed 39135393\nfailing 0\n"
 wiped = b"\r\x1b[K"
@@ -57,8 +58,10 @@ expect("a long run on a terminal", holds, (status, out, shown[-200:], seconds))
 status, out, shown, seconds = on_terminal([sys.argv[1]], b"start\ncreate /a\n")
 expect("a short run on a terminal", (status, out[:12], shown) == (0, b"module soft\n", b""), (status, out, shown))
 
-status, out, shown, seconds = on_terminal([*words, "--summary"], script.encode().replace(b"start\n", b"start\nnothing\n"))
-expect("a refusal on a terminal", (status, out) == (2, b"") and shown.startswith(b"crashmap: line 2: "), (status, out, shown))
+refused = script.encode().replace(b"start\n", b"start\nnothing\n")
+status, out, shown, seconds = on_terminal([*words, "--summary"], refused)
+is_refused = (status, out) == (2, b"") and shown.startswith(b"crashmap: line 2: ")
+expect("a refusal on a terminal", is_refused, (status, out, shown))
 print(f"{passed} passed, {failed} failed")
 sys.exit(failed > 0)
 P

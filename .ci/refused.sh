@@ -79,7 +79,8 @@ refuse_each() {
             "$program" "$@" <"$input" >"$work/out" 2>"$work/err" || status=$?
         if [ "$status" = "$wanted" ] && cmp -s "$work/out" "$work/report" && cmp -s "$work/err" "$work/said"; then
             if [ ! -e "$work/mark" ]; then
-                echo "refused memory, $name: $((number - 1)) requests, each refused in turn: out of memory each time but $reports"
+                echo "refused memory, $name: $((number - 1)) requests, each refused in turn:" \
+                    "out of memory each time but $reports"
                 [ "$number" -gt 1 ]
                 return
             fi

@@ -3,8 +3,9 @@
 
 hostile_images.py --reference FILE [--count N]
 
-FILE is a Python module with the functions of the definitions: formatted, plan, apply, faults, replayed and read_path, and
-Operation, Refused and REFUSAL_TEXTS. The images are those of crates/test_hostile, made by the same rules from the same seeds.
+FILE is a Python module with the functions of the definitions: formatted, plan, apply, faults, replayed and read_path,
+and Operation, Refused and REFUSAL_TEXTS. The images are those of crates/test_hostile, made by the same rules from the
+same seeds.
 """
 
 import hashlib
@@ -13,8 +14,8 @@ from reference import reference_and_count
 from seeded import Noise
 
 TELLING = [0, 0, 0, 1, 1, 2, 2, 3, 4, 5, 10, 15, 0x44, 0x46, 0xC7, 0xC8]
-ROLES = ["InodeInit", "EntrySet", "EntryClear", "MapSet", "MapClear", "InitFile", "InitDir", "Ptr", "LinkUp", "LinkDown",
-         "InodeFree"]
+ROLES = ["InodeInit", "EntrySet", "EntryClear", "MapSet", "MapClear", "InitFile", "InitDir", "Ptr", "LinkUp",
+         "LinkDown", "InodeFree"]
 FIRST = ["mkdir /d", "create /a", "write /a", "create /d/x", "link /a /d/y"]
 PLANNED = ["create /a", "create /n", "create /d/n", "create /d/x/n", "mkdir /m", "write /a", "write /d", "unlink /a",
            "unlink /d/x", "unlink /d", "link /d/y /z", "link /a /d/w", "rename /a /d/w", "rename /d/x /w", "rmdir /d",

@@ -1,10 +1,10 @@
 #!/usr/bin/env python3
-"""Prints what a reference program answers to scripts of noise, as the digests that the tests of crates/test_hostile expect.
+"""Prints what a reference program answers to scripts of noise, as the digests that crates/test_hostile expects.
 
 hostile_scripts.py --reference FILE [--count N]
 
-FILE is a Python module with `program(words, input, out, err)`, which answers a command line by the definitions and gives the
-exit status. The scripts are those of crates/test_hostile, made by the same rules from the same seeds.
+FILE is a Python module with `program(words, input, out, err)`, which answers a command line by the definitions and
+gives the exit status. The scripts are those of crates/test_hostile, made by the same rules from the same seeds.
 """
 
 import collections
@@ -17,8 +17,8 @@ from seeded import Noise
 
 TELLING = b"start\ncreate /abd\nlinkmw \n# /A1\xff"
 LINES = [b"write /b\n", b"create /a\n", b"create /b\n", b"write /a\n", b"unlink /a\n", b"mkdir /d\n", b"create /d/x\n",
-         b"rmdir /d\n", b"link /a /d/y\n", b"rename /a /b\n", b"group A\n", b"end\n", b"depend B A\n", b"group B\n", b"# x\n",
-         b"create /c\n"]
+         b"rmdir /d\n", b"link /a /d/y\n", b"rename /a /b\n", b"group A\n", b"end\n", b"depend B A\n", b"group B\n",
+         b"# x\n", b"create /c\n"]
 BASE = b"mkdir /d\ncreate /a\n"
 NAMED = b"mkdir /d\ncreate /a\ncreate /b\ncreate /d/x\ncreate /f\nstart\n"
 APART = [b"write /a\n", b"link /a /d/y\n", b"create /c\n", b"rename /b /e\n", b"mkdir /m\n", b"unlink /d/x\n",
@@ -59,7 +59,8 @@ def main():
             status = reference.program(words, io.BytesIO(kind(Noise(seed), seed)), out, err)
             digest.update(bytes([status]) + out.getvalue() + err.getvalue())
             answers[status] += 1
-        print("%s: statuses %s digest %s" % (" ".join([kind.__name__, *form]), sorted(answers.items()), digest.hexdigest()))
+        name = " ".join([kind.__name__, *form])
+        print("%s: statuses %s digest %s" % (name, sorted(answers.items()), digest.hexdigest()))
 
 
 if __name__ == "__main__":

@@ -3,9 +3,10 @@
 
 noise.py PROGRAM [--count N] [--seed S] [--jobs J] [--timeout SECONDS] [--reference FILE]
 
-Each run has to end with a report (status 0 or 1, nothing on standard error) or with one named refusal (status 2, nothing on
-standard output). With --reference, a Python module whose `program(words, input, out, err)` answers by the definitions, all
-three have to be what it answers. Prints each mismatch, how often each answer came, and a last line `N passed, M failed`.
+Each run has to end with a report (status 0 or 1, nothing on standard error) or with one named refusal (status 2,
+nothing on standard output). With --reference, a Python module whose `program(words, input, out, err)` answers by the
+definitions, all three have to be what it answers. Prints each mismatch, how often each answer came, and a last line
+`N passed, M failed`.
 """
 
 import argparse
@@ -30,7 +31,8 @@ SCRIPTS = [
     b"mkdir /a\nmkdir /a/b\nmkdir /a/b/c\nstart\ncreate /a/b/c/d\nlink /a/b/c/d /x\n",
 ]
 WORDS = [b"start", b"create", b"write", b"link", b"unlink", b"rename", b"mkdir", b"rmdir", b"group", b"end", b"depend",
-         b"/a", b"/b", b"/d", b"/d/x", b"/d/y", b"A", b"B", b"C", b"#", b"", b"/", b"//a", b"/A", b"\xc3\xa9", b"\xff", b"\0"]
+         b"/a", b"/b", b"/d", b"/d/x", b"/d/y", b"A", b"B", b"C", b"#", b"", b"/", b"//a", b"/A", b"\xc3\xa9", b"\xff",
+         b"\0"]
 OPERATIONS = [b"create", b"write", b"unlink", b"mkdir", b"rmdir", b"link", b"rename"]
 PATHS = [b"/a", b"/b", b"/d", b"/e", b"/d/x", b"/d/y"]
 LONGEST = 1048576
@@ -70,7 +72,8 @@ def long_line(chance):
     length = chance.choice([11, 100, 5000, 300000])
     letters = chance.choice([b"a", b" ", b"/", b"#", b"/a", b" /a", b"0", b"\xc3\xa9", b"\xe2\x82"])
     filler = letters * (length // len(letters))
-    line = chance.choice([b"%s", b"#%s", b"create %s", b"create /%s", b"link /a /%s", b"group %s", b"depend %s A", b"start%s"])
+    forms = [b"%s", b"#%s", b"create %s", b"create /%s", b"link /a /%s", b"group %s", b"depend %s A", b"start%s"]
+    line = chance.choice(forms)
     lines = chance.choice(SCRIPTS).split(b"\n")
     lines.insert(chance.randrange(len(lines) + 1), line.replace(b"%s", filler))
     return b"\n".join(lines)

@@ -1,14 +1,14 @@
 #!/usr/bin/env bash
-# sweep.sh: how long a whole run takes by the sweep with 1 and 4 workers, how many closed sets a second that is, and how much
-# memory a run under --summary holds. It times four scripts of 27,648 to 32,209 closed sets under the orderings, and two under
-# soft updates: ten files are created, and two of them written, which has 793,881, or five, which has 39,135,393.
-# Not part of the gate.
+# sweep.sh: how long a whole run takes by the sweep with 1 and 4 workers, how many closed sets a second that is, and
+# how much memory a run under --summary holds. It times four scripts of 27,648 to 32,209 closed sets under the
+# orderings, and two under soft updates: ten files are created, and two of them written, which has 793,881, or five,
+# which has 39,135,393. Not part of the gate.
 #
-# What is timed takes turns in ROUNDS rounds (15; of the last script, which takes long, a fifth of them), so that all meet the
-# machine alike. The median run counts: a single busy processor may run a third faster than one of four, but does so in some
-# rounds only, so that the shortest runs of one worker and of four compare two machines. What they say is told beside. Where
-# RIVAL names another program that takes the same arguments but --explorer and --summary, it takes its turns too, and its time
-# is told as well; CRASHMAP_ENGINE is 'list' for it.
+# What is timed takes turns in ROUNDS rounds (15; of the last script, which takes long, a fifth of them), so that all
+# meet the machine alike. The median run counts: a single busy processor may run a third faster than one of four, but
+# does so in some rounds only, so that the shortest runs of one worker and of four compare two machines. What they say
+# is told beside. Where RIVAL names another program that takes the same arguments but --explorer and --summary, it
+# takes its turns too, and its time is told as well; CRASHMAP_ENGINE is 'list' for it.
 set -eu
 top=$(cd "$(dirname "${BASH_SOURCE[0]}")/.." && pwd)
 . "$top/launch/programs.sh"

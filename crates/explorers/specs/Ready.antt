@@ -1,10 +1,12 @@
 -- A worker between two turns, during an expansion and at the end.
-use Rattle.std.specs.Prelude.{◌≡◌, ℕ, ◌<◌, List, true, slice_index}
+use Rattle.std.specs.Prelude.{◌≡◌, ℕ, ◌<◌, List, Result, IfOk, true, slice_index}
 use Rattle.board_rule.specs.Lists.{Has}
 use Rattle.seen_board.specs.Known.{Shown, Known}
 use Rattle.seen_board.specs.Clauses.{IsOf, SeesOn, HasClaim}
 use Rattle.seen_board.specs.declared.answers.Place.{Place}
 use Rattle.explorers.specs.Met.{AreMet}
+use Rattle.explorers.specs.declared.exploration.Turn.{Turn}
+use Rattle.explorers.specs.declared.exploration.Turn.TheVariants.{Over}
 use Rattle.explorers.specs.declared.worker.Left.{Left}
 use Rattle.explorers.specs.declared.worker.Worker.{Worker}
 
@@ -25,6 +27,10 @@ pub record IsFree {S C A : Type 0} (b : Shown S) (s : S) (is_own : S → C → T
 pub record IsReady {S C A : Type 0} (b : Shown S) (s : S) (is_own : S → C → Type 0) (worker : Worker C A) : Type 0 where
   pub free : IsFree b s is_own worker
   pub unclaimed : worker.seat.claims ≡ 0
+
+-- where the turn ends as over, the worker's seat knows that more words are reached than the board may have
+abbrev pub KnowsOver : {C A E : Type 0} → Result Turn E → Worker C A → Type 0
+KnowsOver turn worker = IfOk turn (λ t. t ≡ Over → worker.seat.over ≡ 1)
 
 -- the word is an entry that the seat has seen, and the claim is as it was
 pub record PutsIn (word : ℕ) (before after : Known) : Type 0 where

@@ -4,7 +4,7 @@ ghost use Rattle.std.specs.List.{Contains};
 ghost use Rattle.board_rule.specs.Lists.{Has};
 ghost use Rattle.seen_board.specs.Clauses.{HasClaim, HasPlace, SeesOn, word_at};
 ghost use Rattle.seen_board.specs.Inserts.{IsSuccessor};
-ghost use Rattle.explorers.specs.Ready.{IsFree, IsReady, PutsIn};
+ghost use Rattle.explorers.specs.Ready.{IsFree, IsReady, KnowsOver, PutsIn};
 ghost use Rattle.explorers.specs.declared.exploration.Turn.TheVariants as turn;
 
 use crate::exploration::{Exploration, Turn};
@@ -26,7 +26,7 @@ impl<S: Space, G: Gate, A: Allocator + Copy> Exploration<'_, S, G, A> {
     ) -> Result<Turn, AllocError>
         requires ready { IsReady self.now.board.now self.now.space.now S.is_own mine.old }
         ensures ready { IsReady self.now.board.now self.now.space.now S.is_own mine.new }
-        ensures over { IfOk result (λ t. t ≡ turn.Over → mine.new.seat.over ≡ 1) }
+        ensures over { KnowsOver result mine.new }
     {
         if !mine.seat.has_seen(place) {
             return Ok(Turn::Within);
@@ -46,7 +46,7 @@ impl<S: Space, G: Gate, A: Allocator + Copy> Exploration<'_, S, G, A> {
         requires seen { HasPlace mine.old.seat.seen place }
         ensures ready { IsReady self.now.board.now self.now.space.now S.is_own mine.new }
         ensures sees { SeesOn mine.old.seat.seen mine.new.seat.seen }
-        ensures over { IfOk result (λ t. t ≡ turn.Over → mine.new.seat.over ≡ 1) }
+        ensures over { KnowsOver result mine.new }
     {
         if !self.board.claim(&mut mine.seat, place) {
             return Ok(Turn::Within);
@@ -74,7 +74,7 @@ impl<S: Space, G: Gate, A: Allocator + Copy> Exploration<'_, S, G, A> {
         ensures free { IsFree self.now.board.now self.now.space.now S.is_own mine.new }
         ensures sees { SeesOn mine.old.seat.seen mine.new.seat.seen }
         ensures ended { OnOk result (mine.new.seat.claims ≡ 0) }
-        ensures over { IfOk result (λ t. t ≡ turn.Over → mine.new.seat.over ≡ 1) }
+        ensures over { KnowsOver result mine.new }
     {
         let word = self.board.at(&mut mine.seat, place);
         let mut ahead = self.space.ahead(word);

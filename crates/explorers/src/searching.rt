@@ -1,9 +1,8 @@
 //! The rows searched for what waits.
-ghost use Rattle.std.specs.Prelude.{◌≡◌, ◌<◌, ◌≤◌, length, IfOk};
+ghost use Rattle.std.specs.Prelude.{◌<◌, ◌≤◌, length};
 ghost use Rattle.board_rule.specs.Lists.{row_of};
 ghost use Rattle.seen_board.specs.Clauses.{SeesOn};
-ghost use Rattle.explorers.specs.Ready.{IsIdle, IsReady};
-ghost use Rattle.explorers.specs.declared.exploration.Turn.TheVariants as turn;
+ghost use Rattle.explorers.specs.Ready.{IsIdle, IsReady, KnowsOver};
 
 use crate::exploration::{Exploration, Turn};
 use crate::gate::Gate;
@@ -22,7 +21,7 @@ impl<S: Space, G: Gate, A: Allocator + Copy> Exploration<'_, S, G, A> {
     ) -> Result<Turn, AllocError>
         requires ready { IsReady self.now.board.now self.now.space.now S.is_own mine.old }
         ensures ready { IsReady self.now.board.now self.now.space.now S.is_own mine.new }
-        ensures over { IfOk result (λ t. t ≡ turn.Over → mine.new.seat.over ≡ 1) }
+        ensures over { KnowsOver result mine.new }
     {
         for shard in 0..SHARDS as u8 {
             if let Turn::Over = self.search_shard(rt, mine, shard)? {
@@ -42,7 +41,7 @@ impl<S: Space, G: Gate, A: Allocator + Copy> Exploration<'_, S, G, A> {
         requires ready { IsReady self.now.board.now self.now.space.now S.is_own mine.old }
         requires shard { shard < SHARDS }
         ensures ready { IsReady self.now.board.now self.now.space.now S.is_own mine.new }
-        ensures over { IfOk result (λ t. t ≡ turn.Over → mine.new.seat.over ≡ 1) }
+        ensures over { KnowsOver result mine.new }
     {
         let count = count_of(rt, self.board, &mut mine.seat, shard);
         for at in mine.tried[shard as usize]..count {

@@ -1,7 +1,6 @@
 //! What one worker does.
-ghost use Rattle.std.specs.Prelude.{◌≡◌, IfOk};
-ghost use Rattle.explorers.specs.Ready.{IsReady};
-ghost use Rattle.explorers.specs.declared.exploration.Turn.TheVariants as turn;
+ghost use Rattle.std.specs.Prelude.{◌≡◌};
+ghost use Rattle.explorers.specs.Ready.{IsReady, KnowsOver};
 
 use crate::exploration::{Exploration, Turn};
 use crate::gate::Gate;
@@ -91,7 +90,7 @@ impl<S: Space, G: Gate, A: Allocator + Copy> Exploration<'_, S, G, A> {
     fn turn<R: Wait>(&self, rt: &R, mine: &mut Worker<S::Scratch, A>) -> Result<Turn, AllocError>
         requires ready { IsReady self.now.board.now self.now.space.now S.is_own mine.old }
         ensures ready { IsReady self.now.board.now self.now.space.now S.is_own mine.new }
-        ensures over { IfOk result (λ t. t ≡ turn.Over → mine.new.seat.over ≡ 1) }
+        ensures over { KnowsOver result mine.new }
     {
         if self.board.stopped(&mut mine.seat) {
             return Ok(Turn::Ended);
@@ -122,7 +121,7 @@ impl<S: Space, G: Gate, A: Allocator + Copy> Exploration<'_, S, G, A> {
     fn pass<R: Wait>(&self, rt: &R, mine: &mut Worker<S::Scratch, A>) -> Result<Turn, AllocError>
         requires ready { IsReady self.now.board.now self.now.space.now S.is_own mine.old }
         ensures ready { IsReady self.now.board.now self.now.space.now S.is_own mine.new }
-        ensures over { IfOk result (λ t. t ≡ turn.Over → mine.new.seat.over ≡ 1) }
+        ensures over { KnowsOver result mine.new }
     {
         if self.board.finished(&mut mine.seat) {
             return Ok(Turn::Ended);

@@ -22,7 +22,7 @@ use Rattle.crash_model.specs.Faults.{leads_to}
 use Rattle.crash_model.specs.declared.fault.Fault.{Fault}
 use Rattle.crash_model.specs.Strict.{has_entry_to, is_reached, is_lost, LosesNothing, strict_faults}
 use Rattle.crash_model.proofs.Reached.{reached-root, reached-step, reached-least}
-use Rattle.fs_check.specs.Strict.{lost_at, bare_at, IsNamedBy}
+use Rattle.fs_check.specs.Strict.{lost_at, bare_at, IsReachOf, IsNamedBy}
 use Rattle.fs_check.proofs.Entries.{live-below}
 
 -- ---- tests
@@ -222,8 +222,7 @@ module _ (d : Disk) where
       (λ dir j below names live. live-below d j live) i is
 
   -- nothing that is reached is unread
-  pub reached-all : (reached unread : ℕ) → bit_and reached unread ≡ 0 → Reaching d reached unread → (i : ℕ)
-      → has reached i ≡ is_reached d i
+  pub reached-all : (reached unread : ℕ) → bit_and reached unread ≡ 0 → Reaching d reached unread → IsReachOf d reached
   reached-all reached unread none all i = same_test (has reached i) (is_reached d i) (all.sound i)
       (reached-least d (λ (j : ℕ). has reached j ≡ true) all.root
       (λ e j is names live. all.read e j (reached-below e (all.sound e is)) (all_read reached unread none e is) names
@@ -311,7 +310,7 @@ module _ (d : Disk) where
 
 -- ---- nothing is lost
 
-module _ (d : Disk) (kept reached : ℕ) (few : kept < 2 ^ 16) (by : (i : ℕ) → has reached i ≡ is_reached d i) where
+module _ (d : Disk) (kept reached : ℕ) (few : kept < 2 ^ 16) (by : IsReachOf d reached) where
   not_lost : (i : ℕ) → IsSubset kept reached → is_lost d kept i ≡ false
   not_lost i within = elim (cases_Bool (has kept i)) [
     | inl is ↦ rw (is, sym (by i) ∙ has_true reached i (within i (from_has kept i is))) refl
@@ -399,7 +398,7 @@ module _ (d : Disk) where
     subset_from d kept reached few by,
   )
     where
-      by : (i : ℕ) → has reached i ≡ is_reached d i
+      by : IsReachOf d reached
       by = reached-all d reached unread none all.reaching
 
   -- a directory without one

@@ -5,7 +5,7 @@ use Rattle.patch_sets.specs.Sets.{Has, has}
 use Rattle.crash_model.specs.Disk.{Disk}
 use Rattle.crash_model.specs.Layout.{kind_of, is_live}
 use Rattle.crash_model.specs.Lists.{when}
-use Rattle.crash_model.specs.Strict.{has_entry_to, is_lost, lacks_block}
+use Rattle.crash_model.specs.Strict.{has_entry_to, is_reached, is_lost, lacks_block}
 use Rattle.crash_model.specs.declared.fault.Fault.{Fault}
 use Rattle.crash_model.specs.declared.fault.Fault.TheVariants.{Lost, NoBlock}
 use Rattle.fs_check.specs.declared.clean.Directories.{Directories}
@@ -16,6 +16,10 @@ lost_at kept d inode = when (is_lost d kept inode) (Lost inode)
 
 abbrev pub bare_at : Disk → ℕ → Option Fault
 bare_at d inode = when (lacks_block d inode) (NoBlock inode)
+
+-- the set of the inodes that are reached
+abbrev pub IsReachOf : Disk → ℕ → Type 0
+IsReachOf d reached = (inode : ℕ) → has reached inode ≡ is_reached d inode
 
 -- the set of the live inodes to which an inode's entries lead
 abbrev pub IsNamedBy : Disk → ℕ → ℕ → Type 0

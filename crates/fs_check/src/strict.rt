@@ -1,11 +1,10 @@
 //! Whether an image has lost what a script keeps.
 
-ghost use Rattle.std.specs.Prelude.{◌≡◌, ℕ, ◌<◌, ◌↔◌, ◌++◌, IsTrue, OnOk};
-ghost use Rattle.patch_sets.specs.Sets.{has};
+ghost use Rattle.std.specs.Prelude.{◌≡◌, ◌<◌, ◌↔◌, ◌++◌, IsTrue, OnOk};
 ghost use Rattle.crash_model.specs.Lists.{some_below};
-ghost use Rattle.crash_model.specs.Strict.{is_reached, LosesNothing, IsCleanUnder, strict_faults};
+ghost use Rattle.crash_model.specs.Strict.{LosesNothing, IsCleanUnder, strict_faults};
 ghost use Rattle.fs_check.specs.Passed.{HasCleanEntries};
-ghost use Rattle.fs_check.specs.Strict.{lost_at, bare_at, IsNamedBy, AreDirectories};
+ghost use Rattle.fs_check.specs.Strict.{lost_at, bare_at, IsReachOf, IsNamedBy, AreDirectories};
 
 use crate::clean::{Directories, clean_directories, has_clean_pointers, is_clean};
 use crate::list::push_some;
@@ -63,7 +62,7 @@ fn loses_nothing<A: Allocator + Copy>(image: &Image<A>, found: &Directories, kep
 
 /// The inodes that are reached, as a set.
 pub(crate) fn reached<A: Allocator + Copy>(image: &Image<A>) -> u128
-    ensures { (inode : ℕ) → has result inode ≡ is_reached image.now inode }
+    ensures { IsReachOf image.now result }
 {
     let mut reached = if image.kind(0) == DIRECTORY_KIND {
         1
@@ -118,7 +117,7 @@ fn lost_at<A: Allocator + Copy>(
     inode: u8,
 ) -> Option<Fault>
     requires inode { inode < 16 }
-    requires reached { (i : ℕ) → has reached i ≡ is_reached image.now i }
+    requires reached { IsReachOf image.now reached }
     ensures { result ≡ lost_at kept image.now inode }
 {
     let at = usize::from(inode);
@@ -134,7 +133,7 @@ fn push_lost<A: Allocator + Copy>(
     kept: u16,
     reached: u128,
 ) -> Result<(), AllocError>
-    requires { (i : ℕ) → has reached i ≡ is_reached image.now i }
+    requires { IsReachOf image.now reached }
     ensures { OnOk result (found.new.items ≡ found.old.items ++ some_below 16 (lost_at kept image.now)) }
 {
     for inode in 0..16u8 {
@@ -146,7 +145,7 @@ fn push_lost<A: Allocator + Copy>(
 /// An inode as a fault, if it is a directory that is reached and has no block.
 fn bare_at<A: Allocator + Copy>(image: &Image<A>, reached: u128, inode: u8) -> Option<Fault>
     requires inode { inode < 16 }
-    requires reached { (i : ℕ) → has reached i ≡ is_reached image.now i }
+    requires reached { IsReachOf image.now reached }
     ensures { result ≡ bare_at image.now inode }
 {
     let is_bare = has(reached, usize::from(inode))
@@ -162,7 +161,7 @@ fn push_bare<A: Allocator + Copy>(
     image: &Image<A>,
     reached: u128,
 ) -> Result<(), AllocError>
-    requires { (i : ℕ) → has reached i ≡ is_reached image.now i }
+    requires { IsReachOf image.now reached }
     ensures { OnOk result (found.new.items ≡ found.old.items ++ some_below 16 (bare_at image.now)) }
 {
     for inode in 0..16u8 {

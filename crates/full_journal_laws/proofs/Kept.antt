@@ -15,7 +15,8 @@ use Rattle.crash_model.specs.Sound.{IsSound, ReachedIn}
 use Rattle.crash_model.specs.Patches.{image_of}
 use Rattle.crash_model.specs.Plan.{plan_of, with_plan}
 use Rattle.crash_model.specs.Replay.{image_after_replay}
-use Rattle.crash_model.specs.Strict.{disk_after, stays_live, IsKept, has_entry_to, is_reached, LosesNothing, IsCleanUnder}
+use Rattle.crash_model.specs.Strict.{disk_after, stays_live, IsKept, has_entry_to, is_reached, LosesNothing}
+use Rattle.crash_model.specs.Strict.{IsCleanUnder}
 use Rattle.crash_model.specs.Trace.{Tracing}
 use Rattle.crash_model.specs.declared.patches.Patch.{Patch}
 use Rattle.crash_model.specs.declared.steps.Act.{Act}

@@ -1,9 +1,10 @@
 -- A trace under way.
-use Rattle.std.specs.Prelude.{◌≡◌, ℕ, ◌+◌, ◌≤◌, List, map, Option, Result, Ok}
+use Rattle.std.specs.Prelude.{◌≡◌, ◌≢◌, ℕ, ◌+◌, ◌≤◌, List, map, Option, Result, Ok, Err, IfErr}
 use Rattle.std.specs.Borrow.{Bor}
 use Rattle.crash_model.specs.Disk.{Disk, IsDisk}
 use Rattle.crash_model.specs.Trace.{Tracing}
 use Rattle.crash_model.specs.declared.refusals.TraceFault.{TraceFault}
+use Rattle.crash_model.specs.declared.refusals.TraceFault.TheVariants.{OutOfMemory}
 use Rattle.crash_model.specs.declared.modules.Module.{Module}
 use Rattle.crash_model.specs.declared.modules.Module.TheVariants.{Async, Soft, Meta, Full}
 use Rattle.order_modules.specs.Log.{Log}
@@ -59,3 +60,7 @@ pub record Moves (old new : Trace) (answer : Result Tracing TraceFault) : Type 0
   pub rules : new.log.rules ≡ old.log.rules
   pub turns : new.tracing.turn ≤ old.tracing.turn + 1
   pub answered : answer ≡ Ok new.tracing
+
+-- a refusal other than out of memory is that of what is defined
+abbrev pub RefusesAs : {A B : Type 0} → Result A TraceFault → Result B TraceFault → Type 0
+RefusesAs answer defined = IfErr answer (λ refusal. refusal ≢ OutOfMemory → defined ≡ Err refusal)

@@ -1,11 +1,10 @@
 //! The steps on patch groups (Frost et al., SOSP 2007).
 
-ghost use Rattle.std.specs.Prelude.{◌≡◌, ◌≢◌, Err, IfErr, OnOk, bytes_eq};
+ghost use Rattle.std.specs.Prelude.{◌≡◌, OnOk, bytes_eq};
 ghost use Rattle.std.specs.List.{list_any};
 ghost use Rattle.crash_model.specs.Trace.{step as step_of};
 ghost use Rattle.crash_model.specs.declared.steps.Act.TheVariants.{Group, End, Depend};
-ghost use Rattle.crash_model.specs.declared.refusals.TraceFault.TheVariants as fault;
-ghost use Rattle.order_modules.specs.Tracer.{Moves};
+ghost use Rattle.order_modules.specs.Tracer.{Moves, RefusesAs};
 
 use crate::tracer::Tracer;
 use crash_model::names::GroupName;
@@ -17,8 +16,7 @@ impl<'a, A: Allocator + Copy> Tracer<'a, A> {
     pub fn open(&mut self, line: usize, name: &'a GroupName) -> Result<(), TraceFault>
         ensures ok { OnOk result (Moves self.old self.new
             (step_of self.old.log.kind self.old.tracing line (Group name.now))) }
-        ensures refused { IfErr result (λ refusal. refusal ≢ fault.OutOfMemory
-            → step_of self.old.log.kind self.old.tracing line (Group name.now) ≡ Err refusal) }
+        ensures refused { RefusesAs result (step_of self.old.log.kind self.old.tracing line (Group name.now)) }
     {
         if self.current.is_some() || is_among(name, self.opened.as_slice()) {
             return Err(TraceFault::GroupFault { line });
@@ -31,8 +29,7 @@ impl<'a, A: Allocator + Copy> Tracer<'a, A> {
     /// Ends the open group.
     pub fn end(&mut self, line: usize) -> Result<(), TraceFault>
         ensures ok { OnOk result (Moves self.old self.new (step_of self.old.log.kind self.old.tracing line End)) }
-        ensures refused { IfErr result (λ refusal. refusal ≢ fault.OutOfMemory
-            → step_of self.old.log.kind self.old.tracing line End ≡ Err refusal) }
+        ensures refused { RefusesAs result (step_of self.old.log.kind self.old.tracing line End) }
     {
         let Some(name) = self.current else {
             return Err(TraceFault::GroupFault { line });
@@ -51,8 +48,8 @@ impl<'a, A: Allocator + Copy> Tracer<'a, A> {
     ) -> Result<(), TraceFault>
         ensures ok { OnOk result (Moves self.old self.new
             (step_of self.old.log.kind self.old.tracing line (Depend later.now earlier.now))) }
-        ensures refused { IfErr result (λ refusal. refusal ≢ fault.OutOfMemory
-            → step_of self.old.log.kind self.old.tracing line (Depend later.now earlier.now) ≡ Err refusal) }
+        ensures refused { RefusesAs result
+            (step_of self.old.log.kind self.old.tracing line (Depend later.now earlier.now)) }
     {
         if !is_among(earlier, self.ended.as_slice())
             || is_same(later, earlier)

@@ -1,11 +1,10 @@
 //! The step that each act of a script is.
 
-ghost use Rattle.std.specs.Prelude.{◌≡◌, ◌≢◌, ◌<◌, ◌^◌, Err, All, IfErr, OnOk};
+ghost use Rattle.std.specs.Prelude.{◌<◌, ◌^◌, All, OnOk};
 ghost use Rattle.crash_model.specs.Trace.{step as step_of};
-ghost use Rattle.crash_model.specs.declared.refusals.TraceFault.TheVariants as fault;
 ghost use Rattle.inode_fs.specs.Inside.{GivesName};
 ghost use Rattle.full_journal_laws.specs.Full.{ops_at};
-ghost use Rattle.order_modules.specs.Tracer.{Moves};
+ghost use Rattle.order_modules.specs.Tracer.{Moves, RefusesAs};
 
 use crate::tracer::Tracer;
 use crash_model::refusals::TraceFault;
@@ -19,8 +18,7 @@ impl<'a, A: Allocator + Copy> Tracer<'a, A> {
         ensures ok { OnOk result (Moves self.old self.new
             (step_of self.old.log.kind self.old.tracing step.now.line step.now.act)) }
         ensures names { OnOk result (All GivesName (ops_at step.now.act)) }
-        ensures refused { IfErr result (λ refusal. refusal ≢ fault.OutOfMemory
-            → step_of self.old.log.kind self.old.tracing step.now.line step.now.act ≡ Err refusal) }
+        ensures refused { RefusesAs result (step_of self.old.log.kind self.old.tracing step.now.line step.now.act) }
     {
         match &step.act {
             Act::Do(op) => self.operate(step.line, op),

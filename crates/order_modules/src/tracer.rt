@@ -1,17 +1,16 @@
 //! The trace of a script: its operations, in order, turned into patches.
 
-ghost use Rattle.std.specs.Prelude.{◌≡◌, ◌≢◌, ℕ, ◌+◌, ◌<◌, ◌≤◌, ◌⊎◌, ◌^◌, [], length, Ok, Err, IfOk, IfErr, OnOk, All};
+ghost use Rattle.std.specs.Prelude.{◌≡◌, ℕ, ◌+◌, ◌<◌, ◌≤◌, ◌⊎◌, ◌^◌, [], length, Ok, IfOk, OnOk, All};
 ghost use Rattle.crash_model.specs.Trace.{Tracing, trace_start, trace_of_plan, step as step_of, trace_from, IsGraphOf};
 ghost use Rattle.crash_model.specs.Disk.{IsDisk};
 ghost use Rattle.crash_model.specs.Plan.{plan_of};
 ghost use Rattle.crash_model.specs.Rules.{rules_of};
 ghost use Rattle.crash_model.specs.RuleFacts.{AreAmong};
-ghost use Rattle.crash_model.specs.declared.refusals.TraceFault.TheVariants as fault;
 ghost use Rattle.crash_model.specs.Sound.{IsSound, HasZeroJournal};
 ghost use Rattle.crash_model.specs.declared.modules.Module.TheVariants.{Full};
 ghost use Rattle.inode_fs.specs.Inside.{LiesInside, GivesName};
 ghost use Rattle.full_journal_laws.specs.Full.{ops_of, IsFullSafe};
-ghost use Rattle.order_modules.specs.Tracer.{Moves, IsOrdered, IsJournaled};
+ghost use Rattle.order_modules.specs.Tracer.{Moves, RefusesAs, IsOrdered, IsJournaled};
 ghost use Rattle.order_modules.specs.Transactions.{targets_of};
 
 use crate::log::PatchLog;
@@ -53,8 +52,7 @@ pub fn trace<'a, A: Allocator + Copy>(
         × (trace_from ordering.now.«module» (trace_start image.now) steps.now ≡ Ok s)
         × IsGraphOf ordering.now.rules.items image.now s t.patches × (t.emitted ≡ s.emitted) × (t.links ≡ s.links)) }
     ensures rules { IfOk result (λ t. t.rules ≡ ordering.now.rules.items) }
-    ensures refused { IfErr result (λ refusal. refusal ≢ fault.OutOfMemory
-        → trace_from ordering.now.«module» (trace_start image.now) steps.now ≡ Err refusal) }
+    ensures refused { RefusesAs result (trace_from ordering.now.«module» (trace_start image.now) steps.now) }
     ensures fits { IfOk result (λ t. All (λ patch. patch.block < image.now.blocks) t.patches) }
     ensures names { IfOk result (λ _. All GivesName (ops_of steps.now)) }
     ensures full { ordering.now.«module» ≡ Full → AreAmong (rules_of Full) ordering.now.rules.items → IsSound image.now
@@ -78,8 +76,7 @@ pub fn trace_under<A: Allocator + Copy>(
 ) -> Result<Graph<A>, TraceFault>
     ensures ok { IfOk result (λ graph. (s : Tracing) × (trace_from «module» (trace_start image.now) steps.now ≡ Ok s)
         × IsGraphOf (rules_of «module») image.now s graph) }
-    ensures refused { IfErr result (λ refusal. refusal ≢ fault.OutOfMemory
-        → trace_from «module» (trace_start image.now) steps.now ≡ Err refusal) }
+    ensures refused { RefusesAs result (trace_from «module» (trace_start image.now) steps.now) }
     ensures fits { IfOk result (λ graph. All (λ patch. patch.block < image.now.blocks) graph) }
     ensures names { IfOk result (λ _. All GivesName (ops_of steps.now)) }
     ensures full { «module» ≡ Full → IsSound image.now → HasZeroJournal image.now
@@ -159,9 +156,8 @@ impl<'a, A: Allocator + Copy> Tracer<'a, A> {
         ensures ok { OnOk result (Moves self.old self.new
             (trace_of_plan self.old.log.kind line op.now self.old.tracing (plan_of self.old.tracing.disk op.now))) }
         ensures name { OnOk result (GivesName op.now) }
-        ensures refused { IfErr result (λ refusal. refusal ≢ fault.OutOfMemory
-            → trace_of_plan self.old.log.kind line op.now self.old.tracing (plan_of self.old.tracing.disk op.now)
-            ≡ Err refusal) }
+        ensures refused { RefusesAs result
+            (trace_of_plan self.old.log.kind line op.now self.old.tracing (plan_of self.old.tracing.disk op.now)) }
     {
         let plan = match plan(&self.disk, op) {
             Ok(plan) => plan,
@@ -180,8 +176,8 @@ impl<'a, A: Allocator + Copy> Tracer<'a, A> {
         requires inside { All (LiesInside self.old.tracing.disk.blocks) plan.now.items }
         ensures ok { OnOk result (Moves self.old self.new
             (trace_of_plan self.old.log.kind line op.now self.old.tracing (Ok plan.now.items))) }
-        ensures refused { IfErr result (λ refusal. refusal ≢ fault.OutOfMemory
-            → trace_of_plan self.old.log.kind line op.now self.old.tracing (Ok plan.now.items) ≡ Err refusal) }
+        ensures refused { RefusesAs result
+            (trace_of_plan self.old.log.kind line op.now self.old.tracing (Ok plan.now.items)) }
     {
         if !self.log.has_room(plan.len()) {
             return Err(TraceFault::TooManyPatches { line });
@@ -208,8 +204,8 @@ impl<'a, A: Allocator + Copy> Tracer<'a, A> {
         requires inside { All (LiesInside self.old.tracing.disk.blocks) plan.now.items }
         ensures ok { OnOk result (Moves self.old self.new
             (trace_of_plan self.old.log.kind line op.now self.old.tracing (Ok plan.now.items))) }
-        ensures refused { IfErr result (λ refusal. refusal ≢ fault.OutOfMemory
-            → trace_of_plan self.old.log.kind line op.now self.old.tracing (Ok plan.now.items) ≡ Err refusal) }
+        ensures refused { RefusesAs result
+            (trace_of_plan self.old.log.kind line op.now self.old.tracing (Ok plan.now.items)) }
     {
         let targets = self.touched_by(plan);
         let next = self.next + 1 + targets.len();

@@ -1,9 +1,12 @@
 -- Sweeping over the closed sets of a graph in ascending number.
 use Rattle.std.specs.Prelude.{◌≡◌, ◌↔◌, ℕ, ◌+◌, ◌<◌, ◌≤◌, ◌^◌, ◌*◌, ◌/◌, List, Option, length, slice_index}
-use Rattle.std.specs.Prelude.{slice_index_or, IfSome, count_ones}
+use Rattle.std.specs.Prelude.{slice_index_or, IfSome, IsErrOf, Result, count_ones}
 use Rattle.std.specs.List.{All, AllPairs, Contains}
+use Rattle.state_space.specs.Counts.{Outnumbers}
 use Rattle.patch_sets.specs.Sets.{Has, IsSubset}
 use Rattle.patch_sets.specs.Closed.{IsClosed}
+use Rattle.patch_sets.specs.declared.explored.ExploreFault.{ExploreFault}
+use Rattle.patch_sets.specs.declared.explored.ExploreFault.TheVariants.{TooMany}
 use Rattle.set_sweep.specs.declared.sweeping.Part.{Part}
 use Rattle.set_sweep.specs.declared.together.Done.{Done}
 
@@ -19,6 +22,14 @@ pub record IsSweep {T : Type 0} (tells : List ℕ → T → Type 0) (deps : List
   pub closed : IsAscendingListOf (IsClosed deps) sets
   pub counted : length sets ≡ total
   pub told : tells sets tally
+
+-- P holds of each closed set
+abbrev pub EachClosed : List ℕ → (ℕ → Type 0) → Type 0
+EachClosed deps P = (set : ℕ) → IsClosed deps set → P set
+
+-- where the answer is that there are too many closed sets, there are more than the limit
+abbrev pub SaysTooMany : {A : Type 0} → List ℕ → ℕ → Result A ExploreFault → Type 0
+SaysTooMany deps limit answer = IsErrOf answer TooMany → Outnumbers (IsClosed deps) limit
 
 -- the picked sets are those of the others of which P holds, and stand in ascending order where the others do
 pub record IsPickOf (P : ℕ → Type 0) (sets picked : List ℕ) : Type 0 where
@@ -83,7 +94,11 @@ pub record AreParts (deps : List ℕ) (low to : ℕ) (roots : List ℕ) : Type 0
   pub cover : (set : ℕ) → IsClosed deps set → set < to → (j : ℕ) × (j < length roots)
       × (slice_index roots j / 2 ^ low ≡ set / 2 ^ low)
 
--- the same of the part with a root
+-- sets that cut all closed sets into such parts
+abbrev pub AreAllParts : List ℕ → ℕ → List ℕ → Type 0
+AreAllParts deps low roots = AreParts deps low (2 ^ length deps) roots
+
+-- a tally tells of the closed sets of the part with a root, of which there are so many
 abbrev pub IsPartSwept : {T : Type 0} → (List ℕ → T → Type 0) → List ℕ → ℕ → ℕ → ℕ → T → Type 0
 IsPartSwept tells deps low root count tally = AreSwept tells deps root (part_end root low) count tally
 

@@ -1,9 +1,9 @@
 //! Sweeping over a space whose words are closed sets.
-ghost use Rattle.std.specs.Prelude.{ℕ, ◌≡◌, ◌<◌, ◌≤◌, length, IfOk, IsErrOf};
-ghost use Rattle.state_space.specs.Counts.{HoldsOf, Outnumbers};
+ghost use Rattle.std.specs.Prelude.{◌≡◌, ◌<◌, ◌≤◌, length, IfOk};
+ghost use Rattle.state_space.specs.Counts.{HoldsOf};
 ghost use Rattle.patch_sets.specs.Sets.{AreAllInOrder};
 ghost use Rattle.patch_sets.specs.Closed.{AreEarlier, IsClosed};
-ghost use Rattle.set_sweep.specs.Sweeps.{IsPickOf};
+ghost use Rattle.set_sweep.specs.Sweeps.{EachClosed, SaysTooMany};
 
 use crate::ordering::in_canonical_order;
 use crate::together::sweep_with;
@@ -37,7 +37,7 @@ where
     S::Scratch: Send,
     requires few { length deps.now < 127 }
     requires earlier { AreEarlier deps.now }
-    requires lawful { (set : ℕ) → IsClosed deps.now set → S.is_lawful space.now set }
+    requires lawful { EachClosed deps.now (S.is_lawful space.now) }
     requires workers { (1 ≤ workers) × (workers ≤ 16) }
 
     ensures total { IfOk result (λ explored. HoldsOf (IsClosed deps.now) explored.total) }
@@ -45,7 +45,7 @@ where
     ensures broken { IfOk result (λ explored.
         AreAllInOrder (λ set. IsClosed deps.now set × ¬ (S.is_good space.now set)) explored.broken.items) }
 
-    ensures too_many { IsErrOf result ExploreFault.TooMany → Outnumbers (IsClosed deps.now) limit }
+    ensures too_many { SaysTooMany deps.now limit result }
 {
     let failing = Failing { space, alloc };
     let swept = sweep_with(rt, alloc, &failing, deps, limit, workers, watch)?;

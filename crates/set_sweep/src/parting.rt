@@ -1,6 +1,6 @@
 //! Cutting the closed sets into parts.
-ghost use Rattle.std.specs.Prelude.{◌<◌, ◌≤◌, ◌^◌, length, IfOk, OnOk};
-ghost use Rattle.set_sweep.specs.Sweeps.{AreClosures, IsRoot, AreParts, part_end};
+ghost use Rattle.std.specs.Prelude.{◌<◌, ◌≤◌, length, IfOk, OnOk};
+ghost use Rattle.set_sweep.specs.Sweeps.{AreClosures, IsRoot, AreParts, AreAllParts, part_end};
 
 use crate::closing::next_out;
 use std::alloc::{AllocError, Allocator};
@@ -23,7 +23,7 @@ pub(crate) fn parts_of<A: Allocator + Copy>(
     requires few { length deps.now < 127 }
     requires each { AreClosures deps.now closures.now }
     ensures low { IfOk result (λ parts. parts.low ≤ length deps.now) }
-    ensures parts { IfOk result (λ parts. AreParts deps.now parts.low (2 ^ length deps.now) parts.roots.items) }
+    ensures parts { IfOk result (λ parts. AreAllParts deps.now parts.low parts.roots.items) }
 {
     for step in 0..deps.len() {
         let low = deps.len() - step;
@@ -46,7 +46,7 @@ fn roots_at<A: Allocator>(
     requires few { length deps.now < 127 }
     requires each { AreClosures deps.now closures.now }
     requires known { low ≤ length deps.now }
-    ensures { IfOk result (λ roots. AreParts deps.now low (2 ^ length deps.now) roots.items) }
+    ensures { IfOk result (λ roots. AreAllParts deps.now low roots.items) }
 {
     let mut roots = Vec::new(alloc);
     add_roots(deps, closures, low, deps.len(), 0, &mut roots)?;

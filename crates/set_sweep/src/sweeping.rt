@@ -1,8 +1,7 @@
 //! The sweep over one part.
-ghost use Rattle.std.specs.Prelude.{◌≡◌, ℕ, ◌<◌, ◌≤◌, ◌+◌, length, IfOk, OnOk, IsErrOf};
-ghost use Rattle.state_space.specs.Counts.{Outnumbers};
+ghost use Rattle.std.specs.Prelude.{◌≡◌, ◌<◌, ◌≤◌, ◌+◌, length, IfOk, OnOk};
 ghost use Rattle.patch_sets.specs.Closed.{IsClosed};
-ghost use Rattle.set_sweep.specs.Sweeps.{AreClosures, IsRoot, AreSwept, IsPartSwept, part_end};
+ghost use Rattle.set_sweep.specs.Sweeps.{EachClosed, SaysTooMany, AreClosures, IsRoot, AreSwept, IsPartSwept, part_end};
 
 use crate::closing::next_out;
 use crate::visitor::Visitor;
@@ -37,15 +36,14 @@ impl<'a, V: Visitor> Sweeper<'a, V> {
     ) -> Result<Part<V::Tally>, ExploreFault>
         requires known { low ≤ length self.now.deps.now }
         requires root { IsRoot self.now.deps.now low root }
-        requires lawful { (set : ℕ) → IsClosed self.now.deps.now set → V.is_lawful self.now.visitor.now set }
+        requires lawful { EachClosed self.now.deps.now (V.is_lawful self.now.visitor.now) }
         requires own { V.is_own self.now.visitor.now scratch.old }
 
         ensures own { OnOk result (V.is_own self.now.visitor.now scratch.new) }
         ensures within { IfOk result (λ part. part.total ≤ self.now.limit) }
         ensures swept { IfOk result (λ part.
             IsPartSwept (V.tells self.now.visitor.now) self.now.deps.now low root part.total part.tally) }
-        ensures too_many { IsErrOf result ExploreFault.TooMany
-            → Outnumbers (IsClosed self.now.deps.now) self.now.limit }
+        ensures too_many { SaysTooMany self.now.deps.now self.now.limit result }
     {
         let mut part = Part {
             root,
@@ -66,7 +64,7 @@ impl<'a, V: Visitor> Sweeper<'a, V> {
     ) -> Result<(), ExploreFault>
         requires known { k ≤ length self.now.deps.now }
         requires root { IsRoot self.now.deps.now k set }
-        requires lawful { (set : ℕ) → IsClosed self.now.deps.now set → V.is_lawful self.now.visitor.now set }
+        requires lawful { EachClosed self.now.deps.now (V.is_lawful self.now.visitor.now) }
         requires own { V.is_own self.now.visitor.now scratch.old }
         requires within { part.old.total ≤ self.now.limit }
         requires swept { AreSwept (V.tells self.now.visitor.now) self.now.deps.now part.old.root set part.old.total
@@ -77,8 +75,7 @@ impl<'a, V: Visitor> Sweeper<'a, V> {
         ensures root { part.new.root ≡ part.old.root }
         ensures swept { OnOk result (AreSwept (V.tells self.now.visitor.now) self.now.deps.now part.new.root
             (part_end set k) part.new.total part.new.tally) }
-        ensures too_many { IsErrOf result ExploreFault.TooMany
-            → Outnumbers (IsClosed self.now.deps.now) self.now.limit }
+        ensures too_many { SaysTooMany self.now.deps.now self.now.limit result }
     {
         self.visit(scratch, set, part)?;
         let mut id = next_out(set, 0);
@@ -97,7 +94,7 @@ impl<'a, V: Visitor> Sweeper<'a, V> {
         part: &mut Part<V::Tally>,
     ) -> Result<(), ExploreFault>
         requires closed { IsClosed self.now.deps.now set }
-        requires lawful { (set : ℕ) → IsClosed self.now.deps.now set → V.is_lawful self.now.visitor.now set }
+        requires lawful { EachClosed self.now.deps.now (V.is_lawful self.now.visitor.now) }
         requires own { V.is_own self.now.visitor.now scratch.old }
         requires within { part.old.total ≤ self.now.limit }
         requires swept { AreSwept (V.tells self.now.visitor.now) self.now.deps.now part.old.root set part.old.total
@@ -108,8 +105,7 @@ impl<'a, V: Visitor> Sweeper<'a, V> {
         ensures root { part.new.root ≡ part.old.root }
         ensures swept { OnOk result (AreSwept (V.tells self.now.visitor.now) self.now.deps.now part.new.root (set + 1)
             part.new.total part.new.tally) }
-        ensures too_many { IsErrOf result ExploreFault.TooMany
-            → Outnumbers (IsClosed self.now.deps.now) self.now.limit }
+        ensures too_many { SaysTooMany self.now.deps.now self.now.limit result }
     {
         if part.total == self.limit {
             return Err(ExploreFault::TooMany);

@@ -1,9 +1,8 @@
 //! The sweep of many workers.
-ghost use Rattle.std.specs.Prelude.{◌≡◌, ℕ, ◌<◌, ◌≤◌, ◌^◌, false, length, IfOk, IfSome, OnOk, IsErrOf};
+ghost use Rattle.std.specs.Prelude.{◌≡◌, ◌<◌, ◌≤◌, ◌^◌, false, length, IfOk, IfSome, OnOk};
 ghost use Rattle.std.specs.List.{All};
-ghost use Rattle.state_space.specs.Counts.{Outnumbers};
-ghost use Rattle.patch_sets.specs.Closed.{AreEarlier, IsClosed};
-ghost use Rattle.set_sweep.specs.Sweeps.{AreParts, IsSweep, IsDone};
+ghost use Rattle.patch_sets.specs.Closed.{AreEarlier};
+ghost use Rattle.set_sweep.specs.Sweeps.{EachClosed, SaysTooMany, AreAllParts, IsSweep, IsDone};
 
 use crate::closing::closures;
 use crate::joining::join_parts;
@@ -50,12 +49,12 @@ where
     W: Watch + Sync,
     requires few { length deps.now < 127 }
     requires earlier { AreEarlier deps.now }
-    requires lawful { (set : ℕ) → IsClosed deps.now set → V.is_lawful visitor.now set }
+    requires lawful { EachClosed deps.now (V.is_lawful visitor.now) }
     requires workers { (1 ≤ workers) × (workers ≤ 16) }
 
     ensures swept { IfOk result (λ swept. IsSweep (V.tells visitor.now) deps.now swept.total swept.tally) }
     ensures within { IfOk result (λ swept. swept.total ≤ limit) }
-    ensures too_many { IsErrOf result ExploreFault.TooMany → Outnumbers (IsClosed deps.now) limit }
+    ensures too_many { SaysTooMany deps.now limit result }
 {
     let closures = closures(deps);
     let parts = parts_of(alloc, deps, &closures, PARTS * workers)?;
@@ -99,14 +98,12 @@ where
     V::Scratch: Send,
     V::Tally: Send,
     requires known { parts.now.low ≤ length sweeper.now.deps.now }
-    requires parts { AreParts sweeper.now.deps.now parts.now.low (2 ^ length sweeper.now.deps.now)
-        parts.now.roots.items }
-    requires lawful { (set : ℕ) → IsClosed sweeper.now.deps.now set → V.is_lawful sweeper.now.visitor.now set }
+    requires parts { AreAllParts sweeper.now.deps.now parts.now.low parts.now.roots.items }
+    requires lawful { EachClosed sweeper.now.deps.now (V.is_lawful sweeper.now.visitor.now) }
     ensures swept { IfOk result (λ swept.
         IsSweep (V.tells sweeper.now.visitor.now) sweeper.now.deps.now swept.total swept.tally) }
     ensures within { IfOk result (λ swept. swept.total ≤ sweeper.now.limit) }
-    ensures too_many { IsErrOf result ExploreFault.TooMany
-        → Outnumbers (IsClosed sweeper.now.deps.now) sweeper.now.limit }
+    ensures too_many { SaysTooMany sweeper.now.deps.now sweeper.now.limit result }
 {
     let scratches = new_scratches(alloc, sweeper.visitor, workers)?;
     let done = sweep_parts(rt, alloc, sweeper, parts.low, &parts.roots, scratches)?;
@@ -152,22 +149,19 @@ impl<'a, V: Visitor, A: Allocator + Copy> Job for Sweeping<'a, V, A> {
 
     type Left = Result<Vec<Done<V::Tally>, A>, ExploreFault>;
 
-    ghost use Rattle.std.specs.Prelude.{ℕ, ◌^◌, ◌≤◌, length, IfOk, IsErrOf};
+    ghost use Rattle.std.specs.Prelude.{◌≤◌, length, IfOk};
     ghost use Rattle.std.specs.List.{All};
-    ghost use Rattle.state_space.specs.Counts.{Outnumbers};
-    ghost use Rattle.patch_sets.specs.Closed.{IsClosed};
-    ghost use Rattle.patch_sets.specs.declared.explored.ExploreFault.TheVariants as fault;
-    ghost use Rattle.set_sweep.specs.Sweeps.{AreParts, IsDone};
+    ghost use Rattle.set_sweep.specs.Sweeps.{EachClosed, SaysTooMany, AreAllParts, IsDone};
 
     ghost is_ready = { λ j scratch. (j.low ≤ length j.sweeper.now.deps.now)
-        × AreParts j.sweeper.now.deps.now j.low (2 ^ length j.sweeper.now.deps.now) j.roots.now
-        × ((set : ℕ) → IsClosed j.sweeper.now.deps.now set → V.is_lawful j.sweeper.now.visitor.now set)
+        × AreAllParts j.sweeper.now.deps.now j.low j.roots.now
+        × EachClosed j.sweeper.now.deps.now (V.is_lawful j.sweeper.now.visitor.now)
         × V.is_own j.sweeper.now.visitor.now scratch };
 
     ghost is_left = { λ j left.
         IfOk left (λ all.
         All (IsDone (V.tells j.sweeper.now.visitor.now) j.sweeper.now.deps.now j.low j.roots.now) all.items)
-        × (IsErrOf left fault.TooMany → Outnumbers (IsClosed j.sweeper.now.deps.now) j.sweeper.now.limit) };
+        × SaysTooMany j.sweeper.now.deps.now j.sweeper.now.limit left };
 
     fn work(&self, scratch: V::Scratch) -> Result<Vec<Done<V::Tally>, A>, ExploreFault> {
         self.draw_parts(scratch)
@@ -178,15 +172,12 @@ impl<V: Visitor, A: Allocator + Copy> Sweeping<'_, V, A> {
     /// Draws one part after another and sweeps over it, until none is left or more sets than the limit were seen.
     fn draw_parts(&self, mut scratch: V::Scratch) -> Result<Vec<Done<V::Tally>, A>, ExploreFault>
         requires known { self.now.low ≤ length self.now.sweeper.now.deps.now }
-        requires parts { AreParts self.now.sweeper.now.deps.now self.now.low (2 ^ length self.now.sweeper.now.deps.now)
-            self.now.roots.now }
-        requires lawful { (set : ℕ) → IsClosed self.now.sweeper.now.deps.now set
-            → V.is_lawful self.now.sweeper.now.visitor.now set }
+        requires parts { AreAllParts self.now.sweeper.now.deps.now self.now.low self.now.roots.now }
+        requires lawful { EachClosed self.now.sweeper.now.deps.now (V.is_lawful self.now.sweeper.now.visitor.now) }
         requires own { V.is_own self.now.sweeper.now.visitor.now scratch }
         ensures done { IfOk result (λ all. All (IsDone (V.tells self.now.sweeper.now.visitor.now)
             self.now.sweeper.now.deps.now self.now.low self.now.roots.now) all.items) }
-        ensures too_many { IsErrOf result ExploreFault.TooMany
-            → Outnumbers (IsClosed self.now.sweeper.now.deps.now) self.now.sweeper.now.limit }
+        ensures too_many { SaysTooMany self.now.sweeper.now.deps.now self.now.sweeper.now.limit result }
     {
         let mut all = Vec::new(self.alloc);
         for _ in 0..self.roots.len() {
@@ -202,16 +193,13 @@ impl<V: Visitor, A: Allocator + Copy> Sweeping<'_, V, A> {
     /// limit were seen.
     fn draw_part(&self, scratch: &mut V::Scratch) -> Result<Option<Done<V::Tally>>, ExploreFault>
         requires known { self.now.low ≤ length self.now.sweeper.now.deps.now }
-        requires parts { AreParts self.now.sweeper.now.deps.now self.now.low (2 ^ length self.now.sweeper.now.deps.now)
-            self.now.roots.now }
-        requires lawful { (set : ℕ) → IsClosed self.now.sweeper.now.deps.now set
-            → V.is_lawful self.now.sweeper.now.visitor.now set }
+        requires parts { AreAllParts self.now.sweeper.now.deps.now self.now.low self.now.roots.now }
+        requires lawful { EachClosed self.now.sweeper.now.deps.now (V.is_lawful self.now.sweeper.now.visitor.now) }
         requires own { V.is_own self.now.sweeper.now.visitor.now scratch.old }
         ensures own { OnOk result (V.is_own self.now.sweeper.now.visitor.now scratch.new) }
         ensures done { IfOk result (λ drawn. IfSome drawn (IsDone (V.tells self.now.sweeper.now.visitor.now)
             self.now.sweeper.now.deps.now self.now.low self.now.roots.now)) }
-        ensures too_many { IsErrOf result ExploreFault.TooMany
-            → Outnumbers (IsClosed self.now.sweeper.now.deps.now) self.now.sweeper.now.limit }
+        ensures too_many { SaysTooMany self.now.sweeper.now.deps.now self.now.sweeper.now.limit result }
     {
         let at = self.next.fetch_add(1, Ordering::SeqCst);
         if at >= self.roots.len() {
@@ -232,12 +220,10 @@ impl<V: Visitor, A: Allocator + Copy> Sweeping<'_, V, A> {
     ) -> Result<Vec<Done<V::Tally>, A>, ExploreFault>
         requires { All (λ left. IfOk left (λ all. All (IsDone (V.tells self.now.sweeper.now.visitor.now)
             self.now.sweeper.now.deps.now self.now.low self.now.roots.now) all.items)
-            × (IsErrOf left ExploreFault.TooMany
-            → Outnumbers (IsClosed self.now.sweeper.now.deps.now) self.now.sweeper.now.limit)) lefts.items }
+            × SaysTooMany self.now.sweeper.now.deps.now self.now.sweeper.now.limit left) lefts.items }
         ensures done { IfOk result (λ all. All (IsDone (V.tells self.now.sweeper.now.visitor.now)
             self.now.sweeper.now.deps.now self.now.low self.now.roots.now) all.items) }
-        ensures too_many { IsErrOf result ExploreFault.TooMany
-            → Outnumbers (IsClosed self.now.sweeper.now.deps.now) self.now.sweeper.now.limit }
+        ensures too_many { SaysTooMany self.now.sweeper.now.deps.now self.now.sweeper.now.limit result }
     {
         let mut all = Vec::new(self.alloc);
         while let Some(left) = lefts.pop() {
@@ -264,13 +250,12 @@ where
     V::Scratch: Send,
     V::Tally: Send,
     requires known { low ≤ length sweeper.now.deps.now }
-    requires parts { AreParts sweeper.now.deps.now low (2 ^ length sweeper.now.deps.now) roots.now }
-    requires lawful { (set : ℕ) → IsClosed sweeper.now.deps.now set → V.is_lawful sweeper.now.visitor.now set }
+    requires parts { AreAllParts sweeper.now.deps.now low roots.now }
+    requires lawful { EachClosed sweeper.now.deps.now (V.is_lawful sweeper.now.visitor.now) }
     requires own { All (V.is_own sweeper.now.visitor.now) scratches.items }
     ensures done { IfOk result (λ all.
         All (IsDone (V.tells sweeper.now.visitor.now) sweeper.now.deps.now low roots.now) all.items) }
-    ensures too_many { IsErrOf result ExploreFault.TooMany
-        → Outnumbers (IsClosed sweeper.now.deps.now) sweeper.now.limit }
+    ensures too_many { SaysTooMany sweeper.now.deps.now sweeper.now.limit result }
 {
     let next = AtomicUsize::new(0);
     let seen = AtomicUsize::new(0);

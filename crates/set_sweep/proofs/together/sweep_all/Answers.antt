@@ -1,19 +1,17 @@
-use Rattle.std.proofs.Common.{◌^◌, List, ℕ, length, sym, subst, ◌∙◌}
+use Rattle.std.proofs.Common.{List, ℕ, sym, subst, ◌∙◌}
 use Rattle.std.specs.List.{All}
-use Rattle.set_sweep.specs.Sweeps.{AreParts, IsDone}
+use Rattle.set_sweep.specs.Sweeps.{AreAllParts, IsDone}
 use Rattle.set_sweep.proofs.together.sweep_all.Goals as goal
 
 pub sweep_parts-requires-clause-parts : goal.sweep_parts-requires-clause-parts
 sweep_parts-requires-clause-parts g c κs within =
     let deps = c.args.sweeper.now.deps.now in
-    subst (λ (roots : List ℕ). AreParts deps c.args.parts.now.low (2 ^ length deps) roots) (sym c.deref.ensures.value)
-    c.requires.parts
+    subst (AreAllParts deps c.args.parts.now.low) (sym c.deref.ensures.value) c.requires.parts
 
 pub join_parts-requires-clause-parts : goal.join_parts-requires-clause-parts
 join_parts-requires-clause-parts g c =
     let deps = c.args.sweeper.now.deps.now in
-    subst (λ (roots : List ℕ). AreParts deps c.args.parts.now.low (2 ^ length deps) roots) (sym c.deref-2.ensures.value)
-    c.requires.parts
+    subst (AreAllParts deps c.args.parts.now.low) (sym c.deref-2.ensures.value) c.requires.parts
 
 pub join_parts-requires-clause-done : goal.join_parts-requires-clause-done
 join_parts-requires-clause-done g c =

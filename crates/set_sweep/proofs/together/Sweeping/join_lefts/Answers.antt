@@ -1,12 +1,9 @@
 use Rattle.std.proofs.Common.{sym, subst}
-use Rattle.std.specs.Prelude.{Some, IfOk, IsErrOf}
+use Rattle.std.specs.Prelude.{Some, IfOk}
 use Rattle.std.specs.List.{All}
 use Rattle.std.proofs.lemmas.List.Elements.{All-append, All-nil, All-pop}
 use Rattle.std.proofs.lemmas.Result.{err_from_is_err_and}
-use Rattle.state_space.specs.Counts.{Outnumbers}
-use Rattle.patch_sets.specs.Closed.{IsClosed}
-use Rattle.patch_sets.specs.declared.explored.ExploreFault.TheVariants as fault
-use Rattle.set_sweep.specs.Sweeps.{IsDone}
+use Rattle.set_sweep.specs.Sweeps.{SaysTooMany, IsDone}
 use Rattle.set_sweep.proofs.together.Sweeping.join_lefts.Goals as goal
 
 pub loop-left-preserved : goal.loop-left-preserved
@@ -16,7 +13,7 @@ loop-left-preserved g c =
     let done = IsDone (g.V.Visitor.tells self.sweeper.now.visitor.now) deps self.low self.roots.now in
     let inv = c.loop-left.invariant in
     let popped = All-pop (λ left. IfOk left (λ some. All done some.items)
-    × (IsErrOf left fault.TooMany → Outnumbers (IsClosed deps) self.sweeper.now.limit)) c.loop-left.lefts.items
+    × SaysTooMany deps self.sweeper.now.limit left) c.loop-left.lefts.items
     c.pop.new.self.items (Some c.in-Some.left) c.in-Some.ensures.items inv.lefts in
     let some : IfOk c.in-Some.left (λ some. All done some.items) = popped.1.0 in
     let left : All done c.in_ok-left.left.items = subst (λ r. IfOk r (λ some. All done some.items)) c.in_ok-left.was
@@ -43,8 +40,7 @@ returns-in_err-left-clause-too_many g c =
     let deps = self.sweeper.now.deps.now in
     let done = IsDone (g.V.Visitor.tells self.sweeper.now.visitor.now) deps self.low self.roots.now in
     let popped = All-pop (λ left. IfOk left (λ some. All done some.items)
-    × (IsErrOf left fault.TooMany → Outnumbers (IsClosed deps) self.sweeper.now.limit)) c.loop-left.lefts.items
+    × SaysTooMany deps self.sweeper.now.limit left) c.loop-left.lefts.items
     c.pop.new.self.items (Some c.in-Some.left) c.in-Some.ensures.items c.loop-left.invariant.lefts in
     let p = err_from_is_err_and c.from_residual.result c.from_residual.ensures.1 in
-    rw (p.1, p.2) (subst (λ left. IsErrOf left fault.TooMany → Outnumbers (IsClosed deps) self.sweeper.now.limit)
-    c.in_err-left.was popped.1.1)
+    rw (p.1, p.2) (subst (SaysTooMany deps self.sweeper.now.limit) c.in_err-left.was popped.1.1)

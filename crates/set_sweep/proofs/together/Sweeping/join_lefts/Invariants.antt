@@ -1,10 +1,7 @@
 use Rattle.std.proofs.Common.{vec_len}
-use Rattle.std.specs.Prelude.{IfOk, IsErrOf}
+use Rattle.std.specs.Prelude.{IfOk}
 use Rattle.std.specs.List.{All}
-use Rattle.state_space.specs.Counts.{Outnumbers}
-use Rattle.patch_sets.specs.Closed.{IsClosed}
-use Rattle.patch_sets.specs.declared.explored.ExploreFault.TheVariants as fault
-use Rattle.set_sweep.specs.Sweeps.{IsDone}
+use Rattle.set_sweep.specs.Sweeps.{SaysTooMany, IsDone}
 use Rattle.set_sweep.proofs.together.Sweeping.join_lefts.Given as goal
 
 abbrev pub invariant-loop-left : goal.invariant-loop-left
@@ -15,7 +12,7 @@ invariant-loop-left g l =
     record {
       all : All done l.all.items;
       lefts : All (λ left. IfOk left (λ some. All done some.items)
-          × (IsErrOf left fault.TooMany → Outnumbers (IsClosed deps) self.sweeper.now.limit)) l.lefts.items;
+          × SaysTooMany deps self.sweeper.now.limit left) l.lefts.items;
     }
 
 abbrev pub decreases-loop-left : goal.decreases-loop-left
