@@ -39,7 +39,7 @@ use Rattle.full_journal_laws.proofs.Targets.{equal_test}
 use Rattle.full_journal_laws.specs.Full.{ops_of, after_ops, commits_from, IsRecovered}
 use Rattle.full_journal_laws.proofs.Plans.{plan-good}
 use Rattle.full_journal_laws.proofs.Outside.{sound-outside}
-use Rattle.full_journal_laws.proofs.Turns.{placed-log}
+use Rattle.full_journal_laws.proofs.TurnPlaces.{placed-log}
 use Rattle.full_journal_laws.proofs.Journal.{log_safe}
 use Rattle.full_journal_laws.proofs.Closed.{closed_log, length-copy, parts_of}
 use Rattle.full_journal_laws.proofs.Traces.{Logged, changes_of, IsLogged, traced_logged}

@@ -15,7 +15,8 @@ use Rattle.full_journal_laws.specs.Full.{IsOutside}
 use Rattle.journal_replay.proofs.Blocks.{IsShaped}
 use Rattle.journal_replay.proofs.Targets.{bool_is}
 use Rattle.full_journal_laws.proofs.Images.{image-append, kept-image, shaped-image}
-use Rattle.full_journal_laws.proofs.Turns.{IsTurned, turned, length-turn, shaped-with_changes, placed-log, avoid-log}
+use Rattle.full_journal_laws.proofs.TurnPlaces.{length-turn, shaped-with_changes, placed-log, avoid-log}
+use Rattle.full_journal_laws.proofs.Turns.{IsTurned, turned}
 
 -- no header where the journal ends, or where byte 0 is 0
 no_header : (d : Disk) (j t : ℕ) (row : List ℕ) → (j < 4 + d.journal → get_or row 0 0 ≡ 0) → is_header d j t row ≡ false

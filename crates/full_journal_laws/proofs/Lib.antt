@@ -2,6 +2,7 @@ pub mod Transactions
 pub mod Logs
 pub mod Images
 pub mod Targets
+pub mod TurnPlaces
 pub mod Turns
 pub mod Journal
 pub mod Closed

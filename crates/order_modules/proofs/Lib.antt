@@ -1,6 +1,7 @@
 pub mod Adding
 pub mod EmittedInOrder
 pub mod Emitting
+pub mod Linking
 pub mod Graphs
 pub mod Grouping
 pub mod Planning

@@ -8,6 +8,7 @@ pub mod Spelling
 pub mod Keeping
 pub mod Answering
 pub mod Pieces
+pub mod Acts
 pub mod Readings
 pub mod Scripts
 pub mod OneGraph
@@ -17,6 +18,7 @@ pub mod Refused
 pub mod SomeReading
 pub mod Sets
 pub mod SomeSections
+pub mod GatheredFaults
 pub mod SomeBody
 pub mod SomeAnswer
 pub mod Stages

@@ -22,8 +22,8 @@ use Rattle.crash_model.specs.declared.steps.Act.{Act}
 use Rattle.crash_model.specs.declared.steps.Step.{Step}
 use Rattle.worked_example_laws.specs.Spelled.{is_word}
 use Rattle.worked_example_laws.proofs.Pieces.{AreLacking, pieces, some_pieces, joined_pieces}
-use Rattle.worked_example_laws.proofs.Readings.{path_from, path_of_pieces, path_of, no_path, Read, read_as, samples}
-use Rattle.worked_example_laws.proofs.Readings.{begun_by, like_of, fit, fits_some, are_formed, form_at, no_form}
+use Rattle.worked_example_laws.proofs.Acts.{path_from, path_of_pieces, path_of, no_path, samples, begun_by, like_of}
+use Rattle.worked_example_laws.proofs.Readings.{Read, read_as, fit, fits_some, are_formed, form_at, no_form}
 use Rattle.worked_example_laws.proofs.Readings.{plain_from}
 use Rattle.worked_example_laws.proofs.Refused.{fits_if, not_skipped, not_text}
 use Rattle.std.proofs.lemmas.Option.{slice_get-get_or}

@@ -2,7 +2,7 @@ use Rattle.std.proofs.Common.{◌≡◌, false, sym, subst}
 use Rattle.std.specs.List.{list_any}
 use Rattle.crash_model.specs.Trace.{is_same_group}
 use Rattle.order_modules.specs.Log.{Log}
-use Rattle.order_modules.proofs.Emitting.{link_fields}
+use Rattle.order_modules.proofs.Linking.{link_fields}
 use Rattle.order_modules.proofs.log.PatchLog.link.Goals as goal
 
 pub invariant_of-self-2 : goal.invariant_of-self-2
