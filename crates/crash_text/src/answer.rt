@@ -6,6 +6,7 @@ ghost use Rattle.command_line.specs.Ranges.{IsInRanges};
 ghost use Rattle.crash_text.specs.Served.{IsServed};
 ghost use Rattle.crash_text.specs.Status.{IsServedFailing, script_of};
 
+use crate::host::Host;
 use crate::serve::serve;
 use clap::error::ErrorKind;
 use command_line::{Call, settings_of};
@@ -14,7 +15,7 @@ use devices::sink::Sink;
 use devices::source::Source;
 use devices::standard::Counted;
 use explorers::{Gate, OpenGate};
-use std::alloc::{Allocator, Global};
+use std::alloc::Allocator;
 use std::fs::File;
 use std::io::{self, Read, Write};
 use std::rt::Files;
@@ -29,11 +30,8 @@ const REFUSED: u8 = 2;
 /// `words` stand without the program's name. It reads the script that they name, else `input`, writes the report to
 /// `out`, and a refusal, as one line, or a fault of the command line to `err`. A request for help or for the version
 /// is printed on `out`, with status 0.
-/// `heap` is what the command line and JSON take memory from, whose crates take no other, and `alloc` serves the rest.
 pub fn answer<'a, R, A, I, O, E>(
-    rt: &R,
-    heap: Global,
-    alloc: A,
+    host: &Host<'_, R, A>,
     words: &'a [&'a str],
     input: &mut I,
     out: &mut O,
@@ -47,14 +45,12 @@ where
     E: Write,
     ensures { result ≤ 2 }
 {
-    answer_watched(rt, heap, alloc, words, input, out, err, &OpenGate)
+    answer_watched(host, words, input, out, err, &OpenGate)
 }
 
 /// The same, and the gate is told of each claim of a worker on a board, and of how far the run is.
 pub fn answer_watched<'a, R, A, I, O, E, G>(
-    rt: &R,
-    heap: Global,
-    alloc: A,
+    host: &Host<'_, R, A>,
     words: &'a [&'a str],
     input: &mut I,
     out: &mut O,
@@ -70,10 +66,10 @@ where
     G: Gate + Sync,
     ensures { result ≤ 2 }
 {
-    match settings_of(heap, words) {
+    match settings_of(host.heap, words) {
         Ok(call) => {
             let (mut source, mut sink) = (Counted::new(input), Counted::new(out));
-            answer_call(rt, heap, alloc, &call, &mut source, &mut sink, err, gate)
+            answer_call(host, &call, &mut source, &mut sink, err, gate)
         }
         Err(error) => tell(out, err, error),
     }
@@ -85,9 +81,7 @@ where
 /// sink took nothing, unless it failed itself. A named file's bytes are not known: the report is on the bytes that it
 /// gave, and the source is not read.
 pub fn answer_call<R, A, S, K, E, G>(
-    rt: &R,
-    heap: Global,
-    alloc: A,
+    host: &Host<'_, R, A>,
     call: &Call<'_>,
     source: &mut S,
     sink: &mut K,
@@ -115,7 +109,7 @@ where
         → Keeps (K.taken sink.old) (K.taken sink.new) ⊎ (K.failures sink.new ≡ K.failures sink.old + 1) }
     ensures unread { IsSome call.now.script → source.new ≡ source.old }
 {
-    match serve_call(rt, heap, alloc, call, source, sink, gate) {
+    match serve_call(host, call, source, sink, gate) {
         Ok(failing) => status_of(failing),
         Err(fault) => {
             gate.ended();
@@ -133,9 +127,7 @@ fn status_of(failing: usize) -> u8
 
 /// Serves the script that the call names, else the source. It gives the number of failing sets.
 fn serve_call<R, A, S, K, G>(
-    rt: &R,
-    heap: Global,
-    alloc: A,
+    host: &Host<'_, R, A>,
     call: &Call<'_>,
     source: &mut S,
     sink: &mut K,
@@ -159,14 +151,14 @@ where
 {
     let (settings, workers) = (&call.settings, call.workers);
     match call.script {
-        Some(name) => match File::open(rt, name) {
+        Some(name) => match File::open(host.rt, name) {
             Ok(file) => {
                 let mut file = Counted::new(file);
-                serve(rt, heap, alloc, &mut file, sink, settings, workers, gate)
+                serve(host, &mut file, sink, settings, workers, gate)
             }
             Err(error) => Err(open_fault(error)),
         },
-        None => serve(rt, heap, alloc, source, sink, settings, workers, gate),
+        None => serve(host, source, sink, settings, workers, gate),
     }
 }
 

@@ -2,6 +2,7 @@
 #![tactic(auto)]
 
 pub mod answer;
+pub mod host;
 mod keeping;
 mod needs;
 pub mod progress;

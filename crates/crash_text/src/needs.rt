@@ -15,6 +15,7 @@ ghost use Rattle.report_sections.specs.Sections.{section_of};
 ghost use Rattle.report_sections.specs.ToldRules.{told_rule, usage_of};
 ghost use Rattle.crash_text.specs.Telling.{AreFindings, IsReportOf, IsTraceOf, IsUsageBy};
 
+use crate::host::Host;
 use crate::telling::Findings;
 use crash_finding::{Crashes, Finder};
 use crash_model::refusals::RunFault;
@@ -24,14 +25,14 @@ use order_modules::graph_without;
 use patch_graph::Graph;
 use report_sections::{RuleUsage, Section, ToldRule};
 use section_maker::SectionMaker;
-use std::alloc::{AllocError, Allocator, Global};
+use std::alloc::{AllocError, Allocator};
 use std::sync::Wait;
 use std::thread::Threads;
 
 /// The report on the rules of the ordering. It fails only when out of memory.
 pub(crate) fn report_by_rule<R, A, G>(
+    host: &Host<'_, R, A>,
     finder: &Finder<'_, R, A, G>,
-    heap: Global,
     findings: &Findings<'_, '_, A>,
 ) -> Result<String<A>, AllocError>
 where
@@ -44,7 +45,7 @@ where
     ensures { IfOk result (λ text. IsReportOf findings.now (string_bytes text)) }
 {
     let rules = needs(finder, findings)?;
-    findings.by_rule(finder.rt, heap, finder.alloc, &rules, finder.workers)
+    findings.by_rule(host, &rules, finder.workers)
 }
 
 /// What is told of each rule of the ordering, in its order.

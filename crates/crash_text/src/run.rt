@@ -12,6 +12,7 @@ ghost use Rattle.full_journal_laws.specs.Full.{IsFullSafe};
 ghost use Rattle.report_sections.specs.Bodies.{AreOnBase};
 ghost use Rattle.crash_text.specs.Telling.{AreFindings, AreReported, AreReportedOf, AreRefused, IsReportOf};
 
+use crate::host::Host;
 use crate::keeping::told_kept;
 use crate::needs::report_by_rule;
 use crate::telling::Findings;
@@ -23,7 +24,7 @@ use disk_image::{Image, ImageFault};
 use explorers::Gate;
 use order_modules::{build_base, trace};
 use script_text::read_script;
-use std::alloc::{AllocError, Allocator, Global};
+use std::alloc::{AllocError, Allocator};
 use std::sync::Wait;
 use std::thread::Threads;
 use traced_patches::Traced;
@@ -38,13 +39,11 @@ pub struct Outcome<A: Allocator> {
 /// Answers a script: reads it, builds the base, traces the rest, explores what a crash can leave, and reports.
 ///
 /// For every number of workers, 1 to 16, and every schedule, an answer other than out of memory is the one defined for
-/// the script's bytes and the settings, without threads. `heap` is what JSON is made with. The gate is told of each
-/// claim of a worker on a board, and of how far a run is. Under the full journal with no rule taken out no set fails,
-/// whatever the script and the rules put in, by a strict checker either.
+/// the script's bytes and the settings, without threads. The gate is told of each claim of a worker on a board, and of
+/// how far a run is. Under the full journal with no rule taken out no set fails, whatever the script and the rules put
+/// in, by a strict checker either.
 pub fn run<R, A, G>(
-    rt: &R,
-    heap: Global,
-    alloc: A,
+    host: &Host<'_, R, A>,
     script: &[u8],
     settings: &Settings,
     workers: usize,
@@ -63,23 +62,23 @@ where
     ensures full { settings.now.module ≡ Full → settings.now.without.items ≡ []
         → IfOk result (λ outcome. outcome.failing ≡ 0) }
 {
-    let script = read_script(alloc, script)?;
-    let base = base_of(alloc, &script.base, settings)?;
+    let script = read_script(host.alloc, script)?;
+    let base = base_of(host.alloc, &script.base, settings)?;
     let steps = &script.traced;
     let finder = Finder {
-        rt,
-        alloc,
+        rt: host.rt,
+        alloc: host.alloc,
         settings,
         workers,
         gate,
     };
-    answer_steps(&finder, heap, &base, steps)
+    answer_steps(host, &finder, &base, steps)
 }
 
 /// Traces the steps over the base, explores what a crash can leave, and reports.
 fn answer_steps<R, A, G>(
+    host: &Host<'_, R, A>,
     finder: &Finder<'_, R, A, G>,
-    heap: Global,
     base: &Image<A>,
     steps: &[Step],
 ) -> Result<Outcome<A>, RunFault>
@@ -99,13 +98,13 @@ where
     // For the proof: what every image keeps.
     let _blocks = base.blocks();
     let traced = trace(finder.alloc, base, steps, &ordering)?;
-    answer_traced(finder, heap, base, steps, traced)
+    answer_traced(host, finder, base, steps, traced)
 }
 
 /// Explores what a crash can leave of the patches of the steps, which were traced over the base, and reports.
 fn answer_traced<'steps, R, A, G>(
+    host: &Host<'_, R, A>,
     finder: &Finder<'_, R, A, G>,
-    heap: Global,
     base: &'steps Image<A>,
     steps: &[Step],
     traced: Traced<'steps, A>,
@@ -136,15 +135,15 @@ where
         found,
     };
     Ok(Outcome {
-        text: report(finder, heap, &findings)?,
+        text: report(host, finder, &findings)?,
         failing: findings.found.failing,
     })
 }
 
 /// The report on what is found, as the settings ask for it. It fails only when out of memory.
 fn report<R, A, G>(
+    host: &Host<'_, R, A>,
     finder: &Finder<'_, R, A, G>,
-    heap: Global,
     findings: &Findings<'_, '_, A>,
 ) -> Result<String<A>, AllocError>
 where
@@ -155,11 +154,10 @@ where
     requires found { AreFindings findings.now }
     ensures { IfOk result (λ text. IsReportOf findings.now (string_bytes text)) }
 {
-    let (rt, alloc, workers) = (finder.rt, finder.alloc, finder.workers);
     match &findings.found.kept {
-        Kept::Sets(sets) => findings.by_set(rt, heap, alloc, sets, workers),
-        Kept::Faults(rows) => findings.by_fault(rt, heap, alloc, rows, workers),
-        Kept::Number => report_by_rule(finder, heap, findings),
+        Kept::Sets(sets) => findings.by_set(host, sets, finder.workers),
+        Kept::Faults(rows) => findings.by_fault(host, rows, finder.workers),
+        Kept::Number => report_by_rule(host, finder, findings),
     }
 }
 

@@ -7,13 +7,14 @@ ghost use Rattle.devices.specs.Counted.{IsReadFault};
 ghost use Rattle.crash_finding.specs.Limits.{IsExplorable};
 ghost use Rattle.crash_text.specs.Served.{IsServed, IsCut, IsRefusedBy};
 
+use crate::host::Host;
 use crate::run::run;
 use crash_model::refusals::RunFault;
 use crash_model::settings::Settings;
 use devices::sink::{Sink, write_all};
 use devices::source::{MAX_SCRIPT_BYTES, Source, read_to_end};
 use explorers::Gate;
-use std::alloc::{Allocator, Global};
+use std::alloc::Allocator;
 use std::sync::Wait;
 use std::thread::Threads;
 
@@ -24,9 +25,7 @@ use std::thread::Threads;
 /// written before the report is whole. After a refusal the sink has taken nothing, unless the sink itself failed,
 /// which then has a beginning of the report.
 pub fn serve<R, A, S, K, G>(
-    rt: &R,
-    heap: Global,
-    alloc: A,
+    host: &Host<'_, R, A>,
     source: &mut S,
     sink: &mut K,
     settings: &Settings,
@@ -60,8 +59,8 @@ where
         → Keeps (K.taken sink.old) (K.taken sink.new)) }
     ensures gone { (bytes : List ℕ) × Consumes (S.coming source.old) (S.coming source.new) bytes }
 {
-    let script = read_to_end(alloc, source)?;
-    let outcome = run(rt, heap, alloc, script.as_slice(), settings, workers, gate)?;
+    let script = read_to_end(host.alloc, source)?;
+    let outcome = run(host, script.as_slice(), settings, workers, gate)?;
     gate.ended();
     match write_all(sink, outcome.text.as_bytes()) {
         Ok(()) => Ok(outcome.failing),

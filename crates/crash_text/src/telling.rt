@@ -13,6 +13,7 @@ ghost use Rattle.report_sections.specs.Bodies.{AreClosed, AreOnBase, CanTell, Te
 ghost use Rattle.report_sections.specs.ToldRules.{told_rule};
 ghost use Rattle.crash_text.specs.Telling.{AreFindings, IsReportOf, IsTraceOf, Tells};
 
+use crate::host::Host;
 use crash_finding::Found;
 use crash_model::fault::FaultRow;
 use crash_model::settings::{Detail, Settings};
@@ -20,7 +21,7 @@ use disk_image::Image;
 use report_json::report_json;
 use report_sections::{Body, Report, ToldRule};
 use report_text::report_text;
-use std::alloc::{AllocError, Allocator, Global};
+use std::alloc::{AllocError, Allocator};
 use std::thread::Threads;
 use traced_patches::Traced;
 
@@ -51,9 +52,7 @@ impl<'steps, 'asked, A: Allocator + Copy + Send + Sync> Findings<'steps, 'asked,
     /// The report with a section for each failing set, of which these are all. It fails only when out of memory.
     pub fn by_set<R: Threads + Sync>(
         &self,
-        rt: &R,
-        heap: Global,
-        alloc: A,
+        host: &Host<'_, R, A>,
         sets: &[u128],
         workers: usize,
     ) -> Result<String<A>, AllocError>
@@ -63,15 +62,13 @@ impl<'steps, 'asked, A: Allocator + Copy + Send + Sync> Findings<'steps, 'asked,
             sets.now }
         ensures { IfOk result (λ text. IsReportOf self.now (string_bytes text)) }
     {
-        self.write(rt, heap, alloc, Body::Sets(sets), workers)
+        self.write(host, Body::Sets(sets), workers)
     }
 
     /// The report with each fault once, of which these are the rows. It fails only when out of memory.
     pub fn by_fault<R: Threads + Sync>(
         &self,
-        rt: &R,
-        heap: Global,
-        alloc: A,
+        host: &Host<'_, R, A>,
         rows: &[FaultRow],
         workers: usize,
     ) -> Result<String<A>, AllocError>
@@ -80,15 +77,13 @@ impl<'steps, 'asked, A: Allocator + Copy + Send + Sync> Findings<'steps, 'asked,
         requires rows { AreRows (HasFault self.now.kept self.now.base.now self.now.traced.patches) rows.now }
         ensures { IfOk result (λ text. IsReportOf self.now (string_bytes text)) }
     {
-        self.write(rt, heap, alloc, Body::Faults(rows), workers)
+        self.write(host, Body::Faults(rows), workers)
     }
 
     /// The report on the rules of the ordering, of which this is told. It fails only when out of memory.
     pub fn by_rule<R: Threads + Sync>(
         &self,
-        rt: &R,
-        heap: Global,
-        alloc: A,
+        host: &Host<'_, R, A>,
         rules: &[ToldRule<A>],
         workers: usize,
     ) -> Result<String<A>, AllocError>
@@ -100,15 +95,13 @@ impl<'steps, 'asked, A: Allocator + Copy + Send + Sync> Findings<'steps, 'asked,
             (ordering_rules self.now.settings.now) (map told_rule rules.now) }
         ensures { IfOk result (λ text. IsReportOf self.now (string_bytes text)) }
     {
-        self.write(rt, heap, alloc, Body::Rules(rules), workers)
+        self.write(host, Body::Rules(rules), workers)
     }
 
     /// The report with this body, in the form that the settings ask for. It fails only when out of memory.
     fn write<R: Threads + Sync>(
         &self,
-        rt: &R,
-        heap: Global,
-        alloc: A,
+        host: &Host<'_, R, A>,
         body: Body<'_, A>,
         workers: usize,
     ) -> Result<String<A>, AllocError>
@@ -119,7 +112,7 @@ impl<'steps, 'asked, A: Allocator + Copy + Send + Sync> Findings<'steps, 'asked,
             (string_bytes text)) }
     {
         let report = self.report(body);
-        write_report(rt, heap, alloc, &report, workers)
+        write_report(host, &report, workers)
     }
 
     /// The report with this body.
@@ -149,9 +142,7 @@ impl<'steps, 'asked, A: Allocator + Copy + Send + Sync> Findings<'steps, 'asked,
 
 /// The report, in the form that the settings ask for. It fails only when out of memory.
 fn write_report<R, A>(
-    rt: &R,
-    heap: Global,
-    alloc: A,
+    host: &Host<'_, R, A>,
     report: &Report<'_, '_, '_, '_, A>,
     workers: usize,
 ) -> Result<String<A>, AllocError>
@@ -165,9 +156,9 @@ where
         × (string_bytes text ≡ report_bytes report.now.settings.now (whole_of report.now body))) }
 {
     if report.settings.json {
-        let text = report_json(rt, heap, alloc, report, workers)?;
-        String::from_str(alloc, text.as_str())
+        let text = report_json(host.rt, host.heap, host.alloc, report, workers)?;
+        String::from_str(host.alloc, text.as_str())
     } else {
-        report_text(rt, alloc, report, workers)
+        report_text(host.rt, host.alloc, report, workers)
     }
 }

@@ -3,6 +3,7 @@
 
 use crash_model::refusals::RunFault;
 use crash_text::answer::{answer_watched, refuse, refuse_words};
+use crash_text::host::Host;
 use crash_text::progress::Progress;
 use std::alloc::{AllocError, Global};
 use std::io::IsTerminal;
@@ -39,8 +40,7 @@ fn main(rt: HostRuntime) -> ExitCode {
         return ExitCode::from(refuse(&mut err, RunFault::OutOfMemory));
     };
     let progress = Progress::new(&rt, err, err.is_terminal());
-    let status = answer_watched(
-        &rt, heap, heap, &texts, &mut input, &mut out, &mut err, &progress,
-    );
+    let host = Host::new(&rt);
+    let status = answer_watched(&host, &texts, &mut input, &mut out, &mut err, &progress);
     ExitCode::from(status)
 }

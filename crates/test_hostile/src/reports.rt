@@ -2,6 +2,7 @@
 
 ghost use Rattle.std.specs.Prelude.{◌≤◌};
 
+use crash_text::host::Host;
 use crash_text::run::run;
 use explorers::Gate;
 use std::process::Abort;
@@ -23,7 +24,7 @@ pub fn reports<R: Abort + AllocGlobal + Threads + Wait + Sync, G: Gate + Sync>(
     let heap = rt.alloc();
     let script = asked.whole_script(heap)?;
     let settings = asked.settings(4096, false);
-    let outcome = run(rt, heap, heap, &script, &settings, workers, gate)?;
+    let outcome = run(&Host::new(rt), &script, &settings, workers, gate)?;
     assert_eq!(rt; outcome.failing, asked.failing);
     let digest = digest_of(heap, outcome.text.as_bytes())?;
     assert!(rt; digest.as_str() == asked.text, "{workers} workers");

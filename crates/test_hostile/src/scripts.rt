@@ -3,6 +3,7 @@
 //! `bench/hostile_scripts.py` makes the same scripts and prints the digests that are expected here.
 
 use crash_text::answer::answer;
+use crash_text::host::Host;
 use sha1::Sha1;
 use std::alloc::{AllocError, Global};
 use std::process::Abort;
@@ -137,7 +138,7 @@ fn tell<R: Files + Abort + AllocGlobal + Threads + Wait + Sync>(
     let mut out = Vec::new(heap);
     let mut err = Vec::new(heap);
     let mut input = script;
-    let status = answer(rt, heap, heap, words, &mut input, &mut out, &mut err);
+    let status = answer(&Host::new(rt), words, &mut input, &mut out, &mut err);
     assert_eq!(rt; status == 2, out.is_empty());
     assert_eq!(rt; status == 2, err.ends_with(b"\n"));
     told.update(&[status]);

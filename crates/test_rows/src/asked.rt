@@ -2,6 +2,7 @@
 
 use command_line::settings_of;
 use crash_text::answer::answer;
+use crash_text::host::Host;
 use std::alloc::Global;
 use std::process::Abort;
 use std::rt::Files;
@@ -49,7 +50,7 @@ pub fn ask<R: Files + AllocGlobal + Threads + Wait + Sync>(
     let mut out = Vec::new(heap);
     let mut err = Vec::new(heap);
     let mut input = script;
-    let status = answer(rt, heap, heap, &words, &mut input, &mut out, &mut err);
+    let status = answer(&Host::new(rt), &words, &mut input, &mut out, &mut err);
     Ok(Answered { status, out, err })
 }
 

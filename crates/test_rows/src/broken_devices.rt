@@ -7,6 +7,7 @@ use crate::scripts::CREATE;
 use crash_model::modules::Module;
 use crash_model::refusals::RunFault;
 use crash_text::answer::answer;
+use crash_text::host::Host;
 use crash_text::serve::serve;
 use devices::memory::Taken;
 use devices::sink::Sink;
@@ -119,16 +120,7 @@ fn served<R: AllocGlobal + Threads + Wait + Sync, S: Source, K: Sink>(
     requires sink { K.failures sink.old < 2 ^ 64 - 1 }
 {
     let settings = plain_settings(Module::Async);
-    serve(
-        rt,
-        rt.alloc(),
-        rt.alloc(),
-        source,
-        sink,
-        &settings,
-        1,
-        &OpenGate,
-    )
+    serve(&Host::new(rt), source, sink, &settings, 1, &OpenGate)
 }
 
 #[test]
@@ -223,7 +215,7 @@ fn a_refusal_that_cannot_be_printed_keeps_its_status(rt: HostRuntime) {
     let mut nowhere: [u8; 0] = [];
     let mut err = nowhere.as_mut_slice();
     let mut input: &[u8] = b"";
-    let status = answer(&rt, heap, heap, &[], &mut input, &mut out, &mut err);
+    let status = answer(&Host::new(&rt), &[], &mut input, &mut out, &mut err);
     assert!(rt; status == 2 && out.is_empty());
 }
 
@@ -234,7 +226,7 @@ fn a_report_that_cannot_be_written_is_told(rt: HostRuntime) {
     let mut out = nowhere.as_mut_slice();
     let mut err = Vec::new(heap);
     let mut input: &[u8] = b"start\n";
-    let status = answer(&rt, heap, heap, &[], &mut input, &mut out, &mut err);
+    let status = answer(&Host::new(&rt), &[], &mut input, &mut out, &mut err);
     let line = "crashmap: 51 cannot write the report\n";
     assert!(rt; status == 2 && err.as_slice() == line.as_bytes());
 }
@@ -247,7 +239,12 @@ fn refused_memory_is_told(rt: HostRuntime) {
     let mut out = Vec::new(heap);
     let mut err = Vec::new(heap);
     let mut input = CREATE.as_bytes();
-    let status = answer(&rt, heap, &memory, &[], &mut input, &mut out, &mut err);
+    let host = Host {
+        rt: &rt,
+        heap,
+        alloc: &memory,
+    };
+    let status = answer(&host, &[], &mut input, &mut out, &mut err);
     let line = "crashmap: 99 out of memory\n";
     assert!(rt; status == 2 && out.is_empty() && err.as_slice() == line.as_bytes());
 }

@@ -3,6 +3,7 @@
 ghost use Rattle.std.specs.Prelude.{◌≤◌};
 
 use crash_model::refusals::RunFault;
+use crash_text::host::Host;
 use crash_text::run::run;
 use explorers::{Gate, OpenGate};
 use std::process::Abort;
@@ -26,7 +27,7 @@ fn reports<R: Abort + AllocGlobal + Threads + Wait + Sync, G: Gate + Sync>(
     let script = asked.whole_script(heap)?;
     let limit = asked.closed.clamp(1, 32768);
     let settings = asked.settings(limit, false);
-    let outcome = run(rt, heap, heap, &script, &settings, workers, gate)?;
+    let outcome = run(&Host::new(rt), &script, &settings, workers, gate)?;
     assert!(rt; outcome.failing == asked.failing);
     let digest = digest_of(heap, outcome.text.as_bytes())?;
     assert!(rt; digest.as_str() == asked.text, "{workers} workers");
@@ -45,7 +46,7 @@ fn refuses_one_fewer<R: Abort + AllocGlobal + Threads + Wait + Sync>(
     let script = asked.whole_script(heap)?;
     let limit = asked.closed.saturating_sub(1).clamp(1, 32768);
     let settings = asked.settings(limit, false);
-    let refused = run(rt, heap, heap, &script, &settings, workers, &OpenGate).err();
+    let refused = run(&Host::new(rt), &script, &settings, workers, &OpenGate).err();
     assert!(rt; refused == Some(RunFault::TooMany), "{workers} workers");
     Ok(())
 }
@@ -108,7 +109,7 @@ fn report_of<R: AllocGlobal + Threads + Wait + Sync>(
     let heap = rt.alloc();
     let script = asked.whole_script(heap)?;
     let settings = asked.settings(4096, false);
-    Ok(run(rt, heap, heap, &script, &settings, 1, &OpenGate)?.text)
+    Ok(run(&Host::new(rt), &script, &settings, 1, &OpenGate)?.text)
 }
 
 /// The failing sets of a name that comes and goes are told from {1} to this one.

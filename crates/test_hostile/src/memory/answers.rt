@@ -3,6 +3,7 @@
 ghost use Rattle.std.specs.Prelude.{◌≤◌};
 
 use crash_model::refusals::RunFault;
+use crash_text::host::Host;
 use crash_text::run::{Outcome, run};
 use explorers::OpenGate;
 use std::alloc::Global;
@@ -80,7 +81,12 @@ fn reports<R: Abort + AllocGlobal + Threads + Wait + Sync>(
     let heap = rt.alloc();
     let settings = asked.settings(LIMIT, json);
     let script = asked.whole_script(heap)?;
-    let answer = run(rt, heap, memory, &script, &settings, workers, &OpenGate);
+    let host = Host {
+        rt,
+        heap,
+        alloc: memory,
+    };
+    let answer = run(&host, &script, &settings, workers, &OpenGate);
     expect_report(rt, &answer, asked.report(json), workers)
 }
 
@@ -94,15 +100,12 @@ fn refuses_too_many<R: Abort + AllocGlobal + Threads + Wait + Sync>(
 {
     let settings = WRITE.settings(WRITE.closed - 1, false);
     let script = WRITE.script;
-    let answer = run(
+    let host = Host {
         rt,
-        rt.alloc(),
-        memory,
-        script,
-        &settings,
-        workers,
-        &OpenGate,
-    );
+        heap: rt.alloc(),
+        alloc: memory,
+    };
+    let answer = run(&host, script, &settings, workers, &OpenGate);
     let too_many = matches!(&answer, Err(RunFault::TooMany));
     assert!(rt;
         too_many || matches!(&answer, Err(RunFault::OutOfMemory)),
