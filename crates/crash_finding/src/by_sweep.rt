@@ -23,7 +23,7 @@ use fault_summary::{
     CountVisitor, FailingCount, FaultVisitor, SweptFaults, sweep_count, sweep_faults,
 };
 use patch_graph::Graph;
-use set_sweep::sweep;
+use set_sweep::{Watch, Workers};
 use std::alloc::Allocator;
 use std::sync::Wait;
 use std::thread::Threads;
@@ -34,6 +34,16 @@ where
     A: Allocator + Copy + Send + Sync,
     G: Gate + Sync,
 {
+    /// Its workers, where they sweep.
+    fn sweepers<'s, W: Watch + Sync>(&'s self, watch: &'s W) -> Workers<'s, R, A, W> {
+        Workers {
+            rt: self.rt,
+            alloc: self.alloc,
+            number: self.workers,
+            watch,
+        }
+    }
+
     /// How many sets there are, and which of them fail, in canonical order. The memory that it takes grows with the
     /// failing sets alone.
     pub(crate) fn swept(&self, crashes: &Crashes<'_, A>) -> Result<Explored<A>, RunFault>
@@ -45,15 +55,7 @@ where
         let space = PatchSpace::new(crashes.base, crashes.graph, crashes.kept);
         let (deps, limit) = (dependencies(crashes.graph), self.settings.limit);
         let watch = GateWatch { gate: self.gate };
-        match sweep(
-            self.rt,
-            self.alloc,
-            &space,
-            &deps,
-            limit,
-            self.workers,
-            &watch,
-        ) {
+        match self.sweepers(&watch).sweep(&space, &deps, limit) {
             Ok(found) => Ok(found),
             Err(ExploreFault::TooMany) => Err(RunFault::TooMany),
             Err(ExploreFault::OutOfMemory) => Err(RunFault::OutOfMemory),
@@ -74,7 +76,7 @@ where
         let visitor = FaultVisitor::new(self.alloc, crashes.base, crashes.graph, crashes.kept);
         let (deps, limit) = (dependencies(crashes.graph), self.settings.limit);
         let watch = GateWatch { gate: self.gate };
-        match sweep_faults(self.rt, &visitor, &deps, limit, self.workers, &watch) {
+        match sweep_faults(&self.sweepers(&watch), &visitor, &deps, limit) {
             Ok(found) => Ok(found),
             Err(ExploreFault::TooMany) => Err(RunFault::TooMany),
             Err(ExploreFault::OutOfMemory) => Err(RunFault::OutOfMemory),
@@ -100,7 +102,7 @@ where
         let visitor = CountVisitor::new(self.alloc, space, other);
         let (deps, limit) = (dependencies(crashes.graph), self.settings.limit);
         let watch = GateWatch { gate: self.gate };
-        match sweep_count(self.rt, &visitor, &deps, limit, self.workers, &watch) {
+        match sweep_count(&self.sweepers(&watch), &visitor, &deps, limit) {
             Ok(found) => Ok(found),
             Err(ExploreFault::TooMany) => Err(RunFault::TooMany),
             Err(ExploreFault::OutOfMemory) => Err(RunFault::OutOfMemory),

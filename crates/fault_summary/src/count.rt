@@ -12,7 +12,7 @@ use crash_image::{PatchSpace, Scratch};
 use patch_graph::Graph;
 use patch_sets::explored::ExploreFault;
 use patch_sets::order::is_before;
-use set_sweep::{Visitor, Watch, sweep_with};
+use set_sweep::{Visitor, Watch, Workers};
 use state_space::Space;
 use std::alloc::{AllocError, Allocator};
 use std::marker::Model;
@@ -27,18 +27,15 @@ pub struct FailingCount {
     pub first: Option<u128>,
 }
 
-/// Sweeps over the sets of the visitor's graph that a crash can leave, with 1 to 16 workers.
+/// Sweeps over the sets of the visitor's graph that a crash can leave.
 ///
 /// For every number of workers and every schedule, an answer other than out of memory is the one that is defined
-/// without threads. `deps` are the graph's dependencies. The memory that it takes does not grow with the sets. The
-/// watch is told as it goes on.
+/// without threads. `deps` are the graph's dependencies. The memory that it takes does not grow with the sets.
 pub fn sweep_count<R, A, W>(
-    rt: &R,
+    workers: &Workers<'_, R, A, W>,
     visitor: &CountVisitor<'_, A>,
     deps: &[u128],
     limit: usize,
-    workers: usize,
-    watch: &W,
 ) -> Result<FailingCount, ExploreFault>
 where
     R: Threads + Sync,
@@ -47,7 +44,6 @@ where
     requires deps { deps.now ≡ deps_of visitor.now.patches }
     requires few { length deps.now < 127 }
     requires earlier { AreEarlier deps.now }
-    requires workers { (1 ≤ workers) × (workers ≤ 16) }
 
     ensures total { IfOk result (λ found. CountsClosed visitor.now.patches found.total) }
     ensures within { IfOk result (λ found. found.total ≤ limit) }
@@ -59,7 +55,7 @@ where
 
     ensures too_many { IsErrOf result ExploreFault.TooMany → ExceedsLimit visitor.now.patches limit }
 {
-    let swept = sweep_with(rt, visitor.alloc, visitor, deps, limit, workers, watch)?;
+    let swept = workers.sweep_with(visitor, deps, limit)?;
     Ok(FailingCount {
         total: swept.total,
         failing: swept.tally.failing,

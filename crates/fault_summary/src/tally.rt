@@ -14,7 +14,7 @@ use disk_image::Image;
 use fs_check::{faults_under, is_clean_under};
 use patch_graph::Graph;
 use patch_sets::explored::ExploreFault;
-use set_sweep::{Visitor, Watch, sweep_with};
+use set_sweep::{Visitor, Watch, Workers};
 use std::alloc::{AllocError, Allocator};
 use std::marker::Model;
 use std::thread::Threads;
@@ -28,18 +28,15 @@ pub struct SweptFaults<A: Allocator> {
     pub rows: Vec<FaultRow, A>,
 }
 
-/// Sweeps over the sets of the visitor's graph that a crash can leave, with 1 to 16 workers.
+/// Sweeps over the sets of the visitor's graph that a crash can leave.
 ///
 /// For every number of workers and every schedule, an answer other than out of memory is the one that is defined
-/// without threads. `deps` are the graph's dependencies. The memory that it takes does not grow with the sets. The
-/// watch is told as it goes on.
+/// without threads. `deps` are the graph's dependencies. The memory that it takes does not grow with the sets.
 pub fn sweep_faults<R, A, W>(
-    rt: &R,
+    workers: &Workers<'_, R, A, W>,
     visitor: &FaultVisitor<'_, A>,
     deps: &[u128],
     limit: usize,
-    workers: usize,
-    watch: &W,
 ) -> Result<SweptFaults<A>, ExploreFault>
 where
     R: Threads + Sync,
@@ -48,7 +45,6 @@ where
     requires deps { deps.now ≡ deps_of visitor.now.patches }
     requires few { length deps.now < 127 }
     requires earlier { AreEarlier deps.now }
-    requires workers { (1 ≤ workers) × (workers ≤ 16) }
 
     ensures total { IfOk result (λ found. CountsClosed visitor.now.patches found.total) }
     ensures within { IfOk result (λ found. found.total ≤ limit) }
@@ -59,7 +55,7 @@ where
 
     ensures too_many { IsErrOf result ExploreFault.TooMany → ExceedsLimit visitor.now.patches limit }
 {
-    let swept = sweep_with(rt, visitor.alloc, visitor, deps, limit, workers, watch)?;
+    let swept = workers.sweep_with(visitor, deps, limit)?;
     let Tally { failing, summary } = swept.tally;
     Ok(SweptFaults {
         total: swept.total,

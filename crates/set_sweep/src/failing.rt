@@ -6,53 +6,53 @@ ghost use Rattle.patch_sets.specs.Closed.{AreEarlier, IsClosed};
 ghost use Rattle.set_sweep.specs.Sweeps.{EachClosed, SaysTooMany};
 
 use crate::ordering::in_canonical_order;
-use crate::together::sweep_with;
 use crate::visitor::Visitor;
 use crate::watching::Watch;
+use crate::workers::Workers;
 use patch_sets::explored::{ExploreFault, Explored};
 use state_space::Space;
 use std::alloc::{AllocError, Allocator};
 use std::thread::Threads;
 
-/// Counts the closed sets of a graph, and finds those of them that are not good, in canonical order, with 1 to 16
-/// workers.
-///
-/// For every number of workers and every schedule, an answer other than out of memory is the one that is defined
-/// without threads: the number of closed sets and those of them that are not good, or that they are more than the
-/// limit. Each closed set is a lawful word of the space. The watch is told as it goes on.
-pub fn sweep<R, A, S, W>(
-    rt: &R,
-    alloc: A,
-    space: &S,
-    deps: &[u128],
-    limit: usize,
-    workers: usize,
-    watch: &W,
-) -> Result<Explored<A>, ExploreFault>
+impl<R, A, W> Workers<'_, R, A, W>
 where
     R: Threads + Sync,
     A: Allocator + Copy + Send + Sync,
-    S: Space + Sync,
     W: Watch + Sync,
-    S::Scratch: Send,
-    requires few { length deps.now < 127 }
-    requires earlier { AreEarlier deps.now }
-    requires lawful { EachClosed deps.now (S.is_lawful space.now) }
-    requires workers { (1 ≤ workers) × (workers ≤ 16) }
-
-    ensures total { IfOk result (λ explored. HoldsOf (IsClosed deps.now) explored.total) }
-    ensures within { IfOk result (λ explored. explored.total ≤ limit) }
-    ensures broken { IfOk result (λ explored.
-        AreAllInOrder (λ set. IsClosed deps.now set × ¬ (S.is_good space.now set)) explored.broken.items) }
-
-    ensures too_many { SaysTooMany deps.now limit result }
 {
-    let failing = Failing { space, alloc };
-    let swept = sweep_with(rt, alloc, &failing, deps, limit, workers, watch)?;
-    Ok(Explored {
-        total: swept.total,
-        broken: in_canonical_order(alloc, swept.tally)?,
-    })
+    /// Counts the closed sets of a graph, and finds those of them that are not good, in canonical order.
+    ///
+    /// For every number of workers and every schedule, an answer other than out of memory is the one that is defined
+    /// without threads: the number of closed sets and those of them that are not good, or that they are more than the
+    /// limit. Each closed set is a lawful word of the space.
+    pub fn sweep<S>(
+        &self,
+        space: &S,
+        deps: &[u128],
+        limit: usize,
+    ) -> Result<Explored<A>, ExploreFault>
+    where
+        S: Space + Sync,
+        S::Scratch: Send,
+        requires few { length deps.now < 127 }
+        requires earlier { AreEarlier deps.now }
+        requires lawful { EachClosed deps.now (S.is_lawful space.now) }
+
+        ensures total { IfOk result (λ explored. HoldsOf (IsClosed deps.now) explored.total) }
+        ensures within { IfOk result (λ explored. explored.total ≤ limit) }
+        ensures broken { IfOk result (λ explored.
+            AreAllInOrder (λ set. IsClosed deps.now set × ¬ (S.is_good space.now set)) explored.broken.items) }
+
+        ensures too_many { SaysTooMany deps.now limit result }
+    {
+        let alloc = self.alloc;
+        let failing = Failing { space, alloc };
+        let swept = self.sweep_with(&failing, deps, limit)?;
+        Ok(Explored {
+            total: swept.total,
+            broken: in_canonical_order(alloc, swept.tally)?,
+        })
+    }
 }
 
 /// Keeps the sets that are not good, in the order in which they were visited.

@@ -17,9 +17,10 @@ mod sweeping;
 mod together;
 mod visitor;
 mod watching;
+mod workers;
 
 pub use counting::count_closed;
-pub use failing::sweep;
-pub use together::{Swept, sweep_with};
+pub use together::Swept;
 pub use visitor::Visitor;
 pub use watching::{Unwatched, Watch};
+pub use workers::Workers;

@@ -11,6 +11,7 @@ use crate::sharing::{Job, share};
 use crate::sweeping::{Part, Sweeper};
 use crate::visitor::Visitor;
 use crate::watching::{Counting, Watch, Watched};
+use crate::workers::Workers;
 use patch_sets::explored::ExploreFault;
 use std::alloc::{AllocError, Allocator};
 use std::sync::atomic::{AtomicUsize, Ordering};
@@ -26,54 +27,112 @@ pub struct Swept<T> {
     pub tally: T,
 }
 
-/// Visits each closed set of a graph once, with 1 to 16 workers.
-///
-/// For every number of workers and every schedule, an answer other than out of memory is the one that is defined
-/// without threads: the tally of all closed sets in ascending number, or that they are more than the limit. Where they
-/// may be more, they are counted before any is visited. The watch is told as it goes on.
-pub fn sweep_with<R, A, V, W>(
-    rt: &R,
-    alloc: A,
-    visitor: &V,
-    deps: &[u128],
-    limit: usize,
-    workers: usize,
-    watch: &W,
-) -> Result<Swept<V::Tally>, ExploreFault>
+impl<R, A, W> Workers<'_, R, A, W>
 where
     R: Threads + Sync,
     A: Allocator + Copy + Send + Sync,
-    V: Visitor + Sync,
-    V::Scratch: Send,
-    V::Tally: Send,
     W: Watch + Sync,
-    requires few { length deps.now < 127 }
-    requires earlier { AreEarlier deps.now }
-    requires lawful { EachClosed deps.now (V.is_lawful visitor.now) }
-    requires workers { (1 ≤ workers) × (workers ≤ 16) }
-
-    ensures swept { IfOk result (λ swept. IsSweep (V.tells visitor.now) deps.now swept.total swept.tally) }
-    ensures within { IfOk result (λ swept. swept.total ≤ limit) }
-    ensures too_many { SaysTooMany deps.now limit result }
 {
-    let closures = closures(deps);
-    let parts = parts_of(alloc, deps, &closures, PARTS * workers)?;
-    if may_outnumber(deps.len(), limit) {
-        let counter = Sweeper {
-            visitor: &Counting { watch },
+    /// Visits each closed set of a graph once.
+    ///
+    /// For every number of workers and every schedule, an answer other than out of memory is the one that is defined
+    /// without threads: the tally of all closed sets in ascending number, or that they are more than the limit. Where
+    /// they may be more, they are counted before any is visited.
+    pub fn sweep_with<V>(
+        &self,
+        visitor: &V,
+        deps: &[u128],
+        limit: usize,
+    ) -> Result<Swept<V::Tally>, ExploreFault>
+    where
+        V: Visitor + Sync,
+        V::Scratch: Send,
+        V::Tally: Send,
+        requires few { length deps.now < 127 }
+        requires earlier { AreEarlier deps.now }
+        requires lawful { EachClosed deps.now (V.is_lawful visitor.now) }
+
+        ensures swept { IfOk result (λ swept. IsSweep (V.tells visitor.now) deps.now swept.total swept.tally) }
+        ensures within { IfOk result (λ swept. swept.total ≤ limit) }
+        ensures too_many { SaysTooMany deps.now limit result }
+    {
+        let closures = closures(deps);
+        let parts = parts_of(self.alloc, deps, &closures, PARTS * self.number)?;
+        let watch = self.watch;
+        if may_outnumber(deps.len(), limit) {
+            let counter = Sweeper {
+                visitor: &Counting { watch },
+                deps,
+                closures: &closures,
+                limit,
+            };
+            self.sweep_all(&counter, &parts)?;
+        }
+        let sweeper = Sweeper {
+            visitor: &Watched { visitor, watch },
             deps,
             closures: &closures,
             limit,
         };
-        sweep_all(rt, alloc, &counter, &parts, workers)?;
+        self.sweep_all(&sweeper, &parts)
     }
-    let sweeper = Sweeper {
-        visitor: &Watched { visitor, watch },
-        deps,
-        closures: &closures,
-        limit,
-    };
-    sweep_all(rt, alloc, &sweeper, &parts, workers)
+
+    /// Sweeps over all parts.
+    fn sweep_all<V>(
+        &self,
+        sweeper: &Sweeper<'_, V>,
+        parts: &Parts<A>,
+    ) -> Result<Swept<V::Tally>, ExploreFault>
+    where
+        V: Visitor + Sync,
+        V::Scratch: Send,
+        V::Tally: Send,
+        requires known { parts.now.low ≤ length sweeper.now.deps.now }
+        requires parts { AreAllParts sweeper.now.deps.now parts.now.low parts.now.roots.items }
+        requires lawful { EachClosed sweeper.now.deps.now (V.is_lawful sweeper.now.visitor.now) }
+        ensures swept { IfOk result (λ swept.
+            IsSweep (V.tells sweeper.now.visitor.now) sweeper.now.deps.now swept.total swept.tally) }
+        ensures within { IfOk result (λ swept. swept.total ≤ sweeper.now.limit) }
+        ensures too_many { SaysTooMany sweeper.now.deps.now sweeper.now.limit result }
+    {
+        let scratches = new_scratches(self.alloc, sweeper.visitor, self.number)?;
+        let done = self.sweep_parts(sweeper, parts.low, &parts.roots, scratches)?;
+        join_parts(self.alloc, sweeper, parts.low, &parts.roots, done)
+    }
+
+    /// The workers sweep over the parts side by side.
+    fn sweep_parts<V>(
+        &self,
+        sweeper: &Sweeper<'_, V>,
+        low: usize,
+        roots: &[u128],
+        scratches: Vec<V::Scratch, A>,
+    ) -> Result<Vec<Done<V::Tally>, A>, ExploreFault>
+    where
+        V: Visitor + Sync,
+        V::Scratch: Send,
+        V::Tally: Send,
+        requires known { low ≤ length sweeper.now.deps.now }
+        requires parts { AreAllParts sweeper.now.deps.now low roots.now }
+        requires lawful { EachClosed sweeper.now.deps.now (V.is_lawful sweeper.now.visitor.now) }
+        requires own { All (V.is_own sweeper.now.visitor.now) scratches.items }
+        ensures done { IfOk result (λ all.
+            All (IsDone (V.tells sweeper.now.visitor.now) sweeper.now.deps.now low roots.now) all.items) }
+        ensures too_many { SaysTooMany sweeper.now.deps.now sweeper.now.limit result }
+    {
+        let next = AtomicUsize::new(0);
+        let seen = AtomicUsize::new(0);
+        let sweeping = Sweeping {
+            sweeper,
+            low,
+            roots,
+            next: &next,
+            seen: &seen,
+            alloc: self.alloc,
+        };
+        let lefts = share(self.rt, &sweeping, scratches)?;
+        sweeping.join_lefts(lefts)
+    }
 }
 
 /// Whether the closed sets of so many ids may be more than the limit. They are no more than all sets of the ids.
@@ -81,33 +140,6 @@ fn may_outnumber(ids: usize, limit: usize) -> bool
     ensures { result ≡ false → 2 ^ ids ≤ limit }
 {
     ids >= 64 || limit < 1 << ids
-}
-
-/// Sweeps over all parts with many workers.
-fn sweep_all<R, A, V>(
-    rt: &R,
-    alloc: A,
-    sweeper: &Sweeper<'_, V>,
-    parts: &Parts<A>,
-    workers: usize,
-) -> Result<Swept<V::Tally>, ExploreFault>
-where
-    R: Threads + Sync,
-    A: Allocator + Copy + Send + Sync,
-    V: Visitor + Sync,
-    V::Scratch: Send,
-    V::Tally: Send,
-    requires known { parts.now.low ≤ length sweeper.now.deps.now }
-    requires parts { AreAllParts sweeper.now.deps.now parts.now.low parts.now.roots.items }
-    requires lawful { EachClosed sweeper.now.deps.now (V.is_lawful sweeper.now.visitor.now) }
-    ensures swept { IfOk result (λ swept.
-        IsSweep (V.tells sweeper.now.visitor.now) sweeper.now.deps.now swept.total swept.tally) }
-    ensures within { IfOk result (λ swept. swept.total ≤ sweeper.now.limit) }
-    ensures too_many { SaysTooMany sweeper.now.deps.now sweeper.now.limit result }
-{
-    let scratches = new_scratches(alloc, sweeper.visitor, workers)?;
-    let done = sweep_parts(rt, alloc, sweeper, parts.low, &parts.roots, scratches)?;
-    join_parts(alloc, sweeper, parts.low, &parts.roots, done)
 }
 
 /// A scratch for each worker.
@@ -232,41 +264,4 @@ impl<V: Visitor, A: Allocator + Copy> Sweeping<'_, V, A> {
         }
         Ok(all)
     }
-}
-
-/// The workers sweep over the parts side by side.
-fn sweep_parts<R, A, V>(
-    rt: &R,
-    alloc: A,
-    sweeper: &Sweeper<'_, V>,
-    low: usize,
-    roots: &[u128],
-    scratches: Vec<V::Scratch, A>,
-) -> Result<Vec<Done<V::Tally>, A>, ExploreFault>
-where
-    R: Threads + Sync,
-    A: Allocator + Copy + Send + Sync,
-    V: Visitor + Sync,
-    V::Scratch: Send,
-    V::Tally: Send,
-    requires known { low ≤ length sweeper.now.deps.now }
-    requires parts { AreAllParts sweeper.now.deps.now low roots.now }
-    requires lawful { EachClosed sweeper.now.deps.now (V.is_lawful sweeper.now.visitor.now) }
-    requires own { All (V.is_own sweeper.now.visitor.now) scratches.items }
-    ensures done { IfOk result (λ all.
-        All (IsDone (V.tells sweeper.now.visitor.now) sweeper.now.deps.now low roots.now) all.items) }
-    ensures too_many { SaysTooMany sweeper.now.deps.now sweeper.now.limit result }
-{
-    let next = AtomicUsize::new(0);
-    let seen = AtomicUsize::new(0);
-    let sweeping = Sweeping {
-        sweeper,
-        low,
-        roots,
-        next: &next,
-        seen: &seen,
-        alloc,
-    };
-    let lefts = share(rt, &sweeping, scratches)?;
-    sweeping.join_lefts(lefts)
 }

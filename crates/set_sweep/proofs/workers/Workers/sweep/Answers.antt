@@ -1,7 +1,7 @@
 use Rattle.patch_sets.specs.Closed.{IsClosed}
 use Rattle.set_sweep.proofs.Lists.{sweep_counts}
 use Rattle.set_sweep.proofs.Picks.{picked_in_order}
-use Rattle.set_sweep.proofs.failing.sweep.Goals as goal
+use Rattle.set_sweep.proofs.workers.Workers.sweep.Goals as goal
 
 pub in_canonical_order-requires : goal.in_canonical_order-requires
 in_canonical_order-requires g c =

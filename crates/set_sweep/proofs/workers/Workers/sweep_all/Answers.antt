@@ -1,7 +1,7 @@
 use Rattle.std.proofs.Common.{List, ℕ, sym, subst, ◌∙◌}
 use Rattle.std.specs.List.{All}
 use Rattle.set_sweep.specs.Sweeps.{AreAllParts, IsDone}
-use Rattle.set_sweep.proofs.together.sweep_all.Goals as goal
+use Rattle.set_sweep.proofs.workers.Workers.sweep_all.Goals as goal
 
 pub sweep_parts-requires-clause-parts : goal.sweep_parts-requires-clause-parts
 sweep_parts-requires-clause-parts g c κs within =

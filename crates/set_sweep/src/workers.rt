@@ -1,0 +1,14 @@
+//! Who sweeps.
+ghost use Rattle.std.specs.Prelude.{◌≤◌};
+
+use std::alloc::Allocator;
+
+/// Workers that sweep side by side, 1 to 16, on threads by `rt`. The watch is told how far they are.
+#[derive(Drop)]
+pub struct Workers<'a, R, A: Allocator + Copy, W> {
+    pub rt: &'a R,
+    pub alloc: A,
+    pub number: usize,
+    pub watch: &'a W,
+    ghost range: { (1 ≤ number) × (number ≤ 16) },
+}
