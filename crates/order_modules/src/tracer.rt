@@ -14,7 +14,7 @@ ghost use Rattle.order_modules.specs.Tracer.{Moves, RefusesAs, IsOrdered, IsJour
 ghost use Rattle.order_modules.specs.Transactions.{targets_of};
 
 use crate::log::PatchLog;
-use crate::transactions::touched;
+use crate::transactions::{Transaction, touched};
 use arrayvec::ArrayVec;
 use crash_model::modules::Module;
 use crash_model::names::GroupName;
@@ -216,17 +216,13 @@ impl<'a, A: Allocator + Copy> Tracer<'a, A> {
             return Err(TraceFault::TooManyPatches { line });
         }
         apply(&mut self.disk, plan);
-        let header = self.next as u8;
         let group = self.current;
-        let origin = Origin { line, op, group };
-        self.log.emit_transaction(
-            self.turn,
-            origin,
-            header,
-            &self.disk,
-            targets.as_slice(),
-            plan.as_slice(),
-        )?;
+        let transaction = Transaction {
+            turn: self.turn,
+            origin: Origin { line, op, group },
+            header: self.next as u8,
+        };
+        self.log.emit_transaction(transaction, &self.disk, targets.as_slice(), plan.as_slice())?;
         self.turn += 1;
         self.next = next;
         Ok(())

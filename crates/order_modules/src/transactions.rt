@@ -54,34 +54,56 @@ fn is_touched(module: Module, block: usize, changes: &[Change]) -> bool
     false
 }
 
+/// A transaction of the journal: the number of its operation, from 1, where that comes from, and the journal block of
+/// its header.
+#[derive(Clone, Copy)]
+pub struct Transaction<'a> {
+    pub turn: usize,
+    pub origin: Origin<'a>,
+    pub header: u8,
+}
+
+impl<'a> Transaction<'a> {
+    /// The label of one of its patches.
+    fn label(&self, part: Part) -> Label<'a>
+        ensures { result ≡ record { part = part; turn = self.now.turn; origin = self.now.origin } }
+    {
+        Label {
+            part,
+            turn: self.turn,
+            origin: self.origin,
+        }
+    }
+}
+
 impl<'a, A: Allocator + Copy> PatchLog<'a, A> {
-    /// Adds the patches of a transaction with its header in journal block `header`; `after` is the disk after it.
+    /// Adds the patches of a transaction; `after` is the disk after it.
     ///
     /// They are its file data, the copies of the targets, the commit, the changes in place, and done.
     pub fn emit_transaction(
         &mut self,
-        turn: usize,
-        origin: Origin<'a>,
-        header: u8,
+        transaction: Transaction<'a>,
         after: &Image<A>,
         targets: &[u8],
         changes: &[Change],
     ) -> Result<(), AllocError>
-        requires turn { turn < 256 }
+        requires turn { transaction.turn < 256 }
         requires few { self.old.base.blocks ≤ 128 }
         requires inside { All (LiesInside self.old.base.blocks) changes.now }
-        requires journal { header + 1 + length targets.now ≤ self.old.base.blocks }
+        requires journal { transaction.header + 1 + length targets.now ≤ self.old.base.blocks }
         requires known { All (λ target. target < after.now.blocks) targets.now }
         requires room { length self.old.emitted + (length changes.now + length targets.now + 2) ≤ 124 }
         ensures ok { OnOk result (Adds self.old self.new
-            (transaction_of self.old.kind after.now turn header (origin_by origin.entry) targets.now changes.now)) }
+            (transaction_of self.old.kind after.now transaction.entry.turn transaction.entry.header
+            (origin_by transaction.entry.origin) targets.now changes.now)) }
         ensures kept { Keeps self.old self.new }
     {
+        let Transaction { turn, origin, .. } = transaction;
         self.emit_file_data(turn, origin, changes)?;
-        self.emit_copies(turn, origin, header + 1, after, targets)?;
-        self.emit_commit(turn, origin, header, targets)?;
+        self.emit_copies(transaction, after, targets)?;
+        self.emit_commit(transaction, targets)?;
         self.emit_in_place(turn, origin, changes)?;
-        self.emit_done(turn, origin, header)
+        self.emit_done(transaction)
     }
 
     /// Adds the file data that go ahead of a transaction.
@@ -110,30 +132,25 @@ impl<'a, A: Allocator + Copy> PatchLog<'a, A> {
         Ok(())
     }
 
-    /// Adds the copies of the targets, in the journal blocks from `first` on.
+    /// Adds the copies of the targets, in the journal blocks behind the header.
     fn emit_copies(
         &mut self,
-        turn: usize,
-        origin: Origin<'a>,
-        first: u8,
+        transaction: Transaction<'a>,
         after: &Image<A>,
         targets: &[u8],
     ) -> Result<(), AllocError>
         requires few { self.old.base.blocks ≤ 128 }
-        requires journal { first + length targets.now ≤ self.old.base.blocks }
+        requires journal { transaction.header + 1 + length targets.now ≤ self.old.base.blocks }
         requires known { All (λ target. target < after.now.blocks) targets.now }
         requires room { length self.old.emitted + length targets.now ≤ 124 }
         ensures ok { OnOk result (Adds self.old self.new
-            (copies after.now turn first (origin_by origin.entry) targets.now)) }
+            (copies after.now transaction.entry.turn (transaction.entry.header + 1)
+            (origin_by transaction.entry.origin) targets.now)) }
         ensures kept { Keeps self.old self.new }
     {
-        let mut block = first;
+        let mut block = transaction.header + 1;
         for target in targets {
-            let label = Label {
-                part: Part::Copy,
-                turn,
-                origin,
-            };
+            let label = transaction.label(Part::Copy);
             self.emit(label, block, 0, after.block(usize::from(*target)))?;
             block += 1;
         }
@@ -143,33 +160,31 @@ impl<'a, A: Allocator + Copy> PatchLog<'a, A> {
     /// Adds the header that commits the transaction.
     fn emit_commit(
         &mut self,
-        turn: usize,
-        origin: Origin<'a>,
-        header: u8,
+        transaction: Transaction<'a>,
         targets: &[u8],
     ) -> Result<(), AllocError>
-        requires turn { turn < 256 }
-        requires block { header < self.old.base.blocks }
+        requires turn { transaction.turn < 256 }
+        requires block { transaction.header < self.old.base.blocks }
         requires fits { length targets.now ≤ 125 }
         requires room { length self.old.emitted < 124 }
         ensures ok { OnOk result (Adds self.old self.new
-            (part_of turn (origin_by origin.entry) part.Commit header 0
-            (COMMITTED_MARK ∷ turn ∷ length targets.now ∷ targets.now) ∷ [])) }
+            (part_of transaction.entry.turn (origin_by transaction.entry.origin) part.Commit transaction.entry.header 0
+            (COMMITTED_MARK ∷ transaction.entry.turn ∷ length targets.now ∷ targets.now) ∷ [])) }
         ensures kept { Keeps self.old self.new }
     {
         let mut bytes: ArrayVec<u8, 128> = ArrayVec::new();
         bytes.push(COMMITTED_MARK);
-        bytes.push(turn as u8);
+        bytes.push(transaction.turn as u8);
         bytes.push(targets.len() as u8);
         for target in targets {
             bytes.push(*target);
         }
-        let label = Label {
-            part: Part::Commit,
-            turn,
-            origin,
-        };
-        self.emit(label, header, 0, bytes.as_slice())
+        self.emit(
+            transaction.label(Part::Commit),
+            transaction.header,
+            0,
+            bytes.as_slice(),
+        )
     }
 
     /// Adds the changes where they belong, but for file data that went ahead.
@@ -199,18 +214,19 @@ impl<'a, A: Allocator + Copy> PatchLog<'a, A> {
     }
 
     /// Adds the mark that all is in place.
-    fn emit_done(&mut self, turn: usize, origin: Origin<'a>, header: u8) -> Result<(), AllocError>
-        requires block { header < self.old.base.blocks }
+    fn emit_done(&mut self, transaction: Transaction<'a>) -> Result<(), AllocError>
+        requires block { transaction.header < self.old.base.blocks }
         requires room { length self.old.emitted < 124 }
         ensures ok { OnOk result (Adds self.old self.new
-            (part_of turn (origin_by origin.entry) part.Done header 0 (DONE_MARK ∷ []) ∷ [])) }
+            (part_of transaction.entry.turn (origin_by transaction.entry.origin) part.Done transaction.entry.header 0
+            (DONE_MARK ∷ []) ∷ [])) }
         ensures kept { Keeps self.old self.new }
     {
-        let label = Label {
-            part: Part::Done,
-            turn,
-            origin,
-        };
-        self.emit(label, header, 0, &[DONE_MARK])
+        self.emit(
+            transaction.label(Part::Done),
+            transaction.header,
+            0,
+            &[DONE_MARK],
+        )
     }
 }
