@@ -1,6 +1,6 @@
 //! Each fault of some sets once.
 
-ghost use Rattle.std.specs.Prelude.{◌≡◌, ◌≢◌, ◌<◌, ℕ, [], length, slice_index_or, IsPermutation, MatchOption};
+ghost use Rattle.std.specs.Prelude.{◌≡◌, ◌≢◌, ◌<◌, [], length, slice_index_or, IsPermutation, MatchOption};
 ghost use Rattle.std.specs.Prelude.{MatchBool, OnOk};
 ghost use Rattle.std.specs.List.{All, AllPairs, Contains};
 ghost use Rattle.crash_model.specs.Summary.{IsFaultBefore, numbers_of};

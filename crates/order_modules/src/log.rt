@@ -5,7 +5,7 @@ ghost use Rattle.std.specs.Prelude.{IfOk};
 ghost use Rattle.std.specs.List.{list_any};
 ghost use Rattle.patch_sets.specs.Sets.{Has};
 ghost use Rattle.crash_model.specs.Patches.{place};
-ghost use Rattle.crash_model.specs.Trace.{Emitted, is_same_group};
+ghost use Rattle.crash_model.specs.Trace.{is_same_group};
 ghost use Rattle.traced_patches.specs.Labels.{emitted_at, group_by, links_by};
 ghost use Rattle.order_modules.specs.Log.{Adds, IsLog, Keeps, WaitsAt};
 

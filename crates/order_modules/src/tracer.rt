@@ -1,7 +1,7 @@
 //! The trace of a script: its operations, in order, turned into patches.
 
-ghost use Rattle.std.specs.Prelude.{◌≡◌, ℕ, ◌+◌, ◌<◌, ◌≤◌, ◌⊎◌, ◌^◌, [], length, Ok, IfOk, OnOk, All};
-ghost use Rattle.crash_model.specs.Trace.{Tracing, trace_start, trace_of_plan, step as step_of, trace_from, IsGraphOf};
+ghost use Rattle.std.specs.Prelude.{◌≡◌, ◌<◌, ◌^◌, Ok, IfOk, OnOk, All};
+ghost use Rattle.crash_model.specs.Trace.{Tracing, trace_start, trace_of_plan, trace_from, IsGraphOf};
 ghost use Rattle.crash_model.specs.Disk.{IsDisk};
 ghost use Rattle.crash_model.specs.Plan.{plan_of};
 ghost use Rattle.crash_model.specs.Rules.{rules_of};
@@ -22,7 +22,7 @@ use crash_model::operations::Op;
 use crash_model::orderings::Ordering;
 use crash_model::plans::Plan;
 use crash_model::refusals::TraceFault;
-use crash_model::steps::{Act, Step};
+use crash_model::steps::Step;
 use disk_image::Image;
 use inode_fs::{apply, plan};
 use patch_graph::Graph;

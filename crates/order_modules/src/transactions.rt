@@ -1,7 +1,7 @@
 //! The patches of an operation, by its ordering.
 
-ghost use Rattle.std.specs.Prelude.{◌≡◌, ℕ, ◌+◌, ◌<◌, ◌≤◌, ◌==◌, [], ◌∷◌, ◌++◌, length, map, IsTrue, OnOk};
-ghost use Rattle.std.specs.List.{All, list_any, filter, range_with_len};
+ghost use Rattle.std.specs.Prelude.{◌≡◌, ◌+◌, ◌<◌, ◌≤◌, ◌==◌, [], ◌∷◌, length, map, OnOk};
+ghost use Rattle.std.specs.List.{All, list_any};
 ghost use Rattle.crash_model.specs.declared.disk_bytes.TheConstants.{COMMITTED_MARK, DONE_MARK};
 ghost use Rattle.crash_model.specs.Trace.{in_place_patch, part_of, copies};
 ghost use Rattle.crash_model.specs.declared.rules.Part.TheVariants as part;

@@ -1,5 +1,5 @@
 //! What each id needs, and the lowest id that a set lacks.
-ghost use Rattle.std.specs.Prelude.{◌≡◌, ◌<◌, ◌≤◌, ◌^◌, length};
+ghost use Rattle.std.specs.Prelude.{◌<◌, ◌≤◌, ◌^◌, length};
 ghost use Rattle.patch_sets.specs.Closed.{AreEarlier};
 ghost use Rattle.set_sweep.specs.Sweeps.{AreClosures, AreClosuresTo, IsClosure, IsNextOut};
 

@@ -1,5 +1,5 @@
 //! Counting closed sets.
-ghost use Rattle.std.specs.Prelude.{◌≡◌, ℕ, ◌<◌, ◌≤◌, length, MatchOption, slice_index};
+ghost use Rattle.std.specs.Prelude.{◌<◌, ◌≤◌, length, MatchOption};
 ghost use Rattle.state_space.specs.Counts.{HoldsOf, Outnumbers};
 ghost use Rattle.patch_sets.specs.Closed.{AreEarlier, IsClosed};
 ghost use Rattle.set_sweep.specs.Sweeps.{AreClosures, IsRoot, AreCounted, part_end};

@@ -1,5 +1,5 @@
 //! Sweeping over a space whose words are closed sets.
-ghost use Rattle.std.specs.Prelude.{◌≡◌, ◌<◌, ◌≤◌, length, IfOk};
+ghost use Rattle.std.specs.Prelude.{◌<◌, ◌≤◌, length, IfOk};
 ghost use Rattle.state_space.specs.Counts.{HoldsOf};
 ghost use Rattle.patch_sets.specs.Sets.{AreAllInOrder};
 ghost use Rattle.patch_sets.specs.Closed.{AreEarlier, IsClosed};

@@ -1,6 +1,6 @@
 //! Scripts and reports on devices that fail.
 
-ghost use Rattle.std.specs.Prelude.{◌≡◌, ◌-◌, ◌^◌, ◌<◌, Some, None};
+ghost use Rattle.std.specs.Prelude.{◌≡◌, ◌-◌, ◌^◌, ◌<◌, None};
 
 use crate::asked::{ask, refused};
 use crate::scripts::CREATE;

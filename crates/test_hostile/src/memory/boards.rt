@@ -1,7 +1,6 @@
 //! Calls of the board take no memory: after `open` every request is refused, and none is made.
 
-ghost use Rattle.std.specs.Prelude.{◌≡◌};
-ghost use Rattle.seen_board.specs.Clauses.{IsOf, HasPlace};
+ghost use Rattle.seen_board.specs.Clauses.{IsOf};
 ghost use Rattle.test_board.specs.Worker.{IsIdle};
 
 use seen_board::{Board, BoardSeat, Got, Put};
