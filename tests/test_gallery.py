@@ -1,0 +1,62 @@
+"""Each script of the gallery, run by the command in its comment, answers as the report beside it and the table say."""
+
+import re
+import shlex
+import subprocess
+import unittest
+
+from tests.program import ROOT, program
+
+GALLERY = ROOT / "gallery"
+COMMAND = re.compile(r"^# \./crashmap (.*)$", re.MULTILINE)
+
+# Ways to read a report, in each of which the two explorers answer alike.
+READINGS = ("", "--json", "--summary", "--needs", "--explain --summary --json", "--explain --needs")
+
+
+def run(words):
+    """Runs the program with these words, where they name files of the repository."""
+    return subprocess.run([program().resolve(), *words], stdin=subprocess.DEVNULL, capture_output=True, cwd=ROOT,
+                          check=False)
+
+
+def number_of(word, report):
+    """The number on the report's first line that begins with the word."""
+    return int(re.search(rf"^{word} (\d+)$", report, re.MULTILINE)[1])
+
+
+class Gallery(unittest.TestCase):
+    def test_each_script_has_a_report_and_each_report_a_script(self):
+        names = {kind: {path.stem for path in GALLERY.glob(f"*.{kind}")} for kind in ("script", "report")}
+        self.assertEqual(names["script"], names["report"])
+        self.assertTrue(names["script"])
+
+    def test_scripts(self):
+        for script in sorted(GALLERY.glob("*.script")):
+            with self.subTest(script.stem):
+                self.assert_answers(script)
+
+    def assert_answers(self, script):
+        commands = COMMAND.findall(script.read_text())
+        self.assertEqual(len(commands), 1, "one command in its comment")
+        words = shlex.split(commands[0])
+        self.assertEqual(words[0], f"gallery/{script.name}")
+        report = script.with_suffix(".report").read_text()
+        failing, closed = number_of("failing", report), number_of("closed", report)
+        answer = run(words)
+        self.assertEqual(answer.stdout.decode(), report)
+        self.assertEqual((answer.returncode, answer.stderr), (int(failing > 0), b""))
+        row = rf"\({re.escape(script.name)}\) .* {failing} of {closed} \|"
+        self.assertRegex((GALLERY / "README.md").read_text(), row)
+        self.assert_explorers_agree(words)
+
+    def assert_explorers_agree(self, words):
+        for reading in READINGS:
+            board = run([*words, *reading.split(), "--explorer", "board"])
+            sweep = run([*words, *reading.split(), "--explorer", "sweep", "--workers", "3"])
+            self.assertEqual(board.stdout, sweep.stdout, reading)
+            self.assertTrue(board.stdout, reading)
+
+
+if __name__ == "__main__":
+    unittest.main()

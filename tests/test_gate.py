@@ -1,0 +1,115 @@
+"""The gate counts as failed whatever did not run to its end and say so."""
+
+import pathlib
+import subprocess
+import sys
+import tempfile
+import unittest
+
+GATE = pathlib.Path(__file__).resolve().parent.parent / ".ci/gate.py"
+
+
+class Gate(unittest.TestCase):
+    def setUp(self):
+        folder = tempfile.TemporaryDirectory()
+        self.addCleanup(folder.cleanup)
+        self.folder = pathlib.Path(folder.name)
+        self.parts = []
+
+    def part(self, *lines):
+        """Makes a part of the gate, a script of these lines."""
+        path = self.folder / f"part{len(self.parts)}"
+        path.write_text("#!/bin/sh\n" + "".join(f"{line}\n" for line in lines))
+        path.chmod(0o755)
+        self.parts.append(str(path))
+        return str(path)
+
+    def gate(self, *parts):
+        """Runs the gate with these parts, and gives its exit status and last line."""
+        run = subprocess.run([sys.executable, GATE, *parts], capture_output=True, text=True, check=False)
+        return run.returncode, run.stdout.splitlines()[-1]
+
+    def assert_fails(self, *lines, counts="7 passed, 1 failed"):
+        """A part of these lines fails, beside one that passes 7 tests, whichever of the two comes first."""
+        good, bad = self.part("echo 7 passed, 0 failed"), self.part(*lines)
+        self.assertEqual(self.gate(good, bad), (1, counts))
+        self.assertEqual(self.gate(bad, good), (1, counts))
+
+    def test_parts_that_pass_are_added_up(self):
+        three, four = self.part("echo some words", "echo 3 passed, 0 failed"), self.part("echo 4 passed, 0 failed")
+        self.assertEqual(self.gate(three, four), (0, "7 passed, 0 failed"))
+
+    def test_failures_are_added_up(self):
+        self.assert_fails("echo 2 passed, 3 failed", "exit 1", counts="9 passed, 3 failed")
+
+    def test_a_part_that_is_missing(self):
+        good, missing = self.part("echo 7 passed, 0 failed"), str(self.folder / "missing")
+        self.assertEqual(self.gate(good, missing), (1, "7 passed, 1 failed"))
+
+    def test_a_part_that_cannot_be_started(self):
+        good, plain = self.part("echo 7 passed, 0 failed"), self.folder / "plain"
+        plain.write_text("echo 1 passed, 0 failed\n")
+        self.assertEqual(self.gate(good, str(plain)), (1, "7 passed, 1 failed"))
+
+    def test_a_part_that_prints_nothing(self):
+        self.assert_fails("exit 0")
+
+    def test_a_part_that_prints_nothing_and_fails(self):
+        self.assert_fails("exit 1")
+
+    def test_a_part_that_is_cut_off_before_its_last_line(self):
+        self.assert_fails("echo one test was tried", "kill -9 $$")
+
+    def test_a_part_that_is_cut_off_in_its_last_line(self):
+        self.assert_fails("printf '3 passed'")
+
+    def test_a_part_that_is_killed_after_its_last_line(self):
+        self.assert_fails("echo 2 passed, 0 failed", "kill -9 $$", counts="9 passed, 1 failed")
+
+    def test_a_part_that_goes_on_after_its_counts(self):
+        self.assert_fails("echo 2 passed, 0 failed", "echo and more")
+
+    def test_a_part_that_passes_and_ends_with_another_status(self):
+        self.assert_fails("echo 2 passed, 0 failed", "exit 3", counts="9 passed, 1 failed")
+
+    def test_a_part_that_tries_nothing(self):
+        self.assert_fails("echo 0 passed, 0 failed")
+
+    def test_a_gate_without_parts(self):
+        self.assertEqual(self.gate(), (1, "0 passed, 1 failed"))
+
+    def test_the_gate_ends_with_status_1_where_a_part_says_that_it_failed(self):
+        self.assert_fails("echo 0 passed, 1 failed")
+
+
+class Suite(unittest.TestCase):
+    """The suite's own last line and status, tried on a copy of it with other tests."""
+
+    def suite(self, text):
+        folder = tempfile.TemporaryDirectory()
+        self.addCleanup(folder.cleanup)
+        tests = pathlib.Path(folder.name) / "tests"
+        tests.mkdir()
+        (tests / "run.py").write_text((pathlib.Path(__file__).resolve().parent / "run.py").read_text())
+        (tests / "test_it.py").write_text(f"import unittest\nclass It(unittest.TestCase):\n{text}")
+        run = subprocess.run([sys.executable, tests / "run.py"], capture_output=True, text=True, check=False)
+        return run.returncode, run.stdout.splitlines()[-1]
+
+    def test_a_test_that_passes(self):
+        self.assertEqual(self.suite("    def test_it(self): pass\n"), (0, "1 passed, 0 failed"))
+
+    def test_a_test_that_fails(self):
+        self.assertEqual(self.suite("    def test_it(self): self.fail()\n"), (1, "0 passed, 1 failed"))
+
+    def test_a_test_that_is_skipped(self):
+        self.assertEqual(self.suite("    def test_it(self): self.skipTest('')\n"), (1, "0 passed, 1 failed"))
+
+    def test_no_test(self):
+        self.assertEqual(self.suite("    pass\n"), (1, "0 passed, 0 failed"))
+
+    def test_a_file_that_cannot_be_read(self):
+        self.assertEqual(self.suite("    def test_it(self)\n")[0], 1)
+
+
+if __name__ == "__main__":
+    unittest.main()
