@@ -10,22 +10,28 @@ say() { echo "crashmap: $*" >&2; }
 # program_of NAME: where the program of that crate is once it is built
 program_of() { echo "$top/crates/$1/out/$1"; }
 
-# is_built NAME: whether it is there, and no source has changed since its build began
+# is_built NAME: whether it is there, and none of its sources has changed since its build began. The file `built` has
+# the rows of crates.txt that it was built by, so that a change of a crate beside them does not count.
 is_built() {
-    local mark=$top/crates/$1/out/built
-    [ -x "$(program_of "$1")" ] && [ -e "$mark" ] &&
-        [ -z "$(find "$top/crates" "$top/crates.txt" -name out -prune -o -type f -newer "$mark" -print -quit)" ]
+    local built=$top/crates/$1/out/built crate sources=("$top/HANDLES")
+    [ -x "$(program_of "$1")" ] && [ -s "$built" ] || return 1
+    ! grep -qvxFf "$top/crates.txt" "$built" || return 1
+    while IFS=' :' read -r crate _; do
+        sources+=("$top/crates/$crate/"{src,specs,proofs})
+    done <"$built"
+    [ -z "$(find "${sources[@]}" -newer "$built" -print -quit 2>/dev/null)" ]
+}
+
+# need_rt: ends with status 2 where the toolchain is missing
+need_rt() {
+    command -v rt >/dev/null || {
+        say "the command rt of the Rattle kit is needed to build the program"
+        exit 2
+    }
 }
 
 # build NAME: proves and builds it, or ends with status 2
 build() {
-    local out=$top/crates/$1/out
-    command -v rt >/dev/null || {
-        say "the command rt of the Rattle kit is needed to prove and build the program"
-        exit 2
-    }
-    mkdir -p "$out"
-    touch "$out/begun"
+    need_rt
     python3 "$top/launch/prove.py" "$top" "$1" </dev/null || exit 2
-    mv "$out/begun" "$out/built"
 }
