@@ -1,9 +1,9 @@
-"""Runs the parts of the gate, and counts what each of them says of itself.
+"""Runs the parts of the gate, one after the other, and adds up what they say of themselves.
 
-`gate.py PART..`: each part is a command line. It runs with its output passed on. The last line of its standard output
-must be 'N passed, M failed', and its exit status 0. A part that is missing, is cut off, prints nothing, ends in another
-line or with another status counts as one failure at least. The last line here is the sum of all parts, as 'N passed, M
-failed', and the exit status is 0 only where M is 0.
+`gate.py PART..`: each part is a command line, whose output is passed on. The last line of its standard output must be
+'N passed, M failed', and its exit status 0. A part that cannot be started, is cut off, prints nothing, ends in another
+line or with another status, or tries nothing, counts as one failure at least. The last line here is the sum of all
+parts, 'N passed, M failed', and the exit status is 0 only where M is 0.
 """
 
 import re
@@ -11,14 +11,15 @@ import shlex
 import subprocess
 import sys
 
-COUNTS = re.compile(r"(\d+) passed, (\d+) failed\Z")
+COUNTS = re.compile(r"(\d+) passed, (\d+) failed")
 
 
 def counts_of(line, status):
-    """Returns how many tests a part passed and failed, by its last line and its exit status."""
-    found = COUNTS.match(line.strip())
+    """Returns how many tests a part passed and failed, by its last line and its exit status, and what is wrong with
+    these two."""
+    found = COUNTS.fullmatch(line)
     if not found:
-        return 0, 1, f"it does not end in 'N passed, M failed', but in {line.strip()[:100]!r}"
+        return 0, 1, f"its last line is {line[:100]!r}, not 'N passed, M failed', and its status {status}"
     passed, failed = int(found[1]), int(found[2])
     if status and not failed:
         return passed, 1, f"it ended with status {status}"
@@ -27,18 +28,22 @@ def counts_of(line, status):
     return passed, failed, None
 
 
-def run(part):
-    """Runs a part, prints what it prints, and returns how many tests it passed and failed."""
+def output_of(part):
+    """Runs a part, passes its output on, and returns the last line that is not empty, and its exit status."""
     last = ""
+    with subprocess.Popen(shlex.split(part), stdout=subprocess.PIPE, errors="replace") as process:
+        for line in process.stdout:
+            print(line, end="", flush=True)
+            last = line.strip() or last
+    return last, process.returncode
+
+
+def run(part):
+    """Runs a part, says what is wrong with it, and returns how many tests it passed and failed."""
     try:
-        with subprocess.Popen(shlex.split(part), stdout=subprocess.PIPE, errors="replace") as process:
-            for line in process.stdout:
-                print(line, end="", flush=True)
-                last = line if line.strip() else last
-    except OSError as error:
-        print(f"gate: {part}: {error.strerror}", flush=True)
-        return 0, 1
-    passed, failed, wrong = counts_of(last, process.returncode)
+        passed, failed, wrong = counts_of(*output_of(part))
+    except (OSError, ValueError, IndexError) as error:
+        passed, failed, wrong = 0, 1, f"it cannot be started: {error}"
     if wrong:
         print(f"gate: {part}: {wrong}", flush=True)
     return passed, failed
@@ -46,7 +51,7 @@ def run(part):
 
 def main(parts):
     counts = [run(part) for part in parts] or [(0, 1)]
-    passed, failed = (sum(column) for column in zip(*counts))
+    passed, failed = sum(count[0] for count in counts), sum(count[1] for count in counts)
     print(f"{passed} passed, {failed} failed")
     return 1 if failed else 0
 

@@ -1,46 +1,70 @@
 """Runs the suite: `run.py [NAME..]` runs tests/test_NAME.py for each name, or all of them.
 
-The last line is 'N passed, M failed', and the exit status is 0 only where M is 0 and N is not. A test that is skipped
-counts as failed.
+It says of each file how it went, and what it took of the processors. The last line is 'N passed, M failed', and the
+exit status is 0 only where M is 0 and N is not. A test that is skipped counts as failed, and so does a name that has no
+file and a file without a test.
 """
 
 import pathlib
+import resource
 import sys
-import time
 import unittest
 
 FOLDER = pathlib.Path(__file__).resolve().parent
 
 
-def suite_of(names):
-    """Returns the tests of these files, or of all."""
-    sys.path.insert(0, str(FOLDER.parent))
-    patterns = [f"test_{name}.py" for name in names] or ["test_*.py"]
-    return unittest.TestSuite(unittest.TestLoader().discover(str(FOLDER), pattern) for pattern in patterns)
+class Result(unittest.TestResult):
+    """Counts the tests that passed. The parts of a test (`subTest`) count beside it."""
+
+    def __init__(self):
+        super().__init__()
+        self.passed = 0
+
+    def addSuccess(self, test):
+        super().addSuccess(test)
+        self.passed += 1
+
+    def addSubTest(self, test, subtest, err):
+        super().addSubTest(test, subtest, err)
+        self.passed += err is None
+
+    def broken(self):
+        """What to say of each test that did not pass."""
+        for test, text in self.failures + self.errors:
+            yield f"{test}\n{text}"
+        for test, reason in self.skipped:
+            yield f"{test}: skipped: {reason}"
+        for test in self.unexpectedSuccesses:
+            yield f"{test}: passes, and should not"
 
 
-class Result(unittest.TextTestResult):
-    """Counts each test, and each part of a test, once."""
+def processor_seconds():
+    """What this process and those that it has waited for have used so far."""
+    used = [resource.getrusage(who) for who in (resource.RUSAGE_SELF, resource.RUSAGE_CHILDREN)]
+    return sum(it.ru_utime + it.ru_stime for it in used)
 
-    def __init__(self, *words, **options):
-        super().__init__(*words, **options)
-        self.parts = 0
 
-    def addSubTest(self, test, subtest, error):
-        super().addSubTest(test, subtest, error)
-        self.parts += error is None
+def run(name):
+    """Runs one file, says what did not pass, and returns how many tests passed and failed."""
+    result, before = Result(), processor_seconds()
+    unittest.TestLoader().discover(str(FOLDER), f"test_{name}.py").run(result)
+    broken = list(result.broken())
+    if not result.passed and not broken:
+        broken = ["there is no test"]
+    for text in broken:
+        print(f"tests, {name}: {text}")
+    seconds = processor_seconds() - before
+    print(f"tests, {name}: {result.passed} passed, {len(broken)} failed, {seconds:.0f} processor seconds", flush=True)
+    return result.passed, len(broken)
 
 
 def main(names):
-    began = time.process_time()
-    runner = unittest.TextTestRunner(stream=sys.stdout, verbosity=1, resultclass=Result)
-    result = runner.run(suite_of(names))
-    broken = result.failures + result.errors + result.skipped
-    failed = len(broken) + len(result.unexpectedSuccesses)
-    passed = max(result.testsRun - len({test.id() for test, _ in broken}), 0) + result.parts
-    print(f"tests: {time.process_time() - began:.0f} seconds of processor time in the suite's own process")
+    sys.path.insert(0, str(FOLDER.parent))
+    names = names or sorted(path.stem.removeprefix("test_") for path in FOLDER.glob("test_*.py"))
+    counts = [run(name) for name in names]
+    passed, failed = sum(count[0] for count in counts), sum(count[1] for count in counts)
     print(f"{passed} passed, {failed} failed")
-    return 1 if failed or not passed else 0
+    return 0 if passed and not failed else 1
 
 
 if __name__ == "__main__":

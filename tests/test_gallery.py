@@ -15,9 +15,10 @@ READINGS = ("", "--json", "--summary", "--needs", "--explain --summary --json", 
 
 
 def run(words):
-    """Runs the program with these words, where they name files of the repository."""
-    return subprocess.run([program().resolve(), *words], stdin=subprocess.DEVNULL, capture_output=True, cwd=ROOT,
-                          check=False)
+    """Runs the program with these words at the top of the repository. Gives its status, output and errors."""
+    answer = subprocess.run([program().resolve(), *words], stdin=subprocess.DEVNULL, capture_output=True, text=True,
+                            cwd=ROOT, check=False)
+    return answer.returncode, answer.stdout, answer.stderr
 
 
 def number_of(word, report):
@@ -43,9 +44,7 @@ class Gallery(unittest.TestCase):
         self.assertEqual(words[0], f"gallery/{script.name}")
         report = script.with_suffix(".report").read_text()
         failing, closed = number_of("failing", report), number_of("closed", report)
-        answer = run(words)
-        self.assertEqual(answer.stdout.decode(), report)
-        self.assertEqual((answer.returncode, answer.stderr), (int(failing > 0), b""))
+        self.assertEqual(run(words), (int(failing > 0), report, ""))
         row = rf"\({re.escape(script.name)}\) .* {failing} of {closed} \|"
         self.assertRegex((GALLERY / "README.md").read_text(), row)
         self.assert_explorers_agree(words)
@@ -54,8 +53,8 @@ class Gallery(unittest.TestCase):
         for reading in READINGS:
             board = run([*words, *reading.split(), "--explorer", "board"])
             sweep = run([*words, *reading.split(), "--explorer", "sweep", "--workers", "3"])
-            self.assertEqual(board.stdout, sweep.stdout, reading)
-            self.assertTrue(board.stdout, reading)
+            self.assertEqual(board, sweep, reading)
+            self.assertTrue(board[1], reading)
 
 
 if __name__ == "__main__":

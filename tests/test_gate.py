@@ -1,12 +1,15 @@
-"""The gate counts as failed whatever did not run to its end and say so."""
+"""The gate and the suite count as failed whatever did not run to its end and say so."""
 
 import pathlib
+import shutil
 import subprocess
 import sys
 import tempfile
 import unittest
 
-GATE = pathlib.Path(__file__).resolve().parent.parent / ".ci/gate.py"
+from tests.program import ROOT
+
+GATE = ROOT / ".ci/gate.py"
 
 
 class Gate(unittest.TestCase):
@@ -75,6 +78,22 @@ class Gate(unittest.TestCase):
     def test_a_part_that_tries_nothing(self):
         self.assert_fails("echo 0 passed, 0 failed")
 
+    def test_a_part_that_is_no_command(self):
+        good = self.part("echo 7 passed, 0 failed")
+        for part in ("", "'"):
+            with self.subTest(part):
+                self.assertEqual(self.gate(part, good), (1, "7 passed, 1 failed"))
+
+    def test_a_part_that_counts_something_else(self):
+        self.assert_fails("echo 3 passed")
+        self.assert_fails("echo 3 passed, 0 failed, 1 skipped")
+        self.assert_fails("echo it has 3 passed, 0 failed")
+
+    def test_a_part_whose_output_is_passed_on(self):
+        part = self.part("echo some words", "echo some more", "echo 1 passed, 0 failed")
+        run = subprocess.run([sys.executable, GATE, part], capture_output=True, text=True, check=False)
+        self.assertEqual(run.stdout, "some words\nsome more\n" + 2 * "1 passed, 0 failed\n")
+
     def test_a_gate_without_parts(self):
         self.assertEqual(self.gate(), (1, "0 passed, 1 failed"))
 
@@ -83,32 +102,87 @@ class Gate(unittest.TestCase):
 
 
 class Suite(unittest.TestCase):
-    """The suite's own last line and status, tried on a copy of it with other tests."""
+    """The suite's own last line and status, tried on a copy of run.py with other tests."""
 
-    def suite(self, text):
+    def suite(self, text, *names):
+        """Runs a suite whose only file has a class of these lines, and gives its status and last line."""
         folder = tempfile.TemporaryDirectory()
         self.addCleanup(folder.cleanup)
         tests = pathlib.Path(folder.name) / "tests"
         tests.mkdir()
-        (tests / "run.py").write_text((pathlib.Path(__file__).resolve().parent / "run.py").read_text())
+        shutil.copy(ROOT / "tests/run.py", tests)
         (tests / "test_it.py").write_text(f"import unittest\nclass It(unittest.TestCase):\n{text}")
-        run = subprocess.run([sys.executable, tests / "run.py"], capture_output=True, text=True, check=False)
+        run = subprocess.run([sys.executable, tests / "run.py", *names], capture_output=True, text=True, check=False)
         return run.returncode, run.stdout.splitlines()[-1]
 
     def test_a_test_that_passes(self):
         self.assertEqual(self.suite("    def test_it(self): pass\n"), (0, "1 passed, 0 failed"))
+        self.assertEqual(self.suite("    def test_it(self): pass\n", "it"), (0, "1 passed, 0 failed"))
 
     def test_a_test_that_fails(self):
-        self.assertEqual(self.suite("    def test_it(self): self.fail()\n"), (1, "0 passed, 1 failed"))
+        lines = "    def test_it(self): self.fail()\n    def test_other(self): pass\n"
+        self.assertEqual(self.suite(lines), (1, "1 passed, 1 failed"))
+
+    def test_a_test_that_cannot_run_to_its_end(self):
+        for line in ("raise OSError", "raise SystemExit(0)"):
+            with self.subTest(line):
+                self.assertEqual(self.suite(f"    def test_it(self): {line}\n"), (1, "0 passed, 1 failed"))
+
+    def test_parts_of_a_test(self):
+        lines = ("    def test_it(self):\n        for number in range(5):\n"
+                 "            with self.subTest(number): self.assertLess(number, 3)\n")
+        self.assertEqual(self.suite(lines), (1, "3 passed, 2 failed"))
 
     def test_a_test_that_is_skipped(self):
         self.assertEqual(self.suite("    def test_it(self): self.skipTest('')\n"), (1, "0 passed, 1 failed"))
 
-    def test_no_test(self):
-        self.assertEqual(self.suite("    pass\n"), (1, "0 passed, 0 failed"))
+    def test_a_file_without_a_test(self):
+        self.assertEqual(self.suite("    pass\n"), (1, "0 passed, 1 failed"))
+
+    def test_a_name_without_a_file(self):
+        lines = "    def test_it(self): pass\n"
+        self.assertEqual(self.suite(lines, "it", "other"), (1, "1 passed, 1 failed"))
 
     def test_a_file_that_cannot_be_read(self):
-        self.assertEqual(self.suite("    def test_it(self)\n")[0], 1)
+        self.assertEqual(self.suite("    def test_it(self)\n"), (1, "0 passed, 1 failed"))
+
+
+class Install(unittest.TestCase):
+    """What is installed is what is missing, and nothing where nothing is."""
+
+    def setUp(self):
+        folder = tempfile.TemporaryDirectory()
+        self.addCleanup(folder.cleanup)
+        self.folder = pathlib.Path(folder.name)
+        (self.folder / "bash").symlink_to(shutil.which("bash"))
+        self.have("apt-get", f'echo "$*" >>{self.folder}/calls')
+
+    def have(self, name, line="exit 0"):
+        """Makes a command of one line."""
+        (self.folder / name).write_text(f"#!{shutil.which('bash')}\n{line}\n")
+        (self.folder / name).chmod(0o755)
+
+    def install(self):
+        """Runs the step, and gives its exit status and what apt-get was asked."""
+        run = subprocess.run([shutil.which("bash"), ROOT / ".ci/install"], env={"PATH": str(self.folder)}, check=False)
+        calls = self.folder / "calls"
+        return run.returncode, calls.read_text().splitlines() if calls.exists() else []
+
+    def test_both_are_there(self):
+        self.have("chromium")
+        self.have("node")
+        self.assertEqual(self.install(), (0, []))
+
+    def test_one_is_missing(self):
+        self.have("node")
+        self.assertEqual(self.install(), (0, ["update", "install -y --no-install-recommends chromium"]))
+
+    def test_both_are_missing(self):
+        self.assertEqual(self.install(), (0, ["update", "install -y --no-install-recommends chromium nodejs"]))
+
+    def test_they_cannot_be_installed(self):
+        self.have("apt-get", "exit 100")
+        self.assertEqual(self.install(), (100, []))
 
 
 if __name__ == "__main__":
