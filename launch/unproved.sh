@@ -45,7 +45,7 @@ answer_unproved() {
         cat "$work/output"
         exit "$status"
     elif grep -q '^checked: .* wrote more than [0-9]* bytes' "$work/errors"; then
-        say "the report is longer than the 1 MiB that an unproved run can give; after ./crashmap --prove it has no bound"
+        say "the report is longer than the 1 MiB that an unproved run can give; ./crashmap --prove lifts this limit"
     else
         cat "$work/errors" >&2
     fi

@@ -87,7 +87,7 @@ class UnprovedAnswers(LauncherTest):
         self.assertEqual((status, output), (2, ""))
         self.assertRegex(errors[0], UNPROVED)
         self.assertEqual(errors[1:], ["crashmap: the report is longer than the 1 MiB that an unproved run can give;"
-                                      " after ./crashmap --prove it has no bound"])
+                                      " ./crashmap --prove lifts this limit"])
         self.assert_nothing_left()
 
     def test_a_program_that_does_not_compile(self):
