@@ -2,25 +2,22 @@
 
 ghost use Rattle.std.specs.Prelude.{◌≡◌, ◌-◌, ◌^◌, ◌<◌, None};
 
-use crate::asked::{ask, refused};
-use crate::scripts::CREATE;
 use crash_model::modules::Module;
 use crash_model::refusals::RunFault;
-use crash_text::answer::answer;
 use crash_text::host::Host;
 use crash_text::serve::serve;
 use devices::memory::Taken;
 use devices::sink::Sink;
-use devices::source::{DeviceFault, MAX_SCRIPT_BYTES, Source};
+use devices::source::{DeviceFault, Source};
 use explorers::OpenGate;
 use std::alloc::{Allocator, Global};
 use std::process::Abort;
-use std::rt::Files;
 use std::sync::Wait;
-use std::test::Fail;
 use std::thread::Threads;
-use test_support::refusing::Refusing;
 use test_support::settings::plain_settings;
+
+/// A file is created.
+const CREATE: &[u8] = b"start\ncreate /a\n";
 
 /// What is reported of the script that creates a file, where there is no order.
 const REPORT: &str = "module async\npatches 2\nclosed 4\nfailing 1\nset 1\nwrite block 4: 1\n\
@@ -40,7 +37,7 @@ fn failing_at(fails_at: usize) -> Drip<'static>
     ensures { result.failures ≡ 0 }
 {
     Drip {
-        rest: CREATE.as_bytes(),
+        rest: CREATE,
         reads: 0,
         fails_at,
         failures: 0,
@@ -157,7 +154,7 @@ fn expect_unwritten<R: Abort + AllocGlobal + Threads + Wait + Sync>(
     fails_finish: bool,
     taken: &str,
 ) {
-    let mut source = CREATE.as_bytes();
+    let mut source = CREATE;
     let mut sink = empty_sink(rt.alloc(), fails_after, fails_finish);
     let got = served(rt, &mut source, &mut sink);
     assert!(rt; got == Err(RunFault::CannotWrite) && sink.failures == 1);
@@ -173,144 +170,3 @@ fn a_failed_write_leaves_a_beginning(rt: HostRuntime) {
 fn a_failed_finish_leaves_the_whole_report(rt: HostRuntime) {
     expect_unwritten(&rt, 1000, true, REPORT);
 }
-
-/// A script of one byte, so many times, is refused so.
-fn expect_refused<R: Files + Abort + AllocGlobal + Threads + Wait + Sync>(
-    rt: &R,
-    byte: u8,
-    length: usize,
-    refusal: &str,
-) -> Result<(), Fail> {
-    let script = Vec::from_elem(rt.alloc(), byte, length)?;
-    refused(rt, &[], script.as_slice(), refusal)
-}
-
-#[test]
-fn a_script_has_a_greatest_length(rt: HostRuntime) -> Result<(), Fail> {
-    let most = MAX_SCRIPT_BYTES;
-    expect_refused(
-        &rt,
-        b'\n',
-        most,
-        "crashmap: line 1048577: 43 no start line\n",
-    )?;
-    expect_refused(&rt, b'\n', most + 1, "crashmap: 52 script too long\n")
-}
-
-#[test]
-fn long_scripts_are_refused_by_their_lines(rt: HostRuntime) -> Result<(), Fail> {
-    expect_refused(&rt, b'a', 1_000_000, "crashmap: line 1: 41 bad line\n")?;
-    expect_refused(
-        &rt,
-        b'\n',
-        100_000,
-        "crashmap: line 100001: 43 no start line\n",
-    )
-}
-
-#[test]
-fn a_refusal_that_cannot_be_printed_keeps_its_status(rt: HostRuntime) {
-    let heap = rt.alloc();
-    let mut out = Vec::new(heap);
-    let mut nowhere: [u8; 0] = [];
-    let mut err = nowhere.as_mut_slice();
-    let mut input: &[u8] = b"";
-    let status = answer(&Host::new(&rt), &[], &mut input, &mut out, &mut err);
-    assert!(rt; status == 2 && out.is_empty());
-}
-
-#[test]
-fn a_report_that_cannot_be_written_is_told(rt: HostRuntime) {
-    let heap = rt.alloc();
-    let mut nowhere: [u8; 0] = [];
-    let mut out = nowhere.as_mut_slice();
-    let mut err = Vec::new(heap);
-    let mut input: &[u8] = b"start\n";
-    let status = answer(&Host::new(&rt), &[], &mut input, &mut out, &mut err);
-    let line = "crashmap: 51 cannot write the report\n";
-    assert!(rt; status == 2 && err.as_slice() == line.as_bytes());
-}
-
-#[test]
-fn refused_memory_is_told(rt: HostRuntime) {
-    let heap = rt.alloc();
-    let memory = Refusing::new(heap);
-    memory.gauge().refuse(1, u64::MAX);
-    let mut out = Vec::new(heap);
-    let mut err = Vec::new(heap);
-    let mut input = CREATE.as_bytes();
-    let host = Host {
-        rt: &rt,
-        heap,
-        alloc: &memory,
-    };
-    let status = answer(&host, &[], &mut input, &mut out, &mut err);
-    let line = "crashmap: 99 out of memory\n";
-    assert!(rt; status == 2 && out.is_empty() && err.as_slice() == line.as_bytes());
-}
-
-/// These words are a fault, which is told, and no report is written.
-fn expect_no_report<R: Files + Abort + AllocGlobal + Threads + Wait + Sync>(
-    rt: &R,
-    words: &str,
-) -> Result<(), Fail> {
-    let got = ask(rt, &[words], b"start\n")?;
-    assert!(rt;
-        got.status == 2 && got.out.is_empty() && !got.err.is_empty(),
-        "{words}"
-    );
-    Ok(())
-}
-
-const FAULTY_WORDS: [&str; 7] = [
-    "--limit=0",
-    "--journal=123",
-    "--workers=17",
-    "--module=none",
-    "--with=Ptr",
-    "--without=Ptr:Ptr",
-    "--explorer=tree",
-];
-
-#[test]
-fn faults_of_the_command_line_write_no_report(rt: HostRuntime) -> Result<(), Fail> {
-    for words in FAULTY_WORDS {
-        expect_no_report(&rt, words)?;
-    }
-    Ok(())
-}
-
-#[test]
-fn two_scripts_are_a_fault(rt: HostRuntime) -> Result<(), Fail> {
-    expect_no_report(&rt, "a b")
-}
-
-#[test]
-fn help_is_printed_as_a_report_is(rt: HostRuntime) -> Result<(), Fail> {
-    let got = ask(&rt, &["--help"], b"")?;
-    assert!(rt; got.status == 0 && got.err.is_empty());
-    assert!(rt; got.out.as_slice().starts_with(b"Explores every state"));
-    Ok(())
-}
-
-/// What each row asks, and what it is told.
-pub const ROWS: &str = r#"
-# a report is printed
-$ --module async
-start
-= exactly 0
-module async
-patches 0
-closed 1
-failing 0
-
-# a script that is not there cannot be read
-$ no/such/script
-= exactly 2
-crashmap: 50 cannot read the script
-
-# a script that is not there cannot be read
-$ .
-= exactly 2
-crashmap: 50 cannot read the script
-"#;
