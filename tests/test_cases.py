@@ -1,4 +1,8 @@
-"""The built program answers as each case file says, by each explorer and several numbers of workers."""
+"""The built program answers as each case file says, by each explorer and several numbers of workers.
+
+`rt ci` builds the program by two compilers, and each of the two is tried. Where `CRASHMAP_PROGRAM` names a program,
+that one alone is.
+"""
 
 import concurrent.futures
 import difflib
@@ -79,14 +83,14 @@ def try_case(path, binary, folder):
     return "\n".join([f"case {path.stem} ({path})"] + told) if told else ""
 
 
-class Cases(unittest.TestCase):
+class Answers:
     """A test for each case file; they run side by side in threads."""
 
     @classmethod
     def setUpClass(cls):
-        binary = str(program())
+        binary = str(cls.program())
         if not os.access(binary, os.X_OK):
-            raise AssertionError(f"there is no program {binary}")
+            raise AssertionError(f"there is no program {binary}: rt ci builds it")
         cls.folder = tempfile.TemporaryDirectory()
         cls.pool = concurrent.futures.ThreadPoolExecutor(os.cpu_count())
         cls.told = {path: cls.pool.submit(try_case, path, binary, cls.folder.name) for path in PATHS}
@@ -95,10 +99,6 @@ class Cases(unittest.TestCase):
     def tearDownClass(cls):
         cls.pool.shutdown(cancel_futures=True)
         cls.folder.cleanup()
-
-    def test_there_are_cases_and_each_has_a_name_of_its_own(self):
-        self.assertTrue(PATHS)
-        self.assertEqual(case_files.double_names(PATHS), [])
 
 
 def test_of(path):
@@ -110,9 +110,29 @@ def test_of(path):
 
 
 PATHS = case_files.case_paths()
-for number, one_path in enumerate(PATHS):
-    name = "_".join(("test", one_path.parent.name, one_path.stem)).replace("-", "_")
-    setattr(Cases, f"{name}_{number}" if hasattr(Cases, name) else name, test_of(one_path))
+for one_path in PATHS:
+    setattr(Answers, f"test_{one_path.parent.name}__{one_path.stem}".replace("-", "_"), test_of(one_path))
+
+
+class Cases(Answers, unittest.TestCase):
+    """The program as LLVM builds it."""
+
+    @staticmethod
+    def program():
+        return program()
+
+    def test_there_are_cases_and_each_has_a_name_of_its_own(self):
+        self.assertTrue(PATHS)
+        self.assertEqual(case_files.double_names(PATHS), [])
+
+
+if "CRASHMAP_PROGRAM" not in os.environ:
+    class CasesBySecondCompiler(Answers, unittest.TestCase):
+        """The program as Rattle's own compiler builds it."""
+
+        @staticmethod
+        def program():
+            return program().with_name("crashmap.by-rattle")
 
 
 class BadCases(unittest.TestCase):
