@@ -10,13 +10,11 @@ import itertools
 import os
 import pathlib
 import subprocess
-import sys
 import tempfile
 import unittest
 
-sys.path.insert(0, str(pathlib.Path(__file__).resolve().parent))
-import case_files
-from program import program
+from tests import case_files
+from tests.program import program
 
 EXPLORERS = ("board", "sweep")
 WORKERS = ("1", "2", "8", "16")

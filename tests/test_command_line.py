@@ -1,12 +1,9 @@
 """What the built program says in its help, and what it answers to long scripts."""
 
-import pathlib
 import subprocess
-import sys
 import unittest
 
-sys.path.insert(0, str(pathlib.Path(__file__).resolve().parent))
-from program import program
+from tests.program import program
 
 MOST_SCRIPT_BYTES = 1 << 20
 

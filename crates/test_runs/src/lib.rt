@@ -11,4 +11,6 @@ mod progress;
 #[cfg(test)]
 mod settings;
 #[cfg(test)]
+mod standard_devices;
+#[cfg(test)]
 mod workers;
