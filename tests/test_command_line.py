@@ -1,11 +1,15 @@
-"""What the built program says in its help, and what it answers to long scripts."""
+"""What the built program answers that no case file can hold: its help, long scripts, and devices of its own."""
 
+import pathlib
 import subprocess
+import tempfile
 import unittest
 
 from tests.program import program
 
 MOST_SCRIPT_BYTES = 1 << 20
+CREATE = b"start\ncreate /a\n"
+CREATED = b"module soft\npatches 2\nclosed 3\nfailing 0\n"
 
 # What stands in the help, each behind the one before.
 HELP = ("Explores every state", "Usage: crashmap", "\nWhat to run:\n", "[SCRIPT]", "--blocks <N>", "--journal <JL>",
@@ -29,6 +33,22 @@ class Help(unittest.TestCase):
             for piece in HELP:
                 self.assertIn(piece, rest)
                 rest = rest.partition(piece)[2]
+
+
+class Scripts(unittest.TestCase):
+    def test_a_script_in_a_file(self):
+        with tempfile.TemporaryDirectory() as folder:
+            script = pathlib.Path(folder, "a.txt")
+            script.write_bytes(CREATE)
+            self.assertEqual(answer(script, "--limit=32769"), (0, CREATED, b""))
+
+    def test_a_high_limit_needs_no_named_explorer(self):
+        self.assertEqual(answer("--limit=32769", script=CREATE), (0, CREATED, b""))
+
+    def test_a_refusal_that_cannot_be_printed_keeps_its_status(self):
+        with open("/dev/full", "wb") as full:
+            run = subprocess.run([program()], input=b"", stdout=subprocess.PIPE, stderr=full, timeout=60)
+        self.assertEqual((run.returncode, run.stdout), (2, b""))
 
 
 class LongScripts(unittest.TestCase):
