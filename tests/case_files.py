@@ -81,12 +81,20 @@ def read_case(path):
     digest = fields.get("output-digest")
     if digest is not None and not re.fullmatch("[0-9a-f]{64}", digest):
         raise BadCase(f"{path}: output-digest is no SHA-256 digest")
-    return Case(path.stem, fields["about"], words_of(path, fields), status_of(path, fields),
-                content(path, fields, "script"), None if digest else content(path, fields, "output"), digest,
-                fields.get("errors", b""), fields.get("fault"))
+    return Case(
+        name=path.stem,
+        about=fields["about"],
+        words=words_of(path, fields),
+        status=status_of(path, fields),
+        script=content(path, fields, "script"),
+        output=None if digest else content(path, fields, "output"),
+        output_digest=digest,
+        errors=fields.get("errors", b""),
+        fault=fields.get("fault"))
 
 
 def bytes_of(path):
+    """The bytes of the file."""
     try:
         return path.read_bytes()
     except OSError as error:
@@ -114,6 +122,7 @@ def read_fields(path, data):
 
 
 def lines_of(path, data):
+    """The lines of a text whose last line has its line feed too."""
     try:
         text = data.decode()
     except UnicodeDecodeError:
@@ -145,6 +154,7 @@ def end_of_block(lines, at):
 
 
 def words_of(path, fields):
+    """The words of the command line, read as a shell reads them."""
     try:
         return tuple(shlex.split(fields.get("words", "")))
     except ValueError as error:
@@ -152,6 +162,7 @@ def words_of(path, fields):
 
 
 def status_of(path, fields):
+    """The exit status: 0, 1 or 2, which are all that the program has."""
     status = fields.get("status", "0")
     if status not in ("0", "1", "2"):
         raise BadCase(f"{path}: no status: {status!r}")
