@@ -60,6 +60,13 @@ def case_paths(root=CASES):
     return sorted(pathlib.Path(root).rglob("*.case"))
 
 
+def stray_files(root=CASES):
+    """The files below the folder that are no case files and that no case file beside them can name."""
+    files = (path for path in pathlib.Path(root).rglob("*") if path.is_file() and path.name != "README.md")
+    return sorted(path for path in files
+                  if path.suffix not in (".case", ".script", ".output") or not path.with_suffix(".case").exists())
+
+
 def double_names(paths):
     """The names that more than one of the paths has, in order."""
     names = [path.stem for path in paths]
@@ -72,15 +79,8 @@ def read_case(path):
     if not NAME.fullmatch(path.stem):
         raise BadCase(f"{path}: the name {path.stem!r} has other letters than a to z, 0 to 9 and -")
     fields = read_fields(path, bytes_of(path))
-    for one, other in (("script", "script-file"), ("output", "output-file"), ("output", "output-digest"),
-                       ("output-file", "output-digest"), ("errors", "fault")):
-        if one in fields and other in fields:
-            raise BadCase(f"{path}: both {one} and {other}")
-    if not any(field in fields for field in ("output", "output-file", "output-digest", "errors", "fault")):
-        raise BadCase(f"{path}: no expected output")
+    check_fields(path, fields)
     digest = fields.get("output-digest")
-    if digest is not None and not re.fullmatch("[0-9a-f]{64}", digest):
-        raise BadCase(f"{path}: output-digest is no SHA-256 digest")
     return Case(
         name=path.stem,
         about=fields["about"],
@@ -91,6 +91,18 @@ def read_case(path):
         output_digest=digest,
         errors=fields.get("errors", b""),
         fault=fields.get("fault"))
+
+
+def check_fields(path, fields):
+    """Refuses fields that do not go together, and those that expect nothing."""
+    for one, other in (("script", "script-file"), ("output", "output-file"), ("output", "output-digest"),
+                       ("output-file", "output-digest"), ("errors", "fault")):
+        if one in fields and other in fields:
+            raise BadCase(f"{path}: both {one} and {other}")
+    if not fields.keys() & {"output", "output-file", "output-digest", "errors", "fault"}:
+        raise BadCase(f"{path}: no expected output")
+    if not re.fullmatch("[0-9a-f]{64}", fields.get("output-digest", 64 * "0")):
+        raise BadCase(f"{path}: output-digest is no SHA-256 digest")
 
 
 def bytes_of(path):

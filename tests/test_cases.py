@@ -122,6 +122,7 @@ class Cases(Answers, unittest.TestCase):
     def test_there_are_cases_and_each_has_a_name_of_its_own(self):
         self.assertTrue(PATHS)
         self.assertEqual(case_files.double_names(PATHS), [])
+        self.assertEqual(case_files.stray_files(), [])
 
 
 if "CRASHMAP_PROGRAM" not in os.environ:
@@ -164,6 +165,12 @@ class BadCases(unittest.TestCase):
     def test_a_name_that_stands_twice(self):
         paths = [pathlib.Path("a/one.case"), pathlib.Path("a/two.case"), pathlib.Path("b/one.case")]
         self.assertEqual(case_files.double_names(paths), ["one"])
+
+    def test_a_file_that_is_no_case(self):
+        for name in ("one.case", "one.script", "two.script", "three.cases"):
+            (self.folder / name).write_bytes(b"")
+        strays = [self.folder / "three.cases", self.folder / "two.script"]
+        self.assertEqual(case_files.stray_files(self.folder), strays)
 
     def test_a_name_with_other_letters(self):
         self.assertIn("has other letters", self.told(b"output:\n    a\n", "One_1"))
