@@ -5,7 +5,6 @@
 pub mod asked;
 pub mod digest;
 pub mod gates;
-pub mod noise;
 pub mod patches;
 pub mod refusing;
 pub mod settings;

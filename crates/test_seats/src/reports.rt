@@ -1,0 +1,39 @@
+//! Runs of scripts whose reports the reference program gives, too, as files of `cases/`.
+
+ghost use Rattle.std.specs.Prelude.{◌≤◌};
+
+use crash_text::host::Host;
+use crash_text::run::{Outcome, run};
+use explorers::{Gate, OpenGate};
+use std::alloc::Global;
+use std::process::Abort;
+use std::sync::Wait;
+use std::test::Fail;
+use std::thread::Threads;
+use test_support::asked::Asked;
+
+/// The report of a lone worker that nothing holds. It has as many failing sets as the reference program says.
+pub fn plain_report<R: Abort + AllocGlobal + Threads + Wait + Sync>(
+    rt: &R,
+    asked: &Asked,
+    json: bool,
+) -> Result<Outcome<Global>, Fail> {
+    let outcome = report(rt, asked, json, 1, &OpenGate)?;
+    assert_eq!(rt; outcome.failing, asked.failing);
+    Ok(outcome)
+}
+
+/// The report of so many workers, of a board and behind a gate.
+pub fn report<R: AllocGlobal + Threads + Wait + Sync, G: Gate + Sync>(
+    rt: &R,
+    asked: &Asked,
+    json: bool,
+    workers: usize,
+    gate: &G,
+) -> Result<Outcome<Global>, Fail>
+    requires { (1 ≤ workers) × (workers ≤ 16) }
+{
+    let script = asked.whole_script(rt.alloc())?;
+    let settings = asked.settings(4096, json);
+    Ok(run(&Host::new(rt), &script, &settings, workers, gate)?)
+}

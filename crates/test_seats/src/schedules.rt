@@ -1,0 +1,77 @@
+//! A gate holds workers; the report stays the same.
+
+ghost use Rattle.std.specs.Prelude.{◌≤◌};
+
+use crate::reports::{plain_report, report};
+use explorers::Gate;
+use std::process::Abort;
+use std::sync::Wait;
+use std::test::Fail;
+use std::thread::Threads;
+use test_support::asked::{Asked, JOURNAL, RENAMED, REUSE, SOFT_CREATE, WRITE};
+use test_support::gates::{HeldAt, Shuffled, UntilAnother};
+
+/// How many schedules are tried of each script and number of workers.
+const SEEDS: u64 = 200;
+
+/// So many workers behind each gate give the report of a lone one that nothing holds.
+fn report_the_same<R: Abort + AllocGlobal + Threads + Wait + Sync, G: Gate + Sync>(
+    rt: &R,
+    asked: &Asked,
+    workers: usize,
+    gates: &[G],
+) -> Result<(), Fail>
+    requires { (1 ≤ workers) × (workers ≤ 16) }
+{
+    let plain = plain_report(rt, asked, false)?;
+    for gate in gates {
+        let held = report(rt, asked, false, workers, gate)?;
+        assert!(rt; held.text.as_str() == plain.text.as_str(), "{workers} workers");
+    }
+    Ok(())
+}
+
+/// So many workers report the same of each script under the schedule of each seed.
+fn report_under_each_seed<R: Abort + AllocGlobal + Threads + Wait + Sync>(
+    rt: &R,
+    workers: usize,
+) -> Result<(), Fail>
+    requires { (1 ≤ workers) × (workers ≤ 16) }
+{
+    let mut gates = Vec::new(rt.alloc());
+    for seed in 0..SEEDS {
+        gates.push(Shuffled { seed })?;
+    }
+    for asked in [&WRITE, &REUSE, &JOURNAL, &RENAMED] {
+        report_the_same(rt, asked, workers, &gates)?;
+    }
+    Ok(())
+}
+
+#[test]
+fn two_workers_under_each_seed(rt: HostRuntime) -> Result<(), Fail> {
+    report_under_each_seed(&rt, 2)
+}
+
+#[test]
+fn four_workers_under_each_seed(rt: HostRuntime) -> Result<(), Fail> {
+    report_under_each_seed(&rt, 4)
+}
+
+#[test]
+fn eight_workers_under_each_seed(rt: HostRuntime) -> Result<(), Fail> {
+    report_under_each_seed(&rt, 8)
+}
+
+#[test]
+fn the_claimer_of_one_set_is_held(rt: HostRuntime) -> Result<(), Fail> {
+    report_the_same(&rt, &SOFT_CREATE, 4, &[HeldAt { set: 1 }])
+}
+
+#[test]
+fn each_claimer_waits_for_another(rt: HostRuntime) -> Result<(), Fail> {
+    for asked in [&WRITE, &JOURNAL] {
+        report_the_same(&rt, asked, 4, &[UntilAnother::new()])?;
+    }
+    Ok(())
+}
