@@ -26,14 +26,18 @@ fn report_the_same<R: Abort + AllocGlobal + Threads + Wait + Sync, G: Gate + Syn
     let plain = plain_report(rt, asked, false)?;
     for gate in gates {
         let held = report(rt, asked, false, workers, gate)?;
-        assert!(rt; held.text.as_str() == plain.text.as_str(), "{workers} workers");
+        assert!(rt;
+            held.text.as_str() == plain.text.as_str(),
+            "{workers} workers"
+        );
     }
     Ok(())
 }
 
-/// So many workers report the same of each script under the schedule of each seed.
+/// So many workers report the same of each of these scripts under the schedule of each seed.
 fn report_under_each_seed<R: Abort + AllocGlobal + Threads + Wait + Sync>(
     rt: &R,
+    scripts: &[&Asked],
     workers: usize,
 ) -> Result<(), Fail>
     requires { (1 ≤ workers) × (workers ≤ 16) }
@@ -42,25 +46,43 @@ fn report_under_each_seed<R: Abort + AllocGlobal + Threads + Wait + Sync>(
     for seed in 0..SEEDS {
         gates.push(Shuffled { seed })?;
     }
-    for asked in [&WRITE, &REUSE, &JOURNAL, &RENAMED] {
+    for asked in scripts {
         report_the_same(rt, asked, workers, &gates)?;
     }
     Ok(())
 }
 
+/// Scripts of 12, 24 and 48 closed sets, the first before a strict checker.
+const SMALL: [&Asked; 3] = [&RENAMED, &WRITE, &REUSE];
+
 #[test]
 fn two_workers_under_each_seed(rt: HostRuntime) -> Result<(), Fail> {
-    report_under_each_seed(&rt, 2)
+    report_under_each_seed(&rt, &SMALL, 2)
 }
 
 #[test]
 fn four_workers_under_each_seed(rt: HostRuntime) -> Result<(), Fail> {
-    report_under_each_seed(&rt, 4)
+    report_under_each_seed(&rt, &SMALL, 4)
 }
 
 #[test]
 fn eight_workers_under_each_seed(rt: HostRuntime) -> Result<(), Fail> {
-    report_under_each_seed(&rt, 8)
+    report_under_each_seed(&rt, &SMALL, 8)
+}
+
+#[test]
+fn two_workers_behind_a_journal(rt: HostRuntime) -> Result<(), Fail> {
+    report_under_each_seed(&rt, &[&JOURNAL], 2)
+}
+
+#[test]
+fn four_workers_behind_a_journal(rt: HostRuntime) -> Result<(), Fail> {
+    report_under_each_seed(&rt, &[&JOURNAL], 4)
+}
+
+#[test]
+fn eight_workers_behind_a_journal(rt: HostRuntime) -> Result<(), Fail> {
+    report_under_each_seed(&rt, &[&JOURNAL], 8)
 }
 
 #[test]

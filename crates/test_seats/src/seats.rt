@@ -237,7 +237,9 @@ fn one_word_more_than_the_limit_is_over(rt: HostRuntime) -> Result<(), Fail> {
 }
 
 #[test]
-fn a_full_row_is_over_and_so_is_the_limit_where_no_row_is_full(rt: HostRuntime) -> Result<(), Fail> {
+fn a_full_row_is_over_and_so_is_the_limit_where_no_row_is_full(
+    rt: HostRuntime,
+) -> Result<(), Fail> {
     let beside = Place { shard: 0, at: 1 };
     let (second, third) = (Place { shard: 2, at: 0 }, Place { shard: 3, at: 0 });
     let (one, two, three) = (Put::New(FIRST), Put::New(second), Put::New(third));

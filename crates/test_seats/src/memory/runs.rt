@@ -14,10 +14,8 @@ use test_support::refusing::Refusing;
 /// More requests than any run here makes.
 const MOST: u64 = 20_000;
 
-/// A script, with its name, that is run in text and in JSON with each request refused alone.
-type Row = (&'static str, &'static Asked);
-
-const ALONE: [Row; 5] = [
+/// The scripts, with names, that are run in text and in JSON with each request refused alone.
+const ALONE: [(&str, &Asked); 5] = [
     ("creates", &CREATE),
     ("uses a block again", &REUSE),
     ("links to and fro", &SOFT_LINKS),
@@ -84,15 +82,15 @@ fn refuse_each<R: Abort + AllocGlobal + Threads + Wait + Sync>(
     Ok(())
 }
 
-/// So many workers run a script in text and in JSON.
-fn refuse_in_both<R: Abort + AllocGlobal + Threads + Wait + Sync>(
+/// So many workers run each script in text or in JSON.
+fn refuse_in_all<R: Abort + AllocGlobal + Threads + Wait + Sync>(
     rt: &R,
-    (name, asked): Row,
     workers: usize,
+    json: bool,
 ) -> Result<(), Fail>
     requires { (1 ≤ workers) × (workers ≤ 16) }
 {
-    for json in [false, true] {
+    for (name, asked) in ALONE {
         let trial = Trial {
             name,
             asked,
@@ -104,44 +102,50 @@ fn refuse_in_both<R: Abort + AllocGlobal + Threads + Wait + Sync>(
     Ok(())
 }
 
-/// So many workers run each script, and one whose sets are too many.
-fn refuse_in_all<R: Abort + AllocGlobal + Threads + Wait + Sync>(
-    rt: &R,
-    workers: usize,
-) -> Result<(), Fail>
-    requires { (1 ≤ workers) × (workers ≤ 16) }
-{
-    for row in ALONE {
-        refuse_in_both(rt, row, workers)?;
-    }
-    refuse_each(rt, &TOO_MANY, workers, false)
-}
-
 #[test]
 fn one_worker_is_refused_memory(rt: HostRuntime) -> Result<(), Fail> {
-    refuse_in_all(&rt, 1)
+    refuse_in_all(&rt, 1, false)?;
+    refuse_in_all(&rt, 1, true)
 }
 
 #[test]
 fn two_workers_are_refused_memory(rt: HostRuntime) -> Result<(), Fail> {
-    refuse_in_all(&rt, 2)
+    refuse_in_all(&rt, 2, false)
+}
+
+#[test]
+fn two_workers_are_refused_memory_for_json(rt: HostRuntime) -> Result<(), Fail> {
+    refuse_in_all(&rt, 2, true)
 }
 
 #[test]
 fn four_workers_are_refused_memory(rt: HostRuntime) -> Result<(), Fail> {
-    refuse_in_all(&rt, 4)
+    refuse_in_all(&rt, 4, false)
+}
+
+#[test]
+fn four_workers_are_refused_memory_for_json(rt: HostRuntime) -> Result<(), Fail> {
+    refuse_in_all(&rt, 4, true)
+}
+
+#[test]
+fn memory_is_refused_where_there_are_too_many_sets(rt: HostRuntime) -> Result<(), Fail> {
+    for workers in [1, 2, 4] {
+        refuse_each(&rt, &TOO_MANY, workers, false)?;
+    }
+    Ok(())
 }
 
 /// So many workers lose memory for good at each request in turn.
 fn lose_for_good<R: Abort + AllocGlobal + Threads + Wait + Sync>(
     rt: &R,
-    (name, asked): Row,
+    asked: &'static Asked,
     workers: usize,
 ) -> Result<(), Fail>
     requires { (1 ≤ workers) × (workers ≤ 16) }
 {
     let trial = Trial {
-        name,
+        name: "for good",
         asked,
         json: false,
         too_low: false,
@@ -152,8 +156,8 @@ fn lose_for_good<R: Abort + AllocGlobal + Threads + Wait + Sync>(
 #[test]
 fn workers_lose_memory_for_good(rt: HostRuntime) -> Result<(), Fail> {
     for workers in [1, 2, 4] {
-        lose_for_good(&rt, ("creates", &CREATE), workers)?;
-        lose_for_good(&rt, ("uses a block again", &REUSE), workers)?;
+        lose_for_good(&rt, &CREATE, workers)?;
+        lose_for_good(&rt, &REUSE, workers)?;
     }
     Ok(())
 }
