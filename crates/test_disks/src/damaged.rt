@@ -1,7 +1,12 @@
 //! The faults of images that are damaged by hand.
 
+use crash_model::refusals::FsFault;
+use crash_model::steps::Act;
 use disk_image::Image;
 use fs_check::{Fault, faults, is_clean};
+use inode_fs::plan;
+use order_modules::build_base;
+use script_text::read_script;
 use std::alloc::{AllocError, Global};
 use std::process::Abort;
 use std::test::Fail;
@@ -267,5 +272,30 @@ fn unwritten_pointers(alloc: Global) -> Result<Vec<Fault>, AllocError> {
 fn finds_64_unwritten_pointers_of_no_kind(rt: HostRuntime) -> Result<(), Fail> {
     let expected = unwritten_pointers(rt.alloc())?;
     assert!(rt; found_in_inodes_of(&rt, 0x04)?.as_slice() == expected.as_slice());
+    Ok(())
+}
+
+/// Whether an operation is refused so.
+fn is_refused(image: &Image<Global>, act: &Act, fault: FsFault) -> bool {
+    match act {
+        Act::Do(op) => plan(image, op).err() == Some(fault),
+        _ => false,
+    }
+}
+
+/// A file is there, and then its directory's block is not marked as its own: it has no entries, and no free one.
+const UNMARKED: &[u8] = b"create /a\nstart\ncreate /a\nunlink /a\n";
+
+#[test]
+fn finds_nothing_in_a_damaged_root(rt: HostRuntime) -> Result<(), Fail> {
+    let script = read_script(rt.alloc(), UNMARKED)?;
+    let mut image = Image::formatted(rt.alloc(), 16, 0)?;
+    build_base(&mut image, &script.base)?;
+    put_into(&rt, &mut image, &Put(4, 0, &[0]));
+    let faults = [FsFault::DirectoryFull, FsFault::NotFound];
+    assert!(rt; script.traced.len() == faults.len());
+    for (step, fault) in script.traced.iter().zip(&faults) {
+        assert!(rt; is_refused(&image, &step.act, *fault), "{fault}");
+    }
     Ok(())
 }
