@@ -8,7 +8,7 @@ use std::alloc::Global;
 use std::test::Fail;
 
 /// Bytes that mean something in an image.
-const TELLING: [u8; 16] = [0, 0, 0, 1, 1, 2, 2, 3, 4, 5, 10, 15, 0x44, 0x46, 0xC7, 0xC8];
+const FEW_BYTES: [u8; 16] = [0, 0, 0, 1, 1, 2, 2, 3, 4, 5, 10, 15, 0x44, 0x46, 0xC7, 0xC8];
 
 /// How an image is made.
 #[derive(Clone, Copy, Debug, PartialEq, Eq)]
@@ -52,14 +52,14 @@ pub fn image_of(
 }
 
 /// One of a few bytes that mean something in an image.
-fn telling(noise: &mut Noise) -> u8 {
-    TELLING[usize::from(noise.below(16))]
+fn few_bytes(noise: &mut Noise) -> u8 {
+    FEW_BYTES[usize::from(noise.below(16))]
 }
 
 fn noisy_row(noise: &mut Noise, few: bool) -> [u8; 128] {
     let mut row = [0; 128];
     for byte in &mut row {
-        *byte = if few { telling(noise) } else { noise.byte() };
+        *byte = if few { few_bytes(noise) } else { noise.byte() };
     }
     row
 }
@@ -94,7 +94,7 @@ fn damage(image: &mut Image<Global>, noise: &mut Noise) {
             image.journal() + 4 + usize::from(noise.below(4))
         };
         let offset = usize::from(noise.below(64));
-        let value = telling(noise);
+        let value = few_bytes(noise);
         if block < image.blocks() {
             image.put(block, offset, &[value]);
         }
@@ -153,7 +153,7 @@ fn header(noise: &mut Noise, journal: usize, turn: u8, count: u8) -> [u8; 6] {
     }
     if noise.below(6) == 0 {
         let place = usize::from(noise.below(6));
-        header[place] = telling(noise);
+        header[place] = few_bytes(noise);
     }
     header
 }

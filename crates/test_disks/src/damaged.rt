@@ -1,4 +1,4 @@
-//! The faults of images that are damaged by hand.
+//! The faults of images that are damaged by hand, and operations on one of them.
 
 use crash_model::refusals::FsFault;
 use crash_model::steps::Act;
@@ -121,7 +121,7 @@ const CASES: [Case; 16] = [
         texts: &["4 low link count: inode 2 entries 2 links 1"],
     },
     Case {
-        name: "block that the map has as free",
+        name: "used block that the map marks free",
         journal: 0,
         puts: &[Put(2, 16, &[1, 1, 0, 0, 5]), Put(5, 0, &[0x46, 1])],
         texts: &["5 used block marked free: inode 1 slot 0 block 5"],
@@ -194,7 +194,7 @@ fn has_faults(alloc: Global, image: &Image<Global>, texts: &[&str]) -> Result<bo
     are_written(alloc, &faults(alloc, image)?, texts)
 }
 
-/// An image that is damaged as a case tells has the faults that it tells.
+/// An image that is damaged as a case says has the faults of the case.
 fn finds<R: Abort + AllocGlobal>(rt: &R, case: &Case) -> Result<(), Fail> {
     let mut image = Image::formatted(rt.alloc(), 16, case.journal)?;
     for bytes in case.puts {

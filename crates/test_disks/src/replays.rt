@@ -52,7 +52,7 @@ const CASES: [Case; 7] = [
     Case(&[(4, &[0xC8, 1, 2, 2, 10]), (7, &[0xC7, 2, 1, 1])], &[1]),
 ];
 
-/// Whether replay does with a case's headers what the case tells.
+/// Whether replay zeroes exactly the blocks of a case.
 fn replays(alloc: Global, Case(headers, zeroed): &Case) -> Result<bool, Fail> {
     let before = with_headers(alloc, headers)?;
     let mut after = before.try_copy()?;
