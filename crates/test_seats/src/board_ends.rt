@@ -77,7 +77,7 @@ fn work_in<K: Shape + Sync, R: Threads + Wait + Sync>(
     }
 }
 
-/// Seats in so many threads settle all entries, and none is told to stop.
+/// Seats in so many threads settle all entries, and none has to stop.
 fn settle_all<R: Threads + Wait + Abort + AllocGlobal + Sync>(
     rt: &R,
     threads: u8,

@@ -57,7 +57,7 @@ fn first_is_stolen_and_last_is_popped(rt: HostRuntime) -> Result<(), Fail> {
 }
 
 #[test]
-fn what_is_left_is_told_once_all_hands_are_back(rt: HostRuntime) -> Result<(), Fail> {
+fn tasks_that_nobody_took_are_left(rt: HostRuntime) -> Result<(), Fail> {
     let mut hands: Hands = hands(rt.alloc(), 2)?;
     let pushed = [
         push(&mut hands, 0, 1),
@@ -95,7 +95,7 @@ fn sixteen_workers_steal_from_the_first(rt: HostRuntime) -> Result<(), Fail> {
     Ok(())
 }
 
-/// How many of four hands are made in a heap of this size, unless it wants memory.
+/// How many of four hands are made in a heap of this size. None where it is too small.
 fn made_in(alloc: Global, size: usize) -> Result<Option<usize>, Fail> {
     let heap = LocalHeap::new(alloc, size)?;
     let made: Result<Vec<Hand<u8, &LocalHeap>, &LocalHeap>, AllocError> = hands(&heap, 4);
@@ -106,7 +106,7 @@ fn made_in(alloc: Global, size: usize) -> Result<Option<usize>, Fail> {
 }
 
 #[test]
-fn want_of_memory_is_told(rt: HostRuntime) -> Result<(), Fail> {
+fn hands_need_memory(rt: HostRuntime) -> Result<(), Fail> {
     for size in [32, 1024, 4096, 8192] {
         assert!(rt; made_in(rt.alloc(), size)? == None);
     }

@@ -23,7 +23,7 @@ fn numbered(number: u8) -> Patch
     one_byte(4, number / 2, number)
 }
 
-/// Whether a patch is the change with this number, each second one behind the one before it.
+/// Whether a patch is the change with this number, each second one depending on the one before it.
 fn is_pushed(patch: &Patch, number: u8) -> bool
     requires { number < 124 }
 {
@@ -50,8 +50,8 @@ fn expect_patches(rt: &impl Abort, graph: &Pushed<'_>, count: u8)
     }
 }
 
-/// Pushes a patch with all memory refused, and then with none refused where that was out of memory. Tells whether it
-/// was.
+/// Pushes a patch with all memory refused, and then with none refused where that was out of memory. Returns whether
+/// it was.
 fn push_twice(
     rt: &impl Abort,
     memory: &Refusing<Global>,
@@ -74,7 +74,7 @@ fn push_twice(
     Ok(true)
 }
 
-/// Pushes each patch. Tells whether one was refused.
+/// Pushes each patch. Returns whether one was refused.
 fn push_each(
     rt: &impl Abort,
     memory: &Refusing<Global>,

@@ -1,4 +1,4 @@
-//! The allocator that the tests refuse memory by refuses just what it is told to.
+//! The allocator of these tests refuses exactly the requests that its gauge names.
 
 use std::alloc::{AllocError, Global};
 use std::test::Fail;

@@ -75,7 +75,7 @@ fn refuse_each<R: Abort + AllocGlobal + Threads + Wait + Sync>(
         }
     }
     assert!(rt;
-        1 < number && number + 1 < MOST,
+        1 < number && number < MOST - 1,
         "{}: {number} requests",
         trial.name
     );

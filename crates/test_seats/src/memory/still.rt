@@ -62,7 +62,7 @@ fn count_failing<'s, 'm>(
     Ok((closed, failing))
 }
 
-/// How many sets a crash can leave, and how many of them fail by a checker that is told of these kept inodes or of
+/// How many sets a crash can leave, and how many of them fail by a checker that asks for these kept inodes or for
 /// none. Judging them makes no request.
 fn count_judged(
     rt: &impl Abort,
