@@ -23,6 +23,15 @@ pub struct Trial {
     pub too_low: bool,
 }
 
+impl Trial {
+    /// The most closed sets that it may have.
+    fn limit(&self) -> usize
+        ensures { (1 ≤ result) × (result ≤ 4096) }
+    {
+        if self.too_low { 23 } else { 4096 }
+    }
+}
+
 /// What a run answers.
 pub type Answer<A> = Result<Outcome<A>, RunFault>;
 
@@ -35,8 +44,7 @@ where
 {
     let heap = rt.alloc();
     let script = trial.asked.whole_script(heap)?;
-    let limit = if trial.too_low { 23 } else { 4096 };
-    let settings = trial.asked.settings(limit, trial.json);
+    let settings = trial.asked.settings(trial.limit(), trial.json);
     let host = Host { rt, heap, alloc };
     Ok(run(&host, &script, &settings, workers, &OpenGate))
 }
