@@ -1,8 +1,8 @@
-//! Tests of what workers do side by side: the board and its seats on small spaces, deques, explorers, schedules that
-//! gates hold, and every request for memory refused in turn.
+//! Tests of what workers do side by side: the board and its seats on small spaces, deques, explorers, and runs under
+//! schedules that gates hold.
 //!
-//! Each expected value comes from the specification or from the independent reference program. What a script's plain
-//! run reports is in `cases/`; here runs under a schedule or with memory refused are compared with the plain run.
+//! Each expected value comes from the specification or from the independent reference program. A run under a schedule
+//! is compared with the plain run, whose report is in `cases/`.
 #![tactic(auto)]
 
 #[cfg(test)]
@@ -13,8 +13,6 @@ mod boards;
 mod deques;
 #[cfg(test)]
 mod ladders;
-#[cfg(test)]
-mod memory;
 #[cfg(test)]
 mod reports;
 #[cfg(test)]

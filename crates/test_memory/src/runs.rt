@@ -2,7 +2,7 @@
 
 ghost use Rattle.std.specs.Prelude.{◌≤◌};
 
-use crate::memory::answers::{Answer, Trial, answers, plain_answer};
+use crate::answers::{Answer, Trial, answers, plain_answer};
 use std::alloc::Global;
 use std::process::Abort;
 use std::sync::Wait;

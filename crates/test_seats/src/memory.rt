@@ -1,8 +1,0 @@
-//! Every request for memory refused in turn.
-
-mod answers;
-mod boards;
-mod pushes;
-mod refuses;
-mod runs;
-mod still;
