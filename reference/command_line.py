@@ -1,0 +1,166 @@
+"""The words of a command line, and what the program does with them."""
+
+import argparse
+import re
+
+from .answer import answer
+from .refusals import Refusal, TooMuch
+from .rules import MODULE_RULES, MODULES, read_rule
+from .settings import MOST_PATCHES, Settings
+
+MOST_BYTES = 1048576
+MOST_GIVEN = 16
+MOST_ON_A_BOARD = 32768
+
+TOO_MUCH = 3
+"""The exit status where the question is too big for the reference. Crashmap has 0, 1 and 2."""
+
+NUMBERS = {"blocks": (16, 16, 128), "journal": (0, 0, 122), "limit": (4096, 1, 10 ** 9), "workers": (1, 1, 16),
+           "search": (None, 1, 8), "max-patches": (MOST_PATCHES, 1, MOST_PATCHES),
+           "max-script-bytes": (MOST_BYTES, 0, 10 ** 9)}
+"""Options with a number: the number without the option, the least and the greatest."""
+
+CHOICES = {"module": ("soft", MODULES), "explorer": ("auto", ("auto", "board", "sweep"))}
+"""Options with a word: the word without the option, and all words."""
+
+FLAGS = ("json", "explain", "summary", "needs", "strict", "atomic", "whole-blocks", "decide", "enough")
+
+
+class CommandLineFault(Exception):
+    """The words of the command line are at fault."""
+
+
+class Parser(argparse.ArgumentParser):
+    """A parser that raises where it is asked to complain."""
+
+    def error(self, message):
+        raise CommandLineFault(message)
+
+
+def once(check):
+    """An action for an option that may be given once, with a value that passes the check."""
+    class Once(argparse.Action):
+        def __call__(self, parser, namespace, value, option=None):
+            given = getattr(namespace, "given", set())
+            if self.dest in given:
+                parser.error("%s given twice" % option)
+            namespace.given = given | {self.dest}
+            setattr(namespace, self.dest, check(parser, option, value))
+    return Once
+
+
+def number_between(low, high):
+    """A check for numbers."""
+    def check(parser, option, value):
+        if re.fullmatch(r"[0-9]+", value) is None or not low <= int(value) <= high:
+            parser.error("%s: not a number from %d to %d" % (option, low, high))
+        return int(value)
+    return check
+
+
+def one_of(values):
+    """A check for words."""
+    def check(parser, option, value):
+        if value not in values:
+            parser.error("%s: not one of %s" % (option, ", ".join(values)))
+        return value
+    return check
+
+
+def parser_of_words():
+    """The parser with all options."""
+    parser = Parser(prog="reference", allow_abbrev=False)
+    parser.add_argument("script", nargs="?", metavar="SCRIPT")
+    for name, (default, low, high) in NUMBERS.items():
+        parser.add_argument("--" + name, default=default, action=once(number_between(low, high)))
+    for name, (default, values) in CHOICES.items():
+        parser.add_argument("--" + name, default=default, action=once(one_of(values)))
+    for name in FLAGS:
+        parser.add_argument("--" + name, action="store_true")
+    parser.add_argument("--with", dest="added", default=[], action="append")
+    parser.add_argument("--without", default=[], action="append")
+    return parser
+
+
+def check_rules(parser, call):
+    """Refuses rules that are none, that are given twice in all, or that cannot be taken out of the module."""
+    for option, given in (("--with", call.added), ("--without", call.without)):
+        if len(given) > MOST_GIVEN:
+            parser.error("%s: given more than %d times" % (option, MOST_GIVEN))
+    every = call.added + call.without
+    for word in every:
+        if read_rule(word) is None:
+            parser.error("not a rule: %s" % word)
+        if every.count(word) > 1:
+            parser.error("given twice: %s" % word)
+    for word in call.without:
+        if word not in MODULE_RULES[call.module]:
+            parser.error("--without: not a rule of %s: %s" % (call.module, word))
+
+
+def check_questions(parser, call):
+    """Refuses options that do not go together."""
+    if call.needs and call.summary:
+        parser.error("--needs with --summary")
+    given = getattr(call, "given", set())
+    asked = [name for name, is_asked in (("decide", call.decide), ("enough", call.enough),
+                                         ("search", call.search is not None)) if is_asked]
+    for name in ("summary", "needs", "limit", "explorer") if asked else ():
+        if name in given or getattr(call, name) is True:
+            parser.error("--%s with --%s" % (asked[0], name))
+    if call.decide and len(asked) > 1:
+        parser.error("--decide with --%s" % asked[1])
+    if call.explorer == "board" and call.limit > MOST_ON_A_BOARD:
+        parser.error("--explorer board: a limit above %d" % MOST_ON_A_BOARD)
+
+
+def read_words(words):
+    """The options of a command line; `CommandLineFault` where it is at fault."""
+    parser = parser_of_words()
+    call = parser.parse_args(words)
+    for name in FLAGS:
+        if words.count("--" + name) > 1:
+            parser.error("given twice: --%s" % name)
+    check_rules(parser, call)
+    check_questions(parser, call)
+    return call
+
+
+def settings_of(call):
+    """The settings that the options name."""
+    values = {name: getattr(call, name) for name in Settings._fields}
+    return Settings(**dict(values, without=tuple(call.without), added=tuple(call.added)))
+
+
+def bytes_of(call, standard_input):
+    """The script. One that cannot be read or is too long is refused."""
+    try:
+        if call.script is None:
+            script = standard_input.read()
+        else:
+            with open(call.script, "rb") as source:
+                script = source.read()
+    except OSError:
+        raise Refusal(50) from None
+    if len(script) > call.max_script_bytes:
+        raise Refusal(52)
+    return script
+
+
+def program(words, standard_input, out, err, answered=answer):
+    """Answers a command line and gives the exit status. The three streams carry bytes. `answered` makes the report of
+    a script and settings."""
+    try:
+        call = read_words(words)
+        text, failing = answered(bytes_of(call, standard_input), settings_of(call))
+    except CommandLineFault as fault:
+        err.write(("command line: %s\n" % fault).encode())
+        return 2
+    except Refusal as refusal:
+        err.write((refusal.printed() + "\n").encode())
+        return 2
+    except TooMuch as fault:
+        err.write(("reference: %s, which is too much for the reference\n" % fault).encode())
+        return TOO_MUCH
+    out.write(text.encode())
+    return 1 if failing else 0
