@@ -55,7 +55,7 @@ class Image:
 
     def inode_byte(self, inode, k):
         """Byte k of an inode."""
-        return self.byte(2 + inode // 8, INODE_SIZE * (inode % 8) + k)
+        return self.data[2 * BLOCK_SIZE + INODE_SIZE * inode + k]
 
     def kind(self, inode):
         """FREE, FILE, DIRECTORY, or a byte that means none of them."""

@@ -66,9 +66,13 @@ def has_part(patch, part):
     return patch.part == part or (part == "InPlace" and patch.part in ROLES)
 
 
+def in_scope(scope, later, earlier):
+    """Whether the operations of two patches stand as the scope of a rule says."""
+    if scope == "before":
+        return later.operation > earlier.operation
+    return later.operation == earlier.operation + (scope == "previous")
+
+
 def applies(rule, later, earlier):
     """Whether the rule makes the patch `later` wait for the patch `earlier`."""
-    scopes = {"same": later.operation == earlier.operation,
-              "previous": later.operation == earlier.operation + 1,
-              "before": later.operation > earlier.operation}
-    return has_part(later, rule.later) and has_part(earlier, rule.earlier) and scopes[rule.scope]
+    return has_part(later, rule.later) and has_part(earlier, rule.earlier) and in_scope(rule.scope, later, earlier)

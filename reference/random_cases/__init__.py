@@ -1,0 +1,1 @@
+"""Random scripts and command lines, the same for the same seed: most are answered, the rest refused in every way."""

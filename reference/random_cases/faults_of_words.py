@@ -1,0 +1,58 @@
+"""Command lines that are at fault."""
+
+from ..rules import JOURNAL_RULES, MODULE_RULES, PARTS, SOFT_RULES
+
+PLAIN_FAULTS = [
+    ["--limit", "0"], ["--limit", "1000000001"], ["--explorer", "tree"], ["--explorer", "board", "--limit", "32769"],
+    ["--journal", "123"], ["--workers", "0"],
+    ["--workers", "17"], ["--blocks", "15"], ["--blocks", "129"], ["--blocks", "x"],
+    ["--module", "hard"], ["--module", "Soft"], ["--nothing"], ["one", "two"], ["--limit"],
+    ["--module", ""], ["--limit", "99999999999999999999"], ["--json=1"], ["--module"],
+    ["--blocks", "16", "--blocks", "17"],
+]
+
+NO_RULES = ("Ptr", "Ptr:", ":Ptr", "Ptr:Nothing", "ptr:Ptr", "Data:Copy", "Ptr:Ptr:Ptr", "Ptr :Ptr",
+            "Ptr:previous-", "previous-Ptr:Ptr", "Ptr:Previous-Ptr", "Ptr:previous-previous-Ptr",
+            "Ptr:next-Ptr", "Ptr:same-Ptr", "InPlace", "Ptr:Ptr ", "EntrySet:Inodeinit", "1:2", "")
+
+NO_BEFORE_RULES = ("Ptr:before-", "before-Ptr:Ptr", "Ptr:Before-Ptr", "Ptr:before-before-Ptr",
+                   "Ptr:before-previous-Ptr", "Ptr:before", "Ptr:before_Ptr", "Ptr:after-Ptr")
+
+NO_NUMBERS = ("0", "9", "two", "-1", "", "1.0", "99999999999999999999", "+1x")
+
+QUESTIONS = [["--decide"], ["--enough"], ["--search", "1"], ["--search=8", "--enough"]]
+
+
+def seventeen_rules():
+    """A rule more than may be put in."""
+    return [word for one in range(17)
+            for word in ("--with", "Ptr:" + ("previous-" if one > 14 else "") + PARTS[one % 15])]
+
+
+def extended_fault(chance, module):
+    """A fault in rules, or in ways to read a report."""
+    own = MODULE_RULES[module]
+    absent = chance.choice([rule for rule in SOFT_RULES + JOURNAL_RULES + ("Ptr:Ptr",) if rule not in own])
+    rule = chance.choice(own or ("Ptr:Ptr",))
+    kinds = [["--without", absent], ["--with", absent, "--with", absent], ["--needs", "--summary"],
+             ["--summary", "--explain", "--needs", "--json"], ["--with"], ["--without"],
+             ["--with", absent, "--without", absent], ["--with", rule, "--with", rule],
+             ["--with="], ["--explain=1"], ["--summary", "yes", "no"]]
+    kinds += [["--with", word] for word in NO_RULES] + [seventeen_rules()]
+    if own:
+        kinds += [["--without", rule, "--without", rule], ["--without", rule, "--with", rule],
+                  ["--without", rule.lower()], ["--without", rule, "--without", absent]]
+    return ["--module", module] + chance.choice(kinds)
+
+
+def deciding_fault(chance, module):
+    """A fault in a question about all sets, or in a rule for all operations before."""
+    question = chance.choice(QUESTIONS)
+    kinds = [question + more for more in (["--summary"], ["--needs"], ["--limit", "4096"], ["--explorer", "auto"],
+                                          ["--explorer", "sweep"], ["--limit=1"])]
+    kinds += [["--decide", "--enough"], ["--decide", "--search", "2"], ["--search", "2", "--enough", "--decide"],
+              ["--search"], ["--atomic=1"], ["--decide=yes"], ["--search", "1", "--search", "1"]]
+    kinds += [["--search", word] for word in NO_NUMBERS] + [["--with", word] for word in NO_BEFORE_RULES]
+    kinds += [["--with", "Ptr:before-Ptr", "--with", "Ptr:before-Ptr"], ["--without", "Ptr:before-Ptr"]]
+    words = ["--module", module] + chance.choice(kinds)
+    return words if words.count("--search") else chance.choice([words, words[2:]])

@@ -1,0 +1,157 @@
+"""Makes case k of a seed, the same whatever other cases are made."""
+
+import random
+
+from ..rules import MODULES
+from .accepted import accepted_case
+from .case import Case, joined
+from .faults_of_words import PLAIN_FAULTS, deciding_fault, extended_fault
+from .options import deciding, extend
+from .refused import bad_geometry, group_fault, journal_full, many_patches, refused_by_plan
+from .spoiled import mutate, spoil
+
+LEVELS = ("plain", "extended", "all")
+"""Which options a case may have: those of the first release; rules, ways to read a report and strict checkers too;
+all."""
+
+REFUSALS = [1, 2, 10, 11, 12, 13, 14, 15, 16, 17, 18, 19, 20, 21, 30, 40, 41, 42, 43]
+
+HEAVY_SHARE = 0.02
+"""The share of cases with up to 32,768 closed sets."""
+
+
+def chance_of(seed, index, *more):
+    """The dice of one case."""
+    return random.Random("/".join([str(seed), str(index), *more]))
+
+
+def refused_case(chance, module, number, heavy):
+    """A case that is likely to be refused with the number."""
+    if number in (20, 21) or number == 2 or number == 1:
+        make = {1: bad_geometry, 2: many_patches, 20: journal_full, 21: group_fault}[number]
+        return make(chance, module)
+    if number == 30:
+        return accepted_case(chance, module, heavy, limit_below=True)
+    if number in (40, 41, 42, 43):
+        case = accepted_case(chance, module, False)
+        spoil(chance, case, number)
+        return case
+    return refused_by_plan(chance, module, number)
+
+
+def random_refused(chance, module, modules, heavy):
+    """A case that is likely to be refused."""
+    number = chance.choice(REFUSALS + [2, 21, 21, 40, 41, 41, 41, 42, 42])
+    if number == 20 and module not in ("meta", "full"):
+        journaled = [one for one in modules if one in ("meta", "full")]
+        module, number = (chance.choice(journaled), 20) if journaled else (module, 21)
+    case = refused_case(chance, module, number, heavy)
+    if chance.random() < 0.06:
+        spoil(chance, case, chance.choice([40, 41, 42, 43]))
+    case.wish = str(number)
+    return case
+
+
+def mutated_case(chance, module):
+    """A case with a few bytes of its script changed."""
+    case = accepted_case(chance, module, False)
+    mutate(chance, case)
+    case.wish = "mutated"
+    return case
+
+
+def fault_case(module, words):
+    """A case whose command line is at fault."""
+    case = Case(module)
+    case.words = list(words)
+    case.script = b"start\n"
+    case.wish = "command line"
+    return case
+
+
+def missing_case(chance, module):
+    """A case whose command line names a file that is not there."""
+    case = Case(module)
+    case.words = case.basic_words(chance) + ["no_such_script"]
+    case.missing = True
+    case.wish = "50"
+    return case
+
+
+def plain_case(chance, modules, heavy_share):
+    """A case with the options of the first release."""
+    module = chance.choice(modules)
+    heavy = chance.random() < heavy_share
+    roll = chance.random()
+    if roll < 0.52:
+        return accepted_case(chance, module, heavy)
+    if roll < 0.56:
+        return mutated_case(chance, module)
+    if roll < 0.57:
+        return fault_case(module, chance.choice(PLAIN_FAULTS))
+    if roll < 0.575:
+        return missing_case(chance, module)
+    return random_refused(chance, module, modules, heavy)
+
+
+def extended_pieces(case, chance):
+    """The words of rules and ways to read a report, in pieces that stay together. The rules that are put in keep their
+    order."""
+    pieces = [["--" + name] for name in ("explain", "summary", "needs") if getattr(case, name)]
+    pieces += [joined(chance, "--without", rule) for rule in case.without]
+    kept = [joined(chance, "--with", rule) for rule in case.added]
+    pieces += [None] * len(kept)
+    order = list(range(len(pieces)))
+    chance.shuffle(order)
+    following = iter(kept)
+    return [next(following) if pieces[k] is None else pieces[k] for k in order]
+
+
+def deciding_pieces(case, chance):
+    """The words of questions about all sets, in pieces that stay together."""
+    pieces = [["--" + name] for name in ("atomic", "decide", "enough") if getattr(case, name)]
+    pieces += [["--whole-blocks"]] if case.whole_blocks else []
+    if case.search:
+        pieces.append(joined(chance, "--search", "%d" % case.search))
+    chance.shuffle(pieces)
+    return pieces
+
+
+def around(chance, pieces, words):
+    """The words with some of the pieces before them and the rest after them."""
+    front = chance.randrange(len(pieces) + 1)
+    return sum(pieces[:front], []) + words + sum(pieces[front:], [])
+
+
+def strict_words(case, chance, words):
+    """The words with `--strict` first or last, in nearly half of the cases."""
+    case.strict = not case.missing and chance.random() < 0.45
+    return ["--strict"] + words if case.strict and chance.random() < 0.5 else words + ["--strict"] * case.strict
+
+
+def make_case(seed, index, modules=MODULES, level="all", heavy_share=HEAVY_SHARE):
+    """Case `index` of a seed with options of this level: the case and the words of its command line."""
+    modules = list(modules)
+    chance, more, most = (chance_of(seed, index, *name) for name in ((), ("extended",), ("all",)))
+    case = plain_case(chance, modules, heavy_share)
+    with_more, with_most = level != "plain", level == "all"
+    if with_more and case.is_plain():
+        give_options(case, more, 0.05, extended_fault, extend)
+    if with_most and case.is_plain():
+        give_options(case, most, 0.06, deciding_fault, deciding)
+    words = case.basic_words(chance)
+    if with_more and case.words is None:
+        words = around(more, extended_pieces(case, more), words)
+        words = strict_words(case, chance_of(seed, index, "strict"), words)
+        if with_most:
+            words = around(most, deciding_pieces(case, most), words)
+    return case, words
+
+
+def give_options(case, chance, share, make_fault, give):
+    """Gives a case options, or, in a share of the cases, a command line that is at fault."""
+    if chance.random() < share:
+        case.words = make_fault(chance, case.module)
+        case.wish = "command line"
+    else:
+        give(case, chance)
