@@ -1,0 +1,5 @@
+"""Which options the product of today has. Change it here when later options land."""
+
+LEVEL = "extended"
+"""`plain`: those of the first release. `extended`: also rules, `--explain`, `--summary`, `--needs` and `--strict`.
+`all`: also `--atomic`, `--whole-blocks`, `--decide`, `--enough`, `--search` and rules with `before`."""
