@@ -1,4 +1,4 @@
-"""Bytes that look like chance, the same for the same seed, as crates/test_support makes them."""
+"""Bytes that look random, the same for the same seed, made as the tests in Rust make them."""
 
 
 class Noise:
@@ -8,8 +8,10 @@ class Noise:
         self.state = seed * 0x9E3779B97F4A7C15 % 2 ** 64
 
     def byte(self):
+        """Any byte."""
         self.state = (self.state * 6364136223846793005 + 1442695040888963407) % 2 ** 64
         return self.state >> 56
 
     def below(self, bound):
+        """A number below a bound."""
         return self.byte() % bound

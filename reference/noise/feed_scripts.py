@@ -1,24 +1,6 @@
-#!/usr/bin/env python3
-"""Feeds a program scripts that are no scripts: random bytes, cut and spliced scripts, long lines and long names.
+"""Scripts that are no scripts, with the words of a command line."""
 
-noise.py PROGRAM [--count N] [--seed S] [--jobs J] [--timeout SECONDS] [--reference FILE]
-
-Each run has to end with a report (status 0 or 1, nothing on standard error) or with one named refusal (status 2,
-nothing on standard output). With --reference, a Python module whose `program(words, input, out, err)` answers by the
-definitions, all three have to be what it answers. Prints each mismatch, how often each answer came, and a last line
-`N passed, M failed`.
-"""
-
-import argparse
-import collections
-import concurrent.futures
-import io
 import random
-import re
-import subprocess
-import sys
-
-from reference import load
 
 SCRIPTS = [
     b"start\ncreate /a\n",
@@ -36,11 +18,11 @@ WORDS = [b"start", b"create", b"write", b"link", b"unlink", b"rename", b"mkdir",
 OPERATIONS = [b"create", b"write", b"unlink", b"mkdir", b"rmdir", b"link", b"rename"]
 PATHS = [b"/a", b"/b", b"/d", b"/e", b"/d/x", b"/d/y"]
 LONGEST = 1048576
-REFUSAL = re.compile(rb"crashmap: (line [0-9]+: )?([0-9]+) [A-Za-z0-9 -]+\n")
+"""The most bytes of a script."""
 
 
 def random_bytes(chance):
-    """Bytes of one of three alphabets: all, those of scripts, those of scripts and a few more."""
+    """Bytes of one of three alphabets: all bytes, those of scripts, those of scripts and a few more."""
     alphabet = chance.choice([bytes(range(256)), b"abcdestruhlink/ \nAB#019", b"create /\n\n# \0\r\t\xc3\xa9\xff"])
     length = chance.choice([0, 1, 2, 10, 100, 1000, 20000])
     return bytes(chance.choices(alphabet, k=chance.randrange(length + 1)))
@@ -58,7 +40,7 @@ def piece(chance):
 
 
 def spliced(chance):
-    """Pieces of scripts one behind the other, often behind a beginning, now and then with a byte changed."""
+    """Pieces of scripts in a row, often after a beginning, now and then with a byte changed."""
     head = chance.choice(SCRIPTS)
     script = head[:chance.choice([0, len(head), chance.randrange(len(head))])]
     script = bytearray(script + b"".join(piece(chance) for _ in range(chance.randrange(4))))
@@ -80,7 +62,7 @@ def long_line(chance):
 
 
 def many_lines(chance):
-    """Very many short lines, a few scripts past the longest among them."""
+    """Very many short lines. A few of these scripts are longer than a script may be."""
     count = chance.choice([10, 1000, 30000])
     script = chance.choice([b"\n", b"#\n", b"# x\n", b"end\n", b"create /a\n"]) * count
     if chance.random() < 0.05:
@@ -95,7 +77,7 @@ def wordy(chance):
 
 
 def operations(chance):
-    """Lines that a script may have, on few paths: many are refused only by what stands before them."""
+    """Lines that a script may have, on few paths. Many are refused only because of the lines before them."""
     lines = [b"mkdir /d", b"create /a", b"create /d/x"][:chance.choice([0, 3, 3])]
     for _ in range(chance.randrange(1, 4)):
         name = chance.choice(OPERATIONS)
@@ -118,76 +100,8 @@ def settings(chance):
     return words + ["--json"] * chance.choice([0, 0, 1])
 
 
-def case(seed, number):
+def case_of(seed, index):
     """The kind, the words and the script of one case."""
-    chance = random.Random("%s/%d" % (seed, number))
-    kind = KINDS[number % len(KINDS)]
+    chance = random.Random("%s/%d" % (seed, index))
+    kind = KINDS[index % len(KINDS)]
     return kind.__name__, settings(chance), kind(chance)
-
-
-def wanted(reference, words, script):
-    """Status, standard output and standard error by the definitions."""
-    out, err = io.BytesIO(), io.BytesIO()
-    status = reference.program(words, io.BytesIO(script), out, err)
-    return status, out.getvalue(), err.getvalue()
-
-
-def shape_fault(status, out, err):
-    """What is wrong with an answer, whatever the script was."""
-    if status in (0, 1):
-        return None if out and not err else "a report with an empty output or with an error"
-    if status != 2:
-        return "status %d" % status
-    if out or REFUSAL.fullmatch(err) is None:
-        return "no single named refusal: %r" % err[:200]
-    return None
-
-
-def run_case(program, call, reference, number):
-    """The kind of a case, its answer in a word, and what is wrong with it."""
-    kind, words, script = case(call.seed, number)
-    try:
-        done = subprocess.run([program] + words, input=script, capture_output=True, timeout=call.timeout)
-    except subprocess.TimeoutExpired:
-        return kind, "none", "no answer in %s seconds" % call.timeout
-    got = (done.returncode, done.stdout, done.stderr)
-    fault = shape_fault(*got)
-    if fault is None and reference is not None and got != wanted(reference, words, script):
-        fault = "not the defined answer: status %d, %r" % (done.returncode, done.stderr[:200])
-    told = REFUSAL.fullmatch(done.stderr)
-    return kind, "refusal " + told[2].decode() if told else "report", fault
-
-
-def share(task):
-    """The cases of one process."""
-    program, call, numbers = task
-    reference = load(call.reference) if call.reference else None
-    return [(number,) + run_case(program, call, reference, number) for number in numbers]
-
-
-def main():
-    parser = argparse.ArgumentParser(usage=__doc__)
-    parser.add_argument("program")
-    parser.add_argument("--count", type=int, default=1000)
-    parser.add_argument("--seed", default="1")
-    parser.add_argument("--jobs", type=int, default=1)
-    parser.add_argument("--timeout", type=float, default=120)
-    parser.add_argument("--reference")
-    call = parser.parse_args()
-    shares = [(call.program, call, range(first, min(first + 50, call.count))) for first in range(0, call.count, 50)]
-    answers, failed = collections.Counter(), 0
-    with concurrent.futures.ProcessPoolExecutor(call.jobs) as pool:
-        for results in pool.map(share, shares):
-            for number, kind, answer, fault in results:
-                answers[kind + ": " + answer] += 1
-                failed += fault is not None
-                if fault is not None:
-                    print("case %d (%s): %s" % (number, kind, fault))
-    for answer in sorted(answers):
-        print("%6d  %s" % (answers[answer], answer))
-    print("%d passed, %d failed" % (call.count - failed, failed))
-    return 1 if failed or not call.count else 0
-
-
-if __name__ == "__main__":
-    sys.exit(main())
