@@ -69,7 +69,7 @@ def one_of(values):
 
 def parser_of_words():
     """The parser with all options."""
-    parser = Parser(prog="reference", allow_abbrev=False)
+    parser = Parser(prog="reference", allow_abbrev=False, add_help=False)
     parser.add_argument("script", nargs="?", metavar="SCRIPT")
     for name, (default, low, high) in NUMBERS.items():
         parser.add_argument("--" + name, default=default, action=once(number_between(low, high)))
