@@ -160,7 +160,7 @@ def program(words, standard_input, out, err, answered=answer):
         err.write((refusal.printed() + "\n").encode())
         return 2
     except TooMuch as fault:
-        err.write(("reference: %s, which is too much for the reference\n" % fault).encode())
+        err.write(("reference: too much to enumerate: %s\n" % fault).encode())
         return TOO_MUCH
     out.write(text.encode())
     return 1 if failing else 0

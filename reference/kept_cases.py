@@ -6,7 +6,7 @@ import sys
 
 from .command_line import TOO_MUCH
 from .kept import TOP, Value
-from .runs import first_difference, run_reference
+from .runs import first_difference, run_reference, run_second_way
 
 NOT_ANSWERED = {"--help", "-h", "--version", "-V"}
 """Words that ask about the program itself. The reference has no answer to them."""
@@ -24,7 +24,7 @@ def case_files():
 def problem_of(case, run):
     """What is wrong with a case, or None."""
     if run.status == TOO_MUCH:
-        return "is too much for the reference: %s" % run.err.decode().strip()
+        return run.err.decode().strip()
     if run.status != case.status:
         return "status: keeps %d, wanted %d" % (case.status, run.status)
     if not case.has_output(run.out):
@@ -55,6 +55,8 @@ def case_value(module, path):
     if NOT_ANSWERED & set(case.words):
         return None
     run = run_reference(case.words, case.script)
+    if run.status == TOO_MUCH:
+        run = run_second_way(case.words, case.script)
     return Value(name, problem_of(case, run), lambda: module.write_case(path, remade(case, run)))
 
 

@@ -6,6 +6,7 @@ import subprocess
 from collections import namedtuple
 
 from .command_line import program
+from .second_way.decide import answer as second_answer
 
 Run = namedtuple("Run", "status out err")
 """The exit status, standard output and standard error."""
@@ -15,6 +16,13 @@ def run_reference(words, script):
     """What the reference answers to the words with these bytes on standard input."""
     out, err = io.BytesIO(), io.BytesIO()
     status = program(list(words), io.BytesIO(script), out, err)
+    return Run(status, out.getvalue(), err.getvalue())
+
+
+def run_second_way(words, script):
+    """What the second way answers, which does not enumerate, to the questions that it takes."""
+    out, err = io.BytesIO(), io.BytesIO()
+    status = program(list(words), io.BytesIO(script), out, err, second_answer)
     return Run(status, out.getvalue(), err.getvalue())
 
 
