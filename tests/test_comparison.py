@@ -1,0 +1,100 @@
+"""The built program answers random cases as the reference does, by both explorers and with one and four workers."""
+
+import pathlib
+import sys
+import unittest
+
+HERE = pathlib.Path(__file__).resolve().parent
+sys.path[:0] = [str(HERE.parent), str(HERE)]
+
+from program import program
+from reference.compare import Plan, compare, run_case
+from reference.level import LEVEL
+from reference.runs import Run, differences
+
+CASES = 400
+SEED = "gate"
+JOBS = 4
+
+REPORT = 17
+"""The number of a case of the seed that is a short report in text."""
+
+
+class TheProgram(unittest.TestCase):
+    """The built program."""
+
+    def test_answers_random_cases_as_the_reference(self):
+        self.assertTrue(program().exists(), "%s is not built" % program())
+        results = compare(Plan((str(program()),), SEED, LEVEL, (1, 4), 120), CASES, JOBS)
+        differing = ["case %d, %s: %s" % (one.index, " ".join(one.words), one.differences)
+                     for one in results if one.differences]
+        self.assertEqual(differing, [])
+        self.assertEqual(len(results), CASES)
+        self.assertGreater(sum(one.runs for one in results), 3 * CASES)
+
+
+class TheComparison(unittest.TestCase):
+    """A program that answers wrongly is found."""
+
+    def compared(self, mode, timeout=60):
+        """The differences of a stub from the reference, on one case."""
+        stub = (sys.executable, str(HERE / "helpers" / "wrong_program.py"), mode)
+        result = run_case(Plan(stub, SEED, LEVEL, (1, 4), timeout), REPORT)
+        self.assertEqual(result.runs, 4)
+        return result.differences
+
+    def ways(self, mode, timeout=60):
+        """The ways to run the case in which the stub differs."""
+        return sorted(set(one.split(":")[0] for one in self.compared(mode, timeout)))
+
+    def test_finds_nothing_wrong_with_a_right_program(self):
+        self.assertEqual(self.compared("right"), [])
+
+    def test_finds_a_program_that_says_nothing(self):
+        self.assertEqual(len(self.ways("silent")), 4)
+
+    def test_finds_another_status(self):
+        self.assertEqual(len(self.ways("status")), 4)
+
+    def test_finds_more_on_standard_error(self):
+        self.assertEqual(len(self.ways("errors")), 4)
+
+    def test_finds_a_wrong_explorer(self):
+        self.assertEqual(self.ways("sweep"), ["--explorer sweep --workers 1", "--explorer sweep --workers 4"])
+
+    def test_finds_a_wrong_number_of_workers(self):
+        self.assertEqual(self.ways("workers"), ["--explorer board --workers 4", "--explorer sweep --workers 4"])
+
+    def test_finds_a_program_that_does_not_end(self):
+        found = self.compared("slow", 0.2)
+        self.assertEqual(len(found), 4)
+        self.assertTrue(all("no answer in time" in one for one in found))
+
+
+class Differences(unittest.TestCase):
+    """What is said of two runs that differ."""
+
+    def test_equal_runs_do_not_differ(self):
+        self.assertEqual(differences(Run(1, b"a\n", b""), Run(1, b"a\n", b"")), [])
+
+    def test_the_first_line_that_differs_is_named(self):
+        self.assertEqual(differences(Run(0, b"a\nc\n", b""), Run(0, b"a\nb\n", b"")),
+                         ["standard output: line 2: got b'c', wanted b'b'"])
+
+    def test_missing_lines_are_found(self):
+        self.assertEqual(differences(Run(0, b"a", b""), Run(0, b"a\n", b"")),
+                         ["standard output: got 1 lines, wanted 2"])
+
+    def test_the_place_in_json_is_named(self):
+        self.assertEqual(differences(Run(0, b'{"a":[1,{"b":2}]}', b""), Run(0, b'{"a":[1,{"b":3}]}', b"")),
+                         ["standard output: .a[1].b: got 2, wanted 3"])
+
+    def test_json_that_is_written_in_another_way_is_found(self):
+        self.assertEqual(len(differences(Run(0, b'{"a": 1}', b""), Run(0, b'{"a":1}', b""))), 1)
+
+    def test_true_is_not_one(self):
+        self.assertEqual(len(differences(Run(0, b'{"a":1}', b""), Run(0, b'{"a":true}', b""))), 1)
+
+    def test_a_fault_of_the_command_line_says_something(self):
+        self.assertEqual(differences(Run(2, b"", b""), Run(2, b"", b"x"), False), ["standard error is empty"])
+        self.assertEqual(differences(Run(2, b"", b"y"), Run(2, b"", b"x"), False), [])
