@@ -1,0 +1,116 @@
+"""Ways to read a report: with patches, by faults, and by rules."""
+
+import unittest
+
+from ..rules import PARTS, SOFT_RULES
+from .support import (
+    BLOCK_REUSE, CREATE, CREATE_WRITE, DANGLING, DIRECTORY_REUSE, MARKED_FREE, META_WORDS, UNWRITTEN, answered,
+    lines, plain_report, run, whole)
+
+
+class Readings(unittest.TestCase):
+    """What `--explain` and `--summary` show, and rules that are put in and taken out."""
+
+    def test_a_create_with_its_patches(self):
+        wanted_text = lines("module async", "patches 2", "closed 4", "failing 1",
+            "patch 0 line 2 create /a: InodeInit block 2 offset 16 length 16",
+            "patch 1 line 2 create /a: EntrySet block 4 offset 8 length 12", "set 1", "write block 4: 1", "fault "
+            + DANGLING)
+        self.assertEqual(answered(CREATE, "--module async --explain"), (wanted_text, 1))
+        wanted_json = ('{"base":["5310' + "0" * 252 + '","0101010101' + "0" * 246 + '","0201000004' + "0" * 246
+            + '","' + "0" * 256 + '","4400' + "0" * 252 + '"' + (',"' + "0" * 256 + '"') * 11
+            + '],"closed":4,"failing":[{"faults":["' + DANGLING
+            +
+            '"],"replay":[],"set":[1],"writes":[{"block":4,"patches":[1]}]}],"module":"async","patches":2,'
+            '"trace":[{"after":[],"block":2,"line":2,"new":"01010000000000000000000000000000","offset":16,'
+            '"part":"InodeInit","step":"create /a","undo":"00000000000000000000000000000000"},{"after":[],'
+            '"block":4,"line":2,"new":"020161000000000000000000","offset":8,"part":"EntrySet","step":"create '
+            '/a","undo":"000000000000000000000000"}]}\n')
+        self.assertEqual(answered(CREATE, "--module async --explain --json"), (wanted_json, 1))
+
+    def test_groups_are_reasons(self):
+        self.assertEqual(answered("start ; group A ; create /a ; end ; depend B A ; group B ; write /a", "--explain"),
+            (lines("module soft", "patches 5", "closed 6", "failing 0",
+            "patch 0 line 3 create /a: InodeInit block 2 offset 16 length 16",
+            "patch 1 line 3 create /a: EntrySet block 4 offset 8 length 12", "after 0: EntrySet:InodeInit",
+            "patch 2 line 7 write /a: MapSet block 1 offset 5 length 1", "after 0: group", "after 1: group",
+            "patch 3 line 7 write /a: InitFile block 5 offset 0 length 128", "after 0: group", "after 1: group",
+            "after 2: InitFile:MapSet", "patch 4 line 7 write /a: Ptr block 2 offset 20 length 1",
+            "after 0: overlap, group", "after 1: group", "after 2: Ptr:MapSet", "after 3: Ptr:InitFile"), 0))
+
+    def test_a_journal_with_its_patches_and_replay(self):
+        text, status = answered(DIRECTORY_REUSE, META_WORDS, "--explain")
+        self.assertEqual(text.split("\n")[4:13], ["patch 0 line 5 unlink /d/x: Copy block 5 offset 0 length 128",
+            "patch 1 line 5 unlink /d/x: Copy block 6 offset 0 length 128",
+            "patch 2 line 5 unlink /d/x: Commit block 4 offset 0 length 5", "after 0: Commit:Copy",
+            "after 1: Commit:Copy", "patch 3 line 5 unlink /d/x: EntryClear block 17 offset 8 length 12",
+            "after 2: InPlace:Commit", "patch 4 line 5 unlink /d/x: InodeFree block 2 offset 32 length 16",
+            "after 2: InPlace:Commit"])
+        for rows in (("patch 14 line 7 write /f: FileData block 17 offset 0 length 128", "after 3: overlap",
+            "after 9: FileData:previous-Commit", "patch 15 line 7 write /f: Copy block 12 offset 0 length 128"), (
+            "patch 20 line 7 write /f: Done block 11 offset 0 length 1", "after 13: Done:previous-Done",
+            "after 17: overlap", "after 18: Done:InPlace", "after 19: Done:InPlace")):
+            self.assertEqual(lines(*rows) in text, True)
+        self.assertEqual("set " + text.split("\nset ")[1] + "\n", first_set + whole(lines("replay block 2: 0201000010"
+            + "00" * 43 + "0101000011~", "replay block 16: 44" + "00" * 19 + "040166~", "replay block 17: 4401~"))
+            + "fault " + first_fault + "\n")
+        self.assertEqual("".join((line for line in text.splitlines(True) if line.split()[0] not in ("patch", "after",
+            "replay"))), plain_report)
+        self.assertEqual(status, 1)
+
+    def test_a_journal_by_faults(self):
+        self.assertEqual(answered(DIRECTORY_REUSE, META_WORDS, "--summary"), (lines("module meta", "patches 21",
+            "closed 629", "failing 48", "fault 3 unwritten pointer: inode 3 slot 0 block 17", "sets 48") + first_set,
+            1))
+
+    def test_a_written_file_by_faults(self):
+        self.assertEqual(answered(CREATE_WRITE, "--module async --summary"), (lines("module async", "patches 5",
+            "closed 24", "failing 10", "fault " + DANGLING, "sets 4", "set 1", "write block 4: 1", "fault "
+            + UNWRITTEN, "sets 4", "set 0 4", "write block 2: 0 4", "fault " + MARKED_FREE, "sets 4", "set 0 4",
+            "write block 2: 0 4"), 1))
+        self.assertEqual(answered(CREATE_WRITE, "--module async --summary --json"), (
+            '{"closed":24,"faults":[{"fault":"' + DANGLING
+            + '","set":[1],"sets":4,"writes":[{"block":4,"patches":[1]}]},{"fault":"' + UNWRITTEN
+            + '","set":[0,4],"sets":4,"writes":[{"block":2,"patches":[0,4]}]},{"fault":"' + MARKED_FREE
+            +
+            '","set":[0,4],"sets":4,"writes":[{"block":2,"patches":[0,4]}]}],"module":"async","patches":5,'
+            '"sets":10}\n', 1))
+        self.assertEqual(answered("start", "--module async --summary --json"), (
+            '{"closed":1,"faults":[],"module":"async","patches":0,"sets":0}\n', 0))
+
+    def test_rules_put_in_and_taken_out(self):
+        self.assertEqual(answered(BLOCK_REUSE, "--module async", *("--with " + rule for rule in SOFT_RULES)), (lines(
+            "module async", *("with " + rule for rule in SOFT_RULES)) + lines("patches 6", "closed 7", "failing 0"),
+            0))
+        self.assertEqual(answered(BLOCK_REUSE, *("--without " + rule for rule in reversed(SOFT_RULES))), (lines(
+            "module soft", *("without " + rule for rule in SOFT_RULES)) + run(BLOCK_REUSE)[0].split("\n", 1)[1], 1))
+
+    def test_data_that_waits_for_done_is_safe(self):
+        self.assertEqual(answered(DIRECTORY_REUSE, META_WORDS, "--with FileData:previous-Done"), (lines("module meta",
+            "with FileData:previous-Done", "patches 21", "closed 461", "failing 0"), 0))
+
+    def test_needs_of_rules_that_are_put_in(self):
+        self.assertEqual(answered(CREATE_WRITE, "--module async --with Ptr:MapSet --with EntrySet:InodeInit --needs"),
+            (lines("module async", "with Ptr:MapSet", "with EntrySet:InodeInit", "patches 5", "closed 16",
+            "failing 2", "rule Ptr:MapSet pairs 1 closed 20 failing 6", "set 0 4", "write block 2: 0 4", "fault "
+            + UNWRITTEN, "fault " + MARKED_FREE, "rule EntrySet:InodeInit pairs 1 closed 20 failing 6", "set 1",
+            "write block 4: 1", "fault " + DANGLING), 1))
+
+    def test_the_order_of_rules_in_a_report(self):
+        self.assertEqual(answered(CREATE,
+            "--without Ptr:MapSet --with Ptr:previous-Ptr --without EntrySet:Ptr --with Done:Done --json"), (
+            '{"closed":3,"failing":[],"module":"soft","patches":2,"with":["Ptr:previous-Ptr","Done:Done"],'
+            '"without":["EntrySet:Ptr","Ptr:MapSet"]}\n', 0))
+        self.assertEqual(answered(CREATE, "--with EntrySet:InodeInit"), run(CREATE, module="soft"))
+
+    def test_rules_that_are_none(self):
+        for words in ("--module async --without EntrySet:InodeInit", "--module meta --without EntrySet:InodeInit",
+            "--without Ptr:Ptr", "--with Ptr:Ptr --with Ptr:Ptr", "--without Ptr:MapSet --without Ptr:MapSet",
+            "--without Ptr:MapSet --with Ptr:MapSet", "--with Ptr", "--with Data:Copy", "--with ptr:Ptr",
+            "--with Ptr:same-Ptr", "--with Ptr:previous-", "--with=", "--with", "--needs --summary", " ".join((
+            "--with %s:previous-InPlace" % part for part in PARTS)) + " --with Ptr:Ptr"):
+            self.assertEqual(answered("start", words), ("", 2))
+
+    def test_sixteen_rules_can_be_put_in(self):
+        self.assertEqual((len(PARTS), answered("start", *("--with %s:previous-InPlace" % part for part in PARTS))[1]),
+            (16, 0))
