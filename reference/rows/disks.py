@@ -3,30 +3,64 @@
 import itertools
 import unittest
 
+from ..closed_sets import ids_of
 from ..disk import formatted
 from ..faults import faults, is_clean
 from ..replay import build, replayed
+from ..script import disks_after, read_script
 from .support import (
-    CREATE, DIRECTORY_REUSE, FULL, META, by_commits_held, image_with, padded, parts, patch_row, planned, step,
-    unbuild)
+    CREATE, DIRECTORY_REUSE, FULL, META, by_commits_held, image_with, padded, parts, patch_row, planned,
+    script_of, step, unbuild)
 
-COMMON_TABLE = {0: ("Copy", 5, 0, None, []), 1: ("Copy", 6, 0, None, []), 2: ("Commit", 4, 0, "C701020211", [0, 1]),
-    3: ("EntryClear", 17, 8, "00" * 12, [2]), 4: ("InodeFree", 2, 32, "00" * 16, [2]), 5: ("Done", 4, 0, "C8", [2, 3,
-    4]), 6: ("Copy", 8, 0, None, []), 7: ("Copy", 9, 0, None, []), 8: ("Copy", 10, 0, None, []), 9: ("Commit", 7, 0,
-    "C7020301 0210".replace(" ", ""), [2, 6, 7, 8]), 10: ("EntryClear", 16, 8, "00" * 12, [9]), 11: ("InodeFree", 2,
-    16, "00" * 16, [9]), 12: ("MapClear", 1, 17, "00", [9]), 13: ("Done", 7, 0, "C8", [5, 9, 10, 11, 12])}
+# For each patch: part, block, offset, bytes or None where they are a copy of a block, and dependencies.
+COMMON_TABLE = {
+    0: ("Copy", 5, 0, None, []), 1: ("Copy", 6, 0, None, []),
+    2: ("Commit", 4, 0, "C701020211", [0, 1]),
+    3: ("EntryClear", 17, 8, "00" * 12, [2]), 4: ("InodeFree", 2, 32, "00" * 16, [2]),
+    5: ("Done", 4, 0, "C8", [2, 3, 4]),
+    6: ("Copy", 8, 0, None, []), 7: ("Copy", 9, 0, None, []), 8: ("Copy", 10, 0, None, []),
+    9: ("Commit", 7, 0, "C70203010210", [2, 6, 7, 8]),
+    10: ("EntryClear", 16, 8, "00" * 12, [9]), 11: ("InodeFree", 2, 16, "00" * 16, [9]),
+    12: ("MapClear", 1, 17, "00", [9]),
+    13: ("Done", 7, 0, "C8", [5, 9, 10, 11, 12]),
+}
 META_TABLE = dict(COMMON_TABLE)
-META_TABLE.update({14: ("FileData", 17, 0, "4603" + "00" * 126, [3, 9]), 15: ("Copy", 12, 0, None, []), 16: ("Copy",
-    13, 0, None, []), 17: ("Commit", 11, 0, "C703020102", [9, 14, 15, 16]), 18: ("MapSet", 1, 17, "01", [12, 17]),
-    19: ("Ptr", 2, 52, "11", [17]), 20: ("Done", 11, 0, "C8", [13, 17, 18, 19])})
+META_TABLE.update({
+    14: ("FileData", 17, 0, "4603" + "00" * 126, [3, 9]),
+    15: ("Copy", 12, 0, None, []), 16: ("Copy", 13, 0, None, []),
+    17: ("Commit", 11, 0, "C703020102", [9, 14, 15, 16]),
+    18: ("MapSet", 1, 17, "01", [12, 17]), 19: ("Ptr", 2, 52, "11", [17]),
+    20: ("Done", 11, 0, "C8", [13, 17, 18, 19]),
+})
 FULL_TABLE = dict(COMMON_TABLE)
-FULL_TABLE.update({14: ("Copy", 12, 0, None, []), 15: ("Copy", 13, 0, None, []), 16: ("Copy", 14, 0, None, []), 17: (
-    "Commit", 11, 0, "C70303010211", [9, 14, 15, 16]), 18: ("MapSet", 1, 17, "01", [12, 17]), 19: ("InitFile", 17, 0,
-    "4603" + "00" * 126, [3, 17]), 20: ("Ptr", 2, 52, "11", [17]), 21: ("Done", 11, 0, "C8", [13, 17, 18, 19, 20])})
+FULL_TABLE.update({
+    14: ("Copy", 12, 0, None, []), 15: ("Copy", 13, 0, None, []), 16: ("Copy", 14, 0, None, []),
+    17: ("Commit", 11, 0, "C70303010211", [9, 14, 15, 16]),
+    18: ("MapSet", 1, 17, "01", [12, 17]), 19: ("InitFile", 17, 0, "4603" + "00" * 126, [3, 17]),
+    20: ("Ptr", 2, 52, "11", [17]), 21: ("Done", 11, 0, "C8", [13, 17, 18, 19, 20]),
+})
 
 
 class Disks(unittest.TestCase):
     """Bytes in their places."""
+
+    def check_table(self, found, table):
+        """The patches are those of the table."""
+        self.assertEqual(len(found.patches), len(table))
+        for k, (part, block, offset, text, deps) in table.items():
+            patch = found.patches[k]
+            self.assertEqual((patch.part, patch.block, patch.offset, ids_of(patch.deps)), (part, block, offset, deps))
+            if text is not None:
+                self.assertEqual(patch.new, bytes.fromhex(text))
+
+    def check_copies(self, found, rows):
+        """Each copy is the block that it is of, as it is after the operation."""
+        disks = disks_after(found.base, read_script(script_of(rows)).traced)
+        for number, disk in enumerate(disks[1:], 1):
+            mine = [patch for patch in found.patches if patch.operation == number]
+            commit = [patch for patch in mine if patch.part == "Commit"][0]
+            copies = [patch.new for patch in mine if patch.part == "Copy"]
+            self.assertEqual(copies, [disk.block(target) for target in commit.new[3:]])
 
     def test_a_directory_with_a_file(self):
         image = formatted(16, 0)

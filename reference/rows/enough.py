@@ -188,6 +188,7 @@ class WhichAreEnough(unittest.TestCase):
             "enough 0"), 1))
 
     def test_the_metadata_journal_with_one_rule_more(self):
+        decision = answered(DIRECTORY_REUSE, META_WORDS, "--decide")[0]
         head = ["module meta", "with FileData:previous-Done", "patches 21", "closed 461", "enough 1",
             "rules Commit:Copy Commit:FileData Commit:previous-Commit InPlace:Commit Done:InPlace "
             "Done:previous-Done FileData:previous-Done"]

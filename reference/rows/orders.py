@@ -64,6 +64,7 @@ class Orders(unittest.TestCase):
         self.assertEqual(counts(RENAME, module="soft")[1:], (5, 0))
 
     def test_a_block_that_another_file_gets(self):
+        found = parts(BLOCK_REUSE)
         self.assertEqual(counts(BLOCK_REUSE), (6, 48, 36))
         self.assertEqual((ids_of(found.failing[0].patch_set), found.failing[0].faults), ([1], [DANGLING]))
         five = [one for one in found.failing if ids_of(one.patch_set) == [5]]

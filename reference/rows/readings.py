@@ -5,7 +5,7 @@ import unittest
 from ..rules import PARTS, SOFT_RULES
 from .support import (
     BLOCK_REUSE, CREATE, CREATE_WRITE, DANGLING, DIRECTORY_REUSE, MARKED_FREE, META_WORDS, UNWRITTEN, answered,
-    lines, plain_report, run, whole)
+    lines, reuse_report, run, whole)
 
 
 class Readings(unittest.TestCase):
@@ -39,6 +39,7 @@ class Readings(unittest.TestCase):
             "after 0: overlap, group", "after 1: group", "after 2: Ptr:MapSet", "after 3: Ptr:InitFile"), 0))
 
     def test_a_journal_with_its_patches_and_replay(self):
+        report_text, first_set, first_fault = reuse_report()
         text, status = answered(DIRECTORY_REUSE, META_WORDS, "--explain")
         self.assertEqual(text.split("\n")[4:13], ["patch 0 line 5 unlink /d/x: Copy block 5 offset 0 length 128",
             "patch 1 line 5 unlink /d/x: Copy block 6 offset 0 length 128",
@@ -55,10 +56,11 @@ class Readings(unittest.TestCase):
             + "00" * 43 + "0101000011~", "replay block 16: 44" + "00" * 19 + "040166~", "replay block 17: 4401~"))
             + "fault " + first_fault + "\n")
         self.assertEqual("".join((line for line in text.splitlines(True) if line.split()[0] not in ("patch", "after",
-            "replay"))), plain_report)
+            "replay"))), report_text)
         self.assertEqual(status, 1)
 
     def test_a_journal_by_faults(self):
+        first_set = reuse_report()[1]
         self.assertEqual(answered(DIRECTORY_REUSE, META_WORDS, "--summary"), (lines("module meta", "patches 21",
             "closed 629", "failing 48", "fault 3 unwritten pointer: inode 3 slot 0 block 17", "sets 48") + first_set,
             1))

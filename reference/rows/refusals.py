@@ -87,7 +87,7 @@ class Refusals(unittest.TestCase):
         self.assertEqual(run(b"#\xff\n"), refused("crashmap: line 1: 40 not UTF-8"))
 
     def test_lines_that_are_none(self):
-        for line in (b'start\r", b"start x", b" start", b"create", b"create a b", b"group ABCDEFGHIJK'):
+        for line in (b"start\r", b"start x", b" start", b"create", b"create a b", b"group ABCDEFGHIJK"):
             self.assertEqual(run(line + b"\n"), refused("crashmap: line 1: 41 bad line"))
 
     def test_paths_that_are_none(self):

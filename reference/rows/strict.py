@@ -5,8 +5,8 @@ import unittest
 from ..closed_sets import ids_of
 from .support import (
     BARE, CREATE, CREATE_BESIDE, DANGLING, DIRECTORY_REUSE, LINK_UNLINK, LOST, LOW, META_WORDS, MKDIR, RENAME,
-    RENAME_IN, RENAME_MKDIR, RENAME_OUT, UNLINK_CREATE, answered, counts, failing_ids, lines, parts,
-    plain_report, program, script_of)
+    RENAME_IN, RENAME_MKDIR, RENAME_OUT, UNLINK_CREATE, answered, counts, failing_ids, lines, parts, program,
+    reuse_report, script_of)
 
 
 class Strict(unittest.TestCase):
@@ -110,7 +110,8 @@ class Strict(unittest.TestCase):
             "EntryClear:EntrySet",)), (6, 12, 0))
 
     def test_the_metadata_journal_loses_nothing_more(self):
-        self.assertEqual(answered(DIRECTORY_REUSE, META_WORDS, "--strict"), (plain_report.replace("module meta\n",
+        report_text = reuse_report()[0]
+        self.assertEqual(answered(DIRECTORY_REUSE, META_WORDS, "--strict"), (report_text.replace("module meta\n",
             "module meta\nstrict\n"), 1))
 
     def test_a_commit_before_its_copies_loses_the_root(self):

@@ -187,7 +187,7 @@ def needs_table(rows, *words):
               one["first"]["set"] if "first" in one else None) for one in value["rules"]])
 
 
-def plain_report():
+def reuse_report():
     """The report of directory block reuse under the metadata journal, and its first set and fault."""
     text = run(DIRECTORY_REUSE, **META)[0]
     return (text, *re.match(r"(.*?)fault (.*?)\n", text.split("failing 48\n")[1], re.S).groups())
