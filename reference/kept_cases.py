@@ -63,7 +63,7 @@ def case_value(module, path):
 def cases():
     """The case files."""
     if not (TOP / "cases").exists():
-        return []
+        return [Value("cases", "is missing", None)]
     module = case_files()
     values = [case_value(module, path) for path in module.case_paths(TOP / "cases")]
     return [value for value in values if value is not None]

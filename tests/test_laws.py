@@ -1,5 +1,7 @@
 """The laws of the reference on a few random cases."""
 
+import contextlib
+import io
 import pathlib
 import sys
 import unittest
@@ -24,8 +26,10 @@ class TheLaws(unittest.TestCase):
 
     def test_count_what_differs(self):
         laws = Laws()
-        laws.check("one", 1, 1)
-        laws.check("one", 1, 2)
+        with contextlib.redirect_stdout(io.StringIO()) as out:
+            laws.check("one", 1, 1)
+            laws.check("one", 1, 2)
+        self.assertEqual(out.getvalue(), "one\n  got    1\n  wanted 2\n")
         self.assertEqual((laws.done["one"], laws.failed), (2, 1))
 
 
