@@ -1,29 +1,50 @@
 """What each rule of an ordering is needed for."""
 
-import unittest
 
 from ..closed_sets import ids_of
 from ..rules import JOURNAL_RULES, SOFT_RULES
 from .support import (
     BLOCK_REUSE, CREATE, CREATE_IN_DIRECTORY, CREATE_LINK, CREATE_WRITE, DANGLING, DIRECTORY_REUSE,
-    FIVE_OPERATIONS, MARKED_FREE, META_WORDS, UNWRITTEN, WRITE, answered, counts, lines, needs_table, parts,
-    program, script_of)
+    FIVE_OPERATIONS, META_WORDS, Rows, WRITE, answered, counts, lines, needs_table, parts, program, script_of)
 
 
-class Needs(unittest.TestCase):
+class Needs(Rows):
     """What `--needs` shows."""
 
     def test_the_rules_of_a_block_that_another_file_gets(self):
-        self.assertEqual(answered(BLOCK_REUSE, "--needs"), (lines("module soft", "patches 6", "closed 7", "failing 0",
-            "rule EntrySet:InodeInit pairs 0", "rule EntrySet:LinkUp pairs 0", "rule EntrySet:Ptr pairs 0",
-            "rule InitFile:MapSet pairs 1 closed 11 failing 2", "set 4", "write block 5: 4", "fault " + UNWRITTEN,
-            "rule InitDir:MapSet pairs 0", "rule Ptr:InitFile pairs 1 closed 8 failing 1", "set 0 1 2 3 5",
-            "write block 4: 0", "write block 2: 1", "write block 1: 2 3", "write block 2: 5",
-            "fault 3 unwritten pointer: inode 2 slot 0 block 5", "rule Ptr:InitDir pairs 0",
-            "rule Ptr:MapSet pairs 1 closed 7 failing 0", "rule LinkDown:EntryClear pairs 0",
-            "rule InodeFree:EntryClear pairs 1 closed 12 failing 5", "set 1", "write block 2: 1", "fault " + DANGLING,
-            "rule MapClear:InodeFree pairs 1 closed 15 failing 6", "set 2", "write block 1: 2", "fault "
-            + MARKED_FREE, "rule EntryClear:EntrySet pairs 0"), 0))
+        self.answers(BLOCK_REUSE, "--needs", 0, """
+            module soft
+            patches 6
+            closed 7
+            failing 0
+            rule EntrySet:InodeInit pairs 0
+            rule EntrySet:LinkUp pairs 0
+            rule EntrySet:Ptr pairs 0
+            rule InitFile:MapSet pairs 1 closed 11 failing 2
+            set 4
+            write block 5: 4
+            fault 3 unwritten pointer: inode 1 slot 0 block 5
+            rule InitDir:MapSet pairs 0
+            rule Ptr:InitFile pairs 1 closed 8 failing 1
+            set 0 1 2 3 5
+            write block 4: 0
+            write block 2: 1
+            write block 1: 2 3
+            write block 2: 5
+            fault 3 unwritten pointer: inode 2 slot 0 block 5
+            rule Ptr:InitDir pairs 0
+            rule Ptr:MapSet pairs 1 closed 7 failing 0
+            rule LinkDown:EntryClear pairs 0
+            rule InodeFree:EntryClear pairs 1 closed 12 failing 5
+            set 1
+            write block 2: 1
+            fault 1 dangling entry: directory 0 entry 0 inode 1
+            rule MapClear:InodeFree pairs 1 closed 15 failing 6
+            set 2
+            write block 1: 2
+            fault 5 used block marked free: inode 1 slot 0 block 5
+            rule EntryClear:EntrySet pairs 0
+            """)
 
     def test_the_rules_of_five_operations(self):
         numbers = [(2, 312, 24, [6]), (1, 408, 14, [0, 1, 2, 3, 11]), (1, 379, 0, None), (1, 360, 0, None), (1, 394,

@@ -1,14 +1,13 @@
 """Ways to read a report: with patches, by faults, and by rules."""
 
-import unittest
 
 from ..rules import PARTS, SOFT_RULES
 from .support import (
-    BLOCK_REUSE, CREATE, CREATE_WRITE, DANGLING, DIRECTORY_REUSE, MARKED_FREE, META_WORDS, UNWRITTEN, answered,
-    lines, reuse_report, run, whole)
+    BLOCK_REUSE, CREATE, CREATE_WRITE, DANGLING, DIRECTORY_REUSE, MARKED_FREE, META_WORDS, Rows, UNWRITTEN,
+    answered, lines, reuse_report, run, whole)
 
 
-class Readings(unittest.TestCase):
+class Readings(Rows):
     """What `--explain` and `--summary` show, and rules that are put in and taken out."""
 
     def test_a_create_with_its_patches(self):
@@ -29,14 +28,27 @@ class Readings(unittest.TestCase):
         self.assertEqual(answered(CREATE, "--module async --explain --json"), (wanted_json, 1))
 
     def test_groups_are_reasons(self):
-        self.assertEqual(answered("start ; group A ; create /a ; end ; depend B A ; group B ; write /a", "--explain"),
-            (lines("module soft", "patches 5", "closed 6", "failing 0",
-            "patch 0 line 3 create /a: InodeInit block 2 offset 16 length 16",
-            "patch 1 line 3 create /a: EntrySet block 4 offset 8 length 12", "after 0: EntrySet:InodeInit",
-            "patch 2 line 7 write /a: MapSet block 1 offset 5 length 1", "after 0: group", "after 1: group",
-            "patch 3 line 7 write /a: InitFile block 5 offset 0 length 128", "after 0: group", "after 1: group",
-            "after 2: InitFile:MapSet", "patch 4 line 7 write /a: Ptr block 2 offset 20 length 1",
-            "after 0: overlap, group", "after 1: group", "after 2: Ptr:MapSet", "after 3: Ptr:InitFile"), 0))
+        self.answers("start ; group A ; create /a ; end ; depend B A ; group B ; write /a", "--explain", 0, """
+            module soft
+            patches 5
+            closed 6
+            failing 0
+            patch 0 line 3 create /a: InodeInit block 2 offset 16 length 16
+            patch 1 line 3 create /a: EntrySet block 4 offset 8 length 12
+            after 0: EntrySet:InodeInit
+            patch 2 line 7 write /a: MapSet block 1 offset 5 length 1
+            after 0: group
+            after 1: group
+            patch 3 line 7 write /a: InitFile block 5 offset 0 length 128
+            after 0: group
+            after 1: group
+            after 2: InitFile:MapSet
+            patch 4 line 7 write /a: Ptr block 2 offset 20 length 1
+            after 0: overlap, group
+            after 1: group
+            after 2: Ptr:MapSet
+            after 3: Ptr:InitFile
+            """)
 
     def test_a_journal_with_its_patches_and_replay(self):
         report_text, first_set, first_fault = reuse_report()
@@ -66,10 +78,24 @@ class Readings(unittest.TestCase):
             1))
 
     def test_a_written_file_by_faults(self):
-        self.assertEqual(answered(CREATE_WRITE, "--module async --summary"), (lines("module async", "patches 5",
-            "closed 24", "failing 10", "fault " + DANGLING, "sets 4", "set 1", "write block 4: 1", "fault "
-            + UNWRITTEN, "sets 4", "set 0 4", "write block 2: 0 4", "fault " + MARKED_FREE, "sets 4", "set 0 4",
-            "write block 2: 0 4"), 1))
+        self.answers(CREATE_WRITE, "--module async --summary", 1, """
+            module async
+            patches 5
+            closed 24
+            failing 10
+            fault 1 dangling entry: directory 0 entry 0 inode 1
+            sets 4
+            set 1
+            write block 4: 1
+            fault 3 unwritten pointer: inode 1 slot 0 block 5
+            sets 4
+            set 0 4
+            write block 2: 0 4
+            fault 5 used block marked free: inode 1 slot 0 block 5
+            sets 4
+            set 0 4
+            write block 2: 0 4
+            """)
         self.assertEqual(answered(CREATE_WRITE, "--module async --summary --json"), (
             '{"closed":24,"faults":[{"fault":"' + DANGLING
             + '","set":[1],"sets":4,"writes":[{"block":4,"patches":[1]}]},{"fault":"' + UNWRITTEN
@@ -88,15 +114,32 @@ class Readings(unittest.TestCase):
             "module soft", *("without " + rule for rule in SOFT_RULES)) + run(BLOCK_REUSE)[0].split("\n", 1)[1], 1))
 
     def test_data_that_waits_for_done_is_safe(self):
-        self.assertEqual(answered(DIRECTORY_REUSE, META_WORDS, "--with FileData:previous-Done"), (lines("module meta",
-            "with FileData:previous-Done", "patches 21", "closed 461", "failing 0"), 0))
+        self.answers(DIRECTORY_REUSE, META_WORDS + " --with FileData:previous-Done", 0, """
+            module meta
+            with FileData:previous-Done
+            patches 21
+            closed 461
+            failing 0
+            """)
 
     def test_needs_of_rules_that_are_put_in(self):
-        self.assertEqual(answered(CREATE_WRITE, "--module async --with Ptr:MapSet --with EntrySet:InodeInit --needs"),
-            (lines("module async", "with Ptr:MapSet", "with EntrySet:InodeInit", "patches 5", "closed 16",
-            "failing 2", "rule Ptr:MapSet pairs 1 closed 20 failing 6", "set 0 4", "write block 2: 0 4", "fault "
-            + UNWRITTEN, "fault " + MARKED_FREE, "rule EntrySet:InodeInit pairs 1 closed 20 failing 6", "set 1",
-            "write block 4: 1", "fault " + DANGLING), 1))
+        self.answers(CREATE_WRITE, "--module async --with Ptr:MapSet --with EntrySet:InodeInit --needs", 1, """
+            module async
+            with Ptr:MapSet
+            with EntrySet:InodeInit
+            patches 5
+            closed 16
+            failing 2
+            rule Ptr:MapSet pairs 1 closed 20 failing 6
+            set 0 4
+            write block 2: 0 4
+            fault 3 unwritten pointer: inode 1 slot 0 block 5
+            fault 5 used block marked free: inode 1 slot 0 block 5
+            rule EntrySet:InodeInit pairs 1 closed 20 failing 6
+            set 1
+            write block 4: 1
+            fault 1 dangling entry: directory 0 entry 0 inode 1
+            """)
 
     def test_the_order_of_rules_in_a_report(self):
         self.assertEqual(answered(CREATE,

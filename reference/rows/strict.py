@@ -1,40 +1,113 @@
 """Inodes that are lost and directories without a block."""
 
-import unittest
 
 from ..closed_sets import ids_of
 from .support import (
-    BARE, CREATE, CREATE_BESIDE, DANGLING, DIRECTORY_REUSE, LINK_UNLINK, LOST, LOW, META_WORDS, MKDIR, RENAME,
-    RENAME_IN, RENAME_MKDIR, RENAME_OUT, UNLINK_CREATE, answered, counts, failing_ids, lines, parts, program,
-    reuse_report, script_of)
+    CREATE, CREATE_BESIDE, DANGLING, DIRECTORY_REUSE, LINK_UNLINK, LOST, LOW, META_WORDS, MKDIR, RENAME,
+    RENAME_IN, RENAME_MKDIR, RENAME_OUT, Rows, UNLINK_CREATE, answered, counts, failing_ids, lines, parts,
+    program, reuse_report, script_of)
 
 
-class Strict(unittest.TestCase):
+class Strict(Rows):
     """What `--strict` finds."""
 
     def test_a_rename_can_lose_the_file(self):
-        self.assertEqual(answered(RENAME, "--module async --strict"), (lines("module async", "strict", "patches 4",
-            "closed 12", "failing 5", "set 1", "write block 4: 1", "fault " + LOW, "set 2", "write block 4: 2", LOST,
-            "set 0 2", "write block 2: 0", "write block 4: 2", LOST, "set 0 1 3", "write block 2: 0",
-            "write block 4: 1", "write block 2: 3", "fault " + LOW, "set 0 2 3", "write block 2: 0",
-            "write block 4: 2", "write block 2: 3", LOST), 1))
-        self.assertEqual(answered(RENAME, "--module async --strict --summary"), (lines("module async", "strict",
-            "patches 4", "closed 12", "failing 5", "fault " + LOW, "sets 2", "set 1", "write block 4: 1", LOST,
-            "sets 3", "set 2", "write block 4: 2"), 1))
-        self.assertEqual(answered(RENAME, "--strict"), (lines("module soft", "strict", "patches 4", "closed 5",
-            "failing 0"), 0))
-        self.assertEqual(answered(RENAME, "--strict --without EntryClear:EntrySet"), (lines("module soft",
-            "without EntryClear:EntrySet", "strict", "patches 4", "closed 8", "failing 3", "set 2",
-            "write block 4: 2", LOST, "set 0 2", "write block 2: 0", "write block 4: 2", LOST, "set 0 2 3",
-            "write block 2: 0", "write block 4: 2", "write block 2: 3", LOST), 1))
+        self.answers(RENAME, "--module async --strict", 1, """
+            module async
+            strict
+            patches 4
+            closed 12
+            failing 5
+            set 1
+            write block 4: 1
+            fault 4 low link count: inode 1 entries 2 links 1
+            set 2
+            write block 4: 2
+            fault 7 lost inode: inode 1
+            set 0 2
+            write block 2: 0
+            write block 4: 2
+            fault 7 lost inode: inode 1
+            set 0 1 3
+            write block 2: 0
+            write block 4: 1
+            write block 2: 3
+            fault 4 low link count: inode 1 entries 2 links 1
+            set 0 2 3
+            write block 2: 0
+            write block 4: 2
+            write block 2: 3
+            fault 7 lost inode: inode 1
+            """)
+        self.answers(RENAME, "--module async --strict --summary", 1, """
+            module async
+            strict
+            patches 4
+            closed 12
+            failing 5
+            fault 4 low link count: inode 1 entries 2 links 1
+            sets 2
+            set 1
+            write block 4: 1
+            fault 7 lost inode: inode 1
+            sets 3
+            set 2
+            write block 4: 2
+            """)
+        self.answers(RENAME, "--strict", 0, """
+            module soft
+            strict
+            patches 4
+            closed 5
+            failing 0
+            """)
+        self.answers(RENAME, "--strict --without EntryClear:EntrySet", 1, """
+            module soft
+            without EntryClear:EntrySet
+            strict
+            patches 4
+            closed 8
+            failing 3
+            set 2
+            write block 4: 2
+            fault 7 lost inode: inode 1
+            set 0 2
+            write block 2: 0
+            write block 4: 2
+            fault 7 lost inode: inode 1
+            set 0 2 3
+            write block 2: 0
+            write block 4: 2
+            write block 2: 3
+            fault 7 lost inode: inode 1
+            """)
         self.assertEqual(counts(RENAME, module="soft", without=("EntryClear:EntrySet",)), (4, 8, 0))
 
     def test_a_directory_can_be_named_before_it_has_a_block(self):
         self.assertEqual(counts(MKDIR, module="soft", strict=True), (5, 8, 0))
-        self.assertEqual(answered(MKDIR, "--strict --without EntrySet:Ptr"), (lines("module soft",
-            "without EntrySet:Ptr", "strict", "patches 5", "closed 11", "failing 3", "set 0 4", "write block 2: 0",
-            "write block 4: 4", BARE, "set 0 1 4", "write block 2: 0", "write block 1: 1", "write block 4: 4", BARE,
-            "set 0 1 2 4", "write block 2: 0", "write block 1: 1", "write block 5: 2", "write block 4: 4", BARE), 1))
+        self.answers(MKDIR, "--strict --without EntrySet:Ptr", 1, """
+            module soft
+            without EntrySet:Ptr
+            strict
+            patches 5
+            closed 11
+            failing 3
+            set 0 4
+            write block 2: 0
+            write block 4: 4
+            fault 8 directory without a block: inode 1
+            set 0 1 4
+            write block 2: 0
+            write block 1: 1
+            write block 4: 4
+            fault 8 directory without a block: inode 1
+            set 0 1 2 4
+            write block 2: 0
+            write block 1: 1
+            write block 5: 2
+            write block 4: 4
+            fault 8 directory without a block: inode 1
+            """)
         self.assertEqual(counts(MKDIR, module="soft", without=("EntrySet:Ptr",)), (5, 11, 0))
 
     def test_a_link_and_an_unlink_can_lose_the_file(self):
@@ -71,14 +144,41 @@ class Strict(unittest.TestCase):
             self.assertEqual(counts(rows, module="soft", added=added), wanted[:2] + (0,))
 
     def test_faults_of_a_rename_into_a_new_directory(self):
-        self.assertEqual(answered(RENAME_IN, "--module async --strict --summary"), (lines("module async", "strict",
-            "patches 9", "closed 216", "failing 169", "fault 1 dangling entry: directory 0 entry 1 inode 2",
-            "sets 36", "set 4", "write block 4: 4", "fault 3 unwritten pointer: inode 2 slot 0 block 5", "sets 24",
-            "set 0 3", "write block 2: 0 3", "fault " + LOW, "sets 8", "set 0 2 3 6", "write block 2: 0",
-            "write block 5: 2", "write block 2: 3", "write block 5: 6",
-            "fault 5 used block marked free: inode 2 slot 0 block 5", "sets 36", "set 0 3", "write block 2: 0 3",
-            LOST, "sets 102", "set 7", "write block 4: 7", "fault 8 directory without a block: inode 2", "sets 36",
-            "set 0 4", "write block 2: 0", "write block 4: 4"), 1))
+        self.answers(RENAME_IN, "--module async --strict --summary", 1, """
+            module async
+            strict
+            patches 9
+            closed 216
+            failing 169
+            fault 1 dangling entry: directory 0 entry 1 inode 2
+            sets 36
+            set 4
+            write block 4: 4
+            fault 3 unwritten pointer: inode 2 slot 0 block 5
+            sets 24
+            set 0 3
+            write block 2: 0 3
+            fault 4 low link count: inode 1 entries 2 links 1
+            sets 8
+            set 0 2 3 6
+            write block 2: 0
+            write block 5: 2
+            write block 2: 3
+            write block 5: 6
+            fault 5 used block marked free: inode 2 slot 0 block 5
+            sets 36
+            set 0 3
+            write block 2: 0 3
+            fault 7 lost inode: inode 1
+            sets 102
+            set 7
+            write block 4: 7
+            fault 8 directory without a block: inode 2
+            sets 36
+            set 0 4
+            write block 2: 0
+            write block 4: 4
+            """)
         self.assertEqual([one.faults for one in parts(RENAME_IN, strict=True).failing if ids_of(one.patch_set) == [0,
             4, 7]], [["7 lost inode: inode 1", "8 directory without a block: inode 2"]])
 
@@ -115,19 +215,41 @@ class Strict(unittest.TestCase):
             "module meta\nstrict\n"), 1))
 
     def test_a_commit_before_its_copies_loses_the_root(self):
-        self.assertEqual(answered(CREATE_BESIDE,
-            "--module meta --journal 6 --strict --without Commit:Copy --summary"), (lines("module meta",
-            "without Commit:Copy", "strict", "patches 6", "closed 24", "failing 12",
-            "fault 3 unwritten pointer: inode 0 slot 0 block 10", "sets 4", "set 0 2", "write block 5: 0",
-            "write block 4: 2", "fault 7 lost inode: inode 0", "sets 8", "set 2", "write block 4: 2", LOST, "sets 12",
-            "set 2", "write block 4: 2"), 1))
+        self.answers(CREATE_BESIDE, "--module meta --journal 6 --strict --without Commit:Copy --summary", 1, """
+            module meta
+            without Commit:Copy
+            strict
+            patches 6
+            closed 24
+            failing 12
+            fault 3 unwritten pointer: inode 0 slot 0 block 10
+            sets 4
+            set 0 2
+            write block 5: 0
+            write block 4: 2
+            fault 7 lost inode: inode 0
+            sets 8
+            set 2
+            write block 4: 2
+            fault 7 lost inode: inode 1
+            sets 12
+            set 2
+            write block 4: 2
+            """)
         self.assertEqual(counts(CREATE_BESIDE, module="meta", journal=6, without=("Commit:Copy",)), (6, 24, 4))
 
     def test_the_line_strict_in_reports(self):
         self.assertEqual(answered("start", "--strict --json"), (
             '{"closed":1,"failing":[],"module":"soft","patches":0,"strict":true}\n', 0))
-        self.assertEqual(answered(CREATE, "--strict --without EntrySet:Ptr --with Done:Done"), (lines("module soft",
-            "without EntrySet:Ptr", "with Done:Done", "strict", "patches 2", "closed 3", "failing 0"), 0))
+        self.answers(CREATE, "--strict --without EntrySet:Ptr --with Done:Done", 0, """
+            module soft
+            without EntrySet:Ptr
+            with Done:Done
+            strict
+            patches 2
+            closed 3
+            failing 0
+            """)
         self.assertEqual(program("--strict --limit 2".split(), script_of(CREATE)), ("",
             "crashmap: 30 too many closed sets\n", 2))
         for words in ("--strict=1", "--strict --needs --summary"):

@@ -6,6 +6,7 @@ A script is written on one line, with ` ; ` in place of each line feed.
 import io
 import json
 import re
+import unittest
 
 from .. import command_line
 from ..answer import answer
@@ -141,6 +142,23 @@ def decided(rows, *words):
     out, err = io.BytesIO(), io.BytesIO()
     status = command_line.program(" ".join(words).split(), io.BytesIO(script_of(rows)), out, err, decide.answer)
     return out.getvalue().decode(), status
+
+
+class Rows(unittest.TestCase):
+    """Rows with whole reports, which are written with their lines indented."""
+
+    def answers(self, rows, words, status, text):
+        """The program answers a script and the words with this report and status."""
+        self.assertEqual(answered(rows, words), (unindented(text), status))
+
+    def decides(self, rows, words, status, text):
+        """As `answers`, by the second way."""
+        self.assertEqual(decided(rows, words), (unindented(text), status))
+
+
+def unindented(text):
+    """The lines of a text without the spaces around them."""
+    return lines(*(row.strip() for row in text.strip().split("\n")))
 
 
 def first_numbers(rows, **chosen):
