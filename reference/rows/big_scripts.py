@@ -39,8 +39,8 @@ class BigScripts(unittest.TestCase):
 
     def test_the_numbers_of_sets_of_ten_written_files(self):
         """Of the 24 closed sets of one written file, 4 have each of its faults. A set shows a disk between operations
-        where it has the first k creates and any of the ten patches InitFile, 11 * 2^10 sets, and where all creates and w
-        whole writes are done, with any InitFile of the other files, 2^9 + .. + 1 sets: 12,287 in all."""
+        where it has the first k creates and any of the ten patches InitFile, 11 * 2^10 sets, and where all creates and
+        w whole writes are done, with any InitFile of the other files, 2^9 + .. + 1 sets: 12,287 in all."""
         self.assertEqual(numbers_of(TEN_WRITES, atomic=True), [4 * 24 ** 9] * 30 + [24 ** 10 - 12287])
 
     def test_the_numbers_of_sets_of_as_many_patches_as_can_be(self):
