@@ -7,7 +7,7 @@ import shlex
 import subprocess
 from collections import namedtuple
 
-from .noise import images, scripts
+from .noise import images
 from .runs import Run, differences, run_reference
 
 TOP = pathlib.Path(__file__).resolve().parent.parent
@@ -33,28 +33,6 @@ def file_value(path, made):
     elif kept != made:
         problem = differences(Run(0, kept, b""), Run(0, made, b""))[0]
     return Value(str(path.relative_to(TOP)), problem, lambda: path.write_bytes(made))
-
-
-def table_values(path, row, wanted):
-    """The values of a table in a source text. `row` matches one row, and its groups have the values; `wanted` has the
-    values of all rows."""
-    name = str(path.relative_to(TOP))
-    text = path.read_text()
-    rows = list(row.finditer(text))
-    if len(rows) != len(wanted):
-        return [Value(name, "has %d rows in place of %d" % (len(rows), len(wanted)), None)]
-
-    def write(place, values):
-        changed = path.read_text()
-        match = list(row.finditer(changed))[place]
-        for group, value in reversed(list(enumerate(values, 1))):
-            changed = changed[:match.start(group)] + value + changed[match.end(group):]
-        path.write_text(changed)
-
-    return [Value("%s, row %d" % (name, place + 1),
-                  None if one.groups() == values else "keeps %s, wanted %s" % (one.groups(), values),
-                  lambda place=place, values=values: write(place, values))
-            for place, (one, values) in enumerate(zip(rows, wanted))]
 
 
 # The gallery: one script for each bug, with its command in a comment and its report beside it.
@@ -119,27 +97,10 @@ def page():
     return values + [Value(str(path.relative_to(TOP)), "has no script in cases.mjs", None) for path in lonely]
 
 
-# The noise: images and scripts that the tests in Rust make from the same seeds.
-
-IMAGE_LINE = re.compile(r"\w+ \d+ \d+: clean (\d+) faults (\d+) planned (\d+) replayed (\d+) digest (\w+)")
-IMAGE_ROW = re.compile(r"clean: (\d+),\s+faults: (\d+),\s+planned: (\d+),\s+replayed: (\d+),\s+\},"
-                       r'\s+digest: "([0-9a-f]{40})"')
-SCRIPT_ROW = re.compile(r'"([0-9a-f]{40})"')
+# The noise: images that a program crate makes from the same seeds.
 
 
 def noise_images():
-    """The answers on images of noise. They stand in a file of their own, or in a table of a test crate."""
-    lines = images.lines()
-    program = TOP / "crates" / "hostile_images"
-    if program.exists():
-        return [file_value(program / "stdout", "".join(line + "\n" for line in lines).encode())]
-    table = TOP / "crates" / "test_hostile" / "src" / "images.rt"
-    return table_values(table, IMAGE_ROW, [IMAGE_LINE.fullmatch(line).groups() for line in lines])
-
-
-def noise_scripts():
-    """The answers to scripts of noise, in a table of a test crate."""
-    table = TOP / "crates" / "test_hostile" / "src" / "scripts.rt"
-    if not table.exists():
-        return [Value(str(table.relative_to(TOP)), "is missing", None)]
-    return table_values(table, SCRIPT_ROW, [(digest,) for digest in scripts.digests()])
+    """The answers on images of noise, which the program's `stdout` has."""
+    return [file_value(TOP / "crates" / "hostile_images" / "stdout",
+                       "".join(line + "\n" for line in images.lines()).encode())]

@@ -1,18 +1,17 @@
 """python3 -m reference.remake [--write] [PART..]
 
-Makes anew every expected value that the repository keeps, and prints what differs. The parts are cases, gallery, page,
-images and scripts; without PART all of them. With --write the values that differ are written. Prints for each part how
-many values it keeps, and a last line `N passed, M failed`; the exit status is 1 where something differs, written or
-not.
+Makes anew every expected value that the repository keeps, and prints what differs. The parts are cases, gallery, page
+and images; without PART all of them. With --write the values that differ are written. Prints for each part how many
+values it keeps, and a last line `N passed, M failed`; the exit status is 1 where something differs, written or not.
 """
 
 import argparse
 import sys
 
-from .kept import gallery, noise_images, noise_scripts, page
+from .kept import gallery, noise_images, page
 from .kept_cases import cases
 
-PARTS = {"cases": cases, "gallery": gallery, "page": page, "images": noise_images, "scripts": noise_scripts}
+PARTS = {"cases": cases, "gallery": gallery, "page": page, "images": noise_images}
 
 
 def remake_value(value, write):

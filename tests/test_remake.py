@@ -39,9 +39,6 @@ class Kept(unittest.TestCase):
     def test_images_of_noise(self):
         self.check_part("images", 1)
 
-    def test_scripts_of_noise(self):
-        self.check_part("scripts", 6)
-
 
 class Found(unittest.TestCase):
     """A value that is not what the reference makes is found, and can be written."""
@@ -94,20 +91,6 @@ class Found(unittest.TestCase):
         self.assertEqual(value.problem, "is missing")
         value.write()
         self.assertEqual((self.top / "none").read_bytes(), b"new")
-
-    def test_a_row_of_a_table(self):
-        path = self.file("table", 'a "%s"\nb "%s"\n' % ("1" * 40, "2" * 40))
-        wanted = [("1" * 40,), ("3" * 40,)]
-        right, wrong = kept.table_values(path, kept.SCRIPT_ROW, wanted)
-        self.assertIsNone(right.problem)
-        self.assertIn("wanted ('333", wrong.problem)
-        wrong.write()
-        self.assertEqual([value.problem for value in kept.table_values(path, kept.SCRIPT_ROW, wanted)], [None, None])
-
-    def test_a_table_with_another_number_of_rows(self):
-        path = self.file("table", "nothing\n")
-        self.assertEqual([value.problem for value in kept.table_values(path, kept.SCRIPT_ROW, [("1" * 40,)])],
-                         ["has 0 rows in place of 1"])
 
     def test_page_cases_that_cannot_be_read(self):
         self.assertIn("cannot be read", kept.page()[0].problem)

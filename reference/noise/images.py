@@ -115,7 +115,7 @@ def journaled(image, noise):
 
 
 SHAPES = {"AnyBytes": any_bytes, "FewBytes": bytes_that_mean_something, "Damaged": damaged, "Journaled": journaled}
-"""The shapes of images by the names that the tests in Rust have for them."""
+"""The shapes of images by the names that the program crate prints."""
 
 
 class Answers:

@@ -1,11 +1,4 @@
-"""What the program answers to scripts of noise from fixed seeds. All answers to the scripts of one kind go into one
-digest."""
-
-import hashlib
-
-from ..rules import MODULES
-from ..runs import run_reference
-from .seeded import Noise
+"""Scripts of noise. Each kind makes a script from a source of bytes and its seed."""
 
 COUNT = 300
 """How many scripts of each kind are made, from the seeds 0 on."""
@@ -49,23 +42,4 @@ def lines_apart(noise, _seed):
 
 KINDS = {"AnyBytes": any_bytes, "TellingBytes": letters_of_scripts, "KnownLines": known_lines,
          "LinesApart": lines_apart}
-"""The kinds of scripts by the names that the tests in Rust have for them."""
-
-KEPT = [("AnyBytes", ()), ("TellingBytes", ()), ("KnownLines", ()), ("KnownLines", ("--json",)),
-        ("LinesApart", ()), ("LinesApart", ("--json",))]
-"""The kinds, with the words that are added, whose digests the tests keep."""
-
-
-def digest_of(kind, more, count=COUNT):
-    """The digest of the answers to the scripts of a kind."""
-    digest = hashlib.sha1()
-    for seed in range(count):
-        words = ["--module", MODULES[seed % 4], "--blocks", "24", "--journal", "12", *more]
-        run = run_reference(words, KINDS[kind](Noise(seed), seed))
-        digest.update(bytes([run.status]) + run.out + run.err)
-    return digest.hexdigest()
-
-
-def digests():
-    """The digests that the tests keep, in their order."""
-    return [digest_of(kind, more) for kind, more in KEPT]
+"""The kinds of scripts."""
