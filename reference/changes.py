@@ -8,7 +8,7 @@ Change = namedtuple("Change", "block offset new role")
 
 
 def spelled_name(name):
-    """A name as a directory entry has it: its length, and its letters filled up with zeros."""
+    """A name as a directory entry spells it: its length, and its letters filled up with zeros."""
     return bytes([len(name)]) + name.encode("ascii").ljust(10, b"\0")
 
 

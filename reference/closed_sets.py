@@ -27,7 +27,7 @@ def ready(patches, patch_set):
 
 
 def canonical_key(patch_set):
-    """Sets stand in the order of their sizes, and sets of one size in the order of their numbers."""
+    """The key that sorts sets by their sizes, and sets of one size by their numbers."""
     return bin(patch_set).count("1"), patch_set
 
 

@@ -70,7 +70,7 @@ def gallery():
     return values + [Value(str(path.relative_to(TOP)), "has no script", None) for path in lonely]
 
 
-# The page: the reports that its test shows, whose scripts stand in a JavaScript file.
+# The page: the reports that its test shows, whose scripts are in a JavaScript file.
 
 PRINT_CASES = "import { cases } from %s; console.log(JSON.stringify(cases));"
 

@@ -68,7 +68,7 @@ def fault_lines(fault, explain):
 
 
 def rule_line(word, rules):
-    """A line of rules behind a word."""
+    """A line with a word and then rules."""
     return " ".join([word] + [written(rule) for rule in rules])
 
 

@@ -67,7 +67,7 @@ def has_part(patch, part):
 
 
 def in_scope(scope, later, earlier):
-    """Whether the operations of two patches stand as the scope of a rule says."""
+    """Whether the scope of a rule fits the operations of two patches."""
     if scope == "before":
         return later.operation > earlier.operation
     return later.operation == earlier.operation + (scope == "previous")

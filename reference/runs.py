@@ -27,11 +27,14 @@ def run_second_way(words, script):
 
 
 def run_program(command, words, script, timeout):
-    """What a program answers, or None where it does not within so many seconds."""
+    """What a program answers, or None where it does not within so many seconds. A program that cannot be run has the
+    status 127, as in a shell."""
     try:
         done = subprocess.run([*command, *words], input=script, capture_output=True, timeout=timeout)
     except subprocess.TimeoutExpired:
         return None
+    except OSError as error:
+        return Run(127, b"", str(error).encode())
     return Run(done.returncode, done.stdout, done.stderr)
 
 

@@ -29,7 +29,7 @@ def read_path(word):
 
 
 def spelled(step):
-    """An operation as its line has it."""
+    """An operation as its line spells it."""
     return " ".join([step.act] + ["/" + "/".join(path) for path in step.words])
 
 

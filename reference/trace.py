@@ -61,7 +61,7 @@ class Groups:
         getattr(self, "take_" + step.act)(step)
 
     def take_group(self, step):
-        """Opens a group. Groups do not stand in each other, and no name is opened twice."""
+        """Opens a group. Groups are not nested, and no name is opened twice."""
         name = step.words[0]
         if self.open is not None or name in self.opened:
             raise Refusal(21, step.line)
@@ -76,7 +76,7 @@ class Groups:
         self.open = None
 
     def take_depend(self, step):
-        """Puts a group that has no patch yet behind another group that has ended."""
+        """Makes a group that has no patch yet wait for another group that has ended."""
         later, earlier = step.words
         if earlier not in self.ended or later == earlier or later in self.filled:
             raise Refusal(21, step.line)

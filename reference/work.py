@@ -49,5 +49,5 @@ class Work:
         return self.verdicts[matter]
 
     def spelled_steps(self):
-        """The steps as their lines have them."""
+        """The steps as their lines spell them."""
         return [spelled(step) for step in self.steps]

@@ -15,7 +15,7 @@ from reference.rows.support import TWO_WRITES, script_of
 
 
 def load_tests(loader, tests, _pattern):
-    """Adds the rows, which stand in a folder of the reference."""
+    """Adds the rows, which are in a folder of the reference."""
     for module in pkgutil.iter_modules(rows.__path__):
         tests.addTests(loader.loadTestsFromModule(importlib.import_module("reference.rows." + module.name)))
     return tests

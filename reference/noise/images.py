@@ -65,7 +65,7 @@ def header(noise, journal, transaction, count):
 
 
 def copy_blocks(image, noise, at, count):
-    """Copies of any blocks behind a header. It takes three bytes of noise, whatever the count."""
+    """Copies of any blocks after a header. It takes three bytes of noise, whatever the count."""
     for copy in range(1, 4):
         source = noise.byte()
         if copy <= count:

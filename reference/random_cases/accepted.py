@@ -1,4 +1,4 @@
-"""Scripts that are accepted, as far as the planner can tell."""
+"""Scripts whose operations the planner accepts."""
 
 from ..refusals import Refusal
 from .case import Case

@@ -17,7 +17,7 @@ class Grouping:
         self.empty = []
 
     def depends_of(self, name):
-        """Now and then, puts a group behind one or two that have ended."""
+        """Now and then, makes a group wait for one or two that have ended."""
         others = [one for one in self.ended if one != name]
         if others and self.chance.random() < 0.75:
             for one in self.chance.sample(others, self.chance.randrange(1, min(3, len(others)) + 1)):

@@ -109,7 +109,6 @@ def inodes_and_blocks(chance, world):
 
 def blocks_and_slots(chance, world):
     """Neither a free block nor a free slot."""
-    world.do("rmdir /q")
     world.do("create /a")
     for _ in range(4):
         world.do("write /a")
@@ -160,5 +159,6 @@ def twice_refused(chance):
         blocks = chance.choice([16, 20])
         journal = blocks - left
     world = World(chance, blocks, journal)
-    world.do("mkdir /q")
+    if make is not blocks_and_slots:
+        world.do("mkdir /q")
     return world, make(chance, world)

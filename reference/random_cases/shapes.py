@@ -1,5 +1,5 @@
-"""Shapes of scripts that reach the hard places. Each shape grows a world and gives the number of its lines that stand
-before `start`."""
+"""Shapes of scripts that reach the hard places. Each shape grows a world and gives the number of its lines before
+`start`."""
 
 
 def shape_random(world, length):

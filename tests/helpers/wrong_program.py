@@ -13,7 +13,7 @@ from reference.runs import run_reference
 
 
 def spoiled(mode, words, run):
-    """The run as the mode has it."""
+    """The run as the mode changes it."""
     if mode == "silent":
         return run._replace(status=0, out=b"", err=b"")
     if mode == "status":
