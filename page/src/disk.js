@@ -1,39 +1,50 @@
 // The disk: images as lists of blocks of 128 bytes, what their bytes mean (docs/DISK.md), and words for them.
+import { below, countOf } from "./words.js";
 
 const FREE = 0, FILE = 1, DIRECTORY = 2;
 const COMMITTED = 0xc7, DONE = 0xc8, FILE_MARK = 0x46, DIRECTORY_MARK = 0x44;
 const JOURNAL_START = 4, INODES = 16, SLOTS = 4, ENTRIES = 10, MOST_COPIES = 8;
-const AREAS = ["superblock", "map", "inodes", "journal", "data"];
+const NAME_BYTES = 10;
 
-const below = n => [...Array(n).keys()];
-const isBlank = bytes => bytes.every(byte => byte === 0);
-const sameBytes = (one, other) => one.every((byte, k) => byte === other[k]);
+export const AREAS = ["superblock", "map", "inodes", "journal", "data"];
+export { FREE, JOURNAL_START, INODES, SLOTS, ENTRIES };
+
+export const isBlank = bytes => bytes.every(byte => byte === 0);
+export const sameBytes = (one, other) => one.every((byte, k) => byte === other[k]);
 
 const put = (image, patch) => image[patch.block].set(patch.bytes, patch.offset);
 
 /** The base with the new bytes of these patches, in ascending id. */
-function imageOf(report, ids) {
+export function imageOf(report, ids) {
   const image = report.base.map(block => block.slice());
   for (const id of [...ids].sort((a, b) => a - b)) put(image, report.trace[id]);
   return image;
 }
 
-/** An image with the blocks that replay changed, as the report has them. */
-function replayedImage(image, replay) {
+/** An image with the blocks that replay changed. */
+export function replayedImage(image, changes) {
   const after = [...image];
-  for (const { block, bytes } of replay) after[block] = bytesOf(bytes);
+  for (const { block, bytes } of changes) after[block] = bytes;
   return after;
 }
 
-const inodePlace = inode => ({ block: 2 + (inode >> 3), offset: 16 * (inode & 7) });
+/** The blocks that replay changes on an image, with their bytes after it, as this page finds them. */
+export function replayChanges(report, image) {
+  const after = [...image];
+  for (const { from, to } of replayCopies(report, image)) after[to] = after[from].slice();
+  return below(image.length).filter(block => !sameBytes(image[block], after[block]))
+    .map(block => ({ block, bytes: after[block] }));
+}
+
+export const inodePlace = inode => ({ block: 2 + (inode >> 3), offset: 16 * (inode & 7) });
 const inodeAt = (block, offset) => (block - 2) * 8 + (offset >> 4);
 
-function inodeOf(image, inode) {
+export function inodeOf(image, inode) {
   const { block, offset } = inodePlace(inode), bytes = image[block].subarray(offset, offset + 16);
   return { kind: bytes[0], links: bytes[1], slots: [...bytes.subarray(4, 4 + SLOTS)] };
 }
 
-const nameIn = entry => String.fromCharCode(...entry.subarray(2, 2 + Math.min(entry[1], 10)));
+const nameIn = entry => String.fromCharCode(...entry.subarray(2, 2 + Math.min(entry[1], NAME_BYTES)));
 
 /** The entries in use of a directory's block. */
 function entriesOf(block) {
@@ -42,7 +53,7 @@ function entriesOf(block) {
 }
 
 /** Directories that count, each with its block and its entries in use. */
-function directoriesOf(image, root) {
+export function directoriesOf(image, root) {
   const all = below(INODES).map(inode => ({ inode, ...inodeOf(image, inode) }));
   const live = all.filter(({ kind, slots: [block] }) => kind === DIRECTORY && block >= root && block < image.length);
   return live.map(({ inode, slots: [block] }) => ({ inode, block, entries: entriesOf(image[block]) }))
@@ -50,7 +61,7 @@ function directoriesOf(image, root) {
 }
 
 /** The first path that leads to an inode, or null. */
-function pathOf(image, root, inode, depth = 0) {
+export function pathOf(image, root, inode, depth = 0) {
   if (inode === 0) return depth ? "" : "/";
   for (const directory of directoriesOf(image, root)) {
     const entry = directory.entries.find(one => one.target === inode);
@@ -61,7 +72,7 @@ function pathOf(image, root, inode, depth = 0) {
 }
 
 /** The copies that replay makes on a crash image, in order: those of committed transactions, the first first. */
-function replayCopies(report, image) {
+export function replayCopies(report, image) {
   const copies = [];
   for (let j = JOURNAL_START, t = 1; j < report.root; t++) {
     const targets = headerTargets(report, image, j, t);
@@ -85,7 +96,7 @@ function headerTargets(report, image, j, t) {
 /* --- what patches mean --- */
 
 /** Gives each patch its meaning in words, said of the disk before it. */
-function explainPatches(report) {
+export function explainPatches(report) {
   const image = report.base.map(block => block.slice());
   for (const patch of report.trace) {
     patch.meaning = meaningOf(report, image, patch);
@@ -116,14 +127,14 @@ function meaningOf(report, image, { part, block, offset, bytes, undo }) {
 
 /* --- the disk in words: rows of phrases; a phrase has a key, so that two states can be compared --- */
 
-function areaOf(report, block) {
+export function areaOf(report, block) {
   if (block < 2) return AREAS[block];
   if (block < JOURNAL_START) return "inodes";
   return block < report.root ? "journal" : "data";
 }
 
 /** One row for the superblock, the map, each inode, the journal and each block of the data area. */
-function rowsOf(report) {
+export function rowsOf(report) {
   const inodes = below(INODES).map(inode =>
     ({ key: `inode ${inode}`, label: `inode ${inode}`, inode, blocks: [inodePlace(inode).block] }));
   const journal = below(report.journal).map(k => JOURNAL_START + k);
@@ -136,7 +147,7 @@ function rowsOf(report) {
 }
 
 /** The phrases of a row on an image: a Map from key to text. `listed` are the blocks whose map byte is told. */
-function phrasesOf(report, image, row, listed) {
+export function phrasesOf(report, image, row, listed) {
   if (row.key === "super") return new Map([["all", `${image[0][1]} blocks, ${image[0][2]} of them journal`]]);
   if (row.key === "map") return new Map(listed.map(b => [`map ${b}`, `${b} ${image[1][b] ? "used" : "free"}`]));
   if (row.key === "journal") return journalPhrases(report, image, row.blocks);
@@ -172,7 +183,7 @@ function dataPhrases(bytes) {
 }
 
 /** Two short lines for a block's cell, or null where there is nothing to say. */
-function cellWords(report, image, block) {
+export function cellWords(report, image, block) {
   const bytes = image[block], area = areaOf(report, block);
   if (area === "superblock") return [String(bytes[1]), "blocks"];
   if (area === "map") return [String(bytes.filter(byte => byte).length), "used"];

@@ -1,12 +1,22 @@
-// Where a fault is: the places that its text names on the image after replay, and the patches that stand behind them.
+// Where a fault is: the places that its text names on the image after replay, and the patches that wrote them.
+import { FREE, INODES, SLOTS, ENTRIES, imageOf, inodeOf, inodePlace, directoriesOf, replayCopies } from "./disk.js";
+import { below } from "./words.js";
 
 /** Places {row, phrase, block, offset, length} that the faults' texts name. */
-function placesNamed(report, image, faults) {
+export function placesNamed(report, image, faults) {
   return faults.flatMap(text => {
-    const [kind, ...numbers] = text.match(/\d+/g).map(Number);
-    return FAULT_PLACES[kind]?.(report, image, ...numbers) ?? [];
+    const [kind, ...numbers] = (text.match(/\d+/g) ?? []).map(Number);
+    const isKnown = FAULT_NUMBERS[kind]?.every((most, k) => numbers[k] < most);
+    return isKnown ? FAULT_PLACES[kind](report, image, ...numbers) : [];
   });
 }
+
+/** For each kind of fault, above what its numbers are, from left to right; others name no place. */
+const ANY = Infinity, BLOCKS = 128;
+const FAULT_NUMBERS = {
+  1: [INODES, ENTRIES, ANY], 2: [BLOCKS], 3: [INODES, SLOTS, BLOCKS], 4: [INODES, ANY, ANY],
+  5: [INODES, SLOTS, BLOCKS], 6: [INODES, SLOTS, ANY], 7: [INODES], 8: [INODES],
+};
 
 /** For each fault's number the places that it names; the numbers are those of its text, from left to right. */
 const FAULT_PLACES = {
@@ -41,7 +51,7 @@ function entriesTo(report, image, inode) {
 }
 
 /** Patches that wrote a named place last, or would write it next; of a lost inode also those of its names. */
-function patchesNamed(report, choice, places) {
+export function patchesNamed(report, choice, places) {
   const inSet = new Set(choice.set), named = new Set();
   const copies = replayCopies(report, imageOf(report, choice.set));
   for (const place of places) {
@@ -62,4 +72,29 @@ function patchesOfNames(report, faults) {
   const isOfName = ({ part, bytes, undo }) => (part === "EntrySet" && lost.includes(bytes[0] - 1))
     || (part === "EntryClear" && lost.includes(undo[0] - 1));
   return report.trace.filter(isOfName).map(patch => patch.id);
+}
+
+/** What each kind of fault means, by its number. */
+const FAULT_MEANINGS = {
+  1: "A directory entry names an inode that is free or does not exist. The name leads nowhere, and later to whatever "
+    + "file gets that inode.",
+  2: "Two pointers name the same block, so a write to one file changes the other.",
+  3: "A file or directory points to a block that does not hold its own data. Reading it shows what the block held "
+    + "before.",
+  4: "More names lead to an inode than its link count says. Deleting some of them frees the inode while others still "
+    + "lead to it.",
+  5: "A block is in use, but the map says that it is free, so the file system can give it to another file.",
+  6: "A pointer names a block outside the data area. Following it reads or overwrites the file system's own blocks, or "
+    + "nothing at all.",
+  7: "The script never deletes this file or directory, but no path leads to it any more.",
+  8: "A path leads to a directory that has no block, so the directory cannot hold names.",
+};
+
+/** The number that a fault's text begins with. */
+const numberOf = text => Number(/^\d+/.exec(text)?.[0]);
+
+/** A sentence for each kind of fault among these texts. */
+export function meaningsOf(faults) {
+  const numbers = [...new Set(faults.map(numberOf))].filter(number => number in FAULT_MEANINGS);
+  return numbers.map(number => FAULT_MEANINGS[number]);
 }

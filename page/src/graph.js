@@ -1,9 +1,10 @@
 // The patch graph: who waits for whom and why, and where each patch stands in the picture. Columns are operations;
 // inside a column patches stand in layers, so that arrows run to the right.
+import { below } from "./words.js";
 
 /** The graph under the ordering, or under it without one rule: edges {from, to, why, implied}; for each patch the edges
     that it waits by, and all patches that it waits for, near and far. */
-function graphOf(report, without) {
+export function graphOf(report, without) {
   const waits = [], before = [];
   for (const { id, after } of report.trace) {
     const mine = after.map(({ patch, why }) => ({ from: patch, to: id, why: why.filter(word => word !== without) }))
@@ -15,7 +16,7 @@ function graphOf(report, without) {
   return { edges: waits.flat(), waits, before };
 }
 
-function kindOfEdge(why) {
+export function kindOfEdge(why) {
   if (why.some(word => word.includes(":"))) return "rule";
   return why.includes("overlap") ? "overlap" : "group";
 }
@@ -23,6 +24,7 @@ function kindOfEdge(why) {
 /* --- layout --- */
 
 const NODE_HEIGHT = 34, NODE_GAP = 11, LANE = 8, LAYER_GAP = 22, COLUMN_GAP = 10, COLUMN_PAD = 10, TOP = 46;
+export { NODE_HEIGHT, TOP };
 const ORDER_SWEEPS = 16, HEIGHT_SWEEPS = 30, STRAIGHT_SWEEPS = 10;
 
 const NODE_FONT = "11.5px " + getComputedStyle(document.documentElement).getPropertyValue("--sans");
@@ -37,7 +39,7 @@ function nodeWidth(patch) {
   return Math.ceil(Math.max(textWidth(`${patch.id}  ${patch.part}`, `600 ${NODE_FONT}`), 34)) + 16;
 }
 
-function layoutGraph(report, edges) {
+export function layoutGraph(report, edges) {
   const near = edges.filter(edge => !edge.implied);
   const layers = layersOf(report, near), lanes = addLanes(layers, near);
   orderLayers(layers);
@@ -200,7 +202,7 @@ function placeColumn(operation, layers, left) {
 }
 
 /** A smooth way from the right side of the first item to the left side of the last. */
-function wayPath(way) {
+export function wayPath(way) {
   let path = `M${way[0].x + way[0].width} ${way[0].y}`;
   way.slice(1).forEach((item, k) => {
     const last = way[k], start = last.x + last.width, isEnd = k === way.length - 2;

@@ -1,7 +1,12 @@
-// The patch graph as a picture: columns, patches, arrows, the ground of what is on disk, and the words at the pointer.
+// The patch graph as a picture: columns, patches, arrows, the ground of what is on disk, and what a patch says.
+import { NODE_HEIGHT, TOP, graphOf, kindOfEdge, layoutGraph, wayPath } from "./graph.js";
+import { hideHint, showHint } from "./hint.js";
+import { actions, byId, choiceNow, element, idsAt, shape, stateOf, view } from "./view.js";
+import { countOf } from "./words.js";
 
-function drawGraph() {
+export function drawGraph() {
   const { report } = view, card = byId("graph"), heading = element("h2", {}, "Patches");
+  const place = placeInPicture(card);
   view.graph = graphOf(report, choiceNow().rule);
   if (!report.trace.length) {
     view.plan = null;
@@ -14,8 +19,18 @@ function drawGraph() {
   const scroll = element("div", { class: "scroll", onscroll: showWindow, tabindex: -1 }, drawPicture(report, plan));
   const implied = edges.some(edge => edge.implied) && element("label", {},
     element("input", { type: "checkbox", id: "all-implied", onchange: () => drawImplied() }), "implied arrows");
-  card.replaceChildren(element("header", {}, heading, implied || "", drawKey(edges)), scroll);
+  const advice = element("span", { class: "soft advice" }, "Click patches to try a set of your own.");
+  card.replaceChildren(element("header", {}, heading, advice, implied || "", drawKey(edges)), scroll);
   fitPicture(plan, scroll);
+  scroll.scrollLeft = place.left;
+  if (place.id !== undefined) focusNode(place.id);
+}
+
+/** How far the picture is scrolled, and the patch that has the focus, so that both stay when it is drawn anew. */
+function placeInPicture(card) {
+  const focused = document.activeElement;
+  return { left: card.querySelector(".scroll")?.scrollLeft ?? 0,
+    id: card.contains(focused) ? focused.dataset.id : undefined };
 }
 
 function drawPicture(report, plan) {
@@ -84,31 +99,45 @@ function drawNode({ patch, x, y, width }) {
   const box = (kind, grow) => shape("rect", { class: kind, x: x - grow, y: y - NODE_HEIGHT / 2 - grow,
     width: width + 2 * grow, height: NODE_HEIGHT + 2 * grow, rx: 5 + grow });
   const light = event => lightNode(patch, event.currentTarget);
-  return shape("g", { class: "node", "data-id": patch.id, role: "img", tabindex: patch.id === 0 ? 0 : -1,
-    onpointerenter: light, onpointerleave: unlight, onfocus: light, onblur: unlight, onkeydown: moveNode },
+  return shape("g", { class: "node", "data-id": patch.id, role: "button", tabindex: patch.id === 0 ? 0 : -1,
+    onpointerenter: light, onpointerleave: unlight, onfocus: light, onblur: unlight, onkeydown: moveNode,
+    onclick: () => actions.pick(patch.id) },
   box("ring", 3.5), box("now", 3.5), box("body", 0),
   shape("text", { x: x + 8, y: y - 3 }, shape("tspan", { class: "id" }, String(patch.id)),
     shape("tspan", { dx: 5 }, patch.part)),
   shape("text", { x: x + 8, y: y + 11, class: "at" }, `${patch.block}+${patch.offset}`));
 }
 
+/** The arrow keys go from patch to patch; Enter and the space bar pick one. */
 function moveNode(event) {
-  const way = { ArrowUp: -1, ArrowDown: 1 }[event.key];
-  if (!way) return;
+  const id = Number(event.currentTarget.dataset.id), way = { ArrowUp: -1, ArrowDown: 1 }[event.key];
+  const isPick = event.key === "Enter" || event.key === " ";
+  if (!way && !isPick) return;
   event.preventDefault();
-  const next = byId("drawing").querySelector(`.node[data-id="${Number(event.currentTarget.dataset.id) + way}"]`);
+  if (isPick) actions.pick(id); else focusNode(id + way);
+}
+
+function focusNode(id) {
+  const nodes = [...byId("drawing").querySelectorAll(".node")], next = nodes.find(node => node.dataset.id === String(id));
   if (!next) return;
-  event.currentTarget.setAttribute("tabindex", -1);
-  next.setAttribute("tabindex", 0);
+  for (const node of nodes) node.setAttribute("tabindex", node === next ? 0 : -1);
   next.focus();
 }
+
+/** Picked patches that are not closed: no crash leaves them, so none is on a disk. */
+const isOpenSet = () => Boolean(choiceNow().missing?.length);
+
+const STATE_WORDS = {
+  open: { later: "Picked.", lost: "Not picked." },
+  closed: { disk: "On disk.", later: "On disk later.", lost: "Lost." },
+};
 
 function nodeWords(patch) {
   const { trace } = view.report, mine = view.graph.waits[patch.id];
   const said = mine.filter(edge => !edge.implied || mine.length < 8), rest = mine.length - said.length;
   const waits = said.map(edge => `waits for ${edge.from} ${trace[edge.from].part}: ${edge.why.join(", ")}`);
   if (rest) waits.push(`and for ${rest} earlier ones that this implies`);
-  const state = { disk: "On disk.", later: "On disk later.", lost: "Lost." }[stateOf(patch.id)];
+  const state = STATE_WORDS[isOpenSet() ? "open" : "closed"][stateOf(patch.id)];
   const size = countOf(patch.bytes.length, "byte", "bytes");
   return [`${patch.id} ${patch.part}: ${patch.meaning}`,
     `Line ${patch.line}; block ${patch.block}, offset ${patch.offset}, ${size}. ${state}`,
@@ -141,20 +170,20 @@ function unlight() {
 /* --- the step that is looked at --- */
 
 /** Filled, hollow, frontier and the write of this step, without drawing anew. */
-function paintGraph() {
+export function paintGraph() {
   const drawing = byId("drawing");
   if (!drawing) return;
-  const choice = choiceNow(), onDisk = new Set(idsAt(view.step));
+  const choice = choiceNow(), onDisk = new Set(isOpenSet() ? choice.set : idsAt(view.step));
   const now = view.step < choice.writes.length ? choice.writes[view.step - 1]?.patches ?? [] : [];
   for (const node of drawing.querySelectorAll(".node")) paintNode(node, onDisk, now);
   for (const one of drawing.querySelectorAll(".region [data-on]")) {
     one.classList.toggle("on", onDisk.has(Number(one.dataset.on)));
   }
   for (const one of drawing.querySelectorAll("[data-from]")) paintArrow(one, onDisk);
-  byId("graph").classList.toggle("walking", view.step < choice.writes.length);
+  byId("graph").classList.toggle("walking", view.step < choice.writes.length || isOpenSet());
   const focused = document.activeElement;
   if (focused.classList.contains("node")) lightNode(view.report.trace[focused.dataset.id], focused);
-  bringIntoView((choice.writes[view.step - 1]?.patches ?? [0])[0]);
+  if (choice.isPicked) showWindow(); else bringIntoView((choice.writes[view.step - 1]?.patches ?? [0])[0]);
 }
 
 function paintNode(node, onDisk, now) {
@@ -184,9 +213,12 @@ function bringIntoView(id) {
 function drawKey(edges) {
   const kinds = new Set(edges.map(edge => kindOfEdge(edge.why)));
   const item = (picture, words, kind) => element("span", { class: kind }, picture, words);
-  return element("div", { class: "key" }, item(keyNode("later"), "later", "walk"), item(keyNode("disk"), "on disk"),
-    item(keyNode("lost", "ready"), "lost, ready"), item(keyNode("lost"), "lost, waits"),
-    view.named.size ? item(keyNode("lost", "named ready"), "place of the fault") : null,
+  const words = isOpenSet() ? ["picked", "not picked, ready", "not picked, waits", "needed by a picked one"]
+    : ["later", "lost, ready", "lost, waits", "place of the fault"];
+  return element("div", { class: "key" }, item(keyNode("later"), words[0], "walk"),
+    isOpenSet() ? null : item(keyNode("disk"), "on disk"),
+    item(keyNode("lost", "ready"), words[1]), item(keyNode("lost"), words[2]),
+    view.named.size ? item(keyNode("lost", "named ready"), words[3]) : null,
     ["rule", "overlap", "group"].filter(kind => kinds.has(kind)).map(kind => item(keyLine(kind), kind)));
 }
 
@@ -212,24 +244,9 @@ function drawOverview(plan, scroll) {
   shape("use", { href: "#drawing" }), shape("rect", { class: "window", y: TOP + 2, height: plan.height - TOP - 4 })));
 }
 
-function showWindow() {
+export function showWindow() {
   const frame = document.querySelector("#whole .window"), scroll = byId("graph")?.querySelector(".scroll");
   if (!frame) return;
   frame.setAttribute("x", scroll.scrollLeft);
   frame.setAttribute("width", scroll.clientWidth - 28);
-}
-
-/* --- words at the pointer --- */
-
-function showHint(words, x, y) {
-  const hint = byId("hint");
-  hint.replaceChildren(...words.map((word, k) => element("p", {}, k ? word : element("b", {}, word))));
-  hint.hidden = false;
-  const box = hint.getBoundingClientRect(), isLow = y + 10 + box.height > innerHeight;
-  hint.style.left = `${Math.max(6, Math.min(x + 8, innerWidth - box.width - 8))}px`;
-  hint.style.top = `${isLow ? Math.max(6, y - box.height - 46) : y + 10}px`;
-}
-
-function hideHint() {
-  byId("hint").hidden = true;
 }

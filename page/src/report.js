@@ -1,23 +1,29 @@
 // A report as `crashmap --json --explain --summary` (or `--needs`) prints it, brought into the one form that the page
 // works on: the patches with their bytes, the script's operations, and what a person can choose to look at.
+import { MOST_CHOICES, ReportError, checkReport } from "./check.js";
+import { JOURNAL_START, explainPatches } from "./disk.js";
+import { bytesOf, countOf } from "./words.js";
 
-const bytesOf = hex => Uint8Array.from(hex.match(/../g) ?? [], pair => parseInt(pair, 16));
-
-const countOf = (count, one, many) => `${count} ${count === 1 ? one : many}`;
-
-/** Throws where the text is no report, or one that does not say what its patches are. */
-function readReport(text) {
-  const json = JSON.parse(text);
-  if (!json.base || !json.trace) {
-    throw new Error("This report does not say what its patches are. Make it with --json --explain --summary.");
+function parsed(text) {
+  if (!text.trim()) throw new ReportError("This file is empty.");
+  try {
+    return JSON.parse(text);
+  } catch (error) {
+    throw new ReportError(`This file is not JSON, so it is no report: ${error.message}.`);
   }
-  const base = json.base.map(bytesOf), journal = base[0][2];
+}
+
+/** Throws a `ReportError` where the text is no report, or one that does not say what its patches are. */
+export function readReport(text) {
+  const json = parsed(text);
+  checkReport(json);
+  const base = json.base.map(bytesOf), [, blocks, journal] = base[0];
   const trace = json.trace.map((patch, id) =>
     ({ ...patch, id, bytes: bytesOf(patch.new), undo: bytesOf(patch.undo) }));
   const report = {
     module: json.module, closed: json.closed, failing: json.sets ?? json.failing.length ?? json.failing,
     without: json.without ?? [], with: json.with ?? [], strict: json.strict ?? false,
-    base, journal, root: JOURNAL_START + journal, trace,
+    base, blocks, journal, root: JOURNAL_START + journal, trace,
   };
   Object.assign(report, operationsOf(trace));
   explainPatches(report);
@@ -40,20 +46,33 @@ function operationsOf(trace) {
   return { operations, copyTarget };
 }
 
-/** What can be chosen: faults (--summary), rules (--needs) or failing sets; the run without a crash comes last. */
+/* --- what can be chosen --- */
+
+/** Faults (--summary), rules (--needs) or failing sets; the run without a crash comes last. */
 function choicesOf(json, report) {
+  const [title, all, choiceOf, asks] = json.faults ? ["Faults", json.faults, faultChoice, "faults"]
+    : json.rules ? ["Rules that the script needs", usedFirst(json.rules), ruleChoice, "rules"]
+    : ["Failing sets", json.failing, setChoice, "sets"];
+  const choices = all.slice(0, MOST_CHOICES).map(choiceOf);
+  return { title, asks, listed: all.length, choices: [...choices, wholeRun(report)] };
+}
+
+/** Rules that order patches of this script come first. */
+const usedFirst = rules => [...rules.filter(rule => rule.pairs > 0), ...rules.filter(rule => rule.pairs === 0)];
+
+const changesOf = replay => (replay ?? []).map(({ block, bytes }) => ({ block, bytes: bytesOf(bytes) }));
+const crashOf = one => ({ set: one.set, writes: one.writes, replay: changesOf(one.replay) });
+
+const faultChoice = one => ({ ...faultWords(one.fault), count: one.sets, faults: [one.fault], ...crashOf(one) });
+
+const setChoice = one =>
+  ({ label: `set ${one.set.join(" ")}`, more: one.faults.join("; "), faults: one.faults, ...crashOf(one) });
+
+/** Every patch on disk, with no crash; each step of it is one that a crash can leave. */
+function wholeRun(report) {
   const all = report.trace.map(patch => patch.id);
-  const whole = {
-    label: "No crash", more: "every patch on disk", faults: [], set: all, writes: runsOf(report, all), replay: null,
-  };
-  const section = one => ({ set: one.set, writes: one.writes, replay: one.replay ?? [] });
-  const ofFault = one => ({ ...faultWords(one.fault), count: one.sets, faults: [one.fault], ...section(one) });
-  const ofSet = one =>
-    ({ label: `set ${one.set.join(" ")}`, more: one.faults.join("; "), faults: one.faults, ...section(one) });
-  const [title, list] = json.faults ? ["Faults", json.faults.map(ofFault)]
-    : json.rules ? ["Rules that the script needs", json.rules.map(rule => ruleChoice(rule, section))]
-    : ["Failing sets", json.failing.map(ofSet)];
-  return { title, choices: [...list, whole], asksRules: Boolean(json.rules) };
+  return { label: "No crash", more: "every patch on disk", faults: [], set: all, writes: runsOf(report, all),
+    replay: null, isWhole: true };
 }
 
 /** `1 dangling entry: directory 0 entry 0 inode 1` in its three parts. */
@@ -63,7 +82,7 @@ function faultWords(text) {
 }
 
 /** A rule can be looked at where some crash is prevented by it. */
-function ruleChoice(rule, section) {
+function ruleChoice(rule) {
   const pairs = countOf(rule.pairs, "pair", "pairs");
   const said = rule.pairs === 0 ? "no pair"
     : rule.too_many ? `${pairs}; too many closed sets without it`
@@ -71,11 +90,11 @@ function ruleChoice(rule, section) {
   const one = { label: rule.rule, more: said, rule: rule.rule, faults: [], off: true };
   if (!rule.first) return one;
   const { faults } = rule.first;
-  return { ...one, more: `${said}: ${faults[0]}`, off: false, faults, ...section(rule.first) };
+  return { ...one, more: `${said}: ${faults[0]}`, off: false, faults, ...crashOf(rule.first) };
 }
 
 /** Ascending ids cut into longest runs of one block. */
-function runsOf(report, ids) {
+export function runsOf(report, ids) {
   const runs = [];
   for (const id of ids) {
     const { block } = report.trace[id];

@@ -1,4 +1,11 @@
 // The disk before the crash, at a step of the block writes, and after replay: a strip of blocks, and places in words.
+import { AREAS, JOURNAL_START, areaOf, cellWords, imageOf, isBlank, pathOf, phrasesOf, replayChanges, replayedImage,
+  rowsOf, sameBytes } from "./disk.js";
+import { meaningsOf } from "./faults.js";
+import { closureOf, pickedWords } from "./pick.js";
+import { copyWords } from "./steps.js";
+import { actions, byId, choiceNow, element, idsAt, view } from "./view.js";
+import { below } from "./words.js";
 
 /** The states of the disk, each with its image and the image that it is compared with. */
 function statesNow() {
@@ -8,19 +15,53 @@ function statesNow() {
   const states = [{ name: "base", image: base, before: base },
     { name: middle, image: imageOf(view.report, idsAt(view.step)), before: base }];
   if (view.after) states.push({ name: "after replay", image: view.after, before: view.crash, early: !isLast });
+  if (choice.isWhole && view.report.journal) states.push(replayHere(states[1].image));
   return states;
 }
 
-function drawDisk() {
+/** What replay makes of a crash at this step of the run without a crash. */
+function replayHere(image) {
+  return { name: "after replay", image: replayedImage(image, replayChanges(view.report, image)), before: image };
+}
+
+export function drawDisk() {
   const choice = choiceNow(), states = statesNow();
+  if (choice.missing?.length) return drawNoDisk(choice);
   const every = element("label", {}, element("input", { type: "checkbox", checked: view.every,
     onchange: event => { view.every = event.target.checked; drawDisk(); } }), "every place");
   const keepScroll = event => { view.stripAt = event.target.scrollLeft; };
   byId("disk").replaceChildren(element("header", {}, element("h2", {}, "Disk"), drawBar(choice), every),
     element("div", { class: "scroll", onscroll: keepScroll }, drawStrip(states)),
-    element("div", { class: "facts" }, choice.faults.map(text => element("p", { class: "fault" }, `Fault ${text}`)),
-      choice.faults.length ? element("p", { class: "which" }, setWords(choice)) : null, drawWords(states)));
+    element("div", { class: "facts" }, drawFacts(choice, states), drawWords(states)));
   showStrip();
+}
+
+/** The faults with what they mean, and which set this is. */
+function drawFacts(choice, states) {
+  const said = (kind, words) => element("p", { class: kind }, words);
+  return [...choice.faults.map(text => said("fault", `Fault ${text}`)),
+    ...meaningsOf(choice.faults).map(words => said("meaning", words)),
+    choice.faults.length || choice.isPicked ? said("which", setWords(choice)) : null,
+    choice.isPicked ? said("picked", pickedWords(view.report, choice)) : null,
+    choice.isWhole && view.report.trace.length ? said("walk", walkWords(states)) : null];
+}
+
+/** What a crash at this step of the run without a crash would leave. */
+function walkWords(states) {
+  const { report } = view, copies = copyWords(report, states[1].image);
+  const clean = report.failing === 0 ? "After replay the disk is clean at each step, since no closed set fails. " : "";
+  const replay = !report.journal ? "" : copies ? `After a crash here, replay copies blocks ${copies}. `
+    : "After a crash here, replay has nothing to copy. ";
+  const own = report.journal ? "The page worked replay out from the journal." : "";
+  return `A crash can stop the run at each of these steps. ${clean}${replay}${own}`.trim();
+}
+
+/** Picked patches that are not closed leave no disk. */
+function drawNoDisk(choice) {
+  byId("disk").replaceChildren(element("header", {}, element("h2", {}, "Disk")),
+    element("div", { class: "facts" }, element("p", { class: "picked open" }, pickedWords(view.report, choice)),
+      element("button", { id: "close", onclick: () => actions.pickAll(closureOf(view.report, choice), choice.rule) },
+        "Pick what they wait for too")));
 }
 
 function setWords(choice) {
@@ -42,7 +83,7 @@ function drawBar(choice) {
 
 function barButton(name, step, disabled, key) {
   return element("button", { disabled, "data-bar": name, "aria-keyshortcuts": key,
-    onclick: () => { goTo(step); focusBar(name); } }, name);
+    onclick: () => { actions.goTo(step); focusBar(name); } }, name);
 }
 
 function focusBar(name) {

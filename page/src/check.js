@@ -1,0 +1,188 @@
+// What a report must look like for the page to show it. Each check that fails throws a `ReportError`, which names the
+// place in the report, what must stand there and what does.
+import { shortened } from "./words.js";
+
+/** The report cannot be shown; the message is a sentence for a person. */
+export class ReportError extends Error {}
+
+/** Longer lists of faults, rules or failing sets are shown up to here. */
+export const MOST_CHOICES = 500;
+const MOST_PATCHES = 1000, BLOCK_BYTES = 128, FEWEST_BLOCKS = 16, MOST_BLOCKS = 128, OUTSIDE_JOURNAL = 6;
+
+const isObject = value => typeof value === "object" && value !== null && !Array.isArray(value);
+
+/** What a value is, for a sentence. */
+function kindOf(value) {
+  if (value === undefined) return "missing";
+  if (value === null) return "null";
+  if (Array.isArray(value)) return `a list of ${value.length}`;
+  if (typeof value === "object") return "an object";
+  return `${JSON.stringify(shortened(String(value), 40))}${typeof value === "string" ? "" : ` (a ${typeof value})`}`;
+}
+
+function must(holds, place, wanted, value) {
+  if (holds) return;
+  const is = value === undefined ? "but it is missing" : `but it is ${kindOf(value)}`;
+  throw new ReportError(`This report has an unexpected form: ${place} must be ${wanted}, ${is}.`);
+}
+
+const isCount = (value, least, most) => Number.isSafeInteger(value) && value >= least && value <= most;
+
+function checkCount(place, value, least, most = Number.MAX_SAFE_INTEGER) {
+  const wanted = most === Number.MAX_SAFE_INTEGER ? `a whole number, at least ${least}`
+    : `a whole number from ${least} to ${most}`;
+  must(isCount(value, least, most), place, wanted, value);
+}
+
+const checkText = (place, value) => must(typeof value === "string", place, "a text", value);
+const checkObject = (place, value) => must(isObject(value), place, "an object", value);
+const checkList = (place, value) => must(Array.isArray(value), place, "a list", value);
+
+function checkTexts(place, value) {
+  checkList(place, value);
+  value.forEach((one, k) => checkText(`${place}[${k}]`, one));
+}
+
+/** Hexadecimal digits for at least one byte and at most so many. */
+function checkHex(place, value, least, most) {
+  const size = least === most ? `${least}` : `${least} to ${most}`;
+  const holds = typeof value === "string" && /^(?:[0-9a-f]{2})*$/.test(value)
+    && value.length >= 2 * least && value.length <= 2 * most;
+  must(holds, place, `${size} bytes in hexadecimal digits`, value);
+}
+
+/* --- the parts of a report --- */
+
+function checkBase(base) {
+  checkList("base", base);
+  const wanted = `a list of ${FEWEST_BLOCKS} to ${MOST_BLOCKS} blocks`;
+  must(base.length >= FEWEST_BLOCKS && base.length <= MOST_BLOCKS, "base", wanted, base);
+  base.forEach((block, b) => checkHex(`base[${b}]`, block, BLOCK_BYTES, BLOCK_BYTES));
+  const [blocks, journal] = [2, 4].map(at => parseInt(base[0].slice(at, at + 2), 16));
+  must(blocks === base.length, "base", `as long as its superblock says (${blocks} blocks)`, base);
+  must(journal <= blocks - OUTSIDE_JOURNAL, "the journal in the superblock", `at most ${blocks - OUTSIDE_JOURNAL} blocks`,
+    journal);
+}
+
+function checkTrace(trace, blocks) {
+  checkList("trace", trace);
+  must(trace.length <= MOST_PATCHES, "trace", `a list of at most ${MOST_PATCHES} patches`, trace);
+  trace.forEach((patch, id) => checkPatch(`trace[${id}]`, patch, id, blocks));
+}
+
+function checkPatch(place, patch, id, blocks) {
+  checkObject(place, patch);
+  checkText(`${place}.part`, patch.part);
+  checkText(`${place}.step`, patch.step);
+  checkCount(`${place}.line`, patch.line, 1);
+  checkCount(`${place}.block`, patch.block, 0, blocks - 1);
+  checkCount(`${place}.offset`, patch.offset, 0, BLOCK_BYTES - 1);
+  checkHex(`${place}.new`, patch.new, 1, BLOCK_BYTES - patch.offset);
+  checkHex(`${place}.undo`, patch.undo, patch.new.length / 2, patch.new.length / 2);
+  checkList(`${place}.after`, patch.after);
+  patch.after.forEach((one, k) => checkReason(`${place}.after[${k}]`, one, id));
+}
+
+function checkReason(place, one, id) {
+  checkObject(place, one);
+  must(isCount(one.patch, 0, id - 1), `${place}.patch`, `an earlier patch than ${id}`, one.patch);
+  checkTexts(`${place}.why`, one.why);
+  must(one.why.length > 0, `${place}.why`, "a list of at least one reason", one.why);
+}
+
+/** A failing set with the block writes that lead to it and the blocks that replay changes. */
+function checkSet(place, one, report) {
+  checkList(`${place}.set`, one.set);
+  one.set.forEach((id, k) => {
+    checkCount(`${place}.set[${k}]`, id, 0, report.trace.length - 1);
+    must(k === 0 || id > one.set[k - 1], `${place}.set[${k}]`, "larger than the one before it", id);
+  });
+  checkList(`${place}.writes`, one.writes);
+  one.writes.forEach((write, k) => checkWrite(`${place}.writes[${k}]`, write, one.set, report));
+  const written = one.writes.flatMap(write => write.patches).sort((a, b) => a - b);
+  must(written.join() === one.set.join(), `${place}.writes`, "writes of exactly the patches in set", one.writes);
+  if (one.replay === undefined) return;
+  checkList(`${place}.replay`, one.replay);
+  one.replay.forEach((change, k) => checkChange(`${place}.replay[${k}]`, change, report));
+}
+
+function checkWrite(place, write, set, report) {
+  checkObject(place, write);
+  checkCount(`${place}.block`, write.block, 0, report.base.length - 1);
+  checkList(`${place}.patches`, write.patches);
+  must(write.patches.length > 0, `${place}.patches`, "a list of at least one patch", write.patches);
+  write.patches.forEach((id, k) => {
+    const holds = set.includes(id) && report.trace[id].block === write.block;
+    must(holds, `${place}.patches[${k}]`, `a patch of the set, in block ${write.block}`, id);
+  });
+}
+
+function checkChange(place, change, report) {
+  checkObject(place, change);
+  checkCount(`${place}.block`, change.block, 0, report.base.length - 1);
+  checkHex(`${place}.bytes`, change.bytes, BLOCK_BYTES, BLOCK_BYTES);
+}
+
+/* --- what can be chosen --- */
+
+function checkFault(place, one, report) {
+  checkObject(place, one);
+  checkText(`${place}.fault`, one.fault);
+  checkCount(`${place}.sets`, one.sets, 1, report.closed);
+  checkSet(place, one, report);
+}
+
+function checkRule(place, one, report) {
+  checkObject(place, one);
+  checkText(`${place}.rule`, one.rule);
+  checkCount(`${place}.pairs`, one.pairs, 0);
+  if (one.too_many !== undefined) must(one.too_many === true, `${place}.too_many`, "true", one.too_many);
+  if (one.pairs > 0 && !one.too_many) {
+    checkCount(`${place}.closed`, one.closed, 1);
+    checkCount(`${place}.failing`, one.failing, 0, one.closed);
+  }
+  if (one.first !== undefined) checkFailing(`${place}.first`, one.first, report);
+}
+
+function checkFailing(place, one, report) {
+  checkObject(place, one);
+  checkTexts(`${place}.faults`, one.faults);
+  must(one.faults.length > 0, `${place}.faults`, "a list of at least one fault", one.faults);
+  checkSet(place, one, report);
+}
+
+/** The head of a report: counts, the module, and what differs from its ordering. */
+function checkHead(json) {
+  checkText("module", json.module);
+  checkCount("closed", json.closed, 1);
+  if (json.patches !== undefined) {
+    must(json.patches === json.trace.length, "patches", `the length of trace (${json.trace.length})`, json.patches);
+  }
+  for (const list of ["with", "without"]) if (json[list] !== undefined) checkTexts(list, json[list]);
+  if (json.strict !== undefined) must(typeof json.strict === "boolean", "strict", "true or false", json.strict);
+}
+
+function checkLists(json) {
+  const [name, check] = json.faults !== undefined ? ["faults", checkFault]
+    : json.rules !== undefined ? ["rules", checkRule] : ["failing", checkFailing];
+  if (json[name] === undefined) {
+    throw new ReportError("This report lists no faults, no rules and no failing sets. "
+      + "Make it with --json --explain --summary.");
+  }
+  checkList(name, json[name]);
+  if (name !== "failing") checkCount(name === "faults" ? "sets" : "failing", json[name === "faults" ? "sets" : "failing"], 0, json.closed);
+  else must(json.failing.length <= json.closed, "failing", `a list of at most ${json.closed} sets`, json.failing);
+  json[name].slice(0, MOST_CHOICES).forEach((one, k) => check(`${name}[${k}]`, one, json));
+}
+
+/** Throws a `ReportError` where the page cannot show this. */
+export function checkReport(json) {
+  if (!isObject(json)) throw new ReportError(`A report is a JSON object, but this file holds ${kindOf(json)}.`);
+  if (json.base === undefined || json.trace === undefined) {
+    throw new ReportError("This report does not say what its patches are. Make it with --json --explain --summary.");
+  }
+  checkBase(json.base);
+  checkTrace(json.trace, json.base.length);
+  checkHead(json);
+  checkLists(json);
+}

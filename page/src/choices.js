@@ -1,0 +1,65 @@
+// The list of what can be looked at, and what holds of all crashes together.
+import { actions, byId, choiceNow, choicesNow, element, view } from "./view.js";
+import { countOf } from "./words.js";
+
+export function drawChoices() {
+  const { report } = view, hadFocus = byId("choices").contains(document.activeElement);
+  byId("choices").replaceChildren(element("header", {}, element("h2", {}, report.title)),
+    drawVerdict(report), drawCut(report),
+    element("ol", { class: "list" }, choicesNow().map(drawChoice)));
+  const current = byId("choices").querySelector("[aria-current]");
+  scrollInto(current.closest(".list"), current);
+  if (hadFocus) current.focus();
+}
+
+function drawChoice(choice, at) {
+  const isNow = choice === choiceNow();
+  const button = element("button", { class: choice.faults.length ? "bad" : "", disabled: choice.off,
+    "aria-current": isNow ? "true" : null, onclick: () => actions.choose(at), onkeydown: moveFocus },
+  choice.count !== undefined && element("span", { class: "sum" }, countOf(choice.count, "set", "sets")),
+  element("b", {}, choice.number ? `${choice.number} ` : "", choice.label),
+  choice.more && element("small", {}, choice.more));
+  return element("li", {}, button);
+}
+
+/** What holds of all crashes together, where the choices do not say it. */
+function drawVerdict(report) {
+  const { failing, closed, asks, choices } = report;
+  if (failing === 0) return element("p", { class: "verdict good" }, nothingFails(report));
+  if (asks !== "rules") return "";
+  const still = choices.length > 1 ? "With all of them" : "This ordering has no rule:";
+  return element("p", { class: "verdict" },
+    `${still} ${failing} of ${closed} crashes leave a broken disk. A report without --needs tells which.`);
+}
+
+function nothingFails({ closed, asks }) {
+  const crashes = closed === 1 ? "the one crash that is possible" : `each of the ${closed} crashes that are possible`;
+  return `${asks === "rules" ? "With all of them nothing fails" : "None"}: after ${crashes}, `
+    + "replay leaves a clean disk.";
+}
+
+/** A list that is too long to look through. */
+function drawCut({ listed, choices, title, asks }) {
+  const shown = choices.length - 1;
+  if (listed <= shown) return "";
+  const advice = asks === "sets" ? " A report made with --summary has each fault once." : "";
+  return element("p", { class: "verdict cut" }, `This report lists ${listed.toLocaleString("en")} `
+    + `${title.toLowerCase()}, and the page shows the first ${shown}.${advice}`);
+}
+
+/** The arrow keys go through a list. */
+export function moveFocus(event) {
+  const way = { ArrowUp: -1, ArrowDown: 1 }[event.key];
+  if (!way) return;
+  event.preventDefault();
+  const all = [...event.target.closest(".list").querySelectorAll("button:not(:disabled)")];
+  const next = all[all.indexOf(event.target) + way];
+  next?.click();
+  next?.focus();
+}
+
+export function scrollInto(list, child) {
+  const top = child.offsetTop - list.offsetTop, bottom = top + child.offsetHeight;
+  if (top < list.scrollTop) list.scrollTop = top - 8;
+  else if (bottom > list.scrollTop + list.clientHeight) list.scrollTop = bottom - list.clientHeight + 40;
+}

@@ -1,0 +1,90 @@
+// The head: which script this is, what was run, the ordering, the disk, and the counts.
+import { actions, element, view } from "./view.js";
+import { countOf, quoted, shortened } from "./words.js";
+
+const MOST_LINES = 400, MOST_LETTERS = 200;
+const MODULES = { async: "no ordering", soft: "soft updates", meta: "a metadata journal", full: "a full journal" };
+
+/** The script's name, or else the report's. */
+export const nameNow = () => view.run?.script ?? view.run?.report ?? "a report";
+
+function orderingWords({ module, without, with: added }) {
+  return [module, ...without.map(rule => `without ${rule}`), ...added.map(rule => `with ${rule}`)].join(" ");
+}
+
+function diskWords({ blocks, journal, root }) {
+  const part = journal ? `${journal} of them journal` : "no journal";
+  return `${countOf(blocks, "block", "blocks")}, ${part}, data from block ${root}`;
+}
+
+/** The title of the window: script, result, ordering and size of the disk. */
+export function titleNow() {
+  const { report } = view, strict = report.strict ? ", strict" : "";
+  return `${nameNow()}: ${report.failing} of ${report.closed} sets fail under ${orderingWords(report)}${strict}, `
+    + `${diskWords(report)} - crashmap`;
+}
+
+export function drawHead() {
+  const { report, run } = view;
+  const command = run?.words && element("code", { id: "command" }, `crashmap ${run.words.map(quoted).join(" ")}`);
+  return element("header", { id: "head" },
+    element("h1", {}, "crashmap ", element("span", { id: "name" }, shortened(nameNow(), MOST_LETTERS))),
+    drawCounts(report), report.failing ? drawShare(report) : null, drawOrdering(report), drawOpener(),
+    element("div", { id: "about" }, command, drawAbout(report), drawScript()));
+}
+
+function drawCounts(report) {
+  const fact = (name, value, kind) =>
+    element("div", { class: kind }, element("dt", {}, name), element("dd", {}, String(value)));
+  const counted = (count, one, many, kind) => fact(count === 1 ? one : many, count, kind);
+  return element("dl", {}, fact("module", report.module, "module"), counted(report.trace.length, "patch", "patches"),
+    counted(report.closed, "closed set", "closed sets"),
+    counted(report.failing, "failing set", "failing sets", report.failing ? "bad" : ""));
+}
+
+function drawShare({ failing, closed }) {
+  return element("div", { class: "share", title: `${failing} of ${closed} closed sets fail` },
+    element("i", { style: `width:${100 * failing / closed}%` }));
+}
+
+/** What differs from the module's own ordering and checker. */
+function drawOrdering(report) {
+  const rules = (list, kind, word) => list.map(rule => element("span", { class: `rule ${kind}` }, `${word} ${rule}`));
+  return element("div", { class: "rules" }, rules(report.without, "out", "without"), rules(report.with, "in", "with"),
+    report.strict && element("span", { class: "rule in" }, "strict"));
+}
+
+function drawAbout(report) {
+  const part = (name, words) => element("span", {}, element("b", {}, `${name} `), words);
+  const meaning = MODULES[report.module] ? ` (${MODULES[report.module]})` : "";
+  return element("p", { class: "soft" },
+    part("Ordering", orderingWords(report).replace(report.module, `${report.module}${meaning}`)),
+    part("Disk", diskWords(report)), part("Checker", report.strict ? "strict" : "the usual one"));
+}
+
+function drawOpener() {
+  const file = element("input", { type: "file", id: "file", accept: ".json,application/json",
+    onchange: event => actions.open(event.target.files[0]) });
+  return element("div", { id: "other" }, file, element("label", { for: "file" }, "Open another report"));
+}
+
+/* --- the script --- */
+
+function drawScript() {
+  const text = view.run?.text;
+  if (typeof text !== "string") {
+    return element("p", { class: "soft", id: "script" }, "The script's text is not in the report. "
+      + "A page that crashmap-page makes has it.");
+  }
+  const lines = text.replace(/\n$/, "").split("\n"), start = lines.findIndex(line => line === "start");
+  const shown = lines.slice(0, MOST_LINES).map((line, k) => drawLine(line, k, start));
+  const rest = lines.length > MOST_LINES && element("li", {}, `and ${lines.length - MOST_LINES} more lines`);
+  return element("details", { id: "script", open: innerWidth > 820 },
+    element("summary", {}, `Script, ${countOf(lines.length, "line", "lines")}`), element("ol", {}, shown, rest));
+}
+
+/** The lines before `start` build the disk; the others are what a crash can interrupt. */
+function drawLine(line, k, start) {
+  const kind = line.startsWith("#") ? "comment" : k < start ? "base" : k === start ? "begin" : "traced";
+  return element("li", { class: kind }, shortened(line, MOST_LETTERS));
+}

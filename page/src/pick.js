@@ -1,0 +1,48 @@
+// Patches that a person picks: are they closed, and which disk do they leave? The page finds both by itself, from the
+// dependencies and the bytes that the report has.
+import { imageOf, replayChanges } from "./disk.js";
+import { graphOf } from "./graph.js";
+import { runsOf } from "./report.js";
+import { listOf } from "./words.js";
+
+/** The choice for picked patches. `rule` is one that the ordering is looked at without, or undefined. */
+export function pickedChoice(report, ids, rule) {
+  const set = [...new Set(ids)].sort((a, b) => a - b), graph = graphOf(report, rule);
+  const missing = graph.edges.filter(edge => set.includes(edge.to) && !set.includes(edge.from));
+  const shared = { label: "Patches that you picked", set, rule, isPicked: true, missing, ...knownFaults(report, set, rule) };
+  if (missing.length) return { ...shared, more: "not closed", faults: [], writes: [], replay: null };
+  const replay = replayChanges(report, imageOf(report, set));
+  return { ...shared, more: "closed", writes: runsOf(report, set), replay };
+}
+
+/** The picked patches, and all that they wait for. */
+export function closureOf(report, { set, rule }) {
+  const { before } = graphOf(report, rule);
+  return [...set, ...set.flatMap(id => [...before[id]])];
+}
+
+/** Whether the disk of a closed set has faults, as far as the report says. */
+function knownFaults(report, set, rule) {
+  const said = report.choices.find(choice => choice.set?.join() === set.join() && choice.rule === rule && !choice.isWhole);
+  const isAllOfIt = report.asks === "sets" || (said && report.asks === "rules");
+  if (said && isAllOfIt) return { faults: said.faults, verdict: "The report lists this set among those that fail." };
+  if (said) return { faults: said.faults, verdict: "The report lists this set with this fault; it can have others." };
+  const isListed = report.asks === "sets" && report.listed === report.choices.length - 1;
+  if (rule === undefined && (report.failing === 0 || isListed)) {
+    return { faults: [], verdict: "After replay this disk is clean, since the report does not list it as failing." };
+  }
+  return { faults: [], verdict: "The page does not check disks, and the report does not say whether this one has faults." };
+}
+
+/** What the page says of picked patches. */
+export function pickedWords(report, { missing, rule, verdict }) {
+  const under = rule === undefined ? "" : ` under the ordering without ${rule}`, title = id => `${id} ${report.trace[id].part}`;
+  if (!missing.length) {
+    return `Closed${under}: every patch that a picked one waits for is picked too, so a crash can leave this disk. `
+      + `The page worked this out from the dependencies in the report, and replay from the journal. ${verdict}`;
+  }
+  const waits = missing.slice(0, 5).map(({ from, to, why }) => `${title(to)} waits for ${title(from)} (${why.join(", ")})`);
+  const rest = missing.length > 5 ? [`${missing.length - 5} more`] : [];
+  return `Not closed${under}, so no crash can leave these patches on the disk: ${listOf([...waits, ...rest])}. `
+    + "The page worked this out from the dependencies in the report.";
+}
