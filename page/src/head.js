@@ -30,7 +30,7 @@ export function drawHead() {
   return element("header", { id: "head" },
     element("h1", {}, "crashmap ", element("span", { id: "name" }, shortened(nameNow(), MOST_LETTERS))),
     drawCounts(report), report.failing ? drawShare(report) : null, drawOrdering(report), drawOpener(),
-    element("div", { id: "about" }, command, drawAbout(report), drawScript()));
+    element("div", { id: "about" }, element("div", {}, command, drawAbout(report)), drawScript()));
 }
 
 function drawCounts(report) {
