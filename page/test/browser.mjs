@@ -2,11 +2,11 @@
 import { spawn } from "node:child_process";
 
 const KEYS = {
-  ArrowLeft: 37, ArrowUp: 38, ArrowRight: 39, ArrowDown: 40, Home: 36, End: 35, Tab: 9, Enter: 13,
+  ArrowLeft: 37, ArrowUp: 38, ArrowRight: 39, ArrowDown: 40, Home: 36, End: 35, Tab: 9, Enter: 13, " ": 32,
 };
 
 export class Browser {
-  #child; #buffer = ""; #next = 1; #waiting = new Map(); #session;
+  #child; #buffer = ""; #next = 1; #waiting = new Map(); #session; #errors = [];
 
   /** Starts the browser with a profile of its own in `folder`. */
   static async start(folder) {
@@ -14,11 +14,13 @@ export class Browser {
     browser.#child = spawn("chromium", ["--headless=new", "--no-sandbox", "--disable-gpu", "--no-first-run",
       "--disable-dev-shm-usage", `--user-data-dir=${folder}`, "--remote-debugging-pipe", "about:blank"],
     { stdio: ["ignore", "ignore", "ignore", "pipe", "pipe"] });
+    browser.#child.once("exit", () => browser.#giveUp());
     browser.#child.stdio[4].setEncoding("utf8").on("data", text => browser.#take(text));
     const { targetInfos } = await browser.#call("Target.getTargets");
     const { targetId } = targetInfos.find(target => target.type === "page");
     ({ sessionId: browser.#session } = await browser.#call("Target.attachToTarget", { targetId, flatten: true }));
     await browser.#call("Page.enable");
+    await browser.#call("Runtime.enable");
     return browser;
   }
 
@@ -27,11 +29,18 @@ export class Browser {
     const messages = this.#buffer.split("\0");
     this.#buffer = messages.pop();
     for (const message of messages.map(one => JSON.parse(one))) {
+      if (message.method === "Runtime.exceptionThrown") this.#errors.push(message.params.exceptionDetails);
       const key = message.id ?? message.method, waiting = this.#waiting.get(key);
       this.#waiting.delete(key);
       if (message.error) waiting?.reject(new Error(message.error.message));
       else waiting?.resolve(message.result ?? message.params);
     }
+  }
+
+  /** The browser has ended, so nothing that is waited for will come. */
+  #giveUp() {
+    for (const { reject } of this.#waiting.values()) reject(new Error("the browser has ended"));
+    this.#waiting.clear();
   }
 
   #call(method, params = {}) {
@@ -59,6 +68,11 @@ export class Browser {
       await this.#call("Runtime.evaluate", { expression, returnByValue: true, awaitPromise: true });
     if (exceptionDetails) throw new Error(`${expression}: ${exceptionDetails.exception?.description}`);
     return result.value;
+  }
+
+  /** What pages did not catch since this was last asked for. */
+  takeErrors() {
+    return this.#errors.splice(0).map(one => one.exception?.description ?? one.text);
   }
 
   async press(key) {

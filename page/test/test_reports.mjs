@@ -1,68 +1,7 @@
-// node page/test/test_page.mjs [FOLDER]: opens pages in a headless chromium and checks what they show against their
-// reports and against what is known of the scripts. With FOLDER, pictures of each page are left there to be looked at.
-import { execFileSync } from "node:child_process";
-import { mkdirSync, mkdtempSync, readFileSync, rmSync, writeFileSync } from "node:fs";
-import { tmpdir } from "node:os";
-import { join } from "node:path";
-import { fileURLToPath } from "node:url";
-import { Browser } from "./browser.mjs";
+// node page/test/test_reports.mjs [FOLDER]: checks what pages show against their reports and against what is known of the
+// scripts. With FOLDER, pictures of pages are left there to be looked at.
 import { cases } from "./cases.mjs";
-
-const here = fileURLToPath(new URL(".", import.meta.url));
-const folder = mkdtempSync(join(tmpdir(), "crashmap-page-"));
-const pictures = process.argv[2];
-let passed = 0, failed = 0;
-
-function check(name, got, wanted) {
-  const isSame = JSON.stringify(got) === JSON.stringify(wanted);
-  if (isSame) passed++; else failed++;
-  if (!isSame) console.log(`FAIL ${name}\n     got    ${JSON.stringify(got)}\n     wanted ${JSON.stringify(wanted)}`);
-}
-
-/** What a page shows, asked of its elements. */
-const SHOWN = `(() => {
-  const texts = what => [...document.querySelectorAll(what)].map(one => one.textContent.replace(/\\s+/g, " ").trim());
-  const nodes = [...document.querySelectorAll("#drawing .node")]
-    .map(one => ({ id: Number(one.dataset.id), state: one.dataset.state, kinds: [...one.classList] }));
-  const ids = test => nodes.filter(test).map(node => node.id);
-  const rows = [...document.querySelectorAll("#disk tbody tr[data-place]")].map(row => [row.dataset.place,
-    { named: row.classList.contains("named"), words: [...row.querySelectorAll("td")].map(one => one.textContent) }]);
-  const drawn = [...document.querySelectorAll("#drawing > .edge")];
-  const edges = drawn.map(one => one.dataset.from + " " + one.dataset.to);
-  const reasons = drawn.map(one => one.getAttribute("aria-label"));
-  return {
-    facts: texts("#head dl div"), rules: texts(".rule"), choices: texts("#choices button"),
-    verdict: texts("#choices .verdict"), columns: texts(".column .op"), faults: texts(".fault"),
-    steps: texts("#steps button b"), end: texts("#steps .end"),
-    disk: ids(node => node.state === "disk"), later: ids(node => node.state === "later"),
-    lost: ids(node => node.state === "lost"), named: ids(node => node.kinds.includes("named")),
-    ready: ids(node => node.state === "lost" && node.kinds.includes("ready")),
-    rows: Object.fromEntries(rows), edges: edges.sort(), reasons: reasons.sort(), at: texts("#bar output")[0],
-    focus: document.activeElement?.textContent.replace(/\\s+/g, " ").trim(),
-    sideways: document.documentElement.scrollWidth - document.documentElement.clientWidth,
-    page: getComputedStyle(document.body).backgroundColor,
-  };
-})()`;
-
-const browser = await Browser.start(join(folder, "profile"));
-const shown = () => browser.ask(SHOWN);
-
-/** Stitches a case's page and opens it at a choice and a step; answers its report. */
-async function open(name, address = "") {
-  const report = join(here, "reports", `${name}.json`), page = join(folder, `${name}.html`);
-  const stitched = execFileSync(join(here, "../stitch"), [report]);
-  writeFileSync(page, stitched);
-  const fetches = /(?:src|href|action)="|url\((?!#)|@import|fetch\(|import\(/;
-  check(`${name}: it fetches nothing`, fetches.test(stitched), false);
-  await browser.open(`file://${page}${address}`);
-  return JSON.parse(readFileSync(report, "utf8"));
-}
-
-async function keepPicture(name) {
-  if (!pictures) return;
-  mkdirSync(pictures, { recursive: true });
-  writeFileSync(join(pictures, `${name}.png`), await browser.picture());
-}
+import { browser, check, keepPicture, open, openEmpty, run, shown } from "./harness.mjs";
 
 /* --- what holds of every page, said from its report alone --- */
 
@@ -245,19 +184,11 @@ async function testLong() {
 }
 
 async function testNoReport() {
-  const page = join(folder, "empty.html");
-  writeFileSync(page, execFileSync(join(here, "../stitch")));
-  await browser.open(`file://${page}`);
+  await openEmpty();
   const words = await browser.ask("document.body.textContent");
   check("a page without a report asks for one", words.includes("Drop a report here"), true);
-  check("every case is tested", Object.keys(cases).length, 11);
+  check("every case is tested", Object.keys(cases).length, 13);
 }
 
-await browser.size(1280, 800);
-const tests = [testCreate, testReuse, testPointer, testTwice, testNothingFails, testOrderings, testKeyboard,
-  testSizesAndSchemes, testLong, testNoReport];
-for (const test of tests) await test();
-await browser.stop();
-rmSync(folder, { recursive: true, force: true, maxRetries: 20, retryDelay: 200 });
-console.log(`${passed} passed, ${failed} failed`);
-process.exit(failed ? 1 : 0);
+await run([testCreate, testReuse, testPointer, testTwice, testNothingFails, testOrderings, testKeyboard,
+  testSizesAndSchemes, testLong, testNoReport]);
