@@ -23,15 +23,18 @@ export function closureOf(report, { set, rule }) {
 
 /** Whether the disk of a closed set has faults, as far as the report says. */
 function knownFaults(report, set, rule) {
-  const said = report.choices.find(choice => choice.set?.join() === set.join() && choice.rule === rule && !choice.isWhole);
-  const isAllOfIt = report.asks === "sets" || (said && report.asks === "rules");
-  if (said && isAllOfIt) return { faults: said.faults, verdict: "The report lists this set among those that fail." };
-  if (said) return { faults: said.faults, verdict: "The report lists this set with this fault; it can have others." };
-  const isListed = report.asks === "sets" && report.listed === report.choices.length - 1;
-  if (rule === undefined && (report.failing === 0 || isListed)) {
-    return { faults: [], verdict: "After replay this disk is clean, since the report does not list it as failing." };
+  const isSame = choice => choice.set?.join() === set.join() && choice.rule === rule && !choice.isWhole;
+  const faults = report.choices.filter(isSame).flatMap(choice => choice.faults);
+  if (faults.length && report.asks === "faults") {
+    return { faults, verdict: "The report lists this set with what is said above; it can have other faults." };
   }
-  return { faults: [], verdict: "The page does not check disks, and the report does not say whether this one has faults." };
+  if (faults.length) return { faults, verdict: "The report lists this set among those that fail." };
+  const areAllListed = report.asks === "sets" && report.listed === report.choices.length - 1;
+  if (rule === undefined && (report.failing === 0 || areAllListed)) {
+    return { faults, verdict: "After replay this disk is clean, since the report does not list it as failing." };
+  }
+  return { faults,
+    verdict: "The page does not check disks, and the report does not say whether this one has faults." };
 }
 
 /** What the page says of picked patches. */

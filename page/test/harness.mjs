@@ -50,13 +50,23 @@ export async function openBytes(name, bytes, address = "") {
   await browser.open(`file://${page}${address}`);
 }
 
-/** Stitches a page of a text and opens it at a choice and a step. */
-export async function openText(name, text, address = "") {
+/** The pages that were stitched, by the report's name, with the report's text. */
+const stitchedPages = new Map();
+
+function stitch(name, text) {
+  if (stitchedPages.get(name)?.text === text) return stitchedPages.get(name).page;
   const report = join(folder, `${name}.json`);
   writeFileSync(report, text);
-  const stitched = execFileSync(join(here, "../stitch"), [report], { maxBuffer: 1 << 30 });
-  await openBytes(name, stitched, address);
-  return stitched;
+  const page = execFileSync(join(here, "../stitch"), [report], { maxBuffer: 1 << 30 });
+  stitchedPages.set(name, { text, page });
+  return page;
+}
+
+/** Stitches a page of a report's text and opens it at a choice and a step; answers the page. */
+export async function openText(name, text, address = "") {
+  const page = stitch(name, text);
+  await openBytes(name, page, address);
+  return page;
 }
 
 /** Opens the page of one of `reports/` and answers the report. */
@@ -81,6 +91,20 @@ export async function openMade(name, script, words, address = "") {
 export async function openEmpty() {
   await openBytes("empty", execFileSync(join(here, "../stitch")));
 }
+
+/** Gives the page a file as one does who drops it, and answers what the page then shows. */
+const DROP = `async (text) => {
+  const data = new DataTransfer();
+  data.items.add(new File([text], "dropped.json"));
+  const seen = new Promise(done => new MutationObserver((_, observer) => { observer.disconnect(); done(); })
+    .observe(document.getElementById("page"), { childList: true }));
+  dispatchEvent(new DragEvent("drop", { dataTransfer: data, cancelable: true }));
+  await seen;
+  const error = document.querySelector("#drop .error")?.textContent;
+  return error ?? (document.querySelector("#disk header") ? "shown" : "neither shown nor refused");
+}`;
+
+export const drop = text => browser.ask(`(${DROP})(${JSON.stringify(text)})`);
 
 /** Leaves a picture of what is in view, where pictures are wanted. */
 export async function keepPicture(name) {
@@ -110,7 +134,7 @@ const SHOWN = `(() => {
     lost: ids(node => node.state === "lost"), named: ids(node => node.kinds.includes("named")),
     ready: ids(node => node.state === "lost" && node.kinds.includes("ready")),
     rows: Object.fromEntries(rows), edges: edges.sort(), reasons: reasons.sort(), at: texts("#bar output")[0],
-    title: document.title, meanings: texts(".meaning"), words: texts(".facts > p:not(.fault):not(.meaning)"),
+    title: document.title, meanings: texts(".meaning"), words: texts(".facts > p:not(.fault):not(.meaning):not(.soft)"),
     error: texts("#drop .error"), cut: texts(".cut"), key: texts("#graph .key > span"),
     focus: document.activeElement?.textContent.replace(/\\s+/g, " ").trim(),
     sideways: document.documentElement.scrollWidth - document.documentElement.clientWidth,

@@ -1,5 +1,5 @@
 // node page/test/test_bad.mjs: report files that the page cannot show, or not all of, leave a page that says what is wrong.
-import { browser, check, open, openText, reportOf, reportText, run, shown } from "./harness.mjs";
+import { browser, check, drop, open, openText, reportOf, reportText, run, shown } from "./harness.mjs";
 
 const FORM = "This report has an unexpected form: ";
 const HTML = '</script><script>document.title = "broken"</script><img src=x onerror="document.title = \'broken\'">';
@@ -83,20 +83,6 @@ const odd = [
   ["sets", r => { r.failing = 36; }, "failing must be a list, but it is \"36\" (a number)."],
   ["sets", r => { r.failing[35].set = {}; }, "failing[35].set must be a list, but it is an object."],
 ];
-
-/** Gives the page a file as one does who drops it, and answers what the page then shows. */
-const DROP = `async (text) => {
-  const data = new DataTransfer();
-  data.items.add(new File([text], "dropped.json"));
-  const seen = new Promise(done => new MutationObserver((_, observer) => { observer.disconnect(); done(); })
-    .observe(document.getElementById("page"), { childList: true }));
-  dispatchEvent(new DragEvent("drop", { dataTransfer: data, cancelable: true }));
-  await seen;
-  const error = document.querySelector("#drop .error")?.textContent;
-  return error ?? (document.querySelector("#disk header") ? "shown" : "neither shown nor refused");
-}`;
-
-const drop = text => browser.ask(`(${DROP})(${JSON.stringify(text)})`);
 
 /** The page says this, asks for another report, and has run no code of the file. */
 function checkSays(name, page, words) {

@@ -1,0 +1,243 @@
+"""The page: what a browser shows of reports, good ones and bad ones, and what `crashmap-page` and `page/stitch` write.
+
+It needs Debian's chromium and node; `.ci/install` installs them. `tests/program.py` says which program is run.
+"""
+
+import json
+import os
+import pathlib
+import re
+import shutil
+import subprocess
+import sys
+import tempfile
+import unittest
+
+sys.path.insert(0, str(pathlib.Path(__file__).resolve().parent))
+from program import ROOT, program
+
+PAGE = ROOT / "page"
+sys.path.insert(0, str(PAGE))
+from stitching import StitchError, joined, page_of
+
+SECONDS = 400
+MOST_LETTERS = 6000
+CREATE = b"start\ncreate /a\n"
+CLEAN = b"start\ncreate /a\nwrite /a\n"
+
+
+def cases():
+    """The scripts and words of the page's reports, by name."""
+    return json.loads((PAGE / "test/cases.json").read_text())
+
+
+def report_of(name):
+    return (PAGE / "test/reports" / f"{name}.json").read_bytes()
+
+
+def script_of(case):
+    return "".join(line + "\n" for line in case["script"]).encode()
+
+
+def run(words, given=b"", **environment):
+    """Status, standard output and standard error of a command."""
+    done = subprocess.run([str(word) for word in words], input=given, capture_output=True, timeout=SECONDS,
+                          env={**os.environ, **environment}, check=False)
+    return done.returncode, done.stdout, done.stderr
+
+
+class InABrowser(unittest.TestCase):
+    """Each file of tests in JavaScript passes in chromium."""
+
+    def passes(self, name):
+        for needed in ("chromium", "node"):
+            self.assertIsNotNone(shutil.which(needed), f"{needed} is not installed; .ci/install installs it")
+        status, out, err = run(["node", PAGE / "test" / name])
+        said = (out + err).decode(errors="replace")
+        counts = re.fullmatch(r"(\d+) passed, 0 failed", out.decode(errors="replace").rstrip().split("\n")[-1])
+        self.assertTrue(counts and int(counts[1]) > 0 and status == 0, said[:MOST_LETTERS])
+
+    def test_reports_are_shown(self):
+        self.passes("test_reports.mjs")
+
+    def test_the_page_says_what_it_shows(self):
+        self.passes("test_words.mjs")
+
+    def test_bad_reports_leave_a_page_that_says_what_is_wrong(self):
+        self.passes("test_bad.mjs")
+
+
+class Reports(unittest.TestCase):
+    """The reports that the browser is tried on are those of the program."""
+
+    def test_each_report_is_the_programs(self):
+        for name, case in cases().items():
+            with self.subTest(name):
+                words = [program(), *case["words"], "--json", "--explain"]
+                status, out, err = run(words, script_of(case))
+                self.assertEqual((status in (0, 1), err), (True, b""))
+                self.assertTrue(out == report_of(name), "another report than the reference's")
+
+    def test_each_report_has_a_case(self):
+        self.assertEqual(sorted(cases()), sorted(path.stem for path in (PAGE / "test/reports").glob("*.json")))
+
+
+class CrashmapPage(unittest.TestCase):
+    """`crashmap-page` writes the page of the program's report, or else what the program prints."""
+
+    def setUp(self):
+        folder = tempfile.TemporaryDirectory()
+        self.addCleanup(folder.cleanup)
+        self.folder = pathlib.Path(folder.name)
+        self.script = self.folder / "a script"
+        self.script.write_bytes(CREATE)
+
+    def make(self, *words, given=b"", of=None):
+        """What crashmap-page answers to these words, over the built program or another."""
+        return run([ROOT / "crashmap-page", *words], given, CRASHMAP_PROGRAM=str(of or program()))
+
+    def page_of_case(self, name, script, text, words):
+        return page_of(report_of(name), {"script": script, "text": text.decode(), "words": [str(one) for one in words]})
+
+    def is_the_programs(self, *words, given=b""):
+        """crashmap-page writes nothing of its own: the program's answer to the words, byte for byte."""
+        wanted = run([program(), *words], given)
+        self.assertEqual(self.make(*words, given=given), wanted)
+        return wanted
+
+    def test_a_set_fails(self):
+        words = [self.script, "--module", "async"]
+        page = self.page_of_case("create", "a script", CREATE, words)
+        self.assertEqual(self.make(*words), (1, page, b""))
+
+    def test_no_set_fails(self):
+        self.script.write_bytes(CLEAN)
+        words = ["--module", "soft", self.script]
+        self.assertEqual(self.make(*words), (0, self.page_of_case("safe", "a script", CLEAN, words), b""))
+
+    def test_options_that_it_adds_are_given(self):
+        words = [self.script, "--summary", "--module=async", "--json", "--explain"]
+        self.assertEqual(self.make(*words), (1, self.page_of_case("create", "a script", CREATE, words), b""))
+
+    def test_options_end(self):
+        words = ["--module", "async", "--", self.script]
+        self.assertEqual(self.make(*words), (1, self.page_of_case("create", "a script", CREATE, words), b""))
+
+    def test_rules(self):
+        case = cases()["needs"]
+        self.script.write_bytes(script_of(case))
+        words = ["--needs", "--module", "soft", self.script]
+        self.assertEqual(self.make(*words), (0, self.page_of_case("needs", "a script", script_of(case), words), b""))
+
+    def test_standard_input(self):
+        words = ["--module", "async"]
+        page = self.page_of_case("create", "standard input", CREATE, words)
+        self.assertEqual(self.make(*words, given=CREATE), (1, page, b""))
+
+    def test_a_script_that_can_be_read_but_once(self):
+        command = 'exec "$0" --module async <(cat "$1") 2>&1'
+        status, out, _ = run(["bash", "-c", command, ROOT / "crashmap-page", self.script], CRASHMAP_PROGRAM=str(program()))
+        self.assertEqual((status, out[:15], b'"text": null' in out), (1, b"<!doctype html>", True))
+
+    def test_a_script_with_html_in_it(self):
+        text = b"# </script><!--<script>\xff\n" + CREATE
+        self.script.write_bytes(text)
+        stand_in = self.folder / "prints"
+        stand_in.write_text(f"#!/bin/sh\ncat '{PAGE}/test/reports/create.json'\nexit 1\n")
+        stand_in.chmod(0o755)
+        status, out, err = self.make(self.script, of=stand_in)
+        self.assertEqual((status, err, out.count(b"</script>"), out.count(b"<script")), (1, b"", 3, 3))
+        self.assertNotIn(b"<!--", out)
+
+    def test_help(self):
+        status, out, _ = self.is_the_programs("--help")
+        self.assertEqual((status, b"--module" in out), (0, True))
+
+    def test_help_beside_other_words(self):
+        self.is_the_programs(self.script, "-h")
+
+    def test_version(self):
+        status, out, _ = self.is_the_programs("--version")
+        self.assertEqual((status, out.startswith(b"crashmap ")), (0, True))
+
+    def test_a_script_is_refused(self):
+        status, out, err = self.is_the_programs(self.script, "--limit", "1")
+        self.assertEqual((status, out, err), (2, b"", b"crashmap: 30 too many closed sets\n"))
+
+    def test_standard_input_is_refused(self):
+        self.assertEqual(self.is_the_programs("--module", "async", given=b"create /a\n")[:2], (2, b""))
+
+    def test_a_word_is_refused(self):
+        status, out, err = self.is_the_programs("--nope")
+        self.assertEqual((status, out, err != b""), (2, b"", True))
+
+    def test_there_is_no_such_script(self):
+        self.assertEqual(self.is_the_programs(self.folder / "none")[:2], (2, b""))
+
+    def test_there_is_no_program(self):
+        status, out, err = self.make(self.script, of=self.folder / "none")
+        self.assertEqual((status, out, err.startswith(b"crashmap-page: cannot run ")), (2, b"", True))
+
+    def test_the_page_cannot_be_written(self):
+        with open("/dev/full", "wb") as full:
+            done = subprocess.run([ROOT / "crashmap-page", self.script, "--module", "async"], stdout=full, timeout=SECONDS,
+                                  stderr=subprocess.PIPE, env={**os.environ, "CRASHMAP_PROGRAM": str(program())}, check=False)
+        self.assertEqual((done.returncode, done.stderr), (2, b"crashmap-page: cannot write the page: "
+                                                            b"No space left on device\n"))
+
+
+class Stitch(unittest.TestCase):
+    """`page/stitch` joins modules, and refuses those that it cannot join."""
+
+    def setUp(self):
+        folder = tempfile.TemporaryDirectory()
+        self.addCleanup(folder.cleanup)
+        self.folder = pathlib.Path(folder.name)
+
+    def refuses(self, words, **modules):
+        for name, text in modules.items():
+            (self.folder / f"{name}.js").write_text(text)
+        with self.assertRaisesRegex(StitchError, words):
+            joined(self.folder)
+
+    def test_modules_are_joined(self):
+        (self.folder / "start.js").write_text('import { two, one } from "./low.js";\nconsole.log(one, two());\n')
+        (self.folder / "low.js").write_text("const one = 1;\nexport { one };\n\nexport function two() { return 2; }\n")
+        status, out, _ = run(["node", "-e", joined(self.folder)])
+        self.assertEqual((status, out), (0, b"1 2\n"))
+
+    def test_a_name_is_seen_in_its_module_alone(self):
+        (self.folder / "start.js").write_text('import { one } from "./low.js";\nconsole.log(one, typeof hidden);\n')
+        (self.folder / "low.js").write_text("const hidden = 2;\nexport const one = 1;\n")
+        self.assertEqual(run(["node", "-e", joined(self.folder)])[:2], (0, b"1 undefined\n"))
+
+    def test_a_circle(self):
+        self.refuses("in a circle: start -> low -> start", start='import { a } from "./low.js";\nexport const b = 1;\n',
+                     low='import { b } from "./start.js";\nexport const a = 1;\n')
+
+    def test_a_name_that_is_not_exported(self):
+        self.refuses("start.js imports a from low.js, which does not export it",
+                     start='import { a } from "./low.js";\n', low="const a = 1;\n")
+
+    def test_a_file_that_is_not_there(self):
+        self.refuses("start.js imports from low.js, and there is no such file", start='import { a } from "./low.js";\n')
+
+    def test_a_file_that_nothing_imports(self):
+        self.refuses("nothing imports low.js", start="", low="export const a = 1;\n")
+
+    def test_another_form(self):
+        self.refuses("does not know this form: export default", start="export default 1;\n")
+
+    def test_the_end_of_a_script_in_the_code(self):
+        self.refuses("would end the script", start='const end = "</script>";\n')
+
+    def test_no_such_report(self):
+        status, out, err = run([PAGE / "stitch", self.folder / "none"])
+        self.assertEqual((status, out, err.startswith(b"stitch: ")), (1, b"", True))
+
+    def test_two_reports(self):
+        self.assertEqual(run([PAGE / "stitch", "one", "two"])[:2], (1, b""))
+
+
+if __name__ == "__main__":
+    unittest.main()
