@@ -6,6 +6,7 @@ It needs Debian's chromium and node; `.ci/install` installs them. `tests/program
 import json
 import os
 import pathlib
+import pty
 import re
 import shutil
 import subprocess
@@ -136,7 +137,8 @@ class CrashmapPage(unittest.TestCase):
 
     def test_a_script_that_can_be_read_but_once(self):
         command = 'exec "$0" --module async <(cat "$1") 2>&1'
-        status, out, _ = run(["bash", "-c", command, ROOT / "crashmap-page", self.script], CRASHMAP_PROGRAM=str(program()))
+        words = ["bash", "-c", command, ROOT / "crashmap-page", self.script]
+        status, out, _ = run(words, CRASHMAP_PROGRAM=str(program()))
         self.assertEqual((status, out[:15], b'"text": null' in out), (1, b"<!doctype html>", True))
 
     def test_a_script_with_html_in_it(self):
@@ -174,16 +176,36 @@ class CrashmapPage(unittest.TestCase):
     def test_there_is_no_such_script(self):
         self.assertEqual(self.is_the_programs(self.folder / "none")[:2], (2, b""))
 
+    def test_what_is_no_report_is_passed_on(self):
+        stand_in = self.folder / "prints"
+        stand_in.write_text("#!/bin/sh\necho rules\necho said >&2\n")
+        stand_in.chmod(0o755)
+        self.assertEqual(self.make(self.script, of=stand_in), (0, b"rules\n", b"said\n"))
+
+    def test_a_terminal(self):
+        """With no words, on a terminal, it says that it reads standard input; elsewhere it says nothing."""
+        ours, theirs = pty.openpty()
+        environment = {**os.environ, "CRASHMAP_PROGRAM": str(program())}
+        with subprocess.Popen([ROOT / "crashmap-page"], stdin=theirs, stderr=theirs, stdout=subprocess.PIPE,
+                              env=environment) as child:
+            os.write(ours, CREATE + b"\x04")
+            page = child.stdout.read()
+        os.close(theirs)
+        said = os.read(ours, MOST_LETTERS)
+        os.close(ours)
+        self.assertEqual((child.returncode, page[:15]), (0, b"<!doctype html>"))
+        self.assertIn(b"crashmap-page: reading the script from standard input\r\n", said)
+        self.assertEqual(self.make(given=CREATE)[2], b"")
+
     def test_there_is_no_program(self):
         status, out, err = self.make(self.script, of=self.folder / "none")
         self.assertEqual((status, out, err.startswith(b"crashmap-page: cannot run ")), (2, b"", True))
 
     def test_the_page_cannot_be_written(self):
-        with open("/dev/full", "wb") as full:
-            done = subprocess.run([ROOT / "crashmap-page", self.script, "--module", "async"], stdout=full, timeout=SECONDS,
-                                  stderr=subprocess.PIPE, env={**os.environ, "CRASHMAP_PROGRAM": str(program())}, check=False)
-        self.assertEqual((done.returncode, done.stderr), (2, b"crashmap-page: cannot write the page: "
-                                                            b"No space left on device\n"))
+        command = 'exec "$0" --module async "$1" >/dev/full'
+        words = ["bash", "-c", command, ROOT / "crashmap-page", self.script]
+        wanted = b"crashmap-page: cannot write the page: No space left on device\n"
+        self.assertEqual(run(words, CRASHMAP_PROGRAM=str(program())), (2, b"", wanted))
 
 
 class Stitch(unittest.TestCase):

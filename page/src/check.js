@@ -7,7 +7,8 @@ export class ReportError extends Error {}
 
 /** Longer lists of faults, rules or failing sets are shown up to here. */
 export const MOST_CHOICES = 500;
-const MOST_PATCHES = 1000, BLOCK_BYTES = 128, FEWEST_BLOCKS = 16, MOST_BLOCKS = 128, OUTSIDE_JOURNAL = 6;
+const MOST_PATCHES = 1000, MOST_LETTERS = 40;
+const BLOCK_BYTES = 128, FEWEST_BLOCKS = 16, MOST_BLOCKS = 128, OUTSIDE_JOURNAL = 6;
 
 const isObject = value => typeof value === "object" && value !== null && !Array.isArray(value);
 
@@ -17,7 +18,8 @@ function kindOf(value) {
   if (value === null) return "null";
   if (Array.isArray(value)) return `a list of ${value.length}`;
   if (typeof value === "object") return "an object";
-  return `${JSON.stringify(shortened(String(value), 40))}${typeof value === "string" ? "" : ` (a ${typeof value})`}`;
+  if (typeof value === "string") return `the text ${JSON.stringify(shortened(value, MOST_LETTERS))}`;
+  return typeof value === "number" ? `the number ${value}` : String(value);
 }
 
 function must(holds, place, wanted, value) {
@@ -60,8 +62,8 @@ function checkBase(base) {
   base.forEach((block, b) => checkHex(`base[${b}]`, block, BLOCK_BYTES, BLOCK_BYTES));
   const [blocks, journal] = [2, 4].map(at => parseInt(base[0].slice(at, at + 2), 16));
   must(blocks === base.length, "base", `as long as its superblock says (${blocks} blocks)`, base);
-  must(journal <= blocks - OUTSIDE_JOURNAL, "the journal in the superblock", `at most ${blocks - OUTSIDE_JOURNAL} blocks`,
-    journal);
+  const most = blocks - OUTSIDE_JOURNAL;
+  must(journal <= most, "the journal in the superblock", `at most ${most} blocks`, journal);
 }
 
 function checkTrace(trace, blocks) {
@@ -170,7 +172,8 @@ function checkLists(json) {
       + "Make it with --json --explain --summary.");
   }
   checkList(name, json[name]);
-  if (name !== "failing") checkCount(name === "faults" ? "sets" : "failing", json[name === "faults" ? "sets" : "failing"], 0, json.closed);
+  if (name === "faults") checkCount("sets", json.sets, 0, json.closed);
+  else if (name === "rules") checkCount("failing", json.failing, 0, json.closed);
   else must(json.failing.length <= json.closed, "failing", `a list of at most ${json.closed} sets`, json.failing);
   json[name].slice(0, MOST_CHOICES).forEach((one, k) => check(`${name}[${k}]`, one, json));
 }

@@ -78,9 +78,9 @@ function patchesOfNames(report, faults) {
 const FAULT_MEANINGS = {
   1: "A directory entry names an inode that is free or does not exist. The name leads nowhere, and later to whatever "
     + "file gets that inode.",
-  2: "Two pointers name the same block, so a write to one file changes the other.",
-  3: "A file or directory points to a block that does not hold its own data. Reading it shows what the block held "
-    + "before.",
+  2: "Two pointers name the same block, so a write through one of them changes what the other shows.",
+  3: "A file or directory points to a block that does not hold its own data. Reading it shows old bytes, or those of "
+    + "another file.",
   4: "More names lead to an inode than its link count says. Deleting some of them frees the inode while others still "
     + "lead to it.",
   5: "A block is in use, but the map says that it is free, so the file system can give it to another file.",

@@ -5,14 +5,17 @@ import { graphOf } from "./graph.js";
 import { runsOf } from "./report.js";
 import { listOf } from "./words.js";
 
+/** So many missing patches are named. */
+const MOST_MISSING = 5;
+
 /** The choice for picked patches. `rule` is one that the ordering is looked at without, or undefined. */
 export function pickedChoice(report, ids, rule) {
   const set = [...new Set(ids)].sort((a, b) => a - b), graph = graphOf(report, rule);
   const missing = graph.edges.filter(edge => set.includes(edge.to) && !set.includes(edge.from));
-  const shared = { label: "Patches that you picked", set, rule, isPicked: true, missing, ...knownFaults(report, set, rule) };
+  const shared = { label: "Patches that you picked", set, rule, isPicked: true, missing };
   if (missing.length) return { ...shared, more: "not closed", faults: [], writes: [], replay: null };
   const replay = replayChanges(report, imageOf(report, set));
-  return { ...shared, more: "closed", writes: runsOf(report, set), replay };
+  return { ...shared, more: "closed", ...knownFaults(report, set, rule), writes: runsOf(report, set), replay };
 }
 
 /** The picked patches, and all that they wait for. */
@@ -39,13 +42,15 @@ function knownFaults(report, set, rule) {
 
 /** What the page says of picked patches. */
 export function pickedWords(report, { missing, rule, verdict }) {
-  const under = rule === undefined ? "" : ` under the ordering without ${rule}`, title = id => `${id} ${report.trace[id].part}`;
+  const under = rule === undefined ? "" : ` under the ordering without ${rule}`;
   if (!missing.length) {
     return `Closed${under}: every patch that a picked one waits for is picked too, so a crash can leave this disk. `
       + `The page worked this out from the dependencies in the report, and replay from the journal. ${verdict}`;
   }
-  const waits = missing.slice(0, 5).map(({ from, to, why }) => `${title(to)} waits for ${title(from)} (${why.join(", ")})`);
-  const rest = missing.length > 5 ? [`${missing.length - 5} more`] : [];
-  return `Not closed${under}, so no crash can leave these patches on the disk: ${listOf([...waits, ...rest])}. `
+  const rest = missing.length - MOST_MISSING, title = id => `${id} ${report.trace[id].part}`;
+  const waits = missing.slice(0, MOST_MISSING)
+    .map(({ from, to, why }) => `${title(to)} waits for ${title(from)} (${why.join(", ")})`);
+  const all = listOf(rest > 0 ? [...waits, `${rest} more`] : waits);
+  return `Not closed${under}, so no crash can leave these patches on the disk: ${all}. `
     + "The page worked this out from the dependencies in the report.";
 }

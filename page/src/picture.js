@@ -118,7 +118,8 @@ function moveNode(event) {
 }
 
 function focusNode(id) {
-  const nodes = [...byId("drawing").querySelectorAll(".node")], next = nodes.find(node => node.dataset.id === String(id));
+  const nodes = [...byId("drawing").querySelectorAll(".node")];
+  const next = nodes.find(node => node.dataset.id === String(id));
   if (!next) return;
   for (const node of nodes) node.setAttribute("tabindex", node === next ? 0 : -1);
   next.focus();

@@ -65,7 +65,7 @@ function drawNoDisk(choice) {
 }
 
 function setWords(choice) {
-  const which = choice.rule ? `; the first crash that ${choice.rule} prevents`
+  const which = choice.isPicked ? "" : choice.rule ? `; the first crash that ${choice.rule} prevents`
     : choice.count > 1 ? `; the first of ${choice.count}` : "";
   return `Patches on disk: ${choice.set.length ? choice.set.join(" ") : "none"}${which}`;
 }

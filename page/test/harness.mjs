@@ -81,7 +81,8 @@ export async function open(name, address = "") {
 export async function openMade(name, script, words, address = "") {
   const path = join(folder, "a script");
   writeFileSync(path, script);
-  const env = { ...process.env, CRASHMAP_PROGRAM: join(here, "print_report"), REPORT: join(here, "reports", `${name}.json`) };
+  const report = join(here, "reports", `${name}.json`);
+  const env = { ...process.env, CRASHMAP_PROGRAM: join(here, "print_report"), REPORT: report };
   const made = spawnSync(join(here, "../../crashmap-page"), [path, ...words], { env, maxBuffer: 1 << 30 });
   await openBytes(name, made.stdout, address);
   return path;

@@ -1,5 +1,5 @@
-// node page/test/test_reports.mjs [FOLDER]: checks what pages show against their reports and against what is known of the
-// scripts. With FOLDER, pictures of pages are left there to be looked at.
+// node page/test/test_reports.mjs [FOLDER]: checks what pages show against their reports and against what is known of
+// the scripts. With FOLDER, pictures of pages are left there to be looked at.
 import { cases } from "./cases.mjs";
 import { browser, check, keepPicture, open, openEmpty, run, shown } from "./harness.mjs";
 
