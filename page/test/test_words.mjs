@@ -30,6 +30,21 @@ async function testHead() {
   await keepPicture("head");
 }
 
+/** Long words and lines are broken, and a long script is scrolled. */
+async function testLongHead() {
+  const lines = Array.from({ length: 600 }, (_, k) => `# line ${k} ${"long".repeat(60)}`);
+  const words = Array.from({ length: 16 }, () => "--with=Ptr:previous-InodeInit");
+  for (const width of [390, 760, 1280]) {
+    await browser.size(width, 800);
+    await openMade("pointer", [...lines, "start", ""].join("\n"), words);
+    check(`${width}: a long head does not hang over the side`, (await shown()).sideways, 0);
+    await keepPicture(`long_head_${width}`);
+  }
+  const { lines: said } = await browser.ask(HEAD), height = await browser.ask('document.querySelector("#head").clientHeight');
+  check("400 lines of a script are shown", [said.length, said.at(-1)[1]], [401, "and 201 more lines"]);
+  check("the head leaves room for the page", height < 400, true);
+}
+
 async function testHeadOfAReport() {
   await open("reuse");
   const head = await browser.ask(HEAD);
@@ -240,5 +255,5 @@ async function testPickingByKeys() {
   check("an address with patches that there are not is passed over", (await shown()).disk, [0, 2]);
 }
 
-await run([testHead, testHeadOfAReport, testMeanings, testRulesWithPairsFirst, testCleanRun, testCleanRunWithAJournal,
+await run([testHead, testLongHead, testHeadOfAReport, testMeanings, testRulesWithPairsFirst, testCleanRun, testCleanRunWithAJournal,
   testEverySet, testNotClosed, testPickedIsAsReported, testWhatIsKnown, testPickedWithoutARule, testPickingByKeys]);
