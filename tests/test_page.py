@@ -144,10 +144,8 @@ class CrashmapPage(unittest.TestCase):
     def test_a_script_with_html_in_it(self):
         text = b"# </script><!--<script>\xff\n" + CREATE
         self.script.write_bytes(text)
-        stand_in = self.folder / "prints"
-        stand_in.write_text(f"#!/bin/sh\ncat '{PAGE}/test/reports/create.json'\nexit 1\n")
-        stand_in.chmod(0o755)
-        status, out, err = self.make(self.script, of=stand_in)
+        printing = self.stand_in(f"cat '{PAGE}/test/reports/create.json'\nexit 1\n")
+        status, out, err = self.make(self.script, of=printing)
         self.assertEqual((status, err, out.count(b"</script>"), out.count(b"<script")), (1, b"", 3, 3))
         self.assertNotIn(b"<!--", out)
 
@@ -176,11 +174,26 @@ class CrashmapPage(unittest.TestCase):
     def test_there_is_no_such_script(self):
         self.assertEqual(self.is_the_programs(self.folder / "none")[:2], (2, b""))
 
+    def stand_in(self, text, path="prints"):
+        """A program in place of crashmap."""
+        made = self.folder / path
+        made.write_text("#!/bin/sh\n" + text)
+        made.chmod(0o755)
+        return made
+
     def test_what_is_no_report_is_passed_on(self):
-        stand_in = self.folder / "prints"
-        stand_in.write_text("#!/bin/sh\necho rules\necho said >&2\n")
-        stand_in.chmod(0o755)
-        self.assertEqual(self.make(self.script, of=stand_in), (0, b"rules\n", b"said\n"))
+        printing = self.stand_in("echo rules\necho said >&2\n")
+        self.assertEqual(self.make(self.script, of=printing), (0, b"rules\n", b"said\n"))
+
+    def test_the_launcher_beside_it_is_run(self):
+        """Its first words stay first, and what the page needs comes last."""
+        shutil.copytree(PAGE, self.folder / "page")
+        shutil.copy(ROOT / "crashmap-page", self.folder)
+        self.stand_in('echo "$@"\n', "crashmap")
+        environment = {name: value for name, value in os.environ.items() if name != "CRASHMAP_PROGRAM"}
+        words = [self.folder / "crashmap-page", "--unproved", "a", "--strict"]
+        said = subprocess.run(words, env=environment, stdout=subprocess.PIPE, timeout=SECONDS, check=True).stdout
+        self.assertEqual(said, b"--unproved a --strict --json --explain --summary\n")
 
     def test_a_terminal(self):
         """With no words, on a terminal, it says that it reads standard input; elsewhere it says nothing."""

@@ -26,7 +26,8 @@ export function titleNow() {
 
 export function drawHead() {
   const { report, run } = view;
-  const command = run?.words && element("code", { id: "command" }, `crashmap ${run.words.map(quoted).join(" ")}`);
+  const words = run?.words?.flatMap(word => [" ", element("span", {}, quoted(word))]);
+  const command = words && element("code", { id: "command" }, "crashmap", words);
   return element("header", { id: "head" },
     element("h1", {}, "crashmap ", element("span", { id: "name" }, shortened(nameNow(), MOST_LETTERS))),
     drawCounts(report), report.failing ? drawShare(report) : null, drawOrdering(report), drawOpener(),

@@ -40,7 +40,8 @@ async function testLongHead() {
     check(`${width}: a long head does not hang over the side`, (await shown()).sideways, 0);
     await keepPicture(`long_head_${width}`);
   }
-  const { lines: said } = await browser.ask(HEAD), height = await browser.ask('document.querySelector("#head").clientHeight');
+  const { lines: said } = await browser.ask(HEAD);
+  const height = await browser.ask('document.querySelector("#head").clientHeight');
   check("400 lines of a script are shown", [said.length, said.at(-1)[1]], [401, "and 201 more lines"]);
   check("the head leaves room for the page", height < 400, true);
 }
@@ -176,7 +177,8 @@ async function testNotClosed() {
   check("the button picks what is missing", closed.disk, [0, 2]);
   check("a closed set: the page says how it knows", closed.words.at(-1), "Closed: every patch that a picked one waits "
     + "for is picked too, so a crash can leave this disk. The page worked this out from the dependencies in the "
-    + "report, and replay from the journal. The report lists this set with what is said above; it can have other faults.");
+    + "report, and replay from the journal. "
+    + "The report lists this set with what is said above; it can have other faults.");
   check("the fault of that set", closed.faults, ["Fault 3 unwritten pointer: inode 1 slot 0 block 5"]);
   await keepPicture("closed");
 }
@@ -255,5 +257,6 @@ async function testPickingByKeys() {
   check("an address with patches that there are not is passed over", (await shown()).disk, [0, 2]);
 }
 
-await run([testHead, testLongHead, testHeadOfAReport, testMeanings, testRulesWithPairsFirst, testCleanRun, testCleanRunWithAJournal,
-  testEverySet, testNotClosed, testPickedIsAsReported, testWhatIsKnown, testPickedWithoutARule, testPickingByKeys]);
+await run([testHead, testLongHead, testHeadOfAReport, testMeanings, testRulesWithPairsFirst, testCleanRun,
+  testCleanRunWithAJournal, testEverySet, testNotClosed, testPickedIsAsReported, testWhatIsKnown,
+  testPickedWithoutARule, testPickingByKeys]);
