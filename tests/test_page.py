@@ -50,10 +50,10 @@ def run(words, given=b"", **environment):
 class InABrowser(unittest.TestCase):
     """Each file of tests in JavaScript passes in chromium."""
 
-    def passes(self, name):
+    def passes(self, name, **environment):
         for needed in ("chromium", "node"):
             self.assertIsNotNone(shutil.which(needed), f"{needed} is not installed; .ci/install installs it")
-        status, out, err = run(["node", PAGE / "test" / name])
+        status, out, err = run(["node", PAGE / "test" / name], **environment)
         said = (out + err).decode(errors="replace")
         counts = re.fullmatch(r"(\d+) passed, 0 failed", out.decode(errors="replace").rstrip().split("\n")[-1])
         self.assertTrue(counts and int(counts[1]) > 0 and status == 0, said[:MOST_LETTERS])
@@ -66,6 +66,19 @@ class InABrowser(unittest.TestCase):
 
     def test_bad_reports_leave_a_page_that_says_what_is_wrong(self):
         self.passes("test_bad.mjs")
+
+    def test_the_gallery_is_shown(self):
+        scripts = sorted((ROOT / "gallery").glob("*.script"))
+        self.assertTrue(scripts)
+        with tempfile.TemporaryDirectory() as folder:
+            for script in scripts:
+                words = re.search(r"^# \./crashmap gallery/\S+ (.*)$", script.read_text(), re.MULTILINE)[1].split()
+                for kind, more in (("faults", []), ("rules", ["--needs"])):
+                    command = [ROOT / "crashmap-page", script, *words, *more]
+                    status, page, err = run(command, CRASHMAP_PROGRAM=str(program()))
+                    self.assertIn(status, (0, 1), (script, err))
+                    pathlib.Path(folder, f"{script.stem}, {kind}").write_bytes(page)
+            self.passes("test_made.mjs", PAGES=folder)
 
 
 class Reports(unittest.TestCase):
@@ -240,6 +253,15 @@ class Stitch(unittest.TestCase):
         (self.folder / "low.js").write_text("const one = 1;\nexport { one };\n\nexport function two() { return 2; }\n")
         status, out, _ = run(["node", "-e", joined(self.folder)])
         self.assertEqual((status, out), (0, b"1 2\n"))
+
+    def test_the_code_is_modules_without_stitch_too(self):
+        """Node links the files as they are: each name that one imports is exported by another."""
+        shutil.copytree(PAGE / "src", self.folder / "src")
+        (self.folder / "src/package.json").write_text('{"type": "module"}')
+        start = (self.folder / "src/start.js").as_uri()
+        said = run(["node", "--input-type=module", "-e", f"await import({json.dumps(start)})"])[2]
+        self.assertIn(b"ReferenceError", said, "node has no document")
+        self.assertNotIn(b"SyntaxError", said)
 
     def test_a_name_is_seen_in_its_module_alone(self):
         (self.folder / "start.js").write_text('import { one } from "./low.js";\nconsole.log(one, typeof hidden);\n')
