@@ -1,0 +1,5 @@
+pub mod Closures
+pub mod Families
+pub mod Widening
+pub mod Firsts
+pub mod Questions
