@@ -1,15 +1,15 @@
--- The first set in canonical order of which a fact holds.
-use Rattle.std.proofs.Common.{◌≡◌, ◌≢◌, ℕ, zero, suc, ◌/◌, ◌%◌, ◌<◌, ◌≤◌, arith, refl, sym, subst, ◌∙◌, inl, inr}
-use Rattle.std.specs.Prelude.{◌⊎◌, count_ones, Option, None, Some, MatchOption}
+-- A set comes before those that have all its ids.
+use Rattle.std.proofs.Common.{◌≡◌, ◌≢◌, ℕ, zero, suc, ◌/◌, ◌%◌, ◌<◌, ◌≤◌, List, arith, refl, sym, subst, ◌∙◌, inl}
+use Rattle.std.specs.Prelude.{count_ones}
 use Rattle.std.specs.Int.Count.{ones_step}
 use Rattle.std.proofs.lemmas.Nat.Bits.{bit_at_lowest, bit_at-suc}
 use Rattle.state_space.proofs.Counting.{below, same, above, order_of}
 use Rattle.patch_sets.specs.Sets.{Has, IsSubset, IsBefore}
-use Rattle.patch_sets.proofs.Bits.{eq_or_not, same_set, none_in_empty}
-use Rattle.patch_sets.proofs.Canonical.{before_trans, before_self}
-use Rattle.set_families.specs.Firsts.{IsFirst, IsEarlier}
-
--- ---- a set comes before those that have all its ids
+use Rattle.patch_sets.proofs.Bits.{same_set, none_in_empty}
+use Rattle.set_families.specs.declared.family.Family.{Family}
+use Rattle.set_families.specs.Families.{IsFamily, IsMember}
+use Rattle.set_families.specs.Firsts.{IsFirst}
+use Rattle.set_families.proofs.Members.{held_member}
 
 pub record FewerOnes (a b : ℕ) : Type 0 where
   pub few : count_ones a ≤ count_ones b
@@ -45,7 +45,7 @@ subset_ones (suc d) a b small within =
           omega (arith, sa, sb, low, few, e, fa, halves);
     }
 
-pub subset_before : (a b : ℕ) → IsSubset a b → b ≢ a → IsBefore a b
+subset_before : (a b : ℕ) → IsSubset a b → b ≢ a → IsBefore a b
 subset_before a b within other =
     let it = subset_ones b a b (omega arith) within in
     elim (order_of (count_ones a) (count_ones b)) [
@@ -53,3 +53,10 @@ subset_before a b within other =
       | same e ↦ absurd (other (sym (it.same e)))
       | above h ↦ absurd (let few = it.few in omega (arith, few, h))
     ]
+
+-- what is held is the first member in canonical order
+pub held_first : (deps : List ℕ) (family : Family) → IsFamily deps family → IsFirst (IsMember deps family) family.held
+held_first deps family is = record {
+  inside = held_member deps family is;
+  before = λ other m ne. subset_before family.held other m.has_held ne;
+}

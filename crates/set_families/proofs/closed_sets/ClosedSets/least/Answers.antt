@@ -1,5 +1,5 @@
 use Rattle.set_families.proofs.Members.{held_member}
-use Rattle.set_families.proofs.Verdicts.{held_first}
+use Rattle.set_families.proofs.First.{held_first}
 use Rattle.set_families.proofs.closed_sets.ClosedSets.least.Goals as goal
 
 pub returns-clause-member : goal.returns-clause-member
