@@ -1,8 +1,7 @@
 -- The first set of a family that a property holds of, and the best one so far.
 use Rattle.std.proofs.Common.{◌≡◌, ◌≢◌, ℕ, List, refl, sym, subst, inl, inr}
-use Rattle.std.specs.Prelude.{◌⊎◌, ◌↔◌, count_ones, Option, None, Some}
+use Rattle.std.specs.Prelude.{◌⊎◌, ◌↔◌, Option, None, Some}
 use Rattle.std.proofs.lemmas.Option.{none-some, same_Some}
-use Rattle.state_space.proofs.Counting.{below, same, above, order_of}
 use Rattle.patch_sets.specs.Sets.{Has, IsBefore}
 use Rattle.patch_sets.proofs.Bits.{eq_or_not}
 use Rattle.patch_sets.proofs.Canonical.{before_trans}
@@ -11,41 +10,11 @@ use Rattle.set_families.specs.Families.{IsMember}
 use Rattle.set_families.specs.Firsts.{IsFirst, IsFirstIfAny}
 use Rattle.set_families.proofs.Members.{has_or_lacks}
 
--- one of two different sets comes before the other
-one_before : (a b : ℕ) → a ≢ b → IsBefore a b ⊎ IsBefore b a
-one_before a b ne = elim (order_of (count_ones a) (count_ones b)) [
-  | below h ↦ inl (inl h)
-  | above h ↦ inr (inl h)
-  | same e ↦ elim (order_of a b) [
-    | below h ↦ inl (inr (e, h))
-    | above h ↦ inr (inr (sym e, h))
-    | same f ↦ absurd (ne f)
-  ]
-]
-
 -- the sets that P holds of, and the best one so far
 abbrev pub OrBest : (ℕ → Type 0) → Option ℕ → ℕ → Type 0
 OrBest P best set = P set ⊎ (best ≡ Some set)
 
 module _ (P : ℕ → Type 0) where
-  -- the best one stands where P holds only of sets that do not come before it
-  some_stands : (b : ℕ) → ((w : ℕ) → P w → IsBefore w b → ⊥) → IsFirst (OrBest P (Some b)) b
-  some_stands b later = record {
-    inside = inr refl;
-    before = λ w it ne. elim it [
-      | inl p ↦ elim (one_before b w (λ e. ne (sym e))) [
-        | inl less ↦ less
-        | inr back ↦ absurd (later w p back)
-      ]
-      | inr e ↦ absurd (ne (sym (same_Some b w e)))
-    ];
-  }
-
-  pub best_stands : (best : Option ℕ) → ((w b : ℕ) → P w → best ≡ Some b → IsBefore w b → ⊥)
-      → (best ≡ None → (w : ℕ) → P w → ⊥) → IsFirstIfAny (OrBest P best) best
-  best_stands None later none = λ w it. elim it [ inl p ↦ none refl w p | inr e ↦ none-some w e ]
-  best_stands (Some b) later none = some_stands b (λ w p back. later w b p refl back)
-
   -- a set that P holds of is the first where it comes before the others and before the best one
   pub better : (best : Option ℕ) (set : ℕ) → P set → ((w : ℕ) → P w → w ≢ set → IsBefore set w)
       → ((b : ℕ) → best ≡ Some b → IsBefore set b) → IsFirst (OrBest P best) set

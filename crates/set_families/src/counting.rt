@@ -5,8 +5,8 @@ ghost use Rattle.patch_sets.specs.Sets.{Has};
 ghost use Rattle.patch_sets.specs.Closed.{IsClosed};
 ghost use Rattle.set_families.specs.Families.{IsFamily, IsMember};
 
-use crate::family::Family;
 use crate::closed_sets::ClosedSets;
+use crate::family::Family;
 use patch_sets::ends::{difference, lowest};
 use patch_sets::set::has;
 

@@ -5,8 +5,8 @@ ghost use Rattle.patch_sets.specs.Closed.{IsClosed};
 ghost use Rattle.set_families.specs.Families.{IsFamily, IsMember, IsUndecided, undecided_number};
 ghost use Rattle.set_families.specs.Firsts.{IsFirst};
 
-use crate::family::Family;
 use crate::closed_sets::ClosedSets;
+use crate::family::Family;
 use patch_sets::ends::{difference, lowest};
 
 impl ClosedSets<'_> {

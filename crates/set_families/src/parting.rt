@@ -4,8 +4,8 @@ ghost use Rattle.patch_sets.specs.Sets.{Has, IsSubset};
 ghost use Rattle.set_families.specs.Families.{IsFamily, IsMember, IsUndecided, IsPart, undecided_number};
 ghost use Rattle.set_families.specs.Widening.{IsWider};
 
-use crate::family::Family;
 use crate::closed_sets::ClosedSets;
+use crate::family::Family;
 use patch_sets::set::{has, with};
 
 impl ClosedSets<'_> {

@@ -26,7 +26,12 @@ impl ClosedSets<'_> {
     /// whose least member does not come before `best` is not asked.
     ///
     /// It takes no memory, and calls itself no deeper than the number of undecided ids.
-    pub fn search<Q: Question>(&self, question: &Q, family: Family, best: Option<u128>) -> Option<u128>
+    pub fn search<Q: Question>(
+        &self,
+        question: &Q,
+        family: Family,
+        best: Option<u128>,
+    ) -> Option<u128>
         requires about { Q.is_about question.now self.now.deps.now }
         requires family { IsFamily self.now.deps.now family }
         ensures { IsFirstIfAny
@@ -68,7 +73,8 @@ impl ClosedSets<'_> {
         match question.ask(self, family) {
             Ok(held) => held,
             Err(id) => {
-                self.any_member(question, self.bar(family, id)) || self.any_member(question, self.hold(family, id))
+                self.any_member(question, self.bar(family, id))
+                    || self.any_member(question, self.hold(family, id))
             }
         }
     }

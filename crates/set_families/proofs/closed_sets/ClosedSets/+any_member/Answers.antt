@@ -8,8 +8,7 @@ returns-else-any_member g t c =
     let deps = c.args.self.now.deps.now in
     let holds = g.Q.Question.holds c.args.question.now in
     let having = c.any_member-else-any_member.ensures in
-    let lacking = c.any_member.ensures in
-    (
+    let lacking = c.any_member.ensures in (
       λ told. let it = having.0 told in
           let w =
           from_having deps holds c.args.family c.hold.result c.bar.result c.in-Err.id c.hold.ensures.members
@@ -17,7 +16,7 @@ returns-else-any_member g t c =
           (it.0, w.0, w.1),
       λ it. elim (in_either deps holds c.args.family c.hold.result c.bar.result c.in-Err.id c.hold.ensures.members
           c.bar.ensures.members it.0 (it.1, it.2)) [
-        | inl has ↦ having.1 (it.0, has.0, has.1)
-        | inr lacks ↦ absurd (false≢true (sym c.if-any_member.false ∙ lacking.1 (it.0, lacks.0, lacks.1)))
-      ],
+            | inl has ↦ having.1 (it.0, has.0, has.1)
+            | inr lacks ↦ absurd (false≢true (sym c.if-any_member.false ∙ lacking.1 (it.0, lacks.0, lacks.1)))
+          ],
     )
