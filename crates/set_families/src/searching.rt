@@ -71,7 +71,7 @@ impl ClosedSets<'_> {
         ensures { IsTrue result ↔ ((set : ℕ) × IsMember self.now.deps.now family set × Q.holds question.now set) }
     {
         match question.ask(self, family) {
-            Ok(held) => held,
+            Ok(answer) => answer,
             Err(id) => {
                 self.any_member(question, self.bar(family, id))
                     || self.any_member(question, self.hold(family, id))
