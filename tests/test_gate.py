@@ -11,6 +11,9 @@ from tests.program import ROOT
 
 GATE = ROOT / ".ci/gate.py"
 
+# A test that passes, as lines of a class.
+PASSES = "    def test_that_passes(self): pass\n"
+
 
 class Gate(unittest.TestCase):
     def setUp(self):
@@ -116,17 +119,16 @@ class Suite(unittest.TestCase):
         return run.returncode, run.stdout.splitlines()[-1]
 
     def test_a_test_that_passes(self):
-        self.assertEqual(self.suite("    def test_it(self): pass\n"), (0, "1 passed, 0 failed"))
-        self.assertEqual(self.suite("    def test_it(self): pass\n", "it"), (0, "1 passed, 0 failed"))
+        self.assertEqual(self.suite(PASSES), (0, "1 passed, 0 failed"))
+        self.assertEqual(self.suite(PASSES, "it"), (0, "1 passed, 0 failed"))
 
     def test_a_test_that_fails(self):
-        lines = "    def test_it(self): self.fail()\n    def test_other(self): pass\n"
-        self.assertEqual(self.suite(lines), (1, "1 passed, 1 failed"))
+        self.assertEqual(self.suite(f"    def test_it(self): self.fail()\n{PASSES}"), (1, "1 passed, 1 failed"))
 
     def test_a_test_that_cannot_run_to_its_end(self):
         for line in ("raise OSError", "raise SystemExit(0)"):
             with self.subTest(line):
-                self.assertEqual(self.suite(f"    def test_it(self): {line}\n"), (1, "0 passed, 1 failed"))
+                self.assertEqual(self.suite(f"    def test_it(self): {line}\n{PASSES}"), (1, "1 passed, 1 failed"))
 
     def test_parts_of_a_test(self):
         lines = ("    def test_it(self):\n        for number in range(5):\n"
@@ -134,14 +136,13 @@ class Suite(unittest.TestCase):
         self.assertEqual(self.suite(lines), (1, "3 passed, 2 failed"))
 
     def test_a_test_that_is_skipped(self):
-        self.assertEqual(self.suite("    def test_it(self): self.skipTest('')\n"), (1, "0 passed, 1 failed"))
+        self.assertEqual(self.suite(f"    def test_it(self): self.skipTest('')\n{PASSES}"), (1, "1 passed, 1 failed"))
 
     def test_a_file_without_a_test(self):
         self.assertEqual(self.suite("    pass\n"), (1, "0 passed, 1 failed"))
 
     def test_a_name_without_a_file(self):
-        lines = "    def test_it(self): pass\n"
-        self.assertEqual(self.suite(lines, "it", "other"), (1, "1 passed, 1 failed"))
+        self.assertEqual(self.suite(PASSES, "it", "other"), (1, "1 passed, 1 failed"))
 
     def test_a_file_that_cannot_be_read(self):
         self.assertEqual(self.suite("    def test_it(self)\n"), (1, "0 passed, 1 failed"))
