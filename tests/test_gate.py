@@ -182,8 +182,8 @@ class Install(unittest.TestCase):
         self.assertEqual(self.install(), (0, ["update", "install -y --no-install-recommends chromium nodejs"]))
 
     def test_they_cannot_be_installed(self):
-        self.have("apt-get", "exit 100")
-        self.assertEqual(self.install(), (100, []))
+        self.have("apt-get", f'echo "$*" >>{self.folder}/calls; [ "$1" != update ] || exit 100')
+        self.assertEqual(self.install(), (100, ["update"]))
 
 
 if __name__ == "__main__":
