@@ -212,12 +212,13 @@ class Changes(LauncherTest):
 
 
 class Interrupts(LauncherTest):
-    """A proof that is broken off ends at once, with all that it started."""
+    """A call that is broken off ends at once, with all that it started."""
 
-    def start(self):
-        """Starts a proof, and gives it with the numbers of prove.py, of rt and of what rt has started."""
+    def start(self, *words):
+        """Starts a call that waits for rt, and gives it with the numbers of who called rt, of rt and of what rt has
+        started."""
         self.set_mode("waits")
-        run = subprocess.Popen([self.top / "crashmap", "--prove"], stdin=subprocess.DEVNULL, stderr=subprocess.DEVNULL,
+        run = subprocess.Popen([self.top / "crashmap", *words], stdin=subprocess.DEVNULL, stderr=subprocess.DEVNULL,
                                env=self.environment, start_new_session=True)
         self.addCleanup(self.end, run)
         processes, latest = self.fake / "processes", time.monotonic() + 20
@@ -230,9 +231,9 @@ class Interrupts(LauncherTest):
             os.killpg(run.pid, signal.SIGKILL)
             run.wait()
 
-    def assert_ended(self, run, processes):
+    def assert_ended(self, run, processes, status=2):
         began = time.monotonic()
-        self.assertEqual(run.wait(timeout=20), 2)
+        self.assertEqual(run.wait(timeout=20), status)
         self.assertLess(time.monotonic() - began, 10)
         latest = time.monotonic() + 5
         while any(map(is_running, processes)) and time.monotonic() < latest:
@@ -241,15 +242,20 @@ class Interrupts(LauncherTest):
         self.assert_nothing_left()
 
     def test_the_proof_is_ended(self):
-        run, processes = self.start()
+        run, processes = self.start("--prove")
         self.assertTrue(all(map(is_running, processes)))
         os.kill(processes[0], signal.SIGTERM)
         self.assert_ended(run, processes)
 
     def test_an_interrupt_from_the_terminal(self):
-        run, processes = self.start()
+        run, processes = self.start("--prove")
         os.killpg(run.pid, signal.SIGINT)
         self.assert_ended(run, processes)
+
+    def test_an_interrupt_of_an_unproved_answer(self):
+        run, processes = self.start()
+        os.killpg(run.pid, signal.SIGINT)
+        self.assert_ended(run, processes, -signal.SIGINT)
 
 
 if __name__ == "__main__":
