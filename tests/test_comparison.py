@@ -1,6 +1,9 @@
-"""The built program answers random cases as the reference does, by both explorers and with one and four workers."""
+"""The built program answers random cases and big scripts as the reference does, by both explorers and with one and four
+workers."""
 
+import concurrent.futures
 import pathlib
+import re
 import sys
 import unittest
 
@@ -8,9 +11,9 @@ HERE = pathlib.Path(__file__).resolve().parent
 sys.path[:0] = [str(HERE.parent), str(HERE)]
 
 from program import program
-from reference.compare import Plan, compare, run_case
+from reference.compare import EXPLORERS, Plan, compare, run_case
 from reference.level import LEVEL
-from reference.runs import Run, differences
+from reference.runs import Run, differences, run_program, run_reference
 
 CASES = 400
 SEED = "gate"
@@ -31,6 +34,22 @@ class TheProgram(unittest.TestCase):
         self.assertEqual(differing, [])
         self.assertEqual(len(results), CASES)
         self.assertGreater(sum(one.runs for one in results), 3 * CASES)
+
+
+    def test_explores_big_scripts_as_the_reference(self):
+        scripts = sorted((HERE.parent / "bench" / "scripts").glob("*.script"))
+        self.assertGreaterEqual(len(scripts), 7)
+        with concurrent.futures.ProcessPoolExecutor(JOBS) as pool:
+            self.assertEqual(list(pool.map(differences_of_big, scripts)), [[]] * len(scripts))
+
+
+def differences_of_big(path):
+    """How the program's answers to a big script differ from the reference's, by both explorers."""
+    words = re.search(r"^# ./crashmap \S+ (.*)$", path.read_text(), re.M)[1].split()
+    wanted = run_reference(words, path.read_bytes())
+    ways = [["--explorer", explorer, "--workers", workers] for explorer in EXPLORERS for workers in ("1", "4")]
+    return [found for way in ways
+            for found in differences(run_program((str(program()),), words + way, path.read_bytes(), 120), wanted)]
 
 
 class TheComparison(unittest.TestCase):
