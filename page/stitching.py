@@ -80,7 +80,7 @@ def joined(folder=HERE / "src", first=FIRST_MODULE):
 
 
 def as_script_text(text):
-    """Text that no part of can end the script element that it stands in; JSON means the same after it."""
+    """The text without a `<`, so that it cannot end the script element that holds it. JSON keeps its meaning."""
     return text.replace("<", "\\u003c")
 
 

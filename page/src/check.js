@@ -1,5 +1,5 @@
 // What a report must look like for the page to show it. Each check that fails throws a `ReportError`, which names the
-// place in the report, what must stand there and what does.
+// place in the report, what it must hold and what it holds.
 import { shortened } from "./words.js";
 
 /** The report cannot be shown; the message is a sentence for a person. */

@@ -29,7 +29,7 @@ function drawVerdict(report) {
   if (asks !== "rules") return "";
   const still = choices.length > 1 ? "With all of them" : "This ordering has no rule:";
   return element("p", { class: "verdict" },
-    `${still} ${failing} of ${closed} crashes leave a broken disk. A report without --needs tells which.`);
+    `${still} ${failing} of ${closed} crashes leave a broken disk. Without --needs the report lists them.`);
 }
 
 function nothingFails({ closed, asks }) {

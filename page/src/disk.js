@@ -146,7 +146,7 @@ export function rowsOf(report) {
   ];
 }
 
-/** The phrases of a row on an image: a Map from key to text. `listed` are the blocks whose map byte is told. */
+/** The phrases of a row on an image: a Map from key to text. The map has phrases for the blocks in `listed`. */
 export function phrasesOf(report, image, row, listed) {
   if (row.key === "super") return new Map([["all", `${image[0][1]} blocks, ${image[0][2]} of them journal`]]);
   if (row.key === "map") return new Map(listed.map(b => [`map ${b}`, `${b} ${image[1][b] ? "used" : "free"}`]));
@@ -161,7 +161,7 @@ function inodePhrases({ kind, links, slots }) {
   return words;
 }
 
-/** The headers of the journal; its copies are told by the strip of blocks. */
+/** The headers of the journal; the strip of blocks shows its copies. */
 function journalPhrases(report, image, blocks) {
   const headers = blocks.filter(block => image[block][0] === COMMITTED || image[block][0] === DONE);
   const said = headers.filter(block => !report.copyTarget.has(block))

@@ -66,7 +66,7 @@ export function patchesNamed(report, choice, places) {
   return named;
 }
 
-/** Patches that set or clear a name of an inode that the faults tell as lost. */
+/** Patches that set or clear a name of an inode that is lost, as the faults say. */
 function patchesOfNames(report, faults) {
   const lost = faults.map(text => /^7 .* inode (\d+)$/.exec(text)?.[1]).filter(Boolean).map(Number);
   const isOfName = ({ part, bytes, undo }) => (part === "EntrySet" && lost.includes(bytes[0] - 1))

@@ -1,5 +1,5 @@
-// The patch graph: who waits for whom and why, and where each patch stands in the picture. Columns are operations;
-// inside a column patches stand in layers, so that arrows run to the right.
+// The patch graph: who waits for whom and why, and where each patch is in the picture. Columns are operations;
+// inside a column patches are in layers, so that arrows run to the right.
 import { below } from "./words.js";
 
 /** The graph under the ordering, or under it without one rule: edges {from, to, why, implied}; for each patch the edges
@@ -66,7 +66,7 @@ function layersOf(report, edges) {
   });
 }
 
-/** How many patches of its own operation a patch waits for, one behind the other. */
+/** The length of the longest chain of patches, all of one operation, that a patch waits for. */
 function ranksOf(report, edges) {
   const rank = new Map(), operationOf = id => report.trace[id].operation;
   for (const { id, operation } of report.trace) {

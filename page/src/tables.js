@@ -165,7 +165,7 @@ function drawWords(states) {
     element("tbody", {}, rows.map(row => drawRow(row, states)), view.block === null ? "" : drawBytes(states)));
 }
 
-/** Blocks whose byte of the map is told: those that a state has in use, and those that the fault names. */
+/** Blocks whose byte of the map is shown: those that a state has in use, and those that the fault names. */
 function listedBlocks(states) {
   const { report } = view, isNamed = b => view.places.some(place => place.phrase === `map ${b}`);
   const isData = b => b >= report.root;

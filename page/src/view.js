@@ -1,11 +1,13 @@
 // What is looked at, and the making of elements.
 
-/** `choice` is a place in the report's choices; their number stands for `picked`, the patches that a person picked. */
+/** What is looked at. `choice` is an index into `choicesNow()`; `picked` is the choice for the patches that a person
+    picked, or null; `run` says where the report is from. */
 export const view = { report: null, run: null, choice: 0, picked: null, step: 0, block: null, every: false };
 
 /** What a person can ask for; `page.js` says how it is done, which the files that it imports need not know. */
 export const actions = { goTo: null, choose: null, pick: null, pickAll: null, open: null };
 
+/** The report's choices, and after them the picked patches. */
 export const choicesNow = () => [...view.report.choices, view.picked].filter(Boolean);
 export const choiceNow = () => choicesNow()[view.choice];
 export const idsAt = step => choiceNow().writes.slice(0, step).flatMap(write => write.patches);

@@ -128,11 +128,11 @@ async function testOrderings() {
   await keepPicture("needs");
   await open("unruly");
   check("an ordering with no rule says so", (await shown()).verdict, ["This ordering has no rule: "
-    + "36 of 48 crashes leave a broken disk. A report without --needs tells which."]);
+    + "36 of 48 crashes leave a broken disk. Without --needs the report lists them."]);
   const { trace } = await open("groups"), all = trace.map((_, id) => id);
   checkGraph("groups", await shown(), { trace }, all, [{ patches: all }]);
   const groups = await browser.ask('[...document.querySelectorAll("#graph .key span")].map(one => one.textContent)');
-  check("arrows of groups are told", groups.includes("group"), true);
+  check("the key has the arrows of groups", groups.includes("group"), true);
   await browser.ask('document.querySelector("#all-implied").click()');
   const every = trace.flatMap((patch, q) => patch.after.map(one => `${one.patch} ${q}`));
   const said = '[...document.querySelectorAll("#drawing .edge")].map(one => one.getAttribute("aria-label")).sort()';
@@ -153,7 +153,7 @@ async function testKeyboard() {
   await browser.ask('document.querySelector("#drawing .node").focus()');
   await browser.press("ArrowDown");
   const hint = await browser.ask('document.querySelector("#hint").textContent');
-  check("a patch with the focus is told in words", hint.startsWith("1 Copy: journal copy of block 17"), true);
+  check("a patch with the focus is described in words", hint.startsWith("1 Copy: journal copy of block 17"), true);
 }
 
 async function testSizesAndSchemes() {
@@ -165,7 +165,7 @@ async function testSizesAndSchemes() {
       await open("reuse");
       const page = await shown();
       check(`${width} ${scheme}: nothing hangs over the side`, page.sideways, 0);
-      check(`${width} ${scheme}: the fault stands there`, page.faults.length, 1);
+      check(`${width} ${scheme}: the fault is shown`, page.faults.length, 1);
       seen[scheme] = page.page;
       await keepPicture(`reuse_${width}_${scheme}`);
     }
