@@ -1,11 +1,11 @@
-//! A graph with what its families are made of.
+//! The closed sets of a graph.
 ghost use Rattle.std.specs.Prelude.{◌≡◌, ◌<◌, ◌≤◌, length};
 ghost use Rattle.patch_sets.specs.Closed.{AreEarlier};
 ghost use Rattle.set_families.specs.Closures.{AreClosures, AreStandings};
 
 use crate::closing::{closures, standings};
 
-/// A graph, for each id what it needs, and for each id what stands on it.
+/// All closed sets of a graph, by what each id depends on and what depends on it, directly or not.
 #[derive(Drop)]
 pub struct ClosedSets<'a> {
     pub deps: &'a [u128],
@@ -17,7 +17,8 @@ pub struct ClosedSets<'a> {
 }
 
 impl<'a> ClosedSets<'a> {
-    /// A graph by the dependencies of each id.
+    /// The closed sets of the graph in which each id depends directly on the ids of its set in `deps`: at most 124 ids,
+    /// each of which depends on smaller ids alone.
     pub fn of(deps: &'a [u128]) -> ClosedSets<'a>
         requires few { length deps.now < 125 }
         requires earlier { AreEarlier deps.now }

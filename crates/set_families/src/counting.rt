@@ -21,8 +21,9 @@ impl ClosedSets<'_> {
 
     /// The number of members of a family.
     ///
-    /// Where no dependency connects some of the undecided ids with the others, it is the product of two numbers: so a
-    /// graph of 60 ids without dependencies, which has 2^60 closed sets, takes some 120 calls.
+    /// Where no dependency connects some of the undecided ids with the others, it is the product of two numbers: a
+    /// graph of 60 ids without dependencies has 2^60 closed sets and takes about 120 calls. Else it is the number of
+    /// members with an id and of those without it.
     ///
     /// It takes no memory, and calls itself no deeper than the number of undecided ids.
     pub fn count_members(&self, family: Family) -> u128
@@ -49,8 +50,8 @@ impl ClosedSets<'_> {
         }
     }
 
-    /// The undecided id of which a decision decides most others either way; it begins with one of them. Any of them
-    /// would do: this one leaves fewer calls.
+    /// The undecided id whose decision settles the most others, whether it is held or barred; `first` is any of them.
+    /// The number is the same whichever is taken. This one leaves fewer calls.
     fn busiest(&self, undecided: u128, first: usize) -> usize
         requires { Has undecided first }
         ensures { Has undecided result }

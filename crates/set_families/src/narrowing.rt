@@ -1,4 +1,4 @@
-//! From a family to those of its members that have an id, and to those that lack it.
+//! The two halves of a family: the members that have an id, and those that lack it.
 ghost use Rattle.std.specs.Prelude.{◌≡◌, ℕ, ◌<◌, ◌↔◌, MatchOption, length};
 ghost use Rattle.patch_sets.specs.Sets.{Has, IsSubset};
 ghost use Rattle.patch_sets.specs.Closed.{IsClosed};
@@ -18,7 +18,7 @@ impl ClosedSets<'_> {
         Family { held: 0, barred: 0 }
     }
 
-    /// The least member, which lies within each other one and so is the first in canonical order.
+    /// The least member. It lies within each other one, so it is the first in canonical order.
     pub fn least(&self, family: Family) -> u128
         requires { IsFamily self.now.deps.now family }
         ensures member { IsMember self.now.deps.now family result }
@@ -35,15 +35,7 @@ impl ClosedSets<'_> {
         difference((1 << self.deps.len()) - 1, family.held | family.barred)
     }
 
-    /// The lowest id that is neither held nor barred, if there is one.
-    pub fn undecided(&self, family: Family) -> Option<usize>
-        ensures { MatchOption result ((id : ℕ) → ¬ (IsUndecided self.now.deps.now family id))
-            (λ id. IsUndecided self.now.deps.now family id) }
-    {
-        lowest(self.undecided_ids(family))
-    }
-
-    /// The members that have an undecided id, and so all that it needs.
+    /// The members that have an undecided id, and so all that it depends on.
     pub fn hold(&self, family: Family, id: usize) -> Family
         requires family { IsFamily self.now.deps.now family }
         requires undecided { IsUndecided self.now.deps.now family id }
@@ -58,7 +50,7 @@ impl ClosedSets<'_> {
         }
     }
 
-    /// The members that lack an undecided id, and so all that stands on it.
+    /// The members that lack an undecided id, and so all that depends on it.
     pub fn bar(&self, family: Family, id: usize) -> Family
         requires family { IsFamily self.now.deps.now family }
         requires undecided { IsUndecided self.now.deps.now family id }

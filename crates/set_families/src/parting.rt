@@ -1,4 +1,4 @@
-//! From a family to the parts of its undecided ids that no dependency connects.
+//! The parts of a family's undecided ids that no dependency connects.
 ghost use Rattle.std.specs.Prelude.{ℕ, ◌<◌, ◌↔◌, length};
 ghost use Rattle.patch_sets.specs.Sets.{Has, IsSubset};
 ghost use Rattle.set_families.specs.Families.{IsFamily, IsMember, IsUndecided, IsPart, undecided_number};
@@ -42,7 +42,7 @@ impl ClosedSets<'_> {
         }
     }
 
-    /// A set of undecided ids with the undecided ids that its ids need and that stand on them.
+    /// A set of undecided ids with the undecided ids that they depend on and that depend on them.
     fn widened(&self, undecided: u128, part: u128) -> u128
         requires { IsSubset part undecided }
         ensures { IsWider self.now.deps.now undecided part result }
