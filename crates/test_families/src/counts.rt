@@ -25,7 +25,10 @@ fn a_chain_has_one_set_more_than_ids(rt: HostRuntime) -> Result<(), Fail> {
 fn chains_have_the_product_of_their_numbers(rt: HostRuntime) -> Result<(), Fail> {
     let deps = chains(rt.alloc(), 62, 2)?;
     assert!(rt; is_graph(&deps));
-    assert_eq!(rt; ClosedSets::of(&deps).count(), 381_520_424_476_945_831_628_649_898_809);
+    assert_eq!(rt;
+        ClosedSets::of(&deps).count(),
+        381_520_424_476_945_831_628_649_898_809
+    );
     Ok(())
 }
 

@@ -31,8 +31,16 @@ pub(crate) fn grid(heap: Global, rows: u32, width: u32) -> Result<Vec<u128>, All
     for row in 0..rows {
         for at in 0..width {
             let id = row.wrapping_mul(width).wrapping_add(at);
-            let before = if at == 0 { 0 } else { set_of(id.wrapping_sub(1)) };
-            let above = if row == 0 { 0 } else { set_of(id.wrapping_sub(width)) };
+            let before = if at == 0 {
+                0
+            } else {
+                set_of(id.wrapping_sub(1))
+            };
+            let above = if row == 0 {
+                0
+            } else {
+                set_of(id.wrapping_sub(width))
+            };
             deps.push(before | above)?;
         }
     }
@@ -45,7 +53,11 @@ pub(crate) fn chains(heap: Global, chains: u32, length: u32) -> Result<Vec<u128>
     for chain in 0..chains {
         for at in 0..length {
             let id = chain.wrapping_mul(length).wrapping_add(at);
-            deps.push(if at == 0 { 0 } else { set_of(id.wrapping_sub(1)) })?;
+            deps.push(if at == 0 {
+                0
+            } else {
+                set_of(id.wrapping_sub(1))
+            })?;
         }
     }
     Ok(deps)
