@@ -211,6 +211,11 @@ class Changes(LauncherTest):
         self.assert_proved(False)
 
 
+def hear_interrupts():
+    """Takes interrupts as a program of a terminal does, even where the suite itself was started to ignore them."""
+    signal.signal(signal.SIGINT, signal.SIG_DFL)
+
+
 class Interrupts(LauncherTest):
     """A call that is broken off ends at once, with all that it started."""
 
@@ -219,7 +224,7 @@ class Interrupts(LauncherTest):
         started."""
         self.set_mode("waits")
         run = subprocess.Popen([self.top / "crashmap", *words], stdin=subprocess.DEVNULL, stderr=subprocess.DEVNULL,
-                               env=self.environment, start_new_session=True)
+                               env=self.environment, start_new_session=True, preexec_fn=hear_interrupts)
         self.addCleanup(self.end, run)
         processes, latest = self.fake / "processes", time.monotonic() + 20
         while not processes.exists() and time.monotonic() < latest:
