@@ -109,6 +109,11 @@ static HEADS: [Head; 5] = [
                 takes: Takes::Rule,
                 help: "A rule to put in, up to 16 times",
             },
+            Entry {
+                name: "rules",
+                takes: Takes::Nothing,
+                help: "List the module's rules and what a rule can name, and stop",
+            },
         ],
     },
     // What the checker asks for.

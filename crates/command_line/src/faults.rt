@@ -1,5 +1,6 @@
 //! Words that `clap` takes and the program does not.
 
+use crate::rule_words::Why;
 use crash_model::rules::Rule;
 use std::fmt;
 
@@ -8,7 +9,7 @@ use std::fmt;
 pub(crate) struct WordFault<'a> {
     pub option: &'static str,
     pub value: Value<'a>,
-    pub why: &'static str,
+    pub why: Why<'a>,
 }
 
 /// A value that is refused.

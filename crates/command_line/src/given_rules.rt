@@ -2,16 +2,20 @@
 
 ghost use Rattle.std.specs.Prelude.{◌≡◌, ◌<◌, true, IfOk, OnOk, eqb, length};
 ghost use Rattle.std.specs.List.{ends_with};
-ghost use Rattle.crash_model.specs.Rules.{rule_text};
+ghost use Rattle.crash_model.specs.Rules.{rule_text, rules_of};
 ghost use Rattle.command_line.specs.Given.{AreWrittenIn, is_written_in, AreAllIn, AreNoneIn};
 
 use crate::faults::{Value, WordFault};
+use crate::rule_words::{Why, why_no_rule};
 use clap::ArgMatches;
+use crash_model::modules::Module;
 use crash_model::rule_lists::{RuleList, has_rule};
 use crash_model::rules::Rule;
+use std::alloc::Global;
 
 /// The rules that an option was given, in their order: each once, and at most 16.
 pub(crate) fn given_rules<'a>(
+    heap: Global,
     matches: &ArgMatches<'a>,
     words: &[&str],
     option: &'static str,
@@ -20,7 +24,7 @@ pub(crate) fn given_rules<'a>(
 {
     let mut rules = RuleList::new();
     for word in matches.get_strs(option).unwrap_or(&[]) {
-        match next_rule(words, &rules, word) {
+        match next_rule(heap, words, &rules, word) {
             Ok(rule) => rules.push(rule),
             Err(why) => {
                 let value = Value::Word(word);
@@ -32,19 +36,24 @@ pub(crate) fn given_rules<'a>(
 }
 
 /// The rule that the word spells, which can follow these rules, or why none can.
-fn next_rule(words: &[&str], rules: &RuleList, word: &str) -> Result<Rule, &'static str>
+fn next_rule<'a>(
+    heap: Global,
+    words: &[&str],
+    rules: &RuleList,
+    word: &'a str,
+) -> Result<Rule, Why<'a>>
     ensures written { IfOk result (λ rule. is_written_in words.now (rule_text rule) ≡ true) }
     ensures room { OnOk result (length rules.now.items < 16) }
 {
     let rule = match Rule::read(word) {
         Some(rule) if is_written_in(words, word) => rule,
-        _ => return Err("it is no rule"),
+        _ => return Err(why_no_rule(heap, word)),
     };
     if has_rule(rules.as_slice(), rule) {
-        return Err("it is given twice");
+        return Err(Why::GivenTwice);
     }
     if rules.is_full() {
-        return Err("more than 16 rules are given");
+        return Err(Why::TooMany);
     }
     Ok(rule)
 }
@@ -64,15 +73,15 @@ fn ends_with(word: &str, text: &str) -> bool
 }
 
 /// Each rule to take out is one of the module's.
-pub(crate) fn check_without<'a>(without: &[Rule], rules: &[Rule]) -> Result<(), WordFault<'a>>
-    ensures { OnOk result (AreAllIn rules.now without.now) }
+pub(crate) fn check_without<'a>(without: &[Rule], module: Module) -> Result<(), WordFault<'a>>
+    ensures { OnOk result (AreAllIn (rules_of «module») without.now) }
 {
     for rule in without {
-        if !has_rule(rules, *rule) {
+        if !has_rule(module.rules(), *rule) {
             return Err(WordFault {
                 option: "without",
                 value: Value::Rule(*rule),
-                why: "the module has no such rule",
+                why: Why::NotOf(module),
             });
         }
     }
@@ -88,7 +97,7 @@ pub(crate) fn check_with<'a>(with: &[Rule], without: &[Rule]) -> Result<(), Word
             return Err(WordFault {
                 option: "with",
                 value: Value::Rule(*rule),
-                why: "'--without' takes it out",
+                why: Why::TakenOut,
             });
         }
     }

@@ -9,11 +9,13 @@ ghost use Rattle.command_line.specs.Ranges.{IsInRanges};
 mod arguments;
 mod faults;
 mod given_rules;
+mod rule_words;
 mod values;
 
 use crate::arguments::command;
 use crate::faults::WordFault;
 use crate::given_rules::{check_with, check_without, given_rules};
+use crate::rule_words::rules_page;
 use crate::values::{explorer_of, limit_under, module_of, number_of, report_by};
 use clap::error::ErrorKind;
 use clap::{ArgMatches, Command, Error};
@@ -58,7 +60,10 @@ fn call_by<'a>(
     ensures lawful { IfOk result (λ call. AreLawful call.settings) }
 {
     let matches = command.try_get_matches_from_mut(words)?;
-    match call_of(&matches, words) {
+    if matches.get_flag("rules") {
+        return Err(rules_shown(heap, module_of(&matches))?);
+    }
+    match call_of(heap, &matches, words) {
         Ok(call) => Ok(call),
         Err(fault) => Err(refusal(heap, command, &fault)?),
     }
@@ -74,15 +79,29 @@ fn refusal(
     command.error(ErrorKind::ValueValidation, message.as_str())
 }
 
+/// The module's rules and the parts of rules, which are shown as help is.
+fn rules_shown(heap: Global, module: Module) -> Result<Error, AllocError> {
+    let page = rules_page(heap, module)?;
+    let mut command = Command::new(heap, "crashmap").override_help(page.as_str());
+    match command.try_get_matches_from_mut(&["crashmap", "--help"]) {
+        Ok(_) => command.error(ErrorKind::DisplayHelp, page.as_str()),
+        Err(shown) => Ok(shown),
+    }
+}
+
 /// What these matches of the words ask for.
-fn call_of<'a>(matches: &ArgMatches<'a>, words: &[&str]) -> Result<Call<'a>, WordFault<'a>>
+fn call_of<'a>(
+    heap: Global,
+    matches: &ArgMatches<'a>,
+    words: &[&str],
+) -> Result<Call<'a>, WordFault<'a>>
     ensures ranges { IfOk result IsInRanges }
     ensures without { IfOk result (λ call. AreWrittenIn words.now call.settings.without.items) }
     ensures with { IfOk result (λ call. AreWrittenIn words.now call.settings.with.items) }
     ensures lawful { IfOk result (λ call. AreLawful call.settings) }
 {
     let module = module_of(matches);
-    let (without, with) = rules_for(matches, words, module)?;
+    let (without, with) = rules_for(heap, matches, words, module)?;
     let explorer = explorer_of(matches);
     Ok(Call {
         script: matches.get_str("SCRIPT"),
@@ -105,6 +124,7 @@ fn call_of<'a>(matches: &ArgMatches<'a>, words: &[&str]) -> Result<Call<'a>, Wor
 
 /// The rules to take out of the module's, and those to put in.
 fn rules_for<'a>(
+    heap: Global,
     matches: &ArgMatches<'a>,
     words: &[&str],
     ordering: Module,
@@ -114,9 +134,9 @@ fn rules_for<'a>(
     ensures lawful { IfOk result (λ rules. AreAllIn (rules_of ordering) rules.0.items
         × AreNoneIn rules.0.items rules.1.items) }
 {
-    let without = given_rules(matches, words, "without")?;
-    let with = given_rules(matches, words, "with")?;
-    check_without(without.as_slice(), ordering.rules())?;
+    let without = given_rules(heap, matches, words, "without")?;
+    let with = given_rules(heap, matches, words, "with")?;
+    check_without(without.as_slice(), ordering)?;
     check_with(with.as_slice(), without.as_slice())?;
     Ok((without, with))
 }

@@ -4,6 +4,7 @@ ghost use Rattle.std.specs.Prelude.{◌≡◌, ◌≤◌, IfOk};
 ghost use Rattle.command_line.specs.Ranges.{IsLimitUnder};
 
 use crate::faults::{Value, WordFault};
+use crate::rule_words::Why;
 use clap::ArgMatches;
 use crash_model::modules::Module;
 use crash_model::settings::{Explorer, ReportBy};
@@ -38,7 +39,7 @@ pub(crate) fn limit_under<'a>(
         return Err(WordFault {
             option: "limit",
             value: Value::Limit(limit),
-            why: "the board holds at most 32768 sets",
+            why: Why::BoardIsSmaller,
         });
     }
     Ok(limit)

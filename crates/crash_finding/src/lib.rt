@@ -7,7 +7,7 @@
 
 mod by_sweep;
 mod crashes;
-mod dependencies;
+pub mod dependencies;
 mod finder;
 mod finding;
 mod on_board;

@@ -1,20 +1,21 @@
 //! All that the program does, over any reader and writers.
 
-ghost use Rattle.std.specs.Prelude.{◌≡◌, ◌+◌, ◌-◌, ◌^◌, ◌<◌, ◌≤◌, ◌⊎◌, IsSome, IfOk, OnErr, min};
+ghost use Rattle.std.specs.Prelude.{◌≡◌, ◌+◌, ◌-◌, ◌^◌, ◌<◌, ◌≤◌, ◌⊎◌, IsSome, IfOk, OnErr, Some, min};
 ghost use Rattle.std.specs.Io.KnownBytes.{Keeps};
 ghost use Rattle.command_line.specs.Ranges.{IsInRanges};
-ghost use Rattle.crash_text.specs.Served.{IsServed};
+ghost use Rattle.crash_text.specs.Served.{IsServed, IsWhole};
 ghost use Rattle.crash_text.specs.Status.{IsServedFailing, script_of};
 
 use crate::host::Host;
-use crate::serve::serve;
+use crate::serve::serve_script;
 use clap::error::ErrorKind;
 use command_line::{Call, settings_of};
 use crash_model::refusals::RunFault;
 use devices::sink::Sink;
-use devices::source::Source;
+use devices::source::{Source, read_to_end};
 use devices::standard::Counted;
 use explorers::{Gate, OpenGate};
+use hints::{Asked, hint_of, warnings_of};
 use std::alloc::Allocator;
 use std::fs::File;
 use std::io::{self, Read, Write};
@@ -109,11 +110,102 @@ where
         → Keeps (K.taken sink.old) (K.taken sink.new) ⊎ (K.failures sink.new ≡ K.failures sink.old + 1) }
     ensures unread { IsSome call.now.script → source.new ≡ source.old }
 {
-    match serve_call(host, call, source, sink, gate) {
-        Ok(failing) => status_of(failing),
+    match read_call(host, call, source) {
+        Ok(script) => answer_script(host, call, script.as_slice(), sink, err, gate),
+        Err(fault) => {
+            let status = refuse(err, fault);
+            write_reason(host, call, fault, err);
+            status
+        }
+    }
+}
+
+/// Serves the script, prints a refusal to `err`, and gives the exit status, as [`answer_call`] does. Where the host
+/// gives hints, they follow the refusal, and warnings the report.
+fn answer_script<R, A, K, E, G>(
+    host: &Host<'_, R, A>,
+    call: &Call<'_>,
+    script: &[u8],
+    sink: &mut K,
+    err: &mut E,
+    gate: &G,
+) -> u8
+where
+    R: Files + Threads + Wait + Sync,
+    A: Allocator + Copy + Send + Sync,
+    K: Sink,
+    E: Write,
+    G: Gate + Sync,
+    requires call { IsInRanges call.now }
+    requires sink { K.failures sink.old < 2 ^ 64 - 1 }
+    ensures known { result ≤ 2 }
+    ensures clean { result ≡ 0
+        → IsServed (Some script.now) call.now.settings 0 (K.taken sink.old) (K.taken sink.new) }
+    ensures failing { result ≡ 1
+        → IsServedFailing (Some script.now) call.now.settings (K.taken sink.old) (K.taken sink.new) }
+    ensures refused { result ≡ 2
+        → Keeps (K.taken sink.old) (K.taken sink.new) ⊎ (K.failures sink.new ≡ K.failures sink.old + 1) }
+{
+    let settings = &call.settings;
+    let asked = Asked { script, settings };
+    match serve_script(host, script, sink, settings, call.workers, gate) {
+        Ok(failing) => {
+            write_warnings(host, asked, err);
+            status_of(failing)
+        }
         Err(fault) => {
             gate.ended();
-            refuse(err, fault)
+            let status = refuse(err, fault);
+            write_hint(host, asked, fault, err);
+            status
+        }
+    }
+}
+
+/// Writes what would help after a refusal, where the host gives hints.
+fn write_hint<R, A, E>(host: &Host<'_, R, A>, asked: Asked<'_>, fault: RunFault, err: &mut E)
+where
+    A: Allocator + Copy,
+    E: Write,
+{
+    if !host.gives_hints {
+        return;
+    }
+    if let Some(hint) = hint_of(host.alloc, asked, fault) {
+        let _ = write!(err, "{hint}");
+    }
+}
+
+/// Writes what the run was asked for in vain, where the host gives hints.
+fn write_warnings<R, A, E>(host: &Host<'_, R, A>, asked: Asked<'_>, err: &mut E)
+where
+    A: Allocator + Copy,
+    E: Write,
+{
+    if !host.gives_hints {
+        return;
+    }
+    let Ok(warnings) = warnings_of(host.alloc, asked) else {
+        return;
+    };
+    for warning in &warnings {
+        let _ = write!(err, "{warning}\n");
+    }
+}
+
+/// Writes the system's reason why the script's file cannot be opened, where the host gives hints.
+fn write_reason<R, A, E>(host: &Host<'_, R, A>, call: &Call<'_>, fault: RunFault, err: &mut E)
+where
+    R: Files,
+    A: Allocator + Copy,
+    E: Write,
+{
+    if !host.gives_hints || fault != RunFault::CannotRead {
+        return;
+    }
+    if let Some(name) = call.script {
+        if let Err(error) = File::open(host.rt, name) {
+            let _ = write!(err, "hint: {name}: {error}\n");
         }
     }
 }
@@ -125,40 +217,29 @@ fn status_of(failing: usize) -> u8
     if failing == 0 { 0 } else { 1 }
 }
 
-/// Serves the script that the call names, else the source. It gives the number of failing sets.
-fn serve_call<R, A, S, K, G>(
+/// Reads the script that the call names, else the source.
+fn read_call<R, A, S>(
     host: &Host<'_, R, A>,
     call: &Call<'_>,
     source: &mut S,
-    sink: &mut K,
-    gate: &G,
-) -> Result<usize, RunFault>
+) -> Result<Vec<u8, A>, RunFault>
 where
-    R: Files + Threads + Wait + Sync,
-    A: Allocator + Copy + Send + Sync,
+    R: Files,
+    A: Allocator + Copy,
     S: Source,
-    K: Sink,
-    G: Gate + Sync,
-    requires call { IsInRanges call.now }
     requires source { S.failures source.old < 2 ^ 64 - 1 }
-    requires sink { K.failures sink.old < 2 ^ 64 - 1 }
-    ensures served { IfOk result (λ failing.
-        IsServed (script_of call.now (S.coming source.old)) call.now.settings failing (K.taken sink.old)
-        (K.taken sink.new)) }
-    ensures refused { OnErr result (Keeps (K.taken sink.old) (K.taken sink.new)
-        ⊎ (K.failures sink.new ≡ K.failures sink.old + 1)) }
+    ensures whole { IfOk result (λ bytes. IsWhole (script_of call.now (S.coming source.old)) bytes.items) }
     ensures unread { IsSome call.now.script → source.new ≡ source.old }
 {
-    let (settings, workers) = (&call.settings, call.workers);
     match call.script {
         Some(name) => match File::open(host.rt, name) {
             Ok(file) => {
                 let mut file = Counted::new(file);
-                serve(host, &mut file, sink, settings, workers, gate)
+                read_to_end(host.alloc, &mut file)
             }
             Err(error) => Err(open_fault(error)),
         },
-        None => serve(host, source, sink, settings, workers, gate),
+        None => read_to_end(host.alloc, source),
     }
 }
 

@@ -1,7 +1,7 @@
 //! The product between a source and a sink.
 
 ghost use Rattle.std.specs.Prelude.{◌≡◌, ℕ, ◌+◌, ◌-◌, ◌^◌, ◌<◌, ◌≤◌, List, length, IfOk, IfErr, OnErr, IfSome, IsErrOf};
-ghost use Rattle.std.specs.Prelude.{IsErrAnd};
+ghost use Rattle.std.specs.Prelude.{IsErrAnd, Some};
 ghost use Rattle.std.specs.Io.KnownBytes.{Consumes, Keeps};
 ghost use Rattle.devices.specs.Counted.{IsReadFault};
 ghost use Rattle.crash_finding.specs.Limits.{IsExplorable};
@@ -60,7 +60,42 @@ where
     ensures gone { (bytes : List ℕ) × Consumes (S.coming source.old) (S.coming source.new) bytes }
 {
     let script = read_to_end(host.alloc, source)?;
-    let outcome = run(host, script.as_slice(), settings, workers, gate)?;
+    serve_script(host, script.as_slice(), sink, settings, workers, gate)
+}
+
+/// Answers a script, and writes the report to a sink. It gives the number of failing sets.
+///
+/// Nothing is written before the report is whole. After a refusal the sink has taken nothing, unless the sink itself
+/// failed, which then has a beginning of the report.
+pub fn serve_script<R, A, K, G>(
+    host: &Host<'_, R, A>,
+    script: &[u8],
+    sink: &mut K,
+    settings: &Settings,
+    workers: usize,
+    gate: &G,
+) -> Result<usize, RunFault>
+where
+    R: Threads + Wait + Sync,
+    A: Allocator + Copy + Send + Sync,
+    K: Sink,
+    G: Gate + Sync,
+    requires workers { (1 ≤ workers) × (workers ≤ 16) }
+    requires limit { IsExplorable settings.now }
+    requires sink { K.failures sink.old < 2 ^ 64 - 1 }
+    ensures served { IfOk result (λ failing.
+        IsServed (Some script.now) settings.now failing (K.taken sink.old) (K.taken sink.new)) }
+    ensures cut { IsErrOf result RunFault.CannotWrite
+        → IsCut (Some script.now) settings.now (K.taken sink.old) (K.taken sink.new) }
+    ensures refused { IfErr result (IsRefusedBy (Some script.now) settings.now) }
+    ensures read { ¬ (IsErrOf result RunFault.CannotRead) }
+    ensures short { ¬ (IsErrOf result RunFault.ScriptTooLong) }
+    ensures unwritten { IsErrOf result RunFault.CannotWrite → K.failures sink.new ≡ K.failures sink.old + 1 }
+    ensures no_failed_write { (¬ (IsErrOf result RunFault.CannotWrite)) → K.failures sink.new ≡ K.failures sink.old }
+    ensures untouched { OnErr result ((¬ (IsErrOf result RunFault.CannotWrite))
+        → Keeps (K.taken sink.old) (K.taken sink.new)) }
+{
+    let outcome = run(host, script, settings, workers, gate)?;
     gate.ended();
     match write_all(sink, outcome.text.as_bytes()) {
         Ok(()) => Ok(outcome.failing),

@@ -40,7 +40,7 @@ fn main(rt: HostRuntime) -> ExitCode {
         return ExitCode::from(refuse(&mut err, RunFault::OutOfMemory));
     };
     let progress = Progress::new(&rt, err, err.is_terminal());
-    let host = Host::new(&rt);
+    let host = Host::new(&rt).with_hints(err.is_terminal());
     let status = answer_watched(&host, &texts, &mut input, &mut out, &mut err, &progress);
     ExitCode::from(status)
 }

@@ -1,0 +1,164 @@
+//! The words of rules: why one is no rule, and which there are.
+
+use crash_model::modules::Module;
+use crash_model::rules::RulePart;
+use std::alloc::{AllocError, Global};
+use std::fmt;
+use strsim::levenshtein;
+
+/// How many letters of a part may differ from the part that was meant.
+const MOST_EDITS: usize = 3;
+
+/// A word and what it means.
+struct Meaning {
+    word: &'static str,
+    meaning: &'static str,
+}
+
+/// The parts that a rule names.
+static PARTS: [Meaning; 16] = [
+    Meaning { word: "InodeInit", meaning: "a new inode" },
+    Meaning { word: "EntrySet", meaning: "a name that comes into a directory" },
+    Meaning { word: "EntryClear", meaning: "a name that goes out of a directory" },
+    Meaning { word: "MapSet", meaning: "a block's mark as used" },
+    Meaning { word: "MapClear", meaning: "a block's mark as free" },
+    Meaning { word: "InitFile", meaning: "the first contents of a file's block" },
+    Meaning { word: "InitDir", meaning: "the first contents of a directory's block" },
+    Meaning { word: "Ptr", meaning: "an inode's pointer to a block" },
+    Meaning { word: "LinkUp", meaning: "a link count that rises" },
+    Meaning { word: "LinkDown", meaning: "a link count that falls" },
+    Meaning { word: "InodeFree", meaning: "an inode that becomes free" },
+    Meaning { word: "InPlace", meaning: "any of these, where it belongs on the disk" },
+    Meaning { word: "FileData", meaning: "a file's block, written ahead of its transaction" },
+    Meaning { word: "Copy", meaning: "the copy of a block in the journal" },
+    Meaning { word: "Commit", meaning: "the header that commits a transaction" },
+    Meaning { word: "Done", meaning: "the header's mark that all is in place" },
+];
+
+/// The rules of the modules.
+static RULES: [Meaning; 19] = [
+    Meaning { word: "EntrySet:InodeInit", meaning: "a name waits for the inode that it leads to" },
+    Meaning { word: "EntrySet:LinkUp", meaning: "a name waits for the link count that counts it" },
+    Meaning { word: "EntrySet:Ptr", meaning: "a directory's name waits for the pointer to its block" },
+    Meaning { word: "InitFile:MapSet", meaning: "a file's block waits for its mark as used" },
+    Meaning { word: "InitDir:MapSet", meaning: "a directory's block waits for its mark as used" },
+    Meaning { word: "Ptr:InitFile", meaning: "a pointer waits for the file's block" },
+    Meaning { word: "Ptr:InitDir", meaning: "a pointer waits for the directory's block" },
+    Meaning { word: "Ptr:MapSet", meaning: "a pointer waits for its block's mark as used" },
+    Meaning { word: "LinkDown:EntryClear", meaning: "a link count falls after the name is gone" },
+    Meaning { word: "InodeFree:EntryClear", meaning: "an inode becomes free after its last name is gone" },
+    Meaning { word: "MapClear:InodeFree", meaning: "a block becomes free after the inode that points to it" },
+    Meaning { word: "EntryClear:EntrySet", meaning: "a rename's old name goes after the new one is there" },
+    Meaning {
+        word: "FileData:previous-Commit",
+        meaning: "a file's block waits for the commit before it, which may have freed the block",
+    },
+    Meaning { word: "Commit:Copy", meaning: "a commit waits for all copies of its transaction" },
+    Meaning { word: "Commit:FileData", meaning: "a commit waits for the file's block" },
+    Meaning { word: "Commit:previous-Commit", meaning: "transactions commit in order" },
+    Meaning { word: "InPlace:Commit", meaning: "blocks change in place after the commit" },
+    Meaning { word: "Done:InPlace", meaning: "a transaction is done after its blocks changed in place" },
+    Meaning { word: "Done:previous-Done", meaning: "transactions are done in order" },
+];
+
+/// What is wrong with a word where a rule or a limit stands.
+#[derive(Clone, Copy)]
+pub(crate) enum Why<'a> {
+    /// It has no colon.
+    NoColon,
+    /// Its part is none that a rule names. Perhaps another was meant.
+    NoPart {
+        part: &'a str,
+        nearest: Option<&'static str>,
+    },
+    GivenTwice,
+    TooMany,
+    /// The rule is not one of the module's.
+    NotOf(Module),
+    TakenOut,
+    BoardIsSmaller,
+}
+
+/// Why the word is no rule.
+pub(crate) fn why_no_rule(heap: Global, word: &str) -> Why<'_> {
+    let Some((later, rest)) = word.split_once(":") else {
+        return Why::NoColon;
+    };
+    let earlier = rest.strip_prefix("previous-").unwrap_or(rest);
+    let part = if RulePart::read(later).is_none() {
+        later
+    } else {
+        earlier
+    };
+    let nearest = nearest_part(heap, part);
+    Why::NoPart { part, nearest }
+}
+
+/// The first part that differs from the word by at most three letters.
+fn nearest_part(heap: Global, word: &str) -> Option<&'static str> {
+    for part in &PARTS {
+        match levenshtein(heap, word, part.word) {
+            Ok(edits) if edits <= MOST_EDITS => return Some(part.word),
+            _ => {}
+        }
+    }
+    None
+}
+
+impl fmt::Display for Why<'_> {
+    fn fmt<W: fmt::Write>(&self, f: &mut fmt::Formatter<W>) -> fmt::Result {
+        match *self {
+            Why::NoColon => f.write_str("it is no rule, which is written LATER:EARLIER"),
+            Why::NoPart { part, nearest: Some(nearest) } => {
+                write!(f, "it is no rule: no part is called '{part}'; did you mean '{nearest}'?")
+            }
+            Why::NoPart { part, nearest: None } => {
+                write!(f, "it is no rule: no part is called '{part}'; --rules lists them")
+            }
+            Why::GivenTwice => f.write_str("it is given twice"),
+            Why::TooMany => f.write_str("more than 16 rules are given"),
+            Why::NotOf(module) => write_rules_of(f, module),
+            Why::TakenOut => f.write_str("'--without' takes it out"),
+            Why::BoardIsSmaller => f.write_str("the board holds at most 32768 sets"),
+        }
+    }
+}
+
+/// Writes that the module does not have a rule, and the rules that it has.
+fn write_rules_of<W: fmt::Write>(f: &mut fmt::Formatter<W>, module: Module) -> fmt::Result {
+    let name = module.name();
+    write!(f, "{name} has no such rule; its rules are")?;
+    for rule in module.rules() {
+        write!(f, " {rule}")?;
+    }
+    Ok(())
+}
+
+/// The page that `--rules` prints: the module's rules, and the parts that a rule names, each with its meaning.
+pub(crate) fn rules_page(heap: Global, module: Module) -> Result<String, AllocError> {
+    let mut page = String::new(heap);
+    let name = module.name();
+    write!(page, "Rules of {name}, in their order:\n")?;
+    for rule in module.rules() {
+        let text = format!(in heap; "{rule}")?;
+        push_rule(&mut page, text.as_str())?;
+    }
+    page.push_str("\nA rule LATER:EARLIER makes the later part wait for the earlier one of the same operation, ")?;
+    page.push_str("and LATER:previous-EARLIER for\nthe one of the operation before. The parts are:\n")?;
+    for part in &PARTS {
+        let Meaning { word, meaning } = part;
+        write!(page, "  {word:<10}  {meaning}\n")?;
+    }
+    Ok(page)
+}
+
+/// Adds a rule with its meaning.
+fn push_rule(page: &mut String, rule: &str) -> Result<(), AllocError> {
+    for known in &RULES {
+        let Meaning { word, meaning } = known;
+        if *word == rule {
+            return write!(page, "  {word:<25}  {meaning}\n");
+        }
+    }
+    Ok(())
+}

@@ -1,0 +1,52 @@
+//! Parts of a script as a terminal can show them.
+
+use std::fmt;
+
+/// The most bytes of a part that are shown.
+const MOST_SHOWN: usize = 60;
+
+/// A part of a script, between backquotes.
+///
+/// A byte that a terminal would not show as itself is escaped. A part of more than 60 bytes is cut.
+#[derive(Clone, Copy, Debug)]
+pub struct Quoted<'a>(pub &'a [u8]);
+
+impl fmt::Display for Quoted<'_> {
+    fn fmt<W: fmt::Write>(&self, f: &mut fmt::Formatter<W>) -> fmt::Result {
+        f.write_str("`")?;
+        for byte in self.0.iter().take(MOST_SHOWN) {
+            write_byte(f, *byte)?;
+        }
+        if self.0.len() > MOST_SHOWN {
+            f.write_str("..")?;
+        }
+        f.write_str("`")
+    }
+}
+
+/// Writes a byte, escaped where it is no printable ASCII.
+fn write_byte<W: fmt::Write>(f: &mut fmt::Formatter<W>, byte: u8) -> fmt::Result {
+    match byte {
+        b'\t' => f.write_str("\\t"),
+        b'\r' => f.write_str("\\r"),
+        b' '..=b'~' => f.write_char(char::from(byte)),
+        _ => write!(f, "\\x{byte:02x}"),
+    }
+}
+
+/// The line with this number, from 1, without its line feed. It is empty where the script has fewer lines.
+pub(crate) fn line_at(script: &[u8], number: usize) -> &[u8] {
+    let mut rest = script;
+    for _ in 1..number {
+        rest = cut_line(rest).1;
+    }
+    cut_line(rest).0
+}
+
+/// The first line, without its line feed, and the bytes after it.
+fn cut_line(bytes: &[u8]) -> (&[u8], &[u8]) {
+    match bytes.iter().position(|c| *c == b'\n') {
+        Some(end) => (&bytes[..end], &bytes[end + 1..]),
+        None => (bytes, &[]),
+    }
+}

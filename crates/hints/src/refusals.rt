@@ -1,0 +1,163 @@
+//! The hint to a refusal.
+
+use crate::disk_before::disk_before;
+use crate::groups::{GroupFault, GroupRemedy, group_fault};
+use crate::lines::{LineFault, LineRemedy, bad_path, line_fault, words_of};
+use crate::operations::{OperationFault, OperationRemedy, Spoken, operation_fault};
+use crate::quoted::{Quoted, line_at};
+use crate::sizes::{SizeFault, SizeRemedy, size_fault};
+use crash_model::refusals::RunFault;
+use crash_model::settings::Settings;
+use script_text::{Script, read_script};
+use std::alloc::Allocator;
+use std::fmt::Display;
+use std::{fmt, str};
+
+/// What was asked: the script's bytes and the settings of the run.
+#[derive(Clone, Copy)]
+pub struct Asked<'a> {
+    pub script: &'a [u8],
+    pub settings: &'a Settings,
+}
+
+/// What helps a person whose run was refused. It prints as two lines, which begin with `hint: `: the refused line of
+/// the script with what is wrong with it, and what would be right.
+#[derive(Debug)]
+pub struct Hint<'a> {
+    /// The refused line of the script, where the refusal has one.
+    pub line: Option<Quoted<'a>>,
+    pub cause: Cause<'a>,
+}
+
+/// Why a run was refused.
+#[derive(Debug)]
+pub enum Cause<'a> {
+    Line(LineFault<'a>),
+    Operation(OperationFault<'a>),
+    Group(GroupFault),
+    Size(SizeFault),
+    /// No line is `start`.
+    NoStart,
+}
+
+/// The hint to a refusal of what was asked. `None` where none would help, or memory ran out.
+pub fn hint_of<'a, A: Allocator + Copy>(
+    alloc: A,
+    asked: Asked<'a>,
+    fault: RunFault,
+) -> Option<Hint<'a>> {
+    let cause = cause_of(alloc, asked, fault)?;
+    let line = match fault {
+        RunFault::NoStart { .. } => None,
+        _ => fault.line(),
+    };
+    Some(Hint {
+        line: line.map(|number| Quoted(line_at(asked.script, number))),
+        cause,
+    })
+}
+
+/// Why what was asked is refused so.
+fn cause_of<'a, A: Allocator + Copy>(
+    alloc: A,
+    asked: Asked<'a>,
+    fault: RunFault,
+) -> Option<Cause<'a>> {
+    let script = asked.script;
+    match fault {
+        RunFault::BadUtf8 { line } | RunFault::BadLine { line } => {
+            Some(Cause::Line(line_fault(alloc, script, line)))
+        }
+        RunFault::BadPath { line } => {
+            Some(Cause::Line(LineFault::Path(bad_path(script, line)?)))
+        }
+        RunFault::NoStart { .. } => Some(Cause::NoStart),
+        RunFault::ScriptTooLong => Some(Cause::Size(SizeFault::Script)),
+        RunFault::BadGeometry => {
+            let (blocks, journal) = (asked.settings.blocks, asked.settings.journal);
+            Some(Cause::Size(SizeFault::Geometry { blocks, journal }))
+        }
+        _ => {
+            let steps = read_script(alloc, script).ok()?;
+            cause_in(alloc, asked, &steps, fault)
+        }
+    }
+}
+
+/// Why a script that can be read is refused so.
+fn cause_in<'a, A: Allocator + Copy>(
+    alloc: A,
+    asked: Asked<'a>,
+    steps: &Script<A>,
+    fault: RunFault,
+) -> Option<Cause<'a>> {
+    let (base, traced) = (steps.base.as_slice(), steps.traced.as_slice());
+    if let RunFault::GroupFault { line } = fault {
+        return Some(Cause::Group(group_fault(base, traced, line)));
+    }
+    if let Some(size) = size_fault(alloc, steps, asked.settings, fault) {
+        return Some(Cause::Size(size));
+    }
+    let line = fault.line()?;
+    let disk = disk_before(alloc, asked.settings, [base, traced], line)?;
+    let spoken = spoken_on(line_at(asked.script, line))?;
+    Some(Cause::Operation(operation_fault(&disk, spoken, fault)?))
+}
+
+/// The verb and the paths of a line.
+fn spoken_on(line: &[u8]) -> Option<Spoken<'_>> {
+    let words = words_of(str::from_utf8(line).ok()?);
+    match words.as_slice() {
+        [verb, path] => Some(Spoken {
+            verb,
+            first: path.as_bytes(),
+            last: path.as_bytes(),
+        }),
+        [verb, first, last] => Some(Spoken {
+            verb,
+            first: first.as_bytes(),
+            last: last.as_bytes(),
+        }),
+        _ => None,
+    }
+}
+
+impl Display for Hint<'_> {
+    fn fmt<W: fmt::Write>(&self, f: &mut fmt::Formatter<W>) -> fmt::Result {
+        f.write_str("hint: ")?;
+        if let Some(line) = self.line {
+            write!(f, "{line}: ")?;
+        }
+        self.cause.fmt(f)?;
+        f.write_str("\nhint: ")?;
+        self.cause.write_remedy(f)?;
+        f.write_str("\n")
+    }
+}
+
+impl Display for Cause<'_> {
+    fn fmt<W: fmt::Write>(&self, f: &mut fmt::Formatter<W>) -> fmt::Result {
+        match self {
+            Cause::Line(fault) => fault.fmt(f),
+            Cause::Operation(fault) => fault.fmt(f),
+            Cause::Group(fault) => fault.fmt(f),
+            Cause::Size(fault) => fault.fmt(f),
+            Cause::NoStart => f.write_str("no line of the script is `start`"),
+        }
+    }
+}
+
+impl Cause<'_> {
+    /// Writes what would be right.
+    fn write_remedy<W: fmt::Write>(&self, f: &mut fmt::Formatter<W>) -> fmt::Result {
+        match self {
+            Cause::Line(fault) => LineRemedy(fault).fmt(f),
+            Cause::Operation(fault) => OperationRemedy(fault).fmt(f),
+            Cause::Group(fault) => GroupRemedy(fault).fmt(f),
+            Cause::Size(fault) => SizeRemedy(*fault).fmt(f),
+            Cause::NoStart => {
+                f.write_str("the lines before `start` build the disk, and those after it are explored")
+            }
+        }
+    }
+}

@@ -1,0 +1,69 @@
+//! The words that a line begins with, and those that people write for them.
+
+use std::alloc::Allocator;
+use strsim::levenshtein;
+
+/// A word that a line begins with, and how the whole line is written.
+#[derive(Debug)]
+pub struct Verb {
+    pub word: &'static str,
+    /// How many words follow.
+    pub operands: usize,
+    /// Whether these are names of groups, and not paths.
+    pub names_groups: bool,
+    pub form: &'static str,
+}
+
+/// All words that a line begins with, in the order of their explanation.
+pub const LIST: &str =
+    "create, write, link, unlink, rename, mkdir, rmdir, group, end, depend, start or #";
+
+/// The lines that there are.
+static VERBS: [Verb; 11] = [
+    Verb { word: "create", operands: 1, names_groups: false, form: "create PATH" },
+    Verb { word: "write", operands: 1, names_groups: false, form: "write PATH" },
+    Verb { word: "link", operands: 2, names_groups: false, form: "link OLD NEW" },
+    Verb { word: "unlink", operands: 1, names_groups: false, form: "unlink PATH" },
+    Verb { word: "rename", operands: 2, names_groups: false, form: "rename OLD NEW" },
+    Verb { word: "mkdir", operands: 1, names_groups: false, form: "mkdir PATH" },
+    Verb { word: "rmdir", operands: 1, names_groups: false, form: "rmdir PATH" },
+    Verb { word: "group", operands: 1, names_groups: true, form: "group NAME" },
+    Verb { word: "end", operands: 0, names_groups: false, form: "end" },
+    Verb { word: "depend", operands: 2, names_groups: true, form: "depend LATER EARLIER" },
+    Verb { word: "start", operands: 0, names_groups: false, form: "start" },
+];
+
+/// How many letters of a word may differ from the word that was meant.
+const MOST_EDITS: usize = 2;
+
+/// The line that begins with this word.
+pub(crate) fn verb_of(word: &str) -> Option<&'static Verb> {
+    VERBS.iter().find(|verb| verb.word == word)
+}
+
+/// The line that was probably meant by a word that begins none.
+pub(crate) fn likely_verb<A: Allocator + Copy>(alloc: A, word: &str) -> Option<&'static str> {
+    match word {
+        "touch" | "open" | "new" | "add" | "Create" => Some("create"),
+        "mv" | "move" | "Rename" => Some("rename"),
+        "rm" | "remove" | "delete" | "del" | "Unlink" => Some("unlink"),
+        "ln" | "cp" | "hardlink" => Some("link"),
+        "append" | "echo" | "put" => Some("write"),
+        "md" | "dir" => Some("mkdir"),
+        "rd" => Some("rmdir"),
+        "begin" | "go" | "run" => Some("start"),
+        "sync" | "fsync" | "fdatasync" | "flush" | "barrier" | "after" => Some("depend"),
+        _ => nearest_verb(alloc, word),
+    }
+}
+
+/// The first word of the list that differs from this one by at most two letters.
+fn nearest_verb<A: Allocator + Copy>(alloc: A, word: &str) -> Option<&'static str> {
+    for verb in &VERBS {
+        match levenshtein(alloc, word, verb.word) {
+            Ok(edits) if edits <= MOST_EDITS => return Some(verb.word),
+            _ => {}
+        }
+    }
+    None
+}
