@@ -62,6 +62,12 @@ Examples:
   printf 'start\\ncreate /a\\n' | crashmap --module async
   printf 'start\\ncreate /a\\nwrite /a\\n' | crashmap --without Ptr:InitFile --explain --summary
 
+Words of reports:
+  base      the disk that the lines before `start` build
+  closed    a set of patches with every patch that they wait for: what a crash can leave on disk
+  pairs     how many pairs of a script's patches a rule orders
+  in place  a change where it belongs on the disk, and not its copy in the journal
+
 A script has one operation a line (create, write, link, unlink, rename, mkdir, rmdir, with paths), groups (group A,
 end, depend B A), comments (#) and one line `start`: the lines before it build the disk, those after it are explored.
 
@@ -122,7 +128,8 @@ static HEADS: [Head; 5] = [
         entries: &[Entry {
             name: "strict",
             takes: Takes::Nothing,
-            help: "A set fails, too, where an inode that the script keeps is lost or a directory has no block",
+            help: "Also fail where a crash loses a file or directory that the script never removes, or leaves a \
+                   directory without its block",
         }],
     },
     // How many sets are explored, and by whom.

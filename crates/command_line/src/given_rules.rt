@@ -2,7 +2,7 @@
 
 ghost use Rattle.std.specs.Prelude.{◌≡◌, ◌<◌, true, IfOk, OnOk, eqb, length};
 ghost use Rattle.std.specs.List.{ends_with};
-ghost use Rattle.crash_model.specs.Rules.{rule_text, rules_of};
+ghost use Rattle.crash_model.specs.Rules.{rule_text};
 ghost use Rattle.command_line.specs.Given.{AreWrittenIn, is_written_in, AreAllIn, AreNoneIn};
 
 use crate::faults::{Value, WordFault};
@@ -72,12 +72,16 @@ fn ends_with(word: &str, text: &str) -> bool
     word.ends_with(text)
 }
 
-/// Each rule to take out is one of the module's.
-pub(crate) fn check_without<'a>(without: &[Rule], module: Module) -> Result<(), WordFault<'a>>
-    ensures { OnOk result (AreAllIn (rules_of «module») without.now) }
+/// Each rule to take out is one of these, which are the module's.
+pub(crate) fn check_without<'a>(
+    without: &[Rule],
+    rules: &[Rule],
+    module: Module,
+) -> Result<(), WordFault<'a>>
+    ensures { OnOk result (AreAllIn rules.now without.now) }
 {
     for rule in without {
-        if !has_rule(module.rules(), *rule) {
+        if !has_rule(rules, *rule) {
             return Err(WordFault {
                 option: "without",
                 value: Value::Rule(*rule),

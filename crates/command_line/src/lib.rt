@@ -136,7 +136,7 @@ fn rules_for<'a>(
 {
     let without = given_rules(heap, matches, words, "without")?;
     let with = given_rules(heap, matches, words, "with")?;
-    check_without(without.as_slice(), ordering)?;
+    check_without(without.as_slice(), ordering.rules(), ordering)?;
     check_with(with.as_slice(), without.as_slice())?;
     Ok((without, with))
 }

@@ -6,10 +6,14 @@ use crash_text::answer::{answer_watched, refuse, refuse_words};
 use crash_text::host::Host;
 use crash_text::progress::Progress;
 use std::alloc::{AllocError, Global};
-use std::io::IsTerminal;
+use std::io::{IsTerminal, Write};
 use std::process::ExitCode;
 use std::rt::Env;
 use std::{env, io};
+
+/// What a person sees who names no script, before the program waits for one.
+const READS_INPUT: &str =
+    "crashmap: reads a script from standard input, up to Ctrl-D; --help lists the options\n";
 
 /// The words of the command line, the program's own name first.
 fn words_of<R: Env + AllocGlobal>(rt: &R) -> io::Result<Vec<String>> {
@@ -39,6 +43,9 @@ fn main(rt: HostRuntime) -> ExitCode {
     let Ok(texts) = texts_of(heap, &words) else {
         return ExitCode::from(refuse(&mut err, RunFault::OutOfMemory));
     };
+    if texts.is_empty() && input.is_terminal() && err.is_terminal() {
+        let _ = err.write_all(READS_INPUT.as_bytes());
+    }
     let progress = Progress::new(&rt, err, err.is_terminal());
     let host = Host::new(&rt).with_hints(err.is_terminal());
     let status = answer_watched(&host, &texts, &mut input, &mut out, &mut err, &progress);

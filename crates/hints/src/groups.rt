@@ -5,7 +5,7 @@ use crash_model::steps::{Act, Step};
 use std::fmt;
 
 /// Why a line on groups is refused.
-#[derive(Debug)]
+#[derive(Debug, Drop)]
 pub enum GroupFault {
     /// It stands before the start line.
     BeforeStart,

@@ -12,7 +12,7 @@ use std::{fmt, str};
 const MOST_WORDS: usize = 4;
 
 /// What is wrong with a line.
-#[derive(Debug)]
+#[derive(Debug, Drop)]
 pub enum LineFault<'a> {
     NotUtf8,
     CarriageReturn,

@@ -22,7 +22,7 @@ pub struct Asked<'a> {
 
 /// What helps a person whose run was refused. It prints as two lines, which begin with `hint: `: the refused line of
 /// the script with what is wrong with it, and what would be right.
-#[derive(Debug)]
+#[derive(Debug, Drop)]
 pub struct Hint<'a> {
     /// The refused line of the script, where the refusal has one.
     pub line: Option<Quoted<'a>>,
@@ -30,7 +30,7 @@ pub struct Hint<'a> {
 }
 
 /// Why a run was refused.
-#[derive(Debug)]
+#[derive(Debug, Drop)]
 pub enum Cause<'a> {
     Line(LineFault<'a>),
     Operation(OperationFault<'a>),
