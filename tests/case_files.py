@@ -14,7 +14,7 @@ CASES = pathlib.Path(__file__).resolve().parent.parent / "cases"
 
 # The fields in the order in which they stand, and whether lines follow the field.
 FIELDS = {"words": False, "status": False, "script": True, "script-file": False, "output": True,
-          "output-file": False, "output-digest": False, "errors": True, "fault": False}
+          "output-file": False, "output-digest": False, "errors": True, "fault": False, "terminal": True}
 INDENT = "    "
 NAME = re.compile(r"[a-z0-9]+(-[a-z0-9]+)*")
 FILE = re.compile(r"[a-z0-9][a-z0-9.-]*")
@@ -30,7 +30,7 @@ class Case:
 
     `output` is None where the file keeps the SHA-256 digest of a long output, `output_digest`, in its place.
     `fault` is None, or the words that standard error names where the command line is refused; `errors` is then
-    empty and says nothing.
+    empty and says nothing. `terminal` is what standard error gets where it is a terminal, if the file says so.
     """
     name: str
     about: str = ""
@@ -41,6 +41,7 @@ class Case:
     output_digest: str | None = None
     errors: bytes = b""
     fault: str | None = None
+    terminal: bytes = b""
 
     def has_output(self, output):
         """Whether this is the output, byte for byte."""
@@ -217,6 +218,7 @@ def write_case(path, case):
     lines += block(path, "errors", case.errors)
     if case.fault is not None:
         lines.append(f"fault: {case.fault}")
+    lines += block(path, "terminal", case.terminal)
     path.write_text("\n".join(lines) + "\n")
 
 

@@ -6,7 +6,7 @@ use crash_model::settings::Settings;
 use disk_image::Image;
 use order_modules::{build_base, trace};
 use script_text::Script;
-use set_families::Graph as Dependencies;
+use set_families::ClosedSets;
 use std::alloc::Allocator;
 use std::fmt;
 
@@ -135,8 +135,7 @@ fn closed_sets<A: Allocator + Copy>(
     let ordering = settings.ordering();
     let traced = trace(alloc, &base, &script.traced, &ordering).ok()?;
     let dependencies = dependencies(traced.graph());
-    let closed = Dependencies::of(dependencies.as_slice());
-    Some(closed.count_closed())
+    Some(ClosedSets::of(dependencies.as_slice()).count())
 }
 
 impl fmt::Display for SizeFault {
