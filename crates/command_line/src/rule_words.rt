@@ -17,48 +17,150 @@ struct Meaning {
 
 /// The parts that a rule names.
 static PARTS: [Meaning; 16] = [
-    Meaning { word: "InodeInit", meaning: "a new inode" },
-    Meaning { word: "EntrySet", meaning: "a name that comes into a directory" },
-    Meaning { word: "EntryClear", meaning: "a name that goes out of a directory" },
-    Meaning { word: "MapSet", meaning: "a block's mark as used" },
-    Meaning { word: "MapClear", meaning: "a block's mark as free" },
-    Meaning { word: "InitFile", meaning: "the first contents of a file's block" },
-    Meaning { word: "InitDir", meaning: "the first contents of a directory's block" },
-    Meaning { word: "Ptr", meaning: "an inode's pointer to a block" },
-    Meaning { word: "LinkUp", meaning: "a link count that rises" },
-    Meaning { word: "LinkDown", meaning: "a link count that falls" },
-    Meaning { word: "InodeFree", meaning: "an inode that becomes free" },
-    Meaning { word: "InPlace", meaning: "any of these, where it belongs on the disk" },
-    Meaning { word: "FileData", meaning: "a file's block, written ahead of its transaction" },
-    Meaning { word: "Copy", meaning: "the copy of a block in the journal" },
-    Meaning { word: "Commit", meaning: "the header that commits a transaction" },
-    Meaning { word: "Done", meaning: "the header's mark that all is in place" },
+    Meaning {
+        word: "InodeInit",
+        meaning: "a new inode",
+    },
+    Meaning {
+        word: "EntrySet",
+        meaning: "a name that comes into a directory",
+    },
+    Meaning {
+        word: "EntryClear",
+        meaning: "a name that goes out of a directory",
+    },
+    Meaning {
+        word: "MapSet",
+        meaning: "a block's mark as used",
+    },
+    Meaning {
+        word: "MapClear",
+        meaning: "a block's mark as free",
+    },
+    Meaning {
+        word: "InitFile",
+        meaning: "the first contents of a file's block",
+    },
+    Meaning {
+        word: "InitDir",
+        meaning: "the first contents of a directory's block",
+    },
+    Meaning {
+        word: "Ptr",
+        meaning: "an inode's pointer to a block",
+    },
+    Meaning {
+        word: "LinkUp",
+        meaning: "a link count that rises",
+    },
+    Meaning {
+        word: "LinkDown",
+        meaning: "a link count that falls",
+    },
+    Meaning {
+        word: "InodeFree",
+        meaning: "an inode that becomes free",
+    },
+    Meaning {
+        word: "InPlace",
+        meaning: "any of these, where it belongs on the disk",
+    },
+    Meaning {
+        word: "FileData",
+        meaning: "a file's block, written ahead of its transaction",
+    },
+    Meaning {
+        word: "Copy",
+        meaning: "the copy of a block in the journal",
+    },
+    Meaning {
+        word: "Commit",
+        meaning: "the header that commits a transaction",
+    },
+    Meaning {
+        word: "Done",
+        meaning: "the header's mark that all is in place",
+    },
 ];
 
 /// The rules of the modules.
 static RULES: [Meaning; 19] = [
-    Meaning { word: "EntrySet:InodeInit", meaning: "a name waits for the inode that it leads to" },
-    Meaning { word: "EntrySet:LinkUp", meaning: "a name waits for the link count that counts it" },
-    Meaning { word: "EntrySet:Ptr", meaning: "a directory's name waits for the pointer to its block" },
-    Meaning { word: "InitFile:MapSet", meaning: "a file's block waits for its mark as used" },
-    Meaning { word: "InitDir:MapSet", meaning: "a directory's block waits for its mark as used" },
-    Meaning { word: "Ptr:InitFile", meaning: "a pointer waits for the file's block" },
-    Meaning { word: "Ptr:InitDir", meaning: "a pointer waits for the directory's block" },
-    Meaning { word: "Ptr:MapSet", meaning: "a pointer waits for its block's mark as used" },
-    Meaning { word: "LinkDown:EntryClear", meaning: "a link count falls after the name is gone" },
-    Meaning { word: "InodeFree:EntryClear", meaning: "an inode becomes free after its last name is gone" },
-    Meaning { word: "MapClear:InodeFree", meaning: "a block becomes free after the inode that points to it" },
-    Meaning { word: "EntryClear:EntrySet", meaning: "a rename's old name goes after the new one is there" },
+    Meaning {
+        word: "EntrySet:InodeInit",
+        meaning: "a name waits for the inode that it leads to",
+    },
+    Meaning {
+        word: "EntrySet:LinkUp",
+        meaning: "a name waits for the link count that counts it",
+    },
+    Meaning {
+        word: "EntrySet:Ptr",
+        meaning: "a directory's name waits for the pointer to its block",
+    },
+    Meaning {
+        word: "InitFile:MapSet",
+        meaning: "a file's block waits for its mark as used",
+    },
+    Meaning {
+        word: "InitDir:MapSet",
+        meaning: "a directory's block waits for its mark as used",
+    },
+    Meaning {
+        word: "Ptr:InitFile",
+        meaning: "a pointer waits for the file's block",
+    },
+    Meaning {
+        word: "Ptr:InitDir",
+        meaning: "a pointer waits for the directory's block",
+    },
+    Meaning {
+        word: "Ptr:MapSet",
+        meaning: "a pointer waits for its block's mark as used",
+    },
+    Meaning {
+        word: "LinkDown:EntryClear",
+        meaning: "a link count falls after the name is gone",
+    },
+    Meaning {
+        word: "InodeFree:EntryClear",
+        meaning: "an inode becomes free after its last name is gone",
+    },
+    Meaning {
+        word: "MapClear:InodeFree",
+        meaning: "a block becomes free after the inode that points to it",
+    },
+    Meaning {
+        word: "EntryClear:EntrySet",
+        meaning: "a rename's old name goes after the new one is there",
+    },
     Meaning {
         word: "FileData:previous-Commit",
         meaning: "a file's block waits for the commit before it, which may have freed the block",
     },
-    Meaning { word: "Commit:Copy", meaning: "a commit waits for all copies of its transaction" },
-    Meaning { word: "Commit:FileData", meaning: "a commit waits for the file's block" },
-    Meaning { word: "Commit:previous-Commit", meaning: "transactions commit in order" },
-    Meaning { word: "InPlace:Commit", meaning: "blocks change in place after the commit" },
-    Meaning { word: "Done:InPlace", meaning: "a transaction is done after its blocks changed in place" },
-    Meaning { word: "Done:previous-Done", meaning: "transactions are done in order" },
+    Meaning {
+        word: "Commit:Copy",
+        meaning: "a commit waits for all copies of its transaction",
+    },
+    Meaning {
+        word: "Commit:FileData",
+        meaning: "a commit waits for the file's block",
+    },
+    Meaning {
+        word: "Commit:previous-Commit",
+        meaning: "transactions commit in order",
+    },
+    Meaning {
+        word: "InPlace:Commit",
+        meaning: "blocks change in place after the commit",
+    },
+    Meaning {
+        word: "Done:InPlace",
+        meaning: "a transaction is done after its blocks changed in place",
+    },
+    Meaning {
+        word: "Done:previous-Done",
+        meaning: "transactions are done in order",
+    },
 ];
 
 /// What is wrong with a word where a rule or a limit stands.
@@ -109,11 +211,23 @@ impl fmt::Display for Why<'_> {
     fn fmt<W: fmt::Write>(&self, f: &mut fmt::Formatter<W>) -> fmt::Result {
         match *self {
             Why::NoColon => f.write_str("it is no rule, which is written LATER:EARLIER"),
-            Why::NoPart { part, nearest: Some(nearest) } => {
-                write!(f, "it is no rule: no part is called '{part}'; did you mean '{nearest}'?")
+            Why::NoPart {
+                part,
+                nearest: Some(nearest),
+            } => {
+                write!(
+                    f,
+                    "it is no rule: no part is called '{part}'; did you mean '{nearest}'?"
+                )
             }
-            Why::NoPart { part, nearest: None } => {
-                write!(f, "it is no rule: no part is called '{part}'; --rules lists them")
+            Why::NoPart {
+                part,
+                nearest: None,
+            } => {
+                write!(
+                    f,
+                    "it is no rule: no part is called '{part}'; --rules lists them"
+                )
             }
             Why::GivenTwice => f.write_str("it is given twice"),
             Why::TooMany => f.write_str("more than 16 rules are given"),
@@ -143,8 +257,12 @@ pub(crate) fn rules_page(heap: Global, module: Module) -> Result<String, AllocEr
         let text = format!(in heap; "{rule}")?;
         push_rule(&mut page, text.as_str())?;
     }
-    page.push_str("\nA rule LATER:EARLIER makes the later part wait for the earlier one of the same operation, ")?;
-    page.push_str("and LATER:previous-EARLIER for\nthe one of the operation before. The parts are:\n")?;
+    page.push_str(
+        "\nA rule LATER:EARLIER makes the later part wait for the earlier one of the same operation, ",
+    )?;
+    page.push_str(
+        "and LATER:previous-EARLIER for\nthe one of the operation before. The parts are:\n",
+    )?;
     for part in &PARTS {
         let Meaning { word, meaning } = part;
         write!(page, "  {word:<10}  {meaning}\n")?;

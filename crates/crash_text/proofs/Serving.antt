@@ -1,7 +1,7 @@
 -- What is served, and which refusals are not a run's.
 use Rattle.std.proofs.Common.{◌≡◌, ℕ, ◌<◌, ◌≤◌, List, ◌++◌, length, Option, Some, None, IfSome, Bool, true, false, refl}
 use Rattle.std.proofs.Common.{sym, subst, ap, ◌∙◌, append-nil, arith}
-use Rattle.std.specs.Prelude.{◌≢◌, Result, Err}
+use Rattle.std.specs.Prelude.{◌≢◌, Result, Ok, Err, IfErr}
 use Rattle.std.specs.Io.KnownBytes.{Consumes, IsAtEnd}
 use Rattle.crash_model.specs.Answer.{Answer, Refused, Reported, IsAnswer, bad_script, bad_geometry, bad_base, bad_trace}
 use Rattle.crash_model.specs.Answer.{too_many, reported}
@@ -42,6 +42,15 @@ unread_refused coming settings CannotRead is = λ a b c d. absurd (a refl)
 unread_refused coming settings ScriptTooLong is = λ a b c d. absurd (c refl)
 unread_refused coming settings OutOfMemory is = λ a b c d. absurd (d refl)
 unread_refused coming settings _ is = absurd is
+
+-- a refusal of a script's bytes is one of a source that had these
+pub refused_on : {X : Type 0} (coming : Option (List ℕ)) (bytes : List ℕ) (settings : Settings)
+    (result : Result X RunFault) → IsWhole coming bytes → IfErr result (IsRefusedBy (Some bytes) settings)
+    → IfErr result (IsRefusedBy coming settings)
+refused_on coming bytes settings (Ok value) read refused = tt
+refused_on coming bytes settings (Err fault) read refused = λ a b c d.
+    let given = refused a b c d in
+    (given.0, subst (λ xs. IsWhole coming xs) (sym given.1) read, given.2)
 
 -- whether a run itself can refuse so
 abbrev pub is_of_run : RunFault → Bool

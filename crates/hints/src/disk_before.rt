@@ -62,7 +62,10 @@ pub(crate) fn named_by<A: Allocator + Copy>(disk: &Image<A>, path: &[u8]) -> Nam
 
 /// The shortest beginning of the path, up to a slash or its end, that names something else on the disk than a
 /// directory.
-pub(crate) fn first_not_directory<'a, A: Allocator + Copy>(disk: &Image<A>, path: &'a [u8]) -> &'a [u8] {
+pub(crate) fn first_not_directory<'a, A: Allocator + Copy>(
+    disk: &Image<A>,
+    path: &'a [u8],
+) -> &'a [u8] {
     for end in 1..path.len() {
         if path[end] == b'/' && named_by(disk, &path[..end]) != Named::Directory {
             return &path[..end];

@@ -56,7 +56,10 @@ fn depend_fault(
             return GroupFault::NotEnded(since);
         }
     }
-    match (opened_at(traced, number, earlier), opened_at(traced, number, later)) {
+    match (
+        opened_at(traced, number, earlier),
+        opened_at(traced, number, later),
+    ) {
         (Some(_), Some(line)) => GroupFault::HasPatches(line),
         _ => GroupFault::NeverOpened,
     }
@@ -106,11 +109,16 @@ impl fmt::Display for GroupFault {
             GroupFault::IsOpen(line) => write!(f, "a group is open since line {line}"),
             GroupFault::WasOpened(line) => write!(f, "line {line} opened this group already"),
             GroupFault::NoneIsOpen => f.write_str("no group is open at this line"),
-            GroupFault::NeverOpened => f.write_str("no line before this one opens the earlier group"),
+            GroupFault::NeverOpened => f.write_str(
+                "no line before this one opens the earlier group",
+            ),
             GroupFault::NotEnded(line) => write!(f, "the earlier group is open since line {line}"),
             GroupFault::Itself => f.write_str("the line names one group twice"),
             GroupFault::HasPatches(line) => {
-                write!(f, "the later group was opened on line {line} and has patches already")
+                write!(
+                    f,
+                    "the later group was opened on line {line} and has patches already"
+                )
             }
         }
     }

@@ -85,7 +85,10 @@ fn words_fault<'a, A: Allocator + Copy>(
     if operands.len() != verb.operands {
         return LineFault::Operands(verb);
     }
-    match operands.iter().find(|operand| GroupName::read(operand).is_none()) {
+    match operands
+        .iter()
+        .find(|operand| GroupName::read(operand).is_none())
+    {
         Some(operand) if verb.names_groups => LineFault::NoGroupName(operand),
         _ => LineFault::SecondStart(start_line(script)),
     }
@@ -131,9 +134,7 @@ impl fmt::Display for LineFault<'_> {
             LineFault::NoGroupName(word) => {
                 write!(f, "{} is no name of a group", Quoted(word.as_bytes()))
             }
-            LineFault::SecondStart(first) => {
-                write!(f, "line {first} is `start` already")
-            }
+            LineFault::SecondStart(first) => { write!(f, "line {first} is `start` already") }
             LineFault::Path(fault) => fault.fmt(f),
         }
     }
@@ -162,9 +163,10 @@ impl fmt::Display for LineRemedy<'_> {
                 f.write_str("put one space between words, and none at the ends")
             }
             LineFault::Comment => f.write_str("put the comment on a line of its own"),
-            LineFault::NoVerb { likely: Some(likely), .. } => {
-                write!(f, "did you mean `{likely}`? A line begins with {LIST}")
-            }
+            LineFault::NoVerb {
+                likely: Some(likely),
+                ..
+            } => { write!(f, "did you mean `{likely}`? A line begins with {LIST}") }
             LineFault::NoVerb { .. } => write!(f, "a line begins with {LIST}"),
             LineFault::Operands(verb) => {
                 let form = verb.form;
@@ -175,7 +177,9 @@ impl fmt::Display for LineRemedy<'_> {
             }
             LineFault::SecondStart(_) => f.write_str("a script has one line `start`"),
             LineFault::Path(_) => {
-                f.write_str("a path is one to four times a slash and a name of 1 to 10 of a to z and 0 to 9")
+                f.write_str(
+                    "a path is one to four times a slash and a name of 1 to 10 of a to z and 0 to 9",
+                )
             }
         }
     }

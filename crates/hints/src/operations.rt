@@ -64,7 +64,10 @@ pub(crate) fn operation_fault<'a, A: Allocator + Copy>(
 }
 
 /// What is wrong with the directories that the path goes through.
-fn walk_fault<'a, A: Allocator + Copy>(disk: &Image<A>, path: &'a [u8]) -> Option<OperationFault<'a>> {
+fn walk_fault<'a, A: Allocator + Copy>(
+    disk: &Image<A>,
+    path: &'a [u8],
+) -> Option<OperationFault<'a>> {
     let part = first_not_directory(disk, path);
     if part.len() == path.len() {
         return None;
@@ -101,9 +104,7 @@ impl fmt::Display for OperationFault<'_> {
             OperationFault::DirectoryFull(path) => {
                 write!(f, "the directory of {} has 10 names already", Quoted(path))
             }
-            OperationFault::FileFull(path) => {
-                write!(f, "{} has 4 blocks already", Quoted(path))
-            }
+            OperationFault::FileFull(path) => { write!(f, "{} has 4 blocks already", Quoted(path)) }
             OperationFault::LinksFull(path) => write!(f, "{} has 8 names already", Quoted(path)),
         }
     }
@@ -116,8 +117,10 @@ pub(crate) struct OperationRemedy<'a>(pub &'a OperationFault<'a>);
 impl fmt::Display for OperationRemedy<'_> {
     fn fmt<W: fmt::Write>(&self, f: &mut fmt::Formatter<W>) -> fmt::Result {
         f.write_str(match self.0 {
-            OperationFault::Missing(_) => "`create` makes a file and `mkdir` a directory; put it before this line",
-            OperationFault::IsFile(_) => "only a directory has names in it, and `rmdir` removes only a directory",
+            OperationFault::Missing(_) =>
+                "`create` makes a file and `mkdir` a directory; put it before this line",
+            OperationFault::IsFile(_) =>
+                "only a directory has names in it, and `rmdir` removes only a directory",
             OperationFault::Exists(_) => "unlink it first, or take another name",
             OperationFault::RenameOnto(_) => {
                 "a rename onto a name is not modelled: unlink the new name first"
@@ -125,9 +128,12 @@ impl fmt::Display for OperationRemedy<'_> {
             OperationFault::IsDirectory(_) => "only a file is written, linked or renamed",
             OperationFault::UnlinkOfDirectory(_) => "`rmdir` removes a directory",
             OperationFault::NotEmpty(_) => "remove what is in it first",
-            OperationFault::NoInode => "the disk has 16 inodes, the root's among them: unlink a file first",
-            OperationFault::DirectoryFull(_) => "a directory holds at most 10 names: take another directory",
-            OperationFault::FileFull(_) => "a file holds at most 4 blocks, and each `write` adds one",
+            OperationFault::NoInode =>
+                "the disk has 16 inodes, the root's among them: unlink a file first",
+            OperationFault::DirectoryFull(_) =>
+                "a directory holds at most 10 names: take another directory",
+            OperationFault::FileFull(_) =>
+                "a file holds at most 4 blocks, and each `write` adds one",
             OperationFault::LinksFull(_) => "a file has at most 8 names: unlink one first",
         })
     }

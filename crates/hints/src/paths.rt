@@ -77,7 +77,10 @@ impl fmt::Display for PathFault<'_> {
             }
             PathFault::Letter { path, name } => {
                 let (path, name) = (Quoted(path.as_bytes()), Quoted(name.as_bytes()));
-                write!(f, "the name {name} in {path} has a letter other than a to z and 0 to 9")
+                write!(
+                    f,
+                    "the name {name} in {path} has a letter other than a to z and 0 to 9"
+                )
             }
             PathFault::LongName { path, name } => {
                 let letters = name.len();

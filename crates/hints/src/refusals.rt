@@ -1,5 +1,8 @@
 //! The hint to a refusal.
 
+ghost use Rattle.std.specs.Prelude.{◌≡◌, None, IfSome};
+ghost use Rattle.hints.specs.Hints.{IsNoStart};
+
 use crate::disk_before::disk_before;
 use crate::groups::{GroupFault, GroupRemedy, group_fault};
 use crate::lines::{LineFault, LineRemedy, bad_path, line_fault, words_of};
@@ -40,12 +43,18 @@ pub enum Cause<'a> {
     NoStart,
 }
 
-/// The hint to a refusal of what was asked. `None` where none would help, or memory ran out.
+/// The hint to a refusal of what was asked. `None` where none would help, or memory ran out, in the run or here.
 pub fn hint_of<'a, A: Allocator + Copy>(
     alloc: A,
     asked: Asked<'a>,
     fault: RunFault,
-) -> Option<Hint<'a>> {
+) -> Option<Hint<'a>>
+    ensures out_of_memory { fault ≡ RunFault.OutOfMemory → result ≡ None }
+    ensures no_start { IfSome result (λ hint. IsNoStart fault → hint.line ≡ None) }
+{
+    if fault == RunFault::OutOfMemory {
+        return None;
+    }
     let cause = cause_of(alloc, asked, fault)?;
     let line = match fault {
         RunFault::NoStart { .. } => None,
@@ -156,7 +165,9 @@ impl Cause<'_> {
             Cause::Group(fault) => GroupRemedy(fault).fmt(f),
             Cause::Size(fault) => SizeRemedy(*fault).fmt(f),
             Cause::NoStart => {
-                f.write_str("the lines before `start` build the disk, and those after it are explored")
+                f.write_str(
+                    "the lines before `start` build the disk, and those after it are explored",
+                )
             }
         }
     }

@@ -24,9 +24,15 @@ const LARGEST_LIMIT: usize = 1_000_000_000;
 #[derive(Clone, Copy, Debug, PartialEq, Eq)]
 pub enum SizeFault {
     /// The journal leaves the disk too few blocks.
-    Geometry { blocks: usize, journal: usize },
+    Geometry {
+        blocks: usize,
+        journal: usize,
+    },
     /// The disk has too few blocks; the least number that is enough, if any is.
-    Blocks { blocks: usize, enough: Option<usize> },
+    Blocks {
+        blocks: usize,
+        enough: Option<usize>,
+    },
     /// The journal has too few blocks; the smallest journal and its disk that are enough, if any are.
     Journal {
         journal: usize,
@@ -34,7 +40,10 @@ pub enum SizeFault {
     },
     Patches,
     /// More closed sets than the limit, and how many there are.
-    Sets { limit: usize, sets: Option<u128> },
+    Sets {
+        limit: usize,
+        sets: Option<u128>,
+    },
     Script,
 }
 
@@ -113,7 +122,12 @@ fn least_journal<A: Allocator + Copy>(
 }
 
 /// Whether the script is traced on a disk of this size without a refusal.
-fn fits<A: Allocator + Copy>(alloc: A, script: &Script<A>, settings: &Settings, size: Disk) -> bool {
+fn fits<A: Allocator + Copy>(
+    alloc: A,
+    script: &Script<A>,
+    settings: &Settings,
+    size: Disk,
+) -> bool {
     let Ok(mut base) = Image::formatted(alloc, size.blocks, size.journal) else {
         return false;
     };
@@ -143,17 +157,37 @@ impl fmt::Display for SizeFault {
         match *self {
             SizeFault::Geometry { blocks, journal } => {
                 let least = journal.saturating_add(OTHER_BLOCKS);
-                write!(f, "a journal of {journal} blocks needs a disk of at least {least}; this one has {blocks}")
+                write!(
+                    f,
+                    "a journal of {journal} blocks needs a disk of at least {least}; this one has {blocks}"
+                )
             }
-            SizeFault::Blocks { blocks, .. } => write!(f, "no block of the disk's {blocks} is free at this line"),
+            SizeFault::Blocks { blocks, .. } => write!(
+                f,
+                "no block of the disk's {blocks} is free at this line"
+            ),
             SizeFault::Journal { journal, .. } => {
-                write!(f, "the journal of {journal} blocks has no room for the transaction of this line")
+                write!(
+                    f,
+                    "the journal of {journal} blocks has no room for the transaction of this line"
+                )
             }
-            SizeFault::Patches => f.write_str("a script makes at most 124 patches, and this line would make more"),
-            SizeFault::Sets { limit, sets: Some(sets) } => {
-                write!(f, "the script has {sets} closed sets, and the limit is {limit}")
+            SizeFault::Patches => f.write_str(
+                "a script makes at most 124 patches, and this line would make more",
+            ),
+            SizeFault::Sets {
+                limit,
+                sets: Some(sets),
+            } => {
+                write!(
+                    f,
+                    "the script has {sets} closed sets, and the limit is {limit}"
+                )
             }
-            SizeFault::Sets { limit, sets: None } => write!(f, "the script has more than {limit} closed sets"),
+            SizeFault::Sets { limit, sets: None } => write!(
+                f,
+                "the script has more than {limit} closed sets"
+            ),
             SizeFault::Script => f.write_str("a script has at most 1048576 bytes"),
         }
     }
@@ -168,18 +202,35 @@ impl fmt::Display for SizeRemedy {
         match self.0 {
             SizeFault::Geometry { journal, .. } => {
                 let least = journal.saturating_add(OTHER_BLOCKS);
-                write!(f, "--blocks {least} is enough, and a disk has at most {MOST_BLOCKS}")
+                write!(
+                    f,
+                    "--blocks {least} is enough, and a disk has at most {MOST_BLOCKS}"
+                )
             }
-            SizeFault::Blocks { enough: Some(blocks), .. } => write!(f, "--blocks {blocks} is enough for this script"),
+            SizeFault::Blocks {
+                enough: Some(blocks),
+                ..
+            } => write!(f, "--blocks {blocks} is enough for this script"),
             SizeFault::Blocks { enough: None, .. } | SizeFault::Journal { enough: None, .. } => {
-                write!(f, "the script fits no disk of up to {MOST_BLOCKS} blocks: make it shorter")
+                write!(
+                    f,
+                    "the script fits no disk of up to {MOST_BLOCKS} blocks: make it shorter"
+                )
             }
-            SizeFault::Journal { enough: Some(disk), .. } => {
+            SizeFault::Journal {
+                enough: Some(disk),
+                ..
+            } => {
                 let Disk { blocks, journal } = disk;
-                write!(f, "--journal {journal} --blocks {blocks} is enough for this script")
+                write!(
+                    f,
+                    "--journal {journal} --blocks {blocks} is enough for this script"
+                )
             }
             SizeFault::Patches | SizeFault::Script => {
-                f.write_str("leave lines out, or move the first ones before `start`, where they build the disk")
+                f.write_str(
+                    "leave lines out, or move the first ones before `start`, where they build the disk",
+                )
             }
             SizeFault::Sets { sets, .. } => write_limit(f, sets),
         }
@@ -190,6 +241,8 @@ impl fmt::Display for SizeRemedy {
 fn write_limit<W: fmt::Write>(f: &mut fmt::Formatter<W>, sets: Option<u128>) -> fmt::Result {
     match sets.and_then(|sets| usize::try_from(sets).ok()) {
         Some(sets) if sets <= LARGEST_LIMIT => write!(f, "--limit {sets} explores them all"),
-        _ => f.write_str("that is more than --limit can ask for: order more of the writes, or trace fewer of them"),
+        _ => f.write_str(
+            "that is more than --limit can ask for: order more of the writes, or trace fewer of them",
+        ),
     }
 }

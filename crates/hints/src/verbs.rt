@@ -20,17 +20,72 @@ pub const LIST: &str =
 
 /// The lines that there are.
 static VERBS: [Verb; 11] = [
-    Verb { word: "create", operands: 1, names_groups: false, form: "create PATH" },
-    Verb { word: "write", operands: 1, names_groups: false, form: "write PATH" },
-    Verb { word: "link", operands: 2, names_groups: false, form: "link OLD NEW" },
-    Verb { word: "unlink", operands: 1, names_groups: false, form: "unlink PATH" },
-    Verb { word: "rename", operands: 2, names_groups: false, form: "rename OLD NEW" },
-    Verb { word: "mkdir", operands: 1, names_groups: false, form: "mkdir PATH" },
-    Verb { word: "rmdir", operands: 1, names_groups: false, form: "rmdir PATH" },
-    Verb { word: "group", operands: 1, names_groups: true, form: "group NAME" },
-    Verb { word: "end", operands: 0, names_groups: false, form: "end" },
-    Verb { word: "depend", operands: 2, names_groups: true, form: "depend LATER EARLIER" },
-    Verb { word: "start", operands: 0, names_groups: false, form: "start" },
+    Verb {
+        word: "create",
+        operands: 1,
+        names_groups: false,
+        form: "create PATH",
+    },
+    Verb {
+        word: "write",
+        operands: 1,
+        names_groups: false,
+        form: "write PATH",
+    },
+    Verb {
+        word: "link",
+        operands: 2,
+        names_groups: false,
+        form: "link OLD NEW",
+    },
+    Verb {
+        word: "unlink",
+        operands: 1,
+        names_groups: false,
+        form: "unlink PATH",
+    },
+    Verb {
+        word: "rename",
+        operands: 2,
+        names_groups: false,
+        form: "rename OLD NEW",
+    },
+    Verb {
+        word: "mkdir",
+        operands: 1,
+        names_groups: false,
+        form: "mkdir PATH",
+    },
+    Verb {
+        word: "rmdir",
+        operands: 1,
+        names_groups: false,
+        form: "rmdir PATH",
+    },
+    Verb {
+        word: "group",
+        operands: 1,
+        names_groups: true,
+        form: "group NAME",
+    },
+    Verb {
+        word: "end",
+        operands: 0,
+        names_groups: false,
+        form: "end",
+    },
+    Verb {
+        word: "depend",
+        operands: 2,
+        names_groups: true,
+        form: "depend LATER EARLIER",
+    },
+    Verb {
+        word: "start",
+        operands: 0,
+        names_groups: false,
+        form: "start",
+    },
 ];
 
 /// How many letters of a word may differ from the word that was meant.

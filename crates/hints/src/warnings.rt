@@ -10,7 +10,6 @@ use script_text::{Script, read_script};
 use std::alloc::{AllocError, Allocator};
 use std::fmt;
 
-
 /// Something that a run was asked for and that has no effect.
 #[derive(Debug, Clone, Copy, PartialEq, Eq)]
 pub enum Warning {
@@ -24,7 +23,10 @@ pub enum Warning {
 
 /// The warnings on what was asked, in the order of the script, and then of the rules. Empty where the script is
 /// refused.
-pub fn warnings_of<A: Allocator + Copy>(alloc: A, asked: Asked<'_>) -> Result<Vec<Warning, A>, AllocError> {
+pub fn warnings_of<A: Allocator + Copy>(
+    alloc: A,
+    asked: Asked<'_>,
+) -> Result<Vec<Warning, A>, AllocError> {
     let mut warnings = Vec::new(alloc);
     let Ok(script) = read_script(alloc, asked.script) else {
         return Ok(warnings);
@@ -43,7 +45,10 @@ fn is_operation(step: &Step) -> bool {
 }
 
 /// Adds a warning for each name of a group in a line `depend` that never gets a patch.
-fn push_groups<A: Allocator>(warnings: &mut Vec<Warning, A>, steps: &[Step]) -> Result<(), AllocError> {
+fn push_groups<A: Allocator>(
+    warnings: &mut Vec<Warning, A>,
+    steps: &[Step],
+) -> Result<(), AllocError> {
     for step in steps {
         if let Act::Depend(later, earlier) = &step.act {
             let line = step.line;
@@ -105,13 +110,22 @@ impl fmt::Display for Warning {
                 f.write_str("warning: no operation follows `start`, so there is nothing to explore")
             }
             Warning::EmptyGroup { line, word: 1 } => {
-                write!(f, "warning: line {line}: the later group of this `depend` never gets a patch")
+                write!(
+                    f,
+                    "warning: line {line}: the later group of this `depend` never gets a patch"
+                )
             }
             Warning::EmptyGroup { line, .. } => {
-                write!(f, "warning: line {line}: the earlier group of this `depend` never gets a patch")
+                write!(
+                    f,
+                    "warning: line {line}: the earlier group of this `depend` never gets a patch"
+                )
             }
             Warning::IdleRule(rule) => {
-                write!(f, "warning: --with {rule} orders no two writes of this script")
+                write!(
+                    f,
+                    "warning: --with {rule} orders no two writes of this script"
+                )
             }
         }
     }
