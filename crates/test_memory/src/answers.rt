@@ -45,7 +45,13 @@ where
     let heap = rt.alloc();
     let script = trial.asked.whole_script(heap)?;
     let settings = trial.asked.settings(trial.limit(), trial.json);
-    let host = Host { rt, heap, alloc };
+    let gives_hints = false;
+    let host = Host {
+        rt,
+        heap,
+        alloc,
+        gives_hints,
+    };
     Ok(run(&host, &script, &settings, workers, &OpenGate))
 }
 
