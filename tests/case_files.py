@@ -91,7 +91,8 @@ def read_case(path):
         output=None if digest else content(path, fields, "output"),
         output_digest=digest,
         errors=fields.get("errors", b""),
-        fault=fields.get("fault"))
+        fault=fields.get("fault"),
+        terminal=fields.get("terminal", b""))
 
 
 def check_fields(path, fields):

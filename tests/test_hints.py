@@ -32,12 +32,6 @@ class Hints(unittest.TestCase):
         self.assertEqual((run.status, first, rest), (2, b"crashmap: 50 cannot read the script", b""))
         self.assertRegex(hint.decode(), r"^hint: no/such/script: .*[Nn]o such file")
 
-    def test_a_script_that_is_too_long(self):
-        run = on_terminal([program()], b"#" * (1 << 20) + b"\n")
-        lines = run.terminal.decode().split("\r\n")
-        self.assertEqual(lines[0], "crashmap: 52 script too long")
-        self.assertTrue(lines[1].startswith("hint: "), lines)
-
 
 if __name__ == "__main__":
     unittest.main()
