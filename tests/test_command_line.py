@@ -35,6 +35,36 @@ class Help(unittest.TestCase):
                 rest = rest.partition(piece)[2]
 
 
+class Rules(unittest.TestCase):
+    def assert_refused(self, words, *pieces):
+        """The words are refused, and standard error has these pieces."""
+        status, out, err = answer(*words)
+        self.assertEqual((status, out), (2, b""))
+        for piece in pieces:
+            self.assertIn(piece, err.decode())
+
+    def test_a_list_of_the_modules_rules_and_of_all_parts(self):
+        status, out, err = answer("--rules", "--module", "meta")
+        self.assertEqual((status, err), (0, b""))
+        rules, _, parts = out.decode().partition("The parts are:\n")
+        self.assertEqual([line.split()[0] for line in rules.splitlines() if line.startswith("  ")],
+                         ["FileData:previous-Commit", "Commit:Copy", "Commit:FileData", "Commit:previous-Commit",
+                          "InPlace:Commit", "Done:InPlace", "Done:previous-Done"])
+        self.assertEqual([line.split()[0] for line in parts.splitlines()],
+                         ["InodeInit", "EntrySet", "EntryClear", "MapSet", "MapClear", "InitFile", "InitDir", "Ptr",
+                          "LinkUp", "LinkDown", "InodeFree", "InPlace", "FileData", "Copy", "Commit", "Done"])
+
+    def test_a_bad_part_is_named_with_the_nearest_one(self):
+        self.assert_refused(["--without", "Ptr:InitFle"], "'InitFle'", "did you mean 'InitFile'?")
+        self.assert_refused(["--with", "Entryset:Ptr"], "'Entryset'", "did you mean 'EntrySet'?")
+
+    def test_a_part_that_resembles_no_other(self):
+        self.assert_refused(["--with", "Sideways:Ptr"], "'Sideways'", "--rules lists them")
+
+    def test_a_rule_of_another_module(self):
+        self.assert_refused(["--without", "Commit:Copy"], "soft has no such rule", "EntrySet:InodeInit EntrySet:LinkUp")
+
+
 class Scripts(unittest.TestCase):
     def test_a_script_in_a_file(self):
         with tempfile.TemporaryDirectory() as folder:
