@@ -1,0 +1,17 @@
+pub mod Values
+pub mod Known
+pub mod Undecided
+pub mod ByteSets
+pub mod Marked
+pub mod Held
+pub mod Answered
+pub mod HeaderBytes
+pub mod Setting
+pub mod Among
+pub mod Coming
+pub mod Walked
+pub mod FaultTests
+pub mod Counted
+pub mod Named
+pub mod ToldFaults
+pub mod Sources

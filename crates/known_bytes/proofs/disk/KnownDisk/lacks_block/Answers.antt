@@ -1,0 +1,23 @@
+use Rattle.std.proofs.Common.{◌≡◌, ℕ, Bool, ◌&&◌, arith, tests}
+use Rattle.std.specs.Prelude.{◌==◌}
+use Rattle.crash_model.specs.Patches.{image_of}
+use Rattle.crash_model.specs.Layout.{kind_of, pointer_of}
+use Rattle.crash_model.specs.Strict.{is_reached, lacks_block}
+use Rattle.known_bytes.specs.Reading.{disk_of}
+use Rattle.known_bytes.proofs.Answered.{known_as}
+use Rattle.known_bytes.proofs.disk.KnownDisk.lacks_block.Goals as goal
+
+in_order : (k p : ℕ) (r : Bool) → (((k == 2) && (p == 0)) && r) ≡ (r && (k == 2) && (p == 0))
+in_order k p r = grind (arith, tests)
+
+pub returns : goal.returns
+returns g c =
+    let r = c.args.self.now in
+    let i = c.args.inode in
+    known_as r (λ d. (kind_of d i == 2 && pointer_of d i 0 == 0) && is_reached d i) (λ d. lacks_block d i) c.both.result
+    (λ set.
+    let d = disk_of r (image_of r.family.base r.family.patches set) in
+    in_order (kind_of d i) (pointer_of d i 0) (is_reached d i))
+    (c.both.ensures r (λ d. kind_of d i == 2 && pointer_of d i 0 == 0) (λ d. is_reached d i)
+    (c.both-is_bare.ensures r (λ d. kind_of d i == 2) (λ d. pointer_of d i 0 == 0) c.kind_is.ensures c.pointer_is.ensures)
+    c.is_reached.ensures)

@@ -1,0 +1,16 @@
+-- A directory of which it is open whether it counts, but not with which block.
+use Rattle.std.specs.Prelude.{◌≡◌, ℕ, Bool, true, ◌&&◌, ◌==◌}
+use Rattle.crash_model.specs.declared.disk_bytes.TheConstants.{DIRECTORY_KIND, DIRECTORY_MARK}
+use Rattle.crash_model.specs.Disk.{Disk, byte}
+use Rattle.crash_model.specs.Layout.{kind_of, pointer_of, is_data, counts}
+
+-- a directory that counts has this block, which is one of the data area
+pub record IsItsBlock (dir block : ℕ) (d : Disk) : Type 0 where
+  pub tame : is_data d block ≡ true
+  pub only : counts d dir ≡ true → pointer_of d dir 0 ≡ block
+
+-- what is left to show that it counts
+abbrev pub counts_at : ℕ → ℕ → Disk → Bool
+counts_at dir block d =
+    (kind_of d dir == DIRECTORY_KIND && pointer_of d dir 0 == block)
+    && (byte d block 0 == DIRECTORY_MARK && byte d block 1 == dir)

@@ -1,0 +1,8 @@
+pub mod Family
+pub mod Chains
+pub mod Reading
+pub mod Headers
+pub mod Directories
+pub mod Counts
+pub mod Entries
+pub mod Texts

@@ -1,0 +1,116 @@
+//! How many entries lead to an inode and how many slots name a block, on all disks of a family at once.
+
+ghost use Rattle.std.specs.Prelude.{◌≡◌, ◌<◌, ◌≤◌, ◌&&◌, ◌==◌, length, IfOk, IfErr};
+ghost use Rattle.crash_model.specs.Layout.{is_live, links_of};
+ghost use Rattle.crash_model.specs.Faults.{entries_to, has_low_links, namers, is_twice, leads_to};
+ghost use Rattle.known_bytes.specs.Counts.{entries_in, slots_in, AreBounds};
+ghost use Rattle.known_bytes.specs.Directories.{IsItsBlock};
+ghost use Rattle.known_bytes.specs.Family.{IsUndecided};
+ghost use Rattle.known_bytes.specs.Reading.{IsKnown, InEachDisk};
+
+use crate::answers::both;
+use crate::bounds::Bounds;
+use crate::disk::KnownDisk;
+use std::alloc::Allocator;
+
+impl<'a, A: Allocator + Copy> KnownDisk<'a, A> {
+    /// How many slots of an inode name a block.
+    fn named_in(&self, inode: u8, block: u8) -> Bounds
+        requires { inode < 16 }
+        ensures count { AreBounds self.now (λ d. slots_in 4 d block inode) result.least result.most result.ask }
+        ensures few { (result.least ≤ result.most) × (result.most ≤ 4) }
+    {
+        let mut count = Bounds::none();
+        for slot in 0..4u8 {
+            count = count.with(self.names(inode, slot, block));
+        }
+        count
+    }
+
+    /// How many slots name a block.
+    fn namers(&self, block: u8) -> Bounds
+        ensures { AreBounds self.now (λ d. length (namers d block)) result.least result.most result.ask }
+    {
+        let mut count = Bounds::none();
+        for inode in 0..16u8 {
+            count = count.plus(self.named_in(inode, block));
+        }
+        count
+    }
+
+    /// Whether two slots name a block.
+    pub fn is_twice(&self, block: u8) -> Result<bool, usize>
+        ensures { IsKnown self.now (λ d. is_twice d block) result }
+    {
+        self.namers(block).reach(2)
+    }
+
+    /// How many entries of a directory with a block lead to an inode.
+    fn leads_from(&self, dir: u8, block: u8, inode: u8) -> Bounds
+        requires dir { dir < 16 }
+        requires inode { inode < 16 }
+        requires block { block < self.now.family.base.blocks }
+        requires its { InEachDisk self.now (IsItsBlock dir block) }
+        ensures count { AreBounds self.now (λ d. entries_in 10 d inode dir) result.least result.most result.ask }
+        ensures few { (result.least ≤ result.most) × (result.most ≤ 10) }
+    {
+        let is_counted = self.counts_at(dir, block);
+        let mut count = Bounds::none();
+        for k in 0..10u8 {
+            let names = self.byte_is(usize::from(block), 8 + 12 * usize::from(k), inode + 1);
+            count = count.with(both(is_counted, names));
+        }
+        count
+    }
+
+    /// How many entries of a directory lead to an inode; or an undecided patch that gives the directory another block.
+    fn leads_in(&self, dir: u8, inode: u8) -> Result<Bounds, usize>
+        requires dir { dir < 16 }
+        requires inode { inode < 16 }
+        ensures ok { IfOk result (λ count. AreBounds self.now (λ d. entries_in 10 d inode dir) count.least count.most
+            count.ask) }
+        ensures few { IfOk result (λ count. (count.least ≤ count.most) × (count.most ≤ 10)) }
+        ensures err { IfErr result (IsUndecided self.now.family) }
+    {
+        match self.directory_block(dir)? {
+            None => Ok(Bounds::none()),
+            Some(block) => Ok(self.leads_from(dir, block, inode)),
+        }
+    }
+
+    /// How many entries lead to an inode.
+    fn entries_to(&self, inode: u8) -> Result<Bounds, usize>
+        requires { inode < 16 }
+        ensures ok { IfOk result (λ count. AreBounds self.now (λ d. length (entries_to d inode)) count.least count.most
+            count.ask) }
+        ensures err { IfErr result (IsUndecided self.now.family) }
+    {
+        let mut count = Bounds::none();
+        for dir in 0..16u8 {
+            count = count.plus(self.leads_in(dir, inode)?);
+        }
+        Ok(count)
+    }
+
+    /// Whether so many entries lead to an inode.
+    fn entries_are(&self, inode: u8, entries: u8) -> Result<bool, usize>
+        requires { inode < 16 }
+        ensures { IsKnown self.now (λ d. length (entries_to d inode) == entries) result }
+    {
+        let count = self.entries_to(inode)?;
+        count.are(entries)
+    }
+
+    /// Whether an inode in use has so many links, and so many entries lead to it, which are more.
+    pub fn has_low_links(&self, inode: u8, entries: u8, links: u8) -> Result<bool, usize>
+        requires { inode < 16 }
+        ensures { IsKnown self.now (λ d. has_low_links d inode && (length (entries_to d inode) == entries
+            && links_of d inode == links)) result }
+    {
+        if entries <= links {
+            return Ok(false);
+        }
+        let is_used = both(self.is_live(inode), self.links_are(inode, links));
+        both(is_used, self.entries_are(inode, entries))
+    }
+}

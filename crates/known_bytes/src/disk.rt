@@ -1,0 +1,178 @@
+//! The disks of a family, read at once.
+
+ghost use Rattle.std.specs.Prelude.{◌≡◌, ◌+◌, ◌*◌, ◌==◌, ◌||◌, not, ◌<◌, ◌≤◌, IsTrue, IfOk, IfErr, IfSome, slice_index, true};
+ghost use Rattle.std.specs.Prelude.{false, ◌&&◌};
+ghost use Rattle.crash_model.specs.Disk.{byte, IsDisk};
+ghost use Rattle.crash_model.specs.Layout.{kind_of, links_of, pointer_of, is_live, is_data, counts};
+ghost use Rattle.known_bytes.specs.Family.{IsUndecided, HasValue, IsLike, is_one_of};
+ghost use Rattle.known_bytes.specs.Reading.{InEachDisk, IsKnown, IsReadAt};
+
+use crate::answers::{both, negation};
+use crate::byte_set::ByteSet;
+use crate::bytes::KnownBytes;
+use crate::homes::Homes;
+use crash_model::disk_bytes::{DIRECTORY_KIND, DIRECTORY_MARK, FREE_KIND};
+use disk_image::Image;
+use patch_sets::set::has;
+use std::alloc::Allocator;
+use std::marker::Model;
+
+/// The disks that the closed sets of a family leave, before replay of the journal or after it.
+///
+/// What is asked of them has one answer for all, or an undecided patch on which it hangs. Contracts see the family, and
+/// whether its disks are read after replay.
+#[derive(Drop)]
+pub struct KnownDisk<'a, A: Allocator + Copy> {
+    bytes: KnownBytes<'a, A>,
+    homes: Homes,
+    replayed: bool,
+}
+
+impl<'a, A: Allocator + Copy> Model for KnownDisk<'a, A> {
+    ghost use Rattle.known_bytes.specs.Reading.{Reading, AreHomes};
+
+    ghost Value = { Reading };
+
+    ghost view = { λ k. record { family = k.bytes; replayed = k.replayed } };
+
+    ghost invariant = { λ k. AreHomes (record { family = k.bytes; replayed = k.replayed }) k.homes.blocks
+        k.homes.unsettled k.homes.asks };
+}
+
+impl<'a, A: Allocator + Copy> KnownDisk<'a, A> {
+    /// The disks as a crash leaves them.
+    pub fn left(bytes: KnownBytes<'a, A>) -> KnownDisk<'a, A>
+        ensures { result ≡ record { family = bytes.entry; replayed = false } }
+    {
+        // For the proof: how many blocks every image has at most.
+        let _base = bytes.base();
+        KnownDisk {
+            bytes,
+            homes: Homes::own(),
+            replayed: false,
+        }
+    }
+
+    /// The disks after replay. No header need be known. An error is an undecided patch on which it hangs what a header is.
+    pub fn replayed(bytes: KnownBytes<'a, A>) -> Result<KnownDisk<'a, A>, usize>
+        ensures ok { IfOk result (λ disk. disk ≡ record { family = bytes.entry; replayed = true }) }
+        ensures err { IfErr result (IsUndecided bytes.entry) }
+    {
+        let homes = bytes.homes()?;
+        Ok(KnownDisk {
+            bytes,
+            homes,
+            replayed: true,
+        })
+    }
+
+    /// The base. All disks have its numbers of blocks.
+    pub fn base(&self) -> &Image<A>
+        ensures base { result.now ≡ self.now.family.base }
+        ensures disk { IsDisk self.now.family.base }
+    {
+        self.bytes.base()
+    }
+
+    /// The block of the image where a block is read.
+    fn home(&self, block: usize) -> Result<usize, usize>
+        requires { block < self.now.family.base.blocks }
+        ensures ok { IfOk result (λ home. (home < self.now.family.base.blocks)
+            × IsReadAt self.now block home) }
+        ensures err { IfErr result (IsUndecided self.now.family) }
+    {
+        // For the proof: how many blocks every image has at most.
+        let _blocks = self.bytes.base().blocks();
+        if has(self.homes.unsettled, block) {
+            Err(usize::from(self.homes.asks[block]))
+        } else {
+            Ok(usize::from(self.homes.blocks[block]))
+        }
+    }
+
+    /// A byte of a block.
+    pub fn byte(&self, block: usize, offset: usize) -> Result<u8, usize>
+        requires block { block < self.now.family.base.blocks }
+        requires offset { offset < 128 }
+        ensures { IsKnown self.now (λ d. byte d block offset) result }
+    {
+        let home = self.home(block)?;
+        self.bytes.byte(home, offset)
+    }
+
+    /// Whether a byte of a block has a value. It may be known where the byte is not.
+    pub fn byte_is(&self, block: usize, offset: usize, value: u8) -> Result<bool, usize>
+        requires block { block < self.now.family.base.blocks }
+        requires offset { offset < 128 }
+        ensures { IsKnown self.now (λ d. byte d block offset == value) result }
+    {
+        let home = self.home(block)?;
+        self.bytes.byte_is(home, offset, value)
+    }
+
+    /// The only value but 0 that a byte of a block has on any disk, or 0.
+    pub(crate) fn only(&self, block: usize, offset: usize) -> Result<u8, usize>
+        requires block { block < self.now.family.base.blocks }
+        requires offset { offset < 128 }
+        ensures ok { IfOk result (λ value. InEachDisk self.now (λ d. is_one_of 0 value (byte d block offset) ≡ true)) }
+        ensures err { IfErr result (IsUndecided self.now.family) }
+    {
+        let home = self.home(block)?;
+        self.bytes.only(home, offset)
+    }
+
+    /// Whether a number is that of a block of the data area.
+    pub fn is_data(&self, block: u8) -> bool
+        ensures value { InEachDisk self.now (λ d. is_data d block ≡ result) }
+        ensures within { IsTrue result → block < self.now.family.base.blocks }
+    {
+        self.bytes.base().is_data(block)
+    }
+
+    /// Whether a byte of an inode has a value.
+    fn inode_byte_is(&self, inode: u8, at: usize, value: u8) -> Result<bool, usize>
+        requires inode { inode < 16 }
+        requires at { at < 16 }
+        ensures { IsKnown self.now (λ d. slice_index d.bytes (256 + 16 * inode + at) == value) result }
+    {
+        // For the proof: how many blocks every image has at least.
+        let _blocks = self.bytes.base().blocks();
+        let number = usize::from(inode);
+        self.byte_is(2 + number / 8, 16 * (number % 8) + at, value)
+    }
+
+    /// Whether an inode is of a kind.
+    pub fn kind_is(&self, inode: u8, kind: u8) -> Result<bool, usize>
+        requires { inode < 16 }
+        ensures { IsKnown self.now (λ d. kind_of d inode == kind) result }
+    {
+        self.inode_byte_is(inode, 0, kind)
+    }
+
+    /// Whether an inode has so many links.
+    pub fn links_are(&self, inode: u8, links: u8) -> Result<bool, usize>
+        requires { inode < 16 }
+        ensures { IsKnown self.now (λ d. links_of d inode == links) result }
+    {
+        self.inode_byte_is(inode, 1, links)
+    }
+
+    /// Whether a slot of an inode has a value.
+    pub fn pointer_is(&self, inode: u8, slot: u8, block: u8) -> Result<bool, usize>
+        requires inode { inode < 16 }
+        requires slot { slot < 4 }
+        ensures { IsKnown self.now (λ d. pointer_of d inode slot == block) result }
+    {
+        self.inode_byte_is(inode, 4 + usize::from(slot), block)
+    }
+
+    /// Whether a number is that of an inode in use.
+    pub fn is_live(&self, inode: u8) -> Result<bool, usize>
+        ensures { IsKnown self.now (λ d. is_live d inode) result }
+    {
+        if inode >= 16 {
+            return Ok(false);
+        }
+        negation(self.kind_is(inode, FREE_KIND))
+    }
+}

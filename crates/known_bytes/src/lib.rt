@@ -1,0 +1,27 @@
+//! What is known of a crash image where it is open which of some patches a crash leaves.
+//!
+//! A family is the closed sets that hold some patches and bar others; a patch that is neither is undecided. A byte of
+//! their images is that of the patches held, or what an undecided patch puts there. What is read here is read of all
+//! images of a family at once, or it is an undecided patch on which it hangs.
+#![tactic(auto)]
+
+mod answers;
+mod bounds;
+mod byte_set;
+mod bytes;
+mod chains;
+mod counts;
+mod disk;
+mod faults;
+mod headers;
+mod homes;
+mod laws;
+mod possible;
+mod reach;
+mod texts;
+
+pub use byte_set::ByteSet;
+pub use bytes::KnownBytes;
+pub use chains::Chains;
+pub use disk::KnownDisk;
+pub use laws::a_disk_has_the_faults_of_its_list;
