@@ -1,0 +1,12 @@
+-- The faults that some sets have, each with the first set that has it.
+use Rattle.std.specs.Prelude.{ℕ, List, map}
+use Rattle.std.specs.List.{All, AllPairs, Contains}
+use Rattle.crash_model.specs.Summary.{IsFaultBefore, IsFirst}
+use Rattle.crash_model.specs.declared.fault.Fault.{Fault}
+use Rattle.decision_model.specs.declared.decided_fault.DecidedFault.{DecidedFault}
+
+-- each fault that a set has is there once, in ascending order, with the first set that has it
+pub record AreDecided (has : Fault → ℕ → Type 0) (faults : List DecidedFault) : Type 0 where
+  pub ordered : AllPairs (λ a b. IsFaultBefore a.fault b.fault) faults
+  pub each : All (λ f. IsFirst (has f.fault) f.first) faults
+  pub every : (fault : Fault) (set : ℕ) → has fault set → Contains (map (λ f. f.fault) faults) fault

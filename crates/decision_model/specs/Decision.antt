@@ -1,0 +1,112 @@
+-- What a decision reports: how many closed sets there are, and each fault that one of them has.
+use Rattle.std.specs.Prelude.{◌≡◌, ℕ, List, [], ◌++◌, length, map, flat_map, if◌then◌else◌, Option, codes, decimal}
+use Rattle.std.specs.List.{All}
+use Rattle.crash_model.specs.Answer.{HasGraph, detail_of, ordering_rules}
+use Rattle.crash_model.specs.Disk.{Disk}
+use Rattle.crash_model.specs.Explain.{Explanation, explanation, explanation_text, base_json, trace_json}
+use Rattle.crash_model.specs.Lists.{when}
+use Rattle.crash_model.specs.Patches.{CountsClosed}
+use Rattle.crash_model.specs.Report.{Section, AreSections, IsLed, fault_text, module_text, line, crash_text}
+use Rattle.crash_model.specs.Report.{json_string, json_array, ids_json, replay_json, writes_json}
+use Rattle.crash_model.specs.Strict.{IsToldKept}
+use Rattle.crash_model.specs.Summary.{HasFault}
+use Rattle.crash_model.specs.Trace.{Tracing}
+use Rattle.crash_model.specs.Whole.{told_without, told_with, rule_lines, rules_json}
+use Rattle.crash_model.specs.declared.patches.Patch.{Patch}
+use Rattle.crash_model.specs.declared.settings.Detail.{Detail}
+use Rattle.crash_model.specs.declared.settings.Settings.{Settings}
+use Rattle.decision_model.specs.Decided.{AreDecided}
+use Rattle.decision_model.specs.declared.decided_fault.DecidedFault.{DecidedFault}
+
+-- what is reported of a fault: the fault, and the section of the first set that has it
+pub record ToldDecided : Type 0 where
+  pub decided : DecidedFault
+  pub first : Section
+
+-- each fault that a failing set of the patches has
+pub record AreToldDecided (detail : Detail) (base : Disk) (patches : List Patch)
+    (told : List ToldDecided) : Type 0 where
+  pub decided : AreDecided (HasFault detail.kept base patches) (map (λ t. t.decided) told)
+  pub firsts : AreSections detail base patches (map (λ t. t.decided.first) told) (map (λ t. t.first) told)
+
+-- how many patches and closed sets there are, what the patches are where that is asked for, and the faults
+pub record Decision : Type 0 where
+  pub patches : ℕ
+  pub closed : ℕ
+  pub explanation : Option Explanation
+  pub faults : List ToldDecided
+
+-- ---- text
+
+-- the lines that say by which ordering and which checker
+abbrev pub ordering_text : Settings → List ℕ
+ordering_text settings =
+    line (codes "module " ++ module_text settings.module)
+    ++ rule_lines (codes "without") (told_without settings)
+    ++ rule_lines (codes "with") (told_with settings)
+    ++ (if settings.strict then line (codes "strict") else [])
+
+-- patches are n in all
+abbrev pub decided_text : ℕ → ToldDecided → List ℕ
+decided_text n t = line (codes "fault " ++ fault_text t.decided.fault) ++ crash_text n t.first
+
+unfoldable pub text_decision : Settings → Decision → List ℕ
+text_decision settings d =
+    ordering_text settings
+    ++ line (codes "patches " ++ decimal d.patches)
+    ++ line (codes "closed " ++ decimal d.closed)
+    ++ explanation_text d.explanation
+    ++ flat_map (decided_text d.patches) d.faults
+
+-- ---- JSON: one compact object, its keys in ascending order, and a line feed
+
+abbrev pub decided_json : ℕ → ToldDecided → List ℕ
+decided_json n t =
+    codes "{\"fault\":" ++ json_string (fault_text t.decided.fault) ++ codes ","
+    ++ replay_json t.first.replay
+    ++ codes "\"set\":" ++ ids_json n t.first.set
+    ++ codes ",\"writes\":" ++ writes_json n t.first.writes ++ codes "}"
+
+-- `closed` is a text, since it can be more than a JSON number holds
+unfoldable pub json_decision : Settings → Decision → List ℕ
+json_decision settings d =
+    codes "{" ++ base_json d.explanation
+    ++ codes "\"closed\":" ++ json_string (decimal d.closed)
+    ++ codes ",\"faults\":" ++ json_array (map (decided_json d.patches) d.faults)
+    ++ codes ",\"module\":" ++ json_string (module_text settings.module)
+    ++ codes ",\"patches\":" ++ decimal d.patches
+    ++ (if settings.strict then codes ",\"strict\":true" else [])
+    ++ trace_json d.explanation
+    ++ rules_json (codes "with") (told_with settings)
+    ++ rules_json (codes "without") (told_without settings)
+    ++ codes "}\n"
+
+-- the report's bytes
+abbrev pub decision_bytes : Settings → Decision → List ℕ
+decision_bytes settings d = if settings.json then json_decision settings d else text_decision settings d
+
+-- the report on a graph with so many faults, each of whose first sets a crash can leave
+pub record IsDecision (settings : Settings) (kept : Option ℕ) (base : Disk) (last : Tracing) (patches : List Patch)
+    (text : List ℕ) (number : ℕ) : Type 0 where
+  pub total : ℕ
+  pub counted : CountsClosed patches total
+  pub told : List ToldDecided
+  pub are : AreToldDecided (detail_of settings kept) base patches told
+  pub led : All (λ t. IsLed patches t.first) told
+  pub number_of : number ≡ length told
+  pub whole : text ≡ decision_bytes settings (record {
+    patches = length patches;
+    closed = total;
+    explanation = when settings.explain (explanation (ordering_rules settings) base last patches);
+    faults = told;
+  })
+
+-- the report that decides a script, with the number of faults in it
+pub record IsDecided (bytes : List ℕ) (settings : Settings) (text : List ℕ) (number : ℕ) : Type 0 where
+  pub kept : Option ℕ
+  pub base : Disk
+  pub last : Tracing
+  pub patches : List Patch
+  pub graph : HasGraph bytes settings base last patches
+  pub told : IsToldKept settings.strict base graph.steps kept
+  pub report : IsDecision settings kept base last patches text number

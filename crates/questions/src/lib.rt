@@ -1,0 +1,25 @@
+//! What a run is asked, and what the answer is.
+//!
+//! `specs/` has the answer to each question, whose definition stands in a crate of its own.
+#![tactic(auto)]
+
+use crash_model::settings::Settings;
+
+/// What a run finds out about a script.
+#[derive(Clone, Copy, Debug, PartialEq, Eq)]
+pub enum Question {
+    /// Which closed sets fail. Each is visited, so there may be no more of them than the limit of the settings.
+    Visit,
+    /// Which faults any closed set has. No closed set need be visited, so there is no limit.
+    Decide,
+}
+
+/// A question, the settings that it is asked under, and the number of threads that answer it, 1 to 16.
+///
+/// Of the settings a decision uses neither the limit, nor the explorer, nor what a report tells of visited sets.
+#[derive(Debug, PartialEq, Eq, Drop)]
+pub struct Request {
+    pub question: Question,
+    pub settings: Settings,
+    pub workers: usize,
+}
