@@ -18,7 +18,7 @@ use Rattle.known_bytes.specs.Counts.{entry_at, slot_at, entries_in, slots_in, Ar
 pub count_none : {X : Type 0} (at : ℕ → Option X) → length (some_below 0 at) ≡ 0
 count_none at = ap (λ (xs : List _). length xs) (some_below-zero at)
 
-count_more : {X : Type 0} (n : ℕ) (at : ℕ → Option X)
+pub count_more : {X : Type 0} (n : ℕ) (at : ℕ → Option X)
     → length (some_below (n + 1) at) ≡ length (some_below n at) + length (option_to_list (at n))
 count_more n at = rw (some_below-step, length-append) refl
 

@@ -4,5 +4,5 @@ pub mod Reading
 pub mod Headers
 pub mod Directories
 pub mod Counts
-pub mod Entries
+pub mod Reached
 pub mod Texts

@@ -1,6 +1,6 @@
 //! Answers put together. An answer is known of all disks of a family, or an undecided patch on which it hangs.
 
-ghost use Rattle.std.specs.Prelude.{◌≡◌, ◌&&◌, ◌||◌, not, Bool};
+ghost use Rattle.std.specs.Prelude.{◌≡◌, ◌&&◌, ◌||◌, not, Bool, IsTrue, Ok, false};
 ghost use Rattle.crash_model.specs.Disk.{Disk};
 ghost use Rattle.known_bytes.specs.Reading.{Reading, IsKnown};
 
@@ -43,5 +43,15 @@ pub(crate) fn negation(answer: Result<bool, usize>) -> Result<bool, usize>
     match answer {
         Ok(holds) => Ok(!holds),
         Err(id) => Err(id),
+    }
+}
+
+/// Whether it holds of no disk.
+pub(crate) fn never_holds(answer: Result<bool, usize>) -> bool
+    ensures { IsTrue result → answer ≡ Ok false }
+{
+    match answer {
+        Ok(holds) => !holds,
+        Err(_) => false,
     }
 }

@@ -64,7 +64,7 @@ impl<'a, A: Allocator + Copy> KnownDisk<'a, A> {
     }
 
     /// How many entries of a directory lead to an inode; or an undecided patch that gives the directory another block.
-    fn leads_in(&self, dir: u8, inode: u8) -> Result<Bounds, usize>
+    pub(crate) fn leads_in(&self, dir: u8, inode: u8) -> Result<Bounds, usize>
         requires dir { dir < 16 }
         requires inode { inode < 16 }
         ensures ok { IfOk result (λ count. AreBounds self.now (λ d. entries_in 10 d inode dir) count.least count.most

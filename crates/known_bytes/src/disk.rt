@@ -1,6 +1,6 @@
 //! The disks of a family, read at once.
 
-ghost use Rattle.std.specs.Prelude.{◌≡◌, ◌+◌, ◌*◌, ◌==◌, ◌||◌, not, ◌<◌, ◌≤◌, IsTrue, IfOk, IfErr, IfSome, slice_index, true};
+ghost use Rattle.std.specs.Prelude.{◌≡◌, ◌+◌, ◌*◌, ◌==◌, ◌||◌, not, ◌<◌, ◌≤◌, IsTrue, IfOk, IfErr, IfSome, slice_index, length, true};
 ghost use Rattle.std.specs.Prelude.{false, ◌&&◌};
 ghost use Rattle.crash_model.specs.Disk.{byte, IsDisk};
 ghost use Rattle.crash_model.specs.Layout.{kind_of, links_of, pointer_of, is_live, is_data, counts};
@@ -70,6 +70,7 @@ impl<'a, A: Allocator + Copy> KnownDisk<'a, A> {
     pub fn base(&self) -> &Image<A>
         ensures base { result.now ≡ self.now.family.base }
         ensures disk { IsDisk self.now.family.base }
+        ensures few { length self.now.family.patches < 128 }
     {
         self.bytes.base()
     }

@@ -9,7 +9,7 @@ ghost use Rattle.known_bytes.specs.Reading.{IsKnown, InEachDisk};
 ghost use Rattle.fs_check.specs.Passed.{is_marked};
 ghost use Rattle.known_bytes.specs.Directories.{IsItsBlock, counts_at};
 
-use crate::answers::{both, either, negation};
+use crate::answers::{both, either, negation, never_holds};
 use crate::disk::KnownDisk;
 use crash_model::disk_bytes::{DIRECTORY_KIND, DIRECTORY_MARK, FILE_KIND, FILE_MARK};
 use std::alloc::Allocator;
@@ -26,6 +26,9 @@ impl<'a, A: Allocator + Copy> KnownDisk<'a, A> {
     {
         // For the proof: how many blocks every image has at least.
         let _blocks = self.base().blocks();
+        if never_holds(self.kind_is(dir, DIRECTORY_KIND)) {
+            return Ok(None);
+        }
         let number = usize::from(dir);
         let block = self.only(2 + number / 8, 16 * (number % 8) + 4)?;
         if self.is_data(block) {

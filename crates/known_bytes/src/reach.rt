@@ -1,93 +1,185 @@
 //! The inodes that entries lead to from the root, on all disks of a family at once.
 
-ghost use Rattle.std.specs.Prelude.{◌<◌, IfOk, IfErr, IfSome};
-ghost use Rattle.crash_model.specs.Layout.{counts, pointer_of};
-ghost use Rattle.crash_model.specs.Lists.{when};
-ghost use Rattle.crash_model.specs.Strict.{is_lost, lacks_block, is_reached};
-ghost use Rattle.fs_check.specs.Strict.{IsNamedBy, IsReachOf};
-ghost use Rattle.known_bytes.specs.Entries.{live_at};
+ghost use Rattle.std.specs.Prelude.{◌≡◌, ◌<◌, ◌⊎◌, ℕ, IfErr, MatchOption, Ok, bit_and, false, true};
 ghost use Rattle.known_bytes.specs.Family.{IsUndecided};
-ghost use Rattle.known_bytes.specs.Reading.{InEachDisk, IsKnown};
+ghost use Rattle.patch_sets.specs.Sets.{Has};
+ghost use Rattle.crash_model.specs.Layout.{kind_of};
+ghost use Rattle.crash_model.specs.Strict.{is_lost, lacks_block, is_reached};
+ghost use Rattle.crash_model.specs.declared.disk_bytes.TheConstants.{DIRECTORY_KIND};
+ghost use Rattle.known_bytes.specs.Reached.{names_live, IsReach, ReachesNoOther, NamesNoOther};
+ghost use Rattle.known_bytes.specs.Reading.{Reading, InEachDisk, IsKnown};
 
-use crate::answers::{both, negation};
+use crate::answers::{both, negation, never_holds};
 use crate::disk::KnownDisk;
 use crash_model::disk_bytes::DIRECTORY_KIND;
 use patch_sets::ends::{lowest, without};
 use patch_sets::set::{has, with};
 use std::alloc::Allocator;
 
-impl<'a, A: Allocator + Copy> KnownDisk<'a, A> {
-    /// The block of a directory that counts.
-    fn directory(&self, dir: u8) -> Result<Option<u8>, usize>
-        requires { dir < 16 }
-        ensures known { IsKnown self.now (λ d. when (counts d dir) (pointer_of d dir 0)) result }
-        ensures within { IfOk result (λ found. IfSome found (λ block. block < self.now.family.base.blocks)) }
+/// Which inodes are reached, as far as the entries of directories have been read.
+#[derive(Clone, Copy)]
+pub(crate) struct Reach {
+    /// The inodes that each disk reaches.
+    pub(crate) sure: u128,
+    /// The inodes that some disk may reach, these among them.
+    pub(crate) may: u128,
+    /// For each inode that some disk may reach but not surely each, an undecided patch on which it hangs.
+    pub(crate) asks: [u8; 16],
+}
+
+impl Reach {
+    /// The root alone.
+    fn root() -> Reach
+        ensures sure { result.sure ≡ 1 }
+        ensures may { result.may ≡ 1 }
     {
-        let Some(block) = self.directory_block(dir)? else {
-            return Ok(None);
-        };
-        let is_counted = self.counts_at(dir, block)?;
-        if !is_counted {
-            return Ok(None);
+        Reach {
+            sure: 1,
+            may: 1,
+            asks: [0; 16],
         }
-        Ok(Some(block))
     }
 
-    /// The live inode that the entry at a place of a directory's block names.
-    fn live_at(&self, block: u8, k: u8) -> Result<Option<u8>, usize>
-        requires block { block < self.now.family.base.blocks }
-        requires k { k < 10 }
-        ensures known { IsKnown self.now (live_at block k) result }
-        ensures few { IfOk result (λ found. IfSome found (λ inode. inode < 16)) }
+    /// The next inode whose entries are to be read: one that is surely reached before one that may be.
+    ///
+    /// So what is surely reached is known before the first patch is asked for.
+    fn next(&self, unread: u128) -> Option<usize>
+        requires { (id : ℕ) → Has self.now.sure id → Has self.now.may id }
+        ensures { MatchOption result (bit_and self.now.may unread ≡ 0)
+            (λ dir. Has self.now.may dir × Has unread dir × (dir < 128)) }
     {
-        let entry = self.byte(usize::from(block), 8 + 12 * usize::from(k))?;
-        if entry == 0 {
-            return Ok(None);
+        match lowest(self.sure & unread) {
+            Some(dir) => Some(dir),
+            None => lowest(self.may & unread),
         }
-        let inode = entry - 1;
-        if inode >= 16 {
-            return Ok(None);
-        }
-        let is_live = self.is_live(inode)?;
-        if !is_live {
-            return Ok(None);
-        }
-        Ok(Some(inode))
     }
 
-    /// The live inodes to which an inode's entries lead, as a set.
-    fn named_by(&self, dir: u8) -> Result<u128, usize>
-        requires { dir < 16 }
-        ensures ok { IfOk result (λ named. InEachDisk self.now (λ d. IsNamedBy d dir named)) }
-        ensures err { IfErr result (IsUndecided self.now.family) }
+    /// Adds an inode to which an entry of a directory leads on each disk, on none, or as a patch decides.
+    fn add(&mut self, dir: usize, inode: usize, named: Result<bool, usize>)
+        requires dir { (dir < 16) × Has self.old.may dir }
+        requires inode { inode < 16 }
+        requires patch { IfErr named (λ id. id < 128) }
+        ensures reach { (r : Reading) → IsReach r self.old.sure self.old.may self.old.asks
+            → IsKnown r (names_live dir inode) named → IsReach r self.new.sure self.new.may self.new.asks }
+        ensures grown { (id : ℕ) → Has self.old.may id → Has self.new.may id }
+        ensures added { (named ≡ Ok false) ⊎ Has self.new.may inode }
     {
-        let Some(block) = self.directory(dir)? else {
-            return Ok(0);
-        };
-        let mut named = 0;
-        for k in 0..10u8 {
-            let found = self.live_at(block, k)?;
-            if let Some(inode) = found {
-                named = with(named, usize::from(inode));
+        let is_sure = has(self.sure, dir);
+        match named {
+            Ok(false) => {}
+            Ok(true) => {
+                if is_sure {
+                    self.add_sure(inode);
+                } else {
+                    self.add_open(inode, self.asks[dir]);
+                }
+            }
+            Err(id) => {
+                let ask = if is_sure { id as u8 } else { self.asks[dir] };
+                self.add_open(inode, ask);
             }
         }
-        Ok(named)
     }
 
-    /// The inodes that are reached, as a set.
-    pub fn reached(&self) -> Result<u128, usize>
-        ensures ok { IfOk result (λ reached. InEachDisk self.now (λ d. IsReachOf d reached)) }
-        ensures err { IfErr result (IsUndecided self.now.family) }
+    /// Adds an inode that each disk reaches.
+    fn add_sure(&mut self, inode: usize)
+        requires { inode < 16 }
+        ensures reach { (r : Reading) → IsReach r self.old.sure self.old.may self.old.asks
+            → InEachDisk r (λ d. is_reached d inode ≡ true)
+            → IsReach r self.new.sure self.new.may self.new.asks }
+        ensures grown { (id : ℕ) → Has self.old.may id → Has self.new.may id }
+        ensures added { Has self.new.may inode }
+    {
+        self.sure = with(self.sure, inode);
+        self.may = with(self.may, inode);
+    }
+
+    /// Adds an inode that some disk may reach, unless it is there. Whether one does hangs on a patch.
+    fn add_open(&mut self, inode: usize, ask: u8)
+        requires { inode < 16 }
+        ensures reach { (r : Reading) → IsReach r self.old.sure self.old.may self.old.asks
+            → IsUndecided r.family ask → IsReach r self.new.sure self.new.may self.new.asks }
+        ensures grown { (id : ℕ) → Has self.old.may id → Has self.new.may id }
+        ensures added { Has self.new.may inode }
+    {
+        if !has(self.may, inode) {
+            self.asks[inode] = ask;
+            self.may = with(self.may, inode);
+        }
+    }
+
+    /// Whether an inode is reached.
+    fn of(&self, inode: u8) -> Result<bool, usize>
+        requires { inode < 16 }
+        ensures { (r : Reading) → IsReach r self.now.sure self.now.may self.now.asks → ReachesNoOther r self.now.may
+            → IsKnown r (λ d. is_reached d inode) result }
+    {
+        let at = usize::from(inode);
+        if has(self.sure, at) {
+            Ok(true)
+        } else if has(self.may, at) {
+            Err(usize::from(self.asks[at]))
+        } else {
+            Ok(false)
+        }
+    }
+}
+
+impl<'a, A: Allocator + Copy> KnownDisk<'a, A> {
+    /// Whether an entry of a directory leads to an inode, and the inode is in use.
+    fn names_live(&self, dir: u8, inode: u8) -> Result<bool, usize>
+        requires dir { dir < 16 }
+        requires inode { inode < 16 }
+        ensures { IsKnown self.now (names_live dir inode) result }
+    {
+        let is_named = match self.leads_in(dir, inode) {
+            Ok(count) => count.reach(1),
+            Err(id) => Err(id),
+        };
+        both(self.is_live(inode), is_named)
+    }
+
+    /// Adds the inodes to which the entries of a directory lead.
+    fn read(&self, reach: &mut Reach, dir: u8)
+        requires dir { (dir < 16) × Has reach.old.may dir }
+        requires reach { IsReach self.now reach.old.sure reach.old.may reach.old.asks }
+        ensures reach { IsReach self.now reach.new.sure reach.new.may reach.new.asks }
+        ensures grown { (id : ℕ) → Has reach.old.may id → Has reach.new.may id }
+        ensures all { NamesNoOther self.now dir reach.new.may }
+    {
+        // For the proof: how many patches every graph has at most.
+        let _base = self.base();
+        for inode in 0..16u8 {
+            let named = self.names_live(dir, inode);
+            reach.add(usize::from(dir), usize::from(inode), named);
+        }
+    }
+
+    /// What is reached from the root, which each disk has.
+    fn reach(&self) -> Reach
+        requires { InEachDisk self.now (λ d. kind_of d 0 ≡ DIRECTORY_KIND) }
+        ensures reach { IsReach self.now result.sure result.may result.asks }
+        ensures all { ReachesNoOther self.now result.may }
+    {
+        let mut reach = Reach::root();
+        let mut unread = 0xFFFF;
+        while let Some(dir) = reach.next(unread) {
+            unread = without(unread, dir);
+            self.read(&mut reach, dir as u8);
+        }
+        reach
+    }
+
+    /// Whether an inode is reached.
+    fn is_reached(&self, inode: u8) -> Result<bool, usize>
+        requires { inode < 16 }
+        ensures { IsKnown self.now (λ d. is_reached d inode) result }
     {
         let is_root = self.kind_is(0, DIRECTORY_KIND)?;
-        let mut reached = if is_root { 1 } else { 0 };
-        let mut unread = 0xFFFF;
-        while let Some(dir) = lowest(reached & unread) {
-            let named = self.named_by(dir as u8)?;
-            unread = without(unread, dir);
-            reached |= named;
+        if !is_root {
+            return Ok(false);
         }
-        Ok(reached)
+        self.reach().of(inode)
     }
 
     /// Whether an inode of those that are to be kept is not reached.
@@ -101,15 +193,6 @@ impl<'a, A: Allocator + Copy> KnownDisk<'a, A> {
         negation(self.is_reached(inode))
     }
 
-    /// Whether an inode is reached.
-    fn is_reached(&self, inode: u8) -> Result<bool, usize>
-        requires { inode < 16 }
-        ensures { IsKnown self.now (λ d. is_reached d inode) result }
-    {
-        let reached = self.reached()?;
-        Ok(has(reached, usize::from(inode)))
-    }
-
     /// Whether an inode is a directory that is reached and has no block.
     pub fn lacks_block(&self, inode: u8) -> Result<bool, usize>
         requires { inode < 16 }
@@ -119,6 +202,9 @@ impl<'a, A: Allocator + Copy> KnownDisk<'a, A> {
             self.kind_is(inode, DIRECTORY_KIND),
             self.pointer_is(inode, 0, 0),
         );
+        if never_holds(is_bare) {
+            return Ok(false);
+        }
         both(is_bare, self.is_reached(inode))
     }
 }

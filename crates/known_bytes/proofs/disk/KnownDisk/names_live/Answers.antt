@@ -1,0 +1,28 @@
+use Rattle.std.proofs.Common.{ℕ, Bool, Result, ◌&&◌, ap, sym, subst}
+use Rattle.std.specs.Prelude.{nat_le}
+use Rattle.crash_model.specs.Layout.{is_live}
+use Rattle.crash_model.specs.Patches.{image_of}
+use Rattle.known_bytes.specs.Counts.{entries_in}
+use Rattle.known_bytes.specs.Reading.{IsKnown, disk_of}
+use Rattle.known_bytes.specs.Reached.{names_live}
+use Rattle.known_bytes.proofs.Answered.{known_as}
+use Rattle.known_bytes.proofs.Named.{entry_there}
+use Rattle.known_bytes.proofs.disk.KnownDisk.names_live.Goals as goal
+use Rattle.known_bytes.proofs.disk.KnownDisk.names_live.Goals.{in-Ok, in-Err}
+
+pub returns : goal.returns
+returns g c =
+    let r = c.args.self.now in
+    let dir = c.args.dir in
+    let i = c.args.inode in
+    let there : IsKnown r (λ d. nat_le 1 (entries_in 10 d i dir)) c.match-leads_in.is_named =
+    elim c.match-leads_in.branch [
+      | in-Ok w ↦ subst (λ (a : Result Bool ℕ). IsKnown r (λ d. nat_le 1 (entries_in 10 d i dir)) a) (sym w.is_named-is)
+          (w.reach-is_named.ensures r (λ d. entries_in 10 d i dir) w.in-Ok.ensures.ok)
+      | in-Err w ↦ subst (λ (a : Result Bool ℕ). IsKnown r (λ d. nat_le 1 (entries_in 10 d i dir)) a) (sym w.is_named-is)
+          w.in-Err.ensures.err
+    ] in
+    known_as r (λ d. is_live d i && nat_le 1 (entries_in 10 d i dir)) (names_live dir i) c.both.result
+    (λ set. ap (λ (b : Bool). is_live (disk_of r (image_of r.family.base r.family.patches set)) i && b)
+    (entry_there (disk_of r (image_of r.family.base r.family.patches set)) dir i))
+    (c.both.ensures r (λ d. is_live d i) (λ d. nat_le 1 (entries_in 10 d i dir)) c.is_live.ensures there)
