@@ -88,3 +88,9 @@ some_fault kept c set fails = by (faults_under kept (image_after_replay (image_o
         found = subst (λ (gs : List Fault). Contains gs f) (sym e) (in_front f fs);
       },
     )
+
+-- no set has a fault where no first set is found
+pub none_with : (has : Fault → ℕ → Type 0) (fault : Fault) (found : Option ℕ) → ((set : ℕ) → found ≡ Some set → ⊥)
+    → IsFirstWith has fault found → (set : ℕ) → has fault set → ⊥
+none_with has fault None not none = none
+none_with has fault (Some first) not is = absurd (not first refl)
