@@ -1,8 +1,8 @@
 -- From the trials of all candidates to the faults that are decided.
-use Rattle.std.proofs.Common.{◌≡◌, ℕ, ◌<◌, List, length, get_or, map, arith, refl, sym, subst, ap, ◌∙◌, IsPermutation}
+use Rattle.std.proofs.Common.{◌≡◌, ℕ, ◌<◌, ◌≤◌, List, ◌++◌, length, get_or, map, take, arith, refl, sym, subst, ap, ◌∙◌, IsPermutation}
 use Rattle.std.specs.Prelude.{Option, Some, None}
 use Rattle.std.specs.List.{All, Contains}
-use Rattle.std.proofs.lemmas.List.{length-map}
+use Rattle.std.proofs.lemmas.List.{length-map, take-append-le, take_all}
 use Rattle.std.proofs.Math.ListN.{get_or-map}
 use Rattle.std.proofs.lemmas.List.Elements.{All-weaker, All-contains, Contains-get_or}
 use Rattle.std.proofs.lemmas.List.Sorted.{IsPermutation-map, All-permutation, Contains-permutation}
@@ -13,6 +13,12 @@ use Rattle.decision_model.specs.declared.decided_fault.DecidedFault.{DecidedFaul
 use Rattle.fault_deciding.specs.declared.sharing.Trial.{Trial}
 use Rattle.fault_deciding.specs.Asked.{AreAllOf}
 use Rattle.fault_deciding.specs.Trials.{fault_of, decided_of, trial_of, IsTried, AreFound, HaveSameFaults}
+
+-- a vector whose elements were changed in place, without its capacity
+pub put_back : (xs rest : List Trial) (n : ℕ) → n ≡ length xs → take n (xs ++ rest) ≡ xs
+put_back xs rest n long =
+    let within : n ≤ length xs = omega arith in
+    take-append-le n xs rest within ∙ take_all n xs (omega arith)
 
 -- a trial of a fault is in the list
 record HasTrial (trials : List Trial) (fault : Fault) : Type 0 where
