@@ -6,7 +6,7 @@ use Rattle.std.specs.List.{Contains}
 use Rattle.patch_sets.specs.Sets.{has}
 use Rattle.patch_sets.proofs.Ids.{eq_from_true, from_has}
 use Rattle.crash_model.specs.Disk.{Disk}
-use Rattle.crash_model.specs.Layout.{target_of, links_of, pointer_of, is_data}
+use Rattle.crash_model.specs.Layout.{target_of, links_of, pointer_of, is_data, is_live}
 use Rattle.crash_model.specs.Faults.{entries_to}
 use Rattle.crash_model.specs.Strict.{faults_under}
 use Rattle.crash_model.specs.Faults.{is_dangling, is_twice, is_unwritten, has_low_links, is_marked_free, is_wild}
@@ -18,6 +18,7 @@ use Rattle.known_bytes.specs.Texts.{has_fault}
 use Rattle.known_bytes.proofs.ToldFaults.{HasSmallTargets, all_there_of, twice_data}
 use Rattle.fault_candidates.specs.Listed.{IsWithin, HasDangling, AreMost, HasFaultsOf, HasSlot, HasTwice, HasLow}
 use Rattle.fault_candidates.specs.Listed.{HasStrict, HasStrictUnder}
+use Rattle.fault_candidates.proofs.Pushed.{then_within, dangling_more, twice_more, slots_more, low_more}
 use Rattle.fault_candidates.proofs.Tests.{below_is, left_of, right_of, not_of, some_of}
 
 -- ---- the faults of one disk
@@ -31,13 +32,36 @@ pub record IsListed (kept : Option ℕ) (faults : List Fault) (named : List ℕ)
   pub low : (inode : ℕ) → inode < 16 → HasLow faults inode (slice_index named inode) d
   pub strict : HasStrictUnder kept faults
 
+-- lists, each within the next, that have the faults of a kind more
+pub listed_by_parts : (kept : Option ℕ) (most : List ℕ) (d : Disk) (a b c e g : List Fault)
+    → ((dir k : ℕ) → dir < 16 → k < 10 → HasDangling a dir k d) → AreMost most d
+    → IsWithin a b → HasTwice b d
+    → IsWithin b c → ((inode slot : ℕ) → inode < 16 → slot < 4 → HasFaultsOf c inode slot d)
+    → IsWithin c e → ((inode : ℕ) → inode < 16 → HasLow e inode (slice_index most inode) d)
+    → IsWithin e g → HasStrictUnder kept g
+    → IsListed kept g most d
+listed_by_parts kept most d a b c e g dangling count ab twice bc slots ce low eg strict =
+    let cg : IsWithin c g = then_within c e g eg ce in
+    let bg : IsWithin b g = then_within b c g cg bc in
+    let ag : IsWithin a g = then_within a b g bg ab in
+    record {
+      dangling = λ dir k few less. dangling_more a g ag dir k d (dangling dir k few less);
+      most = count;
+      twice = twice_more b g bg d twice;
+      slots = λ inode slot few less. slots_more c g cg inode slot d (slots inode slot few less);
+      low = λ inode few. low_more e g eg inode (slice_index most inode) d (low inode few);
+      strict = strict;
+    }
+
+-- where the entries that dangle are listed each fault of the disk is found by its text
+pub found_by_text : (kept : Option ℕ) (faults : List Fault) (d : Disk)
+    → ((dir k : ℕ) → dir < 16 → k < 10 → HasDangling faults dir k d)
+    → (fault : Fault) → Contains (faults_under kept d) fault → has_fault kept d fault ≡ true
+found_by_text kept faults d dangling fault h =
+    let small : HasSmallTargets d = λ dir k few less is. (dangling dir k few less is).0 in
+    all_there_of kept d fault small h
+
 module _ (kept : Option ℕ) (faults : List Fault) (most : List ℕ) (d : Disk) (l : IsListed kept faults most d) where
-  small : HasSmallTargets d
-  small dir k few less is = (l.dangling dir k few less is).0
-
-  pub found_by_text : (fault : Fault) → Contains (faults_under kept d) fault → has_fault kept d fault ≡ true
-  found_by_text fault h = all_there_of kept d fault small h
-
   -- the slot of a pointer
   slot_of : (inode slot block : ℕ) → (nat_lt inode 16 && nat_lt slot 4) ≡ true → not (pointer_of d inode slot == 0) ≡ true
       → (pointer_of d inode slot == block) ≡ true → HasSlot faults inode slot block d
@@ -107,14 +131,12 @@ module _ (kept : Option ℕ) (faults : List Fault) (most : List ℕ) (d : Disk) 
       let same : links_of d inode ≡ links = eq_from_true (links_of d inode) links
       (right_of (length (entries_to d inode) == entries) _ numbers) in
       let less : links_of d inode < length (entries_to d inode) =
-      below_is (links_of d inode) (length (entries_to d inode)) (last low) in
+      below_is (links_of d inode) (length (entries_to d inode))
+      (right_of (is_live d inode) (nat_lt (links_of d inode) (length (entries_to d inode))) low) in
       let bound : length (entries_to d inode) ≤ slice_index most inode = l.most inode few in
       subst (λ (n : ℕ). Contains faults (LowLinks inode entries n)) same
       (l.low inode few entries (subst (λ (n : ℕ). links_of d inode < n) are less)
       (subst (λ (n : ℕ). n ≤ slice_index most inode) are bound))
-    where
-      last : {a b : Bool} → (a && b) ≡ true → b ≡ true
-      last {a} {b} h = right_of a b h
 
   six : (fault : Fault) → has_fault None d fault ≡ true → Contains faults fault
   six (Dangling dir k inode) h = has_dangling dir k inode h
@@ -146,4 +168,4 @@ by_text (Some kept) faults most d l (Wild inode slot block) h = six (Some kept) 
 
 pub all_listed : (kept : Option ℕ) (faults : List Fault) (most : List ℕ) (d : Disk) → IsListed kept faults most d
     → (fault : Fault) → Contains (faults_under kept d) fault → Contains faults fault
-all_listed kept faults most d l fault h = by_text kept faults most d l fault (found_by_text kept faults most d l fault h)
+all_listed kept faults most d l fault h = by_text kept faults most d l fault (found_by_text kept faults d l.dangling fault h)

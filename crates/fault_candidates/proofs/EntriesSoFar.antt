@@ -1,9 +1,10 @@
 -- The entries listed and counted so far.
 use Rattle.std.proofs.Common.{◌≡◌, ◌≢◌, ℕ, ◌+◌, ◌-◌, ◌*◌, ◌<◌, ◌≤◌, ◌⊎◌, inl, inr, List, length, Bool, true, false, ◌&&◌, not, ◌^◌}
 use Rattle.std.proofs.Common.{Option, Some, None, arith, tests, refl, sym, ap, subst, ◌∙◌}
-use Rattle.std.specs.Prelude.{◌==◌, slice_index}
+use Rattle.std.specs.Prelude.{◌==◌, slice_index, replicate}
 use Rattle.std.specs.List.{Contains}
 use Rattle.std.proofs.lemmas.Bool.{cases_eq}
+use Rattle.std.proofs.lemmas.List.{get_or-replicate}
 use Rattle.patch_sets.proofs.Ids.{eq_from_true}
 use Rattle.crash_model.specs.Disk.{Disk}
 use Rattle.crash_model.specs.Layout.{counts, entry_of, target_of, is_live, is_entry}
@@ -126,6 +127,10 @@ entries_start f old most few = record {
   );
   few = λ inode less. omega (arith, few inode less);
 }
+
+-- 16 zeros
+pub none_yet : AreAtMost 0 (replicate 16 0)
+none_yet inode less = omega (arith, get_or-replicate {A = ℕ} 16 inode 0 0 less)
 
 pub entries_next : (f : Family) (n : ℕ) (old new more : List Fault) (most next : List ℕ) → IsWithin new more
     → InEachReplayed f (λ d. (k : ℕ) → k < 10 → HasDangling more n k d)

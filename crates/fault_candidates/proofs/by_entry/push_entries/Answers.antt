@@ -1,12 +1,10 @@
-use Rattle.std.proofs.Common.{arith}
-use Rattle.fault_candidates.proofs.EntriesSoFar.{entries_start, entries_next, entries_all}
+use Rattle.std.proofs.Common.{◌<◌, ◌≤◌, ℕ, zero, suc, [], ◌∷◌, get_or, arith}
+use Rattle.fault_candidates.specs.Listed.{AreAtMost}
+use Rattle.fault_candidates.proofs.EntriesSoFar.{entries_start, entries_next, entries_all, none_yet}
 use Rattle.fault_candidates.proofs.by_entry.push_entries.Goals as goal
 
-zeros : (inode : ℕ) → slice_index (0 ∷ 0 ∷ 0 ∷ 0 ∷ 0 ∷ 0 ∷ 0 ∷ 0 ∷ 0 ∷ 0 ∷ 0 ∷ 0 ∷ 0 ∷ 0 ∷ 0 ∷ 0 ∷ []) inode ≡ 0
-zeros inode = get_or-replicate 16 inode 0
-
 pub loop-dir-init : goal.loop-dir-init
-loop-dir-init g c = entries_start c.args.bytes.now c.args.faults.now.items _ (λ inode less. omega (arith, zeros inode))
+loop-dir-init g c = entries_start c.args.bytes.now c.args.faults.now.items _ none_yet
 
 pub loop-dir-preserved : goal.loop-dir-preserved
 loop-dir-preserved g c =
