@@ -8,6 +8,7 @@ pub loop-k-preserved : goal.loop-k-preserved
 loop-k-preserved g c =
     let values = c.entries-values.result in
     directory_next c.args.bytes.now c.args.dir c.loop-k.k values.low values.high c.args.faults.now.items
-    c.loop-k.faults.items c.push_dangling.new.faults.items c.args.most.now c.loop-k.most c.count_named.new.most ?
+    c.loop-k.faults.items c.push_dangling.new.faults.items c.args.most.now c.loop-k.most c.count_named.new.most
+    c.entries-values.type_inv.1.1.1.0.1
     c.entries-values.ensures c.in_ok-push_dangling.ensures.kept c.in_ok-push_dangling.ensures.dangling
     c.count_named.ensures c.loop-k.invariant
