@@ -1,6 +1,6 @@
 -- The lists of the kinds hold all faults.
-use Rattle.std.proofs.Common.{◌≡◌, ◌≢◌, ℕ, ◌+◌, ◌-◌, ◌<◌, ◌≤◌, List, length, Bool, true, false, ◌&&◌, not, Option, Some, None}
-use Rattle.std.proofs.Common.{arith, tests, refl, sym, ap, subst, ◌∙◌}
+use Rattle.std.proofs.Common.{◌≡◌, ℕ, ◌<◌, ◌≤◌, List, length, Bool, true, false, ◌&&◌, not, Option, Some, None}
+use Rattle.std.proofs.Common.{arith, tests, sym, ap, subst, ◌∙◌}
 use Rattle.std.specs.Prelude.{◌==◌, nat_lt, slice_index}
 use Rattle.std.specs.List.{Contains}
 use Rattle.patch_sets.specs.Sets.{has}
@@ -9,15 +9,14 @@ use Rattle.crash_model.specs.Disk.{Disk}
 use Rattle.crash_model.specs.Layout.{target_of, links_of, pointer_of, is_data, is_live}
 use Rattle.crash_model.specs.Faults.{entries_to}
 use Rattle.crash_model.specs.Strict.{faults_under}
-use Rattle.crash_model.specs.Faults.{is_dangling, is_twice, is_unwritten, has_low_links, is_marked_free, is_wild}
-use Rattle.crash_model.specs.Strict.{is_lost, lacks_block}
+use Rattle.crash_model.specs.Faults.{is_dangling, has_low_links}
 use Rattle.crash_model.specs.declared.fault.Fault.{Fault}
 use Rattle.crash_model.specs.declared.fault.Fault.TheVariants.{Dangling, Twice, Unwritten, LowLinks, MarkedFree, Wild}
 use Rattle.crash_model.specs.declared.fault.Fault.TheVariants.{Lost, NoBlock}
 use Rattle.known_bytes.specs.Texts.{has_fault}
 use Rattle.known_bytes.proofs.ToldFaults.{HasSmallTargets, all_there_of, twice_data}
 use Rattle.fault_candidates.specs.Listed.{IsWithin, HasDangling, AreMost, HasFaultsOf, HasSlot, HasTwice, HasLow}
-use Rattle.fault_candidates.specs.Listed.{HasStrict, HasStrictUnder}
+use Rattle.fault_candidates.specs.Listed.{HasStrictUnder}
 use Rattle.fault_candidates.proofs.Pushed.{then_within, dangling_more, twice_more, slots_more, low_more}
 use Rattle.fault_candidates.proofs.Tests.{below_is, left_of, right_of, not_of, some_of}
 
@@ -97,9 +96,10 @@ module _ (kept : Option ℕ) (faults : List Fault) (most : List ℕ) (d : Disk) 
       (left_of (((live && not (pointer_of d inode slot == 0)) && is_data d (pointer_of d inode slot)) && more) _ rest) in
       let inside = right_of (live && not (pointer_of d inode slot == 0)) _ tame in
       let some = right_of live (not (pointer_of d inode slot == 0))
-      (left_of (live && not (pointer_of d inode slot == 0)) _ tame) in
-      (slot_of inode slot block place some points,
-      ap (λ (b : ℕ). is_data d b) (sym (eq_from_true (pointer_of d inode slot) block points)) ∙ inside)
+      (left_of (live && not (pointer_of d inode slot == 0)) _ tame) in (
+        slot_of inode slot block place some points,
+        ap (λ (b : ℕ). is_data d b) (sym (eq_from_true (pointer_of d inode slot) block points)) ∙ inside,
+      )
 
   wild_at : (inode slot block : ℕ) (live : Bool)
       → ((nat_lt inode 16 && nat_lt slot 4)
@@ -114,10 +114,11 @@ module _ (kept : Option ℕ) (faults : List Fault) (most : List ℕ) (d : Disk) 
       let wild = left_of ((live && not (pointer_of d inode slot == 0)) && not (is_data d (pointer_of d inode slot))) _ rest in
       let other = right_of (live && not (pointer_of d inode slot == 0)) _ wild in
       let some = right_of live (not (pointer_of d inode slot == 0))
-      (left_of (live && not (pointer_of d inode slot == 0)) _ wild) in
-      (slot_of inode slot block place some points,
-      ap (λ (b : ℕ). is_data d b) (sym (eq_from_true (pointer_of d inode slot) block points))
-      ∙ not_of (is_data d (pointer_of d inode slot)) other)
+      (left_of (live && not (pointer_of d inode slot == 0)) _ wild) in (
+        slot_of inode slot block place some points,
+        ap (λ (b : ℕ). is_data d b) (sym (eq_from_true (pointer_of d inode slot) block points))
+            ∙ not_of (is_data d (pointer_of d inode slot)) other,
+      )
 
   has_low : (inode entries links : ℕ) → has_fault None d (LowLinks inode entries links) ≡ true
       → Contains faults (LowLinks inode entries links)

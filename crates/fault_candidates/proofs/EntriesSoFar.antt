@@ -1,6 +1,6 @@
 -- The entries listed and counted so far.
-use Rattle.std.proofs.Common.{◌≡◌, ◌≢◌, ℕ, ◌+◌, ◌-◌, ◌*◌, ◌<◌, ◌≤◌, ◌⊎◌, inl, inr, List, length, Bool, true, false, ◌&&◌, not, ◌^◌}
-use Rattle.std.proofs.Common.{Option, Some, None, arith, tests, refl, sym, ap, subst, ◌∙◌}
+use Rattle.std.proofs.Common.{◌≡◌, ℕ, ◌+◌, ◌*◌, ◌<◌, ◌≤◌, inl, inr, List, length, Bool, true, not, ◌^◌}
+use Rattle.std.proofs.Common.{arith, refl, sym, ap, subst, ◌∙◌}
 use Rattle.std.specs.Prelude.{◌==◌, slice_index, replicate}
 use Rattle.std.specs.List.{Contains}
 use Rattle.std.proofs.lemmas.Bool.{cases_eq}
@@ -9,7 +9,7 @@ use Rattle.patch_sets.proofs.Ids.{eq_from_true}
 use Rattle.crash_model.specs.Disk.{Disk}
 use Rattle.crash_model.specs.Layout.{counts, entry_of, target_of, is_live, is_entry}
 use Rattle.crash_model.specs.Lists.{when, some_below, each_below}
-use Rattle.crash_model.specs.Faults.{is_dangling, leads_to, entries_to}
+use Rattle.crash_model.specs.Faults.{leads_to, entries_to}
 use Rattle.crash_model.specs.Patches.{image_of}
 use Rattle.crash_model.specs.Replay.{image_after_replay}
 use Rattle.crash_model.specs.declared.fault.Fault.{Fault}

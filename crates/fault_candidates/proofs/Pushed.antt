@@ -3,9 +3,9 @@ use Rattle.std.proofs.Common.{◌≡◌, ℕ, List, [], ◌∷◌, ◌++◌, sym
 use Rattle.std.specs.List.{Contains}
 use Rattle.std.proofs.lemmas.List.Elements.{Contains-append_left, Contains-push}
 use Rattle.crash_model.specs.Disk.{Disk}
-use Rattle.crash_model.specs.Layout.{target_of, pointer_of}
+use Rattle.crash_model.specs.Layout.{pointer_of}
 use Rattle.crash_model.specs.declared.fault.Fault.{Fault}
-use Rattle.fault_candidates.specs.Listed.{IsWithin, HasDangling, HasPointers, HasSlot, HasFaultsOf, HasTwice, HasLow, HasStrict}
+use Rattle.fault_candidates.specs.Listed.{IsWithin, HasDangling, HasSlot, HasFaultsOf, HasTwice, HasLow, HasStrict}
 
 -- the list with one fault more has it and the others
 pub pushed_has : (old new : List Fault) (x : Fault) → new ≡ old ++ x ∷ [] → Contains new x

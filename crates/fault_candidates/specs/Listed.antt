@@ -3,7 +3,7 @@ use Rattle.std.specs.Prelude.{◌≡◌, ◌≢◌, ℕ, ◌+◌, ◌<◌, ◌�
 use Rattle.std.specs.List.{Contains}
 use Rattle.crash_model.specs.Disk.{Disk}
 use Rattle.crash_model.specs.Layout.{pointer_of, links_of, target_of, is_data}
-use Rattle.crash_model.specs.Faults.{is_dangling, is_twice, entries_to}
+use Rattle.crash_model.specs.Faults.{is_dangling, entries_to}
 use Rattle.crash_model.specs.Replay.{image_after_replay}
 use Rattle.crash_model.specs.Strict.{faults_under}
 use Rattle.crash_model.specs.declared.fault.Fault.{Fault}
@@ -29,38 +29,38 @@ abbrev pub HasDangling : List Fault → ℕ → ℕ → Disk → Type 0
 HasDangling faults dir k d =
     is_dangling d dir k ≡ true → (target_of d dir k < 255) × Contains faults (Dangling dir k (target_of d dir k))
 
--- no more than one entry is counted, and one that may name the inode is
+-- at most one entry more is counted, and one is that names the inode with one of the values
 pub record CountsOne (low high inode old new : ℕ) : Type 0 where
   pub least : old ≤ new
   pub named : HasValue low high (inode + 1) → old < new
   pub most : new ≤ old + 1
 
--- for each inode there are counted the entries of a directory that lead to it
+-- for each inode as many more are counted as lead to it of the first n entries of a directory
 abbrev pub AreCounted : ℕ → ℕ → List ℕ → List ℕ → Disk → Type 0
 AreCounted n dir old new d =
     (inode : ℕ) → inode < 16 → slice_index old inode + entries_in n d inode dir ≤ slice_index new inode
 
--- no number of the 16 is above another
+-- each of 16 counts is at most a number
 abbrev pub AreAtMost : ℕ → List ℕ → Type 0
 AreAtMost most counts = (inode : ℕ) → inode < 16 → slice_index counts inode ≤ most
 
--- for each inode no more entries lead to it than are counted
+-- for each inode at most as many entries lead to it as are counted
 abbrev pub AreMost : List ℕ → Disk → Type 0
 AreMost most d = (inode : ℕ) → inode < 16 → length (entries_to d inode) ≤ slice_index most inode
 
 -- ---- slots
 
--- the faults of a pointer to a block of the data area, and of one to another
-pub record HasPointers (faults : List Fault) (inode slot block : ℕ) : Type 0 where
+-- the two faults of a slot that names a block of the data area are listed
+pub record HasTame (faults : List Fault) (inode slot block : ℕ) : Type 0 where
   pub unwritten : Contains faults (Unwritten inode slot block)
   pub marked_free : Contains faults (MarkedFree inode slot block)
 
--- the faults of a slot with a value are listed
+-- the faults of a slot that names a block are listed, by whether the block is one of the data area
 pub record HasSlot (faults : List Fault) (inode slot block : ℕ) (d : Disk) : Type 0 where
-  pub tame : is_data d block ≡ true → HasPointers faults inode slot block
+  pub tame : is_data d block ≡ true → HasTame faults inode slot block
   pub wild : is_data d block ≡ false → Contains faults (Wild inode slot block)
 
--- the faults of a slot are listed
+-- the faults of a slot are listed, if it names a block
 abbrev pub HasFaultsOf : List Fault → ℕ → ℕ → Disk → Type 0
 HasFaultsOf faults inode slot d =
     pointer_of d inode slot ≢ 0 → HasSlot faults inode slot (pointer_of d inode slot) d
@@ -76,7 +76,7 @@ abbrev pub HasLow : List Fault → ℕ → ℕ → Disk → Type 0
 HasLow faults inode most d =
     (entries : ℕ) → links_of d inode < entries → entries ≤ most → Contains faults (LowLinks inode entries (links_of d inode))
 
--- the faults of an inode that a strict checker can find
+-- the faults of an inode are listed that a strict checker can find
 pub record HasStrict (faults : List Fault) (kept inode : ℕ) : Type 0 where
   pub lost : Has kept inode → Contains faults (Lost inode)
   pub bare : Contains faults (NoBlock inode)

@@ -3,7 +3,7 @@
 ghost use Rattle.std.specs.Prelude.{◌≡◌, ℕ, ◌<◌, OnOk, true, false};
 ghost use Rattle.std.specs.List.{Contains};
 ghost use Rattle.crash_model.specs.declared.fault.Fault.TheVariants.{Wild};
-ghost use Rattle.fault_candidates.specs.Listed.{InEachReplayed, IsWithin, HasPointers, HasFaultsOf};
+ghost use Rattle.fault_candidates.specs.Listed.{InEachReplayed, IsWithin, HasTame, HasFaultsOf};
 
 use crate::pointers;
 use crash_model::fault::Fault;
@@ -74,7 +74,7 @@ fn push_pointer<A: Allocator + Copy>(
     block: u8,
 ) -> Result<(), AllocError>
     ensures kept { OnOk result (IsWithin faults.old.items faults.new.items) }
-    ensures tame { OnOk result (is_data ≡ true → HasPointers faults.new.items inode slot block) }
+    ensures tame { OnOk result (is_data ≡ true → HasTame faults.new.items inode slot block) }
     ensures wild { OnOk result (is_data ≡ false → Contains faults.new.items (Wild inode slot block)) }
 {
     if is_data {

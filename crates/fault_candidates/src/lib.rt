@@ -14,9 +14,8 @@ mod by_inode;
 mod by_slot;
 mod listing;
 
-pub use listing::possible_faults;
-
 use known_bytes::{ByteSet, KnownBytes};
+pub use listing::possible_faults;
 use std::alloc::Allocator;
 
 /// The values that a slot of an inode has on any of the disks after replay.

@@ -12,8 +12,8 @@ use std::alloc::{AllocError, Allocator};
 
 /// Each fault that any of the disks has after replay, and perhaps others, in any order and perhaps twice.
 ///
-/// Where `kept` is given, the checker is strict, and these are the inodes that the script keeps. It fails only when out
-/// of memory.
+/// Where `kept` is given, the checker is strict, and these are the inodes that the script keeps. A fault that a disk has
+/// is one that the test of its text finds. It fails only when out of memory.
 pub fn possible_faults<A: Allocator + Copy>(
     alloc: A,
     bytes: &KnownBytes<A>,

@@ -1,4 +1,4 @@
-use Rattle.std.proofs.Common.{ℕ, ◌+◌}
+use Rattle.std.proofs.Common.{◌+◌}
 use Rattle.crash_model.specs.declared.fault.Fault.TheVariants.{Dangling}
 use Rattle.known_bytes.specs.Family.{HasValue}
 use Rattle.fault_candidates.proofs.ListedSoFar.{AreBelow}

@@ -1,5 +1,4 @@
-use Rattle.std.proofs.Common.{◌<◌, ◌≤◌, ℕ, zero, suc, [], ◌∷◌, get_or, arith}
-use Rattle.fault_candidates.specs.Listed.{AreAtMost}
+use Rattle.std.proofs.Common.{arith}
 use Rattle.fault_candidates.proofs.EntriesSoFar.{entries_start, entries_next, entries_all, none_yet}
 use Rattle.fault_candidates.proofs.by_entry.push_entries.Goals as goal
 

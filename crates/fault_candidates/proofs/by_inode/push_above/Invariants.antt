@@ -1,4 +1,4 @@
-use Rattle.std.proofs.Common.{ℕ, ◌+◌, ◌≤◌}
+use Rattle.std.proofs.Common.{◌+◌, ◌≤◌}
 use Rattle.crash_model.specs.declared.fault.Fault.TheVariants.{LowLinks}
 use Rattle.fault_candidates.proofs.ListedSoFar.{AreBelow}
 use Rattle.fault_candidates.proofs.by_inode.push_above.Given as goal

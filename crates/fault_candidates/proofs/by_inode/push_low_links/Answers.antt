@@ -1,4 +1,4 @@
-use Rattle.std.proofs.Common.{◌≡◌, ℕ, subst}
+use Rattle.std.proofs.Common.{ℕ, subst}
 use Rattle.std.specs.Prelude.{slice_index}
 use Rattle.fault_candidates.specs.Listed.{InEachReplayed, HasLow}
 use Rattle.fault_candidates.proofs.ListedSoFar.{lows_next}

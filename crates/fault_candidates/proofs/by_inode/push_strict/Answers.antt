@@ -1,4 +1,4 @@
-use Rattle.std.proofs.Common.{ℕ, ◌<◌, arith, Option, subst, sym}
+use Rattle.std.proofs.Common.{ℕ, arith, Option, subst, sym}
 use Rattle.fault_candidates.specs.Listed.{HasStrictUnder}
 use Rattle.fault_candidates.proofs.ListedSoFar.{strict_next}
 use Rattle.fault_candidates.proofs.by_inode.push_strict.Goals as goal

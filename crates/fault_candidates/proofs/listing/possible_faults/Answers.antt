@@ -1,9 +1,6 @@
-use Rattle.std.proofs.Common.{ℕ, List}
-use Rattle.crash_model.specs.declared.fault.Fault.{Fault}
 use Rattle.crash_model.specs.Patches.{image_of}
 use Rattle.crash_model.specs.Replay.{image_after_replay}
-use Rattle.fault_candidates.specs.Listed.{InEachReplayed, IsWithin}
-use Rattle.fault_candidates.proofs.AllFaults.{IsListed, listed_by_parts, all_listed, found_by_text}
+use Rattle.fault_candidates.proofs.AllFaults.{listed_by_parts, all_listed, found_by_text}
 use Rattle.fault_candidates.proofs.listing.possible_faults.Goals as goal
 
 pub returns-clause-all : goal.returns-clause-all
