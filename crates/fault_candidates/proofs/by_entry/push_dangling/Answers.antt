@@ -12,8 +12,8 @@ loop-inode-preserved g c =
     let n = c.loop-inode.inode in
     elim c.if-has.branch [
       | then-has+in_ok-push w ↦ rw w.faults-is (below_next (λ i. HasValue low high (i + 1))
-          (λ i. Dangling c.args.dir c.args.k i) n c.args.faults.now.items c.loop-inode.faults.items _
-          w.in_ok-push.ensures.items c.loop-inode.invariant)
+          (λ i. Dangling c.args.dir c.args.k i) n c.args.faults.now.items c.loop-inode.faults.items
+          w.push.new.self.items w.in_ok-push.ensures.items c.loop-inode.invariant)
       | else-has w ↦ rw w.faults-is (below_same (λ i. HasValue low high (i + 1)) (λ i. Dangling c.args.dir c.args.k i) n
           c.args.faults.now.items c.loop-inode.faults.items
           (λ is. let never : true ≡ false = sym (c.has.ensures.1 is) ∙ w.if-has.false in absurd (cc))

@@ -7,7 +7,7 @@ use Rattle.fault_candidates.proofs.by_inode.push_above.Goals as goal
 pub loop-fewer-preserved : goal.loop-fewer-preserved
 loop-fewer-preserved g c = below_next (λ fewer. c.args.links ≤ fewer)
     (λ fewer. LowLinks c.args.inode (fewer + 1) c.args.links) c.loop-fewer.fewer c.args.faults.now.items
-    c.loop-fewer.faults.items _ c.in_ok-push.ensures.items c.loop-fewer.invariant
+    c.loop-fewer.faults.items c.push.new.self.items c.in_ok-push.ensures.items c.loop-fewer.invariant
 
 pub returns-clause-above : goal.returns-clause-above
 returns-clause-above g c entries above few =

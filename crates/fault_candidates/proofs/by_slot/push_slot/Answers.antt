@@ -17,7 +17,7 @@ loop-before-preserved g c =
     let n = c.loop-before.before in
     elim c.if-has.branch [
       | then-has+in_ok-push_pointer w ↦ rw w.faults-is (blocks_more base low high c.args.inode c.args.slot n
-          c.args.faults.now.items c.loop-before.faults.items _ w.in_ok-push_pointer.ensures.kept
+          c.args.faults.now.items c.loop-before.faults.items w.push_pointer.new.faults.items w.in_ok-push_pointer.ensures.kept
           record {
             tame = λ is. w.in_ok-push_pointer.ensures.tame (w.is_data.ensures.value ∙ (ap (λ (d : Disk). is_data d (n + 1)) c.base-base.ensures.base ∙ is));
             wild = λ is. w.in_ok-push_pointer.ensures.wild (w.is_data.ensures.value ∙ (ap (λ (d : Disk). is_data d (n + 1)) c.base-base.ensures.base ∙ is));
