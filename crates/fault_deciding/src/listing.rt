@@ -2,15 +2,9 @@
 
 ghost use Rattle.std.specs.Prelude.{IfOk, OnOk};
 ghost use Rattle.fault_deciding.specs.Asked.{AreAllOf, AreFoundByTest, HasFaultOf};
-ghost use Rattle.std.specs.Prelude.{◌≡◌, true};
-ghost use Rattle.std.specs.List.{Contains};
-ghost use Rattle.crash_model.specs.Replay.{image_after_replay};
-ghost use Rattle.crash_model.specs.Strict.{faults_under};
-ghost use Rattle.crash_model.specs.declared.fault.Fault.{Fault};
-ghost use Rattle.known_bytes.specs.Family.{InEach};
-ghost use Rattle.known_bytes.specs.Texts.{has_fault};
 
 use crash_model::fault::Fault;
+use fault_candidates::possible_faults;
 use known_bytes::{Chains, KnownBytes};
 use std::alloc::{AllocError, Allocator};
 
@@ -25,17 +19,4 @@ pub(crate) fn candidates<A: Allocator + Copy>(
 {
     let bytes = KnownBytes::new(chains, 0, 0);
     possible_faults(alloc, &bytes, kept)
-}
-
-fn possible_faults<A: Allocator + Copy>(
-    alloc: A,
-    bytes: &KnownBytes<A>,
-    kept: Option<u16>,
-) -> Result<Vec<Fault, A>, AllocError>
-    ensures all { IfOk result (λ list. InEach bytes.now (λ d. (fault : Fault)
-        → Contains (faults_under kept (image_after_replay d)) fault → Contains list.items fault)) }
-    ensures found { OnOk result (InEach bytes.now (λ d. (fault : Fault)
-        → Contains (faults_under kept (image_after_replay d)) fault → has_fault kept (image_after_replay d) fault ≡ true)) }
-{
-    Ok(Vec::new(alloc))
 }
