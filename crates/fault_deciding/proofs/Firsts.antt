@@ -1,5 +1,5 @@
 -- From the sets in whose images a test finds a fault to the failing sets that have it.
-use Rattle.std.proofs.Common.{◌≡◌, ℕ, List, [], ◌∷◌, Bool, refl, sym, subst, ◌∙◌, inl, inr}
+use Rattle.std.proofs.Common.{◌≡◌, ℕ, List, [], ◌∷◌, Bool, refl, sym, subst, inl, inr}
 use Rattle.std.specs.Prelude.{◌↔◌, Option, Some, None, MatchOption, IsTrue}
 use Rattle.std.specs.List.{Contains}
 use Rattle.patch_sets.specs.Sets.{IsBefore}

@@ -1,5 +1,5 @@
 -- The faults of the family of all closed sets are those of the failing sets.
-use Rattle.std.proofs.Common.{◌≡◌, ℕ, true, List, sym, subst}
+use Rattle.std.proofs.Common.{◌≡◌, ℕ, true, List, subst}
 use Rattle.std.specs.Prelude.{Option}
 use Rattle.std.specs.List.{Contains}
 use Rattle.patch_sets.proofs.Bits.{none_in_empty}

@@ -12,7 +12,7 @@ use Rattle.decision_model.specs.Decided.{AreDecided}
 use Rattle.decision_model.specs.declared.decided_fault.DecidedFault.{DecidedFault}
 use Rattle.fault_deciding.specs.declared.sharing.Trial.{Trial}
 use Rattle.fault_deciding.specs.Asked.{AreAllOf}
-use Rattle.fault_deciding.specs.Trials.{fault_of, decided_of, trial_of, IsTried, AreFound, HaveSameFaults}
+use Rattle.fault_deciding.specs.Trials.{fault_of, trial_of, IsTried, AreFound, HaveSameFaults}
 
 -- a vector whose elements were changed in place, without its capacity
 pub put_back : (xs rest : List Trial) (n : ℕ) → n ≡ length xs → take n (xs ++ rest) ≡ xs
@@ -41,8 +41,7 @@ same_trials : (old new : List Trial) → length new ≡ length old → HaveSameF
     → Contains (map fault_of old) fault → Contains (map fault_of new) fault
 same_trials old new long same fault (k, within, at_k) =
     let d : Trial = record { fault = fault; first = None } in
-    let inside : k < length old = omega (arith, within, length-map old fault_of) in
-    (
+    let inside : k < length old = omega (arith, within, length-map old fault_of) in (
       k,
       omega (arith, inside, long, length-map new fault_of),
       get_or-map fault_of new k d ∙ (same k d inside ∙ (sym (get_or-map fault_of old k d) ∙ at_k)),

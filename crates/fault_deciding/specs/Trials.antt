@@ -36,16 +36,17 @@ pub record AreFound (trials : List Trial) (faults : List DecidedFault) : Type 0 
   pub each : All (λ f. Contains trials (trial_of f)) faults
   pub every : (f : DecidedFault) → Contains trials (trial_of f) → Contains (map decided_of faults) f.fault
 
--- the last of the faults is this one, or there is none or it is another
-abbrev pub IsLast : List DecidedFault → Fault → Type 0
-IsLast faults fault = Contains (map decided_of faults) fault
+-- the fault is one of these
+abbrev pub IsAmong : List DecidedFault → Fault → Type 0
+IsAmong faults fault = Contains (map decided_of faults) fault
 
+-- the fault is not the last of these
 abbrev pub IsNotLast : List DecidedFault → Fault → Type 0
 IsNotLast faults fault =
     (at : ℕ) (d : DecidedFault) → at + 1 ≡ length faults → (slice_index_or faults at d).fault ≢ fault
 
--- a fault is put at the end, unless it is the last already
+-- a fault is put at the end, or is there already
 abbrev pub Adds : List DecidedFault → Fault → ℕ → List DecidedFault → Type 0
 Adds old fault first new =
-    (IsLast old fault × (new ≡ old))
+    (IsAmong old fault × (new ≡ old))
     ⊎ (IsNotLast old fault × (new ≡ old ++ record { fault = fault; first = first } ∷ []))

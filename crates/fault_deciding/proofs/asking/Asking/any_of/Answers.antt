@@ -1,4 +1,4 @@
-use Rattle.std.proofs.Common.{◌≡◌, ℕ, true, false}
+use Rattle.std.proofs.Common.{◌≡◌, true, false}
 use Rattle.crash_model.specs.declared.fault.Fault.TheVariants.{Dangling}
 use Rattle.fault_deciding.specs.Asked.{HasFaultOf}
 use Rattle.fault_deciding.proofs.Firsts.{some_fault}
