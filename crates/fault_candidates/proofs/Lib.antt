@@ -1,1 +1,6 @@
 pub mod Found
+pub mod Tests
+pub mod Pushed
+pub mod AllFaults
+pub mod EntriesSoFar
+pub mod ListedSoFar
