@@ -5,14 +5,14 @@ use Rattle.decision_report.specs.Written.{WritesDecision}
 use Rattle.decision_report.proofs.Pieces.{as_json, as_text}
 use Rattle.decision_report.proofs.report.decision_report.Goals as goal
 
-pub returns-in_ok-decision_json : goal.returns-in_ok-decision_json
-returns-in_ok-decision_json g c =
+pub returns-in_ok-text : goal.returns-in_ok-text
+returns-in_ok-text g c =
     let decision = c.args.decision.now in
-    let written = string_bytes c.in_ok-decision_json.text in
+    let written = string_bytes c.in_ok-text.text in
     IfOk-weaker c.from_str.result (λ text. string_bytes text ≡ written)
     (λ text. WritesDecision decision_bytes decision (string_bytes text))
     (λ text same. subst (WritesDecision decision_bytes decision) (sym same)
-    (as_json decision written c.if-decision.true c.in_ok-decision_json.ensures)) c.from_str.ensures.ok
+    (as_json decision written c.if-decision.true c.in_ok-text.ensures)) c.from_str.ensures.ok
 
 pub returns-else-decision : goal.returns-else-decision
 returns-else-decision g c =

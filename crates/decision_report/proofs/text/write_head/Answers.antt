@@ -6,6 +6,6 @@ use Rattle.decision_report.proofs.text.write_head.Goals as goal
 pub returns : goal.returns
 returns g c =
     let decision = c.args.decision.now in
-    let number : c.len.result ≡ length decision.traced.now.patches = cc in
-    head_pieces decision c.len.result _ _ _ _ number c.in_ok-write_ordering.ensures c.in_ok-write.ensures.bytes
+    let number : c.len-patches.result ≡ length decision.traced.now.patches = cc in
+    head_pieces decision c.len-patches.result _ _ _ _ number c.in_ok-write_ordering.ensures c.in_ok-write.ensures.bytes
     (c.in_ok-write_explanation.ensures decision.base.now)
