@@ -44,7 +44,7 @@ as_text decision text is wrote = record {
 -- the lines of the head
 pub head_pieces : {A : Type 0} (decision : Decision A) (n : ℕ) (before one two after : List ℕ)
     → n ≡ length decision.traced.now.patches → one ≡ before ++ ordering_text decision.settings.now
-    → two ≡ one ++ (codes "patches " ++ decimal n ++ codes "\nclosed " ++ decimal decision.closed ++ codes "\n")
+    → two ≡ one ++ (codes "patches " ++ (decimal n ++ (codes "\nclosed " ++ (decimal decision.closed ++ codes "\n"))))
     → after ≡ two ++ explanation_text (when decision.settings.now.explain
     (explanation_by decision.base.now decision.traced.now))
     → after ≡ before ++ head_lines decision
@@ -52,14 +52,14 @@ head_pieces decision n before one two after number first second third =
     let told = explanation_text (when decision.settings.now.explain
     (explanation_by decision.base.now decision.traced.now)) in
     let ordering = ordering_text decision.settings.now in
-    let numbers = λ (k : ℕ). codes "patches " ++ decimal k ++ codes "\nclosed " ++ decimal decision.closed
-    ++ codes "\n" in
+    let numbers = λ (k : ℕ). codes "patches " ++ (decimal k ++ (codes "\nclosed " ++ (decimal decision.closed
+    ++ codes "\n"))) in
     third ∙ (ap (λ (t : List ℕ). t ++ told) (second ∙ (ap (λ (k : ℕ). one ++ numbers k) number
     ∙ ap (λ (t : List ℕ). t ++ numbers (length decision.traced.now.patches)) first))
     ∙ regroup before ordering (codes "patches ") (decimal (length decision.traced.now.patches)) (codes "\n")
     (codes "closed ") (decimal decision.closed) told)
   where
-    regroup : (a b c d e f g h : List ℕ) → a ++ b ++ (c ++ d ++ (e ++ f) ++ g ++ e) ++ h
+    regroup : (a b c d e f g h : List ℕ) → a ++ b ++ (c ++ (d ++ ((e ++ f) ++ (g ++ e)))) ++ h
         ≡ a ++ (b ++ ((c ++ d) ++ e) ++ ((f ++ g) ++ e) ++ h)
     regroup a b c d e f g h = simp append_assoc
 

@@ -9,9 +9,9 @@ pub returns-in_ok-text : goal.returns-in_ok-text
 returns-in_ok-text g c =
     let decision = c.args.decision.now in
     let written = string_bytes c.in_ok-text.text in
-    IfOk-weaker c.from_str.result (λ text. string_bytes text ≡ written)
+    IfOk-weaker c.from_str.result (λ text. string_bytes text ≡ c.as_str.result.now)
     (λ text. WritesDecision decision_bytes decision (string_bytes text))
-    (λ text same. subst (WritesDecision decision_bytes decision) (sym same)
+    (λ text same. subst (WritesDecision decision_bytes decision) (sym (same ∙ c.as_str.ensures.value))
     (as_json decision written c.if-decision.true c.in_ok-text.ensures)) c.from_str.ensures.ok
 
 pub returns-else-decision : goal.returns-else-decision
