@@ -72,11 +72,7 @@ fn write_explained_trace<A: Allocator + Copy>(
 }
 
 /// The module and the number of patches, with a comma before them. It fails only when out of memory.
-pub fn write_module(
-    out: &mut String,
-    module: Module,
-    patches: usize,
-) -> Result<(), AllocError>
+pub fn write_module(out: &mut String, module: Module, patches: usize) -> Result<(), AllocError>
     ensures { OnOk result (string_bytes out.new ≡ string_bytes out.old ++ module_key «module» patches) }
 {
     out.push_str(",\"module\":\"")?;
