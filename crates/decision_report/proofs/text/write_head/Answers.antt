@@ -1,5 +1,4 @@
-use Rattle.std.proofs.Common.{◌≡◌, List, ℕ, ◌++◌, length, codes, decimal, string_bytes, ap, ◌∙◌}
-use Rattle.crash_model.specs.Report.{line}
+use Rattle.std.proofs.Common.{◌≡◌, length}
 use Rattle.decision_report.proofs.Pieces.{head_pieces}
 use Rattle.decision_report.proofs.text.write_head.Goals as goal
 
