@@ -1,13 +1,20 @@
 //! The numbers that faults can have at all, whatever a crash leaves.
 //!
 //! A fault's text has the value of a pointer, of a link count or of an entry. Here are all values that such a byte has on
-//! any disk of a family after replay, so who tries each of them misses no fault.
+//! any disk of a family after replay, and the faults with these values, so who tries each of them misses no fault.
 #![tactic(auto)]
 
 ghost use Rattle.std.specs.Prelude.{◌≡◌, ◌<◌, true};
 ghost use Rattle.crash_model.specs.Layout.{pointer_of, links_of, entry_of, counts};
 ghost use Rattle.crash_model.specs.Replay.{image_after_replay};
 ghost use Rattle.known_bytes.specs.Family.{InEach, HasValue};
+
+mod by_entry;
+mod by_inode;
+mod by_slot;
+mod listing;
+
+pub use listing::possible_faults;
 
 use known_bytes::{ByteSet, KnownBytes};
 use std::alloc::Allocator;

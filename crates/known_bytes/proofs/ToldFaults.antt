@@ -140,18 +140,28 @@ no_namers d block not_data = each_below-none 16
     (λ inode less. some_below-none 4 (λ slot. when (names_block d inode slot block) (inode, slot))
     (λ slot few. ap (λ (b : Bool). when b (inode, slot)) (no_names d inode slot block not_data)))
 
--- a block that two slots name is one of the disk
-twice_below : (d : Disk) (block : ℕ) → is_twice d block ≡ true → block < d.blocks
-twice_below d block twice = elim (bool_is (is_data d block)) [
-  | inl is ↦ inside is
+-- a block that two slots name is one of the data area
+pub twice_data : (d : Disk) (block : ℕ) → is_twice d block ≡ true → is_data d block ≡ true
+twice_data d block twice = elim (bool_is (is_data d block)) [
+  | inl is ↦ is
   | inr not_data ↦
       let none : namers d block ≡ [] = no_namers d block not_data in
       let never : true ≡ nat_lt 1 0 = sym twice ∙ ap (λ (xs : List (ℕ × ℕ)). nat_lt 1 (length xs)) none in
       absurd (let e : true ≡ false = never in cc)
 ]
+
+twice_below : (d : Disk) (block : ℕ) → is_twice d block ≡ true → block < d.blocks
+twice_below d block twice = inside (twice_data d block twice)
   where
     inside : is_data d block ≡ true → block < d.blocks
     inside h = grind (arith, tests)
+
+-- an entry that dangles names an inode that a byte can name
+abbrev pub HasSmallTargets : Disk → Type 0
+HasSmallTargets d = (dir k : ℕ) → dir < 16 → k < 10 → is_dangling d dir k ≡ true → target_of d dir k < 255
+
+small_targets : (d : Disk) → HasBytes d → HasSmallTargets d
+small_targets d bytes dir k few less is = omega (arith, bytes.small (128 * pointer_of d dir 0 + (8 + 12 * k)))
 
 -- ---- the lists
 
@@ -326,16 +336,12 @@ module _ (d : Disk) where
   six_told (NoBlock inode) h = absurd (cc)
 
   -- and no other
-  six_all : (f : Fault) → HasBytes d → Contains (faults d) f → has_fault None d f ≡ true
-  six_all f bytes h = elim (parts_of f h).one [
+  six_all : (f : Fault) → HasSmallTargets d → Contains (faults d) f → has_fault None d f ≡ true
+  six_all f targets h = elim (parts_of f h).one [
     | inl a ↦
         let p = from_entries (λ dir k. when (is_dangling d dir k) (Dangling dir k (target_of d dir k))) f a in
         let is = when_true (is_dangling d p.row p.column) _ f p.is in
-        let small : target_of d p.row p.column < 255 = omega (
-          arith,
-          bytes.small (128 * pointer_of d p.row 0
-              + (8 + 12 * p.column)),
-        ) in
+        let small : target_of d p.row p.column < 255 = targets p.row p.column p.few p.less is in
         subst (λ (f : Fault). has_fault None d f ≡ true) (when_value (is_dangling d p.row p.column) _ f p.is)
         (both (nat_lt p.row 16 && nat_lt p.column 10 && nat_lt (target_of d p.row p.column) 255) _
         (three p.row p.column (target_of d p.row p.column) p.few p.less small)
@@ -444,11 +450,11 @@ with_strict kept d (Wild inode slot block) h = h
 with_strict kept d (Lost inode) h = absurd (cc)
 with_strict kept d (NoBlock inode) h = absurd (cc)
 
-pub all_there : (kept : Option ℕ) (d : Disk) (f : Fault) → HasBytes d → Contains (faults_under kept d) f
+pub all_there_of : (kept : Option ℕ) (d : Disk) (f : Fault) → HasSmallTargets d → Contains (faults_under kept d) f
     → has_fault kept d f ≡ true
-all_there None d f bytes h = six_all d f bytes h
-all_there (Some kept) d f bytes h = elim (Contains-append_cases (faults d) (strict_faults kept d) f h) [
-  | inl a ↦ with_strict kept d f (six_all d f bytes a)
+all_there_of None d f targets h = six_all d f targets h
+all_there_of (Some kept) d f targets h = elim (Contains-append_cases (faults d) (strict_faults kept d) f h) [
+  | inl a ↦ with_strict kept d f (six_all d f targets a)
   | inr b ↦ elim (strict_told kept d f b) [
     | inl p ↦ subst (λ (f : Fault). has_fault (Some kept) d f ≡ true) (when_value (is_lost d kept p.0) (Lost p.0) f p.2)
         (both (nat_lt p.0 16) _ (below p.0 16 p.1) (when_true (is_lost d kept p.0) (Lost p.0) f p.2))
@@ -457,3 +463,7 @@ all_there (Some kept) d f bytes h = elim (Contains-append_cases (faults d) (stri
         (both (nat_lt p.0 16) _ (below p.0 16 p.1) (when_true (lacks_block d p.0) (NoBlock p.0) f p.2))
   ]
 ]
+
+pub all_there : (kept : Option ℕ) (d : Disk) (f : Fault) → HasBytes d → Contains (faults_under kept d) f
+    → has_fault kept d f ≡ true
+all_there kept d f bytes h = all_there_of kept d f (small_targets d bytes) h
