@@ -1,5 +1,6 @@
 pub mod Found
+pub mod Tests
 pub mod Pushed
-pub mod Listing
-pub mod ByEntry
-pub mod BySlot
+pub mod AllFaults
+pub mod EntriesSoFar
+pub mod ListedSoFar

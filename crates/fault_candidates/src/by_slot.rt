@@ -54,12 +54,12 @@ fn push_slot<A: Allocator + Copy>(
     ensures kept { OnOk result (IsWithin faults.old.items faults.new.items) }
     ensures slot { OnOk result (InEachReplayed bytes.now (HasFaultsOf faults.new.items inode slot)) }
 {
+    let base = bytes.base();
     let values = pointers(bytes, inode, slot);
     for before in 0..255u8 {
         let block = before + 1;
         if values.has(block) {
-            let is_data = bytes.base().is_data(block);
-            push_pointer(faults, is_data, inode, slot, block)?;
+            push_pointer(faults, base.is_data(block), inode, slot, block)?;
         }
     }
     Ok(())

@@ -39,8 +39,9 @@ fn push_twice<A: Allocator + Copy>(
     ensures kept { OnOk result (IsWithin faults.old.items faults.new.items) }
     ensures twice { OnOk result (InEachReplayed bytes.now (HasTwice faults.new.items)) }
 {
+    let base = bytes.base();
     for block in 0..128u8 {
-        if bytes.base().is_data(block) {
+        if base.is_data(block) {
             faults.push(Fault::Twice { block })?;
         }
     }

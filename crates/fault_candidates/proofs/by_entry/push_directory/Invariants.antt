@@ -1,4 +1,4 @@
-use Rattle.fault_candidates.proofs.ByEntry.{IsDirectory}
+use Rattle.fault_candidates.proofs.EntriesSoFar.{IsDirectory}
 use Rattle.fault_candidates.proofs.by_entry.push_directory.Given as goal
 
 abbrev pub invariant-loop-k : goal.invariant-loop-k

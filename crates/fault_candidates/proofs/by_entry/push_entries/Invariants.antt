@@ -1,4 +1,4 @@
-use Rattle.fault_candidates.proofs.ByEntry.{AreEntries}
+use Rattle.fault_candidates.proofs.EntriesSoFar.{AreEntries}
 use Rattle.fault_candidates.proofs.by_entry.push_entries.Given as goal
 
 abbrev pub invariant-loop-dir : goal.invariant-loop-dir

@@ -1,4 +1,4 @@
-use Rattle.fault_candidates.proofs.BySlot.{AreLow}
+use Rattle.fault_candidates.proofs.ListedSoFar.{AreLow}
 use Rattle.fault_candidates.proofs.by_inode.push_low.Given as goal
 
 abbrev pub invariant-loop-links : goal.invariant-loop-links

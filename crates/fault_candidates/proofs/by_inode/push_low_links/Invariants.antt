@@ -1,4 +1,4 @@
-use Rattle.fault_candidates.proofs.BySlot.{AreLowBefore}
+use Rattle.fault_candidates.proofs.ListedSoFar.{AreLowBefore}
 use Rattle.fault_candidates.proofs.by_inode.push_low_links.Given as goal
 
 abbrev pub invariant-loop-inode : goal.invariant-loop-inode

@@ -1,4 +1,4 @@
-use Rattle.fault_candidates.proofs.BySlot.{AreSlots}
+use Rattle.fault_candidates.proofs.ListedSoFar.{AreSlots}
 use Rattle.fault_candidates.proofs.by_slot.push_inode.Given as goal
 
 abbrev pub invariant-loop-slot : goal.invariant-loop-slot

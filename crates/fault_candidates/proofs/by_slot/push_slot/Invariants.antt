@@ -1,4 +1,4 @@
-use Rattle.fault_candidates.proofs.BySlot.{AreBlocks}
+use Rattle.fault_candidates.proofs.ListedSoFar.{AreBlocks}
 use Rattle.fault_candidates.proofs.by_slot.push_slot.Given as goal
 
 abbrev pub invariant-loop-before : goal.invariant-loop-before

@@ -1,4 +1,4 @@
-use Rattle.fault_candidates.proofs.BySlot.{AreInodes}
+use Rattle.fault_candidates.proofs.ListedSoFar.{AreInodes}
 use Rattle.fault_candidates.proofs.by_slot.push_slots.Given as goal
 
 abbrev pub invariant-loop-inode : goal.invariant-loop-inode

@@ -18,26 +18,7 @@ use Rattle.known_bytes.specs.Texts.{has_fault}
 use Rattle.known_bytes.proofs.ToldFaults.{HasSmallTargets, all_there_of, twice_data}
 use Rattle.fault_candidates.specs.Listed.{IsWithin, HasDangling, AreMost, HasFaultsOf, HasSlot, HasTwice, HasLow}
 use Rattle.fault_candidates.specs.Listed.{HasStrict, HasStrictUnder}
-
--- ---- tests
-
-below_is : (a b : ℕ) → nat_lt a b ≡ true → a < b
-below_is a b h = grind (arith, tests)
-
-left_of : (a b : Bool) → (a && b) ≡ true → a ≡ true
-left_of true b h = refl
-left_of false b h = absurd (cc)
-
-right_of : (a b : Bool) → (a && b) ≡ true → b ≡ true
-right_of true b h = h
-right_of false b h = absurd (cc)
-
-not_of : (a : Bool) → not a ≡ true → a ≡ false
-not_of true h = absurd (cc)
-not_of false h = refl
-
-some_of : (a : ℕ) → not (a == 0) ≡ true → a ≢ 0
-some_of a h = grind (arith, tests)
+use Rattle.fault_candidates.proofs.Tests.{below_is, left_of, right_of, not_of, some_of}
 
 -- ---- the faults of one disk
 
@@ -90,11 +71,11 @@ module _ (kept : Option ℕ) (faults : List Fault) (most : List ℕ) (d : Disk) 
       _ rest in
       let tame = left_of ((live && not (pointer_of d inode slot == 0)) && is_data d (pointer_of d inode slot)) more
       (left_of (((live && not (pointer_of d inode slot == 0)) && is_data d (pointer_of d inode slot)) && more) _ rest) in
-      let data = right_of (live && not (pointer_of d inode slot == 0)) _ tame in
+      let inside = right_of (live && not (pointer_of d inode slot == 0)) _ tame in
       let some = right_of live (not (pointer_of d inode slot == 0))
       (left_of (live && not (pointer_of d inode slot == 0)) _ tame) in
       (slot_of inode slot block place some points,
-      ap (λ (b : ℕ). is_data d b) (sym (eq_from_true (pointer_of d inode slot) block points)) ∙ data)
+      ap (λ (b : ℕ). is_data d b) (sym (eq_from_true (pointer_of d inode slot) block points)) ∙ inside)
 
   wild_at : (inode slot block : ℕ) (live : Bool)
       → ((nat_lt inode 16 && nat_lt slot 4)

@@ -4,8 +4,6 @@ use Rattle.std.proofs.Common.{Option, Some, None, arith, tests, refl, sym, ap, s
 use Rattle.std.specs.Prelude.{◌==◌, slice_index}
 use Rattle.std.specs.List.{Contains}
 use Rattle.std.proofs.lemmas.Bool.{cases_eq}
-use Rattle.journal_replay.proofs.Targets.{bool_is}
-use Rattle.patch_sets.proofs.Bits.{below_from_small}
 use Rattle.patch_sets.proofs.Ids.{eq_from_true}
 use Rattle.crash_model.specs.Disk.{Disk}
 use Rattle.crash_model.specs.Layout.{counts, entry_of, target_of, is_live, is_entry}
@@ -20,28 +18,9 @@ use Rattle.known_bytes.specs.Family.{Family, InEach, HasValue}
 use Rattle.known_bytes.proofs.Counted.{count_none, count_one, count_same, rows_none, rows_more, all_entries}
 use Rattle.fault_candidates.specs.Listed.{InEachReplayed, IsWithin, HasDangling, CountsOne, AreCounted, AreAtMost, AreMost}
 use Rattle.fault_candidates.proofs.Pushed.{dangling_more, then_within}
+use Rattle.fault_candidates.proofs.Tests.{true_or_false, left_of, right_of, next_of, value_small}
 
 -- ---- one entry
-
-left_of : (a b : Bool) → (a && b) ≡ true → a ≡ true
-left_of true b h = refl
-left_of false b h = absurd (cc)
-
-right_of : (a b : Bool) → (a && b) ≡ true → b ≡ true
-right_of true b h = h
-right_of false b h = absurd (cc)
-
-next_of : (e : ℕ) → not (e == 0) ≡ true → e ≡ e - 1 + 1
-next_of e h = grind (arith, tests)
-
-pub value_small : (low high value : ℕ) → high < 2 ^ 128 → HasValue low high value → value < 256
-value_small low high value fits is = elim (128 ≤? value) [
-  | inl large ↦ let id : value - 128 < 128 = below_from_small high 128 (value - 128) fits (is.large large) in omega arith
-  | inr small ↦ omega arith
-]
-  where
-    ◌≤?◌ : (a b : ℕ) → (a ≤ b) ⊎ (b < a)
-    a ≤? b = grind arith
 
 module _ (faults : List Fault) (low high dir k : ℕ) (d : Disk) (fits : high < 2 ^ 128)
     (values : counts d dir ≡ true → HasValue low high (entry_of d dir k)) where
@@ -63,7 +42,7 @@ module _ (faults : List Fault) (low high dir k : ℕ) (d : Disk) (fits : high < 
       → slice_index old inode + entries_in k d inode dir ≤ slice_index before inode
       → CountsOne low high inode (slice_index before inode) (slice_index after inode)
       → slice_index old inode + entries_in (k + 1) d inode dir ≤ slice_index after inode
-  counted_here old before after inode was one = elim (bool_is (leads_to d dir k inode)) [
+  counted_here old before after inode was one = elim (true_or_false (leads_to d dir k inode)) [
     | inl leads ↦
         let same : target_of d dir k ≡ inode = eq_from_true (target_of d dir k) inode
         (right_of (is_entry d dir k) (target_of d dir k == inode) leads) in

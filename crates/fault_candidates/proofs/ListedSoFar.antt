@@ -1,5 +1,5 @@
 -- The faults listed so far of slots, links and blocks.
-use Rattle.std.proofs.Common.{◌≡◌, ◌≢◌, ℕ, ◌+◌, ◌<◌, ◌≤◌, inl, inr, List, true, false, ◌&&◌}
+use Rattle.std.proofs.Common.{◌≡◌, ◌≢◌, ℕ, ◌+◌, ◌<◌, ◌≤◌, inl, inr, List, [], ◌∷◌, ◌++◌, true, false, ◌&&◌, ◌^◌}
 use Rattle.std.proofs.Common.{arith, tests, refl, sym, ap, subst, ◌∙◌}
 use Rattle.std.specs.Prelude.{nat_le, nat_lt, slice_index}
 use Rattle.std.specs.List.{Contains}
@@ -11,8 +11,9 @@ use Rattle.crash_model.specs.Replay.{image_after_replay}
 use Rattle.crash_model.specs.declared.fault.Fault.{Fault}
 use Rattle.crash_model.specs.declared.fault.Fault.TheVariants.{LowLinks, Twice}
 use Rattle.known_bytes.specs.Family.{Family, InEach, IsLike, HasValue}
-use Rattle.fault_candidates.specs.Listed.{InEachReplayed, IsWithin, HasSlot, HasFaultsOf, HasTwice, HasLow}
-use Rattle.fault_candidates.proofs.Pushed.{slot_more, slots_more, then_within, low_more}
+use Rattle.fault_candidates.specs.Listed.{InEachReplayed, IsWithin, HasSlot, HasFaultsOf, HasTwice, HasLow, HasStrict}
+use Rattle.fault_candidates.proofs.Pushed.{slot_more, slots_more, then_within, low_more, strict_more, pushed_has, pushed_keeps}
+use Rattle.fault_candidates.proofs.Tests.{value_small}
 
 -- each disk has the data area of the base
 pub same_area : (f : Family) → InEach f (IsLike f.base) → (block : ℕ)
@@ -22,6 +23,35 @@ same_area f like block set m =
     let alike = like set m in
     ap (λ (n : ℕ). nat_le (4 + n) block && nat_lt block d.blocks) alike.journal
     ∙ ap (λ (n : ℕ). nat_le (4 + f.base.journal) block && nat_lt block n) alike.blocks
+
+-- ---- one fault for each number
+
+-- the faults of the numbers below one are listed that have a property
+pub record AreBelow (P : ℕ → Type 0) (fault : ℕ → Fault) (n : ℕ) (old new : List Fault) : Type 0 where
+  pub kept : IsWithin old new
+  pub each : (i : ℕ) → i < n → P i → Contains new (fault i)
+
+pub below_same : (P : ℕ → Type 0) (fault : ℕ → Fault) (n : ℕ) (old new : List Fault) → (P n → ⊥)
+    → AreBelow P fault n old new → AreBelow P fault (n + 1) old new
+below_same P fault n old new never was = record {
+  kept = was.kept;
+  each = λ i less is. elim (cases_eq i n) [
+    | inl same ↦ absurd (never (subst P same is))
+    | inr other ↦ was.each i (omega arith) is
+  ];
+}
+
+pub below_next : (P : ℕ → Type 0) (fault : ℕ → Fault) (n : ℕ) (old new more : List Fault) → more ≡ new ++ fault n ∷ []
+    → AreBelow P fault n old new → AreBelow P fault (n + 1) old more
+below_next P fault n old new more is was =
+    let kept : IsWithin new more = pushed_keeps new more (fault n) is in
+    record {
+      kept = then_within old new more kept was.kept;
+      each = λ i less has. elim (cases_eq i n) [
+        | inl same ↦ subst (λ (b : ℕ). Contains more (fault b)) (sym same) (pushed_has new more (fault n) is)
+        | inr other ↦ kept _ (was.each i (omega arith) has)
+      ];
+    }
 
 -- ---- one slot
 
@@ -59,14 +89,15 @@ blocks_more base low high inode slot n old new more kept here was = record {
 }
 
 pub slot_listed : (f : Family) (low high inode slot n : ℕ) (old new : List Fault) → InEach f (IsLike f.base)
-    → ((value : ℕ) → HasValue low high value → value ≤ n)
+    → high < 2 ^ 128 → 255 ≤ n
     → InEach f (λ d. HasValue low high (pointer_of (image_after_replay d) inode slot))
     → AreBlocks f.base low high inode slot n old new → InEachReplayed f (HasFaultsOf new inode slot)
-slot_listed f low high inode slot n old new like small values all set m some =
+slot_listed f low high inode slot n old new like fits long values all set m some =
     let d : Disk = image_after_replay (image_of f.base f.patches set) in
     let block : ℕ = pointer_of d inode slot in
     let here = values set m in
-    let has = all.each block (omega arith) (small block here) here in
+    let small : block < 256 = value_small low high block fits here in
+    let has = all.each block (omega arith) (omega arith) here in
     let area : is_data d block ≡ is_data f.base block = same_area f like block set m in
     record { tame = λ is. has.tame (sym area ∙ is); wild = λ is. has.wild (sym area ∙ is) }
 
@@ -107,32 +138,8 @@ inodes_next f n old new more kept here was = record {
 
 -- ---- blocks
 
-pub record AreTwice (base : Disk) (n : ℕ) (old new : List Fault) : Type 0 where
-  pub kept : IsWithin old new
-  pub each : (block : ℕ) → block < n → is_data base block ≡ true → Contains new (Twice block)
-
-pub twice_same : (base : Disk) (n : ℕ) (old new : List Fault) → (is_data base n ≡ true → ⊥)
-    → AreTwice base n old new → AreTwice base (n + 1) old new
-twice_same base n old new never was = record {
-  kept = was.kept;
-  each = λ block less is. elim (cases_eq block n) [
-    | inl same ↦ absurd (never (subst (λ (b : ℕ). is_data base b ≡ true) same is))
-    | inr other ↦ was.each block (omega arith) is
-  ];
-}
-
-pub twice_next : (base : Disk) (n : ℕ) (old new more : List Fault) → IsWithin new more → Contains more (Twice n)
-    → AreTwice base n old new → AreTwice base (n + 1) old more
-twice_next base n old new more kept here was = record {
-  kept = then_within old new more kept was.kept;
-  each = λ block less is. elim (cases_eq block n) [
-    | inl same ↦ subst (λ (b : ℕ). Contains more (Twice b)) (sym same) here
-    | inr other ↦ kept _ (was.each block (omega arith) is)
-  ];
-}
-
 pub twice_listed : (f : Family) (n : ℕ) (old new : List Fault) → InEach f (IsLike f.base) → f.base.blocks ≤ n
-    → AreTwice f.base n old new → InEachReplayed f (HasTwice new)
+    → AreBelow (λ b. is_data f.base b ≡ true) (λ b. Twice b) n old new → InEachReplayed f (HasTwice new)
 twice_listed f n old new like long all set m block is =
     let here : is_data f.base block ≡ true = sym (same_area f like block set m) ∙ is in
     let less : block < f.base.blocks = below (4 + f.base.journal) block f.base.blocks here in
@@ -192,4 +199,20 @@ lows_next f most n old new more kept here was = record {
         | inl same ↦ subst (λ (i : ℕ). HasLow more i (slice_index most i) d) (sym same) (here set m)
         | inr other ↦ low_more new more kept inode (slice_index most inode) d (was.each set m inode (omega arith))
       ];
+}
+
+-- ---- inodes that a strict checker finds
+
+pub record AreStrict (kept n : ℕ) (old new : List Fault) : Type 0 where
+  pub within : IsWithin old new
+  pub each : (inode : ℕ) → inode < n → HasStrict new kept inode
+
+pub strict_next : (kept n : ℕ) (old new more : List Fault) → IsWithin new more → HasStrict more kept n
+    → AreStrict kept n old new → AreStrict kept (n + 1) old more
+strict_next kept n old new more within here was = record {
+  within = then_within old new more within was.within;
+  each = λ inode less. elim (cases_eq inode n) [
+    | inl same ↦ subst (λ (i : ℕ). HasStrict more kept i) (sym same) here
+    | inr other ↦ strict_more new more within kept inode (was.each inode (omega arith))
+  ];
 }
