@@ -23,12 +23,12 @@ use Rattle.fault_candidates.proofs.Tests.{below_is, left_of, right_of, not_of, s
 -- ---- the faults of one disk
 
 -- the list has the faults of each kind
-pub record IsListed (kept : Option ℕ) (faults : List Fault) (most : List ℕ) (d : Disk) : Type 0 where
+pub record IsListed (kept : Option ℕ) (faults : List Fault) (named : List ℕ) (d : Disk) : Type 0 where
   pub dangling : (dir k : ℕ) → dir < 16 → k < 10 → HasDangling faults dir k d
-  pub most : AreMost most d
+  pub most : AreMost named d
   pub twice : HasTwice faults d
   pub slots : (inode slot : ℕ) → inode < 16 → slot < 4 → HasFaultsOf faults inode slot d
-  pub low : (inode : ℕ) → inode < 16 → HasLow faults inode (slice_index most inode) d
+  pub low : (inode : ℕ) → inode < 16 → HasLow faults inode (slice_index named inode) d
   pub strict : HasStrictUnder kept faults
 
 module _ (kept : Option ℕ) (faults : List Fault) (most : List ℕ) (d : Disk) (l : IsListed kept faults most d) where

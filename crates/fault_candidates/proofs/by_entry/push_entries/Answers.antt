@@ -1,8 +1,12 @@
+use Rattle.std.proofs.Common.{arith}
 use Rattle.fault_candidates.proofs.EntriesSoFar.{entries_start, entries_next, entries_all}
 use Rattle.fault_candidates.proofs.by_entry.push_entries.Goals as goal
 
+zeros : (inode : ℕ) → slice_index (0 ∷ 0 ∷ 0 ∷ 0 ∷ 0 ∷ 0 ∷ 0 ∷ 0 ∷ 0 ∷ 0 ∷ 0 ∷ 0 ∷ 0 ∷ 0 ∷ 0 ∷ 0 ∷ []) inode ≡ 0
+zeros inode = get_or-replicate 16 inode 0
+
 pub loop-dir-init : goal.loop-dir-init
-loop-dir-init g c = entries_start c.args.bytes.now c.args.faults.now.items _ ?
+loop-dir-init g c = entries_start c.args.bytes.now c.args.faults.now.items _ (λ inode less. omega (arith, zeros inode))
 
 pub loop-dir-preserved : goal.loop-dir-preserved
 loop-dir-preserved g c =
@@ -10,3 +14,7 @@ loop-dir-preserved g c =
     c.push_directory.new.faults.items c.loop-dir.most c.push_directory.new.most
     c.in_ok-push_directory.ensures.kept c.in_ok-push_directory.ensures.dangling c.in_ok-push_directory.ensures.counted
     c.in_ok-push_directory.ensures.few c.loop-dir.invariant
+
+pub returns-clause-most : goal.returns-clause-most
+returns-clause-most g c = entries_all c.args.bytes.now c.loop-dir.dir c.loop-dir.most (omega arith)
+    c.loop-dir.invariant.counted

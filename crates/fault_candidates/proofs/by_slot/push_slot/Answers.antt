@@ -1,4 +1,6 @@
-use Rattle.std.proofs.Common.{◌≡◌, true, false, ap, sym, ◌∙◌, arith}
+use Rattle.std.proofs.Common.{◌≡◌, ◌+◌, true, false, ap, sym, ◌∙◌, arith}
+use Rattle.crash_model.specs.Disk.{Disk}
+use Rattle.crash_model.specs.Layout.{is_data}
 use Rattle.fault_candidates.proofs.ListedSoFar.{blocks_start, blocks_same, blocks_more, slot_listed}
 use Rattle.fault_candidates.proofs.by_slot.push_slot.Goals as goal
 use Rattle.fault_candidates.proofs.by_slot.push_slot.Goals.{then-has+in_ok-push_pointer, else-has}
@@ -15,7 +17,11 @@ loop-before-preserved g c =
     let n = c.loop-before.before in
     elim c.if-has.branch [
       | then-has+in_ok-push_pointer w ↦ rw w.faults-is (blocks_more base low high c.args.inode c.args.slot n
-          c.args.faults.now.items c.loop-before.faults.items _ w.in_ok-push_pointer.ensures.kept ?
+          c.args.faults.now.items c.loop-before.faults.items _ w.in_ok-push_pointer.ensures.kept
+          record {
+            tame = λ is. w.in_ok-push_pointer.ensures.tame (w.is_data.ensures.value ∙ (ap (λ (d : Disk). is_data d (n + 1)) c.base-base.ensures.base ∙ is));
+            wild = λ is. w.in_ok-push_pointer.ensures.wild (w.is_data.ensures.value ∙ (ap (λ (d : Disk). is_data d (n + 1)) c.base-base.ensures.base ∙ is));
+          }
           c.loop-before.invariant)
       | else-has w ↦ rw w.faults-is (blocks_same base low high c.args.inode c.args.slot n c.args.faults.now.items
           c.loop-before.faults.items
@@ -26,4 +32,4 @@ loop-before-preserved g c =
 pub returns-clause-slot : goal.returns-clause-slot
 returns-clause-slot g c = slot_listed c.args.bytes.now c.pointers-values.result.low c.pointers-values.result.high
     c.args.inode c.args.slot c.loop-before.before c.args.faults.now.items c.loop-before.faults.items
-    c.base-base.ensures.alike ? (omega arith) c.pointers-values.ensures c.loop-before.invariant
+    c.base-base.ensures.alike (let h = c.pointers-values.type_inv in search rules) (omega arith) c.pointers-values.ensures c.loop-before.invariant
