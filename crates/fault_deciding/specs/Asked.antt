@@ -1,0 +1,39 @@
+-- Faults that sets have, and the first sets that have them.
+use Rattle.std.specs.Prelude.{◌≡◌, ◌≢◌, ℕ, List, true, Option, MatchOption}
+use Rattle.std.specs.List.{Contains}
+use Rattle.crash_model.specs.Patches.{image_of}
+use Rattle.crash_model.specs.Replay.{image_after_replay}
+use Rattle.crash_model.specs.Summary.{IsFaultBefore, HasFault, IsFirst}
+use Rattle.crash_model.specs.declared.fault.Fault.{Fault}
+use Rattle.decision_model.specs.declared.decided_fault.DecidedFault.{DecidedFault}
+use Rattle.known_bytes.specs.Chains.{Change}
+use Rattle.known_bytes.specs.Texts.{has_fault}
+
+-- the test finds the fault in the image that a set leaves, after replay
+abbrev pub LeavesFault : Option ℕ → Change → Fault → ℕ → Type 0
+LeavesFault kept c fault set = has_fault kept (image_after_replay (image_of c.base c.patches set)) fault ≡ true
+
+-- a failing set of the patches has the fault
+abbrev pub HasFaultOf : Option ℕ → Change → Fault → ℕ → Type 0
+HasFaultOf kept c = HasFault kept c.base c.patches
+
+-- the test finds each fault that a failing set has
+abbrev pub AreFoundByTest : Option ℕ → Change → Type 0
+AreFoundByTest kept c = (fault : Fault) (set : ℕ) → HasFaultOf kept c fault set → LeavesFault kept c fault set
+
+-- each fault that a set has is in the list
+abbrev pub AreAllOf : (Fault → ℕ → Type 0) → List Fault → Type 0
+AreAllOf has faults = (fault : Fault) (set : ℕ) → has fault set → Contains faults fault
+
+-- the first set that has a fault, or none where none has it
+abbrev pub IsFirstWith : (Fault → ℕ → Type 0) → Fault → Option ℕ → Type 0
+IsFirstWith has fault first = MatchOption first ((set : ℕ) → ¬ (has fault set)) (IsFirst (has fault))
+
+-- the first of the faults that sets have, with the first set that has it
+pub record IsFirstDecided (has : Fault → ℕ → Type 0) (decided : DecidedFault) : Type 0 where
+  pub first : IsFirst (has decided.fault) decided.first
+  pub before : (other : Fault) (set : ℕ) → has other set → other ≢ decided.fault → IsFaultBefore decided.fault other
+
+-- the same, or none where no set has a fault
+abbrev pub IsFirstFault : (Fault → ℕ → Type 0) → Option DecidedFault → Type 0
+IsFirstFault has found = MatchOption found ((fault : Fault) (set : ℕ) → ¬ (has fault set)) (IsFirstDecided has)

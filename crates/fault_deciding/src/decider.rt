@@ -1,0 +1,101 @@
+//! What a crash can leave, decided by families of sets.
+
+ghost use Rattle.std.specs.Prelude.{◌<◌, ◌≤◌, ◌↔◌, ℕ, IfOk, IsTrue};
+ghost use Rattle.std.specs.List.{All};
+ghost use Rattle.crash_model.specs.Strict.{IsFailingUnder};
+ghost use Rattle.crash_model.specs.Summary.{HasFault};
+ghost use Rattle.decision_model.specs.Decided.{AreDecided};
+ghost use Rattle.fault_deciding.specs.Asked.{IsFirstFault};
+
+use crate::asking::Asking;
+use crate::dependencies::dependencies;
+use crate::listing::candidates;
+use crate::ordering::{found, sort_faults, sort_trials};
+use crate::sharing::{spread, untried};
+use decision_model::DecidedFault;
+use disk_image::Image;
+use known_bytes::Chains;
+use patch_graph::Graph;
+use set_families::ClosedSets;
+use std::alloc::{AllocError, Allocator};
+use std::thread::Threads;
+
+/// A graph of patches over a base, of which a crash can leave some, and the inodes that the script keeps, where the
+/// checker is told of them. The patches change blocks of the base.
+#[derive(Drop)]
+pub struct Decider<'a, A: Allocator + Copy> {
+    pub alloc: A,
+    pub base: &'a Image<A>,
+    pub graph: &'a Graph<A>,
+    pub kept: Option<u16>,
+    ghost fits: { All (λ patch. patch.block < base.now.blocks) graph.now },
+}
+
+impl<A: Allocator + Copy> Decider<'_, A> {
+    /// Each fault that a crash can leave, in the order of faults, with the first set in canonical order whose image has
+    /// it after replay.
+    ///
+    /// The workers share the faults, and for each number of workers the same is found. One worker starts no thread. It
+    /// fails only when out of memory.
+    pub fn faults<R: Threads + Sync>(
+        &self,
+        rt: &R,
+        workers: usize,
+    ) -> Result<Vec<DecidedFault, A>, AllocError>
+    where
+        A: Send + Sync,
+        requires { 1 ≤ workers }
+        ensures { IfOk result (λ faults.
+            AreDecided (HasFault self.now.kept self.now.base.now self.now.graph.now) faults.items) }
+    {
+        let deps = dependencies(self.graph);
+        let sets = ClosedSets::of(&deps);
+        let chains = Chains::new(self.alloc, self.base, self.graph)?;
+        let candidates = candidates(self.alloc, &chains, self.kept)?;
+        let asking = Asking {
+            sets: &sets,
+            chains: &chains,
+            kept: self.kept,
+        };
+        let mut trials = untried(self.alloc, &candidates)?;
+        spread(&mut trials, workers);
+        asking.try_all(rt, &mut trials, workers);
+        sort_trials(&mut trials);
+        found(self.alloc, &trials)
+    }
+
+    /// Whether a crash can leave a fault at all. It fails only when out of memory.
+    pub fn any_fails(&self) -> Result<bool, AllocError>
+        ensures { IfOk result (λ fails. IsTrue fails
+            ↔ ((set : ℕ) × IsFailingUnder self.now.kept self.now.base.now self.now.graph.now set)) }
+    {
+        let deps = dependencies(self.graph);
+        let sets = ClosedSets::of(&deps);
+        let chains = Chains::new(self.alloc, self.base, self.graph)?;
+        let candidates = candidates(self.alloc, &chains, self.kept)?;
+        let asking = Asking {
+            sets: &sets,
+            chains: &chains,
+            kept: self.kept,
+        };
+        Ok(asking.any_of(&candidates))
+    }
+
+    /// The first in the order of faults that a crash can leave, with the first set that has it, or `None` where a crash
+    /// leaves no fault. It fails only when out of memory.
+    pub fn first_fault(&self) -> Result<Option<DecidedFault>, AllocError>
+        ensures { IfOk result (IsFirstFault (HasFault self.now.kept self.now.base.now self.now.graph.now)) }
+    {
+        let deps = dependencies(self.graph);
+        let sets = ClosedSets::of(&deps);
+        let chains = Chains::new(self.alloc, self.base, self.graph)?;
+        let mut candidates = candidates(self.alloc, &chains, self.kept)?;
+        let asking = Asking {
+            sets: &sets,
+            chains: &chains,
+            kept: self.kept,
+        };
+        sort_faults(&mut candidates);
+        Ok(asking.first_of(&candidates))
+    }
+}

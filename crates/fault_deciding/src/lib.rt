@@ -1,0 +1,18 @@
+//! The faults that a crash can leave, decided without visiting the sets that it can leave.
+//!
+//! Each fault that a crash can leave at all is asked of whole families of sets, until the first set that has it is found
+//! or none is left. So a graph with more sets than can be visited is decided too.
+#![tactic(auto)]
+
+mod asking;
+mod counting;
+mod decider;
+mod dependencies;
+mod listing;
+mod ordering;
+mod question;
+mod sharing;
+
+pub use counting::closed_number;
+pub use decider::Decider;
+pub use question::FaultQuestion;
