@@ -1,0 +1,4 @@
+pub mod Firsts
+pub mod Orders
+pub mod Taken
+pub mod Whole

@@ -1,5 +1,5 @@
 -- Faults that are tried, and what is taken of them.
-use Rattle.std.specs.Prelude.{◌≡◌, ◌≢◌, ℕ, ◌+◌, ◌⊎◌, List, [], ◌∷◌, ◌++◌, length, map, slice_index_or, Some}
+use Rattle.std.specs.Prelude.{◌≡◌, ◌≢◌, ℕ, ◌+◌, ◌<◌, ◌⊎◌, List, [], ◌∷◌, ◌++◌, length, map, slice_index_or, Some}
 use Rattle.std.specs.List.{All, AllPairs, Contains}
 use Rattle.crash_model.specs.Summary.{IsFaultBefore}
 use Rattle.crash_model.specs.declared.fault.Fault.{Fault}
@@ -16,6 +16,11 @@ decided_of decided = decided.fault
 -- the first set that has the fault is known
 abbrev pub IsTried : (Fault → ℕ → Type 0) → Trial → Type 0
 IsTried has trial = IsFirstWith has trial.fault trial.first
+
+-- at each place stand trials of the same fault
+abbrev pub HaveSameFaults : List Trial → List Trial → Type 0
+HaveSameFaults old new =
+    (k : ℕ) (d : Trial) → k < length old → (slice_index_or new k d).fault ≡ (slice_index_or old k d).fault
 
 -- no fault in the list is before one that stands earlier
 abbrev pub AreInOrder : {X : Type 0} → (X → Fault) → List X → Type 0

@@ -1,9 +1,9 @@
 //! The faults of a graph, shared among workers.
 
-ghost use Rattle.std.specs.Prelude.{◌≡◌, ◌<◌, IfOk, IsPermutation, map};
+ghost use Rattle.std.specs.Prelude.{◌≡◌, ◌<◌, IfOk, IsPermutation, length, map};
 ghost use Rattle.std.specs.List.{All};
 ghost use Rattle.fault_deciding.specs.Asked.{HasFaultOf};
-ghost use Rattle.fault_deciding.specs.Trials.{fault_of, IsTried};
+ghost use Rattle.fault_deciding.specs.Trials.{fault_of, IsTried, HaveSameFaults};
 
 use crate::asking::Asking;
 use crash_model::fault::Fault;
@@ -51,7 +51,8 @@ impl<A: Allocator + Copy + Sync> Asking<'_, A> {
     /// Tries each fault. The workers share them side by side; one worker starts no thread.
     pub(crate) fn try_all<R: Threads + Sync>(&self, rt: &R, trials: &mut [Trial], workers: usize)
         requires { 0 < workers }
-        ensures same { map fault_of trials.new ≡ map fault_of trials.old }
+        ensures long { length trials.new ≡ length trials.old }
+        ensures same { HaveSameFaults trials.old trials.new }
         ensures tried { All (IsTried (HasFaultOf self.now.kept self.now.chains.now)) trials.new }
     {
         thread::for_each_mut(rt, trials, workers, &|_, trial| self.try_one(trial));
