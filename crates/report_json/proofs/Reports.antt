@@ -1,6 +1,6 @@
 -- The objects of sets, faults and rules, one after another, and the report around them.
 use Rattle.std.proofs.Common.{◌≡◌, ℕ, ◌+◌, ◌<◌, List, [], ◌∷◌, ◌++◌, length, get_or, take, Bool, true, false, codes}
-use Rattle.std.proofs.Common.{decimal, sym, ap, ◌∙◌, arith, append_assoc, length-take}
+use Rattle.std.proofs.Common.{decimal, refl, sym, ap, ◌∙◌, arith, append_assoc, length-take}
 use Rattle.std.proofs.lemmas.List.{append-nil, length-map}
 use Rattle.crash_model.specs.Lists.{when}
 use Rattle.crash_model.specs.Explain.{base_json, trace_json}
@@ -50,8 +50,9 @@ pub fault_more : {A : Type 0} (detail : Detail) (base : Disk) (patches : List Pa
     → after ≡ so_far ++ comma_before i ++ text → WritesFaults detail base patches (take (i + 1) rows) old after
 fault_more detail base patches rows i n d old so_far after text s within number tells is written more = record {
   told = tells.told ++ one ∷ [];
-  of_rows = rows_more rows i d tells.told s within tells.of_rows;
-  firsts = firsts_more rows i d tells.told s within detail base patches tells.firsts is;
+  of_rows = rows_more (λ (t : ToldFault). t.row) rows i d tells.told one within refl tells.of_rows;
+  firsts = firsts_more (λ (row : FaultRow). row.first) (λ (t : ToldFault). t.first) rows i d tells.told one
+      detail base patches s within refl tells.firsts is;
   whole = mapped_more (told_fault_json (length patches)) tells.told one i old so_far after text place tells.whole
       (written ∙ ap (λ (k : ℕ). told_fault_json k one) number) more;
 }

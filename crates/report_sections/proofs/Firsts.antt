@@ -1,4 +1,4 @@
--- The first sets of faults' rows.
+-- The first sets of rows.
 use Rattle.std.proofs.Common.{ℕ, ◌<◌, List, length, get_or, map, subst, arith}
 use Rattle.std.proofs.Math.ListN.{get_or-map}
 use Rattle.std.proofs.lemmas.List.{length-map}
@@ -14,9 +14,8 @@ abbrev pub no_row : FaultRow
 no_row = record { fault = Dangling 0 0 0; sets = 0; first = 0 }
 
 -- a crash can leave each of them
-pub first_closed : (patches : List Patch) (rows : List FaultRow) (i : ℕ)
-    → AreClosed patches (map (λ row. row.first) rows) → i < length rows
-    → IsClosed (deps_of patches) (get_or rows i no_row).first
-first_closed patches rows i closed within =
-    subst (IsClosed (deps_of patches)) (get_or-map (λ (row : FaultRow). row.first) rows i no_row)
-    (closed i 0 (omega (arith, within, length-map rows (λ (row : FaultRow). row.first))))
+pub first_closed : {X : Type 0} (first_of : X → ℕ) (patches : List Patch) (rows : List X) (i : ℕ) (d : X)
+    → AreClosed patches (map first_of rows) → i < length rows → IsClosed (deps_of patches) (first_of (get_or rows i d))
+first_closed first_of patches rows i d closed within =
+    subst (IsClosed (deps_of patches)) (get_or-map first_of rows i d)
+    (closed i (first_of d) (omega (arith, within, length-map rows first_of)))

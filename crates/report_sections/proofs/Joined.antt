@@ -9,8 +9,6 @@ use Rattle.std.proofs.lemmas.Nat.{div-add-mod'}
 use Rattle.crash_model.specs.Disk.{Disk}
 use Rattle.crash_model.specs.Report.{AreSections}
 use Rattle.crash_model.specs.Report as report
-use Rattle.crash_model.specs.Summary.{ToldFault}
-use Rattle.crash_model.specs.declared.fault.FaultRow.{FaultRow}
 use Rattle.crash_model.specs.declared.patches.Patch.{Patch}
 use Rattle.crash_model.specs.declared.settings.Detail.{Detail}
 use Rattle.report_sections.specs.declared.section.Section.{Section}
@@ -73,39 +71,27 @@ module _ (sets : List ℕ) (size : ℕ) where
       subst P (take_all (count * size) sets (cover count some number))
       (subst (λ (k : ℕ). P (take (k * size) sets)) e holds)
 
--- ---- rows of faults
+-- ---- rows, each told with the section of its first set
 
-module _ {A : Type 0} (rows : List FaultRow) (i : ℕ) (d : FaultRow) (so_far : List ToldFault) (s : Section A)
-    (within : i < length rows) where
-  abbrev row : FaultRow
-  row = get_or rows i d
+-- behind the first rows the next is told
+pub rows_more : {X T : Type 0} (row_of : T → X) (rows : List X) (i : ℕ) (d : X) (so_far : List T) (one : T)
+    → i < length rows → row_of one ≡ get_or rows i d → map row_of so_far ≡ take i rows
+    → map row_of (so_far ++ one ∷ []) ≡ take (i + 1) rows
+rows_more {X = X} row_of rows i d so_far one within is of_rows = map-append row_of so_far (one ∷ [])
+    ∙ (ap (λ (rs : List X). rs ++ row_of one ∷ []) of_rows ∙ (ap (λ (r : X). take i rows ++ r ∷ []) is
+    ∙ sym (take_more rows i d within)))
 
-  -- the next row with its section
-  abbrev one : ToldFault
-  one = record { row = row; first = section_of s }
-
-  abbrev row_of : ToldFault → FaultRow
-  row_of t = t.row
-
-  abbrev first_of : FaultRow → ℕ
-  first_of r = r.first
-
-  abbrev told_of : ToldFault → report.Section
-  told_of t = t.first
-
-  -- behind the first rows it is told
-  pub rows_more : map row_of so_far ≡ take i rows → map row_of (so_far ++ one ∷ []) ≡ take (i + 1) rows
-  rows_more of_rows = map-append row_of so_far (one ∷ [])
-      ∙ (ap (λ (rs : List FaultRow). rs ++ row ∷ []) of_rows ∙ sym (take_more rows i d within))
-
-  -- and so is the section of its first set
-  pub firsts_more : (detail : Detail) (base : Disk) (patches : List Patch)
-      → AreSections detail base patches (map first_of (take i rows)) (map told_of so_far)
-      → IsSection detail base patches row.first s
-      → AreSections detail base patches (map first_of (take (i + 1) rows)) (map told_of (so_far ++ one ∷ []))
-  firsts_more detail base patches firsts is =
-      subst (λ (ss : List report.Section). AreSections detail base patches (map first_of (take (i + 1) rows)) ss)
-      (sym (map-append told_of so_far (one ∷ [])))
-      (subst (λ (sets : List ℕ). AreSections detail base patches sets (map told_of so_far ++ section_of s ∷ []))
-      (sym (ap (map first_of) (take_more rows i d within) ∙ map-append first_of (take i rows) (row ∷ [])))
-      (sections_push detail base patches (map first_of (take i rows)) row.first (map told_of so_far) s firsts is))
+-- and so is the section of its first set
+pub firsts_more : {X T A : Type 0} (first_of : X → ℕ) (told_of : T → report.Section) (rows : List X) (i : ℕ) (d : X)
+    (so_far : List T) (one : T) (detail : Detail) (base : Disk) (patches : List Patch) (s : Section A)
+    → i < length rows → told_of one ≡ section_of s
+    → AreSections detail base patches (map first_of (take i rows)) (map told_of so_far)
+    → IsSection detail base patches (first_of (get_or rows i d)) s
+    → AreSections detail base patches (map first_of (take (i + 1) rows)) (map told_of (so_far ++ one ∷ []))
+firsts_more first_of told_of rows i d so_far one detail base patches s within told firsts is =
+    let row = get_or rows i d in
+    subst (λ (ss : List report.Section). AreSections detail base patches (map first_of (take (i + 1) rows)) ss)
+    (sym (map-append told_of so_far (one ∷ []) ∙ ap (λ (one : report.Section). map told_of so_far ++ one ∷ []) told))
+    (subst (λ (sets : List ℕ). AreSections detail base patches sets (map told_of so_far ++ section_of s ∷ []))
+    (sym (ap (map first_of) (take_more rows i d within) ∙ map-append first_of (take i rows) (row ∷ [])))
+    (sections_push detail base patches (map first_of (take i rows)) (first_of row) (map told_of so_far) s firsts is))

@@ -25,6 +25,7 @@ use Rattle.report_sections.specs.declared.section.Outcome.{Outcome}
 use Rattle.report_sections.specs.Replay.{told_replay}
 use Rattle.report_sections.specs.Sections.{section_of, IsSection, IsOutcome}
 use Rattle.report_sections.proofs.Joined.{rows_more, firsts_more}
+use Rattle.traced_patches.specs.Traced.{TracedPatches}
 use Rattle.section_lines.specs.Cache.{fault_line}
 use Rattle.report_text.specs.TextReport.{WritesSections, WritesFaults}
 use Rattle.section_lines.specs.Runs.{WritesRuns}
@@ -93,8 +94,9 @@ pub fault_more : {A : Type 0} (detail : Detail) (base : Disk) (patches : List Pa
     → WritesFaults detail base patches (take (i + 1) rows) head after
 fault_more detail base patches rows i n d head text after s within number so_far is more = record {
   told = so_far.told ++ one ∷ [];
-  of_rows = rows_more rows i d so_far.told s within so_far.of_rows;
-  firsts = firsts_more rows i d so_far.told s within detail base patches so_far.firsts is;
+  of_rows = rows_more (λ (t : ToldFault). t.row) rows i d so_far.told one within refl so_far.of_rows;
+  firsts = firsts_more (λ (row : FaultRow). row.first) (λ (t : ToldFault). t.first) rows i d so_far.told one
+      detail base patches s within refl so_far.firsts is;
   whole = item_more (told_fault_text (length patches)) so_far.told one head text after so_far.whole
       (more ∙ ap (λ (k : ℕ). text ++ told_fault_text k one) number);
 }
@@ -102,19 +104,18 @@ fault_more detail base patches rows i n d head text after s within number so_far
     one : ToldFault
     one = record { row = get_or rows i d; first = section_of s }
 
--- the text behind the head, where patches are explained
-pub explained : {A : Type 0} (report : Report A) (explain : Bool) (first second : List ℕ) → explain ≡ true
-    → second ≡ first ++ explanation_text (Some (explanation_by report.base.now report.traced.now))
-    → second ≡ first ++ explanation_text (when explain (explanation_by report.base.now report.traced.now))
-explained report explain first second is more = more ∙ ap
-    (λ (e : Bool). first ++ explanation_text (when e (explanation_by report.base.now report.traced.now))) (sym is)
+-- a text, where patches are explained and where they are not
+pub explained : (base : Disk) (traced : TracedPatches) (explain : Bool) (first second : List ℕ) → explain ≡ true
+    → second ≡ first ++ explanation_text (Some (explanation_by base traced))
+    → second ≡ first ++ explanation_text (when explain (explanation_by base traced))
+explained base traced explain first second is more = more ∙ ap
+    (λ (e : Bool). first ++ explanation_text (when e (explanation_by base traced))) (sym is)
 
-pub unexplained : {A : Type 0} (report : Report A) (explain : Bool) (first second : List ℕ) → explain ≡ false
-    → second ≡ first → second ≡ first ++ explanation_text
-    (when explain (explanation_by report.base.now report.traced.now))
-unexplained report explain first second is same = same
+pub unexplained : (base : Disk) (traced : TracedPatches) (explain : Bool) (first second : List ℕ) → explain ≡ false
+    → second ≡ first → second ≡ first ++ explanation_text (when explain (explanation_by base traced))
+unexplained base traced explain first second is same = same
     ∙ (sym (append-nil first) ∙ ap (λ (e : Bool). first ++ explanation_text
-    (when e (explanation_by report.base.now report.traced.now))) (sym is))
+    (when e (explanation_by base traced))) (sym is))
 
 pub whole_text : {A : Type 0} (report : Report A) (n : ℕ) (body : Body) (empty first second last : List ℕ) → empty ≡ []
     → n ≡ length report.traced.now.patches

@@ -1,8 +1,8 @@
 //! The head of a report.
 
 ghost use Rattle.std.specs.Prelude.{◌≡◌, ◌++◌, [], if◌then◌else◌, codes, string_bytes, OnOk};
-ghost use Rattle.crash_model.specs.Report.{line};
-ghost use Rattle.crash_model.specs.Whole.{head_text, rule_lines};
+ghost use Rattle.crash_model.specs.Report.{line, module_text};
+ghost use Rattle.crash_model.specs.Whole.{head_text, rule_lines, told_with, told_without};
 
 use crash_model::rules::Rule;
 use crash_model::settings::Settings;
@@ -19,15 +19,30 @@ pub(crate) fn write_head<A: Allocator>(
     ensures { OnOk result (string_bytes out.new
         ≡ string_bytes out.old ++ head_text settings.now patches closed failing) }
 {
-    let name = settings.module.name();
-    write!(out, "module {name}\n")?;
-    write_rule_lines(out, "without", settings.taken_out().as_slice())?;
-    write_rule_lines(out, "with", settings.put_in().as_slice())?;
-    write_strict_line(out, settings.strict)?;
+    write_ordering(out, settings)?;
     write!(
         out,
         "patches {patches}\nclosed {closed}\nfailing {failing}\n"
     )
+}
+
+/// The lines that say by which ordering a run goes, and by which checker: the module, each rule that is taken out or
+/// put in, and whether the run is strict. It fails only when out of memory.
+pub fn write_ordering<A: Allocator>(
+    out: &mut String<A>,
+    settings: &Settings,
+) -> Result<(), AllocError>
+    ensures { OnOk result (string_bytes out.new ≡ string_bytes out.old
+        ++ (line (codes "module " ++ module_text settings.now.module)
+        ++ rule_lines (codes "without") (told_without settings.now)
+        ++ rule_lines (codes "with") (told_with settings.now)
+        ++ (if settings.now.strict then line (codes "strict") else []))) }
+{
+    let name = settings.module.name();
+    write!(out, "module {name}\n")?;
+    write_rule_lines(out, "without", settings.taken_out().as_slice())?;
+    write_rule_lines(out, "with", settings.put_in().as_slice())?;
+    write_strict_line(out, settings.strict)
 }
 
 /// The line of a strict run.

@@ -8,4 +8,6 @@ pub mod report;
 mod rules;
 mod summary;
 
+pub use head::write_ordering;
+pub use patches::write_explanation;
 pub use report::report_text;

@@ -2,20 +2,40 @@
 
 ghost use Rattle.std.specs.Prelude.{◌≡◌, ◌++◌, ◌<◌, length, string_bytes, OnOk, flat_map, map, slice_get};
 ghost use Rattle.std.specs.Prelude.{option_to_list, Some};
-ghost use Rattle.crash_model.specs.Explain.{told_patches, told_text, dependency_text, list_text};
+ghost use Rattle.crash_model.specs.Disk.{Disk};
+ghost use Rattle.crash_model.specs.Explain.{told_patches, told_text, dependency_text, list_text, explanation_text};
+ghost use Rattle.crash_model.specs.Lists.{when};
 ghost use Rattle.crash_model.specs.Patches.{place};
 ghost use Rattle.crash_model.specs.Trace.{Emitted};
 ghost use Rattle.traced_patches.specs.Labels.{emitted_at};
 ghost use Rattle.traced_patches.specs.Reasons.{reason_text};
 ghost use Rattle.traced_patches.specs.Traced.{told_at, dependency_at};
+ghost use Rattle.report_sections.specs.Bodies.{explanation_by};
 ghost use Rattle.report_text.specs.Patches.{patch_line, gap_before};
 
 use crash_model::patches::Patch;
 use std::alloc::{AllocError, Allocator};
 use traced_patches::{Label, Reason, Traced};
 
+/// The lines of each patch, where an explanation is asked for. It fails only when out of memory.
+///
+/// They are the same over each base.
+pub fn write_explanation<A: Allocator, B: Allocator + Copy>(
+    out: &mut String<A>,
+    traced: &Traced<'_, B>,
+    explain: bool,
+) -> Result<(), AllocError>
+    ensures { OnOk result ((base : Disk) → string_bytes out.new
+        ≡ string_bytes out.old ++ explanation_text (when explain (explanation_by base traced.now))) }
+{
+    if explain {
+        write_patches(out, traced)?;
+    }
+    Ok(())
+}
+
 /// The lines of each patch: what it is, and for each earlier patch that it depends on one that says why.
-pub(crate) fn write_patches<A: Allocator, B: Allocator + Copy>(
+fn write_patches<A: Allocator, B: Allocator + Copy>(
     out: &mut String<A>,
     traced: &Traced<'_, B>,
 ) -> Result<(), AllocError>

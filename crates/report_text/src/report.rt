@@ -3,18 +3,16 @@
 ghost use Rattle.std.specs.Prelude.{◌≡◌, ◌++◌, [], ◌∷◌, map, string_bytes, IfOk, OnOk};
 ghost use Rattle.patch_sets.specs.Closed.{IsClosed};
 ghost use Rattle.crash_model.specs.Patches.{deps_of};
-ghost use Rattle.crash_model.specs.Explain.{explanation_text};
-ghost use Rattle.crash_model.specs.Lists.{when};
 ghost use Rattle.crash_model.specs.Summary.{told_fault_text};
 ghost use Rattle.crash_model.specs.Whole.{Body as WholeBody, text_report};
-ghost use Rattle.report_sections.specs.Bodies.{CanTell, TellsBody, AreOnBase, AreClosed, explanation_by, whole_of};
+ghost use Rattle.report_sections.specs.Bodies.{CanTell, TellsBody, AreOnBase, AreClosed, whole_of};
 ghost use Rattle.report_sections.specs.Sections.{section_of, IsSection};
 ghost use Rattle.report_sections.specs.declared.section.Section.{Section};
 ghost use Rattle.report_text.specs.TextReport.{WritesSections, WritesFaults};
 
 use crate::head::write_head;
 use crate::parts::write_together;
-use crate::patches::write_patches;
+use crate::patches::write_explanation;
 use crate::rules::write_rules;
 use crate::summary::write_told_fault;
 use crash_model::fault::FaultRow;
@@ -68,25 +66,11 @@ where
 {
     let patches = report.traced.graph().len();
     write_head(out, report.settings, patches, report.closed, report.failing)?;
-    write_explanation(out, report)?;
+    write_explanation(out, report.traced, report.settings.explain)?;
     match report.body {
         Body::Sets(sets) => write_together(out, rt, report, sets, workers)?,
         Body::Faults(rows) => write_faults(out, report, rows)?,
         Body::Rules(rules) => write_rules(out, patches, rules)?,
-    }
-    Ok(())
-}
-
-/// For each patch its lines, where that is asked for.
-fn write_explanation<A: Allocator + Copy>(
-    out: &mut String<A>,
-    report: &Report<'_, '_, '_, '_, A>,
-) -> Result<(), AllocError>
-    ensures { OnOk result (string_bytes out.new ≡ string_bytes out.old ++ explanation_text
-        (when report.now.settings.now.explain (explanation_by report.now.base.now report.now.traced.now))) }
-{
-    if report.settings.explain {
-        write_patches(out, report.traced)?;
     }
     Ok(())
 }

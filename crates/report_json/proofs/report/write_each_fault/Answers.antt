@@ -1,6 +1,7 @@
 use Rattle.std.proofs.Common.{get_or, refl, subst, sym, ◌∙◌}
 use Rattle.patch_sets.specs.Closed.{IsClosed}
 use Rattle.crash_model.specs.Patches.{deps_of}
+use Rattle.crash_model.specs.declared.fault.FaultRow.{FaultRow}
 use Rattle.section_maker.specs.Maker.{Reported}
 use Rattle.report_sections.specs.Sections.{IsSection}
 use Rattle.report_sections.proofs.Firsts.{no_row, first_closed}
@@ -12,7 +13,8 @@ write_fault-requires g c =
     let rows = c.args.rows.now in
     subst (λ (m : Reported). IsClosed (deps_of m.patches) (get_or rows c.loop-at.at no_row).first)
     (sym c.loop-at.invariant.maker)
-    (first_closed c.args.maker.now.patches rows c.loop-at.at c.requires.closed c.loop-at-test.true)
+    (first_closed (λ (row : FaultRow). row.first) c.args.maker.now.patches rows c.loop-at.at no_row c.requires.closed
+    c.loop-at-test.true)
 
 pub loop-at-preserved : goal.loop-at-preserved
 loop-at-preserved g c =

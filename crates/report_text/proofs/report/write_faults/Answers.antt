@@ -1,6 +1,7 @@
 use Rattle.std.proofs.Common.{◌≡◌, length, get_or, subst, sym, ◌∙◌}
 use Rattle.patch_sets.specs.Closed.{IsClosed}
 use Rattle.crash_model.specs.Patches.{deps_of}
+use Rattle.crash_model.specs.declared.fault.FaultRow.{FaultRow}
 use Rattle.section_maker.specs.Maker.{Reported}
 use Rattle.report_sections.specs.Sections.{IsSection}
 use Rattle.report_sections.proofs.Firsts.{no_row, first_closed}
@@ -12,7 +13,8 @@ write_fault-requires g c =
     let rows = c.args.rows.now in
     subst (λ (m : Reported). IsClosed (deps_of m.patches) (get_or rows c.loop-row.row-index no_row).first)
     (sym c.loop-row.invariant.of_report)
-    (first_closed c.args.report.now.traced.now.patches rows c.loop-row.row-index c.requires.closed c.loop-row-test.true)
+    (first_closed (λ (row : FaultRow). row.first) c.args.report.now.traced.now.patches rows c.loop-row.row-index no_row
+    c.requires.closed c.loop-row-test.true)
 
 pub loop-row-preserved : goal.loop-row-preserved
 loop-row-preserved g c =

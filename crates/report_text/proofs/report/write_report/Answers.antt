@@ -18,7 +18,7 @@ returns-in_ok-write_together-in-Sets g c =
       subst (λ b. TellsBody report.detail report.base.now patches b (whole.Sets wrote.sections)) (sym c.in-Sets.is)
           (wrote.sections, wrote.are, refl),
       whole_text report c.len-patches.result (whole.Sets wrote.sections) _ _ _ _ c.requires.empty number
-          c.in_ok-write_head.ensures c.in_ok-write_explanation.ensures wrote.whole,
+          c.in_ok-write_head.ensures (c.in_ok-write_explanation.ensures report.base.now) wrote.whole,
     )
 
 pub returns-in_ok-write_faults-in-Faults : goal.returns-in_ok-write_faults-in-Faults
@@ -31,7 +31,7 @@ returns-in_ok-write_faults-in-Faults g c =
       subst (λ b. TellsBody report.detail report.base.now patches b (whole.Faults wrote.told)) (sym c.in-Faults.is)
           (wrote.told, wrote.of_rows, wrote.firsts, refl),
       whole_text report c.len-patches.result (whole.Faults wrote.told) _ _ _ _ c.requires.empty number
-          c.in_ok-write_head.ensures c.in_ok-write_explanation.ensures wrote.whole,
+          c.in_ok-write_head.ensures (c.in_ok-write_explanation.ensures report.base.now) wrote.whole,
     )
 
 pub returns-in_ok-write_rules-in-Rules : goal.returns-in_ok-write_rules-in-Rules
@@ -45,7 +45,7 @@ returns-in_ok-write_rules-in-Rules g c =
       whole.Rules told,
       subst (λ b. TellsBody report.detail report.base.now patches b (whole.Rules told)) (sym c.in-Rules.is) refl,
       whole_text report c.len-patches.result (whole.Rules told) _ _ _ _ c.requires.empty number
-          c.in_ok-write_head.ensures c.in_ok-write_explanation.ensures
+          c.in_ok-write_head.ensures (c.in_ok-write_explanation.ensures report.base.now)
           (c.in_ok-write_rules-in-Rules.ensures ∙ (ap (λ (k : ℕ). before
           ++ flat_map (λ rule. told_rule_text k (told_rule rule)) rules) number
           ∙ ap (λ (t : List ℕ). before ++ t) (sym (flat_map-map (told_rule_text (length patches)) told_rule rules)))),
