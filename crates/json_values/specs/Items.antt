@@ -1,7 +1,14 @@
--- The items of an array, one at a time.
-use Rattle.std.specs.Prelude.{ℕ, zero, suc, List, [], codes}
+-- The items of an array, one at a time, and the last keys of an object.
+use Rattle.std.specs.Prelude.{ℕ, zero, suc, List, [], ◌++◌, codes}
+use Rattle.crash_model.specs.Report.{Section, ids_json, replay_json, writes_json}
 
 -- the comma before the item at a place
 abbrev pub comma_before : ℕ → List ℕ
 comma_before zero = []
 comma_before (suc n) = codes ","
+
+-- the last keys of an object that tell of a crash, and the object's end
+abbrev pub crash_json : ℕ → Section → List ℕ
+crash_json n s =
+    replay_json s.replay ++ codes "\"set\":" ++ ids_json n s.set ++ codes ",\"writes\":" ++ writes_json n s.writes
+    ++ codes "}"

@@ -104,8 +104,8 @@ impl KnownTexts {
         Ok(())
     }
 
-    /// Adds the text of a fault.
-    pub(crate) fn push_fault(&mut self, out: &mut String, fault: Fault) -> Result<(), AllocError>
+    /// Adds the text of a fault, in quotes. It fails only when out of memory.
+    pub fn push_fault(&mut self, out: &mut String, fault: Fault) -> Result<(), AllocError>
         ensures text { OnOk result (string_bytes out.new ≡ string_bytes out.old ++ fault_json fault) }
         ensures kept { self.new ≡ self.old }
     {

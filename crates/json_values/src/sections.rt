@@ -4,6 +4,7 @@ ghost use Rattle.std.specs.Prelude.{◌≡◌, ◌++◌, map, string_bytes, OnOk
 ghost use Rattle.crash_model.specs.Lists.{join_of};
 ghost use Rattle.crash_model.specs.Report.{ids_json, replay_json, section_json, write_json};
 ghost use Rattle.json_parts.specs.Values.{fault_json};
+ghost use Rattle.json_values.specs.Items.{crash_json};
 ghost use Rattle.report_sections.specs.Replay.{told_replay};
 ghost use Rattle.report_sections.specs.Sections.{section_of};
 
@@ -30,6 +31,20 @@ impl KnownTexts {
         out.push_str("{\"faults\":[")?;
         self.push_faults(out, &section.faults)?;
         out.push_str("],")?;
+        self.push_crash(out, section)
+    }
+
+    /// Adds the last keys of an object, which tell of a crash, and the object's end: what replay changes where that is
+    /// told, the ids of the set, and the block writes that lead to it. It fails only when out of memory.
+    pub fn push_crash<A: Allocator>(
+        &mut self,
+        out: &mut String,
+        section: &Section<A>,
+    ) -> Result<(), AllocError>
+        ensures text { OnOk result (string_bytes out.new
+            ≡ string_bytes out.old ++ crash_json self.old (section_of section.now)) }
+        ensures kept { self.new ≡ self.old }
+    {
         push_replay(out, &section.replay)?;
         out.push_str("\"set\":")?;
         push_set(out, self.patches(), section.set)?;

@@ -1,3 +1,4 @@
 pub mod Below
 pub mod JoinedParts
+pub mod Keys
 pub mod Reports

@@ -17,10 +17,10 @@ use Rattle.report_sections.specs.declared.section.Section as code
 use Rattle.report_sections.specs.Sections.{section_of, IsSection}
 use Rattle.report_sections.proofs.Joined.{rows_more, firsts_more}
 use Rattle.report_sections.proofs.Pushed.{sections_more, length-sections}
-use Rattle.report_json.specs.JsonReport.{WritesSections, WritesFaults, base_key, trace_key, module_key, strict_key}
-use Rattle.report_json.specs.JsonReport.{from_module}
+use Rattle.report_json.specs.JsonReport.{WritesSections, WritesFaults, module_key, strict_key, from_module, from_strict}
 use Rattle.json_values.specs.Items.{comma_before}
 use Rattle.json_values.proofs.Commas.{mapped_more}
+use Rattle.json_values.proofs.SectionPieces.{three_pieces}
 
 pub section_more : {A : Type 0} (detail : Detail) (base : Disk) (patches : List Patch) (sets : List ℕ) (i n : ℕ)
     (old so_far after text : List ℕ) (s : code.Section A) → i < length sets → n ≡ length patches
@@ -71,56 +71,16 @@ fault_more detail base patches rows i n d old so_far after text s within number 
 
 -- ---- the report around them
 
--- a key before the first, where patches are explained
-pub base_explained : {A : Type 0} (report : Report A) (explain : Bool) (first second : List ℕ) → explain ≡ true
-    → second ≡ first ++ base_key report.base.now → second ≡ first
-    ++ base_json (when explain (explanation_by report.base.now report.traced.now))
-base_explained report explain first second is more = more
-    ∙ ap (λ (e : Bool). first ++ base_json (when e (explanation_by report.base.now report.traced.now))) (sym is)
-
-pub base_unexplained : {A : Type 0} (report : Report A) (explain : Bool) (first second : List ℕ) → explain ≡ false
-    → second ≡ first → second ≡ first ++ base_json (when explain (explanation_by report.base.now report.traced.now))
-base_unexplained report explain first second is same = same
-    ∙ (sym (append-nil first) ∙ ap (λ (e : Bool). first ++ base_json
-    (when e (explanation_by report.base.now report.traced.now))) (sym is))
-
-pub trace_explained : {A : Type 0} (report : Report A) (explain : Bool) (first second : List ℕ) → explain ≡ true
-    → second ≡ first ++ trace_key report.traced.now → second ≡ first
-    ++ trace_json (when explain (explanation_by report.base.now report.traced.now))
-trace_explained report explain first second is more = more
-    ∙ ap (λ (e : Bool). first ++ trace_json (when e (explanation_by report.base.now report.traced.now))) (sym is)
-
-pub trace_unexplained : {A : Type 0} (report : Report A) (explain : Bool) (first second : List ℕ) → explain ≡ false
-    → second ≡ first → second ≡ first ++ trace_json (when explain (explanation_by report.base.now report.traced.now))
-trace_unexplained report explain first second is same = same
-    ∙ (sym (append-nil first) ∙ ap (λ (e : Bool). first ++ trace_json
-    (when e (explanation_by report.base.now report.traced.now))) (sym is))
-
 -- the keys from the module on, one behind another
-pub keys_from_module : {A : Type 0} (report : Report A) (n : ℕ) (body : Body)
-    (before one two three four five last : List ℕ) → n ≡ length report.traced.now.patches
+pub keys_from_module : {A : Type 0} (report : Report A) (n : ℕ) (body : Body) (before one two last : List ℕ)
+    → n ≡ length report.traced.now.patches
     → one ≡ before ++ module_key report.settings.now.module n
     → two ≡ one ++ late_json (length report.traced.now.patches) report.failing body
-    → three ≡ two ++ strict_key report.settings.now.strict
-    → four ≡ three ++ trace_json (when report.settings.now.explain (explanation_by report.base.now report.traced.now))
-    → five ≡ four ++ rules_json (codes "with") (told_with report.settings.now)
-    → last ≡ five ++ rules_json (codes "without") (told_without report.settings.now)
+    → last ≡ two ++ from_strict report.settings.now (explanation_by report.base.now report.traced.now)
     → last ≡ before ++ from_module report body
-keys_from_module report n body before one two three four five last number first second third fourth fifth sixth =
-    let late = late_json (length report.traced.now.patches) report.failing body in
-    let strict = strict_key report.settings.now.strict in
-    let trace = trace_json (when report.settings.now.explain (explanation_by report.base.now report.traced.now)) in
-    let with = rules_json (codes "with") (told_with report.settings.now) in
-    let without = rules_json (codes "without") (told_without report.settings.now) in
+keys_from_module report n body before one two last number first second third =
     let kind = report.settings.now.module in
-    let name = first ∙ ap (λ (k : ℕ). before ++ module_key kind k) number in
-    sixth ∙ (ap (λ (t : List ℕ). t ++ without) (fifth ∙ ap (λ (t : List ℕ). t ++ with)
-    (fourth ∙ ap (λ (t : List ℕ). t ++ trace) (third ∙ ap (λ (t : List ℕ). t ++ strict)
-    (second ∙ ap (λ (t : List ℕ). t ++ late) name))))
-    ∙ regroup before (module_key kind (length report.traced.now.patches)) late strict trace with without)
-  where
-    regroup : (a b c d e f g : List ℕ) → a ++ b ++ c ++ d ++ e ++ f ++ g ≡ a ++ (b ++ c ++ d ++ e ++ f ++ g)
-    regroup a b c d e f g = simp append_assoc
+    three_pieces before one two last _ _ _ (first ∙ ap (λ (k : ℕ). before ++ module_key kind k) number) second third
 
 -- the pieces of the whole, one behind another
 pub whole_text : {A : Type 0} (report : Report A) (body : Body) (empty one two three four five last : List ℕ)
@@ -152,6 +112,6 @@ whole_text report body empty one two three four five last none first second thir
     (rules_json (codes "without") (told_without report.settings.now)) (codes "}\n"))
   where
     regroup : (a b c d e f g h i j k l m n o p q : List ℕ)
-        → a ++ b ++ (c ++ d) ++ e ++ ((f ++ g) ++ h ++ (i ++ j) ++ k ++ l ++ m ++ n ++ o ++ p) ++ q
+        → a ++ b ++ (c ++ d) ++ e ++ ((f ++ g) ++ h ++ (i ++ j) ++ k ++ l ++ (m ++ n ++ o ++ p)) ++ q
         ≡ a ++ b ++ c ++ d ++ e ++ f ++ (g ++ h ++ i) ++ j ++ k ++ l ++ m ++ n ++ o ++ p ++ q
     regroup a b c d e f g h i j k l m n o p q = simp append_assoc

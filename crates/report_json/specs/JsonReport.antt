@@ -2,7 +2,7 @@
 use Rattle.std.specs.Prelude.{◌≡◌, ℕ, List, [], ◌++◌, length, map, if◌then◌else◌, Bool, codes, decimal}
 use Rattle.crash_model.specs.Lists.{join_of, when}
 use Rattle.crash_model.specs.Disk.{Disk}
-use Rattle.crash_model.specs.Explain.{blocks_of, hex_json, told_patches, told_json, trace_json}
+use Rattle.crash_model.specs.Explain.{Explanation, blocks_of, hex_json, told_patches, told_json, trace_json}
 use Rattle.crash_model.specs.Report.{Section, AreSections, json_array, module_text, section_json}
 use Rattle.crash_model.specs.Summary.{ToldFault, told_fault_json}
 use Rattle.crash_model.specs.Needs.{told_rule_json}
@@ -12,6 +12,7 @@ use Rattle.crash_model.specs.declared.fault.FaultRow.{FaultRow}
 use Rattle.crash_model.specs.declared.patches.Patch.{Patch}
 use Rattle.crash_model.specs.declared.settings.Detail.{Detail}
 use Rattle.crash_model.specs.declared.modules.Module.{Module}
+use Rattle.crash_model.specs.declared.settings.Settings.{Settings}
 use Rattle.traced_patches.specs.Traced.{TracedPatches}
 use Rattle.report_sections.specs.Bodies.{TellsBody, explanation_by}
 use Rattle.report_sections.specs.ToldRules.{told_rule}
@@ -33,6 +34,14 @@ module_key kind patches = codes ",\"module\":\"" ++ module_text kind ++ codes "\
 abbrev pub strict_key : Bool → List ℕ
 strict_key strict = if strict then codes ",\"strict\":true" else []
 
+-- the keys from `strict` on, where this explains the patches
+abbrev pub from_strict : Settings → Explanation → List ℕ
+from_strict settings explanation =
+    strict_key settings.strict
+    ++ trace_json (when settings.explain explanation)
+    ++ rules_json (codes "with") (told_with settings)
+    ++ rules_json (codes "without") (told_without settings)
+
 -- behind what stood there the text has the body's key before `module`
 abbrev pub WritesEarly : {A : Type 0} → Report A → List ℕ → List ℕ → Type 0
 WritesEarly report old new =
@@ -50,10 +59,7 @@ abbrev pub from_module : {A : Type 0} → Report A → whole.Body → List ℕ
 from_module report body =
     module_key report.settings.now.module (length report.traced.now.patches)
     ++ late_json (length report.traced.now.patches) report.failing body
-    ++ strict_key report.settings.now.strict
-    ++ trace_json (when report.settings.now.explain (explanation_by report.base.now report.traced.now))
-    ++ rules_json (codes "with") (told_with report.settings.now)
-    ++ rules_json (codes "without") (told_without report.settings.now)
+    ++ from_strict report.settings.now (explanation_by report.base.now report.traced.now)
 
 -- behind what stood there the text has those
 abbrev pub WritesFromModule : {A : Type 0} → Report A → List ℕ → List ℕ → Type 0

@@ -1,19 +1,78 @@
 //! The keys that every report has.
 
 ghost use Rattle.std.specs.Prelude.{◌≡◌, ◌++◌, map, string_bytes, OnOk};
-ghost use Rattle.crash_model.specs.Lists.{join_of};
+ghost use Rattle.crash_model.specs.Disk.{Disk};
+ghost use Rattle.crash_model.specs.Explain.{base_json, trace_json};
+ghost use Rattle.crash_model.specs.Lists.{join_of, when};
 ghost use Rattle.crash_model.specs.Report.{json_string};
 ghost use Rattle.crash_model.specs.Rules.{rule_text};
 ghost use Rattle.crash_model.specs.Whole.{rules_json};
-ghost use Rattle.report_json.specs.JsonReport.{module_key, strict_key};
+ghost use Rattle.traced_patches.specs.Traced.{TracedPatches};
+ghost use Rattle.report_sections.specs.Bodies.{explanation_by};
+ghost use Rattle.report_json.specs.JsonReport.{module_key, strict_key, from_strict};
 
+use crate::patches::{write_base, write_trace};
 use crash_model::modules::Module;
 use crash_model::rules::Rule;
+use crash_model::settings::Settings;
+use disk_image::Image;
 use json_values::write_comma;
-use std::alloc::AllocError;
+use std::alloc::{AllocError, Allocator};
+use traced_patches::Traced;
 
-/// The module and the number of patches.
-pub(crate) fn write_module(
+/// The key of the base with a comma behind it, where an explanation is asked for. It fails only when out of memory.
+///
+/// It is the same whatever the patches are.
+pub fn write_explained_base<A: Allocator + Copy>(
+    out: &mut String,
+    base: &Image<A>,
+    explain: bool,
+) -> Result<(), AllocError>
+    ensures { OnOk result ((traced : TracedPatches) → string_bytes out.new
+        ≡ string_bytes out.old ++ base_json (when explain (explanation_by base.now traced))) }
+{
+    if explain {
+        write_base(out, base)?;
+    }
+    Ok(())
+}
+
+/// The keys from `strict` on: that the run is strict, the patches where an explanation is asked for, and the rules that
+/// are put in and taken out. It fails only when out of memory.
+///
+/// They are the same over each base.
+pub fn write_from_strict<A: Allocator + Copy>(
+    out: &mut String,
+    settings: &Settings,
+    traced: &Traced<'_, A>,
+) -> Result<(), AllocError>
+    ensures { OnOk result ((base : Disk) → string_bytes out.new
+        ≡ string_bytes out.old ++ from_strict settings.now (explanation_by base traced.now)) }
+{
+    write_strict_key(out, settings.strict)?;
+    write_explained_trace(out, traced, settings.explain)?;
+    write_rule_key(out, "with", settings.put_in().as_slice())?;
+    write_rule_key(out, "without", settings.taken_out().as_slice())?;
+    Ok(())
+}
+
+/// The key of the patches with a comma before it, where an explanation is asked for.
+fn write_explained_trace<A: Allocator + Copy>(
+    out: &mut String,
+    traced: &Traced<'_, A>,
+    explain: bool,
+) -> Result<(), AllocError>
+    ensures { OnOk result ((base : Disk) → string_bytes out.new
+        ≡ string_bytes out.old ++ trace_json (when explain (explanation_by base traced.now))) }
+{
+    if explain {
+        write_trace(out, traced)?;
+    }
+    Ok(())
+}
+
+/// The module and the number of patches, with a comma before them. It fails only when out of memory.
+pub fn write_module(
     out: &mut String,
     module: Module,
     patches: usize,
@@ -28,7 +87,7 @@ pub(crate) fn write_module(
 }
 
 /// The key of a strict run.
-pub(crate) fn write_strict_key(out: &mut String, strict: bool) -> Result<(), AllocError>
+fn write_strict_key(out: &mut String, strict: bool) -> Result<(), AllocError>
     ensures { OnOk result (string_bytes out.new ≡ string_bytes out.old ++ strict_key strict) }
 {
     if strict {
@@ -38,7 +97,7 @@ pub(crate) fn write_strict_key(out: &mut String, strict: bool) -> Result<(), All
 }
 
 /// The key with the texts of the rules, where there are any.
-pub(crate) fn write_rule_key(out: &mut String, key: &str, rules: &[Rule]) -> Result<(), AllocError>
+fn write_rule_key(out: &mut String, key: &str, rules: &[Rule]) -> Result<(), AllocError>
     ensures { OnOk result (string_bytes out.new ≡ string_bytes out.old ++ rules_json key.now rules.now) }
 {
     if rules.is_empty() {

@@ -6,4 +6,5 @@ mod parts;
 mod patches;
 pub mod report;
 
+pub use head::{write_explained_base, write_from_strict, write_module};
 pub use report::report_json;

@@ -3,21 +3,18 @@
 ghost use Rattle.std.specs.Prelude.{◌≡◌, ◌++◌, [], length, map, string_bytes, IfOk, OnOk};
 ghost use Rattle.patch_sets.specs.Closed.{IsClosed};
 ghost use Rattle.crash_model.specs.Patches.{deps_of};
-ghost use Rattle.crash_model.specs.Explain.{base_json, trace_json};
-ghost use Rattle.crash_model.specs.Lists.{when};
 ghost use Rattle.crash_model.specs.Report.{section_json};
 ghost use Rattle.crash_model.specs.Summary.{told_fault_json};
 ghost use Rattle.crash_model.specs.Whole.{Body as WholeBody, json_report};
-ghost use Rattle.report_sections.specs.Bodies.{CanTell, TellsBody, AreOnBase, AreClosed, explanation_by, whole_of};
+ghost use Rattle.report_sections.specs.Bodies.{CanTell, TellsBody, AreOnBase, AreClosed, whole_of};
 ghost use Rattle.report_sections.specs.Sections.{section_of, IsSection};
 ghost use Rattle.report_sections.specs.declared.section.Section.{Section};
 ghost use Rattle.json_values.specs.Items.{comma_before};
 ghost use Rattle.report_json.specs.JsonReport.{WritesEarly, WritesLate, WritesFromModule};
 ghost use Rattle.report_json.specs.JsonReport.{WritesSections, WritesFaults, WritesRules};
 
-use crate::head::{write_module, write_rule_key, write_strict_key};
+use crate::head::{write_explained_base, write_from_strict, write_module};
 use crate::parts::write_together;
-use crate::patches::{write_base, write_trace};
 use crash_model::fault::FaultRow;
 use json_values::{KnownTexts, told_fault_value, told_rule_value, write_comma, write_item};
 use report_sections::{Body, Report, ToldRule};
@@ -70,7 +67,7 @@ where
         × (string_bytes out.new ≡ json_report report.now.settings.now (whole_of report.now body))) }
 {
     out.push_str("{")?;
-    write_explained_base(out, report)?;
+    write_explained_base(out, report.base, report.settings.explain)?;
     let closed = report.closed;
     write!(out, "\"closed\":{closed}")?;
     write_early(out, rt, alloc, report, workers)?;
@@ -89,39 +86,7 @@ fn write_from_module<A: Allocator + Copy>(
     let settings = report.settings;
     write_module(out, settings.module, report.traced.graph().len())?;
     write_late(out, report)?;
-    write_strict_key(out, settings.strict)?;
-    write_explained_trace(out, report)?;
-    write_rule_key(out, "with", settings.put_in().as_slice())?;
-    write_rule_key(out, "without", settings.taken_out().as_slice())?;
-    Ok(())
-}
-
-/// The key of the base, where an explanation is asked for.
-fn write_explained_base<A: Allocator + Copy>(
-    out: &mut String,
-    report: &Report<'_, '_, '_, '_, A>,
-) -> Result<(), AllocError>
-    ensures { OnOk result (string_bytes out.new ≡ string_bytes out.old ++ base_json
-        (when report.now.settings.now.explain (explanation_by report.now.base.now report.now.traced.now))) }
-{
-    if report.settings.explain {
-        write_base(out, report.base)?;
-    }
-    Ok(())
-}
-
-/// The key of the patches, where an explanation is asked for.
-fn write_explained_trace<A: Allocator + Copy>(
-    out: &mut String,
-    report: &Report<'_, '_, '_, '_, A>,
-) -> Result<(), AllocError>
-    ensures { OnOk result (string_bytes out.new ≡ string_bytes out.old ++ trace_json
-        (when report.now.settings.now.explain (explanation_by report.now.base.now report.now.traced.now))) }
-{
-    if report.settings.explain {
-        write_trace(out, report.traced)?;
-    }
-    Ok(())
+    write_from_strict(out, settings, report.traced)
 }
 
 /// The body's key before `module`.

@@ -1,21 +1,20 @@
-use Rattle.std.proofs.Common.{◌≡◌, ◌++◌, length, codes, string_bytes, ap, ◌∙◌}
-use Rattle.crash_model.specs.Whole.{rules_json, told_with, told_without}
+use Rattle.std.proofs.Common.{◌≡◌, ◌++◌, length, string_bytes}
+use Rattle.std.proofs.lemmas.Result.{on_ok_weaker}
+use Rattle.crash_model.specs.Disk.{Disk}
+use Rattle.report_sections.specs.Bodies.{explanation_by}
+use Rattle.report_json.specs.JsonReport.{WritesFromModule, from_strict}
 use Rattle.report_json.proofs.Reports.{keys_from_module}
 use Rattle.report_json.proofs.report.write_from_module.Goals as goal
 
 pub returns : goal.returns
-returns g c = λ body tells.
+returns g c =
     let report = c.args.report.now in
     let number : c.len.result ≡ length report.traced.now.patches = cc in
-    let traced = string_bytes c.write_explained_trace.new.out in
-    let with : string_bytes c.write_rule_key.new.out ≡ traced ++ rules_json (codes "with")
-    (told_with report.settings.now) =
-    c.in_ok-write_rule_key.ensures ∙ ap (λ rs. traced ++ rules_json (codes "with") rs)
-    (c.as_slice.ensures.value ∙ c.put_in.ensures) in
-    let without : string_bytes c.write_rule_key-2.new.out ≡ string_bytes c.write_rule_key.new.out
-    ++ rules_json (codes "without") (told_without report.settings.now) =
-    c.in_ok-write_rule_key-2.ensures ∙ ap (λ rs. string_bytes c.write_rule_key.new.out ++ rules_json (codes "without")
-    rs) (c.as_slice-2.ensures.value ∙ c.taken_out.ensures) in
-    keys_from_module report c.len.result body (string_bytes c.args.out.now) _ _ _ _ _ _ number
-    c.in_ok-write_module.ensures (c.in_ok-write_late.ensures body tells) c.in_ok-write_strict_key.ensures
-    c.in_ok-write_explained_trace.ensures with without
+    let late = string_bytes c.write_late.new.out in
+    let after = string_bytes c.write_from_strict.new.out in
+    on_ok_weaker {P = (base : Disk) → after ≡ late ++ from_strict report.settings.now
+    (explanation_by base report.traced.now)}
+    {Q = WritesFromModule report (string_bytes c.args.out.now) after}
+    c.write_from_strict.result
+    (λ wrote body tells. keys_from_module report c.len.result body _ _ _ _ number c.in_ok-write_module.ensures
+    (c.in_ok-write_late.ensures body tells) (wrote report.base.now)) c.write_from_strict.ensures

@@ -1,33 +1,26 @@
 use Rattle.std.proofs.Common.{◌≡◌, ◌++◌, ℕ, List, map, string_bytes, ap, ◌∙◌}
+use Rattle.std.proofs.lemmas.Result.{on_ok_weaker}
 use Rattle.crash_model.specs.Lists.{join_of}
-use Rattle.crash_model.specs.Report.{ids_json, write_json}
-use Rattle.patch_sets.specs.declared.write.BlockWrite.{BlockWrite}
+use Rattle.crash_model.specs.Report.{section_json}
 use Rattle.crash_model.specs.declared.fault.Fault.{Fault}
 use Rattle.report_sections.specs.Sections.{section_of}
 use Rattle.json_parts.specs.Values.{fault_json}
+use Rattle.json_values.specs.Items.{crash_json}
 use Rattle.json_values.proofs.SectionPieces.{section_pieces}
 use Rattle.json_values.proofs.known.KnownTexts.push_section.Goals as goal
 
 pub returns-clause-text : goal.returns-clause-text
 returns-clause-text g c =
     let patches = c.args.self.now in
-    let s = c.args.section.now in
+    let s = section_of c.args.section.now in
     let faults = ap (λ (fs : List Fault). string_bytes c.push_str.new.self ++ join_of 44 (map fault_json fs))
     c.deref.ensures.value in
     let same : c.push_faults.new.self ≡ patches = c.in_ok-push_faults.ensures.kept in
-    let ids = ap (λ (n : ℕ). string_bytes c.push_str-3.new.self ++ ids_json n s.set) (c.patches.ensures ∙ same) in
-    let writes = ap (λ (n : ℕ). string_bytes c.push_str-4.new.self
-    ++ join_of 44 (map (write_json n) c.deref-2.result.now)) same
-    ∙ ap (λ (ws : List BlockWrite). string_bytes c.push_str-4.new.self ++ join_of 44 (map (write_json patches) ws))
-    c.deref-2.ensures.value in
-    section_pieces patches (section_of s) (string_bytes c.args.out.now)
-    _ _ _ _ _ _ _ _ (string_bytes c.push_str-5.new.self)
-    c.in_ok-push_str.ensures.bytes
-    (c.in_ok-push_faults.ensures.text ∙ faults)
-    c.in_ok-push_str-2.ensures.bytes
-    c.in_ok-push_replay.ensures
-    c.in_ok-push_str-3.ensures.bytes
-    (c.in_ok-push_set.ensures ∙ ids)
-    c.in_ok-push_str-4.ensures.bytes
-    (c.in_ok-push_writes.ensures.text ∙ writes)
-    c.in_ok-push_str-5.ensures.bytes
+    let crash = ap (λ (n : ℕ). string_bytes c.push_str-2.new.self ++ crash_json n s) same in
+    on_ok_weaker {P = string_bytes c.push_crash.new.out ≡ string_bytes c.push_str-2.new.self
+    ++ crash_json c.push_faults.new.self s}
+    {Q = string_bytes c.push_crash.new.out ≡ string_bytes c.args.out.now ++ section_json patches s}
+    c.push_crash.result
+    (λ wrote. section_pieces patches s (string_bytes c.args.out.now) _ _ _ _ c.in_ok-push_str.ensures.bytes
+    (c.in_ok-push_faults.ensures.text ∙ faults) c.in_ok-push_str-2.ensures.bytes (wrote ∙ crash))
+    c.push_crash.ensures.text

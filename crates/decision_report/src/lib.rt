@@ -1,0 +1,12 @@
+//! Reports of decisions, as text and as JSON.
+#![tactic(auto)]
+
+pub mod decision;
+pub mod json;
+pub mod report;
+pub mod text;
+
+pub use decision::Decision;
+pub use json::decision_json;
+pub use report::decision_report;
+pub use text::decision_text;

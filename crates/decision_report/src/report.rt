@@ -1,0 +1,30 @@
+//! Reports in the form that the settings ask for.
+
+ghost use Rattle.std.specs.Prelude.{string_bytes, IfOk};
+ghost use Rattle.decision_model.specs.Decision.{decision_bytes};
+ghost use Rattle.decision_report.specs.Written.{CanReport, WritesDecision};
+
+use crate::decision::Decision;
+use crate::json::decision_json;
+use crate::text::decision_text;
+use std::alloc::{AllocError, Allocator, Global};
+
+/// A decision as text, or as JSON where the settings ask for that.
+///
+/// The patches change blocks of the base, and a crash can leave each of the first sets. JSON takes its memory from
+/// `heap`, and all else from `alloc`. It fails only when out of memory.
+pub fn decision_report<A: Allocator + Copy>(
+    heap: Global,
+    alloc: A,
+    decision: &Decision<'_, '_, '_, A>,
+) -> Result<String<A>, AllocError>
+    requires { CanReport decision.now }
+    ensures { IfOk result (λ text. WritesDecision decision_bytes decision.now (string_bytes text)) }
+{
+    if decision.settings.json {
+        let text = decision_json(heap, alloc, decision)?;
+        String::from_str(alloc, text.as_str())
+    } else {
+        decision_text(alloc, decision)
+    }
+}

@@ -1,0 +1,86 @@
+//! Decisions as text.
+
+ghost use Rattle.std.specs.Prelude.{◌≡◌, ◌++◌, flat_map, length, string_bytes, IfOk, OnOk};
+ghost use Rattle.patch_sets.specs.Closed.{IsClosed};
+ghost use Rattle.crash_model.specs.Patches.{deps_of};
+ghost use Rattle.decision_model.specs.Decision.{decided_text, text_decision};
+ghost use Rattle.report_sections.specs.Sections.{section_of, IsSection};
+ghost use Rattle.report_sections.specs.declared.section.Section.{Section};
+ghost use Rattle.decision_report.specs.Written.{CanReport, WritesDecision, WritesFaults, head_lines};
+
+use crate::decision::Decision;
+use decision_model::DecidedFault;
+use report_text::{write_explanation, write_ordering};
+use section_lines::lines::write_crash;
+use section_maker::SectionMaker;
+use std::alloc::{AllocError, Allocator};
+
+/// A decision as text: the lines of the ordering, the numbers of patches and of closed sets, for each patch its lines
+/// where that is asked for, and for each fault its line with those of the smallest crash that leaves it.
+///
+/// The patches change blocks of the base, and a crash can leave each of the first sets. It fails only when out of
+/// memory.
+pub fn decision_text<A: Allocator + Copy>(
+    alloc: A,
+    decision: &Decision<'_, '_, '_, A>,
+) -> Result<String<A>, AllocError>
+    requires { CanReport decision.now }
+    ensures { IfOk result (λ text. WritesDecision text_decision decision.now (string_bytes text)) }
+{
+    let mut out = String::new(alloc);
+    write_head(&mut out, decision)?;
+    write_faults(&mut out, decision)?;
+    Ok(out)
+}
+
+/// The lines before the first fault.
+fn write_head<A: Allocator + Copy>(
+    out: &mut String<A>,
+    decision: &Decision<'_, '_, '_, A>,
+) -> Result<(), AllocError>
+    ensures { OnOk result (string_bytes out.new ≡ string_bytes out.old ++ head_lines decision.now) }
+{
+    write_ordering(out, decision.settings)?;
+    let (patches, closed) = (decision.traced.graph().len(), decision.closed);
+    write!(out, "patches {patches}\nclosed {closed}\n")?;
+    write_explanation(out, decision.traced, decision.settings.explain)
+}
+
+/// The lines of each of the faults, with the first set that has it.
+fn write_faults<A: Allocator + Copy>(
+    out: &mut String<A>,
+    decision: &Decision<'_, '_, '_, A>,
+) -> Result<(), AllocError>
+    requires { CanReport decision.now }
+    ensures { OnOk result (WritesFaults decision.now.detail decision.now.base.now decision.now.traced.now.patches
+        decision.now.faults.now (flat_map (decided_text (length decision.now.traced.now.patches)))
+        (string_bytes out.old) (string_bytes out.new)) }
+{
+    let graph = decision.traced.graph();
+    let mut maker = SectionMaker::new(*out.allocator(), decision.base, graph, decision.detail)?;
+    for decided in decision.faults {
+        write_fault(out, &mut maker, graph.len(), *decided)?;
+    }
+    Ok(())
+}
+
+/// The line of a fault, and those of the first set that has it. The graph has `patches` patches.
+fn write_fault<A: Allocator + Copy>(
+    out: &mut String<A>,
+    maker: &mut SectionMaker<'_, A>,
+    patches: usize,
+    decided: DecidedFault,
+) -> Result<(), AllocError>
+    requires { IsClosed (deps_of maker.old.patches) decided.first }
+    ensures told { OnOk result ((section : Section A)
+        × IsSection maker.old.detail maker.old.base maker.old.patches decided.first section
+        × (string_bytes out.new ≡ string_bytes out.old
+        ++ decided_text patches (record { decided = decided; first = section_of section }))) }
+    ensures maker { maker.new ≡ maker.old }
+{
+    let section = maker.section(decided.first)?;
+    let fault = decided.fault;
+    write!(out, "fault {fault}\n")?;
+    write_crash(out, patches, &section)?;
+    Ok(())
+}
