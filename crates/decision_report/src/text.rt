@@ -43,7 +43,8 @@ fn write_head<A: Allocator + Copy>(
     write_ordering(out, decision.settings)?;
     let (patches, closed) = (decision.traced.graph().len(), decision.closed);
     write!(out, "patches {patches}\nclosed {closed}\n")?;
-    write_explanation(out, decision.traced, decision.settings.explain)
+    write_explanation(out, decision.traced, decision.settings.explain)?;
+    Ok(())
 }
 
 /// The lines of each of the faults, with the first set that has it.

@@ -32,7 +32,7 @@ use Rattle.section_lines.specs.Runs.{WritesRuns}
 use Rattle.report_text.proofs.JoinedParts.{sections_after}
 
 -- one item's text more
-item_more : {X : Type 0} (form : X → List ℕ) (items : List X) (item : X) (head text after : List ℕ)
+pub item_more : {X : Type 0} (form : X → List ℕ) (items : List X) (item : X) (head text after : List ℕ)
     → text ≡ head ++ flat_map form items → after ≡ text ++ form item
     → after ≡ head ++ flat_map form (items ++ item ∷ [])
 item_more form items item head text after so_far more =

@@ -1,0 +1,86 @@
+-- A decision, written piece by piece.
+use Rattle.std.proofs.Common.{◌≡◌, ℕ, List, [], ◌++◌, length, codes, decimal, sym, ap, ◌∙◌, append_assoc}
+use Rattle.std.specs.List.{flat_map}
+use Rattle.crash_model.specs.Explain.{base_json, trace_json}
+use Rattle.crash_model.specs.Lists.{when}
+use Rattle.crash_model.specs.Report.{Section, fault_text, ids_json, json_string, module_text, replay_json, writes_json}
+use Rattle.crash_model.specs.Whole.{rules_json, told_with, told_without}
+use Rattle.decision_model.specs.Decision.{ToldDecided, decided_text, decided_json, text_decision, json_decision}
+use Rattle.decision_model.specs.declared.decided_fault.DecidedFault.{DecidedFault}
+use Rattle.json_values.specs.Items.{comma_before, crash_json}
+use Rattle.report_json.specs.JsonReport.{module_key, strict_key, from_strict}
+use Rattle.report_sections.specs.Bodies.{explanation_by}
+use Rattle.decision_report.specs.declared.decision.Decision.{Decision}
+use Rattle.decision_report.specs.Written.{decision_of, fault_items, head_lines}
+
+-- the lines of the head and those of the faults
+pub text_pieces : {A : Type 0} (decision : Decision A) (told : List ToldDecided) (empty head last : List ℕ) → empty ≡ []
+    → head ≡ empty ++ head_lines decision
+    → last ≡ head ++ flat_map (decided_text (length decision.traced.now.patches)) told
+    → last ≡ text_decision decision.settings.now (decision_of decision told)
+unfolding text_decision
+text_pieces decision told empty head last none first second =
+    second ∙ ap (λ (t : List ℕ). t ++ flat_map (decided_text (length decision.traced.now.patches)) told)
+    (first ∙ ap (λ (t : List ℕ). t ++ head_lines decision) none)
+
+-- the object of a fault
+pub fault_pieces : (n at : ℕ) (decided : DecidedFault) (s : Section) (before one two three four after : List ℕ)
+    → one ≡ before ++ comma_before at
+    → two ≡ one ++ codes "{\"fault\":"
+    → three ≡ two ++ json_string (fault_text decided.fault)
+    → four ≡ three ++ codes ","
+    → after ≡ four ++ crash_json n s
+    → after ≡ before ++ comma_before at ++ decided_json n (record { decided = decided; first = s })
+fault_pieces n at decided s before one two three four after first second third fourth fifth =
+    let fault = json_string (fault_text decided.fault) in
+    fifth ∙ (ap (λ (t : List ℕ). t ++ crash_json n s) (fourth ∙ ap (λ (t : List ℕ). t ++ codes ",")
+    (third ∙ ap (λ (t : List ℕ). t ++ fault) (second ∙ ap (λ (t : List ℕ). t ++ codes "{\"fault\":") first)))
+    ∙ regroup (before ++ comma_before at) (codes "{\"fault\":") fault (codes ",") (replay_json s.replay)
+    (codes "\"set\":") (ids_json n s.set) (codes ",\"writes\":") (writes_json n s.writes) (codes "}"))
+  where
+    regroup : (before a b c d e f g h i : List ℕ) → before ++ a ++ b ++ c ++ (d ++ e ++ f ++ g ++ h ++ i)
+        ≡ before ++ (a ++ b ++ c ++ d ++ e ++ f ++ g ++ h ++ i)
+    regroup before a b c d e f g h i = simp append_assoc
+
+-- the keys of the whole
+pub json_pieces : {A : Type 0} (decision : Decision A) (n : ℕ) (told : List ToldDecided)
+    (empty one two three four five six seven last : List ℕ) → n ≡ length decision.traced.now.patches → empty ≡ []
+    → one ≡ empty ++ codes "{"
+    → two ≡ one ++ base_json (when decision.settings.now.explain
+    (explanation_by decision.base.now decision.traced.now))
+    → three ≡ two ++ (codes "\"closed\":\"" ++ decimal decision.closed ++ codes "\",\"faults\":[")
+    → four ≡ three ++ fault_items (length decision.traced.now.patches) told
+    → five ≡ four ++ codes "]"
+    → six ≡ five ++ module_key decision.settings.now.module n
+    → seven ≡ six ++ from_strict decision.settings.now (explanation_by decision.base.now decision.traced.now)
+    → last ≡ seven ++ codes "}\n"
+    → last ≡ json_decision decision.settings.now (decision_of decision told)
+unfolding json_decision
+json_pieces decision n told empty one two three four five six seven last number none first second third fourth fifth
+    sixth seventh eighth =
+    let settings = decision.settings.now in
+    let patches = length decision.traced.now.patches in
+    let explained = explanation_by decision.base.now decision.traced.now in
+    let base = base_json (when settings.explain explained) in
+    let closed = codes "\"closed\":\"" ++ decimal decision.closed ++ codes "\",\"faults\":[" in
+    let items = fault_items patches told in
+    let key = module_key settings.module in
+    let rest = from_strict settings explained in
+    let start : three ≡ codes "{" ++ base ++ closed = third ∙ ap (λ (t : List ℕ). t ++ closed)
+    (second ∙ ap (λ (t : List ℕ). t ++ base) (first ∙ ap (λ (t : List ℕ). t ++ codes "{") none)) in
+    let end : last ≡ three ++ items ++ codes "]" ++ key patches ++ rest ++ codes "}\n" = eighth
+    ∙ ap (λ (t : List ℕ). t ++ codes "}\n") (seventh ∙ ap (λ (t : List ℕ). t ++ rest)
+    (sixth ∙ (ap (λ (k : ℕ). five ++ key k) number ∙ ap (λ (t : List ℕ). t ++ key patches)
+    (fifth ∙ ap (λ (t : List ℕ). t ++ codes "]") fourth)))) in
+    end ∙ (ap (λ (t : List ℕ). t ++ items ++ codes "]" ++ key patches ++ rest ++ codes "}\n") start
+    ∙ regroup (codes "{") base (codes "\"closed\":") (codes "\"") (decimal decision.closed) (codes ",\"faults\":")
+    (codes "[") items (codes "]") (codes ",\"module\":") (module_text settings.module) (codes ",\"patches\":")
+    (decimal patches) (strict_key settings.strict) (trace_json (when settings.explain explained))
+    (rules_json (codes "with") (told_with settings)) (rules_json (codes "without") (told_without settings))
+    (codes "}\n"))
+  where
+    regroup : (a b c d e f g h i j k l m n o p q r : List ℕ)
+        → a ++ b ++ ((c ++ d) ++ e ++ (d ++ f ++ g)) ++ h ++ i ++ ((j ++ d) ++ k ++ (d ++ l) ++ m) ++ (n ++ o ++ p ++ q)
+        ++ r
+        ≡ a ++ b ++ c ++ (d ++ e ++ d) ++ f ++ (g ++ h ++ i) ++ j ++ (d ++ k ++ d) ++ l ++ m ++ n ++ o ++ p ++ q ++ r
+    regroup a b c d e f g h i j k l m n o p q r = simp append_assoc
