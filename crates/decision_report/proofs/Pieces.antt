@@ -1,17 +1,67 @@
 -- A decision, written piece by piece.
-use Rattle.std.proofs.Common.{◌≡◌, ℕ, List, [], ◌++◌, length, codes, decimal, sym, ap, ◌∙◌, append_assoc}
+use Rattle.std.proofs.Common.{◌≡◌, ℕ, List, [], ◌++◌, length, codes, decimal, Bool, true, false, sym, ap, ◌∙◌}
+use Rattle.std.proofs.Common.{append_assoc}
+use Rattle.std.specs.Prelude.{if◌then◌else◌}
 use Rattle.std.specs.List.{flat_map}
-use Rattle.crash_model.specs.Explain.{base_json, trace_json}
+use Rattle.crash_model.specs.Explain.{base_json, trace_json, explanation_text}
 use Rattle.crash_model.specs.Lists.{when}
 use Rattle.crash_model.specs.Report.{Section, fault_text, ids_json, json_string, module_text, replay_json, writes_json}
 use Rattle.crash_model.specs.Whole.{rules_json, told_with, told_without}
 use Rattle.decision_model.specs.Decision.{ToldDecided, decided_text, decided_json, text_decision, json_decision}
+use Rattle.decision_model.specs.Decision.{decision_bytes, ordering_text}
 use Rattle.decision_model.specs.declared.decided_fault.DecidedFault.{DecidedFault}
 use Rattle.json_values.specs.Items.{comma_before, crash_json}
 use Rattle.report_json.specs.JsonReport.{module_key, strict_key, from_strict}
 use Rattle.report_sections.specs.Bodies.{explanation_by}
 use Rattle.decision_report.specs.declared.decision.Decision.{Decision}
-use Rattle.decision_report.specs.Written.{decision_of, fault_items, head_lines}
+use Rattle.decision_report.specs.Written.{WritesDecision, decision_of, fault_items, head_lines}
+
+-- the bytes of a decision in JSON or in text
+abbrev in_form : {A : Type 0} → Decision A → List ToldDecided → Bool → List ℕ
+in_form decision told json =
+    let whole = decision_of decision told in
+    if json then json_decision decision.settings.now whole else text_decision decision.settings.now whole
+
+-- a decision in one form, where the settings ask for that
+pub as_json : {A : Type 0} (decision : Decision A) (text : List ℕ) → decision.settings.now.json ≡ true
+    → WritesDecision json_decision decision text → WritesDecision decision_bytes decision text
+as_json decision text is wrote = record {
+  told = wrote.told;
+  of_faults = wrote.of_faults;
+  firsts = wrote.firsts;
+  whole = wrote.whole ∙ ap (in_form decision wrote.told) (sym is);
+}
+
+pub as_text : {A : Type 0} (decision : Decision A) (text : List ℕ) → decision.settings.now.json ≡ false
+    → WritesDecision text_decision decision text → WritesDecision decision_bytes decision text
+as_text decision text is wrote = record {
+  told = wrote.told;
+  of_faults = wrote.of_faults;
+  firsts = wrote.firsts;
+  whole = wrote.whole ∙ ap (in_form decision wrote.told) (sym is);
+}
+
+-- the lines of the head
+pub head_pieces : {A : Type 0} (decision : Decision A) (n : ℕ) (before one two after : List ℕ)
+    → n ≡ length decision.traced.now.patches → one ≡ before ++ ordering_text decision.settings.now
+    → two ≡ one ++ (codes "patches " ++ decimal n ++ codes "\nclosed " ++ decimal decision.closed ++ codes "\n")
+    → after ≡ two ++ explanation_text (when decision.settings.now.explain
+    (explanation_by decision.base.now decision.traced.now))
+    → after ≡ before ++ head_lines decision
+head_pieces decision n before one two after number first second third =
+    let told = explanation_text (when decision.settings.now.explain
+    (explanation_by decision.base.now decision.traced.now)) in
+    let ordering = ordering_text decision.settings.now in
+    let numbers = λ (k : ℕ). codes "patches " ++ decimal k ++ codes "\nclosed " ++ decimal decision.closed
+    ++ codes "\n" in
+    third ∙ (ap (λ (t : List ℕ). t ++ told) (second ∙ (ap (λ (k : ℕ). one ++ numbers k) number
+    ∙ ap (λ (t : List ℕ). t ++ numbers (length decision.traced.now.patches)) first))
+    ∙ regroup before ordering (codes "patches ") (decimal (length decision.traced.now.patches)) (codes "\n")
+    (codes "closed ") (decimal decision.closed) told)
+  where
+    regroup : (a b c d e f g h : List ℕ) → a ++ b ++ (c ++ d ++ (e ++ f) ++ g ++ e) ++ h
+        ≡ a ++ (b ++ ((c ++ d) ++ e) ++ ((f ++ g) ++ e) ++ h)
+    regroup a b c d e f g h = simp append_assoc
 
 -- the lines of the head and those of the faults
 pub text_pieces : {A : Type 0} (decision : Decision A) (told : List ToldDecided) (empty head last : List ℕ) → empty ≡ []

@@ -1,0 +1,12 @@
+use Rattle.decision_report.proofs.Pieces.{text_pieces}
+use Rattle.decision_report.proofs.text.decision_text.Goals as goal
+
+pub returns : goal.returns
+returns g c =
+    let wrote = c.in_ok-write_faults.ensures in
+    record {
+      told = wrote.told;
+      of_faults = wrote.of_faults;
+      firsts = wrote.firsts;
+      whole = text_pieces c.args.decision.now wrote.told _ _ _ c.new-out.ensures.bytes c.in_ok-write_head.ensures wrote.whole;
+    }
