@@ -78,9 +78,9 @@ where
 
 /// Serves the script that the call names, else the source, prints a refusal to `err`, and gives the exit status.
 ///
-/// 0 and 1 stand for the whole report on the script in the sink: 0 where no set fails, 1 where one does or has a fault. With 2 the
-/// sink took nothing, unless it failed itself. A named file's bytes are not known: the report is on the bytes that it
-/// gave, and the source is not read.
+/// 0 and 1 stand for the whole report on the script in the sink: 0 where it has no failing set or fault, 1 where it has
+/// one. With 2 the sink took nothing, unless it failed itself. A named file's bytes are not known: the report is on the
+/// bytes that it gave, and the source is not read.
 pub fn answer_call<R, A, S, K, E, G>(
     host: &Host<'_, R, A>,
     call: &Call<'_>,

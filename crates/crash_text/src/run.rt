@@ -29,7 +29,7 @@ use std::alloc::Allocator;
 use std::sync::Wait;
 use std::thread::Threads;
 
-/// A report's text and the number of what it reports: failing sets, or the faults of a decision.
+/// A report's text, and the number of its failing sets, or of its faults where that is the question.
 #[derive(Drop)]
 pub struct Outcome<A: Allocator> {
     pub text: String<A>,
