@@ -49,8 +49,11 @@ module _ (bytes : List ℕ) (settings : Settings) where
   refused_to : (question : Question) (fault : RunFault) → is_too_many fault ≡ false
       → IsAnswer bytes settings (Refused fault) → IsAnswerTo question bytes settings (Refused fault)
   refused_to Visit fault other is = is
-  refused_to Decide fault other is = (is, λ same.
-      let many : is_too_many fault ≡ true = subst (λ f. is_too_many f ≡ true) (sym same) refl in cc)
+  refused_to Decide fault other is = (
+    is,
+    λ same.
+        let many : is_too_many fault ≡ true = subst (λ f. is_too_many f ≡ true) (sym same) refl in cc,
+  )
 
   pub refused_script : (question : Question) (fault : ScriptFault)
       → IsAnswer bytes settings (Refused (run_of_script fault))
