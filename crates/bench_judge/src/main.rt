@@ -28,7 +28,7 @@ fn main(rt: HostRuntime) -> Result<(), Fail> {
     for word in words.iter().skip(1) {
         texts.push(word.as_str())?;
     }
-    let settings = settings_of(heap, &texts)?.settings;
+    let settings = settings_of(heap, &texts)?.request.settings;
     let mut script = Vec::new(heap);
     rt.stdin().read_to_end(&mut script)?;
     judge(&rt, &settings, &script)

@@ -23,8 +23,8 @@ struct Entry {
 enum Takes {
     /// Nothing: the option is a flag.
     Nothing,
-    /// Nothing, and the option does not go with the other.
-    NothingWithout(&'static str),
+    /// Nothing, and the option goes with none of the others.
+    NothingWithout(&'static [&'static str]),
     /// The option is a word of its own, which no name goes before.
     Itself,
     /// A rule, in each of several uses.
@@ -150,7 +150,13 @@ static HEADS: [Head; 5] = [
             Entry {
                 name: "workers",
                 takes: Takes::Number("W", 1, 16, "1"),
-                help: "Threads that explore, 1 to 16",
+                help: "Threads that explore or decide, 1 to 16",
+            },
+            Entry {
+                name: "decide",
+                takes: Takes::NothingWithout(&["limit", "explorer", "summary", "needs"]),
+                help: "Find each fault of any closed set, with the first set that has it, however many closed sets there \
+                       are",
             },
         ],
     },
@@ -170,7 +176,7 @@ static HEADS: [Head; 5] = [
             },
             Entry {
                 name: "needs",
-                takes: Takes::NothingWithout("summary"),
+                takes: Takes::NothingWithout(&["summary"]),
                 help: "Tell what goes wrong without each rule of the ordering, in place of the failing sets",
             },
             Entry {
@@ -226,7 +232,7 @@ fn argument<'a>(heap: Global, entry: &'static Entry) -> Result<Arg<'a>, AllocErr
 fn taking<'a>(arg: Arg<'a>, takes: &'static Takes) -> Result<Arg<'a>, AllocError> {
     match takes {
         Takes::Nothing | Takes::Itself => Ok(arg),
-        Takes::NothingWithout(other) => arg.conflicts_with(other),
+        Takes::NothingWithout(others) => arg.conflicts_with_all(others),
         Takes::Rule => Ok(arg.value_name("RULE")),
         Takes::Number(symbol, from, until, default) => {
             let among = value_parser!(usize).range(*from..=*until);

@@ -16,22 +16,22 @@ use crate::arguments::command;
 use crate::faults::WordFault;
 use crate::given_rules::{check_with, check_without, given_rules};
 use crate::rule_words::rules_page;
-use crate::values::{explorer_of, limit_under, module_of, number_of, report_by};
+use crate::values::{explorer_of, limit_under, module_of, number_of, question_of, report_by};
 use clap::error::ErrorKind;
 use clap::{ArgMatches, Command, Error};
 use crash_model::modules::Module;
 use crash_model::rule_lists::RuleList;
 use crash_model::settings::Settings;
+use questions::Request;
 use std::alloc::{AllocError, Global};
 
 /// What the words of a command line ask for.
 ///
-/// `script` is the file to read, or none for standard input; `workers` the number of threads that explore, 1 to 16.
+/// `script` is the file to read, or none for standard input.
 #[derive(Debug, PartialEq, Eq, Drop)]
 pub struct Call<'a> {
     pub script: Option<&'a str>,
-    pub settings: Settings,
-    pub workers: usize,
+    pub request: Request,
 }
 
 /// Reads the words of a command line, which stand without the program's name.
@@ -39,10 +39,10 @@ pub struct Call<'a> {
 /// Each rule to take out is one of the module's, and none is given twice. A fault of the command line, a request for
 /// help or for the version, and out of memory are `clap`'s errors.
 pub fn settings_of<'a>(heap: Global, words: &'a [&'a str]) -> Result<Call<'a>, Error>
-    ensures ranges { IfOk result IsInRanges }
-    ensures without { IfOk result (λ call. AreWrittenIn words.now call.settings.without.items) }
-    ensures with { IfOk result (λ call. AreWrittenIn words.now call.settings.with.items) }
-    ensures lawful { IfOk result (λ call. AreLawful call.settings) }
+    ensures ranges { IfOk result (λ call. IsInRanges call.request) }
+    ensures without { IfOk result (λ call. AreWrittenIn words.now call.request.settings.without.items) }
+    ensures with { IfOk result (λ call. AreWrittenIn words.now call.request.settings.with.items) }
+    ensures lawful { IfOk result (λ call. AreLawful call.request.settings) }
 {
     let mut command = command(heap)?;
     call_by(heap, &mut command, words)
@@ -54,10 +54,10 @@ fn call_by<'a>(
     command: &mut Command<'a>,
     words: &'a [&'a str],
 ) -> Result<Call<'a>, Error>
-    ensures ranges { IfOk result IsInRanges }
-    ensures without { IfOk result (λ call. AreWrittenIn words.now call.settings.without.items) }
-    ensures with { IfOk result (λ call. AreWrittenIn words.now call.settings.with.items) }
-    ensures lawful { IfOk result (λ call. AreLawful call.settings) }
+    ensures ranges { IfOk result (λ call. IsInRanges call.request) }
+    ensures without { IfOk result (λ call. AreWrittenIn words.now call.request.settings.without.items) }
+    ensures with { IfOk result (λ call. AreWrittenIn words.now call.request.settings.with.items) }
+    ensures lawful { IfOk result (λ call. AreLawful call.request.settings) }
 {
     let matches = command.try_get_matches_from_mut(words)?;
     if matches.get_flag("rules") {
@@ -95,30 +95,34 @@ fn call_of<'a>(
     matches: &ArgMatches<'a>,
     words: &[&str],
 ) -> Result<Call<'a>, WordFault<'a>>
-    ensures ranges { IfOk result IsInRanges }
-    ensures without { IfOk result (λ call. AreWrittenIn words.now call.settings.without.items) }
-    ensures with { IfOk result (λ call. AreWrittenIn words.now call.settings.with.items) }
-    ensures lawful { IfOk result (λ call. AreLawful call.settings) }
+    ensures ranges { IfOk result (λ call. IsInRanges call.request) }
+    ensures without { IfOk result (λ call. AreWrittenIn words.now call.request.settings.without.items) }
+    ensures with { IfOk result (λ call. AreWrittenIn words.now call.request.settings.with.items) }
+    ensures lawful { IfOk result (λ call. AreLawful call.request.settings) }
 {
     let module = module_of(matches);
     let (without, with) = rules_for(heap, matches, words, module)?;
     let explorer = explorer_of(matches);
+    let settings = Settings {
+        module,
+        without,
+        with,
+        blocks: number_of(matches, "blocks", 16, 128),
+        journal: number_of(matches, "journal", 0, 122),
+        limit: limit_under(matches, explorer)?,
+        explorer,
+        json: matches.get_flag("json"),
+        explain: matches.get_flag("explain"),
+        strict: matches.get_flag("strict"),
+        by: report_by(matches),
+    };
     Ok(Call {
         script: matches.get_str("SCRIPT"),
-        settings: Settings {
-            module,
-            without,
-            with,
-            blocks: number_of(matches, "blocks", 16, 128),
-            journal: number_of(matches, "journal", 0, 122),
-            limit: limit_under(matches, explorer)?,
-            explorer,
-            json: matches.get_flag("json"),
-            explain: matches.get_flag("explain"),
-            strict: matches.get_flag("strict"),
-            by: report_by(matches),
+        request: Request {
+            question: question_of(matches),
+            settings,
+            workers: number_of(matches, "workers", 1, 16),
         },
-        workers: number_of(matches, "workers", 1, 16),
     })
 }
 

@@ -8,6 +8,7 @@ use crate::rule_words::Why;
 use clap::ArgMatches;
 use crash_model::modules::Module;
 use crash_model::settings::{Explorer, ReportBy};
+use questions::Question;
 
 /// The most sets that the board holds.
 const MAX_BOARD: usize = 32_768;
@@ -72,5 +73,14 @@ pub(crate) fn report_by(matches: &ArgMatches<'_>) -> ReportBy {
         ReportBy::ByFault
     } else {
         ReportBy::BySet
+    }
+}
+
+/// What is to be found out: each failing set, or each fault with `--decide`.
+pub(crate) fn question_of(matches: &ArgMatches<'_>) -> Question {
+    if matches.get_flag("decide") {
+        Question::Decide
+    } else {
+        Question::Visit
     }
 }

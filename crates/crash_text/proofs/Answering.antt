@@ -1,15 +1,37 @@
 -- What the parts of a run find makes its answer.
-use Rattle.std.proofs.Common.{◌≡◌, ℕ, List, Ok, subst, sym, inl, inr}
+use Rattle.std.proofs.Common.{◌≡◌, ℕ, List, Ok, Bool, true, false, refl, subst, sym, inl, inr}
 use Rattle.crash_model.specs.Answer.{Refused, Reported, HasBase, IsAnswer, bad_geometry, bad_base, bad_trace, too_many}
 use Rattle.crash_model.specs.Answer.{reported}
 use Rattle.crash_model.specs.Disk.{Disk, IsGeometry, empty_disk}
+use Rattle.crash_model.specs.Refusals.{run_of_script, run_of_trace}
 use Rattle.crash_model.specs.Script.{IsScript}
 use Rattle.crash_model.specs.Trace.{base_from}
 use Rattle.crash_model.specs.declared.refusals.RunFault.{RunFault}
+use Rattle.crash_model.specs.declared.refusals.RunFault.TheVariants.{BadGeometry, TooMany}
+use Rattle.crash_model.specs.declared.refusals.ScriptFault.{ScriptFault}
+use Rattle.crash_model.specs.declared.refusals.ScriptFault.TheVariants as script
+use Rattle.crash_model.specs.declared.refusals.TraceFault.{TraceFault}
+use Rattle.crash_model.specs.declared.refusals.TraceFault.TheVariants as trace
 use Rattle.crash_model.specs.declared.settings.Settings.{Settings}
 use Rattle.crash_model.specs.declared.steps.Step.{Step}
+use Rattle.questions.specs.Answers.{IsAnswerTo}
+use Rattle.questions.specs.declared.Question.{Question}
+use Rattle.questions.specs.declared.Question.TheVariants.{Visit, Decide}
 use Rattle.crash_text.specs.BaseRefusal.{IsBaseRefusal}
 use Rattle.crash_text.specs.Telling.{AreReported, AreRefused}
+
+-- whether a refusal is for too many closed sets
+abbrev pub is_too_many : RunFault → Bool
+is_too_many TooMany = true
+is_too_many _ = false
+
+script_is_not : (fault : ScriptFault) → is_too_many (run_of_script fault) ≡ false
+script_is_not (script.BadUtf8 line) = refl
+script_is_not _ = refl
+
+trace_is_not : (fault : TraceFault) → is_too_many (run_of_trace fault) ≡ false
+trace_is_not (trace.NotFound line) = refl
+trace_is_not _ = refl
 
 module _ (bytes : List ℕ) (settings : Settings) where
   -- where a script is read and its base built, the answer has that base
@@ -23,24 +45,54 @@ module _ (bytes : List ℕ) (settings : Settings) where
     built = subst (λ (s : List Step). base_from (empty_disk settings.blocks settings.journal) s ≡ Ok base) same is;
   }
 
-  pub refused_base : (before steps : List Step) (fault : RunFault) → IsScript bytes before steps
-      → IsBaseRefusal settings before fault → IsAnswer bytes settings (Refused fault)
-  refused_base before steps fault read (inl bad) = subst (λ f. IsAnswer bytes settings (Refused f)) (sym bad.1)
-      (bad_geometry before steps read bad.0)
-  refused_base before steps fault read (inr bad) = subst (λ f. IsAnswer bytes settings (Refused f)) (sym bad.1.2)
-      (bad_base before steps bad.1.0 read bad.0 bad.1.1)
+  -- a refusal that is not for too many closed sets answers each question
+  refused_to : (question : Question) (fault : RunFault) → is_too_many fault ≡ false
+      → IsAnswer bytes settings (Refused fault) → IsAnswerTo question bytes settings (Refused fault)
+  refused_to Visit fault other is = is
+  refused_to Decide fault other is = (
+    is,
+    λ same.
+        let many : is_too_many fault ≡ true = subst (λ f. is_too_many f ≡ true) (sym same) refl in cc,
+  )
 
-  pub refused_steps : (base : Disk) (steps : List Step) (fault : RunFault) → HasBase bytes settings base steps
-      → AreRefused settings base steps fault → IsAnswer bytes settings (Refused fault)
-  refused_steps base steps fault start (inl (why, run, same)) = subst (λ f. IsAnswer bytes settings (Refused f))
-      (sym same) (bad_trace base steps why start run)
-  refused_steps base steps fault start (inr (last, patches, run, graph, more, same)) =
-      subst (λ f. IsAnswer bytes settings (Refused f)) (sym same)
-      (too_many base last patches (record { steps = steps; start = start; run = run; graph = graph }) more)
+  pub refused_script : (question : Question) (fault : ScriptFault)
+      → IsAnswer bytes settings (Refused (run_of_script fault))
+      → IsAnswerTo question bytes settings (Refused (run_of_script fault))
+  refused_script question fault is = refused_to question (run_of_script fault) (script_is_not fault) is
 
-  pub reported_steps : (base : Disk) (steps : List Step) (text : List ℕ) (failing : ℕ)
-      → HasBase bytes settings base steps → AreReported settings base steps text failing
-      → IsAnswer bytes settings (Reported text failing)
-  reported_steps base steps text failing start are =
-      reported are.kept base are.last are.patches text failing
+  pub refused_base : (question : Question) (before steps : List Step) (fault : RunFault) → IsScript bytes before steps
+      → IsBaseRefusal settings before fault → IsAnswerTo question bytes settings (Refused fault)
+  refused_base question before steps fault read (inl bad) =
+      subst (λ f. IsAnswerTo question bytes settings (Refused f)) (sym bad.1)
+      (refused_to question BadGeometry refl (bad_geometry before steps read bad.0))
+  refused_base question before steps fault read (inr bad) =
+      subst (λ f. IsAnswerTo question bytes settings (Refused f)) (sym bad.1.2)
+      (refused_to question (run_of_trace bad.1.0) (trace_is_not bad.1.0)
+      (bad_base before steps bad.1.0 read bad.0 bad.1.1))
+
+  pub refused_steps : (question : Question) (base : Disk) (steps : List Step) (fault : RunFault)
+      → HasBase bytes settings base steps → AreRefused question settings base steps fault
+      → IsAnswerTo question bytes settings (Refused fault)
+  refused_steps question base steps fault start (inl (why, run, same)) =
+      subst (λ f. IsAnswerTo question bytes settings (Refused f)) (sym same)
+      (refused_to question (run_of_trace why) (trace_is_not why) (bad_trace base steps why start run))
+  refused_steps question base steps fault start (inr (last, patches, run, graph, visits, more, same)) =
+      subst (λ f. IsAnswerTo question bytes settings (Refused f)) (sym same)
+      (subst (λ q. IsAnswerTo q bytes settings (Refused TooMany)) (sym visits)
+      (too_many base last patches (record { steps = steps; start = start; run = run; graph = graph }) more))
+
+  pub reported_steps : (question : Question) (base : Disk) (steps : List Step) (text : List ℕ) (number : ℕ)
+      → HasBase bytes settings base steps → AreReported question settings base steps text number
+      → IsAnswerTo question bytes settings (Reported text number)
+  reported_steps Visit base steps text number start are =
+      reported are.kept base are.last are.patches text number
       (record { steps = steps; start = start; run = are.run; graph = are.graph }) are.told are.report
+  reported_steps Decide base steps text number start are = record {
+    kept = are.kept;
+    base = base;
+    last = are.last;
+    patches = are.patches;
+    graph = record { steps = steps; start = start; run = are.run; graph = are.graph };
+    told = are.told;
+    report = are.report;
+  }

@@ -34,7 +34,7 @@ use Rattle.crash_finding.specs.Kept.{AreTotals}
 use Rattle.crash_text.specs.Telling.{IsTraceOf, Tells, whole}
 
 -- what holds of each image holds of each item's image
-all_of : {X Y : Type 0} (P : X → Type 0) (f : Y → X) (ys : List Y) → All P (map f ys) → All (λ y. P (f y)) ys
+pub all_of : {X Y : Type 0} (P : X → Type 0) (f : Y → X) (ys : List Y) → All P (map f ys) → All (λ y. P (f y)) ys
 all_of P f ys all k d within = subst P (get_or-map f ys k d) (all k (f d) (omega (arith, within, length-map ys f)))
 
 -- the text of the report on these failing sets, of so many closed ones
@@ -80,7 +80,7 @@ firsts_closed kept base patches rows are = All-map (IsClosed (deps_of patches)) 
 
 module _ (settings : Settings) (kept : Option ℕ) (base : Disk) (t : TracedPatches) (last : Tracing)
     (is : IsTraceOf settings base t last) where
-  same_explanation : explanation_by base t ≡ explanation (ordering_rules settings) base last t.patches
+  pub same_explanation : explanation_by base t ≡ explanation (ordering_rules settings) base last t.patches
   same_explanation = rw (is.rules, is.links, is.emitted) refl
 
   -- the text makes it the report on the failing sets

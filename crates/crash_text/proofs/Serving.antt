@@ -15,6 +15,10 @@ use Rattle.crash_model.specs.declared.refusals.TraceFault.{TraceFault}
 use Rattle.crash_model.specs.declared.refusals.TraceFault.TheVariants as trace
 use Rattle.crash_model.specs.declared.settings.Settings.{Settings}
 use Rattle.devices.specs.Counted.{IsReadFault}
+use Rattle.questions.specs.Answers.{IsAnswerTo}
+use Rattle.questions.specs.declared.Question.{Question}
+use Rattle.questions.specs.declared.Question.TheVariants.{Visit, Decide}
+use Rattle.questions.specs.declared.Request.{Request}
 use Rattle.crash_text.specs.Served.{IsWhole, IsRefusedBy}
 
 -- a source that was read to its end had these bytes
@@ -36,19 +40,19 @@ not_longer P (Some all) new bytes most read few = λ more.
     absurd (omega arith)
 
 -- why a source was not read is no script's answer
-pub unread_refused : (coming : Option (List ℕ)) (settings : Settings) (fault : RunFault) → IsReadFault fault
-    → IsRefusedBy coming settings fault
-unread_refused coming settings CannotRead is = λ a b c d. absurd (a refl)
-unread_refused coming settings ScriptTooLong is = λ a b c d. absurd (c refl)
-unread_refused coming settings OutOfMemory is = λ a b c d. absurd (d refl)
-unread_refused coming settings _ is = absurd is
+pub unread_refused : (coming : Option (List ℕ)) (request : Request) (fault : RunFault) → IsReadFault fault
+    → IsRefusedBy coming request fault
+unread_refused coming request CannotRead is = λ a b c d. absurd (a refl)
+unread_refused coming request ScriptTooLong is = λ a b c d. absurd (c refl)
+unread_refused coming request OutOfMemory is = λ a b c d. absurd (d refl)
+unread_refused coming request _ is = absurd is
 
 -- a refusal of a script's bytes is one of a source that had these
-pub refused_on : {X : Type 0} (coming : Option (List ℕ)) (bytes : List ℕ) (settings : Settings)
-    (result : Result X RunFault) → IsWhole coming bytes → IfErr result (IsRefusedBy (Some bytes) settings)
-    → IfErr result (IsRefusedBy coming settings)
-refused_on coming bytes settings (Ok value) read refused = tt
-refused_on coming bytes settings (Err fault) read refused = λ a b c d.
+pub refused_on : {X : Type 0} (coming : Option (List ℕ)) (bytes : List ℕ) (request : Request)
+    (result : Result X RunFault) → IsWhole coming bytes → IfErr result (IsRefusedBy (Some bytes) request)
+    → IfErr result (IsRefusedBy coming request)
+refused_on coming bytes request (Ok value) read refused = tt
+refused_on coming bytes request (Err fault) read refused = λ a b c d.
     let given = refused a b c d in
     (given.0, subst (λ xs. IsWhole coming xs) (sym given.1) read, given.2)
 
@@ -80,13 +84,20 @@ of_run (bad_trace base steps fault start is) = trace_is_of_run fault
 of_run (too_many base last patches has more) = refl
 of_run (reported kept base last patches text failing has told report) = refl
 
+refusal_is_of_run : (question : Question) (bytes : List ℕ) (settings : Settings) (fault : RunFault)
+    → IsAnswerTo question bytes settings (Refused fault) → is_of_run fault ≡ true
+refusal_is_of_run Visit bytes settings fault is = of_run is
+refusal_is_of_run Decide bytes settings fault is = of_run is.0
+
 -- where a run refused, the refusal is no device's
-pub not_of_device : {X : Type 0} (result : Result X RunFault) (bytes : List ℕ) (settings : Settings)
-    (fault device : RunFault) → (fault ≢ OutOfMemory → IsAnswer bytes settings (Refused fault))
+pub not_of_device : {X : Type 0} (result : Result X RunFault) (bytes : List ℕ) (request : Request)
+    (fault device : RunFault)
+    → (fault ≢ OutOfMemory → IsAnswerTo request.question bytes request.settings (Refused fault))
     → is_of_run device ≡ false → result ≡ Err fault → result ≡ Err device → ⊥
-not_of_device result bytes settings fault device answers is ran refused =
+not_of_device result bytes request fault device answers is ran refused =
     let same : fault ≡ device = cc in
     let memory : fault ≢ OutOfMemory = λ e. let yes : is_of_run device ≡ true =
     subst (λ f. is_of_run f ≡ true) (sym e ∙ same) refl in cc in
-    let yes : is_of_run device ≡ true = subst (λ f. is_of_run f ≡ true) same (of_run (answers memory)) in
+    let yes : is_of_run device ≡ true = subst (λ f. is_of_run f ≡ true) same
+    (refusal_is_of_run request.question bytes request.settings fault (answers memory)) in
     cc

@@ -1,5 +1,5 @@
 -- What the report of a run tells.
-use Rattle.std.specs.Prelude.{◌≡◌, ◌⊎◌, ℕ, List, Option, Ok, Err, length}
+use Rattle.std.specs.Prelude.{◌≡◌, ◌≢◌, ◌⊎◌, ℕ, List, Option, Ok, Err, length}
 use Rattle.crash_model.specs.Answer.{ordering_rules, IsReport}
 use Rattle.crash_model.specs.Disk.{Disk}
 use Rattle.crash_model.specs.Explain.{Explanation}
@@ -7,21 +7,25 @@ use Rattle.crash_model.specs.Patches.{ExceedsLimit}
 use Rattle.crash_model.specs.Lists.{when}
 use Rattle.crash_model.specs.Needs.{IsWithout, RuleUsage, Unused, TooMany as PastLimit, Used}
 use Rattle.crash_model.specs.Refusals.{run_of_trace}
-use Rattle.crash_model.specs.Strict.{IsToldKept}
+use Rattle.crash_model.specs.Strict.{IsFailingUnder, IsToldKept}
 use Rattle.crash_model.specs.Trace.{Tracing, trace_start, trace_from, IsGraphOf}
 use Rattle.crash_model.specs.Whole.{Body, Report, report}
 use Rattle.crash_model.specs.declared.patches.Patch.{Patch}
 use Rattle.crash_model.specs.declared.refusals.RunFault.{RunFault}
-use Rattle.crash_model.specs.declared.refusals.RunFault.TheVariants.{TooMany}
+use Rattle.crash_model.specs.declared.refusals.RunFault.TheVariants.{OutOfMemory, TooMany}
 use Rattle.crash_model.specs.declared.refusals.TraceFault.{TraceFault}
 use Rattle.crash_model.specs.declared.settings.Detail.{Detail}
 use Rattle.crash_model.specs.declared.settings.Settings.{Settings}
 use Rattle.crash_model.specs.declared.steps.Step.{Step}
+use Rattle.decision_model.specs.Decision.{IsDecision}
+use Rattle.questions.specs.declared.Question.{Question}
+use Rattle.questions.specs.declared.Question.TheVariants.{Visit, Decide}
 use Rattle.traced_patches.specs.Traced.{TracedPatches}
 use Rattle.report_sections.specs.Bodies.{AreOnBase, TellsBody, explanation_by}
 use Rattle.report_sections.specs.declared.report.Body as code
 use Rattle.crash_finding.specs.Kept.{AreFound}
 use Rattle.crash_text.specs.declared.telling.Findings.{Findings}
+use Rattle.crash_text.specs.declared.traced_script.TracedScript.{TracedScript}
 
 -- traced patches, with the state in which tracing ended
 pub record IsTraceOf (settings : Settings) (base : Disk) (t : TracedPatches) (last : Tracing) : Type 0 where
@@ -57,31 +61,44 @@ Tells settings detail base t closed failing chosen text =
     (body : Body) × TellsBody detail base t.patches chosen body
     × (text ≡ report settings (whole settings (explanation_by base t) t.patches closed failing body))
 
--- the text is the report on these traced patches, by a checker that is told what the steps keep
-pub record AreReportedOf (settings : Settings) (base : Disk) (steps : List Step) (t : TracedPatches) (text : List ℕ)
-    (failing : ℕ) : Type 0 where
-  pub kept : Option ℕ
-  pub told : IsToldKept settings.strict base steps kept
-  pub report : (last : Tracing) → IsTraceOf settings base t last
-      → IsReport settings kept base last t.patches text failing
+-- the report that answers a question on a graph
+abbrev pub IsReportTo : Question → Settings → Option ℕ → Disk → Tracing → List Patch → List ℕ → ℕ → Type 0
+IsReportTo Visit settings kept base last patches text number = IsReport settings kept base last patches text number
+IsReportTo Decide settings kept base last patches text number = IsDecision settings kept base last patches text number
 
--- the report on steps that are traced over the base
-pub record AreReported (settings : Settings) (base : Disk) (steps : List Step) (text : List ℕ)
-    (failing : ℕ) : Type 0 where
+-- the text is that report on a traced script, whatever state traced its patches
+abbrev pub IsReportOn : {A : Type 0} → Question → Settings → TracedScript A → List ℕ → ℕ → Type 0
+IsReportOn question settings s text number =
+    (last : Tracing) → IsTraceOf settings s.base.now s.traced last
+    → IsReportTo question settings s.kept s.base.now last s.traced.patches text number
+
+-- no set that a crash can leave fails
+abbrev pub NoneFails : {A : Type 0} → TracedScript A → Type 0
+NoneFails s = (set : ℕ) → ¬ (IsFailingUnder s.kept s.base.now s.traced.patches set)
+
+-- the report on steps that are traced over the base, by a checker that is told what the steps keep
+pub record AreReported (question : Question) (settings : Settings) (base : Disk) (steps : List Step) (text : List ℕ)
+    (number : ℕ) : Type 0 where
   pub last : Tracing
   pub patches : List Patch
   pub run : trace_from settings.module (trace_start base) steps ≡ Ok last
   pub graph : IsGraphOf (ordering_rules settings) base last patches
   pub kept : Option ℕ
   pub told : IsToldKept settings.strict base steps kept
-  pub report : IsReport settings kept base last patches text failing
+  pub report : IsReportTo question settings kept base last patches text number
 
--- a step is refused, or there are too many closed sets
-abbrev pub AreRefused : Settings → Disk → List Step → RunFault → Type 0
-AreRefused settings base steps fault =
+-- unless it is out of memory, the one reason to refuse is that there are more sets to visit than the limit
+abbrev pub IsPastLimit : Question → Settings → List Patch → RunFault → Type 0
+IsPastLimit question settings patches fault =
+    fault ≢ OutOfMemory → (question ≡ Visit) × (fault ≡ TooMany) × ExceedsLimit patches settings.limit
+
+-- a step is refused, or there are too many closed sets to visit
+abbrev pub AreRefused : Question → Settings → Disk → List Step → RunFault → Type 0
+AreRefused question settings base steps fault =
     ((why : TraceFault) × (trace_from settings.module (trace_start base) steps ≡ Err why) × (fault ≡ run_of_trace why))
     ⊎ ((last : Tracing) × (patches : List Patch) × (trace_from settings.module (trace_start base) steps ≡ Ok last)
-    × IsGraphOf (ordering_rules settings) base last patches × ExceedsLimit patches settings.limit × (fault ≡ TooMany))
+    × IsGraphOf (ordering_rules settings) base last patches × (question ≡ Visit)
+    × ExceedsLimit patches settings.limit × (fault ≡ TooMany))
 
 -- what there is where the patches have other dependencies, as those without a rule that applies to so many pairs
 abbrev pub IsUsageBy : Detail → ℕ → Disk → List Patch → List Patch → ℕ → RuleUsage → Type 0

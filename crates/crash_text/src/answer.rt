@@ -26,7 +26,7 @@ use std::thread::Threads;
 /// The exit status of a refusal, and of a fault of the command line.
 const REFUSED: u8 = 2;
 
-/// Answers a command line, and gives the exit status: 0 with no failing set, 1 with at least one, 2 with a refusal.
+/// Answers a command line, and gives the exit status: 0 with no failing set or fault, 1 with one, 2 with a refusal.
 ///
 /// `words` stand without the program's name. It reads the script that they name, else `input`, writes the report to
 /// `out`, and a refusal, as one line, or a fault of the command line to `err`. A request for help or for the version
@@ -78,9 +78,9 @@ where
 
 /// Serves the script that the call names, else the source, prints a refusal to `err`, and gives the exit status.
 ///
-/// 0 and 1 stand for the whole report on the script in the sink: 0 where no set fails, 1 where one does. With 2 the
-/// sink took nothing, unless it failed itself. A named file's bytes are not known: the report is on the bytes that it
-/// gave, and the source is not read.
+/// 0 and 1 stand for the whole report on the script in the sink: 0 where it has no failing set or fault, 1 where it has
+/// one. With 2 the sink took nothing, unless it failed itself. A named file's bytes are not known: the report is on the
+/// bytes that it gave, and the source is not read.
 pub fn answer_call<R, A, S, K, E, G>(
     host: &Host<'_, R, A>,
     call: &Call<'_>,
@@ -96,15 +96,15 @@ where
     K: Sink,
     E: Write,
     G: Gate + Sync,
-    requires call { IsInRanges call.now }
+    requires call { IsInRanges call.now.request }
     requires source { S.failures source.old < 2 ^ 64 - 1 }
     requires sink { K.failures sink.old < 2 ^ 64 - 1 }
     ensures known { result ≤ 2 }
     ensures clean { result ≡ 0
-        → IsServed (script_of call.now (S.coming source.old)) call.now.settings 0 (K.taken sink.old)
+        → IsServed (script_of call.now (S.coming source.old)) call.now.request 0 (K.taken sink.old)
         (K.taken sink.new) }
     ensures failing { result ≡ 1
-        → IsServedFailing (script_of call.now (S.coming source.old)) call.now.settings (K.taken sink.old)
+        → IsServedFailing (script_of call.now (S.coming source.old)) call.now.request (K.taken sink.old)
         (K.taken sink.new) }
     ensures refused { result ≡ 2
         → Keeps (K.taken sink.old) (K.taken sink.new) ⊎ (K.failures sink.new ≡ K.failures sink.old + 1) }
@@ -136,22 +136,22 @@ where
     K: Sink,
     E: Write,
     G: Gate + Sync,
-    requires call { IsInRanges call.now }
+    requires call { IsInRanges call.now.request }
     requires sink { K.failures sink.old < 2 ^ 64 - 1 }
     ensures known { result ≤ 2 }
     ensures clean { result ≡ 0
-        → IsServed (Some script.now) call.now.settings 0 (K.taken sink.old) (K.taken sink.new) }
+        → IsServed (Some script.now) call.now.request 0 (K.taken sink.old) (K.taken sink.new) }
     ensures failing { result ≡ 1
-        → IsServedFailing (Some script.now) call.now.settings (K.taken sink.old) (K.taken sink.new) }
+        → IsServedFailing (Some script.now) call.now.request (K.taken sink.old) (K.taken sink.new) }
     ensures refused { result ≡ 2
         → Keeps (K.taken sink.old) (K.taken sink.new) ⊎ (K.failures sink.new ≡ K.failures sink.old + 1) }
 {
-    let settings = &call.settings;
+    let settings = &call.request.settings;
     let asked = Asked { script, settings };
-    match serve_script(host, script, sink, settings, call.workers, gate) {
-        Ok(failing) => {
+    match serve_script(host, script, sink, &call.request, gate) {
+        Ok(number) => {
             write_warnings(host, asked, err);
-            status_of(failing)
+            status_of(number)
         }
         Err(fault) => {
             gate.ended();
@@ -210,11 +210,11 @@ where
     }
 }
 
-/// The exit status of a report with so many failing sets.
-fn status_of(failing: usize) -> u8
-    ensures { result ≡ min failing 1 }
+/// The exit status of a report with this number of failing sets or faults.
+fn status_of(number: usize) -> u8
+    ensures { result ≡ min number 1 }
 {
-    if failing == 0 { 0 } else { 1 }
+    if number == 0 { 0 } else { 1 }
 }
 
 /// Reads the script that the call names, else the source.

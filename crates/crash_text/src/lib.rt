@@ -2,6 +2,7 @@
 #![tactic(auto)]
 
 pub mod answer;
+mod deciding;
 pub mod host;
 mod keeping;
 mod needs;
@@ -9,3 +10,5 @@ pub mod progress;
 pub mod run;
 pub mod serve;
 mod telling;
+mod traced_script;
+mod visiting;

@@ -10,15 +10,16 @@ ghost use Rattle.crash_text.specs.Served.{IsServed, IsCut, IsRefusedBy};
 use crate::host::Host;
 use crate::run::run;
 use crash_model::refusals::RunFault;
-use crash_model::settings::Settings;
 use devices::sink::{Sink, write_all};
 use devices::source::{MAX_SCRIPT_BYTES, Source, read_to_end};
 use explorers::Gate;
+use questions::Request;
 use std::alloc::Allocator;
 use std::sync::Wait;
 use std::thread::Threads;
 
-/// Reads a script from a source, answers it, and writes the report to a sink. It gives the number of failing sets.
+/// Reads a script from a source, answers it, and writes the report to a sink. It gives the number of failing sets, or
+/// of faults where that is the question.
 ///
 /// The answer is that of `run` on all bytes of the source. A script that cannot be read or is too long is refused
 /// before it is run, and one that is too long in no other way but by out of memory or a failed read. Nothing is
@@ -28,8 +29,7 @@ pub fn serve<R, A, S, K, G>(
     host: &Host<'_, R, A>,
     source: &mut S,
     sink: &mut K,
-    settings: &Settings,
-    workers: usize,
+    request: &Request,
     gate: &G,
 ) -> Result<usize, RunFault>
 where
@@ -38,15 +38,15 @@ where
     S: Source,
     K: Sink,
     G: Gate + Sync,
-    requires workers { (1 ≤ workers) × (workers ≤ 16) }
-    requires limit { IsExplorable settings.now }
+    requires workers { (1 ≤ request.now.workers) × (request.now.workers ≤ 16) }
+    requires limit { IsExplorable request.now.settings }
     requires source { S.failures source.old < 2 ^ 64 - 1 }
     requires sink { K.failures sink.old < 2 ^ 64 - 1 }
-    ensures served { IfOk result (λ failing.
-        IsServed (S.coming source.old) settings.now failing (K.taken sink.old) (K.taken sink.new)) }
+    ensures served { IfOk result (λ number.
+        IsServed (S.coming source.old) request.now number (K.taken sink.old) (K.taken sink.new)) }
     ensures cut { IsErrOf result RunFault.CannotWrite
-        → IsCut (S.coming source.old) settings.now (K.taken sink.old) (K.taken sink.new) }
-    ensures refused { IfErr result (IsRefusedBy (S.coming source.old) settings.now) }
+        → IsCut (S.coming source.old) request.now (K.taken sink.old) (K.taken sink.new) }
+    ensures refused { IfErr result (IsRefusedBy (S.coming source.old) request.now) }
     ensures bounded { IfSome (S.coming source.old) (λ bytes. MAX_SCRIPT_BYTES < length bytes
         → IsErrAnd result IsReadFault) }
     ensures too_long { IsErrOf result RunFault.ScriptTooLong
@@ -60,10 +60,11 @@ where
     ensures gone { (bytes : List ℕ) × Consumes (S.coming source.old) (S.coming source.new) bytes }
 {
     let script = read_to_end(host.alloc, source)?;
-    serve_script(host, script.as_slice(), sink, settings, workers, gate)
+    serve_script(host, script.as_slice(), sink, request, gate)
 }
 
-/// Answers a script, and writes the report to a sink. It gives the number of failing sets.
+/// Answers a script, and writes the report to a sink. It gives the number of failing sets, or of faults where that is
+/// the question.
 ///
 /// Nothing is written before the report is whole. After a refusal the sink has taken nothing, unless the sink itself
 /// failed, which then has a beginning of the report.
@@ -71,8 +72,7 @@ pub fn serve_script<R, A, K, G>(
     host: &Host<'_, R, A>,
     script: &[u8],
     sink: &mut K,
-    settings: &Settings,
-    workers: usize,
+    request: &Request,
     gate: &G,
 ) -> Result<usize, RunFault>
 where
@@ -80,14 +80,14 @@ where
     A: Allocator + Copy + Send + Sync,
     K: Sink,
     G: Gate + Sync,
-    requires workers { (1 ≤ workers) × (workers ≤ 16) }
-    requires limit { IsExplorable settings.now }
+    requires workers { (1 ≤ request.now.workers) × (request.now.workers ≤ 16) }
+    requires limit { IsExplorable request.now.settings }
     requires sink { K.failures sink.old < 2 ^ 64 - 1 }
-    ensures served { IfOk result (λ failing.
-        IsServed (Some script.now) settings.now failing (K.taken sink.old) (K.taken sink.new)) }
+    ensures served { IfOk result (λ number.
+        IsServed (Some script.now) request.now number (K.taken sink.old) (K.taken sink.new)) }
     ensures cut { IsErrOf result RunFault.CannotWrite
-        → IsCut (Some script.now) settings.now (K.taken sink.old) (K.taken sink.new) }
-    ensures refused { IfErr result (IsRefusedBy (Some script.now) settings.now) }
+        → IsCut (Some script.now) request.now (K.taken sink.old) (K.taken sink.new) }
+    ensures refused { IfErr result (IsRefusedBy (Some script.now) request.now) }
     ensures read { ¬ (IsErrOf result RunFault.CannotRead) }
     ensures short { ¬ (IsErrOf result RunFault.ScriptTooLong) }
     ensures unwritten { IsErrOf result RunFault.CannotWrite → K.failures sink.new ≡ K.failures sink.old + 1 }
@@ -95,10 +95,10 @@ where
     ensures untouched { OnErr result ((¬ (IsErrOf result RunFault.CannotWrite))
         → Keeps (K.taken sink.old) (K.taken sink.new)) }
 {
-    let outcome = run(host, script, settings, workers, gate)?;
+    let outcome = run(host, script, request, gate)?;
     gate.ended();
     match write_all(sink, outcome.text.as_bytes()) {
-        Ok(()) => Ok(outcome.failing),
+        Ok(()) => Ok(outcome.number),
         Err(_) => Err(RunFault::CannotWrite),
     }
 }

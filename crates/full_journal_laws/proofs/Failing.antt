@@ -1,8 +1,6 @@
 -- No set fails under the full journal.
-use Rattle.std.proofs.Common.{◌≡◌, ℕ, ◌+◌, ◌<◌, List, [], ◌∷◌, length, get_or, arith, refl, sym, ◌∙◌, ap, subst}
+use Rattle.std.proofs.Common.{◌≡◌, ℕ, ◌+◌, ◌<◌, List, get_or, sym, ◌∙◌, ap, subst}
 use Rattle.std.specs.Prelude.{Option, Some, None, Bool}
-use Rattle.std.proofs.lemmas.List.Elements.{Contains-get_or}
-use Rattle.patch_sets.specs.Sets.{AreAllInOrder}
 use Rattle.crash_model.specs.Disk.{Disk, IsDisk}
 use Rattle.crash_model.specs.Sound.{HasZeroJournal}
 use Rattle.crash_model.specs.Patches.{deps_of, image_of}
@@ -26,16 +24,12 @@ safe_is_clean strict None base steps patches disk told safe set closed =
 safe_is_clean strict (Some kept) base steps patches disk told safe set closed =
     strictly_clean base steps safe.0 patches set kept disk told.1 (safe.2 set closed)
 
--- the list of the failing sets is empty
-pub none-failing : (strict : Bool) (kept : Option ℕ) (base : Disk) (steps : List Step) (patches : List Patch)
-    (sets : List ℕ) → IsDisk base
-    → IsToldKept strict base steps kept → IsFullSafe base steps patches
-    → AreAllInOrder (IsFailingUnder kept base patches) sets → length sets ≡ 0
-none-failing strict kept base steps patches [] disk told safe are = refl
-none-failing strict kept base steps patches (set ∷ sets) disk told safe are =
-    let failing : IsFailingUnder kept base patches set = (are.exactly set).0
-    (Contains-get_or (set ∷ sets) 0 0 (omega arith)) in
-    absurd (failing.unclean (safe_is_clean strict kept base steps patches disk told safe set failing.closed))
+-- no set fails
+pub none_fails : (strict : Bool) (kept : Option ℕ) (base : Disk) (steps : List Step) (patches : List Patch)
+    → IsDisk base → IsToldKept strict base steps kept → IsFullSafe base steps patches
+    → (set : ℕ) → ¬ (IsFailingUnder kept base patches set)
+none_fails strict kept base steps patches disk told safe set failing =
+    failing.unclean (safe_is_clean strict kept base steps patches disk told safe set failing.closed)
 
 -- a journal that stays is as zero as it was
 pub zero-kept : (old new : Disk) → new.journal ≡ old.journal → HasSameJournal old new → HasZeroJournal old

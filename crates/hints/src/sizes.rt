@@ -240,9 +240,12 @@ impl fmt::Display for SizeRemedy {
 /// Writes how to answer a script with this many closed sets.
 fn write_limit<W: fmt::Write>(f: &mut fmt::Formatter<W>, sets: Option<u128>) -> fmt::Result {
     match sets.and_then(|sets| usize::try_from(sets).ok()) {
-        Some(sets) if sets <= LARGEST_LIMIT => write!(f, "--limit {sets} explores them all"),
+        Some(sets) if sets <= LARGEST_LIMIT => write!(
+            f,
+            "--limit {sets} explores them all, and --decide finds each fault without a limit"
+        ),
         _ => f.write_str(
-            "that is more than --limit can ask for: order more of the writes, or trace fewer of them",
+            "that is more than --limit can ask for: --decide finds each fault without a limit",
         ),
     }
 }

@@ -6,6 +6,7 @@ use crash_model::refusals::RunFault;
 use crash_text::host::Host;
 use crash_text::run::{Outcome, run};
 use explorers::OpenGate;
+use questions::{Question, Request};
 use std::alloc::{Allocator, Global};
 use std::process::Abort;
 use std::sync::Wait;
@@ -44,7 +45,11 @@ where
 {
     let heap = rt.alloc();
     let script = trial.asked.whole_script(heap)?;
-    let settings = trial.asked.settings(trial.limit(), trial.json);
+    let request = Request {
+        question: Question::Visit,
+        settings: trial.asked.settings(trial.limit(), trial.json),
+        workers,
+    };
     let gives_hints = false;
     let host = Host {
         rt,
@@ -52,7 +57,7 @@ where
         alloc,
         gives_hints,
     };
-    Ok(run(&host, &script, &settings, workers, &OpenGate))
+    Ok(run(&host, &script, &request, &OpenGate))
 }
 
 /// What a lone worker answers with all memory: a report, or that there are too many sets where the limit is too low.
@@ -62,7 +67,7 @@ pub fn plain_answer<R: Abort + AllocGlobal + Threads + Wait + Sync>(
 ) -> Result<Answer<Global>, Fail> {
     let plain = answer(rt, rt.alloc(), trial, 1)?;
     let failing = match &plain {
-        Ok(outcome) => Some(outcome.failing),
+        Ok(outcome) => Some(outcome.number),
         Err(fault) => {
             assert!(rt; *fault == RunFault::TooMany, "{}", trial.name);
             None

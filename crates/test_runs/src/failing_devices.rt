@@ -10,6 +10,7 @@ use devices::memory::Taken;
 use devices::sink::Sink;
 use devices::source::{DeviceFault, Source};
 use explorers::OpenGate;
+use questions::{Question, Request};
 use std::alloc::{Allocator, Global};
 use std::process::Abort;
 use std::sync::Wait;
@@ -116,8 +117,12 @@ fn served<R: AllocGlobal + Threads + Wait + Sync, S: Source, K: Sink>(
     requires source { S.failures source.old < 2 ^ 64 - 1 }
     requires sink { K.failures sink.old < 2 ^ 64 - 1 }
 {
-    let settings = plain_settings(Module::Async);
-    serve(&Host::new(rt), source, sink, &settings, 1, &OpenGate)
+    let request = Request {
+        question: Question::Visit,
+        settings: plain_settings(Module::Async),
+        workers: 1,
+    };
+    serve(&Host::new(rt), source, sink, &request, &OpenGate)
 }
 
 #[test]

@@ -1,8 +1,27 @@
-//! Words of the command line that change no report: who explores, and with how many workers.
+//! Words of the command line: who explores, with how many workers, and which question is asked.
 
+use clap::error::ErrorKind;
 use command_line::settings_of;
 use crash_model::settings::Explorer;
+use questions::Question;
 use std::test::Fail;
+
+/// Words, the question that they ask.
+const ASKED: [(&[&str], Question); 3] = [
+    (&[], Question::Visit),
+    (&["--summary", "--limit=1"], Question::Visit),
+    (&["--decide", "--workers=2", "--strict"], Question::Decide),
+];
+
+/// What a decision goes without, whether it is given the default value or not.
+const LEFT_OUT: [&[&str]; 6] = [
+    &["--decide", "--limit=4096"],
+    &["--limit", "1", "--decide"],
+    &["--decide", "--explorer=auto"],
+    &["--explorer", "sweep", "--decide"],
+    &["--decide", "--summary"],
+    &["--needs", "--decide"],
+];
 
 /// Words, the explorer that they ask for, and the number of workers.
 const EXPLORED: [(&[&str], Explorer, usize); 4] = [
@@ -21,9 +40,28 @@ fn explorers_and_workers_are_read(rt: HostRuntime) -> Result<(), Fail> {
     for (words, explorer, workers) in EXPLORED {
         let call = settings_of(rt.alloc(), words)?;
         assert!(rt;
-            call.settings.explorer == explorer && call.workers == workers,
+            call.request.settings.explorer == explorer && call.request.workers == workers,
             "{workers}"
         );
     }
     Ok(())
+}
+
+#[test]
+fn a_question_is_read(rt: HostRuntime) -> Result<(), Fail> {
+    for (words, question) in ASKED {
+        let call = settings_of(rt.alloc(), words)?;
+        assert!(rt; call.request.question == question);
+    }
+    Ok(())
+}
+
+#[test]
+fn a_decision_goes_without_what_visits_need(rt: HostRuntime) {
+    for words in LEFT_OUT {
+        match settings_of(rt.alloc(), words) {
+            Ok(_) => assert!(rt; false),
+            Err(error) => assert!(rt; error.kind() == ErrorKind::ArgumentConflict),
+        }
+    }
 }

@@ -6,6 +6,7 @@ use crash_model::modules::Module;
 use crash_text::host::Host;
 use crash_text::run::run;
 use explorers::Gate;
+use questions::{Question, Request};
 use std::process::Abort;
 use std::sync::Wait;
 use std::test::Fail;
@@ -47,8 +48,12 @@ fn reports<R: Abort + AllocGlobal + Threads + Wait + Sync, G: Gate + Sync>(
 ) -> Result<(), Fail>
     requires { (1 ≤ workers) × (workers ≤ 16) }
 {
-    let settings = plain_settings(Module::Async);
-    let outcome = run(&Host::new(rt), told.script, &settings, workers, gate)?;
+    let request = Request {
+        question: Question::Visit,
+        settings: plain_settings(Module::Async),
+        workers,
+    };
+    let outcome = run(&Host::new(rt), told.script, &request, gate)?;
     let digest = digest_of(rt.alloc(), outcome.text.as_bytes())?;
     assert!(rt; digest.as_str() == told.report, "{workers} workers");
     Ok(())

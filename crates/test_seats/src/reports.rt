@@ -5,6 +5,7 @@ ghost use Rattle.std.specs.Prelude.{◌≤◌};
 use crash_text::host::Host;
 use crash_text::run::{Outcome, run};
 use explorers::{Gate, OpenGate};
+use questions::{Question, Request};
 use std::alloc::Global;
 use std::process::Abort;
 use std::sync::Wait;
@@ -19,7 +20,7 @@ pub fn plain_report<R: Abort + AllocGlobal + Threads + Wait + Sync>(
     json: bool,
 ) -> Result<Outcome<Global>, Fail> {
     let outcome = report(rt, asked, json, 1, &OpenGate)?;
-    assert_eq!(rt; outcome.failing, asked.failing);
+    assert_eq!(rt; outcome.number, asked.failing);
     Ok(outcome)
 }
 
@@ -34,6 +35,10 @@ pub fn report<R: AllocGlobal + Threads + Wait + Sync, G: Gate + Sync>(
     requires { (1 ≤ workers) × (workers ≤ 16) }
 {
     let script = asked.whole_script(rt.alloc())?;
-    let settings = asked.settings(4096, json);
-    Ok(run(&Host::new(rt), &script, &settings, workers, gate)?)
+    let request = Request {
+        question: Question::Visit,
+        settings: asked.settings(4096, json),
+        workers,
+    };
+    Ok(run(&Host::new(rt), &script, &request, gate)?)
 }

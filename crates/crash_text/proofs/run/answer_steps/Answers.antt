@@ -12,6 +12,7 @@ use Rattle.crash_model.specs.declared.steps.Step.{Step}
 use Rattle.crash_model.specs.declared.modules.Module.{Module}
 use Rattle.crash_model.specs.declared.modules.Module.TheVariants.{Full}
 use Rattle.crash_model.proofs.PutIn.{put_in_among}
+use Rattle.full_journal_laws.proofs.Failing.{none_fails}
 use Rattle.crash_text.specs.Telling.{IsTraceOf}
 use Rattle.crash_text.proofs.run.answer_steps.Goals as goal
 
@@ -28,7 +29,8 @@ of_settings settings base steps by rules last patches module_is rules_are run gr
 
 pub returns-clause-full : goal.returns-clause-full
 returns-clause-full g c = λ full none.
-    let settings = c.args.finder.now.settings.now in
+    let settings = c.args.request.now.settings in
+    let base = c.args.base.now in
     let ordering = c.ordering-ordering.ensures in
     let all : c.ordering-ordering.result.rules.items ≡ rules_under Full [] settings.with.items = ordering.rules
     ∙ (ap (λ (k : Module). rules_under k settings.without.items settings.with.items) full
@@ -36,12 +38,13 @@ returns-clause-full g c = λ full none.
     let among : AreAmong (rules_of Full) c.ordering-ordering.result.rules.items =
     subst (λ (rs : List Rule). AreAmong (rules_of Full) rs) (sym all) (put_in_among Full settings.with.items) in
     let safe = c.in_ok-traced.ensures.full (ordering.«module» ∙ full) among c.requires.sound.0 c.requires.sound.1 in
-    let disk : IsDisk c.args.base.now = search rules in
-    c.answer_traced.ensures.full disk safe
+    let disk : IsDisk base = search rules in
+    c.answer_traced.ensures.safe (none_fails settings.strict c.in_ok-kept.kept base c.args.steps.now
+    c.in_ok-traced.traced.patches disk c.in_ok-kept.ensures safe)
 
 pub returns-clause-reported : goal.returns-clause-reported
 returns-clause-reported g c =
-    let settings = c.args.finder.now.settings.now in
+    let settings = c.args.request.now.settings in
     let t = c.in_ok-traced.traced in
     let ok = c.in_ok-traced.ensures.ok in
     let ordering = c.ordering-ordering.ensures in
@@ -54,22 +57,23 @@ returns-clause-reported g c =
       graph = under.1;
     } in
     IfOk-weaker c.answer_traced.result _ _
-    (λ outcome told. record {
+    (λ outcome report. record {
       last = ok.0;
       patches = t.patches;
       run = under.0;
       graph = under.1;
-      kept = told.kept;
-      told = told.told;
-      report = told.report ok.0 is;
+      kept = c.in_ok-kept.kept;
+      told = c.in_ok-kept.ensures;
+      report = report ok.0 is;
     })
     c.answer_traced.ensures.reported
 
 pub returns-clause-refused : goal.returns-clause-refused
 returns-clause-refused g c =
     let ok = c.in_ok-traced.ensures.ok in
-    let under = of_settings c.args.finder.now.settings.now c.args.base.now c.args.steps.now _ _ ok.0 _
+    let under = of_settings c.args.request.now.settings c.args.base.now c.args.steps.now _ _ ok.0 _
     c.ordering-ordering.ensures.«module» c.ordering-ordering.ensures.rules ok.1 ok.2 in
     IfErr-weaker c.answer_traced.result _ _
-    (λ fault says memory. inr (ok.0, c.in_ok-traced.traced.patches, under.0, under.1, (says memory).1, (says memory).0))
-    c.answer_traced.ensures.too_many
+    (λ fault past memory. let said = past memory in
+    inr (ok.0, c.in_ok-traced.traced.patches, under.0, under.1, said.0, said.2, said.1))
+    c.answer_traced.ensures.past

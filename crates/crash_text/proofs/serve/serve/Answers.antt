@@ -10,8 +10,8 @@ returns-in_err-script-clause-refused g c =
     let fault = c.in_err-script.field-0.0 in
     let coming = g.S.Source.coming c.args.source.now in
     let same : c.from_residual.result ≡ Err fault = search rules in
-    subst (λ r. IfErr r (IsRefusedBy coming c.args.settings.now)) (sym same)
-    (unread_refused coming c.args.settings.now fault c.in_err-script.ensures.kinds)
+    subst (λ r. IfErr r (IsRefusedBy coming c.args.request.now)) (sym same)
+    (unread_refused coming c.args.request.now fault c.in_err-script.ensures.kinds)
 
 pub returns-in_err-script-clause-bounded : goal.returns-in_err-script-clause-bounded
 returns-in_err-script-clause-bounded g c =
@@ -25,7 +25,7 @@ pub returns-clause-refused : goal.returns-clause-refused
 returns-clause-refused g c =
     let bytes = c.in_ok-script.script.items in
     let coming = g.S.Source.coming c.args.source.now in
-    refused_on coming bytes c.args.settings.now c.serve_script.result
+    refused_on coming bytes c.args.request.now c.serve_script.result
     (whole coming _ bytes c.in_ok-script.ensures.whole)
-    (subst (λ xs. IfErr c.serve_script.result (IsRefusedBy (Some xs) c.args.settings.now))
+    (subst (λ xs. IfErr c.serve_script.result (IsRefusedBy (Some xs) c.args.request.now))
     c.as_slice.ensures.value c.serve_script.ensures.refused)

@@ -1,0 +1,76 @@
+-- What a decision tells makes it the report that is asked for.
+use Rattle.std.proofs.Common.{◌≡◌, ℕ, List, Option, length, map, All, refl, sym, subst, ap, ◌∙◌}
+use Rattle.std.proofs.lemmas.List.{length-map}
+use Rattle.std.proofs.lemmas.Simd.{map-map}
+use Rattle.std.proofs.lemmas.List.Elements.{All-map}
+use Rattle.patch_sets.specs.Closed.{IsClosed}
+use Rattle.crash_model.specs.Answer.{detail_of, ordering_rules}
+use Rattle.crash_model.specs.Disk.{Disk}
+use Rattle.crash_model.specs.Explain.{Explanation}
+use Rattle.crash_model.specs.Lists.{when}
+use Rattle.crash_model.specs.Patches.{deps_of, CountsClosed}
+use Rattle.crash_model.specs.Report.{AreSections, IsLed}
+use Rattle.crash_model.specs.Summary.{HasFault}
+use Rattle.crash_model.specs.Trace.{Tracing}
+use Rattle.crash_model.specs.declared.patches.Patch.{Patch}
+use Rattle.crash_model.specs.declared.settings.Settings.{Settings}
+use Rattle.crash_model.proofs.Leading.{sections_lead}
+use Rattle.decision_model.specs.Decided.{AreDecided}
+use Rattle.decision_model.specs.Decision.{IsDecision, ToldDecided, AreToldDecided, decision_bytes}
+use Rattle.decision_model.specs.declared.decided_fault.DecidedFault.{DecidedFault}
+use Rattle.traced_patches.specs.Traced.{TracedPatches}
+use Rattle.report_sections.specs.Bodies.{AreClosed, explanation_by}
+use Rattle.crash_text.proofs.Bodies.{all_of, same_explanation}
+use Rattle.crash_text.specs.Telling.{IsTraceOf}
+
+-- a crash can leave the first sets of decided faults
+pub decided_closed : (kept : Option ℕ) (base : Disk) (patches : List Patch) (faults : List DecidedFault)
+    → AreDecided (HasFault kept base patches) faults → AreClosed patches (map (λ f. f.first) faults)
+decided_closed kept base patches faults are =
+    All-map (IsClosed (deps_of patches)) (λ (f : DecidedFault). f.first) faults
+    (λ k d within. (are.each k d within).among.failing.closed)
+
+-- the text is the report on a decision of traced patches
+pub is_decision : (settings : Settings) (kept : Option ℕ) (base : Disk) (t : TracedPatches) (last : Tracing)
+    (total : ℕ) (faults : List DecidedFault) (told : List ToldDecided) (text : List ℕ)
+    → IsTraceOf settings base t last → CountsClosed t.patches total
+    → AreDecided (HasFault kept base t.patches) faults → map (λ d. d.decided) told ≡ faults
+    → AreSections (detail_of settings kept) base t.patches (map (λ f. f.first) faults) (map (λ d. d.first) told)
+    → text ≡ decision_bytes settings (record {
+      patches = length t.patches;
+      closed = total;
+      explanation = when settings.explain (explanation_by base t);
+      faults = told;
+    })
+    → IsDecision settings kept base last t.patches text (length faults)
+is_decision settings kept base t last total faults told text is counted decided of_faults are whole_text = record {
+  total = total;
+  counted = counted;
+  told = told;
+  are = are_told;
+  led = led;
+  number_of = ap (λ (fs : List DecidedFault). length fs) (sym of_faults)
+      ∙ length-map told (λ (d : ToldDecided). d.decided);
+  whole = whole_text ∙ ap (λ (e : Explanation). decision_bytes settings (record {
+    patches = length t.patches;
+    closed = total;
+    explanation = when settings.explain e;
+    faults = told;
+  })) (same_explanation settings kept base t last is);
+}
+  where
+    same_firsts : map (λ f. f.first) faults ≡ map (λ d. d.decided.first) told
+    same_firsts = ap (map (λ (f : DecidedFault). f.first)) (sym of_faults)
+        ∙ map-map (λ (f : DecidedFault). f.first) (λ (d : ToldDecided). d.decided) told
+
+    are_told : AreToldDecided (detail_of settings kept) base t.patches told
+    are_told = record {
+      decided = subst (AreDecided (HasFault kept base t.patches)) (sym of_faults) decided;
+      firsts = subst (λ (firsts : List ℕ). AreSections (detail_of settings kept) base t.patches firsts
+          (map (λ d. d.first) told)) same_firsts are;
+    }
+
+    led : All (λ d. IsLed t.patches d.first) told
+    led = all_of (IsLed t.patches) (λ d. d.first) told (sections_lead base t.patches is.graph.earlier
+        (detail_of settings kept) (map (λ f. f.first) faults) (map (λ d. d.first) told)
+        (decided_closed kept base t.patches faults decided) are)

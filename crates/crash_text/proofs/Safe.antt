@@ -1,0 +1,25 @@
+-- Where no set fails, none is reported.
+use Rattle.std.proofs.Common.{◌≡◌, ℕ, List, [], ◌∷◌, length, arith, refl}
+use Rattle.std.proofs.lemmas.List.Elements.{Contains-get_or}
+use Rattle.patch_sets.specs.Sets.{AreAllInOrder}
+use Rattle.crash_model.specs.Disk.{Disk}
+use Rattle.crash_model.specs.Strict.{IsFailingUnder}
+use Rattle.crash_model.specs.Summary.{HasFault}
+use Rattle.crash_model.specs.declared.patches.Patch.{Patch}
+use Rattle.decision_model.specs.Decided.{AreDecided}
+use Rattle.decision_model.specs.declared.decided_fault.DecidedFault.{DecidedFault}
+use Rattle.std.specs.Prelude.{Option}
+
+-- no set is listed
+pub none_listed : (P : ℕ → Type 0) (sets : List ℕ) → ((set : ℕ) → ¬ (P set)) → AreAllInOrder P sets → length sets ≡ 0
+none_listed P [] none are = refl
+none_listed P (set ∷ sets) none are =
+    absurd (none set ((are.exactly set).0 (Contains-get_or (set ∷ sets) 0 0 (omega arith))))
+
+-- no fault is decided
+pub none_decided : (kept : Option ℕ) (base : Disk) (patches : List Patch) (faults : List DecidedFault)
+    → ((set : ℕ) → ¬ (IsFailingUnder kept base patches set)) → AreDecided (HasFault kept base patches) faults
+    → length faults ≡ 0
+none_decided kept base patches [] none are = refl
+none_decided kept base patches (f ∷ faults) none are =
+    absurd (none f.first (are.each 0 f (omega arith)).among.failing)

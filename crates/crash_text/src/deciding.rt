@@ -1,0 +1,56 @@
+//! A traced script, answered by a decision on each fault that a crash can leave.
+
+ghost use Rattle.std.specs.Prelude.{◌≡◌, ◌≤◌, IfOk, string_bytes};
+ghost use Rattle.questions.specs.declared.Question.TheVariants.{Decide};
+ghost use Rattle.report_sections.specs.Bodies.{AreOnBase};
+ghost use Rattle.crash_text.specs.Telling.{IsReportOn, NoneFails};
+
+use crate::host::Host;
+use crate::run::Outcome;
+use crate::traced_script::TracedScript;
+use crash_model::settings::Detail;
+use decision_report::{Decision, decision_report};
+use fault_deciding::{Decider, closed_number};
+use questions::Request;
+use std::alloc::{AllocError, Allocator};
+use std::thread::Threads;
+
+/// Decides which faults a crash can leave of a traced script, and reports. It fails only when out of memory.
+pub(crate) fn decided<R, A>(
+    host: &Host<'_, R, A>,
+    request: &Request,
+    script: &TracedScript<'_, A>,
+) -> Result<Outcome<A>, AllocError>
+where
+    R: Threads + Sync,
+    A: Allocator + Copy + Send + Sync,
+    requires workers { 1 ≤ request.now.workers }
+    requires on_base { AreOnBase script.now.base.now script.now.traced.patches }
+    ensures reported { IfOk result (λ outcome.
+        IsReportOn Decide request.now.settings script.now (string_bytes outcome.text) outcome.number) }
+    ensures safe { NoneFails script.now → IfOk result (λ outcome. outcome.number ≡ 0) }
+{
+    let detail = Detail {
+        explain: request.settings.explain,
+        kept: script.kept,
+    };
+    let decider = Decider {
+        alloc: host.alloc,
+        base: script.base,
+        graph: script.traced.graph(),
+        kept: detail.kept,
+    };
+    let faults = decider.faults(host.rt, request.workers)?;
+    let decision = Decision {
+        base: script.base,
+        traced: &script.traced,
+        settings: &request.settings,
+        detail,
+        closed: closed_number(script.traced.graph()),
+        faults: &faults,
+    };
+    Ok(Outcome {
+        text: decision_report(host.heap, host.alloc, &decision)?,
+        number: faults.len(),
+    })
+}

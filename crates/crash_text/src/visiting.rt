@@ -1,0 +1,86 @@
+//! A traced script, answered by a visit to each set that a crash can leave.
+
+ghost use Rattle.std.specs.Prelude.{◌≡◌, ◌≤◌, IfOk, IfErr, string_bytes};
+ghost use Rattle.crash_finding.specs.Limits.{IsExplorable, SaysTooMany};
+ghost use Rattle.questions.specs.declared.Question.TheVariants.{Visit};
+ghost use Rattle.report_sections.specs.Bodies.{AreOnBase};
+ghost use Rattle.crash_text.specs.Telling.{AreFindings, IsReportOf, IsReportOn, NoneFails};
+
+use crate::host::Host;
+use crate::needs::report_by_rule;
+use crate::run::Outcome;
+use crate::telling::Findings;
+use crate::traced_script::TracedScript;
+use crash_finding::{Crashes, Finder, Kept};
+use crash_model::refusals::RunFault;
+use explorers::Gate;
+use questions::Request;
+use std::alloc::{AllocError, Allocator};
+use std::sync::Wait;
+use std::thread::Threads;
+
+/// Explores what a crash can leave of a traced script, and reports.
+pub(crate) fn visited<R, A, G>(
+    host: &Host<'_, R, A>,
+    request: &Request,
+    gate: &G,
+    script: TracedScript<'_, A>,
+) -> Result<Outcome<A>, RunFault>
+where
+    R: Threads + Wait + Sync,
+    A: Allocator + Copy + Send + Sync,
+    G: Gate + Sync,
+    requires limit { IsExplorable request.now.settings }
+    requires workers { (1 ≤ request.now.workers) × (request.now.workers ≤ 16) }
+    requires on_base { AreOnBase script.base.now script.traced.patches }
+    ensures reported { IfOk result (λ outcome.
+        IsReportOn Visit request.now.settings script.entry (string_bytes outcome.text) outcome.number) }
+    ensures too_many { IfErr result (SaysTooMany script.entry.traced.patches request.now.settings.limit) }
+    ensures safe { NoneFails script.entry → IfOk result (λ outcome. outcome.number ≡ 0) }
+{
+    let finder = Finder {
+        rt: host.rt,
+        alloc: host.alloc,
+        settings: &request.settings,
+        workers: request.workers,
+        gate,
+    };
+    let crashes = Crashes {
+        base: script.base,
+        graph: script.traced.graph(),
+        kept: script.kept,
+    };
+    let found = finder.find(&crashes)?;
+    let findings = Findings {
+        base: script.base,
+        traced: script.traced,
+        settings: &request.settings,
+        kept: script.kept,
+        found,
+    };
+    Ok(Outcome {
+        text: report(host, &finder, &findings)?,
+        number: findings.found.failing,
+    })
+}
+
+/// The report on what is found, as the settings ask for it. It fails only when out of memory.
+fn report<R, A, G>(
+    host: &Host<'_, R, A>,
+    finder: &Finder<'_, R, A, G>,
+    findings: &Findings<'_, '_, A>,
+) -> Result<String<A>, AllocError>
+where
+    R: Threads + Wait + Sync,
+    A: Allocator + Copy + Send + Sync,
+    G: Gate + Sync,
+    requires same { finder.now.settings.now ≡ findings.now.settings.now }
+    requires found { AreFindings findings.now }
+    ensures { IfOk result (λ text. IsReportOf findings.now (string_bytes text)) }
+{
+    match &findings.found.kept {
+        Kept::Sets(sets) => findings.by_set(host, sets, finder.workers),
+        Kept::Faults(rows) => findings.by_fault(host, rows, finder.workers),
+        Kept::Number => report_by_rule(host, finder, findings),
+    }
+}
