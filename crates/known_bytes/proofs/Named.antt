@@ -1,5 +1,5 @@
 -- The inodes that are reached, on all disks of a family.
-use Rattle.std.proofs.Common.{◌≡◌, ℕ, ◌+◌, ◌<◌, inl, inr, List, [], ◌∷◌, ◌++◌, map, zero, suc, Bool, true, false, ◌&&◌, ◌||◌}
+use Rattle.std.proofs.Common.{◌≡◌, ℕ, ◌+◌, ◌<◌, ◌⊎◌, inl, inr, List, [], ◌∷◌, ◌++◌, map, zero, suc, Bool, true, false, ◌&&◌, ◌||◌}
 use Rattle.std.proofs.Common.{arith, tests, refl, sym, ◌∙◌, ap, subst, length, get_or, set}
 use Rattle.std.specs.Prelude.{◌==◌, nat_le, bit_and, Result, Ok, Err, IfErr}
 use Rattle.std.specs.List.{list_any, range_with_len}
@@ -98,6 +98,41 @@ module _ (r : Reading) where
         let d : Disk = the_disk set in
         let parts = and_parts (is_live d inode) (has_entry_to d dir inode) (named set m) in
         reached-step d dir inode (old.sound dir there set m) parts.1 parts.0
+
+  -- ---- the entries of one directory
+
+  -- of the first n inodes, those that its entries lead to are in the set, which has only grown
+  pub record IsReading (dir n before sure may : ℕ) (asks : List ℕ) : Type 0 where
+    pub reach : IsReach r sure may asks
+    pub grown : (id : ℕ) → Has before id → Has may id
+    pub read : (i : ℕ) → i < n → ¬ (Has may i) → InEachDisk r (λ d. names_live dir i d ≡ false)
+
+  module _ (dir n before sure may : ℕ) (asks : List ℕ) (old : IsReading dir n before sure may asks) where
+    pub reading_on : Has may n → IsReading dir (n + 1) before sure may asks
+    reading_on there = record {
+      reach = old.reach;
+      grown = old.grown;
+      read = λ i less outside. elim (cases_eq i n) [
+        | inl same ↦ absurd (outside (subst (λ (k : ℕ). Has may k) (sym same) there))
+        | inr other ↦ old.read i (omega arith) outside
+      ];
+    }
+
+    pub reading_add : (surely more : ℕ) (asked : List ℕ) (named : Result Bool ℕ) → IsReach r surely more asked
+        → ((id : ℕ) → Has may id → Has more id) → ((named ≡ Ok false) ⊎ Has more n) → IsKnown r (names_live dir n) named
+        → IsReading dir (n + 1) before surely more asked
+    reading_add surely more asked named reach grown added known = record {
+      reach = reach;
+      grown = λ id there. grown id (old.grown id there);
+      read = λ i less outside. elim (cases_eq i n) [
+        | inl same ↦ elim added [
+          | inl none ↦ subst (λ (k : ℕ). InEachDisk r (λ d. names_live dir k d ≡ false)) (sym same)
+              (subst (λ (a : Result Bool ℕ). IsKnown r (names_live dir n) a) none known)
+          | inr there ↦ absurd (outside (subst (λ (k : ℕ). Has more k) (sym same) there))
+        ]
+        | inr other ↦ old.read i (omega arith) (λ there. outside (grown i there))
+      ];
+    }
 
   -- ---- whose entries have been read
 

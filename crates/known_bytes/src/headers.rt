@@ -49,10 +49,12 @@ impl<'a, A: Allocator + Copy> KnownBytes<'a, A> {
     {
         // For the proof: that all images are disks.
         let _base = self.base();
-        let mark = self.byte_is_one_of(at, 0, [COMMITTED_MARK, DONE_MARK]);
+        let is_marked = self.byte_is_one_of(at, 0, [COMMITTED_MARK, DONE_MARK])?;
+        if !is_marked {
+            return Ok(false);
+        }
         let number = self.byte_is(at, 1, turn);
-        let rest = self.has_targets(at, targets);
-        both(mark, both(number, rest))
+        both(number, self.has_targets(at, targets))
     }
 
     /// Whether a journal block has the number of the targets and the targets behind it.

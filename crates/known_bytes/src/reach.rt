@@ -1,9 +1,9 @@
 //! The inodes that entries lead to from the root, on all disks of a family at once.
 
-ghost use Rattle.std.specs.Prelude.{◌≡◌, ◌<◌, ◌⊎◌, ℕ, IfErr, MatchOption, Ok, bit_and, false, true};
+ghost use Rattle.std.specs.Prelude.{◌≡◌, ◌==◌, ◌<◌, ◌⊎◌, ◌&&◌, ℕ, IfErr, IsTrue, MatchOption, Ok, bit_and, false, true};
 ghost use Rattle.known_bytes.specs.Family.{IsUndecided};
 ghost use Rattle.patch_sets.specs.Sets.{Has};
-ghost use Rattle.crash_model.specs.Layout.{kind_of};
+ghost use Rattle.crash_model.specs.Layout.{kind_of, pointer_of};
 ghost use Rattle.crash_model.specs.Strict.{is_lost, lacks_block, is_reached};
 ghost use Rattle.crash_model.specs.declared.disk_bytes.TheConstants.{DIRECTORY_KIND};
 ghost use Rattle.known_bytes.specs.Reached.{names_live, IsReach, ReachesNoOther, NamesNoOther};
@@ -52,6 +52,14 @@ impl Reach {
             Some(dir) => Some(dir),
             None => lowest(self.may & unread),
         }
+    }
+
+    /// Whether nothing that a directory's entries say of an inode would change what is known of it.
+    fn is_settled(&self, dir: usize, inode: usize) -> bool
+        requires { (dir < 16) × (inode < 16) }
+        ensures { IsTrue result → Has self.now.may inode }
+    {
+        has(self.may, inode) && (has(self.sure, inode) || !has(self.sure, dir))
     }
 
     /// Adds an inode to which an entry of a directory leads on each disk, on none, or as a patch decides.
@@ -132,11 +140,15 @@ impl<'a, A: Allocator + Copy> KnownDisk<'a, A> {
         requires inode { inode < 16 }
         ensures { IsKnown self.now (names_live dir inode) result }
     {
+        let is_live = self.is_live(inode);
+        if never_holds(is_live) {
+            return Ok(false);
+        }
         let is_named = match self.leads_in(dir, inode) {
             Ok(count) => count.reach(1),
             Err(id) => Err(id),
         };
-        both(self.is_live(inode), is_named)
+        both(is_live, is_named)
     }
 
     /// Adds the inodes to which the entries of a directory lead.
@@ -150,8 +162,10 @@ impl<'a, A: Allocator + Copy> KnownDisk<'a, A> {
         // For the proof: how many patches every graph has at most.
         let _base = self.base();
         for inode in 0..16u8 {
-            let named = self.names_live(dir, inode);
-            reach.add(usize::from(dir), usize::from(inode), named);
+            if !reach.is_settled(usize::from(dir), usize::from(inode)) {
+                let named = self.names_live(dir, inode);
+                reach.add(usize::from(dir), usize::from(inode), named);
+            }
         }
     }
 
@@ -193,18 +207,26 @@ impl<'a, A: Allocator + Copy> KnownDisk<'a, A> {
         negation(self.is_reached(inode))
     }
 
+    /// Whether an inode is a directory and has no block.
+    fn is_bare(&self, inode: u8) -> Result<bool, usize>
+        requires { inode < 16 }
+        ensures { IsKnown self.now (λ d. kind_of d inode == DIRECTORY_KIND && pointer_of d inode 0 == 0) result }
+    {
+        both(
+            self.kind_is(inode, DIRECTORY_KIND),
+            self.pointer_is(inode, 0, 0),
+        )
+    }
+
     /// Whether an inode is a directory that is reached and has no block.
     pub fn lacks_block(&self, inode: u8) -> Result<bool, usize>
         requires { inode < 16 }
         ensures { IsKnown self.now (λ d. lacks_block d inode) result }
     {
-        let is_bare = both(
-            self.kind_is(inode, DIRECTORY_KIND),
-            self.pointer_is(inode, 0, 0),
-        );
-        if never_holds(is_bare) {
+        let is_bare = self.is_bare(inode)?;
+        if !is_bare {
             return Ok(false);
         }
-        both(is_bare, self.is_reached(inode))
+        self.is_reached(inode)
     }
 }

@@ -5,10 +5,19 @@ use Rattle.crash_model.specs.Patches.{image_of}
 use Rattle.known_bytes.specs.Counts.{entries_in}
 use Rattle.known_bytes.specs.Reading.{IsKnown, disk_of}
 use Rattle.known_bytes.specs.Reached.{names_live}
-use Rattle.known_bytes.proofs.Answered.{known_as}
+use Rattle.crash_model.specs.Strict.{has_entry_to}
+use Rattle.known_bytes.proofs.Answered.{known_as, both_none}
 use Rattle.known_bytes.proofs.Named.{entry_there}
 use Rattle.known_bytes.proofs.disk.KnownDisk.names_live.Goals as goal
 use Rattle.known_bytes.proofs.disk.KnownDisk.names_live.Goals.{in-Ok, in-Err}
+
+pub returns-then-never_holds : goal.returns-then-never_holds
+returns-then-never_holds g c =
+    let r = c.args.self.now in
+    let i = c.args.inode in
+    both_none r (λ d. is_live d i) (λ d. has_entry_to d c.args.dir i)
+    (subst (λ (a : Result Bool ℕ). IsKnown r (λ d. is_live d i) a) (c.never_holds.ensures c.if-never_holds.true)
+    c.is_live-is_live.ensures)
 
 pub returns : goal.returns
 returns g c =
@@ -25,4 +34,4 @@ returns g c =
     known_as r (λ d. is_live d i && nat_le 1 (entries_in 10 d i dir)) (names_live dir i) c.both.result
     (λ set. ap (λ (b : Bool). is_live (disk_of r (image_of r.family.base r.family.patches set)) i && b)
     (entry_there (disk_of r (image_of r.family.base r.family.patches set)) dir i))
-    (c.both.ensures r (λ d. is_live d i) (λ d. nat_le 1 (entries_in 10 d i dir)) c.is_live.ensures there)
+    (c.both.ensures r (λ d. is_live d i) (λ d. nat_le 1 (entries_in 10 d i dir)) c.is_live-is_live.ensures there)
