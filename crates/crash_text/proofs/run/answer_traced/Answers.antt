@@ -1,0 +1,10 @@
+use Rattle.std.proofs.Common.{IfOk, string_bytes, sym, subst}
+use Rattle.crash_text.specs.Telling.{IsReportOn}
+use Rattle.crash_text.proofs.run.answer_traced.Goals as goal
+
+pub returns-in-Visit-clause-reported : goal.returns-in-Visit-clause-reported
+returns-in-Visit-clause-reported g c =
+    let asked = c.args.request.now in
+    subst (λ q. IfOk c.visited.result (λ outcome.
+    IsReportOn q asked.settings c.args.script (string_bytes outcome.text) outcome.number))
+    (sym c.in-Visit.is) c.visited.ensures.reported
