@@ -11,39 +11,8 @@ from ..rules import put_in, taken_out
 from ..trace import trace
 from ..work import Work
 from .fault_tests import tests_of
-from .reader import Problem, Reader, Undecided
-
-
-def halves(order, inside, outside, patch):
-    """The two parts of a family: the sets with a patch, and those without it."""
-    return [(inside | order.below[patch], outside), (inside, outside | order.above[patch])]
-
-
-def families(problem, test):
-    """The families for which a test holds: (inside, outside)."""
-    waiting = [(0, 0)]
-    while waiting:
-        inside, outside = waiting.pop()
-        try:
-            if test(Reader(problem, inside, outside)):
-                yield inside, outside
-        except Undecided as split:
-            waiting += halves(problem.order, inside, outside, split.patch)
-
-
-def first(problem, test):
-    """The first set for which a test holds, or None. Families that begin behind one that was found are left out."""
-    best, waiting = None, [(0, 0)]
-    while waiting:
-        inside, outside = waiting.pop()
-        if best is not None and canonical_key(inside) >= canonical_key(best):
-            continue
-        try:
-            if test(Reader(problem, inside, outside)):
-                best = inside
-        except Undecided as split:
-            waiting += halves(problem.order, inside, outside, split.patch)
-    return best
+from .reader import Problem
+from .search import families, first
 
 
 def in_order(found):

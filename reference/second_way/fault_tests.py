@@ -3,12 +3,10 @@
 import itertools
 
 from ..disk import DIRECTORY, DIRECTORY_MARK, ENTRIES, FILE, FILE_MARK, INODES, POINTERS
-from .reader import all_of, between, entry_offset, equals, itself
+from .reader import Reader, all_of, between, entry_offset, equals, itself, tried
+from .search import first
 
 SLOTS = list(itertools.product(range(INODES), range(POINTERS)))
-
-MOST_NAMES = INODES * ENTRIES
-"""No inode has more entries than all directories have."""
 
 
 def dangling(directory, k, inode):
@@ -44,13 +42,22 @@ def unwritten(inode, slot, block):
     return "3 unwritten pointer: inode %d slot %d block %d" % (inode, slot, block), test
 
 
-def low_links(inode, entries, links):
-    """An inode with more entries than its link count says."""
+def low_links(inode, links, least, most):
+    """Whether an inode has this link count and a number of entries between two."""
     def test(reader):
-        named = [ask for directory in range(INODES) for ask in reader.entries(directory, inode)]
         return all_of(lambda: reader.inode(inode, 1, equals(links)), lambda: reader.live(inode),
-                      lambda: between(named, entries, entries))
-    return "4 low link count: inode %d entries %d links %d" % (inode, entries, links), test
+                      lambda: between(reader.all_entries(inode), least, most))
+    return test
+
+
+def tests_of_links(problem, inode, links):
+    """The tests whether an inode has more entries than its link count says, by the number of entries."""
+    reader = Reader(problem, 0, 0)
+    most = sum(tried(ask) is not False for ask in reader.all_entries(inode))
+    if most > links and first(problem, low_links(inode, links, links + 1, most)) is not None:
+        for entries in range(links + 1, most + 1):
+            yield ("4 low link count: inode %d entries %d links %d" % (inode, entries, links),
+                   low_links(inode, links, entries, entries))
 
 
 def marked_free(inode, slot, block):
@@ -101,8 +108,7 @@ def tests_of_entries(problem):
         yield from (dangling(directory, k, value - 1) for value in values - {0})
     for inode in range(INODES):
         for links in problem.possible_of(inode, 1):
-            most = len(problem.places(inode)) * INODES
-            yield from (low_links(inode, entries, links) for entries in range(links + 1, min(most, MOST_NAMES) + 1))
+            yield from tests_of_links(problem, inode, links)
 
 
 def tests_of_pointers(problem):

@@ -65,6 +65,10 @@ class Problem:
                                  for k in range(ENTRIES) if inode + 1 in self.possible(block, entry_offset(k))]
         return self.names[inode]
 
+    def directories(self):
+        """The inodes that can be directories."""
+        return {inode for inode in range(INODES) if DIRECTORY in self.possible_of(inode, 0)}
+
     def blocks_of(self, directory):
         """The blocks that a directory can have."""
         return sorted(filter(self.base.in_data_area, self.possible_of(directory, 4)))
@@ -100,12 +104,14 @@ def tried(ask):
 
 def all_of(*asks):
     """Whether every answer is yes. One that is surely no settles it, whatever is undecided."""
-    answers = [tried(ask) for ask in asks]
-    if False in answers:
-        return False
-    for answer in answers:
-        if isinstance(answer, Undecided):
-            raise answer
+    split = None
+    for ask in asks:
+        answer = tried(ask)
+        if answer is False:
+            return False
+        split = split or answer if isinstance(answer, Undecided) else split
+    if split is not None:
+        raise split
     return True
 
 
@@ -215,6 +221,10 @@ class Reader:
         return [lambda block=block, k=k: self.has_entry(directory, block, k, inode)
                 for block, k in self.problem.places(inode) if block in blocks]
 
+    def all_entries(self, inode):
+        """The questions whether each entry of any directory names an inode."""
+        return [ask for directory in range(INODES) for ask in self.entries(directory, inode)]
+
     def known_names(self, directory, inode):
         """Whether a directory names an inode, or how the sets of the family are told apart."""
         return tried(lambda: between(self.entries(directory, inode), 1, INODES * ENTRIES))
@@ -223,22 +233,23 @@ class Reader:
         """Whether a path leads to an inode."""
         if not all_of(lambda: self.inode(0, 0, equals(DIRECTORY)), lambda: self.live(inode)):
             return False
-        surely, _ = self.reached_from_root(False)
+        on_the_way = self.problem.directories() | {inode}
+        surely, _ = self.reached_from_root(on_the_way, False)
         if inode in surely:
             return True
-        maybe, splits = self.reached_from_root(True)
+        maybe, splits = self.reached_from_root(on_the_way, True)
         if inode not in maybe:
             return False
         raise splits[0]
 
-    def reached_from_root(self, with_maybe):
-        """The inodes that entries lead to, those that may be there as well where that is asked for, and how the sets
-        of the family are told apart."""
+    def reached_from_root(self, on_the_way, with_maybe):
+        """Those of some inodes that entries lead to, and that may be there as well where that is asked for, and how the
+        sets of the family are told apart."""
         known, splits, fresh = {0}, [], [0]
         while fresh:
             directory = fresh.pop()
-            for other in range(INODES):
-                answer = False if other in known else self.known_names(directory, other)
+            for other in sorted(on_the_way - known):
+                answer = self.known_names(directory, other)
                 if isinstance(answer, Undecided):
                     splits.append(answer)
                 if answer is True or with_maybe and answer is not False:
