@@ -2,4 +2,4 @@
 
 LEVEL = "extended"
 """`plain`: those of the first release. `extended`: also rules, `--explain`, `--summary`, `--needs` and `--strict`.
-`all`: also `--atomic`, `--whole-blocks`, `--decide`, `--enough`, `--search` and rules with `before`."""
+`deciding`: also `--decide`. `all`: also `--atomic`, `--whole-blocks`, `--enough`, `--search` and rules with `before`."""

@@ -11,7 +11,7 @@ HERE = pathlib.Path(__file__).resolve().parent
 sys.path[:0] = [str(HERE.parent), str(HERE)]
 
 from program import program
-from reference.compare import EXPLORERS, Plan, compare, run_case
+from reference.compare import BIG, EXPLORERS, Plan, compare, run_case
 from reference.level import LEVEL
 from reference.runs import Run, differences, run_program, run_reference
 
@@ -20,7 +20,10 @@ SEED = "gate"
 JOBS = 4
 
 REPORT = 17
-"""The number of a case of the seed that is a short report in text."""
+"""The number of a case of the seed that is a short report in text, and a decision where the options have one."""
+
+SMALLEST = 5
+"""The number of a big case of the seed that the reference answers within a second or two."""
 
 
 class TheProgram(unittest.TestCase):
@@ -55,11 +58,11 @@ def differences_of_big(path):
 class TheComparison(unittest.TestCase):
     """A program that answers wrongly is found."""
 
-    def compared(self, mode, timeout=60):
+    def compared(self, mode, timeout=60, level="extended", case=REPORT, runs=4):
         """The differences of a stub from the reference, on one case."""
         stub = (sys.executable, str(HERE / "helpers" / "wrong_program.py"), mode)
-        result = run_case(Plan(stub, SEED, LEVEL, (1, 4), timeout), REPORT)
-        self.assertEqual(result.runs, 4)
+        result = run_case(Plan(stub, SEED, level, (1, 4), timeout), case)
+        self.assertEqual(result.runs, runs)
         return result.differences
 
     def ways(self, mode, timeout=60):
@@ -83,6 +86,17 @@ class TheComparison(unittest.TestCase):
 
     def test_finds_a_wrong_number_of_workers(self):
         self.assertEqual(self.ways("workers"), ["--explorer board --workers 4", "--explorer sweep --workers 4"])
+
+    def test_compares_decisions(self):
+        self.assertEqual(self.compared("right", level="deciding", runs=2), [])
+        self.assertEqual(len(self.compared("status", level="deciding", runs=2)), 2)
+        found = self.compared("workers", level="deciding", runs=2)
+        self.assertEqual([one.split(":")[0] for one in found], ["--workers 4"])
+
+    def test_compares_decisions_of_big_scripts(self):
+        self.assertEqual(self.compared("right", level=BIG, case=SMALLEST, runs=2), [])
+        found = self.compared("workers", level=BIG, case=SMALLEST, runs=2)
+        self.assertEqual([one.split(":")[0] for one in found], ["--workers 4"])
 
     def test_finds_a_program_that_does_not_end(self):
         found = self.compared("slow", 0.2)
