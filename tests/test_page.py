@@ -208,6 +208,18 @@ class CrashmapPage(unittest.TestCase):
         said = subprocess.run(words, env=environment, stdout=subprocess.PIPE, timeout=SECONDS, check=True).stdout
         self.assertEqual(said, b"--unproved a --strict --json --explain --summary\n")
 
+    def test_a_decision_goes_without_a_summary(self):
+        """A report that begins with a brace is made a page, so what this program prints is passed on."""
+        printing = self.stand_in('echo "$@"\n')
+        self.assertEqual(self.make("a", "--decide", of=printing), (0, b"a --decide --json --explain\n", b""))
+
+    def test_a_decision(self):
+        printing = self.stand_in(f"cat '{PAGE}/test/reports/decided.json'\nexit 1\n")
+        self.script.write_bytes(CLEAN)
+        words = [self.script, "--module", "async", "--decide"]
+        page = self.page_of_case("decided", "a script", CLEAN, words)
+        self.assertEqual(self.make(*words, of=printing), (1, page, b""))
+
     def test_a_terminal(self):
         """With no words, on a terminal, it says that it reads standard input; elsewhere it says nothing."""
         ours, theirs = pty.openpty()
