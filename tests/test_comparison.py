@@ -12,8 +12,12 @@ sys.path[:0] = [str(HERE.parent), str(HERE)]
 
 from program import program
 from reference.compare import BIG, EXPLORERS, Plan, compare, run_case
+from reference.explore import start
 from reference.level import LEVEL
+from reference.random_cases.big import LEAST_PATCHES, make_big_case
 from reference.runs import Run, differences, run_program, run_reference
+from reference.settings import MOST_PATCHES
+from reference.trace import trace
 
 CASES = 400
 SEED = "gate"
@@ -102,6 +106,22 @@ class TheComparison(unittest.TestCase):
         found = self.compared("slow", 0.2)
         self.assertEqual(len(found), 4)
         self.assertTrue(all("no answer in time" in one for one in found))
+
+
+class BigScripts(unittest.TestCase):
+    """The cases of decisions of big scripts."""
+
+    def test_each_has_many_patches(self):
+        for index in range(16):
+            case, words = make_big_case(SEED, index)
+            base, steps, _ = start(case.script, case.settings())
+            self.assertIn(len(trace(base, steps, case.settings())), range(LEAST_PATCHES, MOST_PATCHES + 1))
+            self.assertIn("--decide", words)
+
+    def test_a_case_is_the_same_each_time(self):
+        for index in range(4):
+            (one, words), (other, again) = make_big_case(SEED, index), make_big_case(SEED, index)
+            self.assertEqual((one.script, words), (other.script, again))
 
 
 class Differences(unittest.TestCase):

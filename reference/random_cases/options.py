@@ -111,8 +111,8 @@ def deciding(case, chance):
 
 
 def decide(case, chance):
-    """Asks for a decision in nearly half of the cases."""
-    if chance.random() < 0.45:
+    """Asks for a decision in a third of the cases."""
+    if chance.random() < 0.33:
         ask(case, chance, "decide")
         drop_other_questions(case)
 
