@@ -2,4 +2,5 @@
 
 LEVEL = "extended"
 """`plain`: those of the first release. `extended`: also rules, `--explain`, `--summary`, `--needs` and `--strict`.
-`deciding`: also `--decide`. `all`: also `--atomic`, `--whole-blocks`, `--enough`, `--search` and rules with `before`."""
+`deciding`: also `--decide`. `all`: also `--atomic`, `--whole-blocks`, `--enough`, `--search` and rules with
+`before`."""

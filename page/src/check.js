@@ -172,6 +172,9 @@ function checkHead(json) {
   if (json.strict !== undefined) must(typeof json.strict === "boolean", "strict", "true or false", json.strict);
 }
 
+const checkLength = ({ failing, closed }) =>
+  must(failing.length <= closed, "failing", `a list of at most ${closed} sets`, failing);
+
 function checkLists(json) {
   const [name, check] = json.faults !== undefined ? ["faults", checkFault]
     : json.rules !== undefined ? ["rules", checkRule] : ["failing", checkFailing];
@@ -182,7 +185,7 @@ function checkLists(json) {
   checkList(name, json[name]);
   if (name === "rules") checkCount("failing", json.failing, 0, json.closed);
   else if (name === "faults" && !isDecision(json)) checkCount("sets", json.sets, 0, json.closed);
-  else if (name === "failing") must(json.failing.length <= json.closed, "failing", `a list of at most ${json.closed} sets`, json.failing);
+  else if (name === "failing") checkLength(json);
   json[name].slice(0, MOST_CHOICES).forEach((one, k) => check(`${name}[${k}]`, one, json));
 }
 

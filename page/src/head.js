@@ -31,7 +31,8 @@ export function drawHead() {
   const command = words && element("code", { id: "command" }, "crashmap", words);
   return element("header", { id: "head" },
     element("h1", {}, "crashmap ", element("span", { id: "name" }, shortened(nameNow(), MOST_LETTERS))),
-    drawCounts(report), report.failing && !report.isDecision ? drawShare(report) : null, drawOrdering(report), drawOpener(),
+    drawCounts(report), report.failing && !report.isDecision ? drawShare(report) : null,
+    drawOrdering(report), drawOpener(),
     element("div", { id: "about" }, element("div", {}, command, drawAbout(report)), drawScript()));
 }
 

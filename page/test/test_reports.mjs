@@ -216,5 +216,5 @@ async function testNoReport() {
   check("every case is tested", Object.keys(cases).length, 16);
 }
 
-await run([testCreate, testReuse, testPointer, testTwice, testNothingFails, testDecisions, testImmense, testOrderings, testKeyboard,
-  testSizesAndSchemes, testLong, testNoReport]);
+await run([testCreate, testReuse, testPointer, testTwice, testNothingFails, testDecisions, testImmense, testOrderings,
+  testKeyboard, testSizesAndSchemes, testLong, testNoReport]);
