@@ -15,7 +15,7 @@ CREATED = b"module soft\npatches 2\nclosed 3\nfailing 0\n"
 HELP = ("Explores every state", "Usage: crashmap", "\nWhat to run:\n", "[SCRIPT]", "--blocks <N>", "--journal <JL>",
         "\nThe ordering:\n", "--module <M>", "--without <RULE>", "--with <RULE>", "\nWhat fails:\n", "--strict",
         "\nHow far:\n", "--limit <L>", "--explorer <E>", "--workers <W>", "\nHow to read it:\n", "--explain",
-        "--summary", "--needs", "--json")
+        "--summary", "--needs", "--decide", "--json")
 
 
 def answer(*words, script=b""):

@@ -20,6 +20,7 @@ from reference.settings import MOST_PATCHES
 from reference.trace import trace
 
 CASES = 400
+BIG_CASES = 16
 SEED = "gate"
 JOBS = 4
 
@@ -42,6 +43,11 @@ class TheProgram(unittest.TestCase):
         self.assertEqual(len(results), CASES)
         self.assertGreater(sum(one.runs for one in results), 3 * CASES)
 
+    def test_decides_big_scripts_as_the_reference(self):
+        self.assertTrue(program().exists(), "%s is not built" % program())
+        results = compare(Plan((str(program()),), SEED, BIG, (1, 4), 120), BIG_CASES, JOBS)
+        self.assertEqual([(one.index, one.differences) for one in results if one.differences], [])
+        self.assertEqual(sum(one.runs for one in results), 2 * BIG_CASES)
 
     def test_explores_big_scripts_as_the_reference(self):
         scripts = sorted((HERE.parent / "bench" / "scripts").glob("*.script"))

@@ -73,7 +73,7 @@ class InABrowser(unittest.TestCase):
         with tempfile.TemporaryDirectory() as folder:
             for script in scripts:
                 words = re.search(r"^# \./crashmap gallery/\S+ (.*)$", script.read_text(), re.MULTILINE)[1].split()
-                for kind, more in (("faults", []), ("rules", ["--needs"])):
+                for kind, more in (("faults", []), ("rules", ["--needs"]), ("decision", ["--decide"])):
                     command = [ROOT / "crashmap-page", script, *words, *more]
                     status, page, err = run(command, CRASHMAP_PROGRAM=str(program()))
                     self.assertIn(status, (0, 1), (script, err))
