@@ -1,10 +1,11 @@
-"""python3 -m reference.compare PROGRAM [--count N] [--seed S] [--workers 1,4] [--options LEVEL] [--jobs J]
+"""python3 -m reference.compare PROGRAM [--count N] [--seed S] [--workers 1,4] [--options LEVEL] [--big] [--jobs J]
 
 Runs a program on random cases, with each number of workers and both explorers, and compares standard output, the exit
 status and standard error with what the reference answers. Where the command line is at fault, standard error must only
 not be empty. Every other case gets its script as a file, the rest on standard input. PROGRAM may have several words,
-quoted as for a shell. A case that is too much for the reference counts as failed. Prints each difference and a last
-line `N passed, M failed`; the exit status is 1 where something differs.
+quoted as for a shell. A case that is too much for the reference counts as failed. With --big the cases are scripts of
+100 to 124 patches with `--decide`, which the second way of the reference answers; such a case takes it some seconds.
+Prints each difference and a last line `N passed, M failed`; the exit status is 1 where something differs.
 """
 
 import argparse
@@ -18,13 +19,18 @@ from collections import namedtuple
 
 from .command_line import MOST_ON_A_BOARD, TOO_MUCH
 from .level import LEVEL
+from .random_cases.big import make_big_case
 from .random_cases.make import LEVELS, make_case
-from .runs import Run, differences, run_program, run_reference
+from .runs import Run, differences, run_program, run_reference, run_second_way
 
 EXPLORERS = ("board", "sweep")
 
+BIG = "big"
+"""The level of big scripts with `--decide`."""
+
 Plan = namedtuple("Plan", "command seed level workers timeout")
-"""How cases are run: the program's words, the seed, the level of options, the numbers of workers, and seconds."""
+"""How cases are run: the program's words, the seed, the level of options or `BIG`, the numbers of workers, and
+seconds."""
 
 Result = namedtuple("Result", "index words script runs differences")
 """The words and the script of a case, the number of runs, and the differences, each with the words that were added."""
@@ -45,7 +51,7 @@ def wanted_of(case, words):
     """What the reference answers to a case."""
     if case.missing:
         return Run(2, b"", b"crashmap: 50 cannot read the script\n")
-    return run_reference(words, case.script)
+    return (run_second_way if case.is_big else run_reference)(words, case.script)
 
 
 def ways_of(case, workers):
@@ -71,9 +77,14 @@ def run_ways(plan, case, words, given, wanted):
     return len(ways), found
 
 
+def case_of(plan, index):
+    """A case of a plan, and the words of its command line."""
+    return make_big_case(plan.seed, index) if plan.level == BIG else make_case(plan.seed, index, level=plan.level)
+
+
 def run_case(plan, index):
     """Runs one case in all ways."""
-    case, words = make_case(plan.seed, index, level=plan.level)
+    case, words = case_of(plan, index)
     wanted = wanted_of(case, words)
     if wanted.status == TOO_MUCH:
         return Result(index, words, case.script, 1, ["too much for the reference"])
@@ -93,7 +104,7 @@ def compare(plan, count, jobs=1):
     if jobs == 1:
         return [run_case(plan, index) for index in range(count)]
     with concurrent.futures.ProcessPoolExecutor(jobs) as pool:
-        return list(pool.map(functools.partial(run_case, plan), range(count), chunksize=4))
+        return list(pool.map(functools.partial(run_case, plan), range(count), chunksize=1 if plan.level == BIG else 4))
 
 
 def print_result(result):
@@ -118,6 +129,7 @@ def read_call(words):
     parser.add_argument("--seed", default="1")
     parser.add_argument("--workers", type=numbers, default=(1, 4))
     parser.add_argument("--options", choices=LEVELS, default=LEVEL)
+    parser.add_argument("--big", action="store_true")
     parser.add_argument("--jobs", type=int, default=1)
     parser.add_argument("--timeout", type=float, default=120)
     parser.add_argument("--show", type=int, default=20, help="cases that are printed at most")
@@ -127,13 +139,13 @@ def read_call(words):
 def main(words):
     """The command; gives the exit status."""
     call = read_call(words)
-    plan = Plan(tuple(call.program), call.seed, call.options, call.workers, call.timeout)
+    plan = Plan(tuple(call.program), call.seed, BIG if call.big else call.options, call.workers, call.timeout)
     results = compare(plan, call.count, call.jobs)
     differing = [result for result in results if result.differences]
     for result in differing[:call.show]:
         print_result(result)
     print("%d runs of %d cases, seed %s, options %s" % (
-        sum(result.runs for result in results), len(results), call.seed, call.options))
+        sum(result.runs for result in results), len(results), plan.seed, plan.level))
     print("%d passed, %d failed" % (len(results) - len(differing), len(differing)))
     return 1 if differing or not results else 0
 

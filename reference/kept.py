@@ -8,7 +8,7 @@ import subprocess
 from collections import namedtuple
 
 from .noise import images
-from .runs import Run, differences, run_reference
+from .runs import Run, differences, run_either_way, run_reference
 
 TOP = pathlib.Path(__file__).resolve().parent.parent
 
@@ -91,7 +91,7 @@ def page():
     values = []
     for name, case in cases.items():
         script = "".join(line + "\n" for line in case["script"]).encode()
-        run = run_reference(case["words"] + ["--json", "--explain"], script)
+        run = run_either_way(case["words"] + ["--json", "--explain"], script)
         values.append(file_value(folder / "reports" / (name + ".json"), run.out))
     lonely = [path for path in sorted((folder / "reports").glob("*.json")) if path.stem not in cases]
     return values + [Value(str(path.relative_to(TOP)), "has no script in cases.mjs", None) for path in lonely]

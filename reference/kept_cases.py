@@ -6,7 +6,7 @@ import sys
 
 from .command_line import TOO_MUCH
 from .kept import TOP, Value
-from .runs import first_difference, run_reference, run_second_way
+from .runs import first_difference, run_either_way
 
 NOT_ANSWERED = {"--help", "-h", "--version", "-V"}
 """Words that ask about the program itself. The reference has no answer to them."""
@@ -54,9 +54,7 @@ def case_value(module, path):
         return Value(name, str(error), None)
     if NOT_ANSWERED & set(case.words):
         return None
-    run = run_reference(case.words, case.script)
-    if run.status == TOO_MUCH:
-        run = run_second_way(case.words, case.script)
+    run = run_either_way(case.words, case.script)
     return Value(name, problem_of(case, run), lambda: module.write_case(path, remade(case, run)))
 
 

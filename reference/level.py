@@ -1,5 +1,6 @@
 """Which options the product of today has. Change it here when later options land."""
 
-LEVEL = "extended"
+LEVEL = "deciding"
 """`plain`: those of the first release. `extended`: also rules, `--explain`, `--summary`, `--needs` and `--strict`.
-`all`: also `--atomic`, `--whole-blocks`, `--decide`, `--enough`, `--search` and rules with `before`."""
+`deciding`: also `--decide`. `all`: also `--atomic`, `--whole-blocks`, `--enough`, `--search` and rules with
+`before`."""

@@ -5,25 +5,38 @@ import json
 import subprocess
 from collections import namedtuple
 
+from .answer import answer
 from .command_line import program
+from .refusals import MOST_SETS
 from .second_way.decide import answer as second_answer
+from .second_way.decide import prepared
 
 Run = namedtuple("Run", "status out err")
 """The exit status, standard output and standard error."""
 
 
-def run_reference(words, script):
+def run_reference(words, script, answered=answer):
     """What the reference answers to the words with these bytes on standard input."""
     out, err = io.BytesIO(), io.BytesIO()
-    status = program(list(words), io.BytesIO(script), out, err)
+    status = program(list(words), io.BytesIO(script), out, err, answered)
     return Run(status, out.getvalue(), err.getvalue())
 
 
 def run_second_way(words, script):
     """What the second way answers, which does not enumerate, to the questions that it takes."""
-    out, err = io.BytesIO(), io.BytesIO()
-    status = program(list(words), io.BytesIO(script), out, err, second_answer)
-    return Run(status, out.getvalue(), err.getvalue())
+    return run_reference(words, script, second_answer)
+
+
+def run_either_way(words, script):
+    """What the reference answers, by the second way where there are too many closed sets to enumerate."""
+    return run_reference(words, script, answer_either_way)
+
+
+def answer_either_way(script, settings):
+    """As `answer`, by the second way where there are too many closed sets to enumerate."""
+    if settings.search is None and not settings.needs and prepared(script, settings)[-1] > MOST_SETS:
+        return second_answer(script, settings)
+    return answer(script, settings)
 
 
 def run_program(command, words, script, timeout):

@@ -18,6 +18,8 @@ from tests.program import program
 
 EXPLORERS = ("board", "sweep")
 WORKERS = ("1", "2", "8", "16")
+# No explorer is added beside these options: the words name one, or nothing is explored.
+NO_EXPLORER_BESIDE = ("--explorer", "--decide")
 SECONDS = 120
 MOST_LINES = 20
 MOST_LETTERS = 160
@@ -31,7 +33,8 @@ def further_words(case):
     """What is added to the words of a case, in each of its runs."""
     if case.fault is not None:
         return [()]
-    explorers = [()] if names_option(case.words, "--explorer") else [("--explorer", one) for one in EXPLORERS]
+    is_settled = any(names_option(case.words, option) for option in NO_EXPLORER_BESIDE)
+    explorers = [()] if is_settled else [("--explorer", one) for one in EXPLORERS]
     workers = [()] if names_option(case.words, "--workers") else [("--workers", one) for one in WORKERS]
     runs = [one + other for one, other in itertools.product(explorers, workers)]
     return runs if () in runs else [()] + runs
@@ -207,8 +210,10 @@ class BadCases(unittest.TestCase):
         program_file.write_text('#!/bin/sh\ncase "$*" in *sweep*8) echo x;; esac\n')
         program_file.chmod(0o755)
         self.assertIn("with --explorer sweep --workers 8:", self.told(b"output:\n", binary=str(program_file)))
-        words = b"words: --explorer=board --workers 2\noutput:\n"
-        self.assertEqual(self.told(words, binary=str(program_file)), "")
+        for words in (b"words: --explorer=board --workers 2\n", b"words: --decide\n"):
+            self.assertEqual(self.told(words + b"output:\n", binary=str(program_file)), "")
+        program_file.write_text('#!/bin/sh\ncase "$*" in *decide*8) echo x;; esac\n')
+        self.assertIn("with --workers 8:", self.told(b"words: --decide\noutput:\n", binary=str(program_file)))
 
     def test_what_is_written_is_read(self):
         for number, case in enumerate((

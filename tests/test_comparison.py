@@ -11,16 +11,24 @@ HERE = pathlib.Path(__file__).resolve().parent
 sys.path[:0] = [str(HERE.parent), str(HERE)]
 
 from program import program
-from reference.compare import EXPLORERS, Plan, compare, run_case
+from reference.compare import BIG, EXPLORERS, Plan, compare, run_case
+from reference.explore import start
 from reference.level import LEVEL
+from reference.random_cases.big import LEAST_PATCHES, make_big_case
 from reference.runs import Run, differences, run_program, run_reference
+from reference.settings import MOST_PATCHES
+from reference.trace import trace
 
 CASES = 400
+BIG_CASES = 16
 SEED = "gate"
 JOBS = 4
 
 REPORT = 17
-"""The number of a case of the seed that is a short report in text."""
+"""The number of a case of the seed that is a short report in text, and a decision where the options have one."""
+
+SMALLEST = 5
+"""The number of a big case of the seed that the reference answers within a second or two."""
 
 
 class TheProgram(unittest.TestCase):
@@ -35,6 +43,11 @@ class TheProgram(unittest.TestCase):
         self.assertEqual(len(results), CASES)
         self.assertGreater(sum(one.runs for one in results), 3 * CASES)
 
+    def test_decides_big_scripts_as_the_reference(self):
+        self.assertTrue(program().exists(), "%s is not built" % program())
+        results = compare(Plan((str(program()),), SEED, BIG, (1, 4), 120), BIG_CASES, JOBS)
+        self.assertEqual([(one.index, one.differences) for one in results if one.differences], [])
+        self.assertEqual(sum(one.runs for one in results), 2 * BIG_CASES)
 
     def test_explores_big_scripts_as_the_reference(self):
         scripts = sorted((HERE.parent / "bench" / "scripts").glob("*.script"))
@@ -55,11 +68,11 @@ def differences_of_big(path):
 class TheComparison(unittest.TestCase):
     """A program that answers wrongly is found."""
 
-    def compared(self, mode, timeout=60):
+    def compared(self, mode, timeout=60, level="extended", case=REPORT, runs=4):
         """The differences of a stub from the reference, on one case."""
         stub = (sys.executable, str(HERE / "helpers" / "wrong_program.py"), mode)
-        result = run_case(Plan(stub, SEED, LEVEL, (1, 4), timeout), REPORT)
-        self.assertEqual(result.runs, 4)
+        result = run_case(Plan(stub, SEED, level, (1, 4), timeout), case)
+        self.assertEqual(result.runs, runs)
         return result.differences
 
     def ways(self, mode, timeout=60):
@@ -84,10 +97,37 @@ class TheComparison(unittest.TestCase):
     def test_finds_a_wrong_number_of_workers(self):
         self.assertEqual(self.ways("workers"), ["--explorer board --workers 4", "--explorer sweep --workers 4"])
 
+    def test_compares_decisions(self):
+        self.assertEqual(self.compared("right", level="deciding", runs=2), [])
+        self.assertEqual(len(self.compared("status", level="deciding", runs=2)), 2)
+        found = self.compared("workers", level="deciding", runs=2)
+        self.assertEqual([one.split(":")[0] for one in found], ["--workers 4"])
+
+    def test_compares_decisions_of_big_scripts(self):
+        self.assertEqual(self.compared("right", level=BIG, case=SMALLEST, runs=2), [])
+        found = self.compared("workers", level=BIG, case=SMALLEST, runs=2)
+        self.assertEqual([one.split(":")[0] for one in found], ["--workers 4"])
+
     def test_finds_a_program_that_does_not_end(self):
         found = self.compared("slow", 0.2)
         self.assertEqual(len(found), 4)
         self.assertTrue(all("no answer in time" in one for one in found))
+
+
+class BigScripts(unittest.TestCase):
+    """The cases of decisions of big scripts."""
+
+    def test_each_has_many_patches(self):
+        for index in range(16):
+            case, words = make_big_case(SEED, index)
+            base, steps, _ = start(case.script, case.settings())
+            self.assertIn(len(trace(base, steps, case.settings())), range(LEAST_PATCHES, MOST_PATCHES + 1))
+            self.assertIn("--decide", words)
+
+    def test_a_case_is_the_same_each_time(self):
+        for index in range(4):
+            (one, words), (other, again) = make_big_case(SEED, index), make_big_case(SEED, index)
+            self.assertEqual((one.script, words), (other.script, again))
 
 
 class Differences(unittest.TestCase):

@@ -48,6 +48,7 @@ class Gallery(unittest.TestCase):
         row = rf"\({re.escape(script.name)}\) .* {failing} of {closed} \|"
         self.assertRegex((GALLERY / "README.md").read_text(), row)
         self.assert_explorers_agree(words)
+        self.assert_decided_as_summed_up(words)
 
     def assert_explorers_agree(self, words):
         for reading in READINGS:
@@ -55,6 +56,12 @@ class Gallery(unittest.TestCase):
             sweep = run([*words, *reading.split(), "--explorer", "sweep", "--workers", "3"])
             self.assertEqual(board, sweep, reading)
             self.assertTrue(board[1], reading)
+
+    def assert_decided_as_summed_up(self, words):
+        """A decision is a summary without its numbers of failing sets."""
+        status, summary, errors = run([*words, "--summary"])
+        lines = [line for line in summary.splitlines(True) if not re.match("(failing|sets) ", line)]
+        self.assertEqual(run([*words, "--decide", "--workers", "3"]), (status, "".join(lines), errors))
 
 
 if __name__ == "__main__":

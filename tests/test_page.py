@@ -73,7 +73,7 @@ class InABrowser(unittest.TestCase):
         with tempfile.TemporaryDirectory() as folder:
             for script in scripts:
                 words = re.search(r"^# \./crashmap gallery/\S+ (.*)$", script.read_text(), re.MULTILINE)[1].split()
-                for kind, more in (("faults", []), ("rules", ["--needs"])):
+                for kind, more in (("faults", []), ("rules", ["--needs"]), ("decision", ["--decide"])):
                     command = [ROOT / "crashmap-page", script, *words, *more]
                     status, page, err = run(command, CRASHMAP_PROGRAM=str(program()))
                     self.assertIn(status, (0, 1), (script, err))
@@ -207,6 +207,18 @@ class CrashmapPage(unittest.TestCase):
         words = [self.folder / "crashmap-page", "--unproved", "a", "--strict"]
         said = subprocess.run(words, env=environment, stdout=subprocess.PIPE, timeout=SECONDS, check=True).stdout
         self.assertEqual(said, b"--unproved a --strict --json --explain --summary\n")
+
+    def test_a_decision_goes_without_a_summary(self):
+        """A report that begins with a brace is made a page, so what this program prints is passed on."""
+        printing = self.stand_in('echo "$@"\n')
+        self.assertEqual(self.make("a", "--decide", of=printing), (0, b"a --decide --json --explain\n", b""))
+
+    def test_a_decision(self):
+        printing = self.stand_in(f"cat '{PAGE}/test/reports/decided.json'\nexit 1\n")
+        self.script.write_bytes(CLEAN)
+        words = [self.script, "--module", "async", "--decide"]
+        page = self.page_of_case("decided", "a script", CLEAN, words)
+        self.assertEqual(self.make(*words, of=printing), (1, page, b""))
 
     def test_a_terminal(self):
         """With no words, on a terminal, it says that it reads standard input; elsewhere it says nothing."""

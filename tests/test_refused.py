@@ -77,6 +77,15 @@ class RefusedMemory(unittest.TestCase):
     def test_two_workers(self):
         self.assert_out_of_memory(str(self.script), "--module", "async", "--workers", "2", may_report=True)
 
+    def test_a_decision(self):
+        self.assert_out_of_memory(str(self.script), "--module", "async", "--decide", "--strict")
+
+    def test_a_decision_in_json(self):
+        self.assert_out_of_memory(str(self.script), "--module", "async", "--decide", "--explain", "--json")
+
+    def test_a_decision_by_two_workers(self):
+        self.assert_out_of_memory(str(self.script), "--module", "async", "--decide", "--workers", "2", may_report=True)
+
     def test_a_refused_script(self):
         self.assert_out_of_memory("--limit", "1", text=SCRIPT)
 

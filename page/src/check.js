@@ -127,10 +127,14 @@ function checkChange(place, change, report) {
 
 /* --- what can be chosen --- */
 
+/** A decision has no numbers of failing sets, and its number of closed sets is a text. */
+export const isDecision = ({ faults, closed, sets }) =>
+  faults !== undefined && typeof closed === "string" && sets === undefined;
+
 function checkFault(place, one, report) {
   checkObject(place, one);
   checkText(`${place}.fault`, one.fault);
-  checkCount(`${place}.sets`, one.sets, 1, report.closed);
+  if (!isDecision(report)) checkCount(`${place}.sets`, one.sets, 1, report.closed);
   checkSet(place, one, report);
 }
 
@@ -156,13 +160,20 @@ function checkFailing(place, one, report) {
 /** The head of a report: counts, the module, and what differs from its ordering. */
 function checkHead(json) {
   checkText("module", json.module);
-  checkCount("closed", json.closed, 1);
+  if (isDecision(json)) {
+    must(/^[1-9]\d*$/.test(json.closed), "closed", "the digits of a whole number, at least 1", json.closed);
+  } else {
+    checkCount("closed", json.closed, 1);
+  }
   if (json.patches !== undefined) {
     must(json.patches === json.trace.length, "patches", `the length of trace (${json.trace.length})`, json.patches);
   }
   for (const list of ["with", "without"]) if (json[list] !== undefined) checkTexts(list, json[list]);
   if (json.strict !== undefined) must(typeof json.strict === "boolean", "strict", "true or false", json.strict);
 }
+
+const checkLength = ({ failing, closed }) =>
+  must(failing.length <= closed, "failing", `a list of at most ${closed} sets`, failing);
 
 function checkLists(json) {
   const [name, check] = json.faults !== undefined ? ["faults", checkFault]
@@ -172,9 +183,9 @@ function checkLists(json) {
       + "Make it with --json --explain --summary.");
   }
   checkList(name, json[name]);
-  if (name === "faults") checkCount("sets", json.sets, 0, json.closed);
-  else if (name === "rules") checkCount("failing", json.failing, 0, json.closed);
-  else must(json.failing.length <= json.closed, "failing", `a list of at most ${json.closed} sets`, json.failing);
+  if (name === "rules") checkCount("failing", json.failing, 0, json.closed);
+  else if (name === "faults" && !isDecision(json)) checkCount("sets", json.sets, 0, json.closed);
+  else if (name === "failing") checkLength(json);
   json[name].slice(0, MOST_CHOICES).forEach((one, k) => check(`${name}[${k}]`, one, json));
 }
 

@@ -20,8 +20,9 @@ function diskWords({ blocks, journal, root }) {
 /** The title of the window: script, result, ordering and size of the disk. */
 export function titleNow() {
   const { report } = view, strict = report.strict ? ", strict" : "";
-  return `${nameNow()}: ${report.failing} of ${report.closed} sets fail under ${orderingWords(report)}${strict}, `
-    + `${diskWords(report)} - crashmap`;
+  const found = report.isDecision ? `${countOf(report.failing, "fault", "faults")} in ${report.closed} sets`
+    : `${report.failing} of ${report.closed} sets fail`;
+  return `${nameNow()}: ${found} under ${orderingWords(report)}${strict}, ${diskWords(report)} - crashmap`;
 }
 
 export function drawHead() {
@@ -30,7 +31,8 @@ export function drawHead() {
   const command = words && element("code", { id: "command" }, "crashmap", words);
   return element("header", { id: "head" },
     element("h1", {}, "crashmap ", element("span", { id: "name" }, shortened(nameNow(), MOST_LETTERS))),
-    drawCounts(report), report.failing ? drawShare(report) : null, drawOrdering(report), drawOpener(),
+    drawCounts(report), report.failing && !report.isDecision ? drawShare(report) : null,
+    drawOrdering(report), drawOpener(),
     element("div", { id: "about" }, element("div", {}, command, drawAbout(report)), drawScript()));
 }
 
@@ -38,9 +40,10 @@ function drawCounts(report) {
   const fact = (name, value, kind) =>
     element("div", { class: kind }, element("dt", {}, name), element("dd", {}, String(value)));
   const counted = (count, one, many, kind) => fact(count === 1 ? one : many, count, kind);
+  const names = report.isDecision ? ["fault", "faults"] : ["failing set", "failing sets"];
   return element("dl", {}, fact("module", report.module, "module"), counted(report.trace.length, "patch", "patches"),
     counted(report.closed, "closed set", "closed sets"),
-    counted(report.failing, "failing set", "failing sets", report.failing ? "bad" : ""));
+    counted(report.failing, ...names, report.failing ? "bad" : ""));
 }
 
 function drawShare({ failing, closed }) {

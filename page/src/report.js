@@ -1,6 +1,7 @@
-// A report as `crashmap --json --explain --summary` (or `--needs`) prints it, brought into the one form that the page
-// works on: the patches with their bytes, the script's operations, and what a person can choose to look at.
-import { MOST_CHOICES, ReportError, checkReport } from "./check.js";
+// A report as `crashmap --json --explain --summary` prints it (or `--needs` or `--decide`), brought into the one form
+// that the page works on: the patches with their bytes, the script's operations, and what a person can choose to look
+// at.
+import { MOST_CHOICES, ReportError, checkReport, isDecision } from "./check.js";
 import { JOURNAL_START, explainPatches } from "./disk.js";
 import { bytesOf, countOf } from "./words.js";
 
@@ -21,7 +22,7 @@ export function readReport(text) {
   const trace = json.trace.map((patch, id) =>
     ({ ...patch, id, bytes: bytesOf(patch.new), undo: bytesOf(patch.undo) }));
   const report = {
-    module: json.module, closed: json.closed, failing: json.sets ?? json.failing.length ?? json.failing,
+    module: json.module, closed: numberOf(json.closed), isDecision: isDecision(json), failing: failingOf(json),
     without: json.without ?? [], with: json.with ?? [], strict: json.strict ?? false,
     base, blocks, journal, root: JOURNAL_START + journal, trace,
   };
@@ -29,6 +30,15 @@ export function readReport(text) {
   explainPatches(report);
   return Object.assign(report, choicesOf(json, report));
 }
+
+/** A number of closed sets, which a decision writes as a text since it can have 38 digits. */
+function numberOf(closed) {
+  const exact = BigInt(closed);
+  return exact <= Number.MAX_SAFE_INTEGER ? Number(exact) : exact;
+}
+
+/** The number of failing sets; of a decision, which has none, the number of faults. */
+const failingOf = json => isDecision(json) ? json.faults.length : json.sets ?? json.failing.length ?? json.failing;
 
 /** The script's operations with their patches, and for each journal block the block that it is a copy of. */
 function operationsOf(trace) {
@@ -48,7 +58,7 @@ function operationsOf(trace) {
 
 /* --- what can be chosen --- */
 
-/** Faults (--summary), rules (--needs) or failing sets; the run without a crash comes last. */
+/** Faults (--summary, --decide), rules (--needs) or failing sets; the run without a crash comes last. */
 function choicesOf(json, report) {
   const [title, all, choiceOf, asks] = json.faults ? ["Faults", json.faults, faultChoice, "faults"]
     : json.rules ? ["Rules that the script needs", usedFirst(json.rules), ruleChoice, "rules"]

@@ -112,6 +112,32 @@ async function testNothingFails() {
   check("no patch at all", said.length, 2);
 }
 
+async function testDecisions() {
+  const report = await open("decided"), page = await shown();
+  checkFault("decided", page, report, 0);
+  check("decided: the head", page.facts, ["moduleasync", "patches5", "closed sets24", "faults3"]);
+  check("decided: the title", page.title.includes(": 3 faults in 24 sets under async"), true);
+  check("decided: a fault has no number of sets", page.choices[0], "1 dangling entrydirectory 0 entry 0 inode 1");
+  check("decided: no share of sets", await browser.ask('document.querySelector(".share")'), null);
+  const { length } = report.faults;
+  for (let choice = 0; choice < length; choice++) {
+    await open("decided", `#choice=${choice}`);
+    checkFault(`decided, fault ${choice}`, await shown(), report, choice);
+  }
+  await open("certain");
+  check("certain: says so", (await shown()).verdict,
+    ["None: after each of the 11 crashes that are possible, replay leaves a clean disk."]);
+}
+
+async function testImmense() {
+  const report = await open("immense", "#choice=15"), page = await shown();
+  checkFault("immense", page, report, 15);
+  check("immense: the head", page.facts,
+    ["moduleasync", "patches124", "closed sets134930772508700371486596739530489856", "faults78"]);
+  check("immense: each fault can be chosen", page.choices.length, report.faults.length + 1);
+  await keepPicture("immense");
+}
+
 async function testOrderings() {
   await open("lost", "#choice=1");
   const lost = await shown();
@@ -187,8 +213,8 @@ async function testNoReport() {
   await openEmpty();
   const words = await browser.ask("document.body.textContent");
   check("a page without a report asks for one", words.includes("Drop a report here"), true);
-  check("every case is tested", Object.keys(cases).length, 13);
+  check("every case is tested", Object.keys(cases).length, 16);
 }
 
-await run([testCreate, testReuse, testPointer, testTwice, testNothingFails, testOrderings, testKeyboard,
-  testSizesAndSchemes, testLong, testNoReport]);
+await run([testCreate, testReuse, testPointer, testTwice, testNothingFails, testDecisions, testImmense, testOrderings,
+  testKeyboard, testSizesAndSchemes, testLong, testNoReport]);

@@ -13,7 +13,8 @@ FLAGS = ("explain", "summary", "needs", "strict", "atomic", "whole_blocks", "dec
 
 class Case:
     """A script and its options. `words` is the whole command line where that is at fault, else None. `missing` says
-    that the command line names a file that is not there. `wish` says what the case was made for."""
+    that the command line names a file that is not there. `is_big` says that the script has too many closed sets to
+    enumerate. `wish` says what the case was made for."""
 
     def __init__(self, module, blocks=16, journal=0):
         self.module, self.blocks, self.journal = module, blocks, journal
@@ -21,7 +22,7 @@ class Case:
         self.script = b""
         self.wish = ""
         self.words = None
-        self.missing = False
+        self.missing = self.is_big = False
         self.without, self.added = [], []
         self.explain = self.summary = self.needs = self.strict = False
         self.atomic = self.whole_blocks = self.decide = self.enough = False

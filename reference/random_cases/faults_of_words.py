@@ -45,6 +45,14 @@ def extended_fault(chance, module):
     return ["--module", module] + chance.choice(kinds)
 
 
+def decide_fault(chance, module):
+    """A fault in `--decide`."""
+    kinds = [["--decide"] + more for more in (["--summary"], ["--needs"], ["--limit", "4096"], ["--explorer", "auto"],
+                                              ["--explorer=sweep"], ["--explorer", "board"], ["--decide"])]
+    words = chance.choice(kinds + [["--limit=1", "--decide"], ["--decide=yes"]])
+    return ["--module", module] + words if chance.random() < 0.5 else words + ["--module", module]
+
+
 def deciding_fault(chance, module):
     """A fault in a question about all sets, or in a rule for all operations before."""
     question = chance.choice(QUESTIONS)

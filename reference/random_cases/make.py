@@ -5,14 +5,17 @@ import random
 from ..rules import MODULES
 from .accepted import accepted_case
 from .case import Case, joined
-from .faults_of_words import PLAIN_FAULTS, deciding_fault, extended_fault
-from .options import deciding, extend
+from .faults_of_words import PLAIN_FAULTS, decide_fault, deciding_fault, extended_fault
+from .options import decide, deciding, extend
 from .refused import bad_geometry, group_fault, journal_full, many_patches, refused_by_plan
 from .spoiled import mutate, spoil
 
-LEVELS = ("plain", "extended", "all")
+LEVELS = ("plain", "extended", "deciding", "all")
 """Which options a case may have: those of the first release; rules, ways to read a report and strict checkers too;
-all."""
+`--decide` too; all."""
+
+WITH_QUESTIONS = {"deciding": (0.04, decide_fault, decide), "all": (0.06, deciding_fault, deciding)}
+"""Levels with questions about all sets: the share of command lines at fault, and what makes these and the options."""
 
 REFUSALS = [1, 2, 10, 11, 12, 13, 14, 15, 16, 17, 18, 19, 20, 21, 30, 40, 41, 42, 43]
 
@@ -132,13 +135,13 @@ def strict_words(case, chance, words):
 def make_case(seed, index, modules=MODULES, level="all", heavy_share=HEAVY_SHARE):
     """Case `index` of a seed with options of this level: the case and the words of its command line."""
     modules = list(modules)
-    chance, more, most = (chance_of(seed, index, *name) for name in ((), ("extended",), ("all",)))
+    chance, more, most = (chance_of(seed, index, *name) for name in ((), ("extended",), (level,)))
     case = plain_case(chance, modules, heavy_share)
-    with_more, with_most = level != "plain", level == "all"
+    with_more, with_most = level != "plain", level in WITH_QUESTIONS
     if with_more and case.is_plain():
         give_options(case, more, 0.05, extended_fault, extend)
     if with_most and case.is_plain():
-        give_options(case, most, 0.06, deciding_fault, deciding)
+        give_options(case, most, *WITH_QUESTIONS[level])
     words = case.basic_words(chance)
     if with_more and case.words is None:
         words = around(more, extended_pieces(case, more), words)

@@ -105,11 +105,23 @@ def deciding(case, chance):
         return
     prepare(case, chance, question)
     ask(case, chance, question)
+    drop_other_questions(case)
+    while case.enough and len(case.added) > 3 and case.added != list(SOFT_RULES):
+        case.added.pop()
+
+
+def decide(case, chance):
+    """Asks for a decision in a third of the cases."""
+    if chance.random() < 0.33:
+        ask(case, chance, "decide")
+        drop_other_questions(case)
+
+
+def drop_other_questions(case):
+    """Leaves out the words that do not go with a question about all sets."""
     if case.decide or case.enough or case.search:
         case.summary = case.needs = False
         case.limit = None
-        while case.enough and len(case.added) > 3 and case.added != list(SOFT_RULES):
-            case.added.pop()
 
 
 def prepare(case, chance, question):

@@ -11,39 +11,35 @@ from ..rules import put_in, taken_out
 from ..trace import trace
 from ..work import Work
 from .fault_tests import tests_of
-from .reader import Problem, Reader, Undecided
+from .reader import Problem
+from .search import families, first
 
 
-def families(problem, test):
-    """The families in which a test finds a fault: (text, inside, outside)."""
-    order = problem.order
-    waiting = [(0, 0)]
-    while waiting:
-        inside, outside = waiting.pop()
-        try:
-            text = test(Reader(problem, inside, outside))
-        except Undecided as split:
-            waiting.append((inside, outside | order.above[split.patch]))
-            waiting.append((inside | order.below[split.patch], outside))
-            continue
-        if text is not None:
-            yield text, inside, outside
+def in_order(found):
+    """Faults, as rows that begin with a text, in the order of reports."""
+    return sorted(found, key=lambda row: [int(number) for number in re.findall("[0-9]+", row[0])])
+
+
+def firsts(problem):
+    """Each fault with the first set that has it, in the order of reports."""
+    found = ((text, first(problem, test)) for text, test in tests_of(problem))
+    return in_order((text, one) for text, one in found if one is not None)
 
 
 def decided(problem):
     """Each fault with the number of the sets that have it and the first of them, in the order of reports."""
-    counts, least = {}, {}
-    for text, inside, outside in (one for test in tests_of(problem) for one in families(problem, test)):
-        free = problem.order.everything() & ~inside & ~outside
-        counts[text] = counts.get(text, 0) + problem.order.count(free)
-        least[text] = min(least.get(text, inside), inside, key=canonical_key)
-    order = sorted(counts, key=lambda text: [int(number) for number in re.findall("[0-9]+", text)])
-    return [(text, counts[text], least[text]) for text in order]
+    everything, found = problem.order.everything(), []
+    for text, test in tests_of(problem):
+        some = list(families(problem, test))
+        if some:
+            count = sum(problem.order.count(everything & ~inside & ~outside) for inside, outside in some)
+            found.append((text, count, min((inside for inside, _ in some), key=canonical_key)))
+    return in_order(found)
 
 
 def is_safe(problem):
     """Whether no closed set fails."""
-    return all(next(families(problem, test), None) is None for test in tests_of(problem))
+    return all(next(families(problem, test), None) is None for _, test in tests_of(problem))
 
 
 class SecondWork(Work):
@@ -60,9 +56,9 @@ class SecondWork(Work):
         return not is_safe(self.problem(rules))
 
     def all_faults(self, rules):
-        """Each fault with its number of sets and the first of them."""
+        """Each fault with the first set that has it. The number of its sets is not known."""
         problem = self.problem(rules)
-        return [(text, sets, self.judge.judged(problem.patches, first)) for text, sets, first in decided(problem)]
+        return [(text, None, self.judge.judged(problem.patches, one)) for text, one in firsts(problem)]
 
     def first_fault(self, rules):
         return self.all_faults(rules)[0]

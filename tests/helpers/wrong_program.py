@@ -2,6 +2,7 @@
 
 right: as the reference. silent: nothing, with status 0. status: another exit status. errors: more on standard error.
 sweep: one digit more in a report of the sweep. workers: one line less in a report by four workers. slow: no answer.
+It answers `--decide` by the reference's second way.
 """
 
 import pathlib
@@ -9,7 +10,7 @@ import sys
 import time
 
 sys.path.insert(0, str(pathlib.Path(__file__).resolve().parent.parent.parent))
-from reference.runs import run_reference
+from reference.runs import run_reference, run_second_way
 
 
 def spoiled(mode, words, run):
@@ -32,7 +33,7 @@ def main(mode, words):
     if mode == "slow":
         time.sleep(60)
     script = b"" if any(word.endswith(".script") for word in words) else sys.stdin.buffer.read()
-    run = spoiled(mode, words, run_reference(words, script))
+    run = spoiled(mode, words, (run_second_way if "--decide" in words else run_reference)(words, script))
     sys.stdout.buffer.write(run.out)
     sys.stderr.buffer.write(run.err)
     return run.status
