@@ -21,7 +21,7 @@ use Rattle.known_bytes.proofs.Answered.{and_false_right}
 row_byte : (d : Disk) (at k : ℕ) → k < 128 → get_or (block_of d at) k 0 ≡ byte d at k
 row_byte d at k within = block-at d at k within
 
-target_byte : (d : Disk) (at k : ℕ) → k < count_of (block_of d at) → count_of (block_of d at) ≤ 8
+pub target_byte : (d : Disk) (at k : ℕ) → k < count_of (block_of d at) → count_of (block_of d at) ≤ 8
     → get_or (targets_of (block_of d at)) k 0 ≡ byte d at (3 + k)
 target_byte d at k less few =
     get_or-take (count_of (block_of d at)) (drop 3 (block_of d at)) k 0 less

@@ -1,5 +1,5 @@
 -- Headers of which it is open whether they are there, but not what they are.
-use Rattle.std.specs.Prelude.{◌≡◌, ◌≢◌, ℕ, zero, suc, ◌+◌, ◌<◌, List, length, slice_index, Bool, true, false, ◌&&◌, ◌==◌}
+use Rattle.std.specs.Prelude.{◌≡◌, ◌≢◌, ℕ, zero, suc, ◌+◌, ◌<◌, ◌≤◌, List, length, slice_index, Bool, true, false, ◌&&◌, ◌==◌}
 use Rattle.std.specs.Prelude.{nat_le, ◌↔◌, ◌⊎◌, Result, Ok, Err}
 use Rattle.patch_sets.specs.Sets.{Has}
 use Rattle.std.specs.List.{list_all}
@@ -46,3 +46,12 @@ AreNoted (Ok true) old was new is first targets =
 AreNoted (Ok false) old was new is first targets = (new ≡ old) × (is ≡ was)
 AreNoted (Err id) old was new is first targets =
     (new ≡ old) × ((block : ℕ) → Has is block ↔ (Has was block ⊎ IsAmong targets (length targets) block))
+
+-- a block before this one names a block where a header would that has its copy here
+pub record IsCopyOf (d : Disk) (block at : ℕ) : Type 0 where
+  pub header : ℕ
+  pub place : ℕ
+  pub from : 4 ≤ header
+  pub few : place < 8
+  pub behind : at ≡ header + 1 + place
+  pub names : byte d header (3 + place) ≡ block

@@ -3,7 +3,7 @@
 ghost use Rattle.std.specs.Prelude.{◌≡◌, ◌<◌, ◌-◌, ◌↔◌, ◌⊎◌, ℕ, IsTrue};
 ghost use Rattle.known_bytes.specs.Family.{HasValue};
 
-use patch_sets::set::{has, with};
+use patch_sets::set::{has, is_subset, with};
 
 /// A set of bytes: those below 128, and those from 128 on, each by what it is more.
 #[derive(Clone, Copy, Default)]
@@ -51,5 +51,13 @@ impl ByteSet {
             low: self.low | more.low,
             high: self.high | more.high,
         }
+    }
+
+    /// Whether another set has all bytes of this one.
+    pub fn is_within(self, whole: ByteSet) -> bool
+        ensures { IsTrue result → (value : ℕ) → HasValue self.low self.high value
+            → HasValue whole.low whole.high value }
+    {
+        is_subset(self.low, whole.low) && is_subset(self.high, whole.high)
     }
 }

@@ -3,20 +3,21 @@ use Rattle.std.proofs.lemmas.Bool.{cases_eq}
 use Rattle.crash_model.specs.Disk.{Disk, byte}
 use Rattle.crash_model.specs.Patches.{image_of}
 use Rattle.known_bytes.specs.Family.{HasValue}
+use Rattle.known_bytes.specs.Headers.{IsCopyOf}
 use Rattle.known_bytes.proofs.Sources.{replayed_value}
 use Rattle.known_bytes.proofs.bytes.KnownBytes.possible.Goals as goal
 
 pub loop-at-preserved : goal.loop-at-preserved
 loop-at-preserved g c =
     let f = c.args.self.now in
-    let more = c.values.ensures in
-    let u = c.union-values.ensures in
+    let new = c.with_copy-values.ensures in
+    let v = c.with_copy-values.result in
     record {
-      own = λ set m. u.first _ (c.loop-at.invariant.own set m);
+      own = λ set m. new.grown _ (c.loop-at.invariant.own set m);
       copies = λ at from less set m. elim (cases_eq at c.loop-at.at) [
-        | inl same ↦ subst (λ (k : ℕ). HasValue c.union-values.result.low c.union-values.result.high
-            (byte (image_of f.base f.patches set) k c.args.offset)) (sym same) (u.second _ (more set m))
-        | inr other ↦ u.first _ (c.loop-at.invariant.copies at from (omega arith) set m)
+        | inl same ↦ subst (λ (k : ℕ). IsCopyOf (image_of f.base f.patches set) c.args.block k
+            → HasValue v.low v.high (byte (image_of f.base f.patches set) k c.args.offset)) (sym same) (new.copied set m)
+        | inr other ↦ λ is. new.grown _ (c.loop-at.invariant.copies at from (omega arith) set m is)
       ];
     }
 
