@@ -1,10 +1,10 @@
 -- What a decision tells makes it the report that is asked for.
-use Rattle.std.proofs.Common.{◌≡◌, ℕ, List, Option, length, map, All, refl, sym, subst, ap, ◌∙◌}
+use Rattle.std.proofs.Common.{◌≡◌, ℕ, List, Option, length, map, All, sym, subst, ap, ◌∙◌}
 use Rattle.std.proofs.lemmas.List.{length-map}
 use Rattle.std.proofs.lemmas.Simd.{map-map}
 use Rattle.std.proofs.lemmas.List.Elements.{All-map}
 use Rattle.patch_sets.specs.Closed.{IsClosed}
-use Rattle.crash_model.specs.Answer.{detail_of, ordering_rules}
+use Rattle.crash_model.specs.Answer.{detail_of}
 use Rattle.crash_model.specs.Disk.{Disk}
 use Rattle.crash_model.specs.Explain.{Explanation}
 use Rattle.crash_model.specs.Lists.{when}

@@ -1,5 +1,5 @@
 -- Where no set fails, none is reported.
-use Rattle.std.proofs.Common.{◌≡◌, ℕ, List, [], ◌∷◌, length, arith, refl}
+use Rattle.std.proofs.Common.{◌≡◌, ℕ, List, [], ◌∷◌, Option, length, arith, refl}
 use Rattle.std.proofs.lemmas.List.Elements.{Contains-get_or}
 use Rattle.patch_sets.specs.Sets.{AreAllInOrder}
 use Rattle.crash_model.specs.Disk.{Disk}
@@ -8,7 +8,6 @@ use Rattle.crash_model.specs.Summary.{HasFault}
 use Rattle.crash_model.specs.declared.patches.Patch.{Patch}
 use Rattle.decision_model.specs.Decided.{AreDecided}
 use Rattle.decision_model.specs.declared.decided_fault.DecidedFault.{DecidedFault}
-use Rattle.std.specs.Prelude.{Option}
 
 -- no set is listed
 pub none_listed : (P : ℕ → Type 0) (sets : List ℕ) → ((set : ℕ) → ¬ (P set)) → AreAllInOrder P sets → length sets ≡ 0
