@@ -10,6 +10,7 @@ use traced_patches::Traced;
 /// of closed sets, and each fault that a crash can leave.
 ///
 /// `detail` is how much it tells of the first set that has a fault.
+#[derive(Drop)]
 pub struct Decision<'found, 'steps, 'asked, A: Allocator + Copy> {
     pub base: &'steps Image<A>,
     pub traced: &'found Traced<'steps, A>,

@@ -5,6 +5,8 @@
 #![tactic(auto)]
 
 #[cfg(test)]
+mod decisions;
+#[cfg(test)]
 mod failing_devices;
 #[cfg(test)]
 mod progress;
