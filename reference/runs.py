@@ -7,7 +7,7 @@ from collections import namedtuple
 
 from .answer import answer
 from .command_line import program
-from .refusals import MOST_SETS
+from .refusals import MOST_SETS, TooMuch
 from .second_way.decide import answer as second_answer
 from .second_way.decide import prepared
 
@@ -33,10 +33,16 @@ def run_either_way(words, script):
 
 
 def answer_either_way(script, settings):
-    """As `answer`, by the second way where there are too many closed sets to enumerate."""
+    """As `answer`, by the second way where there are too many closed sets to enumerate, or where `--enough` comes to
+    too many without some of the rules."""
     if settings.search is None and not settings.needs and prepared(script, settings)[-1] > MOST_SETS:
         return second_answer(script, settings)
-    return answer(script, settings)
+    try:
+        return answer(script, settings)
+    except TooMuch:
+        if settings.search is not None or not settings.enough:
+            raise
+        return second_answer(script, settings)
 
 
 def run_program(command, words, script, timeout):

@@ -86,6 +86,12 @@ class RefusedMemory(unittest.TestCase):
     def test_a_decision_by_two_workers(self):
         self.assert_out_of_memory(str(self.script), "--module", "async", "--decide", "--workers", "2", may_report=True)
 
+    def test_rules_that_are_enough(self):
+        self.assert_out_of_memory(str(self.script), "--enough", "--strict")
+
+    def test_rules_that_are_enough_in_json(self):
+        self.assert_out_of_memory(str(self.script), "--enough", "--explain", "--json")
+
     def test_a_refused_script(self):
         self.assert_out_of_memory("--limit", "1", text=SCRIPT)
 

@@ -53,6 +53,17 @@ def decide_fault(chance, module):
     return ["--module", module] + words if chance.random() < 0.5 else words + ["--module", module]
 
 
+def choosing_fault(chance, module):
+    """A fault in `--decide`, or in `--enough`."""
+    if chance.random() < 0.5:
+        return decide_fault(chance, module)
+    kinds = [["--enough"] + more for more in (["--decide"], ["--summary"], ["--needs"], ["--limit", "4096"],
+                                              ["--explorer", "auto"], ["--explorer=sweep"], ["--explorer", "board"],
+                                              ["--enough"])]
+    words = chance.choice(kinds + [["--decide", "--enough"], ["--limit=1", "--enough"], ["--enough=yes"]])
+    return ["--module", module] + words if chance.random() < 0.5 else words + ["--module", module]
+
+
 def deciding_fault(chance, module):
     """A fault in a question about all sets, or in a rule for all operations before."""
     question = chance.choice(QUESTIONS)

@@ -100,7 +100,17 @@ def deciding(case, chance):
     case.whole_blocks = case.wish == "accepted" and chance.random() < 0.25
     if chance.random() < 0.35:
         add_before_rules(case, chance)
-    question = chance.choice(QUESTIONS)
+    ask_one_of(case, chance, QUESTIONS)
+
+
+def choose(case, chance):
+    """Asks for a decision, or for the rules that are enough, in two thirds of the cases."""
+    ask_one_of(case, chance, ["decide", "enough", "none"])
+
+
+def ask_one_of(case, chance, questions):
+    """Asks one of the questions, of which `none` leaves the case as it is."""
+    question = chance.choice(questions)
     if question == "none":
         return
     prepare(case, chance, question)

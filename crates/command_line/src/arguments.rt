@@ -158,6 +158,12 @@ static HEADS: [Head; 5] = [
                 help: "Find each fault of any closed set, with the first set that has it, however many closed sets there \
                        are",
             },
+            Entry {
+                name: "enough",
+                takes: Takes::NothingWithout(&["decide", "limit", "explorer", "summary", "needs"]),
+                help: "Find the smallest sets of the ordering's rules that are enough, and each group of which one \
+                       rule is needed, with the crash that comes without it",
+            },
         ],
     },
     // What the report tells, and in which form.

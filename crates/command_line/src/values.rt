@@ -76,10 +76,12 @@ pub(crate) fn report_by(matches: &ArgMatches<'_>) -> ReportBy {
     }
 }
 
-/// What is to be found out: each failing set, or each fault with `--decide`.
+/// What to find out: each failing set, each fault with `--decide`, or which rules are enough with `--enough`.
 pub(crate) fn question_of(matches: &ArgMatches<'_>) -> Question {
     if matches.get_flag("decide") {
         Question::Decide
+    } else if matches.get_flag("enough") {
+        Question::Enough
     } else {
         Question::Visit
     }

@@ -1,5 +1,5 @@
 -- What the parts of a run find makes its answer.
-use Rattle.std.proofs.Common.{◌≡◌, ℕ, List, Ok, Bool, true, false, refl, subst, sym, inl, inr}
+use Rattle.std.proofs.Common.{◌≡◌, ◌≢◌, ℕ, List, Ok, Bool, true, false, refl, subst, sym, inl, inr}
 use Rattle.crash_model.specs.Answer.{Refused, Reported, HasBase, IsAnswer, bad_geometry, bad_base, bad_trace, too_many}
 use Rattle.crash_model.specs.Answer.{reported}
 use Rattle.crash_model.specs.Disk.{Disk, IsGeometry, empty_disk}
@@ -16,7 +16,7 @@ use Rattle.crash_model.specs.declared.settings.Settings.{Settings}
 use Rattle.crash_model.specs.declared.steps.Step.{Step}
 use Rattle.questions.specs.Answers.{IsAnswerTo}
 use Rattle.questions.specs.declared.Question.{Question}
-use Rattle.questions.specs.declared.Question.TheVariants.{Visit, Decide}
+use Rattle.questions.specs.declared.Question.TheVariants.{Visit, Decide, Enough}
 use Rattle.crash_text.specs.BaseRefusal.{IsBaseRefusal}
 use Rattle.crash_text.specs.Telling.{AreReported, AreRefused}
 
@@ -45,15 +45,16 @@ module _ (bytes : List ℕ) (settings : Settings) where
     built = subst (λ (s : List Step). base_from (empty_disk settings.blocks settings.journal) s ≡ Ok base) same is;
   }
 
+  not_too_many : (fault : RunFault) → is_too_many fault ≡ false → fault ≢ TooMany
+  not_too_many fault other same =
+      let many : is_too_many fault ≡ true = subst (λ f. is_too_many f ≡ true) (sym same) refl in cc
+
   -- a refusal that is not for too many closed sets answers each question
   refused_to : (question : Question) (fault : RunFault) → is_too_many fault ≡ false
       → IsAnswer bytes settings (Refused fault) → IsAnswerTo question bytes settings (Refused fault)
   refused_to Visit fault other is = is
-  refused_to Decide fault other is = (
-    is,
-    λ same.
-        let many : is_too_many fault ≡ true = subst (λ f. is_too_many f ≡ true) (sym same) refl in cc,
-  )
+  refused_to Decide fault other is = (is, not_too_many fault other)
+  refused_to Enough fault other is = (is, not_too_many fault other)
 
   pub refused_script : (question : Question) (fault : ScriptFault)
       → IsAnswer bytes settings (Refused (run_of_script fault))
@@ -88,6 +89,15 @@ module _ (bytes : List ℕ) (settings : Settings) where
       reported are.kept base are.last are.patches text number
       (record { steps = steps; start = start; run = are.run; graph = are.graph }) are.told are.report
   reported_steps Decide base steps text number start are = record {
+    kept = are.kept;
+    base = base;
+    last = are.last;
+    patches = are.patches;
+    graph = record { steps = steps; start = start; run = are.run; graph = are.graph };
+    told = are.told;
+    report = are.report;
+  }
+  reported_steps Enough base steps text number start are = record {
     kept = are.kept;
     base = base;
     last = are.last;

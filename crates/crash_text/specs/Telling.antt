@@ -18,8 +18,9 @@ use Rattle.crash_model.specs.declared.settings.Detail.{Detail}
 use Rattle.crash_model.specs.declared.settings.Settings.{Settings}
 use Rattle.crash_model.specs.declared.steps.Step.{Step}
 use Rattle.decision_model.specs.Decision.{IsDecision}
+use Rattle.enough_model.specs.EnoughReport.{IsEnoughReport}
 use Rattle.questions.specs.declared.Question.{Question}
-use Rattle.questions.specs.declared.Question.TheVariants.{Visit, Decide}
+use Rattle.questions.specs.declared.Question.TheVariants.{Visit, Decide, Enough}
 use Rattle.traced_patches.specs.Traced.{TracedPatches}
 use Rattle.report_sections.specs.Bodies.{AreOnBase, TellsBody, explanation_by}
 use Rattle.report_sections.specs.declared.report.Body as code
@@ -65,6 +66,8 @@ Tells settings detail base t closed failing chosen text =
 abbrev pub IsReportTo : Question → Settings → Option ℕ → Disk → Tracing → List Patch → List ℕ → ℕ → Type 0
 IsReportTo Visit settings kept base last patches text number = IsReport settings kept base last patches text number
 IsReportTo Decide settings kept base last patches text number = IsDecision settings kept base last patches text number
+IsReportTo Enough settings kept base last patches text number =
+    IsEnoughReport settings kept base last patches text number
 
 -- the text is that report on a traced script, whatever state traced its patches
 abbrev pub IsReportOn : {A : Type 0} → Question → Settings → TracedScript A → List ℕ → ℕ → Type 0

@@ -3,6 +3,7 @@
 
 pub mod answer;
 mod deciding;
+mod enough;
 pub mod host;
 mod keeping;
 mod needs;

@@ -13,6 +13,7 @@ ghost use Rattle.crash_text.specs.BaseRefusal.{IsBaseRefusal};
 ghost use Rattle.crash_text.specs.Telling.{AreReported, AreRefused, IsReportOn, IsPastLimit, NoneFails};
 
 use crate::deciding::decided;
+use crate::enough::enough;
 use crate::host::Host;
 use crate::keeping::told_kept;
 use crate::traced_script::TracedScript;
@@ -30,14 +31,16 @@ use std::sync::Wait;
 use std::thread::Threads;
 
 /// A report's text, and the number of its failing sets, or of its faults where that is the question.
+///
+/// Where the question is which rules are enough, the number is 0 where all of them are, and else 1.
 #[derive(Drop)]
 pub struct Outcome<A: Allocator> {
     pub text: String<A>,
     pub number: usize,
 }
 
-/// Answers a question about a script: reads it, builds the base, traces the rest, visits what a crash can leave or
-/// decides which faults it can leave, and reports.
+/// Answers a question about a script: reads it, builds the base, traces the rest, visits what a crash can leave, or
+/// decides which faults it can leave or which rules are enough, and reports.
 ///
 /// For every number of workers, 1 to 16, and every schedule, an answer other than out of memory is the one defined for
 /// the script's bytes and the settings, without threads. The gate is told of each claim of a worker on a board, and of
@@ -123,6 +126,10 @@ where
         Question::Visit => visited(host, request, gate, script),
         Question::Decide => {
             let outcome = decided(host, request, &script)?;
+            Ok(outcome)
+        }
+        Question::Enough => {
+            let outcome = enough(host, &request.settings, &script)?;
             Ok(outcome)
         }
     }

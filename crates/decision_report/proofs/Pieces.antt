@@ -3,16 +3,19 @@ use Rattle.std.proofs.Common.{◌≡◌, ℕ, List, [], ◌++◌, length, codes,
 use Rattle.std.proofs.Common.{append_assoc}
 use Rattle.std.specs.Prelude.{if◌then◌else◌}
 use Rattle.std.specs.List.{flat_map}
+use Rattle.crash_model.specs.Disk.{Disk}
 use Rattle.crash_model.specs.Explain.{base_json, trace_json, explanation_text}
 use Rattle.crash_model.specs.Lists.{when}
 use Rattle.crash_model.specs.Report.{Section, fault_text, ids_json, json_string, module_text, replay_json, writes_json}
 use Rattle.crash_model.specs.Whole.{rules_json, told_with, told_without}
+use Rattle.crash_model.specs.declared.settings.Settings.{Settings}
 use Rattle.decision_model.specs.Decision.{ToldDecided, decided_text, decided_json, text_decision, json_decision}
 use Rattle.decision_model.specs.Decision.{decision_bytes, ordering_text}
 use Rattle.decision_model.specs.declared.decided_fault.DecidedFault.{DecidedFault}
-use Rattle.json_values.specs.Items.{comma_before, crash_json}
+use Rattle.json_values.specs.Items.{crash_json}
 use Rattle.report_json.specs.JsonReport.{module_key, strict_key, from_strict}
 use Rattle.report_sections.specs.Bodies.{explanation_by}
+use Rattle.traced_patches.specs.Traced.{TracedPatches}
 use Rattle.decision_report.specs.declared.decision.Decision.{Decision}
 use Rattle.decision_report.specs.Written.{WritesDecision, decision_of, fault_items, head_lines}
 
@@ -42,22 +45,19 @@ as_text decision text is wrote = record {
 }
 
 -- the lines of the head
-pub head_pieces : {A : Type 0} (decision : Decision A) (n : ℕ) (before one two after : List ℕ)
-    → n ≡ length decision.traced.now.patches → one ≡ before ++ ordering_text decision.settings.now
-    → two ≡ one ++ (codes "patches " ++ (decimal n ++ (codes "\nclosed " ++ (decimal decision.closed ++ codes "\n"))))
-    → after ≡ two ++ explanation_text (when decision.settings.now.explain
-    (explanation_by decision.base.now decision.traced.now))
-    → after ≡ before ++ head_lines decision
-head_pieces decision n before one two after number first second third =
-    let told = explanation_text (when decision.settings.now.explain
-    (explanation_by decision.base.now decision.traced.now)) in
-    let ordering = ordering_text decision.settings.now in
-    let numbers = λ (k : ℕ). codes "patches " ++ (decimal k ++ (codes "\nclosed " ++ (decimal decision.closed
-    ++ codes "\n"))) in
+pub head_pieces : (settings : Settings) (base : Disk) (t : TracedPatches) (closed n : ℕ) (before one two after : List ℕ)
+    → n ≡ length t.patches → one ≡ before ++ ordering_text settings
+    → two ≡ one ++ (codes "patches " ++ (decimal n ++ (codes "\nclosed " ++ (decimal closed ++ codes "\n"))))
+    → after ≡ two ++ explanation_text (when settings.explain (explanation_by base t))
+    → after ≡ before ++ head_lines settings base t closed
+head_pieces settings base t closed n before one two after number first second third =
+    let told = explanation_text (when settings.explain (explanation_by base t)) in
+    let ordering = ordering_text settings in
+    let numbers = λ (k : ℕ). codes "patches " ++ (decimal k ++ (codes "\nclosed " ++ (decimal closed ++ codes "\n"))) in
     third ∙ (ap (λ (t : List ℕ). t ++ told) (second ∙ (ap (λ (k : ℕ). one ++ numbers k) number
-    ∙ ap (λ (t : List ℕ). t ++ numbers (length decision.traced.now.patches)) first))
-    ∙ regroup before ordering (codes "patches ") (decimal (length decision.traced.now.patches)) (codes "\n")
-    (codes "closed ") (decimal decision.closed) told)
+    ∙ ap (λ (text : List ℕ). text ++ numbers (length t.patches)) first))
+    ∙ regroup before ordering (codes "patches ") (decimal (length t.patches)) (codes "\n") (codes "closed ")
+    (decimal closed) told)
   where
     regroup : (a b c d e f g h : List ℕ) → a ++ b ++ (c ++ (d ++ ((e ++ f) ++ (g ++ e)))) ++ h
         ≡ a ++ (b ++ ((c ++ d) ++ e) ++ ((f ++ g) ++ e) ++ h)
@@ -65,28 +65,28 @@ head_pieces decision n before one two after number first second third =
 
 -- the lines of the head and those of the faults
 pub text_pieces : {A : Type 0} (decision : Decision A) (told : List ToldDecided) (empty head last : List ℕ) → empty ≡ []
-    → head ≡ empty ++ head_lines decision
+    → head ≡ empty ++ head_lines decision.settings.now decision.base.now decision.traced.now decision.closed
     → last ≡ head ++ flat_map (decided_text (length decision.traced.now.patches)) told
     → last ≡ text_decision decision.settings.now (decision_of decision told)
 unfolding text_decision
 text_pieces decision told empty head last none first second =
     second ∙ ap (λ (t : List ℕ). t ++ flat_map (decided_text (length decision.traced.now.patches)) told)
-    (first ∙ ap (λ (t : List ℕ). t ++ head_lines decision) none)
+    (first ∙ ap (λ (t : List ℕ). t
+    ++ head_lines decision.settings.now decision.base.now decision.traced.now decision.closed) none)
 
 -- the object of a fault
-pub fault_pieces : (n at : ℕ) (decided : DecidedFault) (s : Section) (before one two three four after : List ℕ)
-    → one ≡ before ++ comma_before at
-    → two ≡ one ++ codes "{\"fault\":"
-    → three ≡ two ++ json_string (fault_text decided.fault)
-    → four ≡ three ++ codes ","
-    → after ≡ four ++ crash_json n s
-    → after ≡ before ++ comma_before at ++ decided_json n (record { decided = decided; first = s })
-fault_pieces n at decided s before one two three four after first second third fourth fifth =
+pub fault_pieces : (n : ℕ) (decided : DecidedFault) (s : Section) (before one two three after : List ℕ)
+    → one ≡ before ++ codes "{\"fault\":"
+    → two ≡ one ++ json_string (fault_text decided.fault)
+    → three ≡ two ++ codes ","
+    → after ≡ three ++ crash_json n s
+    → after ≡ before ++ decided_json n (record { decided = decided; first = s })
+fault_pieces n decided s before one two three after first second third fourth =
     let fault = json_string (fault_text decided.fault) in
-    fifth ∙ (ap (λ (t : List ℕ). t ++ crash_json n s) (fourth ∙ ap (λ (t : List ℕ). t ++ codes ",")
-    (third ∙ ap (λ (t : List ℕ). t ++ fault) (second ∙ ap (λ (t : List ℕ). t ++ codes "{\"fault\":") first)))
-    ∙ regroup (before ++ comma_before at) (codes "{\"fault\":") fault (codes ",") (replay_json s.replay)
-    (codes "\"set\":") (ids_json n s.set) (codes ",\"writes\":") (writes_json n s.writes) (codes "}"))
+    fourth ∙ (ap (λ (t : List ℕ). t ++ crash_json n s) (third ∙ ap (λ (t : List ℕ). t ++ codes ",")
+    (second ∙ ap (λ (t : List ℕ). t ++ fault) first))
+    ∙ regroup before (codes "{\"fault\":") fault (codes ",") (replay_json s.replay) (codes "\"set\":")
+    (ids_json n s.set) (codes ",\"writes\":") (writes_json n s.writes) (codes "}"))
   where
     regroup : (before a b c d e f g h i : List ℕ) → before ++ a ++ b ++ c ++ (d ++ e ++ f ++ g ++ h ++ i)
         ≡ before ++ (a ++ b ++ c ++ d ++ e ++ f ++ g ++ h ++ i)

@@ -10,6 +10,7 @@ use Rattle.crash_model.specs.declared.settings.Settings.{Settings}
 use Rattle.decision_model.specs.Decision as model
 use Rattle.decision_model.specs.Decision.{ToldDecided, ordering_text, decided_json}
 use Rattle.decision_model.specs.declared.decided_fault.DecidedFault.{DecidedFault}
+use Rattle.traced_patches.specs.Traced.{TracedPatches}
 use Rattle.report_sections.specs.Bodies.{AreOnBase, AreClosed, explanation_by}
 use Rattle.decision_report.specs.declared.decision.Decision.{Decision}
 
@@ -45,13 +46,12 @@ pub record WritesFaults (detail : Detail) (base : Disk) (patches : List Patch) (
   pub whole : new ≡ old ++ form told
 
 -- the lines before the first fault
-abbrev pub head_lines : {A : Type 0} → Decision A → List ℕ
-head_lines decision =
-    ordering_text decision.settings.now
-    ++ line (codes "patches " ++ decimal (length decision.traced.now.patches))
-    ++ line (codes "closed " ++ decimal decision.closed)
-    ++ explanation_text
-    (when decision.settings.now.explain (explanation_by decision.base.now decision.traced.now))
+abbrev pub head_lines : Settings → Disk → TracedPatches → ℕ → List ℕ
+head_lines settings base t closed =
+    ordering_text settings
+    ++ line (codes "patches " ++ decimal (length t.patches))
+    ++ line (codes "closed " ++ decimal closed)
+    ++ explanation_text (when settings.explain (explanation_by base t))
 
 -- the objects of faults, with a comma between two, where patches are n in all
 abbrev pub fault_items : ℕ → List ToldDecided → List ℕ

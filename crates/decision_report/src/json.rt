@@ -14,6 +14,7 @@ use crate::decision::Decision;
 use decision_model::DecidedFault;
 use json_values::{KnownTexts, write_comma};
 use report_json::{write_explained_base, write_from_strict, write_module};
+use report_sections::Section;
 use section_maker::SectionMaker;
 use std::alloc::{AllocError, Allocator, Global};
 
@@ -111,8 +112,22 @@ fn write_fault<A: Allocator + Copy>(
 {
     write_comma(out, at)?;
     let section = maker.section(decided.first)?;
+    push_decided(out, known, decided, &section)
+}
+
+/// The object of a fault, and of the first set that has it, which the section tells. It fails only when out of memory.
+pub fn push_decided<A: Allocator>(
+    out: &mut String,
+    known: &mut KnownTexts,
+    decided: DecidedFault,
+    section: &Section<A>,
+) -> Result<(), AllocError>
+    ensures text { OnOk result (string_bytes out.new ≡ string_bytes out.old
+        ++ decided_json known.old (record { decided = decided; first = section_of section.now })) }
+    ensures known { known.new ≡ known.old }
+{
     out.push_str("{\"fault\":")?;
     known.push_fault(out, decided.fault)?;
     out.push_str(",")?;
-    known.push_crash(out, &section)
+    known.push_crash(out, section)
 }

@@ -7,6 +7,6 @@ pub mod report;
 pub mod text;
 
 pub use decision::Decision;
-pub use json::decision_json;
+pub use json::{decision_json, push_decided};
 pub use report::decision_report;
-pub use text::decision_text;
+pub use text::{decision_text, write_decided, write_head};

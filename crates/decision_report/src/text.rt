@@ -2,6 +2,7 @@
 
 ghost use Rattle.std.specs.Prelude.{◌≡◌, ◌++◌, flat_map, length, string_bytes, IfOk, OnOk};
 ghost use Rattle.patch_sets.specs.Closed.{IsClosed};
+ghost use Rattle.crash_model.specs.Disk.{Disk};
 ghost use Rattle.crash_model.specs.Patches.{deps_of};
 ghost use Rattle.decision_model.specs.Decision.{decided_text, text_decision};
 ghost use Rattle.report_sections.specs.Sections.{section_of, IsSection};
@@ -9,11 +10,14 @@ ghost use Rattle.report_sections.specs.declared.section.Section.{Section};
 ghost use Rattle.decision_report.specs.Written.{CanReport, WritesDecision, WritesFaults, head_lines};
 
 use crate::decision::Decision;
+use crash_model::settings::Settings;
 use decision_model::DecidedFault;
+use report_sections::Section;
 use report_text::{write_explanation, write_ordering};
 use section_lines::lines::write_crash;
 use section_maker::SectionMaker;
 use std::alloc::{AllocError, Allocator};
+use traced_patches::Traced;
 
 /// A decision as text: the lines of the ordering, the numbers of patches and of closed sets, for each patch its lines
 /// where that is asked for, and for each fault its line with those of the smallest crash that leaves it.
@@ -28,22 +32,33 @@ pub fn decision_text<A: Allocator + Copy>(
     ensures { IfOk result (λ text. WritesDecision text_decision decision.now (string_bytes text)) }
 {
     let mut out = String::new(alloc);
-    write_head(&mut out, decision)?;
+    write_head(
+        &mut out,
+        decision.traced,
+        decision.settings,
+        decision.closed,
+    )?;
     write_faults(&mut out, decision)?;
     Ok(out)
 }
 
-/// The lines before the first fault.
-fn write_head<A: Allocator + Copy>(
+/// The lines before the first fault: those of the ordering, the numbers of patches and of closed sets, and those of
+/// each patch where that is asked for. It fails only when out of memory.
+///
+/// They are the same over each base.
+pub fn write_head<A: Allocator + Copy>(
     out: &mut String<A>,
-    decision: &Decision<'_, '_, '_, A>,
+    traced: &Traced<'_, A>,
+    settings: &Settings,
+    closed: u128,
 ) -> Result<(), AllocError>
-    ensures { OnOk result (string_bytes out.new ≡ string_bytes out.old ++ head_lines decision.now) }
+    ensures { OnOk result ((base : Disk) → string_bytes out.new
+        ≡ string_bytes out.old ++ head_lines settings.now base traced.now closed) }
 {
-    write_ordering(out, decision.settings)?;
-    let (patches, closed) = (decision.traced.graph().len(), decision.closed);
+    write_ordering(out, settings)?;
+    let patches = traced.graph().len();
     write!(out, "patches {patches}\nclosed {closed}\n")?;
-    write_explanation(out, decision.traced, decision.settings.explain)?;
+    write_explanation(out, traced, settings.explain)?;
     Ok(())
 }
 
@@ -80,8 +95,22 @@ fn write_fault<A: Allocator + Copy>(
     ensures maker { maker.new ≡ maker.old }
 {
     let section = maker.section(decided.first)?;
+    write_decided(out, patches, decided, &section)
+}
+
+/// The line of a fault, and those of the first set that has it, which the section tells. The graph has `patches`
+/// patches. It fails only when out of memory.
+pub fn write_decided<A: Allocator + Copy>(
+    out: &mut String<A>,
+    patches: usize,
+    decided: DecidedFault,
+    section: &Section<A>,
+) -> Result<(), AllocError>
+    ensures { OnOk result (string_bytes out.new ≡ string_bytes out.old
+        ++ decided_text patches (record { decided = decided; first = section_of section.now })) }
+{
     let fault = decided.fault;
     write!(out, "fault {fault}\n")?;
-    write_crash(out, patches, &section)?;
+    write_crash(out, patches, section)?;
     Ok(())
 }

@@ -3,33 +3,44 @@ use Rattle.std.proofs.Common.{◌≡◌, ℕ, List, ◌++◌, map, codes, ap, �
 use Rattle.crash_model.specs.Lists.{join_of}
 use Rattle.crash_model.specs.Report.{Section, ids_json, replay_json, section_json, write_json, writes_json}
 use Rattle.json_parts.specs.Values.{fault_json}
-use Rattle.json_values.specs.Items.{crash_json}
+use Rattle.json_values.specs.Items.{crash_json, leading_json}
 
 pub three_pieces : (before one two after a b c : List ℕ) → one ≡ before ++ a → two ≡ one ++ b → after ≡ two ++ c
     → after ≡ before ++ (a ++ b ++ c)
 three_pieces before one two after a b c first second third = third
     ∙ (ap (λ (t : List ℕ). t ++ c) (second ∙ ap (λ (t : List ℕ). t ++ b) first) ∙ simp append_assoc)
 
--- the last keys of an object, which tell of a crash
-pub crash_pieces : (patches : ℕ) (s : Section) (before one two three four five after : List ℕ)
-    → one ≡ before ++ replay_json s.replay
-    → two ≡ one ++ codes "\"set\":"
-    → three ≡ two ++ ids_json patches s.set
-    → four ≡ three ++ codes ",\"writes\":["
-    → five ≡ four ++ join_of 44 (map (write_json patches) s.writes)
-    → after ≡ five ++ codes "]}"
-    → after ≡ before ++ crash_json patches s
-crash_pieces patches s before one two three four five after first second third fourth fifth sixth =
+-- the set and its block writes, as the last keys of an object
+pub leading_pieces : (patches : ℕ) (s : Section) (before one two three four after : List ℕ)
+    → one ≡ before ++ codes "\"set\":"
+    → two ≡ one ++ ids_json patches s.set
+    → three ≡ two ++ codes ",\"writes\":["
+    → four ≡ three ++ join_of 44 (map (write_json patches) s.writes)
+    → after ≡ four ++ codes "]}"
+    → after ≡ before ++ leading_json patches s
+leading_pieces patches s before one two three four after first second third fourth fifth =
     let writes = join_of 44 (map (write_json patches) s.writes) in
-    sixth ∙ (ap (λ (t : List ℕ). t ++ codes "]}") (fifth ∙ ap (λ (t : List ℕ). t ++ writes)
-    (fourth ∙ ap (λ (t : List ℕ). t ++ codes ",\"writes\":[") (third ∙ ap (λ (t : List ℕ). t ++ ids_json patches s.set)
-    (second ∙ ap (λ (t : List ℕ). t ++ codes "\"set\":") first))))
-    ∙ regroup before (replay_json s.replay) (codes "\"set\":") (ids_json patches s.set) (codes ",\"writes\":")
-    (codes "[") writes (codes "]") (codes "}"))
+    fifth ∙ (ap (λ (t : List ℕ). t ++ codes "]}") (fourth ∙ ap (λ (t : List ℕ). t ++ writes)
+    (third ∙ ap (λ (t : List ℕ). t ++ codes ",\"writes\":[") (second ∙ ap (λ (t : List ℕ). t ++ ids_json patches s.set)
+    first)))
+    ∙ regroup before (codes "\"set\":") (ids_json patches s.set) (codes ",\"writes\":") (codes "[") writes (codes "]")
+    (codes "}"))
   where
-    regroup : (before a b c d e f g h : List ℕ) → before ++ a ++ b ++ c ++ (d ++ e) ++ f ++ (g ++ h)
-        ≡ before ++ (a ++ b ++ c ++ d ++ (e ++ f ++ g) ++ h)
-    regroup before a b c d e f g h = simp append_assoc
+    regroup : (before b c d e f g h : List ℕ) → before ++ b ++ c ++ (d ++ e) ++ f ++ (g ++ h)
+        ≡ before ++ (b ++ c ++ d ++ (e ++ f ++ g) ++ h)
+    regroup before b c d e f g h = simp append_assoc
+
+-- the same, with what replay changes before them
+pub crash_pieces : (patches : ℕ) (s : Section) (before one after : List ℕ) → one ≡ before ++ replay_json s.replay
+    → after ≡ one ++ leading_json patches s → after ≡ before ++ crash_json patches s
+crash_pieces patches s before one after first second =
+    second ∙ (ap (λ (t : List ℕ). t ++ leading_json patches s) first
+    ∙ regroup before (replay_json s.replay) (codes "\"set\":") (ids_json patches s.set) (codes ",\"writes\":")
+    (writes_json patches s.writes) (codes "}"))
+  where
+    regroup : (before a b c d e f : List ℕ) → before ++ a ++ (b ++ c ++ d ++ e ++ f)
+        ≡ before ++ (a ++ b ++ c ++ d ++ e ++ f)
+    regroup before a b c d e f = simp append_assoc
 
 pub section_pieces : (patches : ℕ) (s : Section) (before one two three after : List ℕ)
     → one ≡ before ++ codes "{\"faults\":["

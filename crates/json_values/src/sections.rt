@@ -4,7 +4,7 @@ ghost use Rattle.std.specs.Prelude.{◌≡◌, ◌++◌, map, string_bytes, OnOk
 ghost use Rattle.crash_model.specs.Lists.{join_of};
 ghost use Rattle.crash_model.specs.Report.{ids_json, replay_json, section_json, write_json};
 ghost use Rattle.json_parts.specs.Values.{fault_json};
-ghost use Rattle.json_values.specs.Items.{crash_json};
+ghost use Rattle.json_values.specs.Items.{crash_json, leading_json};
 ghost use Rattle.report_sections.specs.Replay.{told_replay};
 ghost use Rattle.report_sections.specs.Sections.{section_of};
 
@@ -46,6 +46,20 @@ impl KnownTexts {
         ensures kept { self.new ≡ self.old }
     {
         push_replay(out, &section.replay)?;
+        self.push_leading(out, section)
+    }
+
+    /// Adds the last keys of an object, and the object's end: the ids of the set, and the block writes that lead to it.
+    /// It fails only when out of memory.
+    pub fn push_leading<A: Allocator>(
+        &mut self,
+        out: &mut String,
+        section: &Section<A>,
+    ) -> Result<(), AllocError>
+        ensures text { OnOk result (string_bytes out.new
+            ≡ string_bytes out.old ++ leading_json self.old (section_of section.now)) }
+        ensures kept { self.new ≡ self.old }
+    {
         out.push_str("\"set\":")?;
         push_set(out, self.patches(), section.set)?;
         out.push_str(",\"writes\":[")?;
@@ -89,8 +103,9 @@ fn push_set(out: &mut String, patches: usize, set: u128) -> Result<(), AllocErro
     write_value(out, &value)
 }
 
-/// The key of the blocks that replay changes, with a comma behind it, where they are told.
-fn push_replay<A: Allocator>(
+/// The key of the blocks that replay changes, and a comma after it, where the section has them. It fails only when out
+/// of memory.
+pub fn push_replay<A: Allocator>(
     out: &mut String,
     replay: &Option<Vec<ReplayedBlock, A>>,
 ) -> Result<(), AllocError>

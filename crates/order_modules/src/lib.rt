@@ -21,4 +21,4 @@ pub use crash_model::refusals::TraceFault;
 pub use crash_model::steps::{Act, Step};
 pub use traced_patches::{Label, Origin, Reason, Reasons, Traced};
 pub use tracer::{trace, trace_under};
-pub use without_rule::graph_without;
+pub use without_rule::{graph_by, graph_without};

@@ -1,4 +1,4 @@
-//! The graph of the patches of a trace without one of its rules.
+//! The graph of the patches of a trace by other rules, or without one of its rules.
 
 ghost use Rattle.std.specs.Prelude.{◌≡◌, ◌<◌, [], ◌∷◌, ◌++◌, length, IfOk, OnOk, All};
 ghost use Rattle.crash_model.specs.Patches.{places_of};
@@ -16,6 +16,26 @@ use patch_graph::Graph;
 use std::alloc::{AllocError, Allocator};
 use traced_patches::{Label, Link, Traced};
 
+/// The graph of the same patches by the rules of another ordering. It fails only when out of memory.
+///
+/// `base` is the image that the traced steps began on, and the patches change blocks of it.
+pub fn graph_by<A: Allocator + Copy>(
+    traced: &Traced<'_, A>,
+    alloc: A,
+    base: &Image<A>,
+    ordering: &Ordering,
+) -> Result<Graph<A>, AllocError>
+    requires { All (λ patch. patch.block < base.now.blocks) traced.now.patches }
+    ensures graph { IfOk result (λ graph. (s : Tracing) → s.emitted ≡ traced.now.emitted → s.links ≡ traced.now.links
+        → IsGraphOf ordering.now.rules.items base.now s graph) }
+    ensures fits { IfOk result (λ graph. All (λ patch. patch.block < base.now.blocks) graph) }
+{
+    let mut log = PatchLog::new(alloc, base, ordering)?;
+    link_all(&mut log, traced.links())?;
+    emit_all(&mut log, traced.graph(), traced.labels())?;
+    Ok(log.into_traced().into_graph())
+}
+
 /// The graph of the same patches by the rules of the ordering without one of them. It fails only when out of
 /// memory.
 ///
@@ -32,10 +52,8 @@ pub fn graph_without<A: Allocator + Copy>(
     ensures fits { IfOk result (λ graph. All (λ patch. patch.block < base.now.blocks) graph) }
 {
     let ordering = ordering_without(traced.ordering(), rule);
-    let mut log = PatchLog::new(alloc, base, &ordering)?;
-    link_all(&mut log, traced.links())?;
-    emit_all(&mut log, traced.graph(), traced.labels())?;
-    Ok(log.into_traced().into_graph())
+    let graph = graph_by(traced, alloc, base, &ordering)?;
+    Ok(graph)
 }
 
 /// The ordering without a rule.

@@ -1,14 +1,21 @@
 -- The answer to a question, from a script's bytes and the settings. No worker and no order of discovery is in it.
 use Rattle.std.specs.Prelude.{◌≢◌, ℕ, List}
 use Rattle.crash_model.specs.Answer.{Answer, Refused, Reported, IsAnswer}
+use Rattle.crash_model.specs.declared.refusals.RunFault.{RunFault}
 use Rattle.crash_model.specs.declared.refusals.RunFault.TheVariants.{TooMany}
 use Rattle.crash_model.specs.declared.settings.Settings.{Settings}
 use Rattle.decision_model.specs.Decision.{IsDecided}
+use Rattle.enough_model.specs.EnoughReport.{IsEnoughAnswer}
 use Rattle.questions.specs.declared.Question.{Question}
-use Rattle.questions.specs.declared.Question.TheVariants.{Visit, Decide}
+use Rattle.questions.specs.declared.Question.TheVariants.{Visit, Decide, Enough}
 
--- A decision is refused as a visit is, but never for too many closed sets.
+-- a refusal where no closed set is visited: that of a visit, but never for too many closed sets
+abbrev pub IsRefusedUnvisited : List ℕ → Settings → RunFault → Type 0
+IsRefusedUnvisited bytes settings fault = IsAnswer bytes settings (Refused fault) × (fault ≢ TooMany)
+
 abbrev pub IsAnswerTo : Question → List ℕ → Settings → Answer → Type 0
 IsAnswerTo Visit bytes settings answer = IsAnswer bytes settings answer
-IsAnswerTo Decide bytes settings (Refused fault) = IsAnswer bytes settings (Refused fault) × (fault ≢ TooMany)
+IsAnswerTo Decide bytes settings (Refused fault) = IsRefusedUnvisited bytes settings fault
 IsAnswerTo Decide bytes settings (Reported text number) = IsDecided bytes settings text number
+IsAnswerTo Enough bytes settings (Refused fault) = IsRefusedUnvisited bytes settings fault
+IsAnswerTo Enough bytes settings (Reported text number) = IsEnoughAnswer bytes settings text number

@@ -12,11 +12,15 @@ pub enum Question {
     Visit,
     /// Which faults any closed set has. No closed set need be visited, so there is no limit.
     Decide,
+    /// Which sets of rules are enough, and of which rules one is needed. No closed set need be visited, so there is no
+    /// limit.
+    Enough,
 }
 
 /// A question, the settings that it is asked under, and the number of threads that answer it, 1 to 16.
 ///
-/// Of the settings a decision uses neither the limit, nor the explorer, nor what a report tells of visited sets.
+/// Where no closed set is visited, the answer depends neither on the limit, nor on the explorer, nor on what a report
+/// tells of visited sets.
 #[derive(Debug, PartialEq, Eq, Drop)]
 pub struct Request {
     pub question: Question,

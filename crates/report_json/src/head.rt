@@ -105,8 +105,8 @@ fn write_rule_key(out: &mut String, key: &str, rules: &[Rule]) -> Result<(), All
     Ok(())
 }
 
-/// The texts of the rules, with a comma between two.
-fn write_rule_texts(out: &mut String, rules: &[Rule]) -> Result<(), AllocError>
+/// The texts of the rules, with a comma between two. It fails only when out of memory.
+pub fn write_rule_texts(out: &mut String, rules: &[Rule]) -> Result<(), AllocError>
     ensures { OnOk result (string_bytes out.new
         ≡ string_bytes out.old ++ join_of 44 (map (λ r. json_string (rule_text r)) rules.now)) }
 {

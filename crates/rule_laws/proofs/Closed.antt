@@ -16,12 +16,12 @@ use Rattle.crash_model.specs.declared.patches.Patch.{Patch}
 use Rattle.crash_model.specs.declared.rules.Rule.{Rule}
 use Rattle.crash_model.proofs.Dependence.{depends-among}
 
-get_some : {X : Type 0} (xs : List X) (i : ℕ) → i < length xs → (x : X) × (slice_get xs i ≡ Some x)
+pub get_some : {X : Type 0} (xs : List X) (i : ℕ) → i < length xs → (x : X) × (slice_get xs i ≡ Some x)
 get_some [] i below = absurd (omega arith)
 get_some (x ∷ xs) zero below = (x, refl)
 get_some (x ∷ xs) (suc i) below = get_some xs i (omega arith)
 
-length-deps : (rules : List Rule) (base : Disk) (s : Tracing) (patches : List Patch) → IsGraphOf rules base s patches
+pub length-deps : (rules : List Rule) (base : Disk) (s : Tracing) (patches : List Patch) → IsGraphOf rules base s patches
     → length (deps_of patches) ≡ length s.emitted
 length-deps rules base s patches graph =
     let all : length (deps_of patches) ≡ length patches = length-map patches (λ (p : Patch). p.deps) in

@@ -1,4 +1,4 @@
-//! Decisions, which have no limit.
+//! Questions without a limit: which faults there are, and which rules are enough.
 
 use crash_model::modules::Module;
 use crash_text::host::Host;
@@ -12,6 +12,32 @@ use test_support::settings::plain_settings;
 const DECIDED: &str =
     "module async\npatches 2\nclosed 4\nfault 1 dangling entry: directory 0 entry 0 inode 1\n\
       set 1\nwrite block 4: 1\n";
+
+/// Which rules are enough for it under soft updates.
+const ENOUGH: &str =
+    "module soft\npatches 2\nclosed 3\nenough 1\nrules EntrySet:InodeInit\nneeds EntrySet:InodeInit\n\
+      fault 1 dangling entry: directory 0 entry 0 inode 1\nset 1\nwrite block 4: 1\n";
+
+/// What there is without an order, where no rule can be enough.
+const NOT_ENOUGH: &str = "module async\npatches 2\nclosed 4\nenough 0\n\
+      fault 1 dangling entry: directory 0 entry 0 inode 1\nset 1\nwrite block 4: 1\n";
+
+#[test]
+fn rules_are_enough_whatever_the_limit(rt: HostRuntime) -> Result<(), Fail> {
+    for (module, text, number) in [(Module::Soft, ENOUGH, 0), (Module::Async, NOT_ENOUGH, 1)] {
+        let mut settings = plain_settings(module);
+        settings.limit = 1;
+        let request = Request {
+            question: Question::Enough,
+            settings,
+            workers: 2,
+        };
+        let outcome = run(&Host::new(&rt), b"start\ncreate /a\n", &request, &OpenGate)?;
+        assert!(rt; outcome.text.as_str() == text);
+        assert!(rt; outcome.number == number);
+    }
+    Ok(())
+}
 
 #[test]
 fn more_sets_than_the_limit_are_decided(rt: HostRuntime) -> Result<(), Fail> {

@@ -7,20 +7,25 @@ use questions::Question;
 use std::test::Fail;
 
 /// Words, the question that they ask.
-const ASKED: [(&[&str], Question); 3] = [
+const ASKED: [(&[&str], Question); 4] = [
     (&[], Question::Visit),
     (&["--summary", "--limit=1"], Question::Visit),
     (&["--decide", "--workers=2", "--strict"], Question::Decide),
+    (&["--enough", "--workers=2", "--strict"], Question::Enough),
 ];
 
-/// What a decision goes without, whether it is given the default value or not.
-const LEFT_OUT: [&[&str]; 6] = [
+/// What a question about all closed sets goes without, whether it is given the default value or not.
+const LEFT_OUT: [&[&str]; 10] = [
     &["--decide", "--limit=4096"],
     &["--limit", "1", "--decide"],
     &["--decide", "--explorer=auto"],
     &["--explorer", "sweep", "--decide"],
     &["--decide", "--summary"],
     &["--needs", "--decide"],
+    &["--decide", "--enough"],
+    &["--enough", "--limit=4096"],
+    &["--explorer", "sweep", "--enough"],
+    &["--needs", "--enough"],
 ];
 
 /// Words, the explorer that they ask for, and the number of workers.

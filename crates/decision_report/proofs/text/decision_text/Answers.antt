@@ -8,5 +8,6 @@ returns g c =
       told = wrote.told;
       of_faults = wrote.of_faults;
       firsts = wrote.firsts;
-      whole = text_pieces c.args.decision.now wrote.told _ _ _ c.new-out.ensures.bytes c.in_ok-write_head.ensures wrote.whole;
+      whole = text_pieces c.args.decision.now wrote.told _ _ _ c.new-out.ensures.bytes
+          (c.in_ok-write_head.ensures c.args.decision.now.base.now) wrote.whole;
     }

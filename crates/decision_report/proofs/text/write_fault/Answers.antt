@@ -1,15 +1,19 @@
-use Rattle.std.proofs.Common.{List, ℕ, ◌++◌, codes, string_bytes, append_assoc, ap, ◌∙◌}
-use Rattle.crash_model.specs.Report.{line, crash_text, fault_text}
-use Rattle.report_sections.specs.Sections.{section_of}
+use Rattle.std.proofs.Common.{◌≡◌, ◌++◌, string_bytes}
+use Rattle.std.proofs.lemmas.Result.{on_ok_weaker}
+use Rattle.decision_model.specs.Decision.{decided_text}
+use Rattle.report_sections.specs.Sections.{section_of, IsSection}
+use Rattle.report_sections.specs.declared.section.Section.{Section}
 use Rattle.decision_report.proofs.text.write_fault.Goals as goal
 
 pub returns-clause-told : goal.returns-clause-told
 returns-clause-told g c =
     let section = c.in_ok-section.section in
-    let head = line (codes "fault " ++ fault_text c.args.decided.fault) in
-    let crash = crash_text c.args.patches (section_of section) in (
-      section,
-      c.in_ok-section.ensures.told,
-      c.in_ok-write_crash.ensures ∙ (ap (λ (t : List ℕ). t ++ crash) c.in_ok-write.ensures.bytes
-          ∙ append_assoc (string_bytes c.args.out.now) head crash),
-    )
+    let decided = c.args.decided in
+    let maker = c.args.maker.now in
+    let old = string_bytes c.args.out.now in
+    on_ok_weaker {P = string_bytes c.write_decided.new.out ≡ old
+    ++ decided_text c.args.patches (record { decided = decided; first = section_of section })}
+    {Q = (s : Section _) × IsSection maker.detail maker.base maker.patches decided.first s
+    × (string_bytes c.write_decided.new.out ≡ old
+    ++ decided_text c.args.patches (record { decided = decided; first = section_of s }))}
+    c.write_decided.result (λ wrote. (section, c.in_ok-section.ensures.told, wrote)) c.write_decided.ensures

@@ -3,8 +3,8 @@ use Rattle.decision_report.proofs.Pieces.{head_pieces}
 use Rattle.decision_report.proofs.text.write_head.Goals as goal
 
 pub returns : goal.returns
-returns g c =
-    let decision = c.args.decision.now in
-    let number : c.len-patches.result ≡ length decision.traced.now.patches = cc in
-    head_pieces decision c.len-patches.result _ _ _ _ number c.in_ok-write_ordering.ensures c.in_ok-write.ensures.bytes
-    (c.in_ok-write_explanation.ensures decision.base.now)
+returns g c = λ base.
+    let t = c.args.traced.now in
+    let number : c.len-patches.result ≡ length t.patches = cc in
+    head_pieces c.args.settings.now base t c.args.closed c.len-patches.result _ _ _ _ number
+    c.in_ok-write_ordering.ensures c.in_ok-write.ensures.bytes (c.in_ok-write_explanation.ensures base)

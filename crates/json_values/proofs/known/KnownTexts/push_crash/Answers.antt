@@ -1,23 +1,17 @@
-use Rattle.std.proofs.Common.{◌++◌, ℕ, List, map, string_bytes, ap, ◌∙◌}
-use Rattle.crash_model.specs.Lists.{join_of}
-use Rattle.crash_model.specs.Report.{ids_json, write_json}
-use Rattle.patch_sets.specs.declared.write.BlockWrite.{BlockWrite}
+use Rattle.std.proofs.Common.{◌≡◌, ◌++◌, string_bytes}
+use Rattle.std.proofs.lemmas.Result.{on_ok_weaker}
 use Rattle.report_sections.specs.Sections.{section_of}
+use Rattle.json_values.specs.Items.{crash_json, leading_json}
 use Rattle.json_values.proofs.SectionPieces.{crash_pieces}
 use Rattle.json_values.proofs.known.KnownTexts.push_crash.Goals as goal
 
 pub returns-clause-text : goal.returns-clause-text
 returns-clause-text g c =
     let patches = c.args.self.now in
-    let s = c.args.section.now in
-    let ids = ap (λ (n : ℕ). string_bytes c.push_str.new.self ++ ids_json n s.set) c.patches.ensures in
-    let writes = ap (λ (ws : List BlockWrite). string_bytes c.push_str-2.new.self
-    ++ join_of 44 (map (write_json patches) ws)) c.deref.ensures.value in
-    crash_pieces patches (section_of s) (string_bytes c.args.out.now)
-    _ _ _ _ _ (string_bytes c.push_str-3.new.self)
-    c.in_ok-push_replay.ensures
-    c.in_ok-push_str.ensures.bytes
-    (c.in_ok-push_set.ensures ∙ ids)
-    c.in_ok-push_str-2.ensures.bytes
-    (c.in_ok-push_writes.ensures.text ∙ writes)
-    c.in_ok-push_str-3.ensures.bytes
+    let s = section_of c.args.section.now in
+    on_ok_weaker {P = string_bytes c.push_leading.new.out ≡ string_bytes c.push_replay.new.out
+    ++ leading_json patches s}
+    {Q = string_bytes c.push_leading.new.out ≡ string_bytes c.args.out.now ++ crash_json patches s}
+    c.push_leading.result
+    (λ wrote. crash_pieces patches s (string_bytes c.args.out.now) _ _ c.in_ok-push_replay.ensures wrote)
+    c.push_leading.ensures.text

@@ -1,0 +1,2 @@
+pub mod Excluded
+pub mod Sublists

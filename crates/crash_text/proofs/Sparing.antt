@@ -1,0 +1,80 @@
+-- What is found of an ordering's rules makes it the report that is asked for.
+use Rattle.std.proofs.Common.{◌≡◌, ℕ, List, Option, length, map, All, refl, sym, subst, ap, ◌∙◌}
+use Rattle.std.specs.Int.{from_bool}
+use Rattle.std.specs.Prelude.{Some, None, is_some, option_map, option_to_list}
+use Rattle.std.proofs.lemmas.Simd.{map-map}
+use Rattle.patch_sets.specs.Sets.{AreAllInOrder}
+use Rattle.crash_model.specs.Answer.{detail_of, ordering_rules}
+use Rattle.crash_model.specs.Disk.{Disk}
+use Rattle.crash_model.specs.Explain.{Explanation}
+use Rattle.crash_model.specs.Lists.{when}
+use Rattle.crash_model.specs.Patches.{CountsClosed}
+use Rattle.crash_model.specs.Trace.{Tracing}
+use Rattle.crash_model.specs.declared.rules.Rule.{Rule}
+use Rattle.crash_model.specs.declared.settings.Settings.{Settings}
+use Rattle.enough_model.specs.Enough.{IsMinimalEnough, IsNeeded}
+use Rattle.enough_model.specs.EnoughReport.{IsEnoughReport, IsToldAny, IsToldGroup, ToldGroup, rules_report_bytes}
+use Rattle.enough_report.specs.Found.{told_first, told_group}
+use Rattle.enough_report.specs.declared.findings.FirstFault.{FirstFault}
+use Rattle.enough_report.specs.declared.findings.NeededGroup.{NeededGroup}
+use Rattle.traced_patches.specs.Traced.{TracedPatches}
+use Rattle.report_sections.specs.Bodies.{explanation_by}
+use Rattle.crash_text.proofs.Bodies.{same_explanation}
+use Rattle.crash_text.specs.Telling.{IsTraceOf}
+
+-- the text is the report on the rules of traced patches
+pub is_enough_report : {A : Type 0} (settings : Settings) (kept : Option ℕ) (base : Disk) (t : TracedPatches)
+    (last : Tracing) (total : ℕ) (enough groups : List ℕ) (needs : List (NeededGroup A)) (first : Option (FirstFault A))
+    (text : List ℕ) (number : ℕ)
+    → IsTraceOf settings base t last → CountsClosed t.patches total
+    → AreAllInOrder (IsMinimalEnough kept base last t.rules) enough
+    → AreAllInOrder (IsNeeded kept base last t.rules) groups → map (λ n. n.group) needs ≡ groups
+    → All (IsToldGroup (detail_of settings kept) t.rules base last) (map told_group needs)
+    → IsToldAny (detail_of settings kept) base t.patches (option_map told_first first)
+    → number ≡ length (option_to_list (option_map (told_first {A = A}) first))
+    → text ≡ rules_report_bytes settings (record {
+      patches = length t.patches;
+      closed = total;
+      explanation = when settings.explain (explanation_by base t);
+      enough = enough;
+      needs = map told_group needs;
+      first = option_map told_first first;
+    })
+    → IsEnoughReport settings kept base last t.patches text number
+is_enough_report {A = A} settings kept base t last total enough groups needs first text number is counted exactly needed
+    of_groups told any counts whole_text = record {
+      total = total;
+      counted = counted;
+      enough = enough;
+      exactly = subst (λ (rules : List Rule). AreAllInOrder (IsMinimalEnough kept base last rules) enough) is.rules
+          exactly;
+      needs = map told_group needs;
+      needed = subst (AreAllInOrder (IsNeeded kept base last (ordering_rules settings))) same_groups
+          (subst (λ (rules : List Rule). AreAllInOrder (IsNeeded kept base last rules) groups) is.rules needed);
+      told = subst (λ (rules : List Rule). All (IsToldGroup (detail_of settings kept) rules base last)
+          (map told_group needs)) is.rules told;
+      first = option_map told_first first;
+      any = any;
+      number_of = counts;
+      whole = whole_text ∙ ap (λ (e : Explanation). rules_report_bytes settings (record {
+        patches = length t.patches;
+        closed = total;
+        explanation = when settings.explain e;
+        enough = enough;
+        needs = map told_group needs;
+        first = option_map told_first first;
+      })) (same_explanation settings kept base t last is);
+    }
+  where
+    same_groups : groups ≡ map (λ (n : ToldGroup). n.group) (map (told_group {A = A}) needs)
+    same_groups = sym of_groups ∙ sym (map-map (λ (n : ToldGroup). n.group) (told_group {A = A}) needs)
+
+-- the number is 1 where there is a first fault
+pub number_of : {A : Type 0} (first : Option (FirstFault A))
+    → from_bool (is_some first) ≡ length (option_to_list (option_map (told_first {A = A}) first))
+number_of None = refl
+number_of (Some f) = refl
+
+-- and 0 where there is none
+pub none_number : {A : Type 0} (first : Option (FirstFault A)) → first ≡ None → from_bool (is_some first) ≡ 0
+none_number first none = ap (λ o. from_bool (is_some o)) none

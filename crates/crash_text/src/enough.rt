@@ -1,0 +1,55 @@
+//! A traced script, answered by which rules are enough.
+
+ghost use Rattle.std.specs.Prelude.{◌≡◌, string_bytes, IfOk};
+ghost use Rattle.questions.specs.declared.Question.TheVariants.{Enough};
+ghost use Rattle.report_sections.specs.Bodies.{AreOnBase};
+ghost use Rattle.crash_text.specs.Telling.{IsReportOn, NoneFails};
+
+use crate::host::Host;
+use crate::run::Outcome;
+use crate::traced_script::TracedScript;
+use crash_model::settings::{Detail, Settings};
+use enough_deciding::RuleOracle;
+use enough_report::{EnoughFindings, enough_report};
+use fault_deciding::closed_number;
+use needed_groups::{first_fault, needed_groups};
+use std::alloc::{AllocError, Allocator};
+
+/// Finds which rules of its ordering a traced script needs, and reports. It fails only when out of memory.
+pub(crate) fn enough<R, A: Allocator + Copy>(
+    host: &Host<'_, R, A>,
+    settings: &Settings,
+    script: &TracedScript<'_, A>,
+) -> Result<Outcome<A>, AllocError>
+    requires on_base { AreOnBase script.now.base.now script.now.traced.patches }
+    ensures reported { IfOk result (λ outcome.
+        IsReportOn Enough settings.now script.now (string_bytes outcome.text) outcome.number) }
+    ensures safe { NoneFails script.now → IfOk result (λ outcome. outcome.number ≡ 0) }
+{
+    let detail = Detail {
+        explain: settings.explain,
+        kept: script.kept,
+    };
+    let oracle = RuleOracle {
+        alloc: host.alloc,
+        base: script.base,
+        traced: &script.traced,
+        kept: detail.kept,
+    };
+    let found = oracle.enough_sets()?;
+    let needs = needed_groups(&oracle, detail, &found.needed)?;
+    let first = first_fault(host.alloc, script.base, script.traced.graph(), detail)?;
+    let findings = EnoughFindings {
+        base: script.base,
+        traced: &script.traced,
+        settings,
+        closed: closed_number(script.traced.graph()),
+        enough: &found.enough,
+        needs: &needs,
+        first: &first,
+    };
+    Ok(Outcome {
+        text: enough_report(host.heap, host.alloc, &findings)?,
+        number: usize::from(first.is_some()),
+    })
+}

@@ -1,0 +1,66 @@
+-- What is said of rules in one state of tracing is said in each with the same patches and links.
+use Rattle.std.proofs.Common.{◌≡◌, ℕ, List, Option, map, refl, subst, sym, ap, ◌∙◌}
+use Rattle.std.specs.Prelude.{◌↔◌, IsTrue, slice_get, slice_index}
+use Rattle.patch_sets.specs.Sets.{Has}
+use Rattle.crash_model.specs.Disk.{Disk}
+use Rattle.crash_model.specs.Patches.{deps_of}
+use Rattle.crash_model.specs.Trace.{Emitted, Tracing, IsGraphOf, depends}
+use Rattle.crash_model.specs.declared.patches.Patch.{Patch}
+use Rattle.crash_model.specs.declared.rules.Rule.{Rule}
+use Rattle.enough_model.specs.Enough.{AreEnough, IsMinimalEnough, IsNeeded, rules_in, rules_but}
+use Rattle.enough_deciding.specs.Rules.{IsTracingOf, tracing_of}
+use Rattle.traced_patches.specs.Traced.{TracedPatches}
+
+pub one_tracing : (base : Disk) (t : TracedPatches) → IsTracingOf t (tracing_of base t)
+one_tracing base t = record { emitted = refl; links = refl }
+
+module _ (kept : Option ℕ) (base : Disk) (t : TracedPatches) where
+  -- the patches by some rules are those of each state
+  same_graph : (s other : Tracing) (rules : List Rule) (patches : List Patch) → IsTracingOf t s → IsTracingOf t other
+      → IsGraphOf rules base s patches → IsGraphOf rules base other patches
+  same_graph s other rules patches of_s of_other is =
+      let emitted : s.emitted ≡ other.emitted = of_s.emitted ∙ sym of_other.emitted in
+      let links : s.links ≡ other.links = of_s.links ∙ sym of_other.links in
+      record {
+        places = is.places ∙ ap (λ es. map (λ e. e.place) es) emitted;
+        undo = is.undo;
+        earlier = is.earlier;
+        exactly = λ q p later before less at_q at_p.
+            subst (λ ls. Has (slice_index (deps_of patches) q) p ↔ IsTrue (depends rules ls later before)) links
+            (is.exactly q p later before less (ap (λ (es : List Emitted). slice_get es q) emitted ∙ at_q)
+            (ap (λ (es : List Emitted). slice_get es p) emitted ∙ at_p));
+      }
+
+  -- so rules that are enough are enough in each
+  pub same_enough : (s other : Tracing) (rules : List Rule) → IsTracingOf t s → IsTracingOf t other
+      → AreEnough kept base s rules → AreEnough kept base other rules
+  same_enough s other rules of_s of_other enough =
+      (enough.0, same_graph s other rules enough.0 of_s of_other enough.1, enough.2)
+
+  pub minimal_in_each : (s other : Tracing) (rules : List Rule) → IsTracingOf t s → IsTracingOf t other → (set : ℕ)
+      → IsMinimalEnough kept base s rules set ↔ IsMinimalEnough kept base other rules set
+  minimal_in_each s other rules of_s of_other set =
+      (to s other of_s of_other, to other s of_other of_s)
+    where
+      to : (a b : Tracing) → IsTracingOf t a → IsTracingOf t b → IsMinimalEnough kept base a rules set
+          → IsMinimalEnough kept base b rules set
+      to a b of_a of_b is = record {
+        places = is.places;
+        enough = same_enough a b (rules_in rules set) of_a of_b is.enough;
+        minimal = λ part inside less enough. is.minimal part inside less
+            (same_enough b a (rules_in rules part) of_b of_a enough);
+      }
+
+  pub needed_in_each : (s other : Tracing) (rules : List Rule) → IsTracingOf t s → IsTracingOf t other → (group : ℕ)
+      → IsNeeded kept base s rules group ↔ IsNeeded kept base other rules group
+  needed_in_each s other rules of_s of_other group =
+      (to s other of_s of_other, to other s of_other of_s)
+    where
+      to : (a b : Tracing) → IsTracingOf t a → IsTracingOf t b → IsNeeded kept base a rules group
+          → IsNeeded kept base b rules group
+      to a b of_a of_b is = record {
+        places = is.places;
+        some = is.some;
+        needed = λ enough. is.needed (same_enough b a (rules_but rules group) of_b of_a enough);
+        minimal = λ part inside less. same_enough a b (rules_but rules part) of_a of_b (is.minimal part inside less);
+      }

@@ -1,0 +1,29 @@
+-- What is decided of some rules of a trace's ordering.
+use Rattle.std.specs.Prelude.{◌≡◌, ℕ, List, Option}
+use Rattle.crash_model.specs.Disk.{Disk}
+use Rattle.crash_model.specs.Needs.{HasGraphBy}
+use Rattle.crash_model.specs.Summary.{HasFault}
+use Rattle.crash_model.specs.Trace.{Tracing, IsGraphOf, trace_start}
+use Rattle.crash_model.specs.declared.patches.Patch.{Patch}
+use Rattle.crash_model.specs.declared.rules.Rule.{Rule}
+use Rattle.decision_model.specs.declared.decided_fault.DecidedFault.{DecidedFault}
+use Rattle.fault_deciding.specs.Asked.{IsFirstFault}
+use Rattle.traced_patches.specs.Traced.{TracedPatches}
+
+-- a state of tracing with these patches and links
+pub record IsTracingOf (t : TracedPatches) (s : Tracing) : Type 0 where
+  pub emitted : s.emitted ≡ t.emitted
+  pub links : s.links ≡ t.links
+
+-- one such state
+abbrev pub tracing_of : Disk → TracedPatches → Tracing
+tracing_of base t = record (trace_start base) { emitted = t.emitted; links = t.links }
+
+-- the patches by these rules, in each such state
+abbrev pub IsGraphBy : List Rule → Disk → TracedPatches → List Patch → Type 0
+IsGraphBy rules base t patches = (s : Tracing) → IsTracingOf t s → IsGraphOf rules base s patches
+
+-- the first fault of the patches by these rules, where there is one
+abbrev pub IsFirstBy : Option ℕ → Disk → TracedPatches → List Rule → Option DecidedFault → Type 0
+IsFirstBy kept base t rules found =
+    HasGraphBy rules base (tracing_of base t) (λ patches. IsFirstFault (HasFault kept base patches) found)

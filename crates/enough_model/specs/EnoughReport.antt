@@ -1,0 +1,160 @@
+-- What is reported of the rules that a script needs.
+use Rattle.std.specs.Prelude.{◌≡◌, ◌≢◌, ℕ, List, [], ◌∷◌, ◌++◌, length, map, flat_map, if◌then◌else◌, Option, Some, None}
+use Rattle.std.specs.Prelude.{codes, decimal, option_to_list}
+use Rattle.std.specs.List.{All}
+use Rattle.patch_sets.specs.Sets.{AreAllInOrder}
+use Rattle.crash_model.specs.Answer.{HasGraph, detail_of, ordering_rules}
+use Rattle.crash_model.specs.Disk.{Disk}
+use Rattle.crash_model.specs.Explain.{Explanation, explanation, explanation_text, base_json, trace_json}
+use Rattle.crash_model.specs.Lists.{when}
+use Rattle.crash_model.specs.Needs.{HasGraphBy}
+use Rattle.crash_model.specs.Patches.{CountsClosed}
+use Rattle.crash_model.specs.Report.{AreSections, IsLed, fault_text, module_text, line, json_string, json_array}
+use Rattle.crash_model.specs.Report.{ids_json, replay_json, writes_json}
+use Rattle.crash_model.specs.Rules.{rule_text}
+use Rattle.crash_model.specs.Strict.{IsToldKept}
+use Rattle.crash_model.specs.Summary.{HasFault, IsFaultBefore, IsFirst}
+use Rattle.crash_model.specs.Trace.{Tracing}
+use Rattle.crash_model.specs.Whole.{told_without, told_with, rules_json}
+use Rattle.crash_model.specs.declared.fault.Fault.{Fault}
+use Rattle.crash_model.specs.declared.patches.Patch.{Patch}
+use Rattle.crash_model.specs.declared.rules.Rule.{Rule}
+use Rattle.crash_model.specs.declared.settings.Detail.{Detail}
+use Rattle.crash_model.specs.declared.settings.Settings.{Settings}
+use Rattle.decision_model.specs.Decision.{ToldDecided, ordering_text, decided_text, decided_json}
+use Rattle.decision_model.specs.declared.decided_fault.DecidedFault.{DecidedFault}
+use Rattle.enough_model.specs.Enough.{rules_in, rules_but, IsMinimalEnough, IsNeeded}
+
+-- ---- the first fault
+
+-- the first fault that any set has, and the first set that has it
+pub record IsFirstFault (has : Fault → ℕ → Type 0) (f : DecidedFault) : Type 0 where
+  pub first : IsFirst (has f.fault) f.first
+  pub before : (other : Fault) (set : ℕ) → has other set → other ≢ f.fault → IsFaultBefore f.fault other
+
+-- what a decision on the patches tells first
+pub record IsToldFirst (detail : Detail) (base : Disk) (patches : List Patch) (told : ToldDecided) : Type 0 where
+  pub fault : IsFirstFault (HasFault detail.kept base patches) told.decided
+  pub section : AreSections detail base patches (told.decided.first ∷ []) (told.first ∷ [])
+  pub led : IsLed patches told.first
+
+-- the same where there is a fault, and else nothing
+abbrev pub IsToldAny : Detail → Disk → List Patch → Option ToldDecided → Type 0
+IsToldAny detail base patches None = (fault : Fault) (set : ℕ) → ¬ (HasFault detail.kept base patches fault set)
+IsToldAny detail base patches (Some told) = IsToldFirst detail base patches told
+
+-- what is reported of a group of rules of which one is needed: the group, and the first fault of all rules but these
+pub record ToldGroup : Type 0 where
+  pub group : ℕ
+  pub fault : ToldDecided
+
+-- the first fault of the patches by all rules but the group
+abbrev pub IsToldGroup : Detail → List Rule → Disk → Tracing → ToldGroup → Type 0
+IsToldGroup detail rules base s told =
+    HasGraphBy (rules_but rules told.group) base s (λ patches. IsToldFirst detail base patches told.fault)
+
+-- how many patches and closed sets there are, and what the patches are where that is asked for; the minimal sets of
+-- rules that are enough, the minimal groups of which one is needed, and the first fault of all rules
+pub record RulesReport : Type 0 where
+  pub patches : ℕ
+  pub closed : ℕ
+  pub explanation : Option Explanation
+  pub enough : List ℕ
+  pub needs : List ToldGroup
+  pub first : Option ToldDecided
+
+-- ---- text; patches are n in all
+
+-- the word, and each rule of the set behind a space
+abbrev pub rules_text : List Rule → List ℕ → ℕ → List ℕ
+rules_text rules word set =
+    line (word ++ flat_map (λ rule. codes " " ++ rule_text rule) (rules_in rules set))
+
+abbrev pub group_text : List Rule → ℕ → ToldGroup → List ℕ
+group_text rules n told = rules_text rules (codes "needs") told.group ++ decided_text n told.fault
+
+unfoldable pub text_rules_report : Settings → RulesReport → List ℕ
+text_rules_report settings r =
+    let rules = ordering_rules settings in
+    ordering_text settings
+    ++ line (codes "patches " ++ decimal r.patches)
+    ++ line (codes "closed " ++ decimal r.closed)
+    ++ explanation_text r.explanation
+    ++ line (codes "enough " ++ decimal (length r.enough))
+    ++ flat_map (rules_text rules (codes "rules")) r.enough
+    ++ flat_map (group_text rules r.patches) r.needs
+    ++ flat_map (decided_text r.patches) (option_to_list r.first)
+
+-- ---- JSON: one compact object, its keys in ascending order, and a line feed
+
+abbrev pub set_json : List Rule → ℕ → List ℕ
+set_json rules set = json_array (map (λ rule. json_string (rule_text rule)) (rules_in rules set))
+
+abbrev pub group_json : List Rule → ℕ → ToldGroup → List ℕ
+group_json rules n told =
+    codes "{\"fault\":" ++ json_string (fault_text told.fault.decided.fault) ++ codes ","
+    ++ replay_json told.fault.first.replay
+    ++ codes "\"rules\":" ++ set_json rules told.group
+    ++ codes ",\"set\":" ++ ids_json n told.fault.first.set
+    ++ codes ",\"writes\":" ++ writes_json n told.fault.first.writes ++ codes "}"
+
+-- a key with the fault, where there is one
+abbrev pub first_fault_json : ℕ → Option ToldDecided → List ℕ
+first_fault_json n None = []
+first_fault_json n (Some told) = codes ",\"first\":" ++ decided_json n told
+
+-- `closed` is a text, since it can be more than a JSON number holds
+unfoldable pub json_rules_report : Settings → RulesReport → List ℕ
+json_rules_report settings r =
+    let rules = ordering_rules settings in
+    codes "{" ++ base_json r.explanation
+    ++ codes "\"closed\":" ++ json_string (decimal r.closed)
+    ++ codes ",\"enough\":" ++ json_array (map (set_json rules) r.enough)
+    ++ first_fault_json r.patches r.first
+    ++ codes ",\"module\":" ++ json_string (module_text settings.module)
+    ++ codes ",\"needs\":" ++ json_array (map (group_json rules r.patches) r.needs)
+    ++ codes ",\"patches\":" ++ decimal r.patches
+    ++ (if settings.strict then codes ",\"strict\":true" else [])
+    ++ trace_json r.explanation
+    ++ rules_json (codes "with") (told_with settings)
+    ++ rules_json (codes "without") (told_without settings)
+    ++ codes "}\n"
+
+-- the report's bytes
+abbrev pub rules_report_bytes : Settings → RulesReport → List ℕ
+rules_report_bytes settings r = if settings.json then json_rules_report settings r else text_rules_report settings r
+
+-- ---- the answer
+
+-- the report on a graph: exactly the minimal sets of rules that are enough, and exactly the minimal groups of which one
+-- is needed; `number` is 1 where the whole ordering is not enough, and else 0
+pub record IsEnoughReport (settings : Settings) (kept : Option ℕ) (base : Disk) (last : Tracing) (patches : List Patch)
+    (text : List ℕ) (number : ℕ) : Type 0 where
+  pub total : ℕ
+  pub counted : CountsClosed patches total
+  pub enough : List ℕ
+  pub exactly : AreAllInOrder (IsMinimalEnough kept base last (ordering_rules settings)) enough
+  pub needs : List ToldGroup
+  pub needed : AreAllInOrder (IsNeeded kept base last (ordering_rules settings)) (map (λ t. t.group) needs)
+  pub told : All (IsToldGroup (detail_of settings kept) (ordering_rules settings) base last) needs
+  pub first : Option ToldDecided
+  pub any : IsToldAny (detail_of settings kept) base patches first
+  pub number_of : number ≡ length (option_to_list first)
+  pub whole : text ≡ rules_report_bytes settings (record {
+    patches = length patches;
+    closed = total;
+    explanation = when settings.explain (explanation (ordering_rules settings) base last patches);
+    enough = enough;
+    needs = needs;
+    first = first;
+  })
+
+-- the report on the rules that a script needs
+pub record IsEnoughAnswer (bytes : List ℕ) (settings : Settings) (text : List ℕ) (number : ℕ) : Type 0 where
+  pub kept : Option ℕ
+  pub base : Disk
+  pub last : Tracing
+  pub patches : List Patch
+  pub graph : HasGraph bytes settings base last patches
+  pub told : IsToldKept settings.strict base graph.steps kept
+  pub report : IsEnoughReport settings kept base last patches text number

@@ -1,0 +1,22 @@
+use Rattle.std.proofs.Common.{◌≡◌, string_bytes, ◌∙◌}
+use Rattle.std.proofs.lemmas.Result.{IfOk-weaker}
+use Rattle.enough_model.specs.EnoughReport.{rules_report_bytes, text_rules_report}
+use Rattle.enough_report.specs.Found.{report_of}
+use Rattle.enough_report.proofs.Pieces.{as_json, as_text}
+use Rattle.enough_report.proofs.report.enough_report.Goals as goal
+
+pub returns-in_ok-text : goal.returns-in_ok-text
+returns-in_ok-text g c =
+    let found = c.args.found.now in
+    IfOk-weaker c.from_str.result (λ text. string_bytes text ≡ c.as_str.result.now)
+    (λ text. string_bytes text ≡ rules_report_bytes found.settings.now (report_of found))
+    (λ text same. same ∙ (c.as_str.ensures.value ∙ (c.in_ok-text.ensures ∙ as_json found c.if-found.true)))
+    c.from_str.ensures.ok
+
+pub returns-else-found : goal.returns-else-found
+returns-else-found g c =
+    let found = c.args.found.now in
+    IfOk-weaker c.enough_text.result
+    (λ text. string_bytes text ≡ text_rules_report found.settings.now (report_of found))
+    (λ text. string_bytes text ≡ rules_report_bytes found.settings.now (report_of found))
+    (λ text same. same ∙ as_text found c.if-found.false) c.enough_text.ensures

@@ -1,0 +1,151 @@
+//! Reports as JSON.
+
+ghost use Rattle.std.specs.Prelude.{◌≡◌, ◌++◌, [], codes, option_map};
+ghost use Rattle.std.specs.Prelude.{string_bytes, IfOk, OnOk};
+ghost use Rattle.crash_model.specs.Answer.{ordering_rules};
+ghost use Rattle.crash_model.specs.Report.{json_string, module_text};
+ghost use Rattle.enough_model.specs.EnoughReport.{first_fault_json, group_json, json_rules_report, set_json};
+ghost use Rattle.enough_report.specs.Found.{group_items, report_of, set_items, told_first, told_group};
+
+use crate::findings::{EnoughFindings, FirstFault, NeededGroup};
+use chosen_rules::rules_in;
+use crash_model::modules::Module;
+use crash_model::orderings::Ordering;
+use decision_report::push_decided;
+use json_values::{KnownTexts, push_replay, write_comma};
+use report_json::{write_explained_base, write_from_strict, write_rule_texts};
+use std::alloc::{AllocError, Allocator, Global};
+
+/// A report of the rules that a script needs as JSON: one compact object, its keys in ascending order, and a line feed.
+/// The number of closed sets is a text, since it can be more than a JSON number holds.
+///
+/// It fails only when out of memory.
+pub fn enough_json<A: Allocator + Copy>(
+    heap: Global,
+    found: &EnoughFindings<'_, '_, '_, A>,
+) -> Result<String, AllocError>
+    ensures { IfOk result (λ text.
+        string_bytes text ≡ json_rules_report found.now.settings.now (report_of found.now)) }
+{
+    let ordering = found.settings.ordering();
+    let mut out = String::new(heap);
+    write_findings(&mut out, &ordering, found)?;
+    Ok(out)
+}
+
+/// The report, as an empty text's first.
+fn write_findings<A: Allocator + Copy>(
+    out: &mut String,
+    ordering: &Ordering,
+    found: &EnoughFindings<'_, '_, '_, A>,
+) -> Result<(), AllocError>
+    requires empty { string_bytes out.old ≡ [] }
+    requires ordering { ordering.now.rules.items ≡ ordering_rules found.now.settings.now }
+    ensures { OnOk result (string_bytes out.new ≡ json_rules_report found.now.settings.now (report_of found.now)) }
+{
+    let (closed, patches) = (found.closed, found.traced.graph().len());
+    let mut known = KnownTexts::new(*out.allocator(), patches)?;
+    out.push_str("{")?;
+    write_explained_base(out, found.base, found.settings.explain)?;
+    write!(out, "\"closed\":\"{closed}\",\"enough\":[")?;
+    write_sets(out, ordering, found.enough)?;
+    out.push_str("]")?;
+    write_first(out, &mut known, found.first)?;
+    write_module_key(out, found.settings.module)?;
+    out.push_str(",\"needs\":[")?;
+    write_groups(out, &mut known, ordering, found.needs)?;
+    write!(out, "],\"patches\":{patches}")?;
+    write_from_strict(out, found.settings, found.traced)?;
+    out.push_str("}\n")?;
+    Ok(())
+}
+
+/// The key of the module, with a comma before it.
+fn write_module_key(out: &mut String, module: Module) -> Result<(), AllocError>
+    ensures { OnOk result (string_bytes out.new ≡ string_bytes out.old
+        ++ (codes ",\"module\":" ++ json_string (module_text «module»))) }
+{
+    let name = module.name();
+    write!(out, ",\"module\":\"{name}\"")?;
+    Ok(())
+}
+
+/// The arrays of the sets, with a comma between two.
+fn write_sets(out: &mut String, ordering: &Ordering, sets: &[u128]) -> Result<(), AllocError>
+    ensures { OnOk result (string_bytes out.new
+        ≡ string_bytes out.old ++ set_items ordering.now.rules.items sets.now) }
+{
+    for (at, set) in sets.iter().enumerate() {
+        write_comma(out, at)?;
+        write_set(out, ordering, *set)?;
+    }
+    Ok(())
+}
+
+/// The array of the rules of a set.
+fn write_set(out: &mut String, ordering: &Ordering, set: u128) -> Result<(), AllocError>
+    ensures { OnOk result (string_bytes out.new
+        ≡ string_bytes out.old ++ set_json ordering.now.rules.items set) }
+{
+    let chosen = rules_in(ordering, set);
+    out.push_str("[")?;
+    write_rule_texts(out, chosen.rules.as_slice())?;
+    out.push_str("]")?;
+    Ok(())
+}
+
+/// The key of the first fault of all rules with a comma before it, where there is one.
+fn write_first<A: Allocator>(
+    out: &mut String,
+    known: &mut KnownTexts,
+    first: &Option<FirstFault<A>>,
+) -> Result<(), AllocError>
+    ensures text { OnOk result (string_bytes out.new
+        ≡ string_bytes out.old ++ first_fault_json known.old (option_map told_first first.now)) }
+    ensures known { known.new ≡ known.old }
+{
+    if let Some(fault) = first {
+        out.push_str(",\"first\":")?;
+        push_decided(out, known, fault.decided, &fault.section)?;
+    }
+    Ok(())
+}
+
+/// The objects of the groups of which one rule is needed, with a comma between two.
+fn write_groups<A: Allocator>(
+    out: &mut String,
+    known: &mut KnownTexts,
+    ordering: &Ordering,
+    groups: &[NeededGroup<A>],
+) -> Result<(), AllocError>
+    ensures { OnOk result (string_bytes out.new ≡ string_bytes out.old
+        ++ group_items ordering.now.rules.items known.old groups.now) }
+{
+    for (at, needed) in groups.iter().enumerate() {
+        write_comma(out, at)?;
+        write_group(out, known, ordering, needed)?;
+    }
+    Ok(())
+}
+
+/// The object of a group of which one rule is needed.
+fn write_group<A: Allocator>(
+    out: &mut String,
+    known: &mut KnownTexts,
+    ordering: &Ordering,
+    needed: &NeededGroup<A>,
+) -> Result<(), AllocError>
+    ensures text { OnOk result (string_bytes out.new
+        ≡ string_bytes out.old ++ group_json ordering.now.rules.items known.old (told_group needed.now)) }
+    ensures known { known.new ≡ known.old }
+{
+    let section = &needed.fault.section;
+    out.push_str("{\"fault\":")?;
+    known.push_fault(out, needed.fault.decided.fault)?;
+    out.push_str(",")?;
+    push_replay(out, &section.replay)?;
+    out.push_str("\"rules\":")?;
+    write_set(out, ordering, needed.group)?;
+    out.push_str(",")?;
+    known.push_leading(out, section)
+}

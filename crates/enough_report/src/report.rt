@@ -1,0 +1,29 @@
+//! Reports in the form that the settings ask for.
+
+ghost use Rattle.std.specs.Prelude.{◌≡◌, string_bytes, IfOk};
+ghost use Rattle.enough_model.specs.EnoughReport.{rules_report_bytes};
+ghost use Rattle.enough_report.specs.Found.{report_of};
+
+use crate::findings::EnoughFindings;
+use crate::json::enough_json;
+use crate::text::enough_text;
+use std::alloc::{AllocError, Allocator, Global};
+
+/// A report of the rules that a script needs as text, or as JSON where the settings ask for that.
+///
+/// JSON takes its memory from `heap`, and all else from `alloc`. It fails only when out of memory.
+pub fn enough_report<A: Allocator + Copy>(
+    heap: Global,
+    alloc: A,
+    found: &EnoughFindings<'_, '_, '_, A>,
+) -> Result<String<A>, AllocError>
+    ensures { IfOk result (λ text.
+        string_bytes text ≡ rules_report_bytes found.now.settings.now (report_of found.now)) }
+{
+    if found.settings.json {
+        let text = enough_json(heap, found)?;
+        String::from_str(alloc, text.as_str())
+    } else {
+        enough_text(alloc, found)
+    }
+}

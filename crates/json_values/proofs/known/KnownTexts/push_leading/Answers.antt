@@ -1,0 +1,22 @@
+use Rattle.std.proofs.Common.{◌++◌, ℕ, List, map, string_bytes, ap, ◌∙◌}
+use Rattle.crash_model.specs.Lists.{join_of}
+use Rattle.crash_model.specs.Report.{ids_json, write_json}
+use Rattle.patch_sets.specs.declared.write.BlockWrite.{BlockWrite}
+use Rattle.report_sections.specs.Sections.{section_of}
+use Rattle.json_values.proofs.SectionPieces.{leading_pieces}
+use Rattle.json_values.proofs.known.KnownTexts.push_leading.Goals as goal
+
+pub returns-clause-text : goal.returns-clause-text
+returns-clause-text g c =
+    let patches = c.args.self.now in
+    let s = c.args.section.now in
+    let ids = ap (λ (n : ℕ). string_bytes c.push_str.new.self ++ ids_json n s.set) c.patches.ensures in
+    let writes = ap (λ (ws : List BlockWrite). string_bytes c.push_str-2.new.self
+    ++ join_of 44 (map (write_json patches) ws)) c.deref.ensures.value in
+    leading_pieces patches (section_of s) (string_bytes c.args.out.now)
+    _ _ _ _ (string_bytes c.push_str-3.new.self)
+    c.in_ok-push_str.ensures.bytes
+    (c.in_ok-push_set.ensures ∙ ids)
+    c.in_ok-push_str-2.ensures.bytes
+    (c.in_ok-push_writes.ensures.text ∙ writes)
+    c.in_ok-push_str-3.ensures.bytes
