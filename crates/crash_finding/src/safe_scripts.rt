@@ -7,30 +7,22 @@ ghost use Rattle.crash_finding.specs.Safe.{AreSafe, SomeFails};
 use crate::crashes::Crashes;
 use crate::finder::Finder;
 use crash_model::refusals::RunFault;
-use explorers::Gate;
 use fault_deciding::{Decider, closed_number};
 use std::alloc::Allocator;
-use std::sync::Wait;
-use std::thread::Threads;
 
-impl<R, A, G> Finder<'_, R, A, G>
-where
-    R: Threads + Wait + Sync,
-    A: Allocator + Copy + Send + Sync,
-    G: Gate + Sync,
-{
+impl<R, A: Allocator + Copy, G> Finder<'_, R, A, G> {
     /// How many sets a crash can leave, where none of them fails, and `None` where one fails.
     ///
-    /// No set is visited: families of sets decide whether one fails. The memory that it takes grows with no number of
-    /// sets, no thread starts, and the gate is told nothing. It fails with `TooMany` where a crash can leave more sets
-    /// than the limit, and else only when out of memory.
+    /// No set is visited: families of sets decide whether one fails. The memory that it takes does not grow with the
+    /// number of sets, no thread starts, and the gate is told nothing. It fails with `TooMany` where a crash can leave
+    /// more sets than the limit, and else only when out of memory.
     pub(crate) fn safe_number(&self, crashes: &Crashes<'_, A>) -> Result<Option<usize>, RunFault>
         ensures answer { IfOk result (λ number.
             MatchOption number (SomeFails crashes.now) (AreSafe self.now.settings.now.limit crashes.now)) }
         ensures too_many { IfErr result (SaysTooMany crashes.now.graph.now self.now.settings.now.limit) }
     {
-        let number = closed_number(crashes.graph);
-        if number > self.settings.limit as u128 {
+        let (number, limit) = (closed_number(crashes.graph), self.settings.limit);
+        if number > limit as u128 {
             return Err(RunFault::TooMany);
         }
         let decider = Decider {
