@@ -1,12 +1,13 @@
 -- What is found where no set fails.
 use Rattle.std.proofs.Common.{ℕ, ◌<◌, List, [], arith}
 use Rattle.std.specs.Prelude.{Option, None}
+use Rattle.std.proofs.lemmas.List.Elements.{All-nil}
 use Rattle.state_space.specs.Counts.{HoldsOf, Outnumbers}
 use Rattle.patch_sets.specs.Sets.{AreAllInOrder}
 use Rattle.patch_sets.proofs.Lists.{in_none}
 use Rattle.crash_model.specs.Disk.{Disk}
 use Rattle.crash_model.specs.Strict.{IsFailingUnder}
-use Rattle.crash_model.specs.Summary.{HasFault, AreRows}
+use Rattle.crash_model.specs.Summary.{HasFault, AreRows, IsRow}
 use Rattle.crash_model.specs.declared.patches.Patch.{Patch}
 use Rattle.fault_summary.specs.Prevented.{IsFirstPrevented}
 
@@ -18,22 +19,18 @@ outnumbers P n limit (words, list, number) more = (
   omega (arith, number, more),
 )
 
--- no place is in an empty list
-below_none : {P : Type 0} (k : ℕ) → k < 0 → P
-below_none k within = let no : ⊥ = omega (arith, within) in absurd no
-
 module _ (kept : Option ℕ) (base : Disk) (patches : List Patch)
     (none : (set : ℕ) → ¬ (IsFailingUnder kept base patches set)) where
   pub all_of_none : AreAllInOrder (IsFailingUnder kept base patches) []
   all_of_none = record {
-    ordered = λ i j d lt within. below_none j within;
+    ordered = λ i j d lt within. absurd (omega arith);
     exactly = λ set. (λ there. absurd (in_none set there), λ fails. absurd (none set fails));
   }
 
   pub no_rows : AreRows (HasFault kept base patches) []
   no_rows = record {
-    ordered = λ i j d lt within. below_none j within;
-    each = λ k d within. below_none k within;
+    ordered = λ i j d lt within. absurd (omega arith);
+    each = All-nil (IsRow (HasFault kept base patches));
     every = λ fault set has. absurd (none set has.failing);
   }
 
