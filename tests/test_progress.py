@@ -7,14 +7,16 @@ import unittest
 from tests.program import program
 from tests.terminal import on_terminal
 
-# Nine files are written, two of them twice, and one is created whose entry does not wait for its inode: some seconds of
-# work. A quarter of the sets fail.
-LONG = b"".join(b"create /%c\n" % name for name in b"abcdefghi") + b"start\ncreate /j\n"
-LONG += b"".join(b"write /%c\n" % name for name in b"abcdefghiab")
-CLOSED, FAILING = 16_777_216, 4_194_304
-REPORT = (b"module soft\nwithout EntrySet:InodeInit\npatches 35\nclosed 16777216\nfailing 4194304\n"
-          b"fault 1 dangling entry: directory 0 entry 9 inode 10\nsets 4194304\nset 1\nwrite block 4: 1\n")
-WORDS = ("--limit", "1000000000", "--workers", "2", "--summary", "--without", "EntrySet:InodeInit")
+# A file is written, and then one is created whose entry does not wait for its inode; eight more are written, three of
+# them twice. That is some seconds of work, and a seventh of the sets fail.
+LONG = b"".join(b"create /%c\n" % name for name in b"abcdefghi") + b"start\n"
+LONG += b"group A\nwrite /a\nend\ndepend B A\ngroup B\ncreate /j\nend\n"
+LONG += b"".join(b"write /%c\n" % name for name in b"bcdefghibcd")
+CLOSED, FAILING = 29_360_128, 4_194_304
+REPORT = (b"module soft\nwithout EntrySet:InodeInit\npatches 38\nclosed 29360128\nfailing 4194304\n"
+          b"fault 1 dangling entry: directory 0 entry 9 inode 10\nsets 4194304\nset 0 1 2 4\n"
+          b"write block 1: 0\nwrite block 5: 1\nwrite block 2: 2\nwrite block 4: 4\n")
+WORDS = ("--limit", "1000000000", "--blocks", "64", "--workers", "2", "--summary", "--without", "EntrySet:InodeInit")
 
 # Ten files are created and seven of them written: no set fails, and a visit to each would take a minute.
 SAFE = b"start\n" + b"".join(b"create /%c\n" % name for name in b"abcdefghij")
