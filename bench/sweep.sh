@@ -1,8 +1,9 @@
 #!/usr/bin/env bash
 # sweep.sh: how long a whole run takes by the sweep with 1 and 4 workers, how many closed sets a second that is, and
-# how much memory a run under --summary holds. It times four scripts of 27,648 to 32,209 closed sets under the
-# orderings, and two under soft updates: ten files are created, and two of them written, which has 793,881, or five,
-# which has 39,135,393. Not part of the gate.
+# how much memory a run under --summary holds. It times four scripts of 27,648 to 67,809 closed sets under the
+# orderings, and two under soft updates: nine files are written, some of them twice, and then one is created whose entry
+# does not wait for its inode, which has 1,048,579 or 16,777,219. Of each script a set fails, since a script of which
+# none fails is answered without a visit; the last line says how long that takes. Not part of the gate.
 #
 # What is timed takes turns in ROUNDS rounds (15; of the last script, which takes long, a fifth of them), so that all
 # meet the machine alike. The median run counts: a single busy processor may run a third faster than one of four, but
@@ -89,11 +90,12 @@ time_one() {
         "$(hold "$script" "$@" --explorer sweep --summary --workers 4)"
 }
 
-# creates WRITES: ten files are created, and so many of them written
-creates() {
-    echo start
-    printf 'create /%s\n' a b c d e f g h i j
-    printf 'write /%s\n' a b c d e f g h i j | head -n "$1"
+# writes COUNT: nine files are written, in turn, so often in all; once all that is done a file is created
+writes() {
+    printf 'create /%s\n' a b c d e f g h i
+    printf 'start\ngroup A\n'
+    printf 'write /%s\n' a b c d e f g h i a b c d e f g h i | head -n "$1"
+    printf 'end\ndepend B A\ngroup B\ncreate /j\n'
 }
 
 {
@@ -106,12 +108,27 @@ creates() {
 printf 'mkdir /d\nstart\ncreate /a\ncreate /d/y\nmkdir /d/x\nlink /d/y /c\ncreate /e\nwrite /e\n' >"$work/fails"
 printf 'start\nmkdir /f\nmkdir /d\nmkdir /d/x\n' >"$work/folders"
 printf 'mkdir /c\ncreate /f\nstart\nwrite /f\nunlink /f\nrmdir /c\nmkdir /d\n' >"$work/full"
-creates 2 >"$work/two_writes"
-creates 5 >"$work/five_writes"
+writes 10 >"$work/ten_writes"
+writes 12 >"$work/twelve_writes"
+{
+    printf 'start\n'
+    printf 'create /%s\n' a b c d e f g h i j
+    printf 'write /%s\n' a b c d e f g
+} >"$work/safe"
 
 time_one "links without an ordering" "$rounds" links --module async --limit 32768
 time_one "creates without an ordering" "$rounds" fails --module async --blocks 24 --limit 32768
-time_one "three folders with a metadata journal" "$rounds" folders --module meta --blocks 64 --journal 40 --limit 32768
-time_one "a write and removals with a full journal" "$rounds" full --module full --blocks 64 --journal 40 --limit 32768
-time_one "ten creates and two writes with soft updates" "$rounds" two_writes --module soft --limit 1000000000
-time_one "ten creates and five writes with soft updates" $((rounds / 5 + 1)) five_writes --module soft --limit 1000000000
+time_one "three folders with a metadata journal" "$rounds" folders \
+    --module meta --without Commit:previous-Commit --blocks 64 --journal 40 --limit 100000
+time_one "a write and removals with a full journal" "$rounds" full \
+    --module full --without Commit:previous-Commit --blocks 64 --journal 40 --limit 100000
+time_one "ten writes with soft updates" "$rounds" ten_writes \
+    --module soft --without EntrySet:InodeInit --blocks 64 --limit 1000000000
+time_one "twelve writes with soft updates" $((rounds / 5 + 1)) twelve_writes \
+    --module soft --without EntrySet:InodeInit --blocks 64 --limit 1000000000
+
+spent=()
+for _ in $(seq "$rounds"); do
+    time_once safe ours "$work/safe" --module soft --blocks 64 --limit 1000000000
+done
+printf 'ten creates and seven writes with soft updates, of which no set fails: %d us\n' "$(median safe)"

@@ -7,12 +7,22 @@ import unittest
 from tests.program import program
 from tests.terminal import on_terminal
 
-# Ten files are created and five of them written: 39,135,393 closed sets, some seconds of work.
-LONG = b"start\n" + b"".join(b"create /%c\n" % name for name in b"abcdefghij")
-LONG += b"".join(b"write /%c\n" % name for name in b"abcde")
-CLOSED = 39_135_393
-REPORT = b"module soft\npatches 35\nclosed 39135393\nfailing 0\n"
-WORDS = ("--limit", "1000000000", "--workers", "2")
+# A file is written, and then one is created whose entry does not wait for its inode; eight more are written, three of
+# them twice. That is some seconds of work, and a seventh of the sets fail.
+LONG = b"".join(b"create /%c\n" % name for name in b"abcdefghi") + b"start\n"
+LONG += b"group A\nwrite /a\nend\ndepend B A\ngroup B\ncreate /j\nend\n"
+LONG += b"".join(b"write /%c\n" % name for name in b"bcdefghibcd")
+CLOSED, FAILING = 29_360_128, 4_194_304
+REPORT = (b"module soft\nwithout EntrySet:InodeInit\npatches 38\nclosed 29360128\nfailing 4194304\n"
+          b"fault 1 dangling entry: directory 0 entry 9 inode 10\nsets 4194304\nset 0 1 2 4\n"
+          b"write block 1: 0\nwrite block 5: 1\nwrite block 2: 2\nwrite block 4: 4\n")
+WORDS = ("--limit", "1000000000", "--blocks", "64", "--workers", "2", "--summary", "--without", "EntrySet:InodeInit")
+
+# Ten files are created and seven of them written: no set fails, and a visit to each would take a minute.
+SAFE = b"start\n" + b"".join(b"create /%c\n" % name for name in b"abcdefghij")
+SAFE += b"".join(b"write /%c\n" % name for name in b"abcdefg")
+SAFE_REPORT = b"module soft\npatches 41\nclosed 526153617\nfailing 0\n"
+SAFE_WORDS = ("--limit", "1000000000", "--blocks", "64")
 
 WIPED = b"\r\x1b[K"
 LINE = re.compile(rb"([0-9]+) sets visited, ([0-9]+) failing")
@@ -21,27 +31,31 @@ LINE = re.compile(rb"([0-9]+) sets visited, ([0-9]+) failing")
 class Progress(unittest.TestCase):
     def test_a_long_run_and_no_terminal(self):
         run = subprocess.run([program(), *WORDS], input=LONG, capture_output=True, check=False)
-        self.assertEqual((run.returncode, run.stdout, run.stderr), (0, REPORT, b""))
+        self.assertEqual((run.returncode, run.stdout, run.stderr), (1, REPORT, b""))
 
     def test_a_long_run_on_a_terminal(self):
         run = on_terminal([program(), *WORDS], LONG)
-        self.assertEqual((run.status, run.output), (0, REPORT))
+        self.assertEqual((run.status, run.output), (1, REPORT))
         before, *shown, after = run.terminal.split(WIPED)
         self.assertEqual((before, after), (b"", b""), "the line is gone at the end")
         lines = [LINE.fullmatch(line) for line in shown]
         self.assertTrue(lines and all(lines), shown[:3])
         self.assertLessEqual(len(lines), 4 * (run.seconds - 1) + 1, "at most four lines a second, after the first")
-        sets = [int(line[1]) for line in lines]
-        self.assertEqual(sets, sorted(sets))
-        self.assertLessEqual(sets[-1], CLOSED)
-        self.assertEqual({line[2] for line in lines}, {b"0"})
+        for which, most in ((1, CLOSED), (2, FAILING)):
+            numbers = [int(line[which]) for line in lines]
+            self.assertEqual(numbers, sorted(numbers))
+            self.assertLessEqual(numbers[-1], most)
+
+    def test_a_safe_script_on_a_terminal(self):
+        run = on_terminal([program(), *SAFE_WORDS], SAFE)
+        self.assertEqual((run.status, run.output, run.terminal), (0, SAFE_REPORT, b""), "no set is visited")
 
     def test_a_short_run_on_a_terminal(self):
         run = on_terminal([program()], b"start\ncreate /a\n")
         self.assertEqual((run.status, run.output[:12], run.terminal), (0, b"module soft\n", b""))
 
     def test_a_refusal_on_a_terminal(self):
-        run = on_terminal([program(), *WORDS, "--summary"], LONG.replace(b"start\n", b"start\nnothing\n"))
+        run = on_terminal([program(), *SAFE_WORDS], SAFE.replace(b"start\n", b"start\nnothing\n"))
         self.assertEqual((run.status, run.output), (2, b""))
         self.assertTrue(run.terminal.startswith(b"crashmap: line 2: "), run.terminal)
 

@@ -86,6 +86,12 @@ class RefusedMemory(unittest.TestCase):
     def test_a_decision_by_two_workers(self):
         self.assert_out_of_memory(str(self.script), "--module", "async", "--decide", "--workers", "2", may_report=True)
 
+    def test_a_safe_script_before_a_sweep(self):
+        self.assert_out_of_memory(str(self.script), "--limit", "100000", "--summary")
+
+    def test_a_failing_script_before_a_sweep(self):
+        self.assert_out_of_memory(str(self.script), "--module", "async", "--limit", "100000", "--needs")
+
     def test_rules_that_are_enough(self):
         self.assert_out_of_memory(str(self.script), "--enough", "--strict")
 

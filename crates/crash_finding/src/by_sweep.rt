@@ -1,6 +1,6 @@
 //! The sets that a crash can leave, swept over with no table of sets.
 //!
-//! Each function refuses where they are more than the limit.
+//! Each function refuses where they are more than the limit, and visits none of them where none fails.
 
 ghost use Rattle.std.specs.Prelude.{◌≤◌, IfOk, IfErr};
 ghost use Rattle.patch_sets.specs.Closed.{IsClosed};
@@ -13,12 +13,12 @@ ghost use Rattle.crash_finding.specs.Kept.{Fails};
 ghost use Rattle.crash_finding.specs.Limits.{SaysTooMany};
 
 use crate::crashes::Crashes;
-use crate::dependencies::dependencies;
 use crate::finder::Finder;
 use crate::watching::GateWatch;
 use crash_image::PatchSpace;
 use crash_model::refusals::RunFault;
 use explorers::{ExploreFault, Explored, Gate};
+use fault_deciding::dependencies::dependencies;
 use fault_summary::{
     CountVisitor, FailingCount, FaultVisitor, SweptFaults, sweep_count, sweep_faults,
 };
@@ -52,6 +52,10 @@ where
         ensures failing { IfOk result (λ found. AreAllInOrder (Fails crashes.now) found.broken.items) }
         ensures too_many { IfErr result (SaysTooMany crashes.now.graph.now self.now.settings.now.limit) }
     {
+        if let Some(total) = self.safe_number(crashes)? {
+            let broken = Vec::new(self.alloc);
+            return Ok(Explored { total, broken });
+        }
         let space = PatchSpace::new(crashes.base, crashes.graph, crashes.kept);
         let (deps, limit) = (dependencies(crashes.graph), self.settings.limit);
         let watch = GateWatch { gate: self.gate };
@@ -73,6 +77,13 @@ where
             AreRows (HasFault crashes.now.kept crashes.now.base.now crashes.now.graph.now) found.rows.items) }
         ensures too_many { IfErr result (SaysTooMany crashes.now.graph.now self.now.settings.now.limit) }
     {
+        if let Some(total) = self.safe_number(crashes)? {
+            return Ok(SweptFaults {
+                total,
+                failing: 0,
+                rows: Vec::new(self.alloc),
+            });
+        }
         let visitor = FaultVisitor::new(self.alloc, crashes.base, crashes.graph, crashes.kept);
         let (deps, limit) = (dependencies(crashes.graph), self.settings.limit);
         let watch = GateWatch { gate: self.gate };
@@ -98,6 +109,13 @@ where
             IsFirstPrevented (Fails crashes.now) (IsClosed (deps_of other.now)) found.first) }
         ensures too_many { IfErr result (SaysTooMany crashes.now.graph.now self.now.settings.now.limit) }
     {
+        if let Some(total) = self.safe_number(crashes)? {
+            return Ok(FailingCount {
+                total,
+                failing: 0,
+                first: None,
+            });
+        }
         let space = PatchSpace::new(crashes.base, crashes.graph, crashes.kept);
         let visitor = CountVisitor::new(self.alloc, space, other);
         let (deps, limit) = (dependencies(crashes.graph), self.settings.limit);

@@ -7,11 +7,11 @@ ghost use Rattle.crash_finding.specs.Kept.{Fails};
 ghost use Rattle.crash_finding.specs.Limits.{SaysTooMany};
 
 use crate::crashes::Crashes;
-use crate::dependencies::dependencies;
 use crate::finder::Finder;
 use crash_image::{PatchSpace, exploring_finds_the_failing_sets};
 use crash_model::refusals::RunFault;
 use explorers::{ExploreFault, Explored, Gate, explore, prime_at_least};
+use fault_deciding::dependencies::dependencies;
 use set_sweep::count_closed;
 use std::alloc::Allocator;
 use std::sync::Wait;

@@ -9,7 +9,7 @@ use patch_graph::{Graph, MAX_PATCHES};
 use std::alloc::Allocator;
 
 /// For each id of a graph the ids that it depends on. It takes no memory.
-pub(crate) fn dependencies<A: Allocator + Copy>(graph: &Graph<A>) -> ArrayVec<u128, MAX_PATCHES>
+pub fn dependencies<A: Allocator + Copy>(graph: &Graph<A>) -> ArrayVec<u128, MAX_PATCHES>
     ensures exact { result.items ≡ deps_of graph.now }
     ensures few { length result.items < 125 }
     ensures earlier { AreEarlier result.items }

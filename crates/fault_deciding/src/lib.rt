@@ -7,7 +7,7 @@
 mod asking;
 mod counting;
 mod decider;
-mod dependencies;
+pub mod dependencies;
 mod listing;
 mod ordering;
 mod question;

@@ -1,12 +1,11 @@
 //! Disks that are too small, and scripts that are too long.
 
-use crash_finding::dependencies::dependencies;
 use crash_model::refusals::RunFault;
 use crash_model::settings::Settings;
 use disk_image::Image;
+use fault_deciding::closed_number;
 use order_modules::{build_base, trace};
 use script_text::Script;
-use set_families::ClosedSets;
 use std::alloc::Allocator;
 use std::fmt;
 
@@ -148,8 +147,7 @@ fn closed_sets<A: Allocator + Copy>(
     build_base(&mut base, &script.base).ok()?;
     let ordering = settings.ordering();
     let traced = trace(alloc, &base, &script.traced, &ordering).ok()?;
-    let dependencies = dependencies(traced.graph());
-    Some(ClosedSets::of(dependencies.as_slice()).count())
+    Some(closed_number(traced.graph()))
 }
 
 impl fmt::Display for SizeFault {
