@@ -126,7 +126,8 @@ function checkFailing(place, one, report) {
 function checkHead(json) {
   checkText("module", json.module);
   if (isDecision(json) || isOfEnough(json)) {
-    must(/^[1-9]\d*$/.test(json.closed), "closed", "the digits of a whole number, at least 1", json.closed);
+    const holds = typeof json.closed === "string" && /^[1-9]\d*$/.test(json.closed);
+    must(holds, "closed", "the digits of a whole number, at least 1", json.closed);
   } else {
     checkCount("closed", json.closed, 1);
   }

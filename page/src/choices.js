@@ -25,7 +25,7 @@ function drawChoice(choice, at, choices) {
   return [isFirst && element("li", { class: "part" }, choice.part), element("li", {}, button)];
 }
 
-const FIRST_WORDS = "This report has the first fault. One made with --decide has each.";
+const FIRST_WORDS = "This report has the first fault. One made with --decide has every one.";
 
 /** What holds of all crashes together, where the choices do not say it. */
 function drawVerdict(report) {

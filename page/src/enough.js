@@ -59,8 +59,9 @@ function enoughWords(rules) {
       + "The graph has no arrow of a rule.";
   }
   const [these, them] = rules.length === 1 ? ["This rule is", "it"] : ["These rules are", "them"];
+  const smaller = rules.length === 1 ? "" : "No smaller part of them is enough. ";
   return `${these} enough: ${listOf(rules)}. With ${them} and no other rule, replay leaves a clean disk after every `
-    + `crash. ${rules.length === 1 ? "" : "No smaller part of them is enough. "}The graph has no arrow of another rule.`;
+    + `crash. ${smaller}The graph has no arrow of another rule.`;
 }
 
 function neededWords(rules) {
@@ -69,5 +70,5 @@ function neededWords(rules) {
       + "ordering.";
   }
   return `One of these rules is needed: ${listOf(rules, "or")}. Without all of them this crash is possible. `
-    + "With one of them and the rest of the ordering, replay leaves a clean disk after every crash.";
+    + "With any one of them and the rest of the ordering, replay leaves a clean disk after every crash.";
 }

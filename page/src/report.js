@@ -1,6 +1,6 @@
-// A report as `crashmap --json --explain --summary` prints it (or with `--needs`, `--decide` or `--enough`), brought into
-// the one form that the page works on: the patches with their bytes, the script's operations, and what a person can
-// choose to look at.
+// A report as `crashmap --json --explain --summary` prints it (or with `--needs`, `--decide` or `--enough`), brought
+// into the one form that the page works on: the patches with their bytes, the script's operations, and what a person
+// can choose to look at.
 import { checkReport, isDecision, isOfEnough } from "./check.js";
 import { choicesOf } from "./choosing.js";
 import { JOURNAL_START, explainPatches } from "./disk.js";
