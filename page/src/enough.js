@@ -7,9 +7,9 @@ import { listOf } from "./words.js";
     there are no sets and no groups, and a fault that it leaves. */
 export function enoughChoices({ enough, needs, first }, report) {
   const sets = enough.slice(0, MOST_CHOICES).map(rules => enoughChoice(rules, report));
-  const isAlone = one => one.rules.length === 1;
-  const alone = groupChoices(needs.filter(isAlone), "This rule is needed", "Each of these rules is needed");
-  const groups = groupChoices(needs.filter(one => !isAlone(one)), "One of these rules is needed",
+  const shown = needs.slice(0, MOST_CHOICES), isAlone = one => one.rules.length === 1;
+  const alone = groupChoices(shown.filter(isAlone), "This rule is needed", "Each of these rules is needed");
+  const groups = groupChoices(shown.filter(one => !isAlone(one)), "One of these rules is needed",
     "One rule of each line is needed");
   const part = `All rules together are ${first ? "not " : ""}enough`, fault = first ? [faultChoice(first)] : [];
   const whole = [...fault, wholeRun(report)].map(choice => ({ ...choice, part }));
@@ -34,7 +34,7 @@ function enoughHead(rules, count) {
 /** The crash that comes without each group of rules. */
 function groupChoices(groups, one, many) {
   const part = groups.length === 1 ? one : many;
-  return groups.slice(0, MOST_CHOICES).map(group => {
+  return groups.map(group => {
     const { rules, fault } = group, them = rules.length === 1 ? "it" : "them";
     return { label: listOf(rules, "or"), more: `without ${them}: ${fault}`, part, rules, without: rules,
       faults: [fault], ...crashOf(group) };

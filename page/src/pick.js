@@ -24,12 +24,10 @@ export function closureOf(report, { set, without }) {
   return [...set, ...set.flatMap(id => [...before[id]])];
 }
 
-const isUnder = (choice, without) => (choice.without ?? []).join() === without.join();
-
-/** Whether the disk of a closed set has faults, as far as the report says. */
+/** Whether the disk of a closed set has faults, as far as the report says; no ordering changes what a set leaves. */
 function knownFaults(report, set, without) {
-  const isSame = choice => choice.set?.join() === set.join() && isUnder(choice, without) && !choice.isWhole;
-  const faults = report.choices.filter(isSame).flatMap(choice => choice.faults);
+  const same = report.choices.filter(choice => choice.set?.join() === set.join());
+  const faults = [...new Set(same.flatMap(choice => choice.faults))];
   if (faults.length && ["faults", "enough"].includes(report.asks)) {
     return { faults, verdict: "The report lists this set with what is said above; it can have other faults." };
   }
@@ -38,7 +36,7 @@ function knownFaults(report, set, without) {
   if (!without.length && (report.failing === 0 || areAllListed)) {
     return { faults, verdict: "After replay this disk is clean, since the report does not list it as failing." };
   }
-  if (report.choices.some(choice => choice.isEnough && isUnder(choice, without))) {
+  if (report.choices.some(choice => choice.isEnough && choice.without.join() === without.join())) {
     return { faults, verdict: "After replay this disk is clean, since the report says that these rules are enough." };
   }
   return { faults,

@@ -132,24 +132,34 @@ async function testPickedGroups() {
 
 /** Under rules that are enough each closed set is clean, and closed is what these rules say. */
 async function testPickedUnderEnough() {
-  const { enough, trace } = await open("enough", "#choice=1");
+  const { enough, trace } = await open("enough_mkdir", "#choice=1");
   const others = rulesIn(trace).filter(rule => !enough[1].includes(rule)), left = traceWithout(trace, others);
   const wrong = [], all = trace.map((_, id) => id);
   for (let bits = 0; bits < 1 << trace.length; bits++) {
     const set = all.filter(id => bits >> id & 1);
-    await open("enough", `#set=${set.join("+")}${others.map(rule => `&rule=${rule}`).join("")}`);
+    await open("enough_mkdir", `#set=${set.join("+")}${others.map(rule => `&rule=${rule}`).join("")}`);
     const { words } = await shown(), clean = "clean, since the report says that these rules are enough.";
     const isClean = words.at(-1).endsWith(clean);
     if (isClean !== isClosed(left, set)) wrong.push(set);
   }
   check("each set is closed or not as the rules alone say, and clean where it is", wrong, []);
-  await open("enough", "#choice=1");
+  await open("enough_mkdir", "#choice=1");
   await click(4);
   const page = await shown();
   check("a picked set keeps the rules that are looked at", page.words[1].startsWith(
     `Closed under the ordering without ${listed(others, "and")}: `), true);
   check("and the address names them", await browser.ask("new URLSearchParams(location.hash.slice(1)).getAll('rule')"),
     others);
+}
+
+async function testPickedUnderOthers() {
+  await open("enough", "#set=&rule=EntrySet:InodeInit");
+  check("under rules that are not enough a set is not called clean", (await shown()).words.at(-1).endsWith(
+    "The page does not check disks, and the report does not say whether this one has faults."), true);
+  const { needs } = await open("enough", "#set=1&rule=EntrySet:InodeInit&rule=Ptr:InitFile");
+  const page = await shown();
+  check("a set of the report has its fault under every ordering", [page.disk, page.faults],
+    [needs[0].set, [`Fault ${needs[0].fault}`]]);
 }
 
 async function testNotEnough() {
@@ -198,7 +208,7 @@ async function testKeyboard() {
 async function testLongLists() {
   const report = reportOf("enough"), rules = Array.from({ length: 600 }, (_, k) => [`EntrySet:R${k}`]);
   report.enough = rules;
-  report.needs = rules.map(one => ({ ...report.needs[0], rules: one }));
+  report.needs = rules.map((one, k) => k < 500 ? { ...report.needs[0], rules: one } : null);
   await open("enough");
   await drop(JSON.stringify(report));
   const page = await shown();
@@ -208,4 +218,4 @@ async function testLongLists() {
 }
 
 await run([testList, testHeadings, testHead, testSets, testGroups, testPickedGroups, testPickedUnderEnough,
-  testNotEnough, testNoneNeeded, testOneRule, testKeyboard, testLongLists]);
+  testPickedUnderOthers, testNotEnough, testNoneNeeded, testOneRule, testKeyboard, testLongLists]);
