@@ -205,6 +205,17 @@ async function testKeyboard() {
   check("the arrow keys go past the headings", seen, (await shown()).choices.slice(0, 7));
 }
 
+async function testWidths() {
+  for (const width of [390, 760, 1280]) {
+    await browser.size(width, 800);
+    for (const choice of [0, 2]) {
+      await open("enough_journal", `#choice=${choice}`);
+      check(`${width}, choice ${choice}: nothing hangs over the side`, (await shown()).sideways, 0);
+      await keepPicture(`enough_${width}_${choice}`);
+    }
+  }
+}
+
 async function testLongLists() {
   const report = reportOf("enough"), rules = Array.from({ length: 600 }, (_, k) => [`EntrySet:R${k}`]);
   report.enough = rules;
@@ -218,4 +229,4 @@ async function testLongLists() {
 }
 
 await run([testList, testHeadings, testHead, testSets, testGroups, testPickedGroups, testPickedUnderEnough,
-  testPickedUnderOthers, testNotEnough, testNoneNeeded, testOneRule, testKeyboard, testLongLists]);
+  testPickedUnderOthers, testNotEnough, testNoneNeeded, testOneRule, testKeyboard, testWidths, testLongLists]);
