@@ -36,7 +36,7 @@ function knownFaults(report, set, without) {
   if (!without.length && (report.failing === 0 || areAllListed)) {
     return { faults, verdict: "After replay this disk is clean, since the report does not list it as failing." };
   }
-  if (report.choices.some(choice => choice.isEnough && choice.without.join() === without.join())) {
+  if (report.choices.some(choice => choice.isEnough && without.every(rule => choice.without.includes(rule)))) {
     return { faults, verdict: "After replay this disk is clean, since the report says that these rules are enough." };
   }
   return { faults,

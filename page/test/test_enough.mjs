@@ -153,6 +153,9 @@ async function testPickedUnderEnough() {
 }
 
 async function testPickedUnderOthers() {
+  await open("enough_mkdir", "#set=&rule=Ptr:MapSet");
+  check("under more rules than are enough a set is clean too", (await shown()).words.at(-1).endsWith(
+    "clean, since the report says that these rules are enough."), true);
   await open("enough", "#set=&rule=EntrySet:InodeInit");
   check("under rules that are not enough a set is not called clean", (await shown()).words.at(-1).endsWith(
     "The page does not check disks, and the report does not say whether this one has faults."), true);
