@@ -2,7 +2,7 @@
 // enough, the groups of which one rule is needed, and the crash that comes without each group.
 import { isClosed, reasonsOf, reduction, traceWithout } from "./arrows.mjs";
 import {
-  browser, check, click, clickChoice, differences, drop, keepPicture, open, openMade, reportOf, run, shown,
+  browser, check, click, clickChoice, differences, drop, keepPicture, open, openMade, openText, reportOf, run, shown,
 } from "./harness.mjs";
 
 const WITH_GROUPS = ["enough", "enough_mkdir", "enough_journal"];
@@ -163,6 +163,10 @@ async function testPickedUnderOthers() {
   const page = await shown();
   check("a set of the report has its fault under every ordering", [page.disk, page.faults],
     [needs[0].set, [`Fault ${needs[0].fault}`]]);
+  const report = reportOf("enough");
+  report.needs.push({ ...needs[0], rules: ["EntrySet:Ptr"] });
+  await openText("doubled", JSON.stringify(report), "#set=1&rule=EntrySet:InodeInit");
+  check("a fault of two groups is said once", (await shown()).faults, [`Fault ${needs[0].fault}`]);
 }
 
 async function testNotEnough() {
