@@ -67,17 +67,20 @@ class InABrowser(unittest.TestCase):
     def test_bad_reports_leave_a_page_that_says_what_is_wrong(self):
         self.passes("test_bad.mjs")
 
+    def test_what_is_enough_is_shown(self):
+        self.passes("test_enough.mjs")
+
     def test_the_gallery_is_shown(self):
         scripts = sorted((ROOT / "gallery").glob("*.script"))
         self.assertTrue(scripts)
         with tempfile.TemporaryDirectory() as folder:
             for script in scripts:
                 words = re.search(r"^# \./crashmap gallery/\S+ (.*)$", script.read_text(), re.MULTILINE)[1].split()
-                for kind, more in (("faults", []), ("rules", ["--needs"]), ("decision", ["--decide"])):
-                    command = [ROOT / "crashmap-page", script, *words, *more]
+                for question in ([], ["--needs"], ["--decide"], ["--enough"]):
+                    command = [ROOT / "crashmap-page", script, *words, *question]
                     status, page, err = run(command, CRASHMAP_PROGRAM=str(program()))
                     self.assertIn(status, (0, 1), (script, err))
-                    pathlib.Path(folder, f"{script.stem}, {kind}").write_bytes(page)
+                    pathlib.Path(folder, " ".join([script.stem, *question])).write_bytes(page)
             self.passes("test_made.mjs", PAGES=folder)
 
 
@@ -184,6 +187,21 @@ class CrashmapPage(unittest.TestCase):
         status, out, err = self.is_the_programs("--nope")
         self.assertEqual((status, out, err != b""), (2, b"", True))
 
+    def test_words_that_do_not_go_together(self):
+        """The program names all that it was given, so the page adds nothing."""
+        for words in (["--needs", "--summary"], ["--decide", "--limit=5"], ["--explorer", "sweep", "--enough"],
+                      ["--decide", "--enough"]):
+            with self.subTest(words):
+                status, out, err = self.is_the_programs(self.script, *words)
+                self.assertEqual((status, out, err != b""), (2, b"", True))
+                words = [str(self.script), *words]
+                self.assertEqual(self.make(*words, of=self.stand_in('echo "$@"\n'))[1].decode().split(), [
+                    part for word in words for part in word.split()])
+
+    def test_the_rules_of_a_module(self):
+        status, out, _ = self.is_the_programs("--rules", "--module", "meta")
+        self.assertEqual((status, b"Commit:Copy" in out), (0, True))
+
     def test_there_is_no_such_script(self):
         self.assertEqual(self.is_the_programs(self.folder / "none")[:2], (2, b""))
 
@@ -208,10 +226,12 @@ class CrashmapPage(unittest.TestCase):
         said = subprocess.run(words, env=environment, stdout=subprocess.PIPE, timeout=SECONDS, check=True).stdout
         self.assertEqual(said, b"--unproved a --strict --json --explain --summary\n")
 
-    def test_a_decision_goes_without_a_summary(self):
+    def test_other_questions_go_without_a_summary(self):
         """A report that begins with a brace is made a page, so what this program prints is passed on."""
         printing = self.stand_in('echo "$@"\n')
-        self.assertEqual(self.make("a", "--decide", of=printing), (0, b"a --decide --json --explain\n", b""))
+        for question in ("--needs", "--decide", "--enough"):
+            said = f"a {question} --json --explain\n".encode()
+            self.assertEqual(self.make("a", question, of=printing), (0, said, b""))
 
     def test_a_decision(self):
         printing = self.stand_in(f"cat '{PAGE}/test/reports/decided.json'\nexit 1\n")
@@ -219,6 +239,11 @@ class CrashmapPage(unittest.TestCase):
         words = [self.script, "--module", "async", "--decide"]
         page = self.page_of_case("decided", "a script", CLEAN, words)
         self.assertEqual(self.make(*words, of=printing), (1, page, b""))
+
+    def test_what_is_enough(self):
+        self.script.write_bytes(CLEAN)
+        words = ["--enough", self.script]
+        self.assertEqual(self.make(*words), (0, self.page_of_case("enough", "a script", CLEAN, words), b""))
 
     def test_a_terminal(self):
         """With no words, on a terminal, it says that it reads standard input; elsewhere it says nothing."""

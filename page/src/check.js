@@ -1,57 +1,12 @@
-// What a report must look like for the page to show it. Each check that fails throws a `ReportError`, which names the
-// place in the report, what it must hold and what it holds.
-import { shortened } from "./words.js";
+// What a report must look like for the page to show it.
+import {
+  ReportError, checkCount, checkHex, checkList, checkObject, checkText, checkTexts, isCount, isObject, kindOf, must,
+} from "./form.js";
 
-/** The report cannot be shown; the message is a sentence for a person. */
-export class ReportError extends Error {}
-
-/** Longer lists of faults, rules or failing sets are shown up to here. */
+/** Longer lists of faults, rules, sets of rules or failing sets are shown up to here. */
 export const MOST_CHOICES = 500;
-const MOST_PATCHES = 1000, MOST_LETTERS = 40;
+const MOST_PATCHES = 1000;
 const BLOCK_BYTES = 128, FEWEST_BLOCKS = 16, MOST_BLOCKS = 128, OUTSIDE_JOURNAL = 6;
-
-const isObject = value => typeof value === "object" && value !== null && !Array.isArray(value);
-
-/** What a value is, for a sentence. */
-function kindOf(value) {
-  if (value === undefined) return "missing";
-  if (value === null) return "null";
-  if (Array.isArray(value)) return `a list of ${value.length}`;
-  if (typeof value === "object") return "an object";
-  if (typeof value === "string") return `the text ${JSON.stringify(shortened(value, MOST_LETTERS))}`;
-  return typeof value === "number" ? `the number ${value}` : String(value);
-}
-
-function must(holds, place, wanted, value) {
-  if (holds) return;
-  const is = value === undefined ? "but it is missing" : `but it is ${kindOf(value)}`;
-  throw new ReportError(`This report has an unexpected form: ${place} must be ${wanted}, ${is}.`);
-}
-
-const isCount = (value, least, most) => Number.isSafeInteger(value) && value >= least && value <= most;
-
-function checkCount(place, value, least, most = Number.MAX_SAFE_INTEGER) {
-  const wanted = most === Number.MAX_SAFE_INTEGER ? `a whole number, at least ${least}`
-    : `a whole number from ${least} to ${most}`;
-  must(isCount(value, least, most), place, wanted, value);
-}
-
-const checkText = (place, value) => must(typeof value === "string", place, "a text", value);
-const checkObject = (place, value) => must(isObject(value), place, "an object", value);
-const checkList = (place, value) => must(Array.isArray(value), place, "a list", value);
-
-function checkTexts(place, value) {
-  checkList(place, value);
-  value.forEach((one, k) => checkText(`${place}[${k}]`, one));
-}
-
-/** Hexadecimal digits for at least one byte and at most so many. */
-function checkHex(place, value, least, most) {
-  const size = least === most ? `${least}` : `${least} to ${most}`;
-  const holds = typeof value === "string" && /^(?:[0-9a-f]{2})*$/.test(value)
-    && value.length >= 2 * least && value.length <= 2 * most;
-  must(holds, place, `${size} bytes in hexadecimal digits`, value);
-}
 
 /* --- the parts of a report --- */
 
@@ -131,11 +86,21 @@ function checkChange(place, change, report) {
 export const isDecision = ({ faults, closed, sets }) =>
   faults !== undefined && typeof closed === "string" && sets === undefined;
 
+/** The rules that are enough; there too the number of closed sets is a text. */
+export const isOfEnough = ({ enough }) => enough !== undefined;
+
 function checkFault(place, one, report) {
   checkObject(place, one);
   checkText(`${place}.fault`, one.fault);
-  if (!isDecision(report)) checkCount(`${place}.sets`, one.sets, 1, report.closed);
+  if (!isDecision(report) && !isOfEnough(report)) checkCount(`${place}.sets`, one.sets, 1, report.closed);
   checkSet(place, one, report);
+}
+
+/** Rules of which one is needed, with a fault that comes without them. */
+function checkGroup(place, one, report) {
+  checkFault(place, one, report);
+  checkTexts(`${place}.rules`, one.rules);
+  must(one.rules.length > 0, `${place}.rules`, "a list of at least one rule", one.rules);
 }
 
 function checkRule(place, one, report) {
@@ -160,8 +125,9 @@ function checkFailing(place, one, report) {
 /** The head of a report: counts, the module, and what differs from its ordering. */
 function checkHead(json) {
   checkText("module", json.module);
-  if (isDecision(json)) {
-    must(/^[1-9]\d*$/.test(json.closed), "closed", "the digits of a whole number, at least 1", json.closed);
+  if (isDecision(json) || isOfEnough(json)) {
+    const holds = typeof json.closed === "string" && /^[1-9]\d*$/.test(json.closed);
+    must(holds, "closed", "the digits of a whole number, at least 1", json.closed);
   } else {
     checkCount("closed", json.closed, 1);
   }
@@ -174,6 +140,16 @@ function checkHead(json) {
 
 const checkLength = ({ failing, closed }) =>
   must(failing.length <= closed, "failing", `a list of at most ${closed} sets`, failing);
+
+/** A report names either sets of rules that are enough, or a fault that comes under all rules. */
+function checkEnough(json) {
+  checkList("enough", json.enough);
+  json.enough.slice(0, MOST_CHOICES).forEach((rules, k) => checkTexts(`enough[${k}]`, rules));
+  checkList("needs", json.needs);
+  json.needs.slice(0, MOST_CHOICES).forEach((one, k) => checkGroup(`needs[${k}]`, one, json));
+  if (json.enough.length === 0) checkFault("first", json.first, json);
+  else must(json.first === undefined, "first", "missing where rules are enough", json.first);
+}
 
 function checkLists(json) {
   const [name, check] = json.faults !== undefined ? ["faults", checkFault]
@@ -198,5 +174,5 @@ export function checkReport(json) {
   checkBase(json.base);
   checkTrace(json.trace, json.base.length);
   checkHead(json);
-  checkLists(json);
+  if (isOfEnough(json)) checkEnough(json); else checkLists(json);
 }

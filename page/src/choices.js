@@ -6,25 +6,31 @@ export function drawChoices() {
   const { report } = view, hadFocus = byId("choices").contains(document.activeElement);
   byId("choices").replaceChildren(element("header", {}, element("h2", {}, report.title)),
     drawVerdict(report), drawCut(report),
-    element("ol", { class: "list" }, choicesNow().map(drawChoice)));
+    element("ol", { class: "list" }, choicesNow().flatMap(drawChoice)));
   const current = byId("choices").querySelector("[aria-current]");
   scrollInto(current.closest(".list"), current);
   if (hadFocus) current.focus();
 }
 
-function drawChoice(choice, at) {
+/** A choice, below a heading where it begins a part of the list. */
+function drawChoice(choice, at, choices) {
   const isNow = choice === choiceNow();
-  const button = element("button", { class: choice.faults.length ? "bad" : "", disabled: choice.off,
+  const kind = choice.faults.length ? "bad" : choice.isEnough ? "enough" : "";
+  const button = element("button", { class: kind, disabled: choice.off,
     "aria-current": isNow ? "true" : null, onclick: () => actions.choose(at), onkeydown: moveFocus },
   choice.count !== undefined && element("span", { class: "sum" }, countOf(choice.count, "set", "sets")),
   element("b", {}, choice.number ? `${choice.number} ` : "", choice.label),
   choice.more && element("small", {}, choice.more));
-  return element("li", {}, button);
+  const isFirst = choice.part && choice.part !== choices[at - 1]?.part;
+  return [isFirst && element("li", { class: "part" }, choice.part), element("li", {}, button)];
 }
+
+const FIRST_WORDS = "This report has the first fault. One made with --decide has every one.";
 
 /** What holds of all crashes together, where the choices do not say it. */
 function drawVerdict(report) {
   const { failing, closed, asks, choices } = report;
+  if (asks === "enough") return failing ? element("p", { class: "verdict" }, FIRST_WORDS) : "";
   if (failing === 0) return element("p", { class: "verdict good" }, nothingFails(report));
   if (asks !== "rules") return "";
   const still = choices.length > 1 ? "With all of them" : "This ordering has no rule:";
@@ -43,8 +49,10 @@ function drawCut({ listed, choices, title, asks }) {
   const shown = choices.length - 1;
   if (listed <= shown) return "";
   const advice = asks === "sets" ? " A report made with --summary has each fault once." : "";
+  const names = asks === "enough" ? "sets and groups of rules" : title.toLowerCase();
+  const part = asks === "enough" ? `${shown.toLocaleString("en")} of them` : `the first ${shown}`;
   return element("p", { class: "verdict cut" }, `This report lists ${listed.toLocaleString("en")} `
-    + `${title.toLowerCase()}, and the page shows the first ${shown}.${advice}`);
+    + `${names}, and the page shows ${part}.${advice}`);
 }
 
 /** The arrow keys go through a list. */

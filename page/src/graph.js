@@ -2,12 +2,13 @@
 // inside a column patches are in layers, so that arrows run to the right.
 import { below } from "./words.js";
 
-/** The graph under the ordering, or under it without one rule: edges {from, to, why, implied}; for each patch the edges
-    that it waits by, and all patches that it waits for, near and far. */
-export function graphOf(report, without) {
+/** The graph under the ordering without these rules: edges {from, to, why, implied}; for each patch the edges that it
+    waits by, and all patches that it waits for, near and far. */
+export function graphOf(report, without = []) {
   const waits = [], before = [];
   for (const { id, after } of report.trace) {
-    const mine = after.map(({ patch, why }) => ({ from: patch, to: id, why: why.filter(word => word !== without) }))
+    const left = why => why.filter(word => !without.includes(word));
+    const mine = after.map(({ patch, why }) => ({ from: patch, to: id, why: left(why) }))
       .filter(edge => edge.why.length);
     before.push(new Set(mine.flatMap(edge => [edge.from, ...before[edge.from]])));
     for (const edge of mine) edge.implied = mine.some(other => before[other.from].has(edge.from));

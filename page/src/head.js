@@ -1,4 +1,5 @@
 // The head: which script this is, what was run, the ordering, the disk, and the counts.
+import { foundWords } from "./enough.js";
 import { actions, element, view } from "./view.js";
 import { countOf, quoted, shortened } from "./words.js";
 
@@ -20,7 +21,8 @@ function diskWords({ blocks, journal, root }) {
 /** The title of the window: script, result, ordering and size of the disk. */
 export function titleNow() {
   const { report } = view, strict = report.strict ? ", strict" : "";
-  const found = report.isDecision ? `${countOf(report.failing, "fault", "faults")} in ${report.closed} sets`
+  const found = report.enough ? foundWords(report)
+    : report.isDecision ? `${countOf(report.failing, "fault", "faults")} in ${report.closed} sets`
     : `${report.failing} of ${report.closed} sets fail`;
   return `${nameNow()}: ${found} under ${orderingWords(report)}${strict}, ${diskWords(report)} - crashmap`;
 }
@@ -31,7 +33,7 @@ export function drawHead() {
   const command = words && element("code", { id: "command" }, "crashmap", words);
   return element("header", { id: "head" },
     element("h1", {}, "crashmap ", element("span", { id: "name" }, shortened(nameNow(), MOST_LETTERS))),
-    drawCounts(report), report.failing && !report.isDecision ? drawShare(report) : null,
+    drawCounts(report), report.failing && !report.isDecision && !report.enough ? drawShare(report) : null,
     drawOrdering(report), drawOpener(),
     element("div", { id: "about" }, element("div", {}, command, drawAbout(report)), drawScript()));
 }
@@ -40,10 +42,19 @@ function drawCounts(report) {
   const fact = (name, value, kind) =>
     element("div", { class: kind }, element("dt", {}, name), element("dd", {}, String(value)));
   const counted = (count, one, many, kind) => fact(count === 1 ? one : many, count, kind);
-  const names = report.isDecision ? ["fault", "faults"] : ["failing set", "failing sets"];
+  const { count, names, isBad } = resultOf(report);
   return element("dl", {}, fact("module", report.module, "module"), counted(report.trace.length, "patch", "patches"),
     counted(report.closed, "closed set", "closed sets"),
-    counted(report.failing, ...names, report.failing ? "bad" : ""));
+    counted(count, ...names, isBad ? "bad" : ""));
+}
+
+/** The number that the report is about, and its words for one and for more. */
+function resultOf({ enough, failing, isDecision }) {
+  if (enough?.[0]?.length === 0) return { count: 0, names: ["rule is needed", "rules are needed"] };
+  const names = ["set of rules is enough", "sets of rules are enough"];
+  if (enough) return { count: enough.length, names, isBad: enough.length === 0 };
+  return { count: failing, names: isDecision ? ["fault", "faults"] : ["failing set", "failing sets"],
+    isBad: failing > 0 };
 }
 
 function drawShare({ failing, closed }) {

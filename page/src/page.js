@@ -47,20 +47,20 @@ function goTo(step) {
 
 /** Puts a patch on the disk that is looked at, or takes it off. */
 function pick(id) {
-  const { isPicked, set, rule } = choiceNow(), before = isPicked ? set : idsAt(view.step);
-  pickAll(before.includes(id) ? before.filter(one => one !== id) : [...before, id], rule);
+  const { isPicked, set, without } = choiceNow(), before = isPicked ? set : idsAt(view.step);
+  pickAll(before.includes(id) ? before.filter(one => one !== id) : [...before, id], without);
 }
 
-/** Looks at these patches, under the ordering without `rule` where one is named. */
-function pickAll(ids, rule) {
-  view.picked = pickedChoice(view.report, ids, rule);
+/** Looks at these patches, under the ordering without these rules. */
+function pickAll(ids, without) {
+  view.picked = pickedChoice(view.report, ids, without);
   choose(view.report.choices.length);
 }
 
 function addressNow() {
-  const { isPicked, set, rule } = choiceNow(), words = new URLSearchParams();
+  const { isPicked, set, without } = choiceNow(), words = new URLSearchParams();
   if (isPicked) words.set("set", set.join(" ")); else words.set("choice", view.choice);
-  if (isPicked && rule !== undefined) words.set("rule", rule);
+  if (isPicked) for (const rule of without) words.append("rule", rule);
   words.set("step", view.step);
   return `#${words}`;
 }

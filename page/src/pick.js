@@ -1,48 +1,51 @@
 // Patches that a person picks: are they closed, and which disk do they leave? The page finds both by itself, from the
 // dependencies and the bytes that the report has.
+import { runsOf } from "./choosing.js";
 import { imageOf, replayChanges } from "./disk.js";
 import { graphOf } from "./graph.js";
-import { runsOf } from "./report.js";
 import { listOf } from "./words.js";
 
 /** So many missing patches are named. */
 const MOST_MISSING = 5;
 
-/** The choice for picked patches. `rule` is one that the ordering is looked at without, or undefined. */
-export function pickedChoice(report, ids, rule) {
-  const set = [...new Set(ids)].sort((a, b) => a - b), graph = graphOf(report, rule);
+/** The choice for picked patches, under the ordering without these rules. */
+export function pickedChoice(report, ids, without = []) {
+  const set = [...new Set(ids)].sort((a, b) => a - b), graph = graphOf(report, without);
   const missing = graph.edges.filter(edge => set.includes(edge.to) && !set.includes(edge.from));
-  const shared = { label: "Patches that you picked", set, rule, isPicked: true, missing };
+  const shared = { label: "Patches that you picked", set, without, isPicked: true, missing };
   if (missing.length) return { ...shared, more: "not closed", faults: [], writes: [], replay: null };
   const replay = replayChanges(report, imageOf(report, set));
-  return { ...shared, more: "closed", ...knownFaults(report, set, rule), writes: runsOf(report, set), replay };
+  return { ...shared, more: "closed", ...knownFaults(report, set, without), writes: runsOf(report, set), replay };
 }
 
 /** The picked patches, and all that they wait for. */
-export function closureOf(report, { set, rule }) {
-  const { before } = graphOf(report, rule);
+export function closureOf(report, { set, without }) {
+  const { before } = graphOf(report, without);
   return [...set, ...set.flatMap(id => [...before[id]])];
 }
 
-/** Whether the disk of a closed set has faults, as far as the report says. */
-function knownFaults(report, set, rule) {
-  const isSame = choice => choice.set?.join() === set.join() && choice.rule === rule && !choice.isWhole;
-  const faults = report.choices.filter(isSame).flatMap(choice => choice.faults);
-  if (faults.length && report.asks === "faults") {
+/** Whether the disk of a closed set has faults, as far as the report says; no ordering changes what a set leaves. */
+function knownFaults(report, set, without) {
+  const same = report.choices.filter(choice => choice.set?.join() === set.join());
+  const faults = [...new Set(same.flatMap(choice => choice.faults))];
+  if (faults.length && ["faults", "enough"].includes(report.asks)) {
     return { faults, verdict: "The report lists this set with what is said above; it can have other faults." };
   }
   if (faults.length) return { faults, verdict: "The report lists this set among those that fail." };
   const areAllListed = report.asks === "sets" && report.listed === report.choices.length - 1;
-  if (rule === undefined && (report.failing === 0 || areAllListed)) {
+  if (!without.length && (report.failing === 0 || areAllListed)) {
     return { faults, verdict: "After replay this disk is clean, since the report does not list it as failing." };
+  }
+  if (report.choices.some(choice => choice.isEnough && without.every(rule => choice.without.includes(rule)))) {
+    return { faults, verdict: "After replay this disk is clean, since the report says that these rules are enough." };
   }
   return { faults,
     verdict: "The page does not check disks, and the report does not say whether this one has faults." };
 }
 
 /** What the page says of picked patches. */
-export function pickedWords(report, { missing, rule, verdict }) {
-  const under = rule === undefined ? "" : ` under the ordering without ${rule}`;
+export function pickedWords(report, { missing, without, verdict }) {
+  const under = without.length ? ` under the ordering without ${listOf(without)}` : "";
   if (!missing.length) {
     return `Closed${under}: every patch that a picked one waits for is picked too, so a crash can leave this disk. `
       + `The page worked this out from the dependencies in the report, and replay from the journal. ${verdict}`;

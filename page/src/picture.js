@@ -7,7 +7,7 @@ import { countOf } from "./words.js";
 export function drawGraph() {
   const { report } = view, card = byId("graph"), heading = element("h2", {}, "Patches");
   const place = placeInPicture(card);
-  view.graph = graphOf(report, choiceNow().rule);
+  view.graph = graphOf(report, choiceNow().without);
   if (!report.trace.length) {
     view.plan = null;
     card.replaceChildren(element("header", {}, heading),

@@ -1,5 +1,5 @@
 // The start: the report in the page, or one that is dropped or chosen; keys; the place that the address names.
-import { ReportError } from "./check.js";
+import { ReportError } from "./form.js";
 import { drawPage } from "./page.js";
 import { pickedChoice } from "./pick.js";
 import { showWindow } from "./picture.js";
@@ -17,7 +17,9 @@ function drawDrop(error) {
     element("input", { type: "file", accept: ".json,application/json", "aria-label": "Report",
       onchange: event => actions.open(event.target.files[0]) }),
     element("p", { class: "soft" }, "A report is what ",
-      element("code", {}, "crashmap SCRIPT --json --explain --summary"), " prints.")));
+      element("code", {}, "crashmap SCRIPT --json --explain --summary"), " prints, or what it prints with ",
+      element("code", {}, "--needs"), ", ", element("code", {}, "--decide"), " or ", element("code", {}, "--enough"),
+      " in place of ", element("code", {}, "--summary"), ".")));
   document.title = error ? "crashmap: this report cannot be shown" : "crashmap";
 }
 
@@ -62,13 +64,13 @@ function readAddress() {
   view.step = number("step");
 }
 
-/** `#set=0+2` names picked patches, `&rule=..` the rule that the ordering is looked at without. */
+/** `#set=0+2` names picked patches, each `&rule=..` a rule that the ordering is looked at without. */
 function readPicked() {
   const words = addressWords(), { report } = view;
   if (!words.has("set")) return;
   const ids = words.get("set").split(" ").filter(Boolean).map(Number);
   if (!ids.every(id => report.trace[id])) return;
-  view.picked = pickedChoice(report, ids, words.get("rule") ?? undefined);
+  view.picked = pickedChoice(report, ids, words.getAll("rule"));
   view.choice = report.choices.length;
 }
 

@@ -1,9 +1,8 @@
 // The disk before the crash, at a step of the block writes, and after replay: a strip of blocks, and places in words.
 import { AREAS, JOURNAL_START, areaOf, cellWords, imageOf, isBlank, pathOf, phrasesOf, replayChanges, replayedImage,
   rowsOf, sameBytes } from "./disk.js";
-import { meaningsOf } from "./faults.js";
+import { drawFacts } from "./facts.js";
 import { closureOf, pickedWords } from "./pick.js";
-import { copyWords } from "./steps.js";
 import { actions, byId, choiceNow, element, idsAt, view } from "./view.js";
 import { below } from "./words.js";
 
@@ -36,38 +35,12 @@ export function drawDisk() {
   showStrip();
 }
 
-/** The faults with what they mean, and which set this is. */
-function drawFacts(choice, states) {
-  const said = (kind, words) => element("p", { class: kind }, words);
-  return [...choice.faults.map(text => said("fault", `Fault ${text}`)),
-    ...meaningsOf(choice.faults).map(words => said("meaning", words)),
-    choice.faults.length || choice.isPicked ? said("which", setWords(choice)) : null,
-    choice.isPicked ? said("picked", pickedWords(view.report, choice)) : null,
-    choice.isWhole && view.report.trace.length ? said("walk", walkWords(states)) : null];
-}
-
-/** What a crash at this step of the run without a crash would leave. */
-function walkWords(states) {
-  const { report } = view, copies = copyWords(report, states[1].image);
-  const clean = report.failing === 0 ? "After replay the disk is clean at each step, since no closed set fails. " : "";
-  const replay = !report.journal ? "" : copies ? `After a crash here, replay copies blocks ${copies}. `
-    : "After a crash here, replay has nothing to copy. ";
-  const own = report.journal ? "The page worked replay out from the journal." : "";
-  return `A crash can stop the run at each of these steps. ${clean}${replay}${own}`.trim();
-}
-
 /** Picked patches that are not closed leave no disk. */
 function drawNoDisk(choice) {
   byId("disk").replaceChildren(element("header", {}, element("h2", {}, "Disk")),
     element("div", { class: "facts" }, element("p", { class: "picked open" }, pickedWords(view.report, choice)),
-      element("button", { id: "close", onclick: () => actions.pickAll(closureOf(view.report, choice), choice.rule) },
+      element("button", { id: "close", onclick: () => actions.pickAll(closureOf(view.report, choice), choice.without) },
         "Pick what they wait for too")));
-}
-
-function setWords(choice) {
-  const which = choice.isPicked ? "" : choice.rule ? `; the first crash that ${choice.rule} prevents`
-    : choice.count > 1 ? `; the first of ${choice.count}` : "";
-  return `Patches on disk: ${choice.set.length ? choice.set.join(" ") : "none"}${which}`;
 }
 
 /* --- steps --- */

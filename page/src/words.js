@@ -8,9 +8,9 @@ export const bytesOf = hex => Uint8Array.from(hex.match(/../g) ?? [], pair => pa
 /** `1 set`, `2 sets`. */
 export const countOf = (count, one, many) => `${count.toLocaleString("en")} ${count === 1 ? one : many}`;
 
-/** `a`, `a and b`, `a, b and c`. */
-export const listOf = words => words.length < 2 ? words.join("")
-  : `${words.slice(0, -1).join(", ")} and ${words.at(-1)}`;
+/** `a`, `a and b`, `a, b and c`; or with another word than `and`. */
+export const listOf = (words, last = "and") => words.length < 2 ? words.join("")
+  : `${words.slice(0, -1).join(", ")} ${last} ${words.at(-1)}`;
 
 /** The first letters of a text, with dots where some are left out. */
 export const shortened = (text, most) => text.length > most ? `${text.slice(0, most - 1)}\u2026` : text;

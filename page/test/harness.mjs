@@ -107,6 +107,22 @@ const DROP = `async (text) => {
 
 export const drop = text => browser.ask(`(${DROP})(${JSON.stringify(text)})`);
 
+/** Clicks a patch. */
+export const click = id =>
+  browser.ask(`document.querySelector('#drawing .node[data-id="${id}"]')
+    .dispatchEvent(new MouseEvent("click", { bubbles: true }))`);
+
+/** Clicks a choice of the list. */
+export const clickChoice = at => browser.ask(`document.querySelectorAll("#choices button")[${at}].click()`);
+
+/** What of a page with a picked set is otherwise than on the page of the same set in the report. */
+export function differences(wanted, page) {
+  const isOther = ([key, { words }]) => page.rows[key]?.words.join("|") !== words.join("|");
+  const rows = Object.entries(wanted.rows).filter(isOther);
+  const parts = ["disk", "lost", "ready", "steps", "end"];
+  return [...rows, ...parts.filter(key => JSON.stringify(page[key]) !== JSON.stringify(wanted[key]))];
+}
+
 /** Leaves a picture of what is in view, where pictures are wanted. */
 export async function keepPicture(name) {
   if (!pictures) return;
@@ -129,7 +145,8 @@ const SHOWN = `(() => {
   const reasons = drawn.map(one => one.getAttribute("aria-label"));
   return {
     facts: texts("#head dl div"), rules: texts(".rule"), choices: texts("#choices button"),
-    verdict: texts("#choices .verdict"), columns: texts(".column .op"), faults: texts(".fault"),
+    verdict: texts("#choices .verdict"), parts: texts("#choices .part"), columns: texts(".column .op"),
+    faults: texts(".fault"),
     steps: texts("#steps button b"), end: texts("#steps .end"),
     disk: ids(node => node.state === "disk"), later: ids(node => node.state === "later"),
     lost: ids(node => node.state === "lost"), named: ids(node => node.kinds.includes("named")),

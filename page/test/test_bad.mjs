@@ -113,6 +113,26 @@ const odd = [
     "rules[3].first.faults must be a list of at least one fault, but it is a list of 0."],
   ["needs", r => { delete r.rules[3].failing; },
     "rules[3].failing must be a whole number from 0 to 11, but it is missing."],
+  ["enough", r => { r.closed = 11; },
+    "closed must be the digits of a whole number, at least 1, but it is the number 11."],
+  ["enough", r => { r.enough = "all"; }, "enough must be a list, but it is the text \"all\"."],
+  ["enough", r => { r.enough[1] = "Ptr:InitFile"; },
+    "enough[1] must be a list, but it is the text \"Ptr:InitFile\"."],
+  ["enough", r => { r.enough[0][2] = 3; }, "enough[0][2] must be a text, but it is the number 3."],
+  ["enough", r => { delete r.needs; }, "needs must be a list, but it is missing."],
+  ["enough", r => { r.needs[1] = "Ptr:InitFile"; },
+    "needs[1] must be an object, but it is the text \"Ptr:InitFile\"."],
+  ["enough", r => { r.needs[0].rules = []; },
+    "needs[0].rules must be a list of at least one rule, but it is a list of 0."],
+  ["enough", r => { r.needs[2].rules[1] = null; }, "needs[2].rules[1] must be a text, but it is null."],
+  ["enough", r => { delete r.needs[0].fault; }, "needs[0].fault must be a text, but it is missing."],
+  ["enough", r => { r.needs[1].set = [0, 2, 5]; },
+    "needs[1].set[2] must be a whole number from 0 to 4, but it is the number 5."],
+  ["enough", r => { r.needs[1].writes.pop(); },
+    "needs[1].writes must be writes of exactly the patches in set, but it is a list of 2."],
+  ["enough", r => { r.first = r.needs[0]; }, "first must be missing where rules are enough, but it is an object."],
+  ["not_enough", r => { delete r.first; }, "first must be an object, but it is missing."],
+  ["not_enough", r => { r.first.replay = [1]; }, "first.replay[0] must be an object, but it is the number 1."],
   ["sets", r => { r.failing = 36; }, "failing must be a list, but it is the number 36."],
   ["sets", r => { r.failing[35].set = {}; }, "failing[35].set must be a list, but it is an object."],
 ];
@@ -216,7 +236,7 @@ async function testReplacedValues() {
   const strange = [null, true, -1, 0, 3, 1e9, 0.5, "", "x", "00", [], {}, [[]], [null], { set: 1 }];
   const draw = numbersFrom(57), answers = [];
   await open("create");
-  for (const name of ["create", "pointer", "reuse", "lost", "needs", "sets", "groups"]) {
+  for (const name of ["create", "pointer", "reuse", "lost", "needs", "sets", "groups", "enough", "not_enough"]) {
     for (let k = 0; k < 60; k++) {
       const report = reportOf(name), places = placesIn(report), [holder, key] = places[draw(places.length)];
       holder[key] = strange[draw(strange.length)];

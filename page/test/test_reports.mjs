@@ -1,26 +1,10 @@
 // node page/test/test_reports.mjs [FOLDER]: checks what pages show against their reports and against what is known of
 // the scripts. With FOLDER, pictures of pages are left there to be looked at.
+import { reasonsOf, reduction } from "./arrows.mjs";
 import { cases } from "./cases.mjs";
 import { browser, check, keepPicture, open, openEmpty, run, shown } from "./harness.mjs";
 
 /* --- what holds of every page, said from its report alone --- */
-
-/** The arrows that no longer way through the graph implies. */
-function reduction(trace) {
-  const after = trace.map(patch => patch.after.map(one => one.patch));
-  const all = after.map(() => new Set());
-  after.forEach((mine, q) => mine.forEach(p => [p, ...all[p]].forEach(r => all[q].add(r))));
-  return after.flatMap((mine, q) => mine.filter(p => !mine.some(r => all[r].has(p))).map(p => `${p} ${q}`)).sort();
-}
-
-/** What these arrows say, each of them `p q` where patch q waits for patch p. */
-function reasonsOf(trace, edges) {
-  const title = id => `${id} ${trace[id].part}`;
-  return edges.map(edge => edge.split(" ").map(Number)).map(([p, q]) => {
-    const { why } = trace[q].after.find(one => one.patch === p);
-    return `${title(q)} waits for ${title(p)}: ${why.join(", ")}`;
-  }).sort();
-}
 
 function checkGraph(name, page, report, set, writes) {
   const all = report.trace.map((_, id) => id), disk = writes.flatMap(write => write.patches).sort((a, b) => a - b);
@@ -213,7 +197,7 @@ async function testNoReport() {
   await openEmpty();
   const words = await browser.ask("document.body.textContent");
   check("a page without a report asks for one", words.includes("Drop a report here"), true);
-  check("every case is tested", Object.keys(cases).length, 16);
+  check("every case is tested", Object.keys(cases).length, 21);
 }
 
 await run([testCreate, testReuse, testPointer, testTwice, testNothingFails, testDecisions, testImmense, testOrderings,

@@ -1,6 +1,9 @@
 // node page/test/test_words.mjs [FOLDER]: what the page says beside the report: the script and how it was run, what
 // faults mean, the run without a crash step by step, and sets of patches that a person picks.
-import { browser, check, drop, keepPicture, open, openMade, reportOf, run, shown } from "./harness.mjs";
+import { isClosed } from "./arrows.mjs";
+import {
+  browser, check, click, differences, drop, keepPicture, open, openMade, reportOf, run, shown,
+} from "./harness.mjs";
 
 const SCRIPT = "# <b>bold</b> </script><script>document.title = 'broken'</script>\ncreate /a\nstart\nwrite /a\n";
 
@@ -136,13 +139,6 @@ async function testCleanRunWithAJournal() {
 
 /* --- picked patches --- */
 
-/** Whether every patch that one of the set waits for is in the set. */
-const isClosed = (trace, set) => set.every(id => trace[id].after.every(({ patch }) => set.includes(patch)));
-
-const click = id =>
-  browser.ask(`document.querySelector('#drawing .node[data-id="${id}"]')
-    .dispatchEvent(new MouseEvent("click", { bubbles: true }))`);
-
 /** Picks each set of the patches in turn, one click after another. */
 async function testEverySet() {
   for (const name of ["create", "pointer", "groups", "twice"]) {
@@ -181,14 +177,6 @@ async function testNotClosed() {
     + "The report lists this set with what is said above; it can have other faults.");
   check("the fault of that set", closed.faults, ["Fault 3 unwritten pointer: inode 1 slot 0 block 5"]);
   await keepPicture("closed");
-}
-
-/** What of a page with a picked set is otherwise than on the page of the same set in the report. */
-function differences(wanted, page) {
-  const isOther = ([key, { words }]) => page.rows[key]?.words.join("|") !== words.join("|");
-  const rows = Object.entries(wanted.rows).filter(isOther);
-  const parts = ["disk", "lost", "ready", "steps", "end"];
-  return [...rows, ...parts.filter(key => JSON.stringify(page[key]) !== JSON.stringify(wanted[key]))];
 }
 
 /** A failing set that is picked shows what the report says of it: crash image and image after replay. */

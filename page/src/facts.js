@@ -1,0 +1,40 @@
+// What is said of the disk that is looked at: its faults, which set this is, and what is known of it.
+import { rulesWords } from "./enough.js";
+import { meaningsOf } from "./faults.js";
+import { pickedWords } from "./pick.js";
+import { copyWords } from "./steps.js";
+import { element, view } from "./view.js";
+import { listOf } from "./words.js";
+
+/** The faults with what they mean, and which set this is. */
+export function drawFacts(choice, states) {
+  const said = (kind, words) => element("p", { class: kind }, words);
+  return [choice.rules ? said("needed", rulesWords(choice)) : null,
+    ...choice.faults.map(text => said("fault", `Fault ${text}`)),
+    ...meaningsOf(choice.faults).map(words => said("meaning", words)),
+    choice.faults.length || choice.isPicked ? said("which", setWords(choice)) : null,
+    choice.isPicked ? said("picked", pickedWords(view.report, choice)) : null,
+    choice.isWhole && view.report.trace.length ? said("walk", walkWords(states)) : null];
+}
+
+/** What a crash at this step of the run without a crash would leave. */
+function walkWords(states) {
+  const { report } = view, copies = copyWords(report, states[1].image);
+  const clean = report.failing === 0 ? "After replay the disk is clean at each step, since no closed set fails. " : "";
+  const replay = !report.journal ? "" : copies ? `After a crash here, replay copies blocks ${copies}. `
+    : "After a crash here, replay has nothing to copy. ";
+  const own = report.journal ? "The page worked replay out from the journal." : "";
+  return `A crash can stop the run at each of these steps. ${clean}${replay}${own}`.trim();
+}
+
+function setWords(choice) {
+  return `Patches on disk: ${choice.set.length ? choice.set.join(" ") : "none"}${whichWords(choice)}`;
+}
+
+/** Which one of several sets this is. */
+function whichWords({ isPicked, rules, without, count }) {
+  if (isPicked) return "";
+  if (rules) return "; the first set with this fault";
+  if (without) return `; the first crash that ${listOf(without)} prevents`;
+  return count > 1 ? `; the first of ${count}` : "";
+}
