@@ -35,6 +35,9 @@ answer_unproved() {
     need_rt
     say "this answer's program was not proved here; ./crashmap --prove proves it once, in $first_proof," \
         "and makes each later call immediate"
+    if [ $# -eq 0 ] && [ -t 0 ] && [ -t 2 ]; then
+        say "reads a script from standard input, up to Ctrl-D; --help lists the options"
+    fi
     find_script "$@"
     work=$(mktemp -d)
     trap 'rm -rf "$work"' EXIT

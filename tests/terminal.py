@@ -3,6 +3,7 @@
 import os
 import pty
 import subprocess
+import termios
 import time
 from typing import NamedTuple
 
@@ -29,15 +30,37 @@ def read_all(terminal):
         shown += more
 
 
-def on_terminal(words, text):
-    """Runs a program on this standard input, with a terminal as its standard error."""
-    terminal, other_end = pty.openpty()
-    began = time.monotonic()
-    with subprocess.Popen(words, stdin=subprocess.PIPE, stdout=subprocess.PIPE, stderr=other_end) as run:
-        os.close(other_end)
-        run.stdin.write(text)
-        run.stdin.close()
-        shown = read_all(terminal)
-        output = run.stdout.read()
+def shown_by(run, terminal, began):
+    """Waits for a run to end, and returns what it did."""
+    shown = read_all(terminal)
+    output = run.stdout.read() if run.stdout else b""
+    run.wait()
     os.close(terminal)
     return Shown(run.returncode, output, shown, time.monotonic() - began)
+
+
+def on_terminal(words, text, stdin=subprocess.PIPE, stdout=subprocess.PIPE):
+    """Runs a program with a terminal as its standard error, and this text on standard input, unless that is named.
+    Standard output is kept, unless it is named too."""
+    terminal, other_end = pty.openpty()
+    began = time.monotonic()
+    with subprocess.Popen(words, stdin=stdin, stdout=stdout, stderr=other_end) as run:
+        os.close(other_end)
+        if run.stdin:
+            run.stdin.write(text)
+            run.stdin.close()
+        return shown_by(run, terminal, began)
+
+
+def typed_on_terminal(words, text, **options):
+    """Runs a program whose standard input and standard error are one terminal, on which someone types this text and
+    then Ctrl-D. The terminal does not show what is typed. The options are those of `subprocess.Popen`."""
+    terminal, other_end = pty.openpty()
+    attributes = termios.tcgetattr(other_end)
+    attributes[3] &= ~termios.ECHO
+    termios.tcsetattr(other_end, termios.TCSANOW, attributes)
+    began = time.monotonic()
+    with subprocess.Popen(words, stdin=other_end, stdout=subprocess.PIPE, stderr=other_end, **options) as run:
+        os.close(other_end)
+        os.write(terminal, text + b"\x04")
+        return shown_by(run, terminal, began)

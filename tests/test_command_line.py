@@ -36,6 +36,18 @@ class Help(unittest.TestCase):
                 rest = rest.partition(piece)[2]
 
 
+    def test_words_of_reports_are_explained(self):
+        help_text = answer("--help")[1].decode()
+        explained = help_text.partition("\nWords of reports:\n")[2].partition("\n\n")[0]
+        self.assertEqual([line[:10].strip() for line in explained.splitlines()],
+                         ["base", "closed", "pairs", "in place"])
+        self.assertTrue(all(len(line) > 30 for line in explained.splitlines()), explained)
+
+    def test_a_strict_run_is_explained_by_what_a_user_loses(self):
+        self.assertIn("a crash loses a file or directory that the script never removes", " ".join(
+            answer("--help")[1].decode().split()))
+
+
 class Rules(unittest.TestCase):
     def assert_refused(self, words, *pieces):
         """The words are refused, and standard error has these pieces."""
@@ -55,15 +67,31 @@ class Rules(unittest.TestCase):
                          ["InodeInit", "EntrySet", "EntryClear", "MapSet", "MapClear", "InitFile", "InitDir", "Ptr",
                           "LinkUp", "LinkDown", "InodeFree", "InPlace", "FileData", "Copy", "Commit", "Done"])
 
+    def test_each_rule_and_part_has_a_sentence(self):
+        for module in ("soft", "meta", "full"):
+            page = answer("--rules", "--module", module)[1].decode()
+            listed = [line for line in page.splitlines() if line.startswith("  ")]
+            self.assertTrue(all(len(line.split()) > 3 for line in listed), listed)
+
+    def test_a_list_without_rules(self):
+        self.assertTrue(answer("--rules", "--module", "async")[1].startswith(b"async has no rules.\n\nA rule LATER"))
+
     def test_a_bad_part_is_named_with_the_nearest_one(self):
         self.assert_refused(["--without", "Ptr:InitFle"], "'InitFle'", "did you mean 'InitFile'?")
         self.assert_refused(["--with", "Entryset:Ptr"], "'Entryset'", "did you mean 'EntrySet'?")
+        self.assert_refused(["--with", "EntryClr:Ptr"], "'EntryClr'", "did you mean 'EntryClear'?")
+        self.assert_refused(["--with", "LinkDwn:EntryClear"], "'LinkDwn'", "did you mean 'LinkDown'?")
+        self.assert_refused(["--with", "Done:previous-Comit"], "'Comit'", "did you mean 'Commit'?")
 
     def test_a_part_that_resembles_no_other(self):
         self.assert_refused(["--with", "Sideways:Ptr"], "'Sideways'", "--rules lists them")
+        self.assert_refused(["--with", "Ptr:Foo"], "'Foo'", "--rules lists them")
+        self.assert_refused(["--with", "Ptr:"], "''", "--rules lists them")
+        self.assert_refused(["--with", "Ptr"], "it is no rule, which is written LATER:EARLIER")
 
     def test_a_rule_of_another_module(self):
         self.assert_refused(["--without", "Commit:Copy"], "soft has no such rule", "EntrySet:InodeInit EntrySet:LinkUp")
+        self.assert_refused(["--module", "async", "--without", "Commit:Copy"], "async has no rules\n")
 
 
 class Scripts(unittest.TestCase):

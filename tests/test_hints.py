@@ -1,4 +1,5 @@
-"""Hints and warnings on a terminal: each case of cases/hints, run with a terminal as its standard error.
+"""Hints and warnings on a terminal: each case of cases/hints, run with a terminal as its standard error, and what no
+case file can hold.
 
 Without a terminal the same cases run in test_cases.py, where standard error has the refusal's one line alone.
 """
@@ -7,7 +8,11 @@ import unittest
 
 from tests.case_files import CASES, read_case
 from tests.program import program
-from tests.terminal import on_terminal
+from tests.terminal import on_terminal, typed_on_terminal
+
+CREATE = b"start\ncreate /a\n"
+CREATED = b"module soft\npatches 2\nclosed 3\nfailing 0\n"
+READS_INPUT = b"crashmap: reads a script from standard input, up to Ctrl-D; --help lists the options\r\n"
 
 
 def shown_by(case):
@@ -26,11 +31,44 @@ class Hints(unittest.TestCase):
                 self.assertEqual(run.terminal.decode(), shown_by(case).decode())
                 self.assertEqual((run.status, run.output), (case.status, case.output))
 
-    def test_a_script_that_cannot_be_read(self):
+
+class Devices(unittest.TestCase):
+    """Where a script cannot be read or a report cannot be written, the terminal shows why."""
+
+    def assert_refused(self, run, *lines):
+        """The run is refused, and the terminal shows lines that begin with these."""
+        shown = run.terminal.decode().split("\r\n")
+        self.assertEqual((run.status, run.output, shown[-1]), (2, b"", ""))
+        self.assertEqual(len(shown), len(lines) + 1, shown)
+        for line, wanted in zip(shown, lines):
+            self.assertRegex(line, f"^{wanted}")
+
+    def test_a_script_that_is_missing(self):
         run = on_terminal([program(), "no/such/script"], b"")
-        first, hint, rest = run.terminal.split(b"\r\n")
-        self.assertEqual((run.status, first, rest), (2, b"crashmap: 50 cannot read the script", b""))
-        self.assertRegex(hint.decode(), r"^hint: no/such/script: .*[Nn]o such file")
+        self.assert_refused(run, "crashmap: 50 cannot read the script$", "hint: no/such/script: .*[Nn]o such file")
+
+    def test_a_full_device_as_standard_output(self):
+        with open("/dev/full", "wb") as full:
+            run = on_terminal([program()], CREATE, stdout=full)
+        self.assert_refused(run, "crashmap: 51 cannot write the report$",
+                            "hint: standard output does not take all that is told$",
+                            "hint: see that its disk has room, and that the program which reads it still runs$")
+
+
+class StandardInput(unittest.TestCase):
+    """A person who gives no words is told that the program waits for a script."""
+
+    def test_no_words_on_a_terminal(self):
+        run = typed_on_terminal([program()], CREATE)
+        self.assertEqual((run.status, run.output, run.terminal), (0, CREATED, READS_INPUT))
+
+    def test_some_words_on_a_terminal(self):
+        run = typed_on_terminal([program(), "--module", "soft"], CREATE)
+        self.assertEqual((run.status, run.output, run.terminal), (0, CREATED, b""))
+
+    def test_no_words_and_a_pipe(self):
+        run = on_terminal([program()], CREATE)
+        self.assertEqual((run.status, run.output, run.terminal), (0, CREATED, b""))
 
 
 if __name__ == "__main__":

@@ -14,9 +14,11 @@ import unittest
 
 from tests.launcher_room import ROWS, LauncherTest
 from tests.program import ROOT, program
+from tests.terminal import typed_on_terminal
 
 UNPROVED = re.compile(r"crashmap: this answer's program was not proved here; \./crashmap --prove proves it once, in"
                       r" \d+ to \d+ minutes on four processors, and makes each later call immediate")
+READS_INPUT = "crashmap: reads a script from standard input, up to Ctrl-D; --help lists the options"
 NO_RT = "crashmap: the command rt of the Rattle kit is needed to build the program"
 
 
@@ -50,6 +52,15 @@ class UnprovedAnswers(LauncherTest):
 
     def test_a_script_on_standard_input(self):
         self.assertEqual(self.assert_unproved(text="start\n"), "unproved: \nstart\n")
+
+    def test_a_script_that_is_typed(self):
+        """With no words, on a terminal, it says that it reads standard input."""
+        run = typed_on_terminal([self.top / "crashmap"], b"start\n", cwd=self.top, env=self.environment)
+        first, second, third, rest = run.terminal.decode().split("\r\n")
+        self.assertEqual((run.status, run.output, rest), (1, b"unproved: \nstart\n", ""))
+        self.assertRegex(first, UNPROVED)
+        self.assertEqual(second, READS_INPUT)
+        self.assertEqual(third, "crashmap: what the program says")
 
     def test_words_with_spaces_and_stars(self):
         self.assert_unproved("--module", "a b *", "")

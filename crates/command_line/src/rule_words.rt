@@ -196,15 +196,19 @@ pub(crate) fn why_no_rule(heap: Global, word: &str) -> Why<'_> {
     Why::NoPart { part, nearest }
 }
 
-/// The first part that differs from the word by at most three letters.
+/// The first of the parts that differ from the word by the fewest letters. They are at most three, and at most half of
+/// the part's.
 fn nearest_part(heap: Global, word: &str) -> Option<&'static str> {
+    let (mut nearest, mut fewest) = (None, MOST_EDITS + 1);
     for part in &PARTS {
         match levenshtein(heap, word, part.word) {
-            Ok(edits) if edits <= MOST_EDITS => return Some(part.word),
+            Ok(edits) if edits < fewest && edits <= part.word.len() / 2 => {
+                (nearest, fewest) = (Some(part.word), edits);
+            }
             _ => {}
         }
     }
-    None
+    nearest
 }
 
 impl fmt::Display for Why<'_> {
@@ -241,6 +245,9 @@ impl fmt::Display for Why<'_> {
 /// Writes that the module does not have a rule, and the rules that it has.
 fn write_rules_of<W: fmt::Write>(f: &mut fmt::Formatter<W>, module: Module) -> fmt::Result {
     let name = module.name();
+    if module.rules().is_empty() {
+        return write!(f, "{name} has no rules");
+    }
     write!(f, "{name} has no such rule; its rules are")?;
     for rule in module.rules() {
         write!(f, " {rule}")?;
@@ -251,12 +258,7 @@ fn write_rules_of<W: fmt::Write>(f: &mut fmt::Formatter<W>, module: Module) -> f
 /// The page that `--rules` prints: the module's rules, and the parts that a rule names, each with its meaning.
 pub(crate) fn rules_page(heap: Global, module: Module) -> Result<String, AllocError> {
     let mut page = String::new(heap);
-    let name = module.name();
-    write!(page, "Rules of {name}, in their order:\n")?;
-    for rule in module.rules() {
-        let text = format!(in heap; "{rule}")?;
-        push_rule(&mut page, text.as_str())?;
-    }
+    push_rules(heap, &mut page, module)?;
     page.push_str(
         "\nA rule LATER:EARLIER makes the later part wait for the earlier one of the same operation, ",
     )?;
@@ -268,6 +270,20 @@ pub(crate) fn rules_page(heap: Global, module: Module) -> Result<String, AllocEr
         write!(page, "  {word:<10}  {meaning}\n")?;
     }
     Ok(page)
+}
+
+/// Adds the module's rules.
+fn push_rules(heap: Global, page: &mut String, module: Module) -> Result<(), AllocError> {
+    let name = module.name();
+    if module.rules().is_empty() {
+        return write!(page, "{name} has no rules.\n");
+    }
+    write!(page, "Rules of {name}, in their order:\n")?;
+    for rule in module.rules() {
+        let text = format!(in heap; "{rule}")?;
+        push_rule(page, text.as_str())?;
+    }
+    Ok(())
 }
 
 /// Adds a rule with its meaning.

@@ -5,15 +5,18 @@
 #![tactic(auto)]
 
 mod disk_before;
+mod empty_groups;
 mod groups;
+mod idle_rules;
 mod lines;
 mod operations;
 mod paths;
 mod quoted;
 mod refusals;
+mod room;
 mod sizes;
 mod verbs;
 mod warnings;
 
-pub use refusals::{Asked, Hint, hint_of};
+pub use refusals::{Asked, Hint, hint_of, output_hint};
 pub use warnings::{Warning, warnings_of};

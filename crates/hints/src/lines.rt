@@ -48,9 +48,11 @@ pub(crate) fn line_fault<A: Allocator + Copy>(
         LineFault::CarriageReturn
     } else if line.contains("\t") {
         LineFault::Tab
+    } else if line.starts_with(" ") {
+        LineFault::Spaces
     } else if line.contains(" #") {
         LineFault::Comment
-    } else if line.starts_with(" ") || line.ends_with(" ") || line.contains("  ") {
+    } else if line.ends_with(" ") || line.contains("  ") {
         LineFault::Spaces
     } else {
         words_fault(alloc, script, &words_of(line))
@@ -157,7 +159,11 @@ pub(crate) struct LineRemedy<'a>(pub &'a LineFault<'a>);
 impl fmt::Display for LineRemedy<'_> {
     fn fmt<W: fmt::Write>(&self, f: &mut fmt::Formatter<W>) -> fmt::Result {
         match self.0 {
-            LineFault::NotUtf8 => f.write_str("a name has only the letters a to z and 0 to 9"),
+            LineFault::NotUtf8 => {
+                f.write_str(
+                    "save the script as UTF-8; a name has only the letters a to z and 0 to 9",
+                )
+            }
             LineFault::CarriageReturn => f.write_str("end each line by a line feed alone"),
             LineFault::Tab | LineFault::Spaces => {
                 f.write_str("put one space between words, and none at the ends")

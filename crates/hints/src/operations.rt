@@ -11,11 +11,15 @@ use std::fmt;
 #[derive(Clone, Copy, Debug)]
 pub enum OperationFault<'a> {
     Missing(&'a [u8]),
-    /// A file, where a directory is wanted.
+    /// A file that a path goes through.
     IsFile(&'a [u8]),
+    /// A file that is to be removed as a directory.
+    RmdirOfFile(&'a [u8]),
     Exists(&'a [u8]),
     /// The new name of a rename.
     RenameOnto(&'a [u8]),
+    /// Both paths of a link or a rename.
+    SamePath(&'a [u8]),
     /// A directory, where a file is wanted.
     IsDirectory(&'a [u8]),
     /// A directory that is to be unlinked.
@@ -49,7 +53,10 @@ pub(crate) fn operation_fault<'a, A: Allocator + Copy>(
             .or(walk_fault(disk, last))?,
         RunFault::NotADirectory { .. } => walk_fault(disk, first)
             .or(walk_fault(disk, last))
-            .unwrap_or(OperationFault::IsFile(first)),
+            .unwrap_or(OperationFault::RmdirOfFile(first)),
+        RunFault::Exists { .. } if (verb == "link" || verb == "rename") && first == last => {
+            OperationFault::SamePath(first)
+        }
         RunFault::Exists { .. } if verb == "rename" => OperationFault::RenameOnto(last),
         RunFault::Exists { .. } => OperationFault::Exists(last),
         RunFault::NotAFile { .. } if verb == "unlink" => OperationFault::UnlinkOfDirectory(first),
@@ -92,7 +99,10 @@ impl fmt::Display for OperationFault<'_> {
             OperationFault::Missing(path) => {
                 write!(f, "there is no {} at this line", Quoted(path))
             }
-            OperationFault::IsFile(path) => write!(f, "{} is a file", Quoted(path)),
+            OperationFault::IsFile(path) | OperationFault::RmdirOfFile(path) => {
+                write!(f, "{} is a file", Quoted(path))
+            }
+            OperationFault::SamePath(path) => write!(f, "both paths are {}", Quoted(path)),
             OperationFault::Exists(path) | OperationFault::RenameOnto(path) => {
                 write!(f, "{} is there already", Quoted(path))
             }
@@ -119,12 +129,13 @@ impl fmt::Display for OperationRemedy<'_> {
         f.write_str(match self.0 {
             OperationFault::Missing(_) =>
                 "`create` makes a file and `mkdir` a directory; put it before this line",
-            OperationFault::IsFile(_) =>
-                "only a directory has names in it, and `rmdir` removes only a directory",
-            OperationFault::Exists(_) => "unlink it first, or take another name",
+            OperationFault::IsFile(_) => "only a directory has names in it: make one by `mkdir`",
+            OperationFault::RmdirOfFile(_) => "`unlink` removes a file",
+            OperationFault::Exists(_) => "take another name, or remove this one first",
             OperationFault::RenameOnto(_) => {
-                "a rename onto a name is not modelled: unlink the new name first"
+                "a rename onto a name is not modelled: remove the new name first"
             }
+            OperationFault::SamePath(_) => "write the old path and then a new one",
             OperationFault::IsDirectory(_) => "only a file is written, linked or renamed",
             OperationFault::UnlinkOfDirectory(_) => "`rmdir` removes a directory",
             OperationFault::NotEmpty(_) => "remove what is in it first",

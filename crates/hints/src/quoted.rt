@@ -8,7 +8,7 @@ const MOST_SHOWN: usize = 60;
 /// A part of a script, between backquotes.
 ///
 /// A byte that a terminal would not show as itself is escaped. A part of more than 60 bytes is cut.
-#[derive(Clone, Copy, Debug)]
+#[derive(Clone, Copy, Debug, Default)]
 pub struct Quoted<'a>(pub &'a [u8]);
 
 impl fmt::Display for Quoted<'_> {
@@ -38,14 +38,23 @@ fn write_byte<W: fmt::Write>(f: &mut fmt::Formatter<W>, byte: u8) -> fmt::Result
 pub(crate) fn line_at(script: &[u8], number: usize) -> &[u8] {
     let mut rest = script;
     for _ in 1..number {
-        rest = cut_line(rest).1;
+        rest = cut(rest, b'\n').1;
     }
-    cut_line(rest).0
+    cut(rest, b'\n').0
 }
 
-/// The first line, without its line feed, and the bytes after it.
-fn cut_line(bytes: &[u8]) -> (&[u8], &[u8]) {
-    match bytes.iter().position(|c| *c == b'\n') {
+/// The word of a line in this place, from 0. It is empty where the line has fewer words.
+pub(crate) fn word_at(line: &[u8], place: usize) -> &[u8] {
+    let mut rest = line;
+    for _ in 0..place {
+        rest = cut(rest, b' ').1;
+    }
+    cut(rest, b' ').0
+}
+
+/// The bytes up to the first of this value, and those after it.
+fn cut(bytes: &[u8], value: u8) -> (&[u8], &[u8]) {
+    match bytes.iter().position(|c| *c == value) {
         Some(end) => (&bytes[..end], &bytes[end + 1..]),
         None => (bytes, &[]),
     }

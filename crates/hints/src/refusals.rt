@@ -1,6 +1,7 @@
 //! The hint to a refusal.
 
 ghost use Rattle.std.specs.Prelude.{◌≡◌, None, IfSome};
+ghost use Rattle.crash_model.specs.RefusalLine.{line_of};
 ghost use Rattle.hints.specs.Hints.{IsNoStart};
 
 use crate::disk_before::disk_before;
@@ -8,6 +9,7 @@ use crate::groups::{GroupFault, GroupRemedy, group_fault};
 use crate::lines::{LineFault, LineRemedy, bad_path, line_fault, words_of};
 use crate::operations::{OperationFault, OperationRemedy, Spoken, operation_fault};
 use crate::quoted::{Quoted, line_at};
+use crate::room::disk_of;
 use crate::sizes::{SizeFault, SizeRemedy, size_fault};
 use crash_model::refusals::RunFault;
 use crash_model::settings::Settings;
@@ -41,6 +43,8 @@ pub enum Cause<'a> {
     Size(SizeFault),
     /// No line is `start`.
     NoStart,
+    /// What is told cannot be written.
+    Output,
 }
 
 /// The hint to a refusal of what was asked. `None` where none would help, or memory ran out, in the run or here.
@@ -51,6 +55,7 @@ pub fn hint_of<'a, A: Allocator + Copy>(
 ) -> Option<Hint<'a>>
     ensures out_of_memory { fault ≡ RunFault.OutOfMemory → result ≡ None }
     ensures no_start { IfSome result (λ hint. IsNoStart fault → hint.line ≡ None) }
+    ensures no_line { IfSome result (λ hint. line_of fault ≡ None → hint.line ≡ None) }
 {
     if fault == RunFault::OutOfMemory {
         return None;
@@ -64,6 +69,14 @@ pub fn hint_of<'a, A: Allocator + Copy>(
         line: line.map(|number| Quoted(line_at(asked.script, number))),
         cause,
     })
+}
+
+/// The hint where help, the version or a report cannot be written.
+pub fn output_hint() -> Hint<'static> {
+    Hint {
+        line: None,
+        cause: Cause::Output,
+    }
 }
 
 /// Why what was asked is refused so.
@@ -81,10 +94,11 @@ fn cause_of<'a, A: Allocator + Copy>(
             Some(Cause::Line(LineFault::Path(bad_path(script, line)?)))
         }
         RunFault::NoStart { .. } => Some(Cause::NoStart),
+        RunFault::CannotWrite => Some(Cause::Output),
         RunFault::ScriptTooLong => Some(Cause::Size(SizeFault::Script)),
         RunFault::BadGeometry => {
-            let (blocks, journal) = (asked.settings.blocks, asked.settings.journal);
-            Some(Cause::Size(SizeFault::Geometry { blocks, journal }))
+            let disk = disk_of(asked.settings);
+            Some(Cause::Size(SizeFault::Geometry(disk)))
         }
         _ => {
             let steps = read_script(alloc, script).ok()?;
@@ -152,6 +166,7 @@ impl Display for Cause<'_> {
             Cause::Group(fault) => fault.fmt(f),
             Cause::Size(fault) => fault.fmt(f),
             Cause::NoStart => f.write_str("no line of the script is `start`"),
+            Cause::Output => f.write_str("standard output does not take all that is told"),
         }
     }
 }
@@ -169,6 +184,9 @@ impl Cause<'_> {
                     "the lines before `start` build the disk, and those after it are explored",
                 )
             }
+            Cause::Output => f.write_str(
+                "see that its disk has room, and that the program which reads it still runs",
+            ),
         }
     }
 }

@@ -1,170 +1,103 @@
-//! Disks that are too small, and scripts that are too long.
+//! Disks that are too small, scripts that are too long, and too many closed sets.
 
+ghost use Rattle.std.specs.Prelude.{IfSome};
+ghost use Rattle.hints.specs.Enough.{IsEnough, enough_in};
+
+use crate::room::{
+    DiskSize, Enough, MOST_BLOCKS, closed_sets, disk_of, enough_blocks, enough_journal,
+};
 use crash_model::refusals::RunFault;
-use crash_model::settings::Settings;
-use disk_image::Image;
-use fault_deciding::closed_number;
-use order_modules::{build_base, trace};
+use crash_model::settings::{Explorer, ReportBy, Settings};
 use script_text::Script;
 use std::alloc::Allocator;
 use std::fmt;
-
-/// The most blocks of a disk.
-const MOST_BLOCKS: usize = 128;
 
 /// The blocks of a disk that are neither the journal's nor files': the superblock, the map, two of inodes, the root's
 /// block, and one to spare.
 const OTHER_BLOCKS: usize = 6;
 
+/// The most closed sets that the board holds.
+const MOST_ON_BOARD: u128 = 32_768;
+
 /// The largest number that `--limit` takes.
-const LARGEST_LIMIT: usize = 1_000_000_000;
+const LARGEST_LIMIT: u128 = 1_000_000_000;
 
 /// What does not fit.
 #[derive(Clone, Copy, Debug, PartialEq, Eq)]
 pub enum SizeFault {
     /// The journal leaves the disk too few blocks.
-    Geometry {
-        blocks: usize,
-        journal: usize,
-    },
-    /// The disk has too few blocks; the least number that is enough, if any is.
+    Geometry(DiskSize),
+    /// The disk has too few blocks; one that is enough, if any is.
     Blocks {
-        blocks: usize,
-        enough: Option<usize>,
+        asked: DiskSize,
+        enough: Option<Enough>,
     },
-    /// The journal has too few blocks; the smallest journal and its disk that are enough, if any are.
+    /// The journal has too few blocks; a disk with the smallest journal that is enough, if any is.
     Journal {
-        journal: usize,
-        enough: Option<Disk>,
+        asked: DiskSize,
+        enough: Option<Enough>,
     },
     Patches,
-    /// More closed sets than the limit, and how many there are.
-    Sets {
-        limit: usize,
-        sets: Option<u128>,
-    },
+    Sets(ManySets),
     Script,
 }
 
-/// The size of a disk: all its blocks, and those of its journal.
+/// More closed sets than the limit, and what the run was asked for.
 #[derive(Clone, Copy, Debug, PartialEq, Eq)]
-pub struct Disk {
-    pub blocks: usize,
-    pub journal: usize,
+pub struct ManySets {
+    pub sets: u128,
+    pub limit: usize,
+    pub explorer: Explorer,
+    pub by: ReportBy,
 }
 
-/// The disk that the settings ask for.
-fn disk_of(settings: &Settings) -> Disk {
-    Disk {
-        blocks: settings.blocks,
-        journal: settings.journal,
-    }
-}
-
-/// What does not fit, by the refusal.
+/// What does not fit, by the refusal. `None` where the refusal is about something else, or memory ran out.
 pub(crate) fn size_fault<A: Allocator + Copy>(
     alloc: A,
     script: &Script<A>,
     settings: &Settings,
     fault: RunFault,
-) -> Option<SizeFault> {
-    let Disk { blocks, journal } = disk_of(settings);
+) -> Option<SizeFault>
+    ensures { IfSome result (λ size. IfSome (enough_in size)
+        (IsEnough settings.now.module script.now.base.items script.now.traced.items)) }
+{
+    let asked = disk_of(settings);
     Some(match fault {
-        RunFault::NoBlock { .. } => SizeFault::Blocks {
-            blocks,
-            enough: least_blocks(alloc, script, settings),
-        },
-        RunFault::JournalFull { .. } => SizeFault::Journal {
-            journal,
-            enough: least_journal(alloc, script, settings),
-        },
+        RunFault::NoBlock { .. } => {
+            let enough = enough_blocks(alloc, script, settings).ok()?;
+            SizeFault::Blocks { asked, enough }
+        }
+        RunFault::JournalFull { .. } => {
+            let enough = enough_journal(alloc, script, settings, asked.journal).ok()?;
+            SizeFault::Journal { asked, enough }
+        }
         RunFault::TooManyPatches { .. } => SizeFault::Patches,
-        RunFault::TooMany => SizeFault::Sets {
+        RunFault::TooMany => SizeFault::Sets(ManySets {
+            sets: closed_sets(alloc, script, settings).ok()?,
             limit: settings.limit,
-            sets: closed_sets(alloc, script, settings),
-        },
+            explorer: settings.explorer,
+            by: settings.by,
+        }),
         _ => return None,
     })
-}
-
-/// The least number of blocks, above those asked for, on which the script is not refused.
-fn least_blocks<A: Allocator + Copy>(
-    alloc: A,
-    script: &Script<A>,
-    settings: &Settings,
-) -> Option<usize> {
-    let journal = settings.journal;
-    for blocks in settings.blocks..=MOST_BLOCKS {
-        if fits(alloc, script, settings, Disk { blocks, journal }) {
-            return Some(blocks);
-        }
-    }
-    None
-}
-
-/// The smallest journal, above that asked for, with which the script is not refused, on a disk that is as many blocks
-/// larger, or has as many as a disk can have.
-fn least_journal<A: Allocator + Copy>(
-    alloc: A,
-    script: &Script<A>,
-    settings: &Settings,
-) -> Option<Disk> {
-    for journal in settings.journal..=MOST_BLOCKS {
-        let more = journal.saturating_sub(settings.journal);
-        let blocks = settings.blocks.saturating_add(more).min(MOST_BLOCKS);
-        let disk = Disk { blocks, journal };
-        if fits(alloc, script, settings, disk) {
-            return Some(disk);
-        }
-    }
-    None
-}
-
-/// Whether the script is traced on a disk of this size without a refusal.
-fn fits<A: Allocator + Copy>(
-    alloc: A,
-    script: &Script<A>,
-    settings: &Settings,
-    size: Disk,
-) -> bool {
-    let Ok(mut base) = Image::formatted(alloc, size.blocks, size.journal) else {
-        return false;
-    };
-    if build_base(&mut base, &script.base).is_err() {
-        return false;
-    }
-    let ordering = settings.ordering();
-    trace(alloc, &base, &script.traced, &ordering).is_ok()
-}
-
-/// The number of closed sets of the script's patches. `None` where memory ran out.
-fn closed_sets<A: Allocator + Copy>(
-    alloc: A,
-    script: &Script<A>,
-    settings: &Settings,
-) -> Option<u128> {
-    let mut base = Image::formatted(alloc, settings.blocks, settings.journal).ok()?;
-    build_base(&mut base, &script.base).ok()?;
-    let ordering = settings.ordering();
-    let traced = trace(alloc, &base, &script.traced, &ordering).ok()?;
-    Some(closed_number(traced.graph()))
 }
 
 impl fmt::Display for SizeFault {
     fn fmt<W: fmt::Write>(&self, f: &mut fmt::Formatter<W>) -> fmt::Result {
         match *self {
-            SizeFault::Geometry { blocks, journal } => {
+            SizeFault::Geometry(DiskSize { blocks, journal }) => {
                 let least = journal.saturating_add(OTHER_BLOCKS);
                 write!(
                     f,
                     "a journal of {journal} blocks needs a disk of at least {least}; this one has {blocks}"
                 )
             }
-            SizeFault::Blocks { blocks, .. } => write!(
-                f,
-                "no block of the disk's {blocks} is free at this line"
-            ),
-            SizeFault::Journal { journal, .. } => {
+            SizeFault::Blocks { asked, .. } => {
+                let blocks = asked.blocks;
+                write!(f, "no block of the disk's {blocks} is free at this line")
+            }
+            SizeFault::Journal { asked, .. } => {
+                let journal = asked.journal;
                 write!(
                     f,
                     "the journal of {journal} blocks has no room for the transaction of this line"
@@ -173,19 +106,12 @@ impl fmt::Display for SizeFault {
             SizeFault::Patches => f.write_str(
                 "a script makes at most 124 patches, and this line would make more",
             ),
-            SizeFault::Sets {
-                limit,
-                sets: Some(sets),
-            } => {
+            SizeFault::Sets(ManySets { sets, limit, .. }) => {
                 write!(
                     f,
                     "the script has {sets} closed sets, and the limit is {limit}"
                 )
             }
-            SizeFault::Sets { limit, sets: None } => write!(
-                f,
-                "the script has more than {limit} closed sets"
-            ),
             SizeFault::Script => f.write_str("a script has at most 1048576 bytes"),
         }
     }
@@ -198,52 +124,63 @@ pub(crate) struct SizeRemedy(pub SizeFault);
 impl fmt::Display for SizeRemedy {
     fn fmt<W: fmt::Write>(&self, f: &mut fmt::Formatter<W>) -> fmt::Result {
         match self.0 {
-            SizeFault::Geometry { journal, .. } => {
+            SizeFault::Geometry(DiskSize { journal, .. }) => {
                 let least = journal.saturating_add(OTHER_BLOCKS);
                 write!(
                     f,
                     "--blocks {least} is enough, and a disk has at most {MOST_BLOCKS}"
                 )
             }
-            SizeFault::Blocks {
-                enough: Some(blocks),
-                ..
-            } => write!(f, "--blocks {blocks} is enough for this script"),
-            SizeFault::Blocks { enough: None, .. } | SizeFault::Journal { enough: None, .. } => {
-                write!(
-                    f,
-                    "the script fits no disk of up to {MOST_BLOCKS} blocks: make it shorter"
-                )
+            SizeFault::Blocks { asked, enough } | SizeFault::Journal { asked, enough } => {
+                write_enough(f, asked, enough)
             }
-            SizeFault::Journal {
-                enough: Some(disk),
-                ..
-            } => {
-                let Disk { blocks, journal } = disk;
-                write!(
-                    f,
-                    "--journal {journal} --blocks {blocks} is enough for this script"
-                )
-            }
-            SizeFault::Patches | SizeFault::Script => {
-                f.write_str(
-                    "leave lines out, or move the first ones before `start`, where they build the disk",
-                )
-            }
-            SizeFault::Sets { sets, .. } => write_limit(f, sets),
+            SizeFault::Patches => f.write_str(
+                "leave lines out, or move the first ones before `start`, where they build the disk",
+            ),
+            SizeFault::Script => f.write_str("leave lines out; comments and empty lines count too"),
+            SizeFault::Sets(many) => write_answers(f, many),
         }
     }
 }
 
-/// Writes how to answer a script with this many closed sets.
-fn write_limit<W: fmt::Write>(f: &mut fmt::Formatter<W>, sets: Option<u128>) -> fmt::Result {
-    match sets.and_then(|sets| usize::try_from(sets).ok()) {
-        Some(sets) if sets <= LARGEST_LIMIT => write!(
+/// Writes which disk is enough in place of the one asked for.
+fn write_enough<W: fmt::Write>(
+    f: &mut fmt::Formatter<W>,
+    asked: DiskSize,
+    enough: Option<Enough>,
+) -> fmt::Result {
+    let Some(Enough { disk, before }) = enough else {
+        return write!(
             f,
-            "--limit {sets} explores them all, and --decide finds each fault without a limit"
-        ),
-        _ => f.write_str(
-            "that is more than --limit can ask for: --decide finds each fault without a limit",
+            "no disk of up to {MOST_BLOCKS} blocks is enough for this script: leave lines out"
+        );
+    };
+    let DiskSize { blocks, journal } = disk;
+    if journal != asked.journal {
+        write!(f, "--journal {journal} ")?;
+    }
+    write!(f, "--blocks {blocks} is enough for ")?;
+    match before {
+        None => f.write_str("this script"),
+        Some(line) => write!(
+            f,
+            "the lines before line {line}, which is refused for another reason"
         ),
     }
+}
+
+/// Writes the options that answer a script with so many closed sets.
+fn write_answers<W: fmt::Write>(f: &mut fmt::Formatter<W>, many: ManySets) -> fmt::Result {
+    let sets = many.sets;
+    if sets > LARGEST_LIMIT {
+        f.write_str("that is more than --limit can ask for; ")?;
+    } else if many.explorer == Explorer::Board && sets > MOST_ON_BOARD {
+        write!(f, "--explorer sweep --limit {sets} explores them all, and ")?;
+    } else {
+        write!(f, "--limit {sets} explores them all, and ")?;
+    }
+    f.write_str(match many.by {
+        ReportBy::ByRule => "--enough finds which rules are needed without a limit",
+        _ => "--decide finds each fault without a limit",
+    })
 }

@@ -112,13 +112,17 @@ pub(crate) fn likely_verb<A: Allocator + Copy>(alloc: A, word: &str) -> Option<&
     }
 }
 
-/// The first word of the list that differs from this one by at most two letters.
+/// The first of the words of the list that differ from this one by the fewest letters. They are at most two, and at
+/// most half of the word's.
 fn nearest_verb<A: Allocator + Copy>(alloc: A, word: &str) -> Option<&'static str> {
+    let (mut nearest, mut fewest) = (None, MOST_EDITS + 1);
     for verb in &VERBS {
         match levenshtein(alloc, word, verb.word) {
-            Ok(edits) if edits <= MOST_EDITS => return Some(verb.word),
+            Ok(edits) if edits < fewest && edits <= verb.word.len() / 2 => {
+                (nearest, fewest) = (Some(verb.word), edits);
+            }
             _ => {}
         }
     }
-    None
+    nearest
 }

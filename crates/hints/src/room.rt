@@ -1,0 +1,170 @@
+//! Scripts on disks of several sizes: which is enough, and how many closed sets there are.
+
+ghost use Rattle.std.specs.Prelude.{◌≡◌, ◌≤◌, Ok, IfOk, IfSome, OnOk};
+ghost use Rattle.crash_model.specs.Disk.{empty_disk};
+ghost use Rattle.crash_model.specs.Trace.{base_from};
+ghost use Rattle.hints.specs.Enough.{FitsOn, IsEnough};
+
+use crash_model::refusals::RunFault;
+use crash_model::settings::Settings;
+use disk_image::{Image, ImageFault};
+use fault_deciding::closed_number;
+use order_modules::{build_base, trace};
+use script_text::Script;
+use std::alloc::{AllocError, Allocator};
+
+/// The most blocks of a disk.
+pub(crate) const MOST_BLOCKS: usize = 128;
+
+/// The size of a disk: all its blocks, and those of its journal.
+#[derive(Clone, Copy, Debug, PartialEq, Eq)]
+pub struct DiskSize {
+    pub blocks: usize,
+    pub journal: usize,
+}
+
+/// The disk that the settings ask for.
+pub(crate) fn disk_of(settings: &Settings) -> DiskSize
+    ensures blocks { result.blocks ≡ settings.now.blocks }
+    ensures journal { result.journal ≡ settings.now.journal }
+{
+    DiskSize {
+        blocks: settings.blocks,
+        journal: settings.journal,
+    }
+}
+
+/// A disk that is large enough for a script: for all of it, or for the lines before the one of this number, which is
+/// refused for another reason.
+#[derive(Clone, Copy, Debug, PartialEq, Eq)]
+pub struct Enough {
+    pub disk: DiskSize,
+    pub before: Option<usize>,
+}
+
+/// The disk that is enough for a script on which the one asked for has too few blocks. It has the same journal where
+/// that can be, else the smallest. `None` where none is enough.
+pub(crate) fn enough_blocks<A: Allocator + Copy>(
+    alloc: A,
+    script: &Script<A>,
+    settings: &Settings,
+) -> Result<Option<Enough>, AllocError>
+    ensures { IfOk result (λ found.
+        IfSome found (IsEnough settings.now.module script.now.base.items script.now.traced.items)) }
+{
+    match least_disk(alloc, script, settings, settings.journal)? {
+        Some(enough) => Ok(Some(enough)),
+        None => enough_journal(alloc, script, settings, 0),
+    }
+}
+
+/// The disk with the smallest journal, from this size on, that is enough for a script. `None` where none is enough.
+pub(crate) fn enough_journal<A: Allocator + Copy>(
+    alloc: A,
+    script: &Script<A>,
+    settings: &Settings,
+    from: usize,
+) -> Result<Option<Enough>, AllocError>
+    ensures { IfOk result (λ found.
+        IfSome found (IsEnough settings.now.module script.now.base.items script.now.traced.items)) }
+{
+    let blocks = MOST_BLOCKS;
+    for journal in from..=MOST_BLOCKS {
+        if let Some(_) = enough_on(alloc, script, settings, DiskSize { blocks, journal })? {
+            return least_disk(alloc, script, settings, journal);
+        }
+    }
+    Ok(None)
+}
+
+/// The smallest disk with this journal, of at least as many blocks as were asked for, that is enough for a script.
+fn least_disk<A: Allocator + Copy>(
+    alloc: A,
+    script: &Script<A>,
+    settings: &Settings,
+    journal: usize,
+) -> Result<Option<Enough>, AllocError>
+    ensures enough { IfOk result (λ found.
+        IfSome found (IsEnough settings.now.module script.now.base.items script.now.traced.items)) }
+    ensures blocks { IfOk result (λ found. IfSome found (λ enough. settings.now.blocks ≤ enough.disk.blocks)) }
+    ensures journal { IfOk result (λ found. IfSome found (λ enough. enough.disk.journal ≡ journal)) }
+{
+    for blocks in settings.blocks..=MOST_BLOCKS {
+        if let Some(enough) = enough_on(alloc, script, settings, DiskSize { blocks, journal })? {
+            return Ok(Some(enough));
+        }
+    }
+    Ok(None)
+}
+
+/// How far a disk of this size is enough for a script. `None` where a line is refused for the size.
+fn enough_on<A: Allocator + Copy>(
+    alloc: A,
+    script: &Script<A>,
+    settings: &Settings,
+    disk: DiskSize,
+) -> Result<Option<Enough>, AllocError>
+    ensures enough { IfOk result (λ found.
+        IfSome found (IsEnough settings.now.module script.now.base.items script.now.traced.items)) }
+    ensures disk { IfOk result (λ found. IfSome found (λ enough. enough.disk ≡ disk)) }
+{
+    let Err(fault) = trace_on(alloc, script, settings, disk) else {
+        return Ok(Some(Enough { disk, before: None }));
+    };
+    match (fault, fault.line()) {
+        (RunFault::OutOfMemory, _) => Err(AllocError),
+        (RunFault::NoBlock { .. } | RunFault::JournalFull { .. }, _) => Ok(None),
+        (_, Some(line)) => Ok(Some(Enough {
+            disk,
+            before: Some(line),
+        })),
+        // The geometry is bad.
+        (_, None) => Ok(None),
+    }
+}
+
+/// Traces a script on a disk of this size.
+fn trace_on<A: Allocator + Copy>(
+    alloc: A,
+    script: &Script<A>,
+    settings: &Settings,
+    disk: DiskSize,
+) -> Result<(), RunFault>
+    ensures { OnOk result
+        (FitsOn settings.now.module disk.blocks disk.journal script.now.base.items script.now.traced.items) }
+{
+    let base = base_on(alloc, script, disk)?;
+    let ordering = settings.ordering();
+    let _traced = trace(alloc, &base, &script.traced, &ordering)?;
+    Ok(())
+}
+
+/// A disk of this size after the lines before `start`.
+pub(crate) fn base_on<A: Allocator + Copy>(
+    alloc: A,
+    script: &Script<A>,
+    disk: DiskSize,
+) -> Result<Image<A>, RunFault>
+    ensures { IfOk result (λ base.
+        base_from (empty_disk disk.blocks disk.journal) script.now.base.items ≡ Ok base) }
+{
+    let mut base = match Image::formatted(alloc, disk.blocks, disk.journal) {
+        Ok(base) => base,
+        Err(ImageFault::BadGeometry) => return Err(RunFault::BadGeometry),
+        Err(ImageFault::OutOfMemory) => return Err(RunFault::OutOfMemory),
+    };
+    build_base(&mut base, &script.base)?;
+    Ok(base)
+}
+
+/// The number of closed sets of a script's patches.
+pub(crate) fn closed_sets<A: Allocator + Copy>(
+    alloc: A,
+    script: &Script<A>,
+    settings: &Settings,
+) -> Result<u128, RunFault> {
+    let base = base_on(alloc, script, disk_of(settings))?;
+    let ordering = settings.ordering();
+    let traced = trace(alloc, &base, &script.traced, &ordering)?;
+    Ok(closed_number(traced.graph()))
+}
