@@ -149,7 +149,7 @@ impl<'a, A: Allocator + Copy> KnownDisk<'a, A> {
         self.inode_byte_is(inode, 0, kind)
     }
 
-    /// Whether an inode has so many links.
+    /// Whether an inode's link count is `links`.
     pub fn links_are(&self, inode: u8, links: u8) -> Result<bool, usize>
         requires { inode < 16 }
         ensures { IsKnown self.now (λ d. links_of d inode == links) result }
