@@ -1,10 +1,7 @@
 -- Blocks of a list, gathered one by one.
-use Rattle.std.proofs.Common.{◌≡◌, ℕ, ◌+◌, ◌<◌, ◌⊎◌, inl, inr, List, length, get_or, set, arith, refl, sym, ◌∙◌, ap, subst}
-use Rattle.std.specs.Prelude.{◌↔◌}
+use Rattle.std.proofs.Common.{◌≡◌, ℕ, ◌+◌, ◌<◌, ◌⊎◌, inl, inr, List, length, get_or, set, arith, refl, sym, ◌∙◌, ap}
 use Rattle.std.proofs.lemmas.Bool.{cases_eq}
 use Rattle.std.proofs.lemmas.List.{get_or-set_same, get_or-set_other, length-set}
-use Rattle.patch_sets.specs.Sets.{Has, with_id}
-use Rattle.patch_sets.proofs.Bits.{none_in_empty, in_with_same, in_with_cases, in_with_old}
 use Rattle.known_bytes.specs.Headers.{IsAmong}
 
 pub among_more : (xs : List ℕ) (n b : ℕ) → IsAmong xs n b → IsAmong xs (n + 1) b
@@ -16,31 +13,11 @@ among_cases xs n b is = elim (cases_eq is.0 n) [
   | inr other ↦ inl (is.0, omega (arith, is.1), is.2)
 ]
 
--- the set has the first n blocks
-abbrev pub HasFirst : List ℕ → ℕ → ℕ → Type 0
-HasFirst xs n set = (b : ℕ) → Has set b ↔ IsAmong xs n b
-
-pub first_none : (xs : List ℕ) → HasFirst xs 0 0
-first_none xs b = (λ h. absurd (none_in_empty b h), λ is. let low = is.1 in absurd (omega (arith, low)))
-
-pub first_more : (xs : List ℕ) (n set more x : ℕ) → x ≡ get_or xs n 0 → more ≡ with_id set x → HasFirst xs n set
-    → HasFirst xs (n + 1) more
-first_more xs n set more x here is old b = (
-  λ h. elim (in_with_cases set x b (subst (λ (s : ℕ). Has s b) is h)) [
-    | inl same ↦ (n, omega arith, sym here ∙ sym same)
-    | inr before ↦ among_more xs n b ((old b).0 before)
-  ],
-  λ among. subst (λ (s : ℕ). Has s b) (sym is) (elim (among_cases xs n b among) [
-    | inl before ↦ in_with_old set x b ((old b).1 before)
-    | inr last ↦ subst (λ (k : ℕ). Has (with_id set x) k) (here ∙ last) (in_with_same set x)
-  ]),
-)
-
--- the first n blocks hang on a patch, and others as they did
+-- the first n blocks have a value in a table, and others have theirs
 pub record IsAsked (xs : List ℕ) (n id : ℕ) (start asks : List ℕ) : Type 0 where
   pub long : length asks ≡ length start
   pub new : (b : ℕ) → IsAmong xs n b → get_or asks b 0 ≡ id
-  pub others : (b : ℕ) → (get_or asks b 0 ≡ id) ⊎ (get_or asks b 0 ≡ get_or start b 0)
+  pub others : (b : ℕ) → IsAmong xs n b ⊎ (get_or asks b 0 ≡ get_or start b 0)
 
 pub asked_none : (xs : List ℕ) (id : ℕ) (start : List ℕ) → IsAsked xs 0 id start start
 asked_none xs id start = record {
@@ -61,9 +38,9 @@ asked_more xs n id x start asks here inside old = record {
     ]
   ];
   others = λ b. elim (cases_eq b x) [
-    | inl same ↦ inl (ap (λ (k : ℕ). get_or (set asks x id) k 0) same ∙ get_or-set_same asks x id 0 inside)
+    | inl same ↦ inl (n, omega arith, sym here ∙ sym same)
     | inr other ↦ elim (old.others b) [
-      | inl new ↦ inl (get_or-set_other asks x b id 0 other ∙ new)
+      | inl before ↦ inl (among_more xs n b before)
       | inr kept ↦ inr (get_or-set_other asks x b id 0 other ∙ kept)
     ]
   ];

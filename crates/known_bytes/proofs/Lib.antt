@@ -9,7 +9,9 @@ pub mod HeaderBytes
 pub mod Setting
 pub mod Among
 pub mod Coming
+pub mod Noting
 pub mod Walked
+pub mod AtHomes
 pub mod FaultTests
 pub mod Counted
 pub mod Named

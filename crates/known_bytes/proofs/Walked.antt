@@ -1,5 +1,5 @@
 -- What the walk over headers that may be there keeps, on all images of a family.
-use Rattle.std.proofs.Common.{◌≡◌, ℕ, ◌+◌, ◌<◌, ◌≤◌, ◌⊎◌, inl, inr, List, [], ◌∷◌, length, ◌&&◌, get_or, Bool, true, false}
+use Rattle.std.proofs.Common.{◌≡◌, ◌≢◌, ℕ, ◌+◌, ◌<◌, ◌≤◌, ◌⊎◌, inl, inr, List, [], ◌∷◌, length, ◌&&◌, get_or, Bool, true, false}
 use Rattle.std.proofs.Common.{arith, tests, refl, sym, ◌∙◌, ap, subst}
 use Rattle.std.specs.Prelude.{slice_index, ◌==◌, unwrap_or, Option, zero, suc, Result, Ok, Err, IfErr, nat_le, None}
 use Rattle.std.specs.List.{All, list_all}
@@ -17,8 +17,8 @@ use Rattle.journal_replay.proofs.Targets.{no_copy, apart_journal, IsOutside, sam
 use Rattle.journal_replay.proofs.Walk.{disk_after_walk}
 use Rattle.known_bytes.specs.Family.{Family, InEach, IsLike, IsMember, IsUndecided}
 use Rattle.known_bytes.specs.Reading.{AreHomes, IsKnown, left}
-use Rattle.known_bytes.specs.Headers.{AreNoted, HasTargets, HasNoHeader, may_have}
-use Rattle.known_bytes.proofs.Coming.{Comes, Stopped, AtDisk, comes_start, comes_end, still_stopped, comes_on, set_within}
+use Rattle.known_bytes.specs.Headers.{AreNoted, HasTargets, HasNoHeader, IsHome, may_have}
+use Rattle.known_bytes.proofs.Coming.{Comes, Stopped, AtDisk, comes_start, comes_end, still_stopped, comes_on}
 
 -- ---- a byte after replay
 
@@ -72,30 +72,32 @@ replayed_byte d b home offset i below within is =
 
 -- ---- what the loop keeps
 
-pub record IsWalking (f : Family) (homes : List ℕ) (unsettled : ℕ) (asks : List ℕ) (at turn : ℕ) (comes : Result Bool ℕ)
-    : Type 0 where
+pub record IsWalking (f : Family) (homes others asks : List ℕ) (at turn : ℕ) (comes : Result Bool ℕ) : Type 0 where
   pub from : 4 ≤ at
   pub inside : at ≤ 4 + f.base.journal
   pub counted : turn + 3 ≤ at
-  pub within : (block : ℕ) → block < f.base.blocks → slice_index homes block < f.base.blocks
-  pub asked : (block : ℕ) → block < 128 → Has unsettled block → IsUndecided f (slice_index asks block)
+  pub within : (block home : ℕ) → block < f.base.blocks → IsHome homes others block home → home < f.base.blocks
+  pub asked : (block : ℕ) → block < 128 → slice_index others block ≢ 0 → IsUndecided f (slice_index asks block)
   pub test : Disk → Bool
   pub known : IsKnown (left f) test comes
-  pub goes : InEach f (λ d. test d ≡ true → Comes d homes unsettled at turn)
-  pub stops : InEach f (λ d. test d ≡ false → Stopped d homes unsettled)
+  pub goes : InEach f (λ d. test d ≡ true → Comes d homes others at turn)
+  pub stops : InEach f (λ d. test d ≡ false → Stopped d homes others)
 
-pub walking_start : (f : Family) (homes : List ℕ) (unsettled : ℕ) (asks : List ℕ) → IsDisk f.base
-    → ((b : ℕ) → b < 128 → slice_index homes b ≡ b) → unsettled ≡ 0 → IsWalking f homes unsettled asks 4 1 (Ok true)
-walking_start f homes unsettled asks disk own none = record {
+pub walking_start : (f : Family) (homes others asks : List ℕ) → IsDisk f.base
+    → ((b : ℕ) → b < 128 → slice_index homes b ≡ b) → ((b : ℕ) → slice_index others b ≡ 0)
+    → IsWalking f homes others asks 4 1 (Ok true)
+walking_start f homes others asks disk own none = record {
   from = omega arith;
   inside = omega arith;
   counted = omega arith;
-  within = λ b less. omega (arith, disk.most, own b (omega (arith, disk.most)));
-  asked = λ b less is. absurd (none_in_empty b (subst (λ (s : ℕ). Has s b) none is));
+  within = λ b home less is. elim is [
+    | inl same ↦ omega (arith, disk.most, own b (omega (arith, disk.most)), same)
+    | inr other ↦ absurd (none_in_empty home (subst (λ (s : ℕ). Has s home) (none b) other))
+  ];
+  asked = λ b less some. absurd (some (none b));
   test = λ d. true;
   known = λ set m. refl;
-  goes = λ set m t. subst (λ (s : ℕ). Comes (image_of f.base f.patches set) homes s 4 1) (sym none)
-      (comes_start (image_of f.base f.patches set) homes own);
+  goes = λ set m t. comes_start (image_of f.base f.patches set) homes others own;
   stops = λ set m no. absurd (cc);
 }
 
@@ -113,7 +115,7 @@ undecided_of : (f : Family) (test : Disk → Bool) (found : Result Bool ℕ) (id
     → found ≡ Err id → IsUndecided f id
 undecided_of f test found id known is = subst (λ (r : Result Bool ℕ). IsKnown (left f) test r) is known
 
-module _ (f : Family) (old new : List ℕ) (was is : ℕ) (before after : List ℕ) (at turn : ℕ) (comes : Result Bool ℕ)
+module _ (f : Family) (old was new is before after : List ℕ) (at turn : ℕ) (comes : Result Bool ℕ)
     (targets : List ℕ) (disk : IsDisk f.base) (like : InEach f (IsLike f.base))
     (walk : IsWalking f old was before at turn comes) (may : may_have f.base at targets ≡ true)
     (shape : HasTargets f at targets) where
@@ -132,14 +134,17 @@ module _ (f : Family) (old new : List ℕ) (was is : ℕ) (before after : List �
   pub walking_step : (there copied next : Result Bool ℕ) → IsKnown (left f) is_there there
       → IsKnown (left f) is_copied copied → IsKnown (left f) (λ d. walk.test d && is_there d) next
       → AreNoted copied old was new is (at + 1) targets
-      → ((b : ℕ) → Has is b → (Has was b × (slice_index after b ≡ slice_index before b))
+      → ((b : ℕ) → slice_index is b ≢ 0 → ((slice_index was b ≢ 0) × (slice_index after b ≡ slice_index before b))
       ⊎ (copied ≡ Err (slice_index after b)))
       → IsWalking f new is after (at + (1 + length targets)) (turn + 1) next
   walking_step there copied next there_known copied_known next_known noted asks = record {
     from = omega (arith, walk.from);
     inside = omega (arith, room);
     counted = omega (arith, walk.counted);
-    within = within copied noted;
+    within = λ b home less is_home. elim (noted.within b home is_home) [
+      | inl kept ↦ walk.within b home less kept
+      | inr copy ↦ omega (arith, room, disk.room, copy.1)
+    ];
     asked = λ b less now. elim (asks b now) [
       | inl kept ↦ subst (λ (k : ℕ). IsUndecided f k) (sym kept.1) (walk.asked b less kept.0)
       | inr fresh ↦ undecided_of f is_copied copied (slice_index after b) copied_known fresh
@@ -150,15 +155,6 @@ module _ (f : Family) (old new : List ℕ) (was is : ℕ) (before after : List �
     stops = λ set m not_both. stops set m not_both;
   }
     where
-      within : (copied : Result Bool ℕ) → AreNoted copied old was new is (at + 1) targets → (b : ℕ) → b < f.base.blocks
-          → slice_index new b < f.base.blocks
-      within (Ok true) noted b less = set_within old new (at + 1) targets noted.0 f.base.blocks b
-          (omega (arith, room, disk.room)) (walk.within b less)
-      within (Ok false) noted b less = subst (λ (xs : List ℕ). slice_index xs b < f.base.blocks) (sym noted.0)
-          (walk.within b less)
-      within (Err id) noted b less = subst (λ (xs : List ℕ). slice_index xs b < f.base.blocks) (sym noted.0)
-          (walk.within b less)
-
       left_of : (a b : Bool) → (a && b) ≡ true → a ≡ true
       left_of true b h = refl
       left_of false b h = absurd (cc)
@@ -188,7 +184,7 @@ module _ (f : Family) (old new : List ℕ) (was is : ℕ) (before after : List �
           let d : Disk = image_of f.base f.patches set in
           let t = left_of (walk.test d) (is_there d) both in
           let h = right_of (walk.test d) (is_there d) both in
-          comes_on d at turn old new was is targets (like set m).disk h (shape set m turn h) copied
+          comes_on d at turn old was new is targets (like set m).disk h (shape set m turn h) copied
           (at_mark d copied (third (is_there d) (walk.test d) (byte d at 0 == 0xC7) copied h t
           (at_disk f is_copied copied copied_known set m))) noted (walk.goes set m t)
 
@@ -196,7 +192,7 @@ module _ (f : Family) (old new : List ℕ) (was is : ℕ) (before after : List �
           && is_there (image_of f.base f.patches set)) ≡ false → Stopped (image_of f.base f.patches set) new is
       stops set m not_both =
           let d : Disk = image_of f.base f.patches set in
-          still_stopped d old new was is (at + 1) targets copied (is_copied d)
+          still_stopped d old was new is (at + 1) targets copied (is_copied d)
           (at_disk f is_copied copied copied_known set m)
           (no_third (walk.test d) (is_there d) (byte d at 0 == 0xC7) not_both) noted
           (elim (bool_is (walk.test d)) [
@@ -233,21 +229,23 @@ none_may f at targets like shape never below set m turn =
     tests_of : (a b : ℕ) (x y : Bool) → a ≤ b → x ≡ true → y ≡ true → (nat_le a b && x && y) ≡ true
     tests_of a b x y le h k = grind (arith, tests)
 
-pub walking_end : (f : Family) (homes : List ℕ) (unsettled : ℕ) (asks : List ℕ) (at turn : ℕ) (comes : Result Bool ℕ)
+pub walking_end : (f : Family) (homes others asks : List ℕ) (at turn : ℕ) (comes : Result Bool ℕ)
     → InEach f (IsLike f.base) → InEach f (λ d. is_header d at turn (block_of d at) ≡ false)
-    → IsWalking f homes unsettled asks at turn comes
-    → AreHomes record { family = f; replayed = true } homes unsettled asks
-walking_end f homes unsettled asks at turn comes like none w = record {
+    → IsWalking f homes others asks at turn comes
+    → AreHomes record { family = f; replayed = true } homes others asks
+walking_end f homes others asks at turn comes like none w = record {
   within = w.within;
-  same = λ set m block offset below within settled.
+  among = λ set m block below.
       let d : Disk = image_of f.base f.patches set in
       let disk = (like set m).disk in
-      let over : Stopped d homes unsettled = elim (bool_is (w.test d)) [
+      let over : Stopped d homes others = elim (bool_is (w.test d)) [
         | inr f ↦ w.stops set m f
-        | inl t ↦ comes_end d homes unsettled at turn (none set m) (w.goes set m t)
-      ] in
-      replayed_byte d block (slice_index homes block) offset disk below within
-      (over.home block (omega (arith, disk.most)) settled);
+        | inl t ↦ comes_end d homes others at turn (none set m) (w.goes set m t)
+      ] in (
+        copy_after d block block (headers d),
+        over.home block (omega (arith, disk.most)),
+        λ offset within. replayed_byte d block (copy_after d block block (headers d)) offset disk below within refl,
+      );
   asked = w.asked;
 }
 

@@ -1,6 +1,6 @@
 -- Headers of which it is open whether they are there, but not what they are.
 use Rattle.std.specs.Prelude.{◌≡◌, ◌≢◌, ℕ, zero, suc, ◌+◌, ◌<◌, ◌≤◌, List, length, slice_index, Bool, true, false, ◌&&◌, ◌==◌}
-use Rattle.std.specs.Prelude.{nat_le, ◌↔◌, ◌⊎◌, Result, Ok, Err}
+use Rattle.std.specs.Prelude.{nat_le, ◌⊎◌, Result, Ok}
 use Rattle.patch_sets.specs.Sets.{Has}
 use Rattle.std.specs.List.{list_all}
 use Rattle.crash_model.specs.Disk.{Disk, byte, block_of}
@@ -37,15 +37,28 @@ pub record AreSet (old new : List ℕ) (first : ℕ) (targets : List ℕ) : Type
   pub others : (block : ℕ) → ((k : ℕ) → k < length targets → slice_index targets k ≢ block)
       → slice_index new block ≡ slice_index old block
 
--- The homes after a header, by whether its targets are copied: then they are read from the blocks from `first` on and
--- are settled. Where it is not known they are unsettled.
-abbrev pub AreNoted : Result Bool ℕ → List ℕ → ℕ → List ℕ → ℕ → ℕ → List ℕ → Type 0
-AreNoted (Ok true) old was new is first targets =
-    AreSet old new first targets
-    × ((block : ℕ) → Has is block ↔ (Has was block × ¬ (IsAmong targets (length targets) block)))
-AreNoted (Ok false) old was new is first targets = (new ≡ old) × (is ≡ was)
-AreNoted (Err id) old was new is first targets =
-    (new ≡ old) × ((block : ℕ) → Has is block ↔ (Has was block ⊎ IsAmong targets (length targets) block))
+-- a block may be read at its home, or at one of the others that it may have
+abbrev pub IsHome : List ℕ → List ℕ → ℕ → ℕ → Type 0
+IsHome homes others block home = (home ≡ slice_index homes block) ⊎ Has (slice_index others block) home
+
+-- The homes after a header, by whether it is known that replay copies its targets. A block keeps its homes unless it is
+-- surely copied. A target may be read at its copy, from the block `first` on, unless none is copied.
+pub record AreNoted (copied : Result Bool ℕ) (homes others new more : List ℕ) (first : ℕ) (targets : List ℕ)
+    : Type 0 where
+  pub kept : (block home : ℕ) → (copied ≢ Ok true) ⊎ (¬ (IsAmong targets (length targets) block))
+      → IsHome homes others block home → IsHome new more block home
+  pub added : (block m : ℕ) → copied ≢ Ok false → m < length targets → slice_index targets m ≡ block
+      → ((k : ℕ) → k < m → slice_index targets k ≢ block) → IsHome new more block (first + m)
+  pub within : (block home : ℕ) → IsHome new more block home
+      → IsHome homes others block home ⊎ ((first ≤ home) × (home < first + length targets))
+
+-- the first n targets may be read from the blocks from `first` on too
+pub record AreAdded (old new : List ℕ) (first : ℕ) (targets : List ℕ) (n : ℕ) : Type 0 where
+  pub kept : (block home : ℕ) → Has (slice_index old block) home → Has (slice_index new block) home
+  pub added : (m : ℕ) → m < n → Has (slice_index new (slice_index targets m)) (first + m)
+  pub within : (block home : ℕ) → Has (slice_index new block) home
+      → Has (slice_index old block) home ⊎ ((first ≤ home) × (home < first + n))
+  pub others : (block : ℕ) → IsAmong targets n block ⊎ (slice_index new block ≡ slice_index old block)
 
 -- a block before this one names a block where a header would that has its copy here
 pub record IsCopyOf (d : Disk) (block at : ℕ) : Type 0 where

@@ -1,9 +1,9 @@
 -- The images of a family as they are left or after replay of the journal.
-use Rattle.std.specs.Prelude.{◌≡◌, ℕ, ◌<◌, List, slice_index, Bool, false, if◌then◌else◌, Result, Ok, Err}
-use Rattle.patch_sets.specs.Sets.{Has}
+use Rattle.std.specs.Prelude.{◌≡◌, ◌≢◌, ℕ, ◌<◌, List, slice_index, Bool, false, if◌then◌else◌, Result, Ok, Err}
 use Rattle.crash_model.specs.Disk.{Disk, byte}
 use Rattle.crash_model.specs.Replay.{image_after_replay}
 use Rattle.known_bytes.specs.Family.{Family, InEach, IsUndecided}
+use Rattle.known_bytes.specs.Headers.{IsHome}
 
 -- a family, and whether its images are read after replay
 pub record Reading : Type 0 where
@@ -17,13 +17,14 @@ disk_of r d = if r.replayed then image_after_replay d else d
 abbrev pub InEachDisk : Reading → (Disk → Type 0) → Type 0
 InEachDisk r P = InEach r.family (λ d. P (disk_of r d))
 
--- For each block but the open ones the one of the image where it is read. For each open one an undecided patch on
--- which that hangs.
-pub record AreHomes (r : Reading) (homes : List ℕ) (unsettled : ℕ) (asks : List ℕ) : Type 0 where
-  pub within : (block : ℕ) → block < r.family.base.blocks → slice_index homes block < r.family.base.blocks
-  pub same : InEach r.family (λ d. (block offset : ℕ) → block < d.blocks → offset < 128 → ¬ (Has unsettled block)
-      → byte (disk_of r d) block offset ≡ byte d (slice_index homes block) offset)
-  pub asked : (block : ℕ) → block < 128 → Has unsettled block → IsUndecided r.family (slice_index asks block)
+-- For each block the one of the image where it is read, and others where it may be read. Each disk has it at one of
+-- these. For each block with others an undecided patch on which it hangs at which.
+pub record AreHomes (r : Reading) (homes others asks : List ℕ) : Type 0 where
+  pub within : (block home : ℕ) → block < r.family.base.blocks → IsHome homes others block home
+      → home < r.family.base.blocks
+  pub among : InEach r.family (λ d. (block : ℕ) → block < d.blocks → (home : ℕ) × IsHome homes others block home
+      × ((offset : ℕ) → offset < 128 → byte (disk_of r d) block offset ≡ byte d home offset))
+  pub asked : (block : ℕ) → block < 128 → slice_index others block ≢ 0 → IsUndecided r.family (slice_index asks block)
 
 -- What is read of the disks at once: what each of them has, or an undecided patch on which it hangs.
 abbrev pub IsKnown : {X : Type 0} → Reading → (Disk → X) → Result X ℕ → Type 0
@@ -33,8 +34,3 @@ IsKnown r what (Err id) = IsUndecided r.family id
 -- the images as a crash leaves them
 abbrev pub left : Family → Reading
 left f = record { family = f; replayed = false }
-
--- the bytes of a block are those of a block of the image
-abbrev pub IsReadAt : Reading → ℕ → ℕ → Type 0
-IsReadAt r block home =
-    InEach r.family (λ d. (offset : ℕ) → offset < 128 → byte (disk_of r d) block offset ≡ byte d home offset)

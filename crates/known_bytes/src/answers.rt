@@ -55,3 +55,13 @@ pub(crate) fn never_holds(answer: Result<bool, usize>) -> bool
         Err(_) => false,
     }
 }
+
+/// Whether two answers are known, and the same.
+pub(crate) fn are_alike(first: Result<bool, usize>, second: Result<bool, usize>) -> bool
+    ensures { IsTrue result → first ≡ second }
+{
+    match (first, second) {
+        (Ok(one), Ok(other)) => one == other,
+        _ => false,
+    }
+}

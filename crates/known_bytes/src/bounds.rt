@@ -1,12 +1,12 @@
-//! Counts of which it is open whether some are there.
+//! Counts that are not known exactly.
 
 ghost use Rattle.std.specs.Prelude.{◌≡◌, ◌+◌, ◌≤◌, ◌<◌, ℕ, ◌==◌, nat_le, Bool, if◌then◌else◌};
 ghost use Rattle.crash_model.specs.Disk.{Disk};
 ghost use Rattle.known_bytes.specs.Reading.{Reading, IsKnown};
 ghost use Rattle.known_bytes.specs.Counts.{AreBounds};
 
-/// How many there are at least and at most on the disks of a family, with an undecided patch on which it hangs where
-/// these are two numbers.
+/// The least and the most that there are on any disk of a family. Where these differ, `ask` is an undecided patch on
+/// which the number hangs.
 #[derive(Clone, Copy)]
 pub(crate) struct Bounds {
     pub(crate) least: u8,
@@ -53,7 +53,7 @@ impl Bounds {
         }
     }
 
-    /// So many more.
+    /// Two counts added. Where both are open it hangs on the patch of the second: so fewer families are asked.
     pub(crate) fn plus(self, more: Bounds) -> Bounds
         requires few { self.most + more.most ≤ 255 }
         requires right { (self.least ≤ self.most) × (more.least ≤ more.most) }
@@ -63,10 +63,10 @@ impl Bounds {
         ensures most { result.most ≡ self.most + more.most }
         ensures right { result.least ≤ result.most }
     {
-        let ask = if self.least < self.most {
-            self.ask
-        } else {
+        let ask = if more.least < more.most {
             more.ask
+        } else {
+            self.ask
         };
         Bounds {
             least: self.least + more.least,
@@ -75,7 +75,7 @@ impl Bounds {
         }
     }
 
-    /// Whether there are so many, or more.
+    /// Whether there are at least a number of them.
     pub(crate) fn reach(self, count: u8) -> Result<bool, usize>
         ensures { (r : Reading) (number : Disk → ℕ) → AreBounds r number self.least self.most self.ask
             → IsKnown r (λ d. nat_le count (number d)) result }
@@ -89,7 +89,7 @@ impl Bounds {
         }
     }
 
-    /// Whether there are exactly so many.
+    /// Whether there are exactly a number of them.
     pub(crate) fn are(self, count: u8) -> Result<bool, usize>
         ensures { (r : Reading) (number : Disk → ℕ) → AreBounds r number self.least self.most self.ask
             → IsKnown r (λ d. number d == count) result }

@@ -1,15 +1,16 @@
 //! How many entries lead to an inode and how many slots name a block, on all disks of a family at once.
 
-ghost use Rattle.std.specs.Prelude.{◌≡◌, ◌<◌, ◌≤◌, ◌&&◌, ◌==◌, length, IfOk, IfErr};
-ghost use Rattle.crash_model.specs.Layout.{is_live, links_of};
+ghost use Rattle.std.specs.Prelude.{◌≡◌, ◌<◌, ◌≤◌, ◌&&◌, ◌==◌, length, IfOk, IfErr, IfSome, MatchOption, false};
+ghost use Rattle.crash_model.specs.Layout.{is_live, links_of, counts};
 ghost use Rattle.crash_model.specs.Faults.{entries_to, has_low_links, namers, is_twice, leads_to};
 ghost use Rattle.known_bytes.specs.Counts.{entries_in, slots_in, AreBounds};
-ghost use Rattle.known_bytes.specs.Directories.{IsItsBlock};
+ghost use Rattle.known_bytes.specs.Directories.{IsFound};
 ghost use Rattle.known_bytes.specs.Family.{IsUndecided};
 ghost use Rattle.known_bytes.specs.Reading.{IsKnown, InEachDisk};
 
 use crate::answers::both;
 use crate::bounds::Bounds;
+use crate::directories::Directory;
 use crate::disk::KnownDisk;
 use std::alloc::Allocator;
 
@@ -45,36 +46,37 @@ impl<'a, A: Allocator + Copy> KnownDisk<'a, A> {
         self.namers(block).reach(2)
     }
 
-    /// How many entries of a directory with a block lead to an inode.
-    fn leads_from(&self, dir: u8, block: u8, inode: u8) -> Bounds
+    /// How many entries of a directory that may count lead to an inode.
+    fn leads_from(&self, dir: u8, directory: Directory, inode: u8) -> Bounds
         requires dir { dir < 16 }
         requires inode { inode < 16 }
-        requires block { block < self.now.family.base.blocks }
-        requires its { InEachDisk self.now (IsItsBlock dir block) }
+        requires block { directory.block < self.now.family.base.blocks }
+        requires found { IsFound self.now dir directory.block directory.counts }
         ensures count { AreBounds self.now (λ d. entries_in 10 d inode dir) result.least result.most result.ask }
         ensures few { (result.least ≤ result.most) × (result.most ≤ 10) }
     {
-        let is_counted = self.counts_at(dir, block);
+        let block = usize::from(directory.block);
         let mut count = Bounds::none();
         for k in 0..10u8 {
-            let names = self.byte_is(usize::from(block), 8 + 12 * usize::from(k), inode + 1);
-            count = count.with(both(is_counted, names));
+            let names = self.byte_is(block, 8 + 12 * usize::from(k), inode + 1);
+            count = count.with(both(directory.counts, names));
         }
         count
     }
 
-    /// How many entries of a directory lead to an inode; or an undecided patch that gives the directory another block.
-    pub(crate) fn leads_in(&self, dir: u8, inode: u8) -> Result<Bounds, usize>
+    /// How many entries of a directory lead to an inode, where it was looked for.
+    pub(crate) fn leads_in(&self, dir: u8, found: Option<Directory>, inode: u8) -> Bounds
         requires dir { dir < 16 }
         requires inode { inode < 16 }
-        ensures ok { IfOk result (λ count. AreBounds self.now (λ d. entries_in 10 d inode dir) count.least count.most
-            count.ask) }
-        ensures few { IfOk result (λ count. (count.least ≤ count.most) × (count.most ≤ 10)) }
-        ensures err { IfErr result (IsUndecided self.now.family) }
+        requires found { MatchOption found (InEachDisk self.now (λ d. counts d dir ≡ false))
+            (λ it. IsFound self.now dir it.block it.counts) }
+        requires within { IfSome found (λ it. it.block < self.now.family.base.blocks) }
+        ensures count { AreBounds self.now (λ d. entries_in 10 d inode dir) result.least result.most result.ask }
+        ensures few { (result.least ≤ result.most) × (result.most ≤ 10) }
     {
-        match self.directory_block(dir)? {
-            None => Ok(Bounds::none()),
-            Some(block) => Ok(self.leads_from(dir, block, inode)),
+        match found {
+            None => Bounds::none(),
+            Some(directory) => self.leads_from(dir, directory, inode),
         }
     }
 
@@ -87,12 +89,13 @@ impl<'a, A: Allocator + Copy> KnownDisk<'a, A> {
     {
         let mut count = Bounds::none();
         for dir in 0..16u8 {
-            count = count.plus(self.leads_in(dir, inode)?);
+            let found = self.directory(dir)?;
+            count = count.plus(self.leads_in(dir, found, inode));
         }
         Ok(count)
     }
 
-    /// Whether so many entries lead to an inode.
+    /// Whether exactly `entries` entries lead to an inode.
     fn entries_are(&self, inode: u8, entries: u8) -> Result<bool, usize>
         requires { inode < 16 }
         ensures { IsKnown self.now (λ d. length (entries_to d inode) == entries) result }
@@ -101,7 +104,7 @@ impl<'a, A: Allocator + Copy> KnownDisk<'a, A> {
         count.are(entries)
     }
 
-    /// Whether an inode in use has so many links, and so many entries lead to it, which are more.
+    /// Whether an inode in use has a link count of `links`, exactly `entries` entries lead to it, and these are more.
     pub fn has_low_links(&self, inode: u8, entries: u8, links: u8) -> Result<bool, usize>
         requires { inode < 16 }
         ensures { IsKnown self.now (λ d. has_low_links d inode && (length (entries_to d inode) == entries

@@ -1,19 +1,19 @@
 //! The disks of a family, read at once.
 
-ghost use Rattle.std.specs.Prelude.{◌≡◌, ◌+◌, ◌*◌, ◌==◌, ◌||◌, not, ◌<◌, ◌≤◌, IsTrue, IfOk, IfErr, IfSome, slice_index, length, true};
+ghost use Rattle.std.specs.Prelude.{◌≡◌, ℕ, ◌+◌, ◌*◌, ◌==◌, ◌||◌, not, ◌<◌, ◌≤◌, IsTrue, IfOk, IfErr, IfSome, slice_index, length, true};
 ghost use Rattle.std.specs.Prelude.{false, ◌&&◌};
 ghost use Rattle.crash_model.specs.Disk.{byte, IsDisk};
 ghost use Rattle.crash_model.specs.Layout.{kind_of, links_of, pointer_of, is_live, is_data, counts};
 ghost use Rattle.known_bytes.specs.Family.{IsUndecided, HasValue, IsLike, is_one_of};
-ghost use Rattle.known_bytes.specs.Reading.{InEachDisk, IsKnown, IsReadAt};
+ghost use Rattle.known_bytes.specs.Reading.{InEachDisk, IsKnown};
 
-use crate::answers::{both, negation};
+use crate::answers::{are_alike, both, negation};
 use crate::byte_set::ByteSet;
 use crate::bytes::KnownBytes;
 use crate::homes::Homes;
 use crash_model::disk_bytes::{DIRECTORY_KIND, DIRECTORY_MARK, FREE_KIND};
 use disk_image::Image;
-use patch_sets::set::has;
+use patch_sets::ends::{lowest, without_lowest};
 use std::alloc::Allocator;
 use std::marker::Model;
 
@@ -36,7 +36,7 @@ impl<'a, A: Allocator + Copy> Model for KnownDisk<'a, A> {
     ghost view = { λ k. record { family = k.bytes; replayed = k.replayed } };
 
     ghost invariant = { λ k. AreHomes (record { family = k.bytes; replayed = k.replayed }) k.homes.blocks
-        k.homes.unsettled k.homes.asks };
+        k.homes.others k.homes.asks };
 }
 
 impl<'a, A: Allocator + Copy> KnownDisk<'a, A> {
@@ -75,40 +75,26 @@ impl<'a, A: Allocator + Copy> KnownDisk<'a, A> {
         self.bytes.base()
     }
 
-    /// The block of the image where a block is read.
-    fn home(&self, block: usize) -> Result<usize, usize>
-        requires { block < self.now.family.base.blocks }
-        ensures ok { IfOk result (λ home. (home < self.now.family.base.blocks)
-            × IsReadAt self.now block home) }
-        ensures err { IfErr result (IsUndecided self.now.family) }
-    {
-        // For the proof: how many blocks every image has at most.
-        let _blocks = self.bytes.base().blocks();
-        if has(self.homes.unsettled, block) {
-            Err(usize::from(self.homes.asks[block]))
-        } else {
-            Ok(usize::from(self.homes.blocks[block]))
-        }
-    }
-
-    /// A byte of a block.
-    pub fn byte(&self, block: usize, offset: usize) -> Result<u8, usize>
-        requires block { block < self.now.family.base.blocks }
-        requires offset { offset < 128 }
-        ensures { IsKnown self.now (λ d. byte d block offset) result }
-    {
-        let home = self.home(block)?;
-        self.bytes.byte(home, offset)
-    }
-
-    /// Whether a byte of a block has a value. It may be known where the byte is not.
+    /// Whether a byte of a block has a value. It may be known where the byte is not, and where it is not known in which
+    /// block of the image it is read: it is where all blocks in which it may be read answer alike.
     pub fn byte_is(&self, block: usize, offset: usize, value: u8) -> Result<bool, usize>
         requires block { block < self.now.family.base.blocks }
         requires offset { offset < 128 }
         ensures { IsKnown self.now (λ d. byte d block offset == value) result }
     {
-        let home = self.home(block)?;
-        self.bytes.byte_is(home, offset, value)
+        // For the proof: how many blocks every image has at most.
+        let _blocks = self.bytes.base().blocks();
+        let home = usize::from(self.homes.blocks[block]);
+        let answer = self.bytes.byte_is(home, offset, value);
+        let others = self.homes.others[block];
+        let mut left = others;
+        while let Some(other) = lowest(left) {
+            if !are_alike(answer, self.bytes.byte_is(other, offset, value)) {
+                return Err(usize::from(self.homes.asks[block]));
+            }
+            left = without_lowest(left);
+        }
+        answer
     }
 
     /// The only value but 0 that a byte of a block has on any disk, or 0.
@@ -118,8 +104,21 @@ impl<'a, A: Allocator + Copy> KnownDisk<'a, A> {
         ensures ok { IfOk result (λ value. InEachDisk self.now (λ d. is_one_of 0 value (byte d block offset) ≡ true)) }
         ensures err { IfErr result (IsUndecided self.now.family) }
     {
-        let home = self.home(block)?;
-        self.bytes.only(home, offset)
+        // For the proof: how many blocks every image has at most.
+        let _blocks = self.bytes.base().blocks();
+        let home = usize::from(self.homes.blocks[block]);
+        let mut value = self.bytes.only(home, offset)?;
+        let others = self.homes.others[block];
+        let mut left = others;
+        while let Some(other) = lowest(left) {
+            let more = self.bytes.only(other, offset)?;
+            let Some(both) = only_one(value, more) else {
+                return Err(usize::from(self.homes.asks[block]));
+            };
+            value = both;
+            left = without_lowest(left);
+        }
+        Ok(value)
     }
 
     /// Whether a number is that of a block of the data area.
@@ -150,7 +149,7 @@ impl<'a, A: Allocator + Copy> KnownDisk<'a, A> {
         self.inode_byte_is(inode, 0, kind)
     }
 
-    /// Whether an inode has so many links.
+    /// Whether an inode's link count is `links`.
     pub fn links_are(&self, inode: u8, links: u8) -> Result<bool, usize>
         requires { inode < 16 }
         ensures { IsKnown self.now (λ d. links_of d inode == links) result }
@@ -175,5 +174,20 @@ impl<'a, A: Allocator + Copy> KnownDisk<'a, A> {
             return Ok(false);
         }
         negation(self.kind_is(inode, FREE_KIND))
+    }
+}
+
+/// The only value but 0 of two, or 0; `None` where they are two.
+fn only_one(value: u8, other: u8) -> Option<u8>
+    ensures { IfSome result (λ both. (x : ℕ)
+        → (is_one_of 0 value x ≡ true → is_one_of 0 both x ≡ true)
+        × (is_one_of 0 other x ≡ true → is_one_of 0 both x ≡ true)) }
+{
+    if value == 0 || value == other {
+        Some(other)
+    } else if other == 0 {
+        Some(value)
+    } else {
+        None
     }
 }

@@ -3,26 +3,25 @@
 ghost use Rattle.std.specs.Prelude.{◌≡◌, ◌≢◌, ◌⊎◌, ℕ, ◌+◌, ◌<◌, ◌≤◌, ◌↔◌, length, slice_index, true, false, IfOk, IfErr};
 ghost use Rattle.std.specs.Prelude.{Ok, Err};
 ghost use Rattle.std.specs.List.{All};
-ghost use Rattle.patch_sets.specs.Sets.{Has};
 ghost use Rattle.known_bytes.specs.Family.{IsUndecided};
 ghost use Rattle.known_bytes.specs.Reading.{AreHomes};
-ghost use Rattle.known_bytes.specs.Headers.{AreSet, AreNoted, IsAmong};
+ghost use Rattle.known_bytes.specs.Headers.{AreSet, AreAdded, AreNoted, IsAmong};
 
 use crate::answers::both;
 use crate::bytes::KnownBytes;
 use crate::headers::may_have;
 use crash_model::disk_bytes::COMMITTED_MARK;
-use patch_sets::ends::difference;
 use patch_sets::set::with;
 use std::alloc::Allocator;
 
-/// For each block the one of the image where it is read.
+/// For each block the ones of the image where it may be read.
 #[derive(Drop)]
 pub(crate) struct Homes {
+    /// For each block one of them.
     pub(crate) blocks: [u8; 128],
-    /// The blocks of which that is not known.
-    pub(crate) unsettled: u128,
-    /// For each of these an undecided patch on which it hangs.
+    /// For each block the others, none where it is known.
+    pub(crate) others: [u128; 128],
+    /// For each block with others an undecided patch on which it hangs where it is read.
     pub(crate) asks: [u8; 128],
 }
 
@@ -30,35 +29,36 @@ impl Homes {
     /// Each block is read where it is.
     pub(crate) fn own() -> Homes
         ensures own { (block : ℕ) → block < 128 → slice_index result.blocks block ≡ block }
-        ensures settled { result.unsettled ≡ 0 }
+        ensures settled { (block : ℕ) → slice_index result.others block ≡ 0 }
     {
         Homes {
             blocks: own_blocks(),
-            unsettled: 0,
+            others: [0; 128],
             asks: [0; 128],
         }
     }
 
-    /// Has the targets of a header read from the blocks from `first` on, where replay copies them; or has them hang on a
-    /// patch, where that is not known.
+    /// Has the targets of a header read from the blocks from `first` on, where replay copies them. Where that is not
+    /// known, they may be read there too, and it hangs on the patch.
     fn note(&mut self, first: usize, targets: &[u8], copied: Result<bool, usize>)
         requires few { first + length targets.now ≤ 128 }
         requires known { All (λ target. target < 128) targets.now }
         requires patch { IfErr copied (λ id. id < 128) }
-        ensures noted { AreNoted copied self.old.blocks self.old.unsettled self.new.blocks self.new.unsettled first
+        ensures noted { AreNoted copied self.old.blocks self.old.others self.new.blocks self.new.others first
             targets.now }
-        ensures asks { (block : ℕ) → Has self.new.unsettled block
-            → (Has self.old.unsettled block × (slice_index self.new.asks block ≡ slice_index self.old.asks block))
+        ensures asks { (block : ℕ) → slice_index self.new.others block ≢ 0
+            → ((slice_index self.old.others block ≢ 0)
+            × (slice_index self.new.asks block ≡ slice_index self.old.asks block))
             ⊎ (copied ≡ Err (slice_index self.new.asks block)) }
     {
         match copied {
             Ok(true) => {
                 set_homes(&mut self.blocks, first, targets);
-                self.unsettled = difference(self.unsettled, set_of(targets));
+                settle(&mut self.others, targets);
             }
             Ok(false) => {}
             Err(id) => {
-                self.unsettled |= set_of(targets);
+                add_homes(&mut self.others, first, targets);
                 ask(&mut self.asks, targets, id as u8);
             }
         }
@@ -66,14 +66,15 @@ impl Homes {
 }
 
 impl<'a, A: Allocator + Copy> KnownBytes<'a, A> {
-    /// For each block the one where replay finds it, its last committed copy or itself.
+    /// For each block the ones where replay may find it: its last committed copy, copies of which it is not known
+    /// whether they are that, and itself where it may have none.
     ///
     /// It is asked of each header whether it is there; none need be known. Of a block whose home hangs on several
     /// patches the first of these is told: of its last transaction the commit, then the commits before it, the earliest
     /// first, and then whether it is done. An error is a patch on which it hangs what a header is.
     pub(crate) fn homes(&self) -> Result<Homes, usize>
         ensures ok { IfOk result (λ homes. AreHomes (record { family = self.now; replayed = true })
-            homes.blocks homes.unsettled homes.asks) }
+            homes.blocks homes.others homes.asks) }
         ensures err { IfErr result (IsUndecided self.now) }
     {
         let end = 4 + self.base().journal();
@@ -127,23 +128,35 @@ fn set_homes(homes: &mut [u8; 128], first: usize, targets: &[u8])
     }
 }
 
-/// The blocks as a set.
-fn set_of(blocks: &[u8]) -> u128
-    requires { All (λ block. block < 128) blocks.now }
-    ensures { (block : ℕ) → Has result block ↔ IsAmong blocks.now (length blocks.now) block }
+/// Leaves the targets no other homes.
+fn settle(others: &mut [u128; 128], targets: &[u8])
+    requires { All (λ target. target < 128) targets.now }
+    ensures settled { (block : ℕ) → IsAmong targets.now (length targets.now) block → slice_index others.new block ≡ 0 }
+    ensures kept { (block : ℕ) → IsAmong targets.now (length targets.now) block
+        ⊎ (slice_index others.new block ≡ slice_index others.old block) }
 {
-    let mut set = 0;
-    for block in blocks {
-        set = with(set, usize::from(*block));
+    for block in targets {
+        others[usize::from(*block)] = 0;
     }
-    set
+}
+
+/// Gives each target another home, from the block `first` on.
+fn add_homes(others: &mut [u128; 128], first: usize, targets: &[u8])
+    requires few { first + length targets.now ≤ 128 }
+    requires known { All (λ target. target < 128) targets.now }
+    ensures { AreAdded others.old others.new first targets.now (length targets.now) }
+{
+    for m in 0..targets.len() {
+        let block = usize::from(targets[m]);
+        others[block] = with(others[block], first + m);
+    }
 }
 
 /// Has each of the blocks hang on a patch.
 fn ask(asks: &mut [u8; 128], blocks: &[u8], id: u8)
     requires { All (λ block. block < 128) blocks.now }
     ensures new { (block : ℕ) → IsAmong blocks.now (length blocks.now) block → slice_index asks.new block ≡ id }
-    ensures others { (block : ℕ) → (slice_index asks.new block ≡ id)
+    ensures kept { (block : ℕ) → IsAmong blocks.now (length blocks.now) block
         ⊎ (slice_index asks.new block ≡ slice_index asks.old block) }
 {
     for block in blocks {

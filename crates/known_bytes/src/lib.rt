@@ -11,6 +11,7 @@ mod byte_set;
 mod bytes;
 mod chains;
 mod counts;
+mod directories;
 mod disk;
 mod faults;
 mod headers;

@@ -1,15 +1,17 @@
 //! The inodes that entries lead to from the root, on all disks of a family at once.
 
-ghost use Rattle.std.specs.Prelude.{◌≡◌, ◌==◌, ◌<◌, ◌⊎◌, ◌&&◌, ℕ, IfErr, IsTrue, MatchOption, Ok, bit_and, false, true};
+ghost use Rattle.std.specs.Prelude.{◌≡◌, ◌==◌, ◌<◌, ◌⊎◌, ◌&&◌, ℕ, IfOk, IfErr, IfSome, IsTrue, MatchOption, Ok, bit_and, false, true};
+ghost use Rattle.known_bytes.specs.Directories.{IsFound};
 ghost use Rattle.known_bytes.specs.Family.{IsUndecided};
 ghost use Rattle.patch_sets.specs.Sets.{Has};
-ghost use Rattle.crash_model.specs.Layout.{kind_of, pointer_of};
+ghost use Rattle.crash_model.specs.Layout.{kind_of, pointer_of, counts};
 ghost use Rattle.crash_model.specs.Strict.{is_lost, lacks_block, is_reached};
 ghost use Rattle.crash_model.specs.declared.disk_bytes.TheConstants.{DIRECTORY_KIND};
 ghost use Rattle.known_bytes.specs.Reached.{names_live, IsReach, ReachesNoOther, NamesNoOther};
 ghost use Rattle.known_bytes.specs.Reading.{Reading, InEachDisk, IsKnown};
 
 use crate::answers::{both, negation, never_holds};
+use crate::directories::Directory;
 use crate::disk::KnownDisk;
 use crash_model::disk_bytes::DIRECTORY_KIND;
 use patch_sets::ends::{lowest, without};
@@ -134,18 +136,27 @@ impl Reach {
 }
 
 impl<'a, A: Allocator + Copy> KnownDisk<'a, A> {
-    /// Whether an entry of a directory leads to an inode, and the inode is in use.
-    fn names_live(&self, dir: u8, inode: u8) -> Result<bool, usize>
+    /// Whether an entry of a directory leads to an inode, and the inode is in use. The directory was looked for.
+    fn names_live(
+        &self,
+        dir: u8,
+        found: Result<Option<Directory>, usize>,
+        inode: u8,
+    ) -> Result<bool, usize>
         requires dir { dir < 16 }
         requires inode { inode < 16 }
+        requires ok { IfOk found (λ it. MatchOption it (InEachDisk self.now (λ d. counts d dir ≡ false))
+            (λ it. IsFound self.now dir it.block it.counts)) }
+        requires within { IfOk found (λ it. IfSome it (λ it. it.block < self.now.family.base.blocks)) }
+        requires err { IfErr found (IsUndecided self.now.family) }
         ensures { IsKnown self.now (names_live dir inode) result }
     {
         let is_live = self.is_live(inode);
         if never_holds(is_live) {
             return Ok(false);
         }
-        let is_named = match self.leads_in(dir, inode) {
-            Ok(count) => count.reach(1),
+        let is_named = match found {
+            Ok(directory) => self.leads_in(dir, directory, inode).reach(1),
             Err(id) => Err(id),
         };
         both(is_live, is_named)
@@ -161,9 +172,10 @@ impl<'a, A: Allocator + Copy> KnownDisk<'a, A> {
     {
         // For the proof: how many patches every graph has at most.
         let _base = self.base();
+        let found = self.directory(dir);
         for inode in 0..16u8 {
             if !reach.is_settled(usize::from(dir), usize::from(inode)) {
-                let named = self.names_live(dir, inode);
+                let named = self.names_live(dir, found, inode);
                 reach.add(usize::from(dir), usize::from(inode), named);
             }
         }

@@ -17,7 +17,7 @@ is_none (Ok false) h = refl
 is_none (Err id) h = absurd (cc)
 
 pub loop-at-init : goal.loop-at-init
-loop-at-init g c = walking_start c.args.self.now c.own-homes.result.blocks c.own-homes.result.unsettled
+loop-at-init g c = walking_start c.args.self.now c.own-homes.result.blocks c.own-homes.result.others
     c.own-homes.result.asks c.base.ensures.disk c.own-homes.ensures.own c.own-homes.ensures.settled
 
 pub returns-in_default-clause-ok : goal.returns-in_default-clause-ok
@@ -26,7 +26,7 @@ returns-in_default-clause-ok g c =
     let at = c.loop-at.at in
     let none = subst (λ (o : Option _). MatchOption o (HasNoHeader f at) (λ ts. HasTargets f at ts.items)) c.in_default.is
     c.in_ok-targets.ensures.ok in
-    walking_end f c.loop-at.homes.blocks c.loop-at.homes.unsettled c.loop-at.homes.asks at c.loop-at.turn c.loop-at.comes
+    walking_end f c.loop-at.homes.blocks c.loop-at.homes.others c.loop-at.homes.asks at c.loop-at.turn c.loop-at.comes
     c.base.ensures.alike (λ set m. none set m c.loop-at.turn) c.loop-at.invariant
 
 pub returns-then-not-may_have-clause-ok : goal.returns-then-not-may_have-clause-ok
@@ -40,7 +40,7 @@ returns-then-not-may_have-clause-ok g c =
     ap (λ (d : Disk). may_have d at ts) (sym c.base-in-loop-at.ensures.base)
     ∙ ap (λ (xs : List ℕ). may_have c.base-in-loop-at.result.now at xs) (sym c.deref.ensures.0)
     ∙ sym c.may_have.ensures ∙ c.if-not-may_have.true in
-    walking_end f c.loop-at.homes.blocks c.loop-at.homes.unsettled c.loop-at.homes.asks at c.loop-at.turn c.loop-at.comes
+    walking_end f c.loop-at.homes.blocks c.loop-at.homes.others c.loop-at.homes.asks at c.loop-at.turn c.loop-at.comes
     c.base.ensures.alike (λ set m. none_may f at ts c.base.ensures.alike shape never
     (omega (arith, c.loop-at.invariant.inside, c.loop-at-test.true, c.journal-end.ensures.value, c.base.ensures.disk.room))
     set m c.loop-at.turn) c.loop-at.invariant
@@ -61,7 +61,7 @@ returns-then-eq-clause-ok g c =
     let none = subst (λ (r : Result Bool ℕ). IsKnown (left f) (λ d. is_header d at turn (block_of d at)) r)
     (is_none c.has_header-is_there.result c.if-eq.ensures)
     c.has_header-is_there.ensures in
-    walking_end f c.loop-at.homes.blocks c.loop-at.homes.unsettled c.loop-at.homes.asks at turn c.loop-at.comes
+    walking_end f c.loop-at.homes.blocks c.loop-at.homes.others c.loop-at.homes.asks at turn c.loop-at.comes
     c.base.ensures.alike none c.loop-at.invariant
 
 pub note-requires-clause-known : goal.note-requires-clause-known
@@ -109,18 +109,18 @@ loop-at-preserved g c =
     let next = c.both-comes.ensures (left f) test (λ d. is_header d at turn (block_of d at)) c.loop-at.invariant.known
     c.has_header-is_there.ensures in
     let new = c.note.new.self in
-    subst (λ (n : ℕ). IsWalking f new.blocks new.unsettled new.asks (at + (1 + n)) (turn + 1) c.both-comes.result)
+    subst (λ (n : ℕ). IsWalking f new.blocks new.others new.asks (at + (1 + n)) (turn + 1) c.both-comes.result)
     (sym c.len.ensures.value)
-    (walking_step f c.loop-at.homes.blocks new.blocks c.loop-at.homes.unsettled new.unsettled c.loop-at.homes.asks new.asks
+    (walking_step f c.loop-at.homes.blocks c.loop-at.homes.others new.blocks new.others c.loop-at.homes.asks new.asks
     at turn c.loop-at.comes ts c.base.ensures.disk c.base.ensures.alike c.loop-at.invariant may shape
     c.has_header-is_there.result c.both-copied.result c.both-comes.result c.has_header-is_there.ensures copied next
-    (subst (λ (xs : List ℕ). AreNoted c.both-copied.result c.loop-at.homes.blocks c.loop-at.homes.unsettled new.blocks
-    new.unsettled (at + 1) xs) c.deref-in-loop-at-2.ensures.0 c.note.ensures.noted) c.note.ensures.asks)
+    (subst (λ (xs : List ℕ). AreNoted c.both-copied.result c.loop-at.homes.blocks c.loop-at.homes.others new.blocks
+    new.others (at + 1) xs) c.deref-in-loop-at-2.ensures.0 c.note.ensures.noted) c.note.ensures.asks)
 
 pub returns-clause-ok : goal.returns-clause-ok
 returns-clause-ok g c =
     let f = c.args.self.now in
-    walking_end f c.loop-at.homes.blocks c.loop-at.homes.unsettled c.loop-at.homes.asks c.loop-at.at c.loop-at.turn
+    walking_end f c.loop-at.homes.blocks c.loop-at.homes.others c.loop-at.homes.asks c.loop-at.at c.loop-at.turn
     c.loop-at.comes c.base.ensures.alike
     (out_of_journal f c.loop-at.at c.loop-at.turn c.base.ensures.alike
     (omega (arith, c.loop-at-test.false, c.journal-end.ensures.value, ap (λ (d : Disk). d.journal) c.base.ensures.base)))

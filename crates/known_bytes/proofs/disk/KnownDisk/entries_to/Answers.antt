@@ -21,10 +21,10 @@ loop-dir-preserved g c =
     let w = c.loop-dir.invariant in
     record {
       right = c.plus-count.ensures.right;
-      few = omega (arith, c.plus-count.ensures.most, w.few, c.in_ok-leads_in.ensures.few);
+      few = omega (arith, c.plus-count.ensures.most, w.few, c.leads_in.ensures.few);
       bounds = dirs_more r i c.loop-dir.dir n.least n.most n.ask (c.plus-count.ensures.counted r
           (λ d. length (each_below c.loop-dir.dir (λ dir. some_below 10 (entry_at d i dir))))
-          (λ d. entries_in 10 d i c.loop-dir.dir) w.bounds c.in_ok-leads_in.ensures.ok);
+          (λ d. entries_in 10 d i c.loop-dir.dir) w.bounds c.leads_in.ensures.count);
     }
 
 pub returns-clause-ok : goal.returns-clause-ok

@@ -24,20 +24,20 @@ loop-k-init g c =
 pub loop-k-preserved : goal.loop-k-preserved
 loop-k-preserved g c =
     let r = c.args.self.now in
-    let block = c.args.block in
+    let block = c.args.directory.block in
     let dir = c.args.dir in
     let i = c.args.inode in
     let k = c.loop-k.k in
     let n = c.with-count.result in
     let w = c.loop-k.invariant in
-    let one = subst (λ (n : ℕ). IsKnown r (λ d. byte d n (8 + 12 * c.from-in-loop-k.result) == i + 1) c.byte_is-names.result)
-    c.from.ensures c.byte_is-names.ensures in
+    let one = subst (λ (n : ℕ). IsKnown r (λ d. byte d n (8 + 12 * c.from.result) == i + 1) c.byte_is-names.result)
+    c.from-block.ensures c.byte_is-names.ensures in
     let names = subst (λ (n : ℕ). IsKnown r (λ d. byte d block (8 + 12 * n) == i + 1) c.byte_is-names.result)
-    c.from-in-loop-k.ensures one in
+    c.from.ensures one in
     let leads = known_in r (λ d. counts_at dir block d && (byte d block (8 + 12 * k) == i + 1)) (λ d. leads_to d dir k i)
     c.both.result
-    (λ set m. leads_is (disk_of r (image_of r.family.base r.family.patches set)) dir k block i (c.requires.its set m))
-    (c.both.ensures r (counts_at dir block) (λ d. byte d block (8 + 12 * k) == i + 1) c.counts_at-is_counted.ensures names) in
+    (λ set m. leads_is (disk_of r (image_of r.family.base r.family.patches set)) dir k block i (c.requires.found.its set m))
+    (c.both.ensures r (counts_at dir block) (λ d. byte d block (8 + 12 * k) == i + 1) c.requires.found.known names) in
     record {
       right = c.with-count.ensures.right;
       few = omega (arith, c.with-count.ensures.few, w.few);

@@ -1,9 +1,11 @@
-use Rattle.std.proofs.Common.{ℕ, Bool, Result, ◌&&◌, ap, sym, subst}
-use Rattle.std.specs.Prelude.{nat_le}
+use Rattle.std.proofs.Common.{ℕ, Bool, Result, Option, ◌&&◌, ap, sym, subst}
+use Rattle.std.specs.Prelude.{nat_le, IfErr}
 use Rattle.crash_model.specs.Layout.{is_live}
 use Rattle.crash_model.specs.Patches.{image_of}
 use Rattle.known_bytes.specs.Counts.{entries_in}
+use Rattle.known_bytes.specs.Family.{IsUndecided}
 use Rattle.known_bytes.specs.Reading.{IsKnown, disk_of}
+use Rattle.known_bytes.specs.declared.directories.Directory.{Directory}
 use Rattle.known_bytes.specs.Reached.{names_live}
 use Rattle.crash_model.specs.Strict.{has_entry_to}
 use Rattle.known_bytes.proofs.Answered.{known_as, both_none}
@@ -24,12 +26,12 @@ returns g c =
     let r = c.args.self.now in
     let dir = c.args.dir in
     let i = c.args.inode in
-    let there : IsKnown r (λ d. nat_le 1 (entries_in 10 d i dir)) c.match-leads_in.is_named =
-    elim c.match-leads_in.branch [
+    let there : IsKnown r (λ d. nat_le 1 (entries_in 10 d i dir)) c.match-found.is_named =
+    elim c.match-found.branch [
       | in-Ok w ↦ subst (λ (a : Result Bool ℕ). IsKnown r (λ d. nat_le 1 (entries_in 10 d i dir)) a) (sym w.is_named-is)
-          (w.reach-is_named.ensures r (λ d. entries_in 10 d i dir) w.in-Ok.ensures.ok)
+          (w.reach-is_named.ensures r (λ d. entries_in 10 d i dir) w.leads_in.ensures.count)
       | in-Err w ↦ subst (λ (a : Result Bool ℕ). IsKnown r (λ d. nat_le 1 (entries_in 10 d i dir)) a) (sym w.is_named-is)
-          w.in-Err.ensures.err
+          (subst (λ (a : Result (Option Directory) ℕ). IfErr a (IsUndecided r.family)) w.in-Err.is c.requires.err)
     ] in
     known_as r (λ d. is_live d i && nat_le 1 (entries_in 10 d i dir)) (names_live dir i) c.both.result
     (λ set. ap (λ (b : Bool). is_live (disk_of r (image_of r.family.base r.family.patches set)) i && b)
