@@ -27,6 +27,9 @@ JOBS = 4
 REPORT = 17
 """The number of a case of the seed that is a short report in text, and a decision where the options have one."""
 
+ENOUGH = 24
+"""The number of a case of the seed that asks which rules are enough, where the options have that question."""
+
 SMALLEST = 5
 """The number of a big case of the seed that the reference answers within a second or two."""
 
@@ -101,6 +104,12 @@ class TheComparison(unittest.TestCase):
         self.assertEqual(self.compared("right", level="deciding", runs=2), [])
         self.assertEqual(len(self.compared("status", level="deciding", runs=2)), 2)
         found = self.compared("workers", level="deciding", runs=2)
+        self.assertEqual([one.split(":")[0] for one in found], ["--workers 4"])
+
+    def test_compares_which_rules_are_enough(self):
+        self.assertEqual(self.compared("right", level="choosing", case=ENOUGH, runs=2), [])
+        self.assertEqual(len(self.compared("status", level="choosing", case=ENOUGH, runs=2)), 2)
+        found = self.compared("workers", level="choosing", case=ENOUGH, runs=2)
         self.assertEqual([one.split(":")[0] for one in found], ["--workers 4"])
 
     def test_compares_decisions_of_big_scripts(self):
