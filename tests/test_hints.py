@@ -4,12 +4,15 @@ case file can hold.
 Without a terminal the same cases run in test_cases.py, where standard error has the refusal's one line alone.
 """
 
+import os
+import tempfile
 import unittest
 
 from tests.case_files import CASES, read_case
 from tests.program import program
 from tests.terminal import on_terminal, typed_on_terminal
 
+MOST_SCRIPT_BYTES = 1 << 20
 CREATE = b"start\ncreate /a\n"
 CREATED = b"module soft\npatches 2\nclosed 3\nfailing 0\n"
 READS_INPUT = b"crashmap: reads a script from standard input, up to Ctrl-D; --help lists the options\r\n"
@@ -47,12 +50,30 @@ class Devices(unittest.TestCase):
         run = on_terminal([program(), "no/such/script"], b"")
         self.assert_refused(run, "crashmap: 50 cannot read the script$", "hint: no/such/script: .*[Nn]o such file")
 
+    def test_a_folder_as_a_script(self):
+        with tempfile.TemporaryDirectory() as folder:
+            run = on_terminal([program(), folder], b"")
+            self.assert_refused(run, "crashmap: 50 cannot read the script$", f"hint: {folder}: .*[Ii]s a directory")
+
+    def test_a_folder_as_standard_input(self):
+        folder = os.open("/", os.O_RDONLY)
+        self.addCleanup(os.close, folder)
+        run = on_terminal([program()], b"", stdin=folder)
+        self.assert_refused(run, "crashmap: 50 cannot read the script$",
+                            "hint: standard input cannot be read: name a file that has the script$")
+
+    def test_a_script_that_is_too_long(self):
+        run = on_terminal([program()], b"\n" * (MOST_SCRIPT_BYTES + 1))
+        self.assert_refused(run, "crashmap: 52 script too long$", "hint: a script has at most 1048576 bytes$",
+                            "hint: leave lines out; comments and empty lines count too$")
+
     def test_a_full_device_as_standard_output(self):
-        with open("/dev/full", "wb") as full:
-            run = on_terminal([program()], CREATE, stdout=full)
-        self.assert_refused(run, "crashmap: 51 cannot write the report$",
-                            "hint: standard output does not take all that is told$",
-                            "hint: see that its disk has room, and that the program which reads it still runs$")
+        for words in ((), ("--help",)):
+            with open("/dev/full", "wb") as full:
+                run = on_terminal([program(), *words], CREATE, stdout=full)
+            self.assert_refused(run, "crashmap: 51 cannot write the report$",
+                                "hint: standard output does not take all that is told$",
+                                "hint: see that its disk has room, and that the program which reads it still runs$")
 
 
 class StandardInput(unittest.TestCase):

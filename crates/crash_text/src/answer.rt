@@ -15,7 +15,7 @@ use devices::sink::Sink;
 use devices::source::{Source, read_to_end};
 use devices::standard::Counted;
 use explorers::{Gate, OpenGate};
-use hints::{Asked, hint_of, warnings_of};
+use hints::{Asked, hint_of, output_hint, warnings_of};
 use std::alloc::Allocator;
 use std::fs::File;
 use std::io::{self, Read, Write};
@@ -72,7 +72,7 @@ where
             let (mut source, mut sink) = (Counted::new(input), Counted::new(out));
             answer_call(host, &call, &mut source, &mut sink, err, gate)
         }
-        Err(error) => tell(out, err, error),
+        Err(error) => tell(host, out, err, error),
     }
 }
 
@@ -114,6 +114,16 @@ where
         Ok(script) => answer_script(host, call, script.as_slice(), sink, err, gate),
         Err(fault) => {
             let status = refuse(err, fault);
+            let settings = &call.request.settings;
+            write_hint(
+                host,
+                Asked {
+                    script: &[],
+                    settings,
+                },
+                fault,
+                err,
+            );
             write_reason(host, call, fault, err);
             status
         }
@@ -193,7 +203,7 @@ where
     }
 }
 
-/// Writes the system's reason why the script's file cannot be opened, where the host gives hints.
+/// Writes why the script cannot be read, with the system's reason for a file, where the host gives hints.
 fn write_reason<R, A, E>(host: &Host<'_, R, A>, call: &Call<'_>, fault: RunFault, err: &mut E)
 where
     R: Files,
@@ -203,11 +213,25 @@ where
     if !host.gives_hints || fault != RunFault::CannotRead {
         return;
     }
-    if let Some(name) = call.script {
-        if let Err(error) = File::open(host.rt, name) {
-            let _ = write!(err, "hint: {name}: {error}\n");
-        }
+    let Some(name) = call.script else {
+        let _ = err.write_all(
+            b"hint: standard input cannot be read: name a file that has the script\n",
+        );
+        return;
+    };
+    if let Err(error) = read_first(host, name) {
+        let _ = write!(err, "hint: {name}: {error}\n");
     }
+}
+
+/// Opens a file and reads its first byte, or says why that cannot be.
+fn read_first<R, A>(host: &Host<'_, R, A>, name: &str) -> io::Result<usize>
+where
+    R: Files,
+    A: Allocator + Copy,
+{
+    let mut file = File::open(host.rt, name)?;
+    file.read(&mut [0])
 }
 
 /// The exit status of a report with this number of failing sets or faults.
@@ -275,7 +299,11 @@ pub fn refuse<E: Write>(err: &mut E, fault: RunFault) -> u8
 }
 
 /// Prints what `clap` says of a command line: help and the version on `out`, a fault on `err`.
-fn tell<O: Write, E: Write>(out: &mut O, err: &mut E, error: clap::Error) -> u8
+fn tell<R, A, O, E>(host: &Host<'_, R, A>, out: &mut O, err: &mut E, error: clap::Error) -> u8
+where
+    A: Allocator + Copy,
+    O: Write,
+    E: Write,
     ensures { result ≤ 2 }
 {
     if error.kind() == ErrorKind::OutOfMemory {
@@ -285,8 +313,13 @@ fn tell<O: Write, E: Write>(out: &mut O, err: &mut E, error: clap::Error) -> u8
         let _ = write!(err, "{error}");
         return REFUSED;
     }
-    match write!(out, "{error}") {
-        Ok(()) => 0,
-        Err(_) => refuse(err, RunFault::CannotWrite),
+    if write!(out, "{error}").is_ok() {
+        return 0;
     }
+    let status = refuse(err, RunFault::CannotWrite);
+    if host.gives_hints {
+        let hint = output_hint();
+        let _ = write!(err, "{hint}");
+    }
+    status
 }
