@@ -1,12 +1,14 @@
 """A workload: a base with traced steps, whose sets can be judged under any rules."""
 
-from .closed_sets import closed_sets
+from .closed_sets import closed_sets, is_closed
 from .needs import pairs_of
+from .refusals import TooMuch
 from .script import spelled
 from .summary import counted_faults
 from .trace import trace
 from .verdicts import Judge
 
+NOT_YET = object()
 
 class Work:
     """A base with traced steps, and what is asked of the sets of their patches."""
@@ -15,10 +17,18 @@ class Work:
         self.base, self.steps, self.settings = base, steps, settings
         self.judge = Judge(base, steps, settings)
         self.verdicts = {}
+        self.without_rules = NOT_YET
+        self.graphs = {}
 
     def graph(self, rules):
         """The patches under the rules."""
         return trace(self.base, self.steps, self.settings, rules)
+
+    def graph_by(self, rule):
+        """The patches where this is the only rule."""
+        if rule not in self.graphs:
+            self.graphs[rule] = self.graph((rule,))
+        return self.graphs[rule]
 
     def closed(self, rules):
         """All closed sets under the rules, without the limit of the settings."""
@@ -30,12 +40,28 @@ class Work:
 
     def matter(self, rules):
         """Those of the rules that put a pair of patches in order. The others change nothing."""
-        patches = self.graph(rules)
-        return [rule for rule in rules if pairs_of(rule, patches) > 0]
+        return [rule for rule in rules if pairs_of(rule, self.graph_by(rule)) > 0]
+
+    def failing_without_rules(self):
+        """The sets that fail where no rule puts anything in order, or None where there are too many sets."""
+        if self.without_rules is NOT_YET:
+            try:
+                self.without_rules = [one.patch_set for one in self.failing(())]
+            except TooMuch:
+                self.without_rules = None
+        return self.without_rules
+
+    def is_excluded(self, rule, patch_set):
+        """Whether the set is not closed where this is the only rule."""
+        return not is_closed(self.graph_by(rule), patch_set)
 
     def has_failing(self, rules):
-        """Whether a set fails under the rules, found anew."""
-        return bool(self.failing(rules))
+        """Whether a set fails under the rules. A set is closed under them where it is closed under each of them alone,
+        and no rule changes its image."""
+        without = self.failing_without_rules()
+        if without is None:
+            return bool(self.failing(rules))
+        return any(not any(self.is_excluded(rule, patch_set) for rule in rules) for patch_set in without)
 
     def first_fault(self, rules):
         """The first fault under the rules: (text, number of sets, first set)."""
