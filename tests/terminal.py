@@ -47,9 +47,17 @@ def on_terminal(words, text, stdin=subprocess.PIPE, stdout=subprocess.PIPE):
     with subprocess.Popen(words, stdin=stdin, stdout=stdout, stderr=other_end) as run:
         os.close(other_end)
         if run.stdin:
-            run.stdin.write(text)
-            run.stdin.close()
+            write_all(run.stdin, text)
         return shown_by(run, terminal, began)
+
+
+def write_all(pipe, text):
+    """Writes this text to a pipe and closes it. A program that ends early need not read all of it."""
+    try:
+        with pipe:
+            pipe.write(text)
+    except BrokenPipeError:
+        pass
 
 
 def typed_on_terminal(words, text, **options):
