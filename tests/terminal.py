@@ -2,6 +2,7 @@
 
 import os
 import pty
+import select
 import subprocess
 import termios
 import time
@@ -17,24 +18,27 @@ class Shown(NamedTuple):
     seconds: float
 
 
-def read_all(terminal):
-    """Returns all that the terminal shows, until everyone who could write to it has closed it."""
+CALM = 0.03
+"""How many seconds nothing comes from a terminal whose program has ended, when all has come."""
+
+
+def read_all(run, terminal):
+    """Returns all that the terminal shows until the run has ended."""
     shown = b""
     while True:
-        try:
-            more = os.read(terminal, 4096)
-        except OSError:
+        ended = run.poll() is not None
+        if select.select([terminal], [], [], CALM)[0]:
+            shown += os.read(terminal, 4096)
+        elif ended:
             return shown
-        if not more:
-            return shown
-        shown += more
 
 
-def shown_by(run, terminal, began):
-    """Waits for a run to end, and returns what it did."""
-    shown = read_all(terminal)
+def shown_by(run, terminal, other_end, began):
+    """Waits for a run to end, and returns what it did. The other end stays open so long, since a terminal may lose what
+    was written last when nobody has it open any more."""
+    shown = read_all(run, terminal)
     output = run.stdout.read() if run.stdout else b""
-    run.wait()
+    os.close(other_end)
     os.close(terminal)
     return Shown(run.returncode, output, shown, time.monotonic() - began)
 
@@ -45,10 +49,9 @@ def on_terminal(words, text, stdin=subprocess.PIPE, stdout=subprocess.PIPE):
     terminal, other_end = pty.openpty()
     began = time.monotonic()
     with subprocess.Popen(words, stdin=stdin, stdout=stdout, stderr=other_end) as run:
-        os.close(other_end)
         if run.stdin:
             write_all(run.stdin, text)
-        return shown_by(run, terminal, began)
+        return shown_by(run, terminal, other_end, began)
 
 
 def write_all(pipe, text):
@@ -69,6 +72,5 @@ def typed_on_terminal(words, text, **options):
     termios.tcsetattr(other_end, termios.TCSANOW, attributes)
     began = time.monotonic()
     with subprocess.Popen(words, stdin=other_end, stdout=subprocess.PIPE, stderr=other_end, **options) as run:
-        os.close(other_end)
         os.write(terminal, text + b"\x04")
-        return shown_by(run, terminal, began)
+        return shown_by(run, terminal, other_end, began)
