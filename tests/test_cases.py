@@ -19,7 +19,7 @@ from tests.program import program
 EXPLORERS = ("board", "sweep")
 WORKERS = ("1", "2", "8", "16")
 # No explorer is added beside these options: the words name one, or nothing is explored.
-NO_EXPLORER_BESIDE = ("--explorer", "--decide", "--enough")
+NO_EXPLORER_BESIDE = ("--explorer", "--decide", "--enough", "--search")
 SECONDS = 120
 MOST_LINES = 20
 MOST_LETTERS = 160

@@ -4,7 +4,7 @@ import re
 import subprocess
 import unittest
 
-from tests.program import program
+from tests.program import ROOT, program
 from tests.terminal import on_terminal
 
 # A file is written, and then one is created whose entry does not wait for its inode; eight more are written, three of
@@ -26,6 +26,7 @@ SAFE_WORDS = ("--limit", "1000000000", "--blocks", "64")
 
 WIPED = b"\r\x1b[K"
 LINE = re.compile(rb"([0-9]+) sets visited, ([0-9]+) failing")
+WORKLOADS = re.compile(rb"([0-9]+) workloads judged, ([0-9]+) failing")
 
 
 class Progress(unittest.TestCase):
@@ -45,6 +46,19 @@ class Progress(unittest.TestCase):
             numbers = [int(line[which]) for line in lines]
             self.assertEqual(numbers, sorted(numbers))
             self.assertLessEqual(numbers[-1], most)
+
+    def test_a_long_search_on_a_terminal(self):
+        pool = ROOT / "pools" / "all-operations-on-a-file-and-directory.script"
+        run = on_terminal([program(), "--blocks", "24", "--search", "4"], pool.read_bytes())
+        self.assertEqual((run.status, run.output[:21]), (0, b"module soft\nsearch 4\n"))
+        before, *shown, after = run.terminal.split(WIPED)
+        self.assertEqual((before, after), (b"", b""), "the line is gone at the end")
+        self.assertTrue(shown, "four operations take more than a second")
+        workloads = int(re.search(rb"^workloads ([0-9]+)$", run.output, re.MULTILINE)[1])
+        for line in shown:
+            numbers = WORKLOADS.fullmatch(line)
+            self.assertLessEqual(int(numbers[1]), workloads)
+            self.assertEqual(int(numbers[2]), 0)
 
     def test_a_safe_script_on_a_terminal(self):
         run = on_terminal([program(), *SAFE_WORDS], SAFE)

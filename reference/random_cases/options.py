@@ -108,6 +108,11 @@ def choose(case, chance):
     ask_one_of(case, chance, ["decide", "enough", "none"])
 
 
+def search(case, chance):
+    """Asks for a decision, for the rules that are enough, or for a search, in three quarters of the cases."""
+    ask_one_of(case, chance, ["decide", "enough", "search", "none"])
+
+
 def ask_one_of(case, chance, questions):
     """Asks one of the questions, of which `none` leaves the case as it is."""
     question = chance.choice(questions)

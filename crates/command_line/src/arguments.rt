@@ -31,6 +31,8 @@ enum Takes {
     Rule,
     /// A number from the first to the second, else the default.
     Number(&'static str, i64, i64, &'static str),
+    /// A number from the first to the second, and the option goes with none of the others.
+    NumberWithout(&'static str, i64, i64, &'static [&'static str]),
     /// One of the words, else the default.
     OneOf(&'static str, &'static [&'static str], &'static str),
 }
@@ -41,7 +43,9 @@ impl Takes {
         match self {
             Takes::Nothing | Takes::NothingWithout(_) => ArgAction::SetTrue,
             Takes::Rule => ArgAction::Append,
-            Takes::Itself | Takes::Number(..) | Takes::OneOf(..) => ArgAction::Set,
+            Takes::Itself | Takes::Number(..) | Takes::NumberWithout(..) | Takes::OneOf(..) => {
+                ArgAction::Set
+            }
         }
     }
 }
@@ -164,6 +168,17 @@ static HEADS: [Head; 5] = [
                 help: "Find the smallest sets of the ordering's rules that are enough, and each group of which one \
                        rule is needed, with the crash that comes without it",
             },
+            Entry {
+                name: "search",
+                takes: Takes::NumberWithout(
+                    "N",
+                    1,
+                    8,
+                    &["decide", "enough", "limit", "explorer", "summary", "needs"],
+                ),
+                help: "Try every workload of up to N operations, 1 to 8, out of the script's lines behind `start`, and \
+                       show the first that fails for each kind of fault",
+            },
         ],
     },
     // What the report tells, and in which form.
@@ -243,6 +258,11 @@ fn taking<'a>(arg: Arg<'a>, takes: &'static Takes) -> Result<Arg<'a>, AllocError
         Takes::Number(symbol, from, until, default) => {
             let among = value_parser!(usize).range(*from..=*until);
             Ok(set(arg, symbol, default).value_parser(among))
+        }
+        Takes::NumberWithout(symbol, from, until, others) => {
+            let among = value_parser!(usize).range(*from..=*until);
+            let number = arg.value_name(symbol).value_parser(among);
+            number.conflicts_with_all(others)
         }
         Takes::OneOf(symbol, words, default) => {
             Ok(set(arg, symbol, default).value_parser(*words))

@@ -9,6 +9,7 @@ use clap::ArgMatches;
 use crash_model::modules::Module;
 use crash_model::settings::{Explorer, ReportBy};
 use questions::Question;
+use search_model::Most;
 
 /// The most sets that the board holds.
 const MAX_BOARD: usize = 32_768;
@@ -76,13 +77,19 @@ pub(crate) fn report_by(matches: &ArgMatches<'_>) -> ReportBy {
     }
 }
 
-/// What to find out: each failing set, each fault with `--decide`, or which rules are enough with `--enough`.
+/// What to find out: each failing set, each fault with `--decide`, which rules are enough with `--enough`, or which
+/// workloads fail with `--search`.
 pub(crate) fn question_of(matches: &ArgMatches<'_>) -> Question {
     if matches.get_flag("decide") {
         Question::Decide
     } else if matches.get_flag("enough") {
         Question::Enough
     } else {
-        Question::Visit
+        searched(matches).map_or(Question::Visit, Question::Search)
     }
+}
+
+/// The most operations of a workload, where workloads are to be searched.
+fn searched(matches: &ArgMatches<'_>) -> Option<Most> {
+    Most::new(matches.get_one::<usize>("search")?)
 }

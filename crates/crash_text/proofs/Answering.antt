@@ -1,10 +1,10 @@
 -- What the parts of a run find makes its answer.
-use Rattle.std.proofs.Common.{◌≡◌, ◌≢◌, ℕ, List, Ok, Bool, true, false, refl, subst, sym, inl, inr}
+use Rattle.std.proofs.Common.{◌≡◌, ◌≢◌, ℕ, List, Ok, Err, Bool, true, false, refl, subst, sym, inl, inr}
 use Rattle.crash_model.specs.Answer.{Refused, Reported, HasBase, IsAnswer, bad_geometry, bad_base, bad_trace, too_many}
-use Rattle.crash_model.specs.Answer.{reported}
+use Rattle.crash_model.specs.Answer.{reported, bad_script}
 use Rattle.crash_model.specs.Disk.{Disk, IsGeometry, empty_disk}
 use Rattle.crash_model.specs.Refusals.{run_of_script, run_of_trace}
-use Rattle.crash_model.specs.Script.{IsScript}
+use Rattle.crash_model.specs.Script.{IsScript, IsScriptRefusal}
 use Rattle.crash_model.specs.Trace.{base_from}
 use Rattle.crash_model.specs.declared.refusals.RunFault.{RunFault}
 use Rattle.crash_model.specs.declared.refusals.RunFault.TheVariants.{BadGeometry, TooMany}
@@ -16,9 +16,13 @@ use Rattle.crash_model.specs.declared.settings.Settings.{Settings}
 use Rattle.crash_model.specs.declared.steps.Step.{Step}
 use Rattle.questions.specs.Answers.{IsAnswerTo}
 use Rattle.questions.specs.declared.Question.{Question}
-use Rattle.questions.specs.declared.Question.TheVariants.{Visit, Decide, Enough}
+use Rattle.questions.specs.declared.Question.TheVariants.{Visit, Decide, Enough, Search}
+use Rattle.search_model.specs.declared.most.Most.{Most}
+use Rattle.search_model.specs.SearchReport.{IsSearchRefusal, before_the_pool, no_operation}
+use Rattle.worked_example_laws.proofs.Scripts.{read_or_refused, script_one}
 use Rattle.crash_text.specs.BaseRefusal.{IsBaseRefusal}
-use Rattle.crash_text.specs.Telling.{AreReported, AreRefused}
+use Rattle.crash_text.specs.Searching.{IsNoPool, IsSearchOf}
+use Rattle.crash_text.specs.Telling.{AreReported, AreRefused, IsOfSteps}
 
 -- whether a refusal is for too many closed sets
 abbrev pub is_too_many : RunFault → Bool
@@ -49,35 +53,60 @@ module _ (bytes : List ℕ) (settings : Settings) where
   not_too_many fault other same =
       let many : is_too_many fault ≡ true = subst (λ f. is_too_many f ≡ true) (sym same) refl in cc
 
-  -- a refusal that is not for too many closed sets answers each question
-  refused_to : (question : Question) (fault : RunFault) → is_too_many fault ≡ false
-      → IsAnswer bytes settings (Refused fault) → IsAnswerTo question bytes settings (Refused fault)
-  refused_to Visit fault other is = is
-  refused_to Decide fault other is = (is, not_too_many fault other)
-  refused_to Enough fault other is = (is, not_too_many fault other)
+  -- there is no base, so no step behind the start line is asked about
+  abbrev HasNone : Type 0
+  HasNone = (base : Disk) (steps : List Step) → ¬ (HasBase bytes settings base steps)
 
-  pub refused_script : (question : Question) (fault : ScriptFault)
-      → IsAnswer bytes settings (Refused (run_of_script fault))
+  -- a refusal that is not for too many closed sets answers each question about steps
+  refused_of : (question : Question) (fault : RunFault) → IsOfSteps question → is_too_many fault ≡ false
+      → IsAnswer bytes settings (Refused fault) → IsAnswerTo question bytes settings (Refused fault)
+  refused_of Visit fault asked other is = is
+  refused_of Decide fault asked other is = (is, not_too_many fault other)
+  refused_of Enough fault asked other is = (is, not_too_many fault other)
+  refused_of (Search most) fault asked other is = absurd asked
+
+  -- and without a base each question
+  refused_to : (question : Question) (fault : RunFault) → HasNone → is_too_many fault ≡ false
+      → IsAnswer bytes settings (Refused fault) → IsAnswerTo question bytes settings (Refused fault)
+  refused_to Visit fault none other is = is
+  refused_to Decide fault none other is = refused_of Decide fault tt other is
+  refused_to Enough fault none other is = refused_of Enough fault tt other is
+  refused_to (Search most) fault none other is = before_the_pool fault is none
+
+  pub refused_script : (question : Question) (fault : ScriptFault) → IsScriptRefusal bytes fault
       → IsAnswerTo question bytes settings (Refused (run_of_script fault))
-  refused_script question fault is = refused_to question (run_of_script fault) (script_is_not fault) is
+  refused_script question fault is = refused_to question (run_of_script fault)
+      (λ base steps start. read_or_refused bytes start.before steps fault start.read is) (script_is_not fault)
+      (bad_script fault is)
+
+  -- a step before the start line is refused
+  no_base : (before steps : List Step) (why : TraceFault) → IsScript bytes before steps
+      → base_from (empty_disk settings.blocks settings.journal) before ≡ Err why → HasNone
+  no_base before steps why read bad base others start =
+      let same : before ≡ start.before = (script_one bytes before steps start.before others read start.read).0 in
+      let built : base_from (empty_disk settings.blocks settings.journal) before ≡ Ok base =
+      subst (λ (s : List Step). base_from (empty_disk settings.blocks settings.journal) s ≡ Ok base) (sym same)
+      start.built in
+      cc
 
   pub refused_base : (question : Question) (before steps : List Step) (fault : RunFault) → IsScript bytes before steps
       → IsBaseRefusal settings before fault → IsAnswerTo question bytes settings (Refused fault)
   refused_base question before steps fault read (inl bad) =
       subst (λ f. IsAnswerTo question bytes settings (Refused f)) (sym bad.1)
-      (refused_to question BadGeometry refl (bad_geometry before steps read bad.0))
+      (refused_to question BadGeometry (λ base others start. bad.0 start.geometry) refl
+      (bad_geometry before steps read bad.0))
   refused_base question before steps fault read (inr bad) =
       subst (λ f. IsAnswerTo question bytes settings (Refused f)) (sym bad.1.2)
-      (refused_to question (run_of_trace bad.1.0) (trace_is_not bad.1.0)
+      (refused_to question (run_of_trace bad.1.0) (no_base before steps bad.1.0 read bad.1.1) (trace_is_not bad.1.0)
       (bad_base before steps bad.1.0 read bad.0 bad.1.1))
 
-  pub refused_steps : (question : Question) (base : Disk) (steps : List Step) (fault : RunFault)
+  pub refused_steps : (question : Question) (base : Disk) (steps : List Step) (fault : RunFault) → IsOfSteps question
       → HasBase bytes settings base steps → AreRefused question settings base steps fault
       → IsAnswerTo question bytes settings (Refused fault)
-  refused_steps question base steps fault start (inl (why, run, same)) =
+  refused_steps question base steps fault asked start (inl (why, run, same)) =
       subst (λ f. IsAnswerTo question bytes settings (Refused f)) (sym same)
-      (refused_to question (run_of_trace why) (trace_is_not why) (bad_trace base steps why start run))
-  refused_steps question base steps fault start (inr (last, patches, run, graph, visits, more, same)) =
+      (refused_of question (run_of_trace why) asked (trace_is_not why) (bad_trace base steps why start run))
+  refused_steps question base steps fault asked start (inr (last, patches, run, graph, visits, more, same)) =
       subst (λ f. IsAnswerTo question bytes settings (Refused f)) (sym same)
       (subst (λ q. IsAnswerTo q bytes settings (Refused TooMany)) (sym visits)
       (too_many base last patches (record { steps = steps; start = start; run = run; graph = graph }) more))
@@ -105,4 +134,23 @@ module _ (bytes : List ℕ) (settings : Settings) where
     graph = record { steps = steps; start = start; run = are.run; graph = are.graph };
     told = are.told;
     report = are.report;
+  }
+  reported_steps (Search most) base steps text number start are = absurd are.report
+
+  pub refused_pool : (most : Most) (base : Disk) (steps : List Step) (fault : RunFault)
+      → HasBase bytes settings base steps → IsNoPool steps fault
+      → IsAnswerTo (Search most) bytes settings (Refused fault)
+  refused_pool most base steps fault start is = subst (IsSearchRefusal bytes settings) (sym is.told)
+      (no_operation base is.front is.rest is.step (subst (HasBase bytes settings base) is.whole start) is.operations
+      is.first)
+
+  pub reported_pool : (most : Most) (base : Disk) (steps : List Step) (text : List ℕ) (number : ℕ)
+      → HasBase bytes settings base steps → IsSearchOf settings most base steps text number
+      → IsAnswerTo (Search most) bytes settings (Reported text number)
+  reported_pool most base steps text number start is = record {
+    base = base;
+    pool = steps;
+    start = start;
+    operations = is.0;
+    report = is.1;
   }

@@ -1,5 +1,7 @@
 pub mod Answering
 pub mod Needing
+pub mod Pools
+pub mod PoolReports
 pub mod Serving
 pub mod Sparing
 pub mod Bodies

@@ -17,8 +17,9 @@ use Rattle.crash_model.specs.declared.settings.Settings.{Settings}
 use Rattle.devices.specs.Counted.{IsReadFault}
 use Rattle.questions.specs.Answers.{IsAnswerTo}
 use Rattle.questions.specs.declared.Question.{Question}
-use Rattle.questions.specs.declared.Question.TheVariants.{Visit, Decide, Enough}
+use Rattle.questions.specs.declared.Question.TheVariants.{Visit, Decide, Enough, Search}
 use Rattle.questions.specs.declared.Request.{Request}
+use Rattle.search_model.specs.SearchReport.{IsSearchRefusal, before_the_pool, no_operation}
 use Rattle.crash_text.specs.Served.{IsWhole, IsRefusedBy}
 
 -- a source that was read to its end had these bytes
@@ -84,11 +85,17 @@ of_run (bad_trace base steps fault start is) = trace_is_of_run fault
 of_run (too_many base last patches has more) = refl
 of_run (reported kept base last patches text failing has told report) = refl
 
+search_is_of_run : {bytes : List ℕ} {settings : Settings} {fault : RunFault} → IsSearchRefusal bytes settings fault
+    → is_of_run fault ≡ true
+search_is_of_run (before_the_pool fault is none) = of_run is
+search_is_of_run (no_operation base front rest step start operations first) = refl
+
 refusal_is_of_run : (question : Question) (bytes : List ℕ) (settings : Settings) (fault : RunFault)
     → IsAnswerTo question bytes settings (Refused fault) → is_of_run fault ≡ true
 refusal_is_of_run Visit bytes settings fault is = of_run is
 refusal_is_of_run Decide bytes settings fault is = of_run is.0
 refusal_is_of_run Enough bytes settings fault is = of_run is.0
+refusal_is_of_run (Search most) bytes settings fault is = search_is_of_run is
 
 -- where a run refused, the refusal is no device's
 pub not_of_device : {X : Type 0} (result : Result X RunFault) (bytes : List ℕ) (request : Request)

@@ -1,4 +1,5 @@
 pub mod BaseRefusal
+pub mod Searching
 pub mod Served
 pub mod Status
 pub mod Telling

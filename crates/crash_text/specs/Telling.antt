@@ -20,7 +20,7 @@ use Rattle.crash_model.specs.declared.steps.Step.{Step}
 use Rattle.decision_model.specs.Decision.{IsDecision}
 use Rattle.enough_model.specs.EnoughReport.{IsEnoughReport}
 use Rattle.questions.specs.declared.Question.{Question}
-use Rattle.questions.specs.declared.Question.TheVariants.{Visit, Decide, Enough}
+use Rattle.questions.specs.declared.Question.TheVariants.{Visit, Decide, Enough, Search}
 use Rattle.traced_patches.specs.Traced.{TracedPatches}
 use Rattle.report_sections.specs.Bodies.{AreOnBase, TellsBody, explanation_by}
 use Rattle.report_sections.specs.declared.report.Body as code
@@ -62,12 +62,18 @@ Tells settings detail base t closed failing chosen text =
     (body : Body) × TellsBody detail base t.patches chosen body
     × (text ≡ report settings (whole settings (explanation_by base t) t.patches closed failing body))
 
--- the report that answers a question on a graph
+-- the question is one about the steps of a script, and not about a pool
+abbrev pub IsOfSteps : Question → Type 0
+IsOfSteps (Search most) = ⊥
+IsOfSteps _ = Unit {0}
+
+-- the report that answers a question on a graph; a search is about many graphs
 abbrev pub IsReportTo : Question → Settings → Option ℕ → Disk → Tracing → List Patch → List ℕ → ℕ → Type 0
 IsReportTo Visit settings kept base last patches text number = IsReport settings kept base last patches text number
 IsReportTo Decide settings kept base last patches text number = IsDecision settings kept base last patches text number
 IsReportTo Enough settings kept base last patches text number =
     IsEnoughReport settings kept base last patches text number
+IsReportTo (Search most) settings kept base last patches text number = ⊥
 
 -- the text is that report on a traced script, whatever state traced its patches
 abbrev pub IsReportOn : {A : Type 0} → Question → Settings → TracedScript A → List ℕ → ℕ → Type 0

@@ -9,6 +9,7 @@ mod keeping;
 mod needs;
 pub mod progress;
 pub mod run;
+mod searching;
 pub mod serve;
 mod telling;
 mod traced_script;

@@ -16,7 +16,7 @@ const BETWEEN: u64 = 250;
 /// Takes the terminal's line away.
 const WIPED: &str = "\r\x1b[K";
 
-/// Shows how many sets were visited and how many of them fail, on one line that is rewritten.
+/// Shows how many sets were visited or workloads judged, and how many of them fail, on one line that is rewritten.
 ///
 /// The line comes on a terminal alone, once the run has lasted a second, and is gone when the answer comes. Workers
 /// are not held at their claims, and one of them at a time writes.
@@ -24,9 +24,12 @@ const WIPED: &str = "\r\x1b[K";
 pub struct Progress<'a, C: Clock, E: Write + Copy> {
     clock: &'a C,
     err: E,
+    /// What is counted.
+    what: &'static str,
     /// When the run began, where lines are shown.
     start: Option<Instant>,
-    sets: AtomicU64,
+    /// How many sets were visited or workloads judged, and how many of them fail.
+    done: AtomicU64,
     failing: AtomicU64,
     /// After how many milliseconds of the run the next line is due.
     due: AtomicU64,
@@ -45,13 +48,20 @@ impl<'a, C: Clock, E: Write + Copy> Progress<'a, C, E> {
         Progress {
             clock,
             err,
+            what: "sets visited",
             start,
-            sets: AtomicU64::new(0),
+            done: AtomicU64::new(0),
             failing: AtomicU64::new(0),
             due: AtomicU64::new(FIRST),
             is_taken: AtomicBool::new(false),
             is_shown: AtomicBool::new(false),
         }
+    }
+
+    /// The same, for a run that judges workloads.
+    pub fn of_workloads(mut self) -> Progress<'a, C, E> {
+        self.what = "workloads judged";
+        self
     }
 
     /// How many milliseconds the run has lasted, where a line is due now.
@@ -68,9 +78,9 @@ impl<'a, C: Clock, E: Write + Copy> Progress<'a, C, E> {
 
     /// Writes the line anew.
     fn show(&self, now: u64) {
-        let (sets, failing) = (self.sets.load(SeqCst), self.failing.load(SeqCst));
-        let mut err = self.err;
-        let _ = write!(err, "{WIPED}{sets} sets visited, {failing} failing");
+        let (done, failing) = (self.done.load(SeqCst), self.failing.load(SeqCst));
+        let (mut err, what) = (self.err, self.what);
+        let _ = write!(err, "{WIPED}{done} {what}, {failing} failing");
         self.is_shown.store(true, SeqCst);
         self.due.store(now.saturating_add(BETWEEN), SeqCst);
     }
@@ -79,8 +89,8 @@ impl<'a, C: Clock, E: Write + Copy> Progress<'a, C, E> {
 impl<'a, C: Clock, E: Write + Copy> Gate for Progress<'a, C, E> {
     fn claimed(&self, _worker: usize, _set: u128) {}
 
-    fn visited(&self, sets: usize, failing: usize) {
-        self.sets.fetch_add(sets as u64, SeqCst);
+    fn visited(&self, done: usize, failing: usize) {
+        self.done.fetch_add(done as u64, SeqCst);
         self.failing.fetch_add(failing as u64, SeqCst);
         if self.start.is_none() || self.is_taken.swap(true, SeqCst) {
             return;

@@ -10,12 +10,13 @@ ghost use Rattle.crash_finding.specs.Limits.{IsExplorable};
 ghost use Rattle.questions.specs.Answers.{IsAnswerTo};
 ghost use Rattle.report_sections.specs.Bodies.{AreOnBase};
 ghost use Rattle.crash_text.specs.BaseRefusal.{IsBaseRefusal};
-ghost use Rattle.crash_text.specs.Telling.{AreReported, AreRefused, IsReportOn, IsPastLimit, NoneFails};
+ghost use Rattle.crash_text.specs.Telling.{AreReported, AreRefused, IsOfSteps, IsReportOn, IsPastLimit, NoneFails};
 
 use crate::deciding::decided;
 use crate::enough::enough;
 use crate::host::Host;
 use crate::keeping::told_kept;
+use crate::searching::{Pool, searched};
 use crate::traced_script::TracedScript;
 use crate::visiting::visited;
 use crash_model::refusals::RunFault;
@@ -32,7 +33,8 @@ use std::thread::Threads;
 
 /// A report's text, and the number of its failing sets, or of its faults where that is the question.
 ///
-/// Where the question is which rules are enough, the number is 0 where all of them are, and else 1.
+/// Where the question is which rules are enough, the number is 0 where all of them are, and else 1; of a search it is 1
+/// where a workload fails, and else 0.
 #[derive(Drop)]
 pub struct Outcome<A: Allocator> {
     pub text: String<A>,
@@ -40,7 +42,8 @@ pub struct Outcome<A: Allocator> {
 }
 
 /// Answers a question about a script: reads it, builds the base, traces the rest, visits what a crash can leave, or
-/// decides which faults it can leave or which rules are enough, and reports.
+/// decides which faults it can leave or which rules are enough, and reports. A search takes the rest as a pool, and
+/// judges each workload of it.
 ///
 /// For every number of workers, 1 to 16, and every schedule, an answer other than out of memory is the one defined for
 /// the script's bytes and the settings, without threads. The gate is told of each claim of a worker on a board, and of
@@ -65,10 +68,18 @@ where
     ensures full { request.now.settings.module ≡ Full → request.now.settings.without.items ≡ []
         → IfOk result (λ outcome. outcome.number ≡ 0) }
 {
-    let script = read_script(host.alloc, script)?;
-    let base = base_of(host.alloc, &script.base, &request.settings)?;
-    let steps = &script.traced;
-    answer_steps(host, request, gate, &base, steps)
+    let read = read_script(host.alloc, script)?;
+    let base = base_of(host.alloc, &read.base, &request.settings)?;
+    let steps = &read.traced;
+    match request.question {
+        Question::Search(most) => {
+            let base = &base;
+            searched(host, request, gate, &Pool { base, steps, most })
+        }
+        Question::Visit | Question::Decide | Question::Enough => {
+            answer_steps(host, request, gate, &base, steps)
+        }
+    }
 }
 
 /// Traces the steps over the base, and answers the question about what a crash can leave.
@@ -85,6 +96,7 @@ where
     G: Gate + Sync,
     requires limit { IsExplorable request.now.settings }
     requires workers { (1 ≤ request.now.workers) × (request.now.workers ≤ 16) }
+    requires asked { IsOfSteps request.now.question }
     requires sound { IsSound base.now × HasZeroJournal base.now }
     ensures reported { IfOk result (λ outcome. AreReported request.now.question request.now.settings base.now steps.now
         (string_bytes outcome.text) outcome.number) }
@@ -115,6 +127,7 @@ where
     G: Gate + Sync,
     requires limit { IsExplorable request.now.settings }
     requires workers { (1 ≤ request.now.workers) × (request.now.workers ≤ 16) }
+    requires asked { IsOfSteps request.now.question }
     requires on_base { AreOnBase script.base.now script.traced.patches }
     ensures reported { IfOk result (λ outcome. IsReportOn request.now.question request.now.settings script.entry
         (string_bytes outcome.text) outcome.number) }
@@ -132,6 +145,7 @@ where
             let outcome = enough(host, &request.settings, &script)?;
             Ok(outcome)
         }
+        Question::Search(_) => unreachable!(),
     }
 }
 

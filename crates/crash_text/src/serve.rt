@@ -18,8 +18,8 @@ use std::alloc::Allocator;
 use std::sync::Wait;
 use std::thread::Threads;
 
-/// Reads a script from a source, answers it, and writes the report to a sink. It gives the number of failing sets, or
-/// of faults where that is the question.
+/// Reads a script from a source, answers it, and writes the report to a sink. It gives the number of the outcome of
+/// `run`.
 ///
 /// The answer is that of `run` on all bytes of the source. A script that cannot be read or is too long is refused
 /// before it is run, and one that is too long in no other way but by out of memory or a failed read. Nothing is
@@ -63,8 +63,7 @@ where
     serve_script(host, script.as_slice(), sink, request, gate)
 }
 
-/// Answers a script, and writes the report to a sink. It gives the number of failing sets, or of faults where that is
-/// the question.
+/// Answers a script, and writes the report to a sink. It gives the number of the outcome of `run`.
 ///
 /// Nothing is written before the report is whole. After a refusal the sink has taken nothing, unless the sink itself
 /// failed, which then has a beginning of the report.

@@ -46,7 +46,10 @@ fn main(rt: HostRuntime) -> ExitCode {
     if texts.is_empty() && input.is_terminal() && err.is_terminal() {
         let _ = err.write_all(READS_INPUT.as_bytes());
     }
-    let progress = Progress::new(&rt, err, err.is_terminal());
+    let mut progress = Progress::new(&rt, err, err.is_terminal());
+    if texts.iter().any(|text| text.starts_with("--search")) {
+        progress = progress.of_workloads();
+    }
     let host = Host::new(&rt).with_hints(err.is_terminal());
     let status = answer_watched(&host, &texts, &mut input, &mut out, &mut err, &progress);
     ExitCode::from(status)

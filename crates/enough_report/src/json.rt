@@ -1,19 +1,17 @@
 //! Reports as JSON.
 
-ghost use Rattle.std.specs.Prelude.{◌≡◌, ◌++◌, [], codes, option_map};
+ghost use Rattle.std.specs.Prelude.{◌≡◌, ◌++◌, [], option_map};
 ghost use Rattle.std.specs.Prelude.{string_bytes, IfOk, OnOk};
 ghost use Rattle.crash_model.specs.Answer.{ordering_rules};
-ghost use Rattle.crash_model.specs.Report.{json_string, module_text};
 ghost use Rattle.enough_model.specs.EnoughReport.{first_fault_json, group_json, json_rules_report, set_json};
 ghost use Rattle.enough_report.specs.Found.{group_items, report_of, set_items, told_first, told_group};
 
 use crate::findings::{EnoughFindings, FirstFault, NeededGroup};
 use chosen_rules::rules_in;
-use crash_model::modules::Module;
 use crash_model::orderings::Ordering;
 use decision_report::push_decided;
 use json_values::{KnownTexts, push_replay, write_comma};
-use report_json::{write_explained_base, write_from_strict, write_rule_texts};
+use report_json::{write_explained_base, write_from_strict, write_module_key, write_rule_texts};
 use std::alloc::{AllocError, Allocator, Global};
 
 /// A report of the rules that a script needs as JSON: one compact object, its keys in ascending order, and a line feed.
@@ -57,16 +55,6 @@ fn write_findings<A: Allocator + Copy>(
     write!(out, "],\"patches\":{patches}")?;
     write_from_strict(out, found.settings, found.traced)?;
     out.push_str("}\n")?;
-    Ok(())
-}
-
-/// The key of the module, with a comma before it.
-fn write_module_key(out: &mut String, module: Module) -> Result<(), AllocError>
-    ensures { OnOk result (string_bytes out.new ≡ string_bytes out.old
-        ++ (codes ",\"module\":" ++ json_string (module_text «module»))) }
-{
-    let name = module.name();
-    write!(out, ",\"module\":\"{name}\"")?;
     Ok(())
 }
 

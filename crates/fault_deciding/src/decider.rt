@@ -64,6 +64,26 @@ impl<A: Allocator + Copy> Decider<'_, A> {
         found(self.alloc, &trials)
     }
 
+    /// Each fault that a crash can leave, as one worker finds them. It needs no threads, and fails only when out of
+    /// memory.
+    pub fn faults_alone(&self) -> Result<Vec<DecidedFault, A>, AllocError>
+        ensures { IfOk result (λ faults.
+            AreDecided (HasFault self.now.kept self.now.base.now self.now.graph.now) faults.items) }
+    {
+        let deps = dependencies(self.graph);
+        let sets = ClosedSets::of(&deps);
+        let chains = Chains::new(self.alloc, self.base, self.graph)?;
+        let candidates = candidates(self.alloc, &chains, self.kept)?;
+        let asking = Asking {
+            sets: &sets,
+            chains: &chains,
+            kept: self.kept,
+        };
+        let mut trials = asking.tried(self.alloc, &candidates)?;
+        sort_trials(&mut trials);
+        found(self.alloc, &trials)
+    }
+
     /// Whether a crash can leave a fault at all. It fails only when out of memory.
     pub fn any_fails(&self) -> Result<bool, AllocError>
         ensures { IfOk result (λ fails. IsTrue fails

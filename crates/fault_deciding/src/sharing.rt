@@ -47,6 +47,24 @@ fn mixed(fault: Fault) -> u32 {
     u32::from_le_bytes(fault.numbers()).wrapping_mul(0x9E37_79B1)
 }
 
+impl<A: Allocator + Copy> Asking<'_, A> {
+    /// A trial of each candidate, tried one after another.
+    pub(crate) fn tried(&self, alloc: A, candidates: &[Fault]) -> Result<Vec<Trial, A>, AllocError>
+        ensures faults { IfOk result (λ trials. map fault_of trials.items ≡ candidates.now) }
+        ensures tried { IfOk result (λ trials.
+            All (IsTried (HasFaultOf self.now.kept self.now.chains.now)) trials.items) }
+    {
+        let mut trials = Vec::new(alloc);
+        for fault in candidates {
+            trials.push(Trial {
+                fault: *fault,
+                first: self.first(*fault),
+            })?;
+        }
+        Ok(trials)
+    }
+}
+
 impl<A: Allocator + Copy + Sync> Asking<'_, A> {
     /// Tries each fault. The workers share them side by side; one worker starts no thread.
     pub(crate) fn try_all<R: Threads + Sync>(&self, rt: &R, trials: &mut [Trial], workers: usize)

@@ -10,5 +10,5 @@ mod summary;
 pub use items::{write_comma, write_item};
 pub use known::KnownTexts;
 pub use rules::told_rule_value;
-pub use sections::push_replay;
+pub use sections::{push_replay, push_set};
 pub use summary::told_fault_value;

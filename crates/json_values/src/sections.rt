@@ -68,8 +68,8 @@ impl KnownTexts {
         Ok(())
     }
 
-    /// The texts of the faults, with a comma between two.
-    fn push_faults(&mut self, out: &mut String, faults: &[Fault]) -> Result<(), AllocError>
+    /// Adds the texts of the faults, with a comma between two. It fails only when out of memory.
+    pub fn push_faults(&mut self, out: &mut String, faults: &[Fault]) -> Result<(), AllocError>
         ensures text { OnOk result (string_bytes out.new
             ≡ string_bytes out.old ++ join_of 44 (map fault_json faults.now)) }
         ensures kept { self.new ≡ self.old }
@@ -81,8 +81,8 @@ impl KnownTexts {
         Ok(())
     }
 
-    /// The objects of the block writes, with a comma between two.
-    fn push_writes(&mut self, out: &mut String, writes: &[BlockWrite]) -> Result<(), AllocError>
+    /// Adds the objects of the block writes, with a comma between two. It fails only when out of memory.
+    pub fn push_writes(&mut self, out: &mut String, writes: &[BlockWrite]) -> Result<(), AllocError>
         ensures text { OnOk result (string_bytes out.new
             ≡ string_bytes out.old ++ join_of 44 (map (write_json self.old) writes.now)) }
         ensures kept { self.new ≡ self.old }
@@ -95,8 +95,8 @@ impl KnownTexts {
     }
 }
 
-/// The ids of a set.
-fn push_set(out: &mut String, patches: usize, set: u128) -> Result<(), AllocError>
+/// The ids of the set below `patches`, ascending. It fails only when out of memory.
+pub fn push_set(out: &mut String, patches: usize, set: u128) -> Result<(), AllocError>
     ensures { OnOk result (string_bytes out.new ≡ string_bytes out.old ++ ids_json patches set) }
 {
     let value = ids_value(*out.allocator(), patches, set)?;

@@ -7,7 +7,9 @@ use Rattle.crash_model.specs.declared.settings.Settings.{Settings}
 use Rattle.decision_model.specs.Decision.{IsDecided}
 use Rattle.enough_model.specs.EnoughReport.{IsEnoughAnswer}
 use Rattle.questions.specs.declared.Question.{Question}
-use Rattle.questions.specs.declared.Question.TheVariants.{Visit, Decide, Enough}
+use Rattle.questions.specs.declared.Question.TheVariants.{Visit, Decide, Enough, Search}
+use Rattle.search_model.specs.Most.{number_of_most}
+use Rattle.search_model.specs.SearchReport.{IsSearched, IsSearchRefusal}
 
 -- a refusal where no closed set is visited: that of a visit, but never for too many closed sets
 abbrev pub IsRefusedUnvisited : List ℕ → Settings → RunFault → Type 0
@@ -19,3 +21,6 @@ IsAnswerTo Decide bytes settings (Refused fault) = IsRefusedUnvisited bytes sett
 IsAnswerTo Decide bytes settings (Reported text number) = IsDecided bytes settings text number
 IsAnswerTo Enough bytes settings (Refused fault) = IsRefusedUnvisited bytes settings fault
 IsAnswerTo Enough bytes settings (Reported text number) = IsEnoughAnswer bytes settings text number
+IsAnswerTo (Search most) bytes settings (Refused fault) = IsSearchRefusal bytes settings fault
+IsAnswerTo (Search most) bytes settings (Reported text number) =
+    IsSearched bytes settings (number_of_most most) text number

@@ -4,6 +4,7 @@
 #![tactic(auto)]
 
 use crash_model::settings::Settings;
+use search_model::Most;
 
 /// What a run finds out about a script.
 #[derive(Clone, Copy, Debug, PartialEq, Eq)]
@@ -15,6 +16,9 @@ pub enum Question {
     /// Which sets of rules are enough, and of which rules one is needed. No closed set need be visited, so there is no
     /// limit.
     Enough,
+    /// Which workloads fail, out of all of up to so many operations of the pool that the script's lines behind `start`
+    /// are. No closed set need be visited, so there is no limit.
+    Search(Most),
 }
 
 /// A question, the settings that it is asked under, and the number of threads that answer it, 1 to 16.

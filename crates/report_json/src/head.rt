@@ -1,10 +1,10 @@
 //! The keys that every report has.
 
-ghost use Rattle.std.specs.Prelude.{◌≡◌, ◌++◌, map, string_bytes, OnOk};
+ghost use Rattle.std.specs.Prelude.{◌≡◌, ◌++◌, codes, map, string_bytes, OnOk};
 ghost use Rattle.crash_model.specs.Disk.{Disk};
 ghost use Rattle.crash_model.specs.Explain.{base_json, trace_json};
 ghost use Rattle.crash_model.specs.Lists.{join_of, when};
-ghost use Rattle.crash_model.specs.Report.{json_string};
+ghost use Rattle.crash_model.specs.Report.{json_string, module_text};
 ghost use Rattle.crash_model.specs.Rules.{rule_text};
 ghost use Rattle.crash_model.specs.Whole.{rules_json};
 ghost use Rattle.traced_patches.specs.Traced.{TracedPatches};
@@ -82,8 +82,18 @@ pub fn write_module(out: &mut String, module: Module, patches: usize) -> Result<
     Ok(())
 }
 
-/// The key of a strict run.
-fn write_strict_key(out: &mut String, strict: bool) -> Result<(), AllocError>
+/// The key of the module, with a comma before it. It fails only when out of memory.
+pub fn write_module_key(out: &mut String, module: Module) -> Result<(), AllocError>
+    ensures { OnOk result (string_bytes out.new ≡ string_bytes out.old
+        ++ (codes ",\"module\":" ++ json_string (module_text «module»))) }
+{
+    let name = module.name();
+    write!(out, ",\"module\":\"{name}\"")?;
+    Ok(())
+}
+
+/// The key of a strict run, with a comma before it. It fails only when out of memory.
+pub fn write_strict_key(out: &mut String, strict: bool) -> Result<(), AllocError>
     ensures { OnOk result (string_bytes out.new ≡ string_bytes out.old ++ strict_key strict) }
 {
     if strict {
@@ -92,8 +102,8 @@ fn write_strict_key(out: &mut String, strict: bool) -> Result<(), AllocError>
     Ok(())
 }
 
-/// The key with the texts of the rules, where there are any.
-fn write_rule_key(out: &mut String, key: &str, rules: &[Rule]) -> Result<(), AllocError>
+/// The key with the texts of the rules and a comma before it, where there are any. It fails only when out of memory.
+pub fn write_rule_key(out: &mut String, key: &str, rules: &[Rule]) -> Result<(), AllocError>
     ensures { OnOk result (string_bytes out.new ≡ string_bytes out.old ++ rules_json key.now rules.now) }
 {
     if rules.is_empty() {

@@ -6,5 +6,8 @@ mod parts;
 mod patches;
 pub mod report;
 
-pub use head::{write_explained_base, write_from_strict, write_module, write_rule_texts};
+pub use head::{
+    write_explained_base, write_from_strict, write_module, write_module_key, write_rule_key,
+    write_rule_texts, write_strict_key,
+};
 pub use report::report_json;

@@ -90,6 +90,17 @@ fn a_line_after_a_second_and_four_a_second_from_then_on(rt: HostRuntime) -> Resu
 }
 
 #[test]
+fn workloads_are_counted_by_their_name(rt: HostRuntime) -> Result<(), Fail> {
+    let clock = Hand { now: Cell::new(0) };
+    let screen = empty_screen(rt.alloc());
+    let progress = Progress::new(&clock, &screen, true).of_workloads();
+    clock.now.set(1000);
+    progress.visited(500, 1);
+    expect_written(&rt, &screen, "\r\x1b[K500 workloads judged, 1 failing");
+    Ok(())
+}
+
+#[test]
 fn nothing_where_there_is_no_terminal(rt: HostRuntime) -> Result<(), Fail> {
     let clock = Hand { now: Cell::new(0) };
     let screen = empty_screen(rt.alloc());

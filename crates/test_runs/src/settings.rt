@@ -4,18 +4,24 @@ use clap::error::ErrorKind;
 use command_line::settings_of;
 use crash_model::settings::Explorer;
 use questions::Question;
+use search_model::Most;
 use std::test::Fail;
 
 /// Words, the question that they ask.
-const ASKED: [(&[&str], Question); 4] = [
+const ASKED: [(&[&str], Question); 6] = [
     (&[], Question::Visit),
     (&["--summary", "--limit=1"], Question::Visit),
     (&["--decide", "--workers=2", "--strict"], Question::Decide),
     (&["--enough", "--workers=2", "--strict"], Question::Enough),
+    (&["--search=1"], Question::Search(Most::One)),
+    (
+        &["--strict", "--search", "8"],
+        Question::Search(Most::Eight),
+    ),
 ];
 
 /// What a question about all closed sets goes without, whether it is given the default value or not.
-const LEFT_OUT: [&[&str]; 10] = [
+const LEFT_OUT: [&[&str]; 15] = [
     &["--decide", "--limit=4096"],
     &["--limit", "1", "--decide"],
     &["--decide", "--explorer=auto"],
@@ -26,6 +32,11 @@ const LEFT_OUT: [&[&str]; 10] = [
     &["--enough", "--limit=4096"],
     &["--explorer", "sweep", "--enough"],
     &["--needs", "--enough"],
+    &["--search=2", "--enough"],
+    &["--decide", "--search", "2"],
+    &["--search=1", "--limit=4096"],
+    &["--explorer", "auto", "--search=1"],
+    &["--summary", "--search=1"],
 ];
 
 /// Words, the explorer that they ask for, and the number of workers.

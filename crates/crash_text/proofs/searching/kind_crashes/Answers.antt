@@ -1,0 +1,22 @@
+use Rattle.search_model.specs.SearchReport.{IsToldKind}
+use Rattle.pool_judging.specs.Judging.{search_by}
+use Rattle.report_sections.specs.Sections.{section_of}
+use Rattle.search_report.specs.Findings.{told_kind}
+use Rattle.crash_text.proofs.PoolReports.{with_steps, shown_more, crash_more}
+use Rattle.crash_text.proofs.searching.kind_crashes.Goals as goal
+
+pub loop-shown-preserved : goal.loop-shown-preserved
+loop-shown-preserved g c =
+    let judge = c.args.judge.now in
+    let s = search_by judge in
+    let before = c.loop-shown.invariant in
+    let told = c.in_ok-told.told in
+    record {
+      shown = shown_more c.args.kinds.now c.loop-shown.shown-index c.shown-item.result c.loop-shown.crashes.items _ _
+          c.loop-shown-test.true before.shown c.shown-item.is c.in_ok-push.ensures.items;
+      told = crash_more (λ crash. IsToldKind s c.args.explain (told_kind judge.pool.now crash))
+          c.loop-shown.crashes.items _ _ before.told
+          (with_steps s c.args.explain c.shown-item.result told.steps.items told.patches (section_of told.section)
+          c.in_ok-told.ensures)
+          c.in_ok-push.ensures.items;
+    }

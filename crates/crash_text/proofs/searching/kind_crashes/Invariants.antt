@@ -1,0 +1,11 @@
+use Rattle.std.proofs.Common.{◌≡◌, All, map, take}
+use Rattle.pool_judging.specs.Judging.{search_by}
+use Rattle.search_model.specs.SearchReport.{IsToldKind}
+use Rattle.search_report.specs.Findings.{told_kind}
+use Rattle.crash_text.proofs.searching.kind_crashes.Given as goal
+
+abbrev pub invariant-loop-shown : goal.invariant-loop-shown
+invariant-loop-shown g l = record {
+  shown : map (λ crash. crash.shown.now) l.crashes.items ≡ take l.shown-index l.kinds;
+  told : All (λ crash. IsToldKind (search_by l.judge) l.explain (told_kind l.judge.pool.now crash)) l.crashes.items;
+}

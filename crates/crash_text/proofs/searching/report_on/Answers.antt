@@ -1,0 +1,30 @@
+use Rattle.std.proofs.Common.{List, length, map, ap, ◌∙◌}
+use Rattle.std.specs.Prelude.{◌==◌}
+use Rattle.std.proofs.lemmas.List.Elements.{All-map}
+use Rattle.search_model.specs.SearchReport.{IsToldKind, search_bytes}
+use Rattle.pool_judging.specs.Judging.{search_by}
+use Rattle.search_report.specs.Findings.{told_kind}
+use Rattle.search_report.specs.declared.findings.KindCrash.{KindCrash}
+use Rattle.crash_text.proofs.PoolReports.{number_of_failing, told_shown}
+use Rattle.crash_text.proofs.searching.report_on.Goals as goal
+
+pub search_report-requires : goal.search_report-requires
+search_report-requires g c = c.requires.operations
+
+pub returns-clause-report : goal.returns-clause-report
+returns-clause-report g c =
+    let settings = c.args.settings.now in
+    let judge = c.args.judge.now in
+    let pool = judge.pool.now in
+    let crashes = c.in_ok-kinds.kinds.items in
+    record {
+      told = map (told_kind pool) crashes;
+      kinds = told_shown pool crashes ∙ (c.in_ok-kinds.ensures.shown ∙ c.as_slice.ensures.value);
+      each = All-map (IsToldKind (search_by judge) settings.explain) (told_kind pool) crashes c.in_ok-kinds.ensures.told;
+      whole = c.in_ok-search_report.ensures ∙ ap (λ (ks : List (KindCrash g.row.A.Denot)).
+          search_bytes settings judge.most (length pool) c.args.found.now (map (told_kind pool) ks))
+          c.deref.ensures.value;
+    }
+
+pub returns-clause-number : goal.returns-clause-number
+returns-clause-number g c = c.from.ensures ∙ number_of_failing (c.args.found.now.failing == 0)

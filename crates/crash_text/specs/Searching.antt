@@ -1,0 +1,47 @@
+-- What a search over a pool answers.
+use Rattle.std.specs.Prelude.{◌≡◌, ℕ, List, ◌∷◌, ◌++◌, map, length, Bool}
+use Rattle.std.specs.List.{All}
+use Rattle.crash_model.specs.Disk.{Disk}
+use Rattle.crash_model.specs.declared.refusals.RunFault.{RunFault}
+use Rattle.crash_model.specs.declared.refusals.RunFault.TheVariants.{GroupFault}
+use Rattle.crash_model.specs.declared.settings.Settings.{Settings}
+use Rattle.crash_model.specs.declared.steps.Step.{Step}
+use Rattle.search_model.specs.Most.{number_of_most}
+use Rattle.search_model.specs.SearchReport.{IsSearchReport, IsToldKind, ToldKind, search_bytes}
+use Rattle.search_model.specs.Workloads.{Search, IsOperation}
+use Rattle.search_model.specs.declared.found.Found.{Found}
+use Rattle.search_model.specs.declared.found.ShownKind.{ShownKind}
+use Rattle.search_model.specs.declared.most.Most.{Most}
+use Rattle.pool_judging.specs.Judging.{search_by}
+use Rattle.pool_judging.specs.declared.judge.PoolJudge.{PoolJudge}
+use Rattle.search_report.specs.Findings.{told_kind}
+use Rattle.search_report.specs.declared.findings.KindCrash.{KindCrash}
+
+-- the steps are a pool of operations, and the text is the report on it
+abbrev pub IsSearchOf : Settings → Most → Disk → List Step → List ℕ → ℕ → Type 0
+IsSearchOf settings most base steps text number =
+    All IsOperation steps × IsSearchReport settings (number_of_most most) base steps text number
+
+-- the steps are no pool, and the fault has the line of the first that is no operation
+pub record IsNoPool (steps : List Step) (fault : RunFault) : Type 0 where
+  pub front : List Step
+  pub step : Step
+  pub rest : List Step
+  pub whole : steps ≡ front ++ step ∷ rest
+  pub operations : All IsOperation front
+  pub first : ¬ (IsOperation step)
+  pub told : fault ≡ GroupFault step.line
+
+-- the crash of each kind, in order, is told as the report tells it
+pub record AreToldKinds {A : Type 0} (s : Search) (explain : Bool) (kinds : List ShownKind)
+    (crashes : List (KindCrash A)) : Type 0 where
+  pub shown : map (λ k. k.shown.now) crashes ≡ kinds
+  pub told : All (λ k. IsToldKind s explain (told_kind s.pool k)) crashes
+
+-- the text is the report on what a judge's search finds
+pub record IsReportBy {A : Type 0} (settings : Settings) (judge : PoolJudge A) (found : Found)
+    (text : List ℕ) : Type 0 where
+  pub told : List ToldKind
+  pub kinds : map (λ t. t.shown) told ≡ found.kinds.items
+  pub each : All (IsToldKind (search_by judge) settings.explain) told
+  pub whole : text ≡ search_bytes settings judge.most (length judge.pool.now) found told

@@ -1,0 +1,184 @@
+//! A pool of operations, answered by a search for workloads that fail.
+
+ghost use Rattle.std.specs.Prelude.{◌≡◌, ◌≢◌, ◌≤◌, ◌<◌, ◌^◌, [], true, false, length, string_bytes, All, IfOk, IfErr};
+ghost use Rattle.std.specs.Prelude.{OnOk, ◌==◌, if◌then◌else◌};
+ghost use Rattle.crash_model.specs.Script.{IsAct};
+ghost use Rattle.crash_model.specs.Sound.{IsSound, HasZeroJournal};
+ghost use Rattle.crash_model.specs.declared.modules.Module.TheVariants.{Full};
+ghost use Rattle.search_model.specs.Found.{AreFound, IsShown};
+ghost use Rattle.search_model.specs.Workloads.{IsOperation};
+ghost use Rattle.pool_judging.specs.Judging.{search_by};
+ghost use Rattle.crash_text.specs.Searching.{IsNoPool, IsSearchOf, IsReportBy, AreToldKinds};
+
+use crate::host::Host;
+use crate::run::Outcome;
+use crash_model::refusals::RunFault;
+use crash_model::settings::Settings;
+use crash_model::steps::{Act, Step};
+use disk_image::Image;
+use explorers::Gate;
+use kind_sections::kind_section;
+use pool_judging::PoolJudge;
+use questions::Request;
+use search_model::{Found, Most, ShownKind};
+use search_report::{KindCrash, SearchFindings, search_report};
+use set_sweep::{Watch, Workers};
+use std::alloc::{AllocError, Allocator};
+use std::sync::Wait;
+use std::thread::Threads;
+use workload_search::search;
+
+/// The steps of a script as a pool over a base, and the most operations of a workload.
+#[derive(Drop)]
+pub(crate) struct Pool<'script, A: Allocator + Copy> {
+    pub base: &'script Image<A>,
+    pub steps: &'script [Step],
+    pub most: Most,
+}
+
+/// Tells a gate how many workloads were judged, as visited sets.
+#[derive(Drop)]
+struct WorkloadWatch<'a, G: Gate> {
+    gate: &'a G,
+}
+
+impl<'a, G: Gate> Watch for WorkloadWatch<'a, G> {
+    fn visited(&self, workloads: usize, failing: usize) {
+        self.gate.visited(workloads, failing);
+    }
+}
+
+/// Judges each workload of the pool, and reports. The first step that is no operation is refused.
+pub(crate) fn searched<R, A, G>(
+    host: &Host<'_, R, A>,
+    request: &Request,
+    gate: &G,
+    pool: &Pool<'_, A>,
+) -> Result<Outcome<A>, RunFault>
+where
+    R: Threads + Wait + Sync,
+    A: Allocator + Copy + Send + Sync,
+    G: Gate + Sync,
+    requires workers { (1 ≤ request.now.workers) × (request.now.workers ≤ 16) }
+    requires few { length pool.now.steps.now < 2 ^ 62 }
+    requires acts { All (λ step. IsAct step.act) pool.now.steps.now }
+    requires sound { IsSound pool.now.base.now × HasZeroJournal pool.now.base.now }
+    ensures reported { IfOk result (λ outcome. IsSearchOf request.now.settings pool.now.most pool.now.base.now
+        pool.now.steps.now (string_bytes outcome.text) outcome.number) }
+    ensures refused { IfErr result (λ fault. (fault ≢ RunFault.OutOfMemory) → IsNoPool pool.now.steps.now fault) }
+    ensures full { request.now.settings.module ≡ Full → request.now.settings.without.items ≡ []
+        → IfOk result (λ outcome. outcome.number ≡ 0) }
+{
+    check_operations(pool.steps)?;
+    let ordering = request.settings.ordering();
+    // For the proof: what every image keeps.
+    let _blocks = pool.base.blocks();
+    let judge = PoolJudge {
+        alloc: host.alloc,
+        base: pool.base,
+        pool: pool.steps,
+        most: pool.most.number(),
+        ordering: &ordering,
+        strict: request.settings.strict,
+    };
+    let found = search_pool(host.rt, request.workers, gate, &judge)?;
+    let outcome = report_on(host, &request.settings, &judge, &found)?;
+    Ok(outcome)
+}
+
+/// What workers find of the workloads of a judge's pool. It fails only when out of memory.
+fn search_pool<R, A, G>(
+    rt: &R,
+    number: usize,
+    gate: &G,
+    judge: &PoolJudge<'_, A>,
+) -> Result<Found, AllocError>
+where
+    R: Threads + Sync,
+    A: Allocator + Copy + Send + Sync,
+    G: Gate + Sync,
+    requires workers { (1 ≤ number) × (number ≤ 16) }
+    requires few { length judge.now.pool.now < 2 ^ 62 }
+    requires most { (1 ≤ judge.now.most) × (judge.now.most ≤ 8) }
+    ensures { IfOk result (AreFound (search_by judge.now)) }
+{
+    let watch = WorkloadWatch { gate };
+    let workers = Workers {
+        rt,
+        alloc: judge.alloc,
+        number,
+        watch: &watch,
+    };
+    search(&workers, judge, judge.pool.len(), judge.most)
+}
+
+/// The report on what is found. It fails only when out of memory.
+fn report_on<R, A: Allocator + Copy>(
+    host: &Host<'_, R, A>,
+    settings: &Settings,
+    judge: &PoolJudge<'_, A>,
+    found: &Found,
+) -> Result<Outcome<A>, AllocError>
+    requires operations { All IsOperation judge.now.pool.now }
+    requires found { AreFound (search_by judge.now) found.now }
+    ensures report { IfOk result (λ outcome. IsReportBy settings.now judge.now found.now (string_bytes outcome.text)) }
+    ensures number { IfOk result (λ outcome. outcome.number ≡ (if found.now.failing == 0 then 0 else 1)) }
+{
+    let kinds = kind_crashes(judge, settings.explain, found.kinds.as_slice())?;
+    let findings = SearchFindings {
+        settings,
+        most: judge.most,
+        pool: judge.pool,
+        found,
+        kinds: &kinds,
+    };
+    Ok(Outcome {
+        text: search_report(host.heap, host.alloc, &findings)?,
+        number: usize::from(found.failing != 0),
+    })
+}
+
+/// The crash that shows each kind of fault first. It fails only when out of memory.
+fn kind_crashes<'found, A: Allocator + Copy>(
+    judge: &PoolJudge<'_, A>,
+    explain: bool,
+    kinds: &'found [ShownKind],
+) -> Result<Vec<KindCrash<'found, A>, A>, AllocError>
+    requires { All (IsShown (search_by judge.now)) kinds.now }
+    ensures { IfOk result (λ crashes. AreToldKinds (search_by judge.now) explain kinds.now crashes.items) }
+{
+    let mut crashes = Vec::new(judge.alloc);
+    for shown in kinds {
+        let told = kind_section(judge, explain, shown)?;
+        crashes.push(KindCrash {
+            shown,
+            patches: told.patches,
+            section: told.section,
+        })?;
+    }
+    Ok(crashes)
+}
+
+/// Refuses the first step that is no operation.
+fn check_operations(steps: &[Step]) -> Result<(), RunFault>
+    ensures ok { OnOk result (All IsOperation steps.now) }
+    ensures refused { IfErr result (IsNoPool steps.now) }
+{
+    for step in steps {
+        if !is_operation(step) {
+            return Err(RunFault::GroupFault { line: step.line });
+        }
+    }
+    Ok(())
+}
+
+/// Whether the step is an operation.
+fn is_operation(step: &Step) -> bool
+    ensures yes { result ≡ true → IsOperation step.now }
+    ensures no { result ≡ false → ¬ (IsOperation step.now) }
+{
+    match &step.act {
+        Act::Do(_) => true,
+        Act::Group(_) | Act::End | Act::Depend(_, _) => false,
+    }
+}

@@ -1,0 +1,5 @@
+pub mod Least
+pub mod Refusals
+pub mod Pools
+pub mod Verdicts
+pub mod Full

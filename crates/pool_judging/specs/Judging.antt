@@ -1,0 +1,45 @@
+-- What a judge of a pool judges.
+use Rattle.std.specs.Prelude.{◌≡◌, ℕ, List, Option}
+use Rattle.crash_model.specs.Disk.{Disk}
+use Rattle.crash_model.specs.RuleFacts.{AreAmong}
+use Rattle.crash_model.specs.Rules.{rules_of}
+use Rattle.crash_model.specs.Strict.{IsFailingUnder}
+use Rattle.crash_model.specs.declared.modules.Module.TheVariants.{Full}
+use Rattle.crash_model.specs.declared.patches.Patch.{Patch}
+use Rattle.pool_judging.specs.Firsts.{AreFirstOfKinds}
+use Rattle.search_model.specs.Workloads.{Search}
+use Rattle.search_model.specs.declared.verdict.Verdict.{Verdict}
+use Rattle.search_model.specs.declared.verdict.Verdict.TheVariants.{Refused, Passes, Fails}
+use Rattle.pool_judging.specs.declared.judge.PoolJudge.{PoolJudge}
+
+-- the search whose sequences are judged
+abbrev pub search_by : {A : Type 0} → PoolJudge A → Search
+search_by j = record {
+  ordering = j.ordering.now.«module»;
+  rules = j.ordering.now.rules.items;
+  strict = j.strict;
+  base = j.base.now;
+  pool = j.pool.now;
+  most = j.most;
+}
+
+-- a set of the patches fails
+abbrev pub SomeFails : Option ℕ → Disk → List Patch → Type 0
+SomeFails kept base patches = (set : ℕ) × IsFailingUnder kept base patches set
+
+-- the verdict on operations with these patches, of which none is refused
+abbrev pub IsVerdictOn : Option ℕ → Disk → List Patch → Verdict → Type 0
+IsVerdictOn kept base patches (Refused reason) = ⊥
+IsVerdictOn kept base patches Passes = ¬ (SomeFails kept base patches)
+IsVerdictOn kept base patches (Fails firsts) =
+    SomeFails kept base patches × AreFirstOfKinds kept base patches firsts
+
+-- it is not that a set fails
+abbrev pub IsNoFailure : Verdict → Type 0
+IsNoFailure (Fails firsts) = ⊥
+IsNoFailure _ = Unit {0}
+
+-- the ordering is the full journal with all its rules, and perhaps others
+pub record IsFullJournal (s : Search) : Type 0 where
+  pub full : s.ordering ≡ Full
+  pub all : AreAmong (rules_of Full) s.rules

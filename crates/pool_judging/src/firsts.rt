@@ -1,0 +1,56 @@
+//! The first set of each kind of fault.
+
+ghost use Rattle.std.specs.Prelude.{◌≡◌, ◌⊎◌, ℕ, Option, Some, List, IfSome};
+ghost use Rattle.patch_sets.specs.Sets.{IsBefore};
+ghost use Rattle.crash_model.specs.Disk.{Disk};
+ghost use Rattle.crash_model.specs.Summary.{HasFault};
+ghost use Rattle.crash_model.specs.declared.patches.Patch.{Patch};
+ghost use Rattle.decision_model.specs.Decided.{AreDecided};
+ghost use Rattle.pool_judging.specs.Firsts.{AreFirstOfKinds, IsLeastOfKind};
+
+use decision_model::DecidedFault;
+use patch_sets::order::is_before;
+use search_model::FaultKind;
+
+/// The first set, in canonical order, that has a fault of each kind, by the faults that sets have and the first set of
+/// each: that of the kind with number n at place n - 1, and `None` where no set has such a fault.
+pub(crate) fn firsts(faults: &[DecidedFault]) -> [Option<u128>; 8]
+    ensures { (kept : Option ℕ) (base : Disk) (patches : List Patch)
+        → AreDecided (HasFault kept base patches) faults.now → AreFirstOfKinds kept base patches result }
+{
+    [
+        first_of(faults, FaultKind::Dangling),
+        first_of(faults, FaultKind::Twice),
+        first_of(faults, FaultKind::Unwritten),
+        first_of(faults, FaultKind::LowLinks),
+        first_of(faults, FaultKind::MarkedFree),
+        first_of(faults, FaultKind::Wild),
+        first_of(faults, FaultKind::Lost),
+        first_of(faults, FaultKind::NoBlock),
+    ]
+}
+
+/// The least in canonical order of the sets of the faults of a kind, or `None` where no fault is of the kind.
+fn first_of(faults: &[DecidedFault], kind: FaultKind) -> Option<u128>
+    ensures { IsLeastOfKind kind faults.now result }
+{
+    let mut least: Option<u128> = None;
+    for decided in faults {
+        if FaultKind::of(&decided.fault) == kind {
+            least = Some(earlier(least, decided.first));
+        }
+    }
+    least
+}
+
+/// The set, or the least one so far where that is before it in canonical order.
+fn earlier(least: Option<u128>, set: u128) -> u128
+    ensures one { (result ≡ set) ⊎ (least ≡ Some result) }
+    ensures set { ¬ (IsBefore set result) }
+    ensures least { IfSome least (λ so_far. ¬ (IsBefore so_far result)) }
+{
+    match least {
+        Some(so_far) if is_before(so_far, set) => so_far,
+        _ => set,
+    }
+}

@@ -1,0 +1,26 @@
+//! A pool whose sequences of operations are judged.
+
+ghost use Rattle.std.specs.List.{All};
+ghost use Rattle.crash_model.specs.Sound.{IsSound, HasZeroJournal};
+ghost use Rattle.search_model.specs.Workloads.{IsOperation};
+
+use crash_model::orderings::Ordering;
+use crash_model::steps::Step;
+use disk_image::Image;
+use std::alloc::Allocator;
+
+/// A pool of operations, whose sequences of up to `most` are judged over a base, under an ordering.
+///
+/// With `strict` the checker asks of each image, too, that nothing which the operations of the sequence keep is lost.
+/// The base is sound, and its journal is zero.
+#[derive(Drop)]
+pub struct PoolJudge<'a, A: Allocator + Copy> {
+    pub alloc: A,
+    pub base: &'a Image<A>,
+    pub pool: &'a [Step],
+    pub most: usize,
+    pub ordering: &'a Ordering,
+    pub strict: bool,
+    ghost operations: { ∥ All IsOperation pool.now ∥₁ },
+    ghost sound: { ∥ IsSound base.now × HasZeroJournal base.now ∥₁ },
+}

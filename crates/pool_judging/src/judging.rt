@@ -1,0 +1,122 @@
+//! How sequences of operations of a pool are judged.
+
+ghost use Rattle.std.specs.Prelude.{◌≡◌, ◌≢◌, ◌<◌, ℕ, Err, IfOk, None, List, length};
+ghost use Rattle.std.specs.List.{All};
+ghost use Rattle.crash_model.specs.Strict.{IsToldKept};
+ghost use Rattle.search_model.specs.Verdict.{IsVerdict};
+ghost use Rattle.search_model.specs.Refused.{refusal_of};
+ghost use Rattle.search_model.specs.Workloads.{Search, IsOperation, steps_at, trace_at};
+ghost use Rattle.pool_judging.specs.Judging.{search_by, IsVerdictOn, IsNoFailure, IsFullJournal};
+
+use crate::copying::step_copy;
+use crate::firsts::firsts;
+use crate::judge::PoolJudge;
+use crash_model::refusals::TraceFault;
+use crash_model::steps::Step;
+use fault_deciding::Decider;
+use inode_fs::kept;
+use order_modules::trace;
+use patch_graph::Graph;
+use search_model::{Places, Refusal, Verdict};
+use std::alloc::{AllocError, Allocator};
+use workload_search::Judge;
+
+impl<A: Allocator + Copy> PoolJudge<'_, A> {
+    /// The steps at these places of the pool. It fails only when out of memory.
+    pub fn steps_at(&self, places: &Places) -> Result<Vec<Step, A>, AllocError>
+        requires { All (λ place. place < length self.now.pool.now) places.now.items }
+        ensures { IfOk result (λ steps. steps.items ≡ steps_at self.now.pool.now places.now.items) }
+    {
+        let mut steps = Vec::new(self.alloc);
+        for place in places.as_slice() {
+            steps.push(step_copy(&self.pool[*place]))?;
+        }
+        Ok(steps)
+    }
+
+    /// What the checker is told of the inodes that the steps keep: nothing where it is not strict. It fails only when
+    /// out of memory.
+    pub fn told_kept(&self, steps: &[Step]) -> Result<Option<u16>, AllocError>
+        ensures { IfOk result (IsToldKept self.now.strict self.now.base.now steps.now) }
+    {
+        if !self.strict {
+            return Ok(None);
+        }
+        let kept = kept(self.base, steps)?;
+        Ok(Some(kept))
+    }
+
+    /// The verdict on the operations at these places of the pool, one after another. It fails only when out of memory.
+    ///
+    /// Under the full journal with all its rules, and with any others put in, none fails.
+    pub fn verdict_on(&self, places: &Places) -> Result<Verdict, AllocError>
+        requires { All (λ place. place < length self.now.pool.now) places.now.items }
+        ensures verdict { IfOk result (IsVerdict (search_by self.now) places.now.items) }
+        ensures full { IsFullJournal (search_by self.now) → IfOk result IsNoFailure }
+    {
+        let steps = self.steps_at(places)?;
+        self.judge_steps(&steps)
+    }
+
+    /// The verdict on operations, one after another. It fails only when out of memory.
+    fn judge_steps(&self, steps: &[Step]) -> Result<Verdict, AllocError>
+        requires { ∥ All IsOperation steps.now ∥₁ }
+        ensures verdict { (places : List ℕ) → steps.now ≡ steps_at self.now.pool.now places
+            → IfOk result (IsVerdict (search_by self.now) places) }
+        ensures full { IsFullJournal (search_by self.now) → IfOk result IsNoFailure }
+    {
+        // For the proof: what every image keeps.
+        let _blocks = self.base.blocks();
+        match trace(self.alloc, self.base, steps, self.ordering) {
+            Ok(traced) => {
+                let kept = self.told_kept(steps)?;
+                self.judge_graph(traced.graph(), kept)
+            }
+            Err(fault) => refused(fault),
+        }
+    }
+
+    /// The verdict on the operations with these patches, none of which is refused, by a checker that is told what they
+    /// keep. It fails only when out of memory.
+    fn judge_graph(&self, graph: &Graph<A>, kept: Option<u16>) -> Result<Verdict, AllocError>
+        requires { All (λ patch. patch.block < self.now.base.now.blocks) graph.now }
+        ensures { IfOk result (IsVerdictOn kept self.now.base.now graph.now) }
+    {
+        let decider = Decider {
+            alloc: self.alloc,
+            base: self.base,
+            graph,
+            kept,
+        };
+        if !decider.any_fails()? {
+            return Ok(Verdict::Passes);
+        }
+        let faults = decider.faults_alone()?;
+        Ok(Verdict::Fails(firsts(&faults)))
+    }
+}
+
+impl<A: Allocator + Copy> Judge for PoolJudge<'_, A> {
+    ghost search = { λ j. search_by j };
+
+    fn judge(&self, places: &Places) -> Result<Verdict, AllocError> {
+        self.verdict_on(places)
+    }
+}
+
+/// The verdict on operations of which one is refused for this fault. It fails only when the fault is that memory ran
+/// out, which refuses no operation.
+fn refused(fault: TraceFault) -> Result<Verdict, AllocError>
+    requires { fault ≢ TraceFault.OutOfMemory → refusal_of fault ≢ None }
+    ensures verdict { (s : Search) (places : List ℕ) → (fault ≢ TraceFault.OutOfMemory → trace_at s places ≡ Err fault)
+        → IfOk result (IsVerdict s places) }
+    ensures full { IfOk result IsNoFailure }
+{
+    match fault {
+        TraceFault::OutOfMemory => Err(AllocError),
+        _ => match Refusal::of(fault) {
+            Some(reason) => Ok(Verdict::Refused(reason)),
+            None => unreachable!(),
+        },
+    }
+}

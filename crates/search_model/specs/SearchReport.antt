@@ -1,0 +1,154 @@
+-- What a search reports: how many workloads there are and how many fail, and for each kind of fault the first workload
+-- that shows it.
+use Rattle.std.specs.Prelude.{◌≡◌, ℕ, List, [], ◌∷◌, ◌++◌, length, map, flat_map, if◌then◌else◌, codes, decimal}
+use Rattle.std.specs.Prelude.{Option, Bool, ◌==◌}
+use Rattle.std.specs.List.{All}
+use Rattle.crash_model.specs.Answer.{HasBase, IsAnswer, Refused, ordering_rules}
+use Rattle.crash_model.specs.Disk.{Disk}
+use Rattle.crash_model.specs.Lists.{join_of}
+use Rattle.crash_model.specs.Report.{Section, AreSections, IsLed, module_text, line, section_text, fault_text}
+use Rattle.crash_model.specs.Report.{json_string, json_array, ids_json, replay_json, writes_json}
+use Rattle.crash_model.specs.Script.{words_of}
+use Rattle.crash_model.specs.Whole.{told_without, told_with, rules_json}
+use Rattle.crash_model.specs.declared.patches.Patch.{Patch}
+use Rattle.crash_model.specs.declared.refusals.RunFault.{RunFault}
+use Rattle.crash_model.specs.declared.refusals.RunFault.TheVariants.{GroupFault}
+use Rattle.crash_model.specs.declared.settings.Settings.{Settings}
+use Rattle.crash_model.specs.declared.steps.Step.{Step}
+use Rattle.decision_model.specs.Decision.{ordering_text}
+use Rattle.search_model.specs.Kinds.{kind_number, kind_name}
+use Rattle.search_model.specs.Refused.{refusal_number, refusal_text}
+use Rattle.search_model.specs.Found.{AreFound}
+use Rattle.search_model.specs.Workloads.{Search, steps_at, IsOperation, HasPatches}
+use Rattle.search_model.specs.declared.found.Found.{Found}
+use Rattle.search_model.specs.declared.found.RefusedCount.{RefusedCount}
+use Rattle.search_model.specs.declared.found.ShownKind.{ShownKind}
+
+-- what is told of a kind of fault: what was found; of the first workload that shows it the steps, how many patches it
+-- has, and the section of the first set that has such a fault
+pub record ToldKind : Type 0 where
+  pub shown : ShownKind
+  pub steps : List Step
+  pub patches : ℕ
+  pub first : Section
+
+pub record IsToldKind (s : Search) (explain : Bool) (told : ToldKind) : Type 0 where
+  pub steps : told.steps ≡ steps_at s.pool told.shown.places.items
+  pub kept : Option ℕ
+  pub patches : List Patch
+  pub traced : HasPatches s told.shown.places.items kept patches
+  pub number : told.patches ≡ length patches
+  pub section : AreSections (record { explain = explain; kept = kept }) s.base patches (told.shown.first ∷ [])
+      (told.first ∷ [])
+  pub led : IsLed patches told.first
+
+-- ---- text
+
+abbrev pub refused_text : RefusedCount → List ℕ
+refused_text t =
+    line (codes "refused " ++ decimal (refusal_number t.reason) ++ codes " " ++ refusal_text t.reason ++ codes ": "
+    ++ decimal t.count)
+
+-- the words of a step's line
+abbrev pub step_text : Step → List ℕ
+step_text step = join_of 32 (words_of step.act)
+
+abbrev pub kind_text : ToldKind → List ℕ
+kind_text t =
+    line (codes "kind " ++ decimal (kind_number t.shown.kind) ++ codes " " ++ kind_name t.shown.kind)
+    ++ line (codes "workloads " ++ decimal t.shown.workloads)
+    ++ flat_map (λ step. line (codes "step " ++ step_text step)) t.steps
+    ++ section_text t.patches t.first
+
+-- the lines before the first kind; a pool has so many lines
+unfoldable pub search_text : Settings → ℕ → ℕ → Found → List ℕ
+search_text settings most pool found =
+    ordering_text settings
+    ++ line (codes "search " ++ decimal most)
+    ++ line (codes "pool " ++ decimal pool)
+    ++ line (codes "workloads " ++ decimal found.workloads)
+    ++ line (codes "failing " ++ decimal found.failing)
+    ++ flat_map refused_text found.refused.items
+
+unfoldable pub text_search : Settings → ℕ → ℕ → Found → List ToldKind → List ℕ
+text_search settings most pool found kinds = search_text settings most pool found ++ flat_map kind_text kinds
+
+-- ---- JSON: one compact object, its keys in ascending order, and a line feed
+
+abbrev pub refused_json : RefusedCount → List ℕ
+refused_json t =
+    codes "{\"count\":" ++ decimal t.count ++ codes ",\"number\":" ++ decimal (refusal_number t.reason)
+    ++ codes ",\"text\":" ++ json_string (refusal_text t.reason) ++ codes "}"
+
+abbrev pub kind_json : ToldKind → List ℕ
+kind_json t =
+    codes "{\"faults\":" ++ json_array (map (λ f. json_string (fault_text f)) t.first.found)
+    ++ codes ",\"kind\":" ++ decimal (kind_number t.shown.kind)
+    ++ codes ",\"name\":" ++ json_string (kind_name t.shown.kind) ++ codes ","
+    ++ replay_json t.first.replay
+    ++ codes "\"set\":" ++ ids_json t.patches t.first.set
+    ++ codes ",\"steps\":" ++ json_array (map (λ step. json_string (step_text step)) t.steps)
+    ++ codes ",\"workloads\":" ++ decimal t.shown.workloads
+    ++ codes ",\"writes\":" ++ writes_json t.patches t.first.writes ++ codes "}"
+
+unfoldable pub json_search : Settings → ℕ → ℕ → Found → List ToldKind → List ℕ
+json_search settings most pool found kinds =
+    codes "{\"failing\":" ++ decimal found.failing
+    ++ codes ",\"kinds\":" ++ json_array (map kind_json kinds)
+    ++ codes ",\"module\":" ++ json_string (module_text settings.module)
+    ++ codes ",\"pool\":" ++ decimal pool
+    ++ codes ",\"refused\":" ++ json_array (map refused_json found.refused.items)
+    ++ codes ",\"search\":" ++ decimal most
+    ++ (if settings.strict then codes ",\"strict\":true" else [])
+    ++ rules_json (codes "with") (told_with settings)
+    ++ rules_json (codes "without") (told_without settings)
+    ++ codes ",\"workloads\":" ++ decimal found.workloads
+    ++ codes "}\n"
+
+-- the report's bytes
+abbrev pub search_bytes : Settings → ℕ → ℕ → Found → List ToldKind → List ℕ
+search_bytes settings most pool found kinds =
+    if settings.json then json_search settings most pool found kinds else text_search settings most pool found kinds
+
+-- ---- the answer
+
+-- the search that the settings ask for, over a base and a pool
+abbrev pub search_of : Settings → ℕ → Disk → List Step → Search
+search_of settings most base pool = record {
+  ordering = settings.module;
+  rules = ordering_rules settings;
+  strict = settings.strict;
+  base = base;
+  pool = pool;
+  most = most;
+}
+
+-- the report, and 1 where a workload fails, else 0
+pub record IsSearchReport (settings : Settings) (most : ℕ) (base : Disk) (pool : List Step) (text : List ℕ)
+    (number : ℕ) : Type 0 where
+  pub found : Found
+  pub exactly : AreFound (search_of settings most base pool) found
+  pub told : List ToldKind
+  pub kinds : map (λ t. t.shown) told ≡ found.kinds.items
+  pub each : All (IsToldKind (search_of settings most base pool) settings.explain) told
+  pub whole : text ≡ search_bytes settings most (length pool) found told
+  pub number_of : number ≡ (if found.failing == 0 then 0 else 1)
+
+-- the report on a script whose steps behind the start line are a pool of operations
+pub record IsSearched (bytes : List ℕ) (settings : Settings) (most : ℕ) (text : List ℕ) (number : ℕ) : Type 0 where
+  pub base : Disk
+  pub pool : List Step
+  pub start : HasBase bytes settings base pool
+  pub operations : All IsOperation pool
+  pub report : IsSearchReport settings most base pool text number
+
+-- a search is refused: as any other run before its first traced step, or for the first line of the pool that is no
+-- operation
+pub data IsSearchRefusal (bytes : List ℕ) (settings : Settings) : RunFault → Type 0 where
+  before_the_pool : (fault : RunFault) → IsAnswer bytes settings (Refused fault)
+      → ((base : Disk) (pool : List Step) → ¬ (HasBase bytes settings base pool))
+      → IsSearchRefusal bytes settings fault
+  no_operation : (base : Disk) (front rest : List Step) (step : Step)
+      → HasBase bytes settings base (front ++ step ∷ rest)
+      → All IsOperation front → (¬ (IsOperation step))
+      → IsSearchRefusal bytes settings (GroupFault step.line)

@@ -1,0 +1,41 @@
+-- How a sequence of operations of a pool is judged.
+use Rattle.std.specs.Prelude.{◌≡◌, ℕ, ◌-◌, List, Option, None, Some, Ok, Err, slice_index_or}
+use Rattle.crash_model.specs.Disk.{Disk}
+use Rattle.crash_model.specs.Summary.{IsFirst}
+use Rattle.crash_model.specs.Trace.{Tracing}
+use Rattle.crash_model.specs.declared.patches.Patch.{Patch}
+use Rattle.crash_model.specs.declared.refusals.TraceFault.{TraceFault}
+use Rattle.search_model.specs.Kinds.{kind_number}
+use Rattle.search_model.specs.Refused.{refusal_of}
+use Rattle.search_model.specs.Workloads.{Search, trace_at, HasPatches, Fails, HasKind}
+use Rattle.search_model.specs.declared.fault_kind.FaultKind.{FaultKind}
+use Rattle.search_model.specs.declared.refusal.Refusal.{Refusal}
+use Rattle.search_model.specs.declared.verdict.Verdict.{Verdict}
+use Rattle.search_model.specs.declared.verdict.Verdict.TheVariants as verdict
+
+-- an operation is refused for the reason
+pub record IsRefusal (s : Search) (places : List ℕ) (reason : Refusal) : Type 0 where
+  pub fault : TraceFault
+  pub refused : trace_at s places ≡ Err fault
+  pub because : refusal_of fault ≡ Some reason
+
+-- none of the operations is refused
+abbrev pub IsAccepted : Search → List ℕ → Type 0
+IsAccepted s places = (last : Tracing) × (trace_at s places ≡ Ok last)
+
+-- the first set with a fault of the kind, or none where no set has one
+abbrev pub IsFirstOfKind : FaultKind → Option ℕ → Disk → List Patch → Option ℕ → Type 0
+IsFirstOfKind kind kept base patches None = (set : ℕ) → ¬ (HasKind kind kept base patches set)
+IsFirstOfKind kind kept base patches (Some set) = IsFirst (HasKind kind kept base patches) set
+
+-- for each kind the first set with a fault of the kind; the kinds stand in the order of their numbers, from 1
+abbrev pub AreFirsts : Search → List ℕ → List (Option ℕ) → Type 0
+AreFirsts s places firsts =
+    (kept : Option ℕ) (patches : List Patch) → HasPatches s places kept patches → (kind : FaultKind)
+    → IsFirstOfKind kind kept s.base patches (slice_index_or firsts (kind_number kind - 1) None)
+
+-- the verdict on the sequence of operations at these places
+abbrev pub IsVerdict : Search → List ℕ → Verdict → Type 0
+IsVerdict s places (verdict.Refused reason) = IsRefusal s places reason
+IsVerdict s places verdict.Passes = IsAccepted s places × (¬ (Fails s places))
+IsVerdict s places (verdict.Fails firsts) = IsAccepted s places × Fails s places × AreFirsts s places firsts

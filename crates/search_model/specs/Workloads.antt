@@ -1,0 +1,95 @@
+-- The workloads of a pool: those that fail, and the operations that are refused. A workload is the sequence of its
+-- operations' places in the pool.
+use Rattle.std.specs.Prelude.{◌≡◌, ◌≢◌, ℕ, ◌<◌, ◌≤◌, ◌⊎◌, List, [], ◌∷◌, ◌++◌, length, flat_map, Bool, Option, Some}
+use Rattle.std.specs.Prelude.{Result, Ok, Err, slice_get, option_to_list}
+use Rattle.std.specs.List.{All}
+use Rattle.crash_model.specs.Disk.{Disk}
+use Rattle.crash_model.specs.Strict.{IsToldKept, IsFailingUnder}
+use Rattle.crash_model.specs.Summary.{HasFault}
+use Rattle.crash_model.specs.Trace.{Tracing, trace_start, trace_from, IsGraphOf}
+use Rattle.crash_model.specs.declared.fault.Fault.{Fault}
+use Rattle.crash_model.specs.declared.modules.Module.{Module}
+use Rattle.crash_model.specs.declared.operations.Op.{Op}
+use Rattle.crash_model.specs.declared.patches.Patch.{Patch}
+use Rattle.crash_model.specs.declared.refusals.TraceFault.{TraceFault}
+use Rattle.crash_model.specs.declared.rules.Rule.{Rule}
+use Rattle.crash_model.specs.declared.steps.Act.TheVariants.{Do}
+use Rattle.crash_model.specs.declared.steps.Step.{Step}
+use Rattle.search_model.specs.Kinds.{kind_of}
+use Rattle.search_model.specs.Refused.{refusal_of}
+use Rattle.search_model.specs.declared.fault_kind.FaultKind.{FaultKind}
+use Rattle.search_model.specs.declared.refusal.Refusal.{Refusal}
+
+-- what a search is asked: the ordering, the checker, the base, the pool, and the most operations of a workload
+pub record Search : Type 0 where
+  pub ordering : Module
+  pub rules : List Rule
+  pub strict : Bool
+  pub base : Disk
+  pub pool : List Step
+  pub most : ℕ
+
+-- a step that is an operation; the others open, end and order groups of patches
+abbrev pub IsOperation : Step → Type 0
+IsOperation step = (op : Op) × (step.act ≡ Do op)
+
+-- the steps at these places of a pool
+abbrev pub steps_at : List Step → List ℕ → List Step
+steps_at pool places = flat_map (λ place. option_to_list (slice_get pool place)) places
+
+-- the trace of a sequence over the base
+abbrev pub trace_at : Search → List ℕ → Result Tracing TraceFault
+trace_at s places = trace_from s.ordering (trace_start s.base) (steps_at s.pool places)
+
+-- the patches of a sequence, and what the checker is told of the inodes that it keeps
+pub record HasPatches (s : Search) (places : List ℕ) (kept : Option ℕ) (patches : List Patch) : Type 0 where
+  pub last : Tracing
+  pub traced : trace_at s places ≡ Ok last
+  pub graph : IsGraphOf s.rules s.base last patches
+  pub told : IsToldKept s.strict s.base (steps_at s.pool places) kept
+
+-- a closed set of its patches fails
+abbrev pub Fails : Search → List ℕ → Type 0
+Fails s places =
+    (kept : Option ℕ) × (patches : List Patch) × HasPatches s places kept patches
+    × ((set : ℕ) × IsFailingUnder kept s.base patches set)
+
+-- a workload: some operations of the pool, none of which is refused, and none of whose shorter beginnings fails
+pub record IsWorkload (s : Search) (places : List ℕ) : Type 0 where
+  pub some : places ≢ []
+  pub most : length places ≤ s.most
+  pub among : All (λ place. place < length s.pool) places
+  pub accepted : (last : Tracing) × (trace_at s places ≡ Ok last)
+  pub safe : (front rest : List ℕ) → front ≢ [] → rest ≢ [] → front ++ rest ≡ places → ¬ (Fails s front)
+
+abbrev pub IsFailingWorkload : Search → List ℕ → Type 0
+IsFailingWorkload s places = IsWorkload s places × Fails s places
+
+-- what can be made longer: the empty sequence, and each workload that does not fail
+abbrev pub IsBeginning : Search → List ℕ → Type 0
+IsBeginning s places = (places ≡ []) ⊎ (IsWorkload s places × (¬ (Fails s places)))
+
+-- a beginning and one more operation, which is refused for this reason
+pub record IsRefusedFor (s : Search) (reason : Refusal) (places : List ℕ) : Type 0 where
+  pub front : List ℕ
+  pub place : ℕ
+  pub whole : front ++ place ∷ [] ≡ places
+  pub beginning : IsBeginning s front
+  pub most : length places ≤ s.most
+  pub among : place < length s.pool
+  pub fault : TraceFault
+  pub refused : trace_at s places ≡ Err fault
+  pub because : refusal_of fault ≡ Some reason
+
+-- a failing set with a fault of a kind
+abbrev pub HasKind : FaultKind → Option ℕ → Disk → List Patch → ℕ → Type 0
+HasKind kind kept base patches set = (fault : Fault) × HasFault kept base patches fault set × (kind_of fault ≡ kind)
+
+-- a workload that has such a set
+pub record ShowsKind (s : Search) (kind : FaultKind) (places : List ℕ) : Type 0 where
+  pub workload : IsWorkload s places
+  pub kept : Option ℕ
+  pub patches : List Patch
+  pub traced : HasPatches s places kept patches
+  pub set : ℕ
+  pub has : HasKind kind kept s.base patches set

@@ -1,0 +1,174 @@
+//! Reports as JSON.
+
+ghost use Rattle.std.specs.Prelude.{◌≡◌, ◌++◌, [], length, map, string_bytes, IfOk, OnOk};
+ghost use Rattle.std.specs.List.{All};
+ghost use Rattle.crash_model.specs.Lists.{join_of};
+ghost use Rattle.crash_model.specs.Explain.{op_text};
+ghost use Rattle.crash_model.specs.Report.{json_string};
+ghost use Rattle.search_model.specs.SearchReport.{json_search, kind_json, refused_json};
+ghost use Rattle.search_model.specs.Workloads.{IsOperation};
+ghost use Rattle.search_report.specs.Findings.{kind_head, kind_items, ordering_keys, told_kind, told_kinds};
+
+use crate::findings::{KindCrash, SearchFindings};
+use crate::operations::operations_at;
+use crash_model::operations::Op;
+use crash_model::settings::Settings;
+use crash_model::steps::Step;
+use json_values::{KnownTexts, push_replay, push_set, write_comma};
+use report_json::{write_module_key, write_rule_key, write_strict_key};
+use search_model::RefusedCount;
+use std::alloc::{AllocError, Allocator, Global};
+
+/// A report of a search as JSON: one compact object, its keys in ascending order, and a line feed. The numbers of
+/// workloads can be more than 64 bits hold.
+///
+/// The pool has operations alone. It fails only when out of memory.
+pub fn search_json<A: Allocator>(
+    heap: Global,
+    findings: &SearchFindings<'_, A>,
+) -> Result<String, AllocError>
+    requires { All IsOperation findings.now.pool.now }
+    ensures { IfOk result (λ text. string_bytes text ≡ json_search findings.now.settings.now findings.now.most
+        (length findings.now.pool.now) findings.now.found.now (told_kinds findings.now)) }
+{
+    let mut out = String::new(heap);
+    write_findings(&mut out, findings)?;
+    Ok(out)
+}
+
+/// The report, as an empty text's first.
+fn write_findings<A: Allocator>(
+    out: &mut String,
+    findings: &SearchFindings<'_, A>,
+) -> Result<(), AllocError>
+    requires empty { string_bytes out.old ≡ [] }
+    requires operations { All IsOperation findings.now.pool.now }
+    ensures { OnOk result (string_bytes out.new ≡ json_search findings.now.settings.now findings.now.most
+        (length findings.now.pool.now) findings.now.found.now (told_kinds findings.now)) }
+{
+    let (most, pool) = (findings.most, findings.pool.len());
+    let (workloads, failing) = (findings.found.workloads, findings.found.failing);
+    write!(out, "{{\"failing\":{failing},\"kinds\":[")?;
+    write_kinds(out, findings.pool, findings.kinds)?;
+    out.push_str("]")?;
+    write_module_key(out, findings.settings.module)?;
+    write!(out, ",\"pool\":{pool},\"refused\":[")?;
+    write_refused(out, findings.found.refused.as_slice())?;
+    write!(out, "],\"search\":{most}")?;
+    write_ordering_keys(out, findings.settings)?;
+    write!(out, ",\"workloads\":{workloads}}}\n")?;
+    Ok(())
+}
+
+/// The keys that say that the run is strict, and which rules are put in and taken out.
+fn write_ordering_keys(out: &mut String, settings: &Settings) -> Result<(), AllocError>
+    ensures { OnOk result (string_bytes out.new ≡ string_bytes out.old
+        ++ ordering_keys settings.now) }
+{
+    write_strict_key(out, settings.strict)?;
+    write_rule_key(out, "with", settings.put_in().as_slice())?;
+    write_rule_key(out, "without", settings.taken_out().as_slice())?;
+    Ok(())
+}
+
+/// The objects of the reasons for which operations are refused, with a comma between two.
+fn write_refused(out: &mut String, refused: &[RefusedCount]) -> Result<(), AllocError>
+    ensures { OnOk result (string_bytes out.new
+        ≡ string_bytes out.old ++ join_of 44 (map refused_json refused.now)) }
+{
+    for (at, refusal) in refused.iter().enumerate() {
+        write_comma(out, at)?;
+        write_refusal(out, *refusal)?;
+    }
+    Ok(())
+}
+
+/// The object of a reason: how many operations are refused for it, its number and its text.
+fn write_refusal(out: &mut String, refusal: RefusedCount) -> Result<(), AllocError>
+    ensures { OnOk result (string_bytes out.new ≡ string_bytes out.old ++ refused_json refusal) }
+{
+    let (number, text) = (refusal.reason.number(), refusal.reason.text());
+    let count = refusal.count;
+    write!(
+        out,
+        "{{\"count\":{count},\"number\":{number},\"text\":\"{text}\"}}"
+    )?;
+    Ok(())
+}
+
+/// The objects of the kinds of faults, with a comma between two.
+fn write_kinds<A: Allocator>(
+    out: &mut String,
+    pool: &[Step],
+    kinds: &[KindCrash<'_, A>],
+) -> Result<(), AllocError>
+    requires { All IsOperation pool.now }
+    ensures { OnOk result (string_bytes out.new ≡ string_bytes out.old ++ kind_items pool.now kinds.now) }
+{
+    for (at, crash) in kinds.iter().enumerate() {
+        write_comma(out, at)?;
+        write_kind(out, pool, crash)?;
+    }
+    Ok(())
+}
+
+/// The object of a kind of fault. The texts of block writes and faults serve this one, whose workload has patches of
+/// its own.
+fn write_kind<A: Allocator>(
+    out: &mut String,
+    pool: &[Step],
+    crash: &KindCrash<'_, A>,
+) -> Result<(), AllocError>
+    requires { All IsOperation pool.now }
+    ensures { OnOk result (string_bytes out.new ≡ string_bytes out.old ++ kind_json (told_kind pool.now crash.now)) }
+{
+    let heap = *out.allocator();
+    let (section, workloads) = (&crash.section, crash.shown.workloads);
+    let mut known = KnownTexts::new(heap, crash.patches)?;
+    write_head(out, &mut known, crash)?;
+    out.push_str("\"set\":")?;
+    push_set(out, crash.patches, section.set)?;
+    out.push_str(",\"steps\":[")?;
+    let ops = operations_at(heap, pool, crash.shown.places.as_slice())?;
+    write_steps(out, &ops)?;
+    write!(out, "],\"workloads\":{workloads},\"writes\":[")?;
+    known.push_writes(out, &section.writes)?;
+    out.push_str("]}")?;
+    Ok(())
+}
+
+/// The keys of a kind's object before the set.
+fn write_head<A: Allocator>(
+    out: &mut String,
+    known: &mut KnownTexts,
+    crash: &KindCrash<'_, A>,
+) -> Result<(), AllocError>
+    ensures text { OnOk result (string_bytes out.new ≡ string_bytes out.old ++ kind_head crash.now) }
+    ensures known { known.new ≡ known.old }
+{
+    let (number, name) = (crash.shown.kind.number(), crash.shown.kind.name());
+    out.push_str("{\"faults\":[")?;
+    known.push_faults(out, &crash.section.faults)?;
+    write!(out, "],\"kind\":{number},\"name\":\"{name}\",")?;
+    push_replay(out, &crash.section.replay)?;
+    Ok(())
+}
+
+/// The texts of the operations, with a comma between two.
+fn write_steps(out: &mut String, ops: &[&Op]) -> Result<(), AllocError>
+    ensures { OnOk result (string_bytes out.new
+        ≡ string_bytes out.old ++ join_of 44 (map (λ op. json_string (op_text op.now)) ops.now)) }
+{
+    for (at, op) in ops.iter().enumerate() {
+        write_comma(out, at)?;
+        write_step(out, *op)?;
+    }
+    Ok(())
+}
+
+/// The text of an operation, in quotes.
+fn write_step(out: &mut String, op: &Op) -> Result<(), AllocError>
+    ensures { OnOk result (string_bytes out.new ≡ string_bytes out.old ++ json_string (op_text op.now)) }
+{
+    write!(out, "\"{op}\"")
+}

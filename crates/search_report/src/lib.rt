@@ -1,0 +1,13 @@
+//! Reports of searches, as text and as JSON.
+#![tactic(auto)]
+
+pub mod findings;
+pub mod json;
+mod operations;
+pub mod report;
+pub mod text;
+
+pub use findings::{KindCrash, SearchFindings};
+pub use json::search_json;
+pub use report::search_report;
+pub use text::search_text;

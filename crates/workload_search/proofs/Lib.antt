@@ -1,0 +1,14 @@
+pub mod Lists
+pub mod Order
+pub mod Accepted
+pub mod Sequences
+pub mod Verdicts
+pub mod Counted
+pub mod Extended
+pub mod Tallied
+pub mod Added
+pub mod Batches
+pub mod Finding
+pub mod Telling
+pub mod Searched
+pub mod Parts

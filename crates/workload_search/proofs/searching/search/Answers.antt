@@ -1,0 +1,67 @@
+use Rattle.std.proofs.Common.{ℕ, ◌+◌, ◌*◌, ◌≤◌, ◌<◌, ◌^◌, List, length, arith, sym, subst, lt-ltb}
+use Rattle.std.specs.List.{All}
+use Rattle.arrayvec.specs.ArrayVec.{ArrayVec}
+use Rattle.workload_search.specs.Tries.{IsExtendable}
+use Rattle.workload_search.proofs.Finding.{all_found}
+use Rattle.workload_search.proofs.Searched.{batch_of, level_room, all_extendable, searched_none, join_room}
+use Rattle.workload_search.proofs.Searched.{searched_more, all_searched}
+use Rattle.workload_search.proofs.searching.search.Goals as goal
+
+pub loop-made-init : goal.loop-made-init
+loop-made-init g c = searched_none (g.J.Judge.search c.args.judge.now) c.args.pool c.in_ok-tally.tally
+    c.in_ok-beginnings.beginnings.items c.in_ok-tally.ensures c.in_ok-beginnings.ensures
+
+pub try_level-requires-clause-room : goal.try_level-requires-clause-room
+try_level-requires-clause-room g c = λ _ _.
+    let beginnings = c.loop-made.beginnings in
+    let pool = c.args.pool in
+    let few : length beginnings.items ≤ 2 ^ 63 = omega (arith, beginnings.ok.0, beginnings.ok.1, beginnings.small) in
+    subst (λ (xs : List (ArrayVec ℕ)). length xs * pool < 2 ^ 128) (sym c.deref.ensures.value)
+    (level_room pool beginnings.items few c.requires.small)
+
+pub try_level-requires-clause-short : goal.try_level-requires-clause-short
+try_level-requires-clause-short g c = λ _ _.
+    let beginnings = c.loop-made.beginnings in
+    let pool = c.args.pool in
+    subst (All (IsExtendable pool)) (sym c.deref.ensures.value)
+    (all_extendable (g.J.Judge.search c.args.judge.now) pool c.loop-made.made beginnings.items c.requires.pool
+    (omega (arith, c.loop-made-test.true, c.requires.range.1))
+    (c.loop-made.invariant.fronts (omega (arith, c.loop-made-test.true, c.requires.most))))
+
+pub join-requires : goal.join-requires
+join-requires g c =
+    let s = g.J.Judge.search c.args.judge.now in
+    let beginnings = c.loop-made.beginnings in
+    let pool = c.args.pool in
+    let few : length beginnings.items ≤ 2 ^ 63 = omega (arith, beginnings.ok.0, beginnings.ok.1, beginnings.small) in
+    join_room s pool c.loop-made.made beginnings.items c.loop-made.tally _ c.in_ok-batch.batch few
+    (omega (arith, c.loop-made-test.true, c.requires.range.1)) c.requires.small c.loop-made.invariant
+    (batch_of s _ pool c.deref.result.now beginnings.items c.in_ok-batch.batch c.deref.ensures.value
+    c.in_ok-batch.ensures)
+
+pub loop-made-preserved : goal.loop-made-preserved
+loop-made-preserved g c =
+    let s = g.J.Judge.search c.args.judge.now in
+    let beginnings = c.loop-made.beginnings in
+    let pool = c.args.pool in
+    let made = c.loop-made.made in
+    let so_far = c.loop-made.invariant in
+    let few : length beginnings.items ≤ 2 ^ 63 = omega (arith, beginnings.ok.0, beginnings.ok.1, beginnings.small) in
+    let b = batch_of s _ pool c.deref.result.now beginnings.items c.in_ok-batch.batch c.deref.ensures.value
+    c.in_ok-batch.ensures in
+    searched_more s pool made beginnings.items c.loop-made.tally c.join.new.self _ c.in_ok-batch.batch c.requires.pool
+    few (omega (arith, c.loop-made-test.true, c.requires.most))
+    (λ more. lt-ltb (made + 1) c.args.most (omega (arith, more, c.requires.most))) so_far b
+    (c.join.ensures so_far.tried b.tried so_far.is b.tally)
+
+pub found-requires : goal.found-requires
+found-requires g c = c.loop-made.invariant.is.kinds_long
+
+pub returns : goal.returns
+returns g c =
+    let s = g.J.Judge.search c.args.judge.now in
+    let so_far = c.loop-made.invariant in
+    all_found s so_far.tried
+    (all_searched s c.args.pool c.loop-made.made c.loop-made.tally c.loop-made.beginnings.items
+    (omega (arith, c.loop-made-test.false, c.requires.most)) so_far)
+    c.loop-made.tally so_far.is c.found.result c.found.ensures

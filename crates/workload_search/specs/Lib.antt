@@ -1,0 +1,3 @@
+pub mod Tallies
+pub mod Tries
+pub mod Told

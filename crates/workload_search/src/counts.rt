@@ -1,0 +1,56 @@
+//! Lists of counts: for each kind of fault, and for each reason.
+ghost use Rattle.std.specs.Prelude.{◌≡◌, ◌+◌, ◌<◌, ◌^◌, ℕ, List, length, IfOk, slice_index};
+ghost use Rattle.workload_search.specs.Tallies.{AreNoKinds, AreKindsAdded, AreKindsJoined, KindsHaveRoom};
+ghost use Rattle.workload_search.specs.Tallies.{KindsHaveRoomFor, AreCountsJoined};
+
+use crate::kinds::KindTally;
+use search_model::{KINDS, Places, REFUSALS};
+use std::alloc::{AllocError, Allocator};
+
+/// For each kind that no workload shows it.
+pub(crate) fn no_kinds<A: Allocator>(alloc: A) -> Result<Vec<KindTally, A>, AllocError>
+    ensures { IfOk result (λ kinds. AreNoKinds kinds.items) }
+{
+    let mut kinds = Vec::new(alloc);
+    for _kind in 0..KINDS {
+        kinds.push(KindTally {
+            workloads: 0,
+            first: None,
+        })?;
+    }
+    Ok(kinds)
+}
+
+/// Counts a workload for each kind that has a first set.
+pub(crate) fn add_kinds(kinds: &mut [KindTally], places: &Places, firsts: &[Option<u128>; KINDS])
+    requires long { length kinds.old ≡ 8 }
+    requires room { KindsHaveRoom kinds.old }
+    ensures { AreKindsAdded places.now.items firsts.now kinds.old kinds.new }
+{
+    for i in 0..KINDS {
+        if let Some(set) = firsts[i] {
+            kinds[i].add(places, set);
+        }
+    }
+}
+
+/// Adds what is counted of each kind to that of earlier workloads.
+pub(crate) fn join_kinds(kinds: &mut [KindTally], later: &[KindTally])
+    requires long { (length kinds.old ≡ 8) × (length later.now ≡ 8) }
+    requires room { KindsHaveRoomFor kinds.old later.now }
+    ensures { AreKindsJoined later.now kinds.old kinds.new }
+{
+    for i in 0..KINDS {
+        kinds[i].join(&later[i]);
+    }
+}
+
+/// Adds the count of each reason to that of earlier sequences.
+pub(crate) fn join_counts(counts: &mut [u128; REFUSALS], later: &[u128; REFUSALS])
+    requires { (i : ℕ) → i < 12 → slice_index counts.old i + slice_index later.now i < 2 ^ 128 }
+    ensures { AreCountsJoined counts.old later.now counts.new }
+{
+    for i in 0..REFUSALS {
+        counts[i] += later[i];
+    }
+}

@@ -1,0 +1,20 @@
+//! The search for workloads of a pool: which there are, which fail and which operations are refused, asked of a judge.
+//!
+//! Sequences of operations are tried level by level, shorter ones first. Only a sequence that is accepted and does not
+//! fail is made longer, by each operation of the pool. Workers share the sequences of a level, and what they count is
+//! joined in order, so the same is found for each number of workers.
+#![tactic(auto)]
+
+mod batch;
+mod counts;
+mod found;
+mod judge;
+mod kinds;
+mod levels;
+mod places;
+mod searching;
+mod tally;
+mod trying;
+
+pub use judge::Judge;
+pub use searching::search;
