@@ -92,5 +92,14 @@ class StandardInput(unittest.TestCase):
         self.assertEqual((run.status, run.output, run.terminal), (0, CREATED, b""))
 
 
+class Search(unittest.TestCase):
+    """A search tries the lines of a pool, and not the script as it stands."""
+
+    def test_a_search_has_no_warnings(self):
+        words, script = ["--with", "Copy:Copy"], b"start\ncreate /a\n"
+        self.assertIn(b"warning: ", on_terminal([program(), *words], script).terminal)
+        self.assertEqual(on_terminal([program(), *words, "--search", "1"], script).terminal, b"")
+
+
 if __name__ == "__main__":
     unittest.main()

@@ -16,6 +16,7 @@ use devices::source::{Source, read_to_end};
 use devices::standard::Counted;
 use explorers::{Gate, OpenGate};
 use hints::{Asked, hint_of, output_hint, warnings_of};
+use questions::Question;
 use std::alloc::Allocator;
 use std::fs::File;
 use std::io::{self, Read, Write};
@@ -160,7 +161,7 @@ where
     let asked = Asked { script, settings };
     match serve_script(host, script, sink, &call.request, gate) {
         Ok(number) => {
-            write_warnings(host, asked, err);
+            write_warnings(host, call.request.question, asked, err);
             status_of(number)
         }
         Err(fault) => {
@@ -187,12 +188,14 @@ where
 }
 
 /// Writes what the run was asked for in vain, where the host gives hints.
-fn write_warnings<R, A, E>(host: &Host<'_, R, A>, asked: Asked<'_>, err: &mut E)
+///
+/// A search tries the lines of a pool and not the script as it stands, so it has no warnings.
+fn write_warnings<R, A, E>(host: &Host<'_, R, A>, question: Question, asked: Asked<'_>, err: &mut E)
 where
     A: Allocator + Copy,
     E: Write,
 {
-    if !host.gives_hints {
+    if !host.gives_hints || matches!(question, Question::Search(_)) {
         return;
     }
     let Ok(warnings) = warnings_of(host.alloc, asked) else {

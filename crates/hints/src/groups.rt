@@ -17,6 +17,8 @@ pub enum GroupFault {
     NoneIsOpen,
     /// The group that the line makes others wait for was not opened before it.
     NeverOpened,
+    /// The line opens a group in a pool of operations.
+    InPool,
     /// That group is open since this line.
     NotEnded(usize),
     /// The line names one group twice.
@@ -34,7 +36,8 @@ pub(crate) fn group_fault(base: &[Step], traced: &[Step], number: usize) -> Grou
         Some(Act::Group(name)) => match (open_at(traced, number), opened_at(traced, number, name)) {
             (Some((_, since)), _) => GroupFault::IsOpen(since),
             (None, Some(line)) => GroupFault::WasOpened(line),
-            (None, None) => GroupFault::NeverOpened,
+            // In a script such a line is right, so this is a pool.
+            (None, None) => GroupFault::InPool,
         },
         Some(Act::Depend(later, earlier)) => depend_fault(traced, number, later, earlier),
         _ => GroupFault::NoneIsOpen,
@@ -112,6 +115,7 @@ impl fmt::Display for GroupFault {
             GroupFault::NeverOpened => f.write_str(
                 "no line before this one opens the earlier group",
             ),
+            GroupFault::InPool => f.write_str("a pool has operations alone"),
             GroupFault::NotEnded(line) => write!(f, "the earlier group is open since line {line}"),
             GroupFault::Itself => f.write_str("the line names one group twice"),
             GroupFault::HasPatches(line) => {
@@ -138,6 +142,7 @@ impl fmt::Display for GroupRemedy<'_> {
             GroupFault::NeverOpened => {
                 "write `depend LATER EARLIER` after the earlier group's `end`, before the later one's `group`"
             }
+            GroupFault::InPool => "leave the line out, or ask without `--search`",
             GroupFault::NotEnded(_) => "put a line `end` before this one",
             GroupFault::Itself => "write `depend LATER EARLIER` with the names of two groups",
             GroupFault::HasPatches(_) => "write `depend` before the later group's first operation",
