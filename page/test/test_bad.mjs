@@ -31,6 +31,8 @@ const noReports = [
   ["a text with HTML", JSON.stringify(HTML), "A report is a JSON object, but this file holds the text \"</script>"],
   ["a list", "[1,2]", "A report is a JSON object, but this file holds a list of 2."],
   ["an empty object", "{}", "This report does not say what its patches are. Make it with --json --explain --summary."],
+  ["a search", '{"failing":0,"kinds":[],"module":"soft","pool":0,"refused":[],"search":8,"workloads":0}\n',
+    "This is the report of a search. The page shows the report of one script: make it of the steps of a workload."],
   ["a report without --explain", changed("create", ({ base, trace, ...rest }) => rest),
     "This report does not say what its patches are. Make it with --json --explain --summary."],
 ];
