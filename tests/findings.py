@@ -1,0 +1,90 @@
+"""findings.py [--all]: makes the findings of docs/FINDINGS.md anew, and compares.
+
+A command stands in a block of its own, behind `$ ./crashmap`, and its whole output follows. A block marked `slow` runs
+with --all alone. A table has a comment before it with the words of its searches, and a row for each rule: the shortest
+search that finds more failing workloads without the rule than with it, the first failing workload and its fault. It
+says how long each command and each table took. The last line is `N passed, M failed`.
+"""
+
+import pathlib
+import re
+import shlex
+import subprocess
+import sys
+import time
+from collections import namedtuple
+
+if __name__ == "__main__":
+    sys.path.insert(0, str(pathlib.Path(__file__).resolve().parent.parent))
+
+from tests.program import ROOT, program
+
+FINDINGS = ROOT / "docs" / "FINDINGS.md"
+BLOCK = re.compile(r"^```console( slow)?\n\$ \./crashmap ([^\n]*)\n(.*?)^```$", re.MULTILINE | re.DOTALL)
+TABLE = re.compile(r"^<!-- searches: (.*) -->\n\|.*\n\|.*\n((?:\|.*\n)+)", re.MULTILINE)
+
+Finding = namedtuple("Finding", "words wanted make is_slow")
+"""The words of a command or of a table's searches, what stands in the document, what makes it anew, and whether that
+takes long."""
+
+
+def printed_by(words):
+    """What the program prints."""
+    run = subprocess.run([program().resolve(), *words], stdin=subprocess.DEVNULL, capture_output=True, text=True,
+                         cwd=ROOT, check=False)
+    return run.stdout + run.stderr
+
+
+def value(name, report):
+    """What stands behind the name on the report's first line that begins with it."""
+    return re.search(rf"^{name} (.*)$", report, re.MULTILINE)[1]
+
+
+def first_shown(words, rule, most=3):
+    """The cells of a rule's row."""
+    for operations in range(1, most + 1):
+        search = [*words, "--search", str(operations)]
+        report = printed_by([*search, "--without", rule])
+        if int(value("failing", report)) > int(value("failing", printed_by(search))):
+            steps = re.findall(r"^step (.*)$", report.split("\nset ")[0], re.MULTILINE)
+            fault = value("kind", report).partition(" ")[2]
+            return "%d | %s | %s" % (operations, " ; ".join("`%s`" % step for step in steps), fault)
+    return "none | | |"
+
+
+def table_made(words, rows):
+    """The table with its rows made anew."""
+    rules = re.findall(r"^\| `([^`]*)` \|", rows, re.MULTILINE)
+    made = ["| `%s` | %s" % (rule, first_shown(words, rule)) for rule in rules]
+    return "".join(row + ("\n" if row.endswith("|") else " |\n") for row in made)
+
+
+def findings():
+    """The commands and tables of the document."""
+    text = FINDINGS.read_text()
+    commands = [Finding(shlex.split(words), output, printed_by, bool(slow))
+                for slow, words, output in BLOCK.findall(text)]
+    tables = [Finding(shlex.split(words), rows, lambda given, kept=rows: table_made(given, kept), False)
+              for words, rows in TABLE.findall(text)]
+    return commands + tables
+
+
+def main(words):
+    """The command; gives the exit status."""
+    right = []
+    for finding in findings():
+        if finding.is_slow and "--all" not in words:
+            continue
+        start = time.monotonic()
+        made = finding.make(finding.words)
+        right.append(made == finding.wanted)
+        seconds = time.monotonic() - start
+        print("%-6s %6.2f s  %s" % ("right" if right[-1] else "WRONG", seconds, shlex.join(finding.words)))
+        if not right[-1]:
+            print(made)
+    print("%d passed, %d failed" % (right.count(True), right.count(False)))
+    return 0 if right and all(right) else 1
+
+
+if __name__ == "__main__":
+    sys.exit(main(sys.argv[1:]))
