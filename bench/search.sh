@@ -1,6 +1,6 @@
 #!/usr/bin/env bash
 # search.sh: how long a whole run of --search takes on the pool of 44 operations over a written file and a directory,
-# with one worker and with four, and how much memory it takes. Not part of the gate.
+# with one worker and with four. Not part of the gate.
 #
 # Each search is run ROUNDS times (3), and the shortest run counts. Every run is a process of its own, so the time to
 # start it is part of each number. CRASHMAP_PROGRAM names another program to time than the one that is built here.

@@ -3,7 +3,6 @@
 `search.sh` says what is timed and calls this.
 """
 
-import os
 import re
 import subprocess
 import sys
@@ -22,33 +21,30 @@ SEARCHES = [("soft updates, strict", 3, SOFT), ("soft updates, strict", 4, SOFT)
 
 
 def timed(words):
-    """The report of a run, its seconds, and the most memory that it had, in KB."""
+    """The report of a run, and its seconds."""
     start = time.monotonic()
-    with subprocess.Popen(words, stdout=subprocess.PIPE, text=True) as child:
-        report = child.stdout.read()
-        _, status, used = os.wait4(child.pid, 0)
-        child.returncode = os.waitstatus_to_exitcode(status)
-    if child.returncode not in (0, 1):
+    run = subprocess.run(words, stdout=subprocess.PIPE, text=True, check=False)
+    if run.returncode not in (0, 1):
         sys.exit("%s: the program makes no report" % words)
-    return report, time.monotonic() - start, used.ru_maxrss
+    return run.stdout, time.monotonic() - start
 
 
 def best(program, search, workers, rounds):
-    """The report, the shortest time and the most memory of a search."""
-    name, operations, words = search
+    """The report and the shortest time of a search."""
+    _, operations, words = search
     words = [program, POOL, *words, "--search", str(operations), "--workers", str(workers)]
     runs = [timed(words) for _ in range(rounds)]
-    return runs[0][0], min(seconds for _, seconds, _ in runs), max(memory for _, _, memory in runs)
+    return runs[0][0], min(seconds for _, seconds in runs)
 
 
 def main(rounds, program):
     """Prints a line for each search."""
     for search in SEARCHES:
-        report, one, memory = best(program, search, 1, rounds)
+        report, one = best(program, search, 1, rounds)
         four = best(program, search, 4, rounds)[1]
         workloads, failing = (int(re.search(rf"^{name} (\d+)$", report, re.M)[1]) for name in ("workloads", "failing"))
         print("%s, %d operations: %d workloads, %d fail" % (search[0], search[1], workloads, failing))
-        print("  one worker %.2f s, four %.2f s, %.1f times as fast; %.1f MB" % (one, four, one / four, memory / 1024))
+        print("  one worker %.2f s, four %.2f s, %.1f times as fast" % (one, four, one / four))
 
 
 if __name__ == "__main__":

@@ -68,8 +68,8 @@ def searching_fault(chance, module):
     """A fault in `--decide`, in `--enough`, or in `--search`."""
     if chance.random() < 0.5:
         return choosing_fault(chance, module)
-    kinds = [["--search", "2"] + more for more in (["--decide"], ["--enough"], ["--summary"], ["--needs"],
-                                                   ["--limit", "4096"], ["--explorer", "auto"], ["--search", "2"])]
+    kinds = [["--search", "2"] + more for more in (["--decide"], ["--summary"], ["--needs"], ["--limit", "4096"],
+                                                   ["--explorer", "auto"], ["--search", "2"])]
     words = chance.choice(kinds + [["--search"]] + [["--search", word] for word in NO_NUMBERS])
     return ["--module", module] + words
 
