@@ -1,7 +1,7 @@
 # An answer at once, by a program of which nothing was proved here. To be sourced after programs.sh.
 
 # The program's options that take a value.
-options_with_values="--blocks --journal --module --without --with --limit --explorer --workers"
+options_with_values="--blocks --journal --module --without --with --limit --explorer --workers --search"
 
 # How long a first proof takes from nothing.
 first_proof="10 to 30 minutes on four processors"
