@@ -25,21 +25,36 @@ pub fn needed_workload<A: Allocator + Copy>(
     let steps = rules.judge.steps_at(places)?;
     let traced = traced_of(rules.judge, &steps)?;
     let kept = rules.judge.told_kept(&steps)?;
-    let oracle = RuleOracle {
-        alloc: rules.judge.alloc,
-        base: rules.judge.base,
-        traced: &traced,
-        kept,
-    };
-    let graph = oracle.graph_without(group)?;
-    // `first_fault` of `needed_groups`: `None` only where no set fails, and `places` fails without the group.
-    let Some(fault) = first_fault(rules.judge.alloc, rules.judge.base, &graph, Detail { explain, kept })? else {
-        unreachable!();
-    };
+    let found = fault_in(rules.judge, &traced, Detail { explain, kept }, group)?;
     Ok(NeededWorkload {
         group,
         places: copied(places),
-        patches: graph.len(),
-        fault,
+        patches: found.patches,
+        fault: found.fault,
     })
+}
+
+/// How many patches there are, and the first fault that a crash can leave by all rules but those of a group. The trace is
+/// lent, since a function that makes a `RuleOracle` from its own `Traced` is not covered by the borrow checker.
+fn fault_in<A: Allocator + Copy>(
+    judge: &PoolJudge<'_, A>,
+    traced: &Traced<'_, A>,
+    detail: Detail,
+    group: u128,
+) -> Result<FaultIn<A>, AllocError> {
+    let oracle = RuleOracle {
+        alloc: judge.alloc,
+        base: judge.base,
+        traced,
+        kept: detail.kept,
+    };
+    let graph = oracle.graph_without(group)?;
+    // `first_fault` of `needed_groups`: `None` only where no set fails, and the workload fails without the group.
+    match first_fault(judge.alloc, judge.base, &graph, detail)? {
+        Some(fault) => Ok(FaultIn {
+            patches: graph.len(),
+            fault,
+        }),
+        None => unreachable!(),
+    }
 }
