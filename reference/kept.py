@@ -53,8 +53,9 @@ def gallery_values(script):
     if len(commands) != 1 or shlex.split(commands[0])[0] != name:
         return [Value(name, "its comment has no single command that runs it", None)]
     run = run_reference(shlex.split(commands[0])[1:], script.read_bytes())
-    report = run.out.decode()
-    row = "(%s) " % script.name, " %s of %s |" % (number_after("failing", report), number_after("closed", report))
+    whole = run_reference([*shlex.split(commands[0])[1:], "--whole-blocks"], script.read_bytes())
+    counts = tuple(number_after(word, answer.out.decode()) for answer in (run, whole) for word in ("failing", "closed"))
+    row = "(%s) " % script.name, " %s of %s | %s of %s |" % counts
     table = (script.parent / "README.md").read_text().split("\n")
     has_row = any(row[0] in line and row[1] in line for line in table)
     return [file_value(script.with_suffix(".report"), run.out),

@@ -1,6 +1,6 @@
 """Which options the product of today has. Change it here when later options land."""
 
-LEVEL = "searching"
+LEVEL = "reaching"
 """`plain`: those of the first release. `extended`: also rules, `--explain`, `--summary`, `--needs` and `--strict`.
-`deciding`: also `--decide`. `choosing`: also `--enough`. `searching`: also `--search`. `all`: also `--atomic`,
-`--whole-blocks`, `--search` with `--enough`, and rules with `before`."""
+`deciding`: also `--decide`. `choosing`: also `--enough`. `searching`: also `--search`. `reaching`: also
+`--whole-blocks` and rules with `before`. `all`: also `--atomic`, and `--search` with `--enough`."""

@@ -13,7 +13,8 @@ CREATED = b"module soft\npatches 2\nclosed 3\nfailing 0\n"
 
 # What stands in the help, each behind the one before.
 HELP = ("Explores every state", "Usage: crashmap", "\nWhat to run:\n", "[SCRIPT]", "--blocks <N>", "--journal <JL>",
-        "\nThe ordering:\n", "--module <M>", "--without <RULE>", "--with <RULE>", "\nWhat fails:\n", "--strict",
+        "\nThe ordering:\n", "--module <M>", "--without <RULE>", "--with <RULE>", "--whole-blocks",
+        "\nWhat fails:\n", "--strict",
         "\nHow far:\n", "--limit <L>", "--explorer <E>", "--workers <W>", "--decide", "--enough", "--search <N>",
         "\nHow to read it:\n", "--explain", "--summary", "--needs", "--json")
 

@@ -45,7 +45,9 @@ class Gallery(unittest.TestCase):
         report = script.with_suffix(".report").read_text()
         failing, closed = number_of("failing", report), number_of("closed", report)
         self.assertEqual(run(words), (int(failing > 0), report, ""))
-        row = rf"\({re.escape(script.name)}\) .* {failing} of {closed} \|"
+        whole = run([*words, "--whole-blocks"])[1]
+        left = f"{number_of('failing', whole)} of {number_of('closed', whole)}"
+        row = rf"\({re.escape(script.name)}\) .* {failing} of {closed} \| {left} \|"
         self.assertRegex((GALLERY / "README.md").read_text(), row)
         self.assert_explorers_agree(words)
         self.assert_decided_as_summed_up(words)

@@ -15,7 +15,7 @@ from reference.runs import Run
 SCRIPT = "# A bug\n#\n# ./crashmap gallery/bug.script --module async\nstart\ncreate /a\n"
 REPORT = ("module async\npatches 2\nclosed 4\nfailing 1\nset 1\nwrite block 4: 1\n"
           "fault 1 dangling entry: directory 0 entry 0 inode 1\n")
-TABLE = "| a bug | [bug](bug.script) | `EntrySet:InodeInit` | 1 of 4 | |\n"
+TABLE = "| a bug | [bug](bug.script) | `EntrySet:InodeInit` | 1 of 4 | 1 of 4 | |\n"
 
 
 class Kept(unittest.TestCase):
@@ -31,7 +31,7 @@ class Kept(unittest.TestCase):
         self.check_part("cases", 300)
 
     def test_gallery(self):
-        self.check_part("gallery", 48)
+        self.check_part("gallery", 54)
 
     def test_page(self):
         self.check_part("page", 11)
@@ -76,7 +76,8 @@ class Found(unittest.TestCase):
         self.assertEqual((self.top / "gallery/bug.report").read_text(), REPORT)
 
     def test_a_row_of_the_gallery(self):
-        self.assertEqual(self.gallery(table=TABLE.replace("1 of 4", "2 of 4")), ["has no row with 1 of 4"])
+        self.assertEqual(self.gallery(table=TABLE.replace("1 of 4 | |", "2 of 4 | |")),
+                         ["has no row with 1 of 4 | 1 of 4"])
 
     def test_a_script_without_a_command(self):
         self.assertEqual(self.gallery(script="start\n"), ["its comment has no single command that runs it"])

@@ -19,7 +19,7 @@ export function graphOf(report, without = []) {
 
 export function kindOfEdge(why) {
   if (why.some(word => word.includes(":"))) return "rule";
-  return why.includes("overlap") ? "overlap" : "group";
+  return ["overlap", "block"].find(kind => why.includes(kind)) ?? "group";
 }
 
 /* --- layout --- */

@@ -66,6 +66,7 @@ function drawShare({ failing, closed }) {
 function drawOrdering(report) {
   const rules = (list, kind, word) => list.map(rule => element("span", { class: `rule ${kind}` }, `${word} ${rule}`));
   return element("div", { class: "rules" }, rules(report.without, "out", "without"), rules(report.with, "in", "with"),
+    report.wholeBlocks && element("span", { class: "rule in" }, "whole blocks"),
     report.strict && element("span", { class: "rule in" }, "strict"));
 }
 

@@ -220,7 +220,7 @@ function drawKey(edges) {
     isOpenSet() ? null : item(keyNode("disk"), "on disk"),
     item(keyNode("lost", "ready"), words[1]), item(keyNode("lost"), words[2]),
     view.named.size ? item(keyNode("lost", "named ready"), words[3]) : null,
-    ["rule", "overlap", "group"].filter(kind => kinds.has(kind)).map(kind => item(keyLine(kind), kind)));
+    ["rule", "overlap", "block", "group"].filter(kind => kinds.has(kind)).map(kind => item(keyLine(kind), kind)));
 }
 
 function keyNode(state, more = "") {

@@ -26,7 +26,8 @@ export function readReport(text) {
     ({ ...patch, id, bytes: bytesOf(patch.new), undo: bytesOf(patch.undo) }));
   const report = {
     module: json.module, closed: numberOf(json.closed), isDecision: isDecision(json), failing: failingOf(json),
-    without: json.without ?? [], with: json.with ?? [], strict: json.strict ?? false, enough: json.enough,
+    without: json.without ?? [], with: json.with ?? [], strict: json.strict ?? false,
+    wholeBlocks: json.whole_blocks ?? false, enough: json.enough,
     base, blocks, journal, root: JOURNAL_START + journal, trace,
   };
   Object.assign(report, operationsOf(trace));

@@ -74,6 +74,16 @@ def searching_fault(chance, module):
     return ["--module", module] + words
 
 
+def reaching_fault(chance, module):
+    """A fault in a question about all sets, in `--whole-blocks`, or in a rule for all operations before."""
+    if chance.random() < 0.5:
+        return searching_fault(chance, module)
+    kinds = [["--whole-blocks=yes"], ["--whole-blocks", "--whole-blocks"]]
+    kinds += [["--with", word] for word in NO_BEFORE_RULES]
+    kinds += [["--with", "Ptr:before-Ptr", "--with", "Ptr:before-Ptr"], ["--without", "Ptr:before-Ptr"]]
+    return ["--module", module] + chance.choice(kinds)
+
+
 def deciding_fault(chance, module):
     """A fault in a question about all sets, or in a rule for all operations before."""
     question = chance.choice(QUESTIONS)

@@ -6,17 +6,18 @@ from ..rules import MODULES
 from .accepted import accepted_case
 from .case import Case, joined
 from .faults_of_words import (PLAIN_FAULTS, choosing_fault, decide_fault, deciding_fault, extended_fault,
-                              searching_fault)
-from .options import choose, decide, deciding, extend, search
+                              reaching_fault, searching_fault)
+from .options import choose, decide, deciding, extend, reach, search
 from .refused import bad_geometry, group_fault, journal_full, many_patches, refused_by_plan
 from .spoiled import mutate, spoil
 
-LEVELS = ("plain", "extended", "deciding", "choosing", "searching", "all")
+LEVELS = ("plain", "extended", "deciding", "choosing", "searching", "reaching", "all")
 """Which options a case may have: those of the first release; rules, ways to read a report and strict checkers too;
-`--decide` too; `--enough` too; `--search` too; all."""
+`--decide` too; `--enough` too; `--search` too; `--whole-blocks` and rules with `before` too; all."""
 
 WITH_QUESTIONS = {"deciding": (0.04, decide_fault, decide), "choosing": (0.04, choosing_fault, choose),
-                  "searching": (0.05, searching_fault, search), "all": (0.06, deciding_fault, deciding)}
+                  "searching": (0.05, searching_fault, search), "reaching": (0.06, reaching_fault, reach),
+                  "all": (0.06, deciding_fault, deciding)}
 """Levels with questions about all sets: the share of command lines at fault, and what makes these and the options."""
 
 REFUSALS = [1, 2, 10, 11, 12, 13, 14, 15, 16, 17, 18, 19, 20, 21, 30, 40, 41, 42, 43]

@@ -94,13 +94,25 @@ def add_before_rules(case, chance):
 
 
 def deciding(case, chance):
-    """Gives a case a question about all its sets, whole operations, whole blocks and rules for all operations before.
-    Only small scripts are asked what the reference answers by enumeration."""
+    """Gives a case whole operations, whole blocks, rules for all operations before, and a question about all its
+    sets."""
     case.atomic = chance.random() < 0.4
+    change_blocks_and_reach(case, chance)
+    ask_one_of(case, chance, QUESTIONS)
+
+
+def reach(case, chance):
+    """Gives a case whole blocks, rules for all operations before, and a question about all its sets."""
+    change_blocks_and_reach(case, chance)
+    ask_one_of(case, chance, [question for question in QUESTIONS if question != "search enough"])
+
+
+def change_blocks_and_reach(case, chance):
+    """Gives some cases whole blocks, and some rules for all operations before. Whole blocks are asked of small scripts,
+    because the reference enumerates the sets."""
     case.whole_blocks = case.wish == "accepted" and chance.random() < 0.25
     if chance.random() < 0.35:
         add_before_rules(case, chance)
-    ask_one_of(case, chance, QUESTIONS)
 
 
 def choose(case, chance):

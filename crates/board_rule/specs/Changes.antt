@@ -28,7 +28,7 @@ with_right v q row marks right =
 abbrev pub without_right : View → View
 without_right v = record v { rows = record v.rows { right = 0; low = []; high = []; unfiled = 0 } }
 
--- the word behind the row is published
+-- the word after the row is published
 abbrev pub with_entry : View → ℕ → View
 with_entry v x = let k = length (row_of v.rows.seen v.rows.held) in record v {
   rows = record v.rows {
@@ -72,7 +72,7 @@ opening_words places start = let q = start % SHARDS in
     (length_word q) 1) (low_word q 0) (start % half)) (high_word places q 0) (start / half))
     (index_word places q (slot places start 0)) 1
 
--- a seat that has seen these rows, with so many parts of the share, no right, no claim and no debt
+-- a seat that has seen these rows, with this many parts of the share, no right, no claim and no debt
 abbrev pub idle_view : ℕ → ℕ → List (List ℕ) → ℕ → View
 idle_view limit places seen parts = record {
   limit = limit;

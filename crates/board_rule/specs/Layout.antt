@@ -1,6 +1,6 @@
 -- Where the words of a board lie in its table.
 -- Word 0 is pending, word 1 the count, word 2 the stop. From word 8 on come the locks of the shards and the lengths of
--- their rows, each of them 8 words behind the one before, so that no two stand in one line of a cache; then four blocks
+-- their rows, each of them 8 words after the one before, so that no two share a cache line; then four blocks
 -- with a word for each place of each shard: the low halves of the entries, their high halves, their lives, and the
 -- index. In a block the shards take turns, so that each address is linear in the place.
 use Rattle.std.specs.Prelude.{ℕ, ◌+◌, ◌*◌, ◌/◌, ◌%◌, cond, nat_lt}

@@ -11,7 +11,7 @@ row_of rows q = slice_index_or rows q []
 abbrev pub StartsWith : List ℕ → List ℕ → Type 0
 StartsWith row seen = (rest : List ℕ) × (row ≡ seen ++ rest)
 
--- the word is an entry: it stands in the row of its shard
+-- the word is an entry: it is in the row of its shard
 abbrev pub Has : List (List ℕ) → ℕ → Type 0
 Has rows y = (j : ℕ) × (j < length (row_of rows (y % SHARDS))) × (slice_index (row_of rows (y % SHARDS)) j ≡ y)
 

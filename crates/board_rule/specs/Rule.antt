@@ -44,7 +44,7 @@ pub record RowsOk (t : Told) (rows : List (List ℕ)) (words : List ℕ) : Type 
   pub reached : (q k : ℕ) → q < SHARDS → k < length (row_of rows q)
       → IsReached t.next t.origin (slice_index (row_of rows q) k)
 
--- a half of a word lies behind the row, and only a writer puts it there
+-- a half of a word lies after the row, and only a writer puts it there
 abbrev pub Behind : ℕ → List ℕ → ℕ → List ℕ → List ℕ → ℕ → Type 0
 Behind places row right words part address =
     (x : ℕ) → part ≡ x ∷ [] → (right ≡ writer) × (slice_index words address ≡ x) × (length row < places)
@@ -137,7 +137,7 @@ pub record CountOk (t : Told) (rows : List (List ℕ)) (words : List ℕ) (views
   pub count : slice_index words 1 + total (λ v. v.count.uncounted) views ≡ total length rows
   pub over : EachSeat (λ v. v.count.over ≡ 1 → Overfills (IsReached t.next t.origin) t.limit t.places) views
 
--- the place k of the word x stands before each zero among the word's index words
+-- the place k of the word x comes before each zero among the word's index words
 abbrev pub Stands : ℕ → (ℕ → ℕ) → ℕ → ℕ → Type 0
 Stands places mark x k =
     (t : ℕ) → t < window places → mark (slot places x t) ≡ 0 → (u : ℕ) × (u < t) × (mark (slot places x u) ≡ k + 1)
@@ -148,7 +148,7 @@ IsUnfiled views q k =
     (j : ℕ) × (v : View) × (get_elem? views j ≡ some v) × (v.rows.held ≡ q) × (v.rows.right ≡ writer)
     × (v.rows.unfiled ≡ k + 1)
 
--- Index: each word of it is 0 or 1 more than a published place, and each published place stands in it but one whose
+-- Index: each word of it is 0 or 1 more than a published place, and each published place is in it but one whose
 -- writer is still at it.
 pub record IndexOk (places : ℕ) (rows : List (List ℕ)) (words : List ℕ) (views : List View) : Type 0 where
   pub named : (q j : ℕ) → q < SHARDS → j < places → slice_index words (index_word places q j) ≤ length (row_of rows q)

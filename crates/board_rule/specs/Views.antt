@@ -2,7 +2,7 @@
 use Rattle.std.specs.Prelude.{ℕ, ◌-◌, ◌*◌, ◌^◌, List}
 use Rattle.board_rule.specs.declared.life.Life.{Life}
 
--- what the table is told when it is made: how many entries the board may have and how many a row, the successors of a
+-- what is fixed when the table is made: how many entries the board may have and how many a row, the successors of a
 -- word, and the initial word
 pub record Told : Type 0 where
   pub limit : ℕ
@@ -17,7 +17,7 @@ pub record OnRows : Type 0 where
   -- the shard of its right; 0 for no right, 1 for the read right, the writer's value for the write right
   pub held : ℕ
   pub right : ℕ
-  -- the halves of a word that it has stored behind the row
+  -- the halves of a word that it has stored after the row
   pub low : List ℕ
   pub high : List ℕ
   -- under a right, the shard's index words
@@ -55,7 +55,7 @@ pub record OnCount : Type 0 where
   -- 1 once it knows that more words are reached than the board may have
   pub over : ℕ
 
--- a share of the board: of 2 ^ cuts equal parts it has so many
+-- a share of the board: how many of 2 ^ cuts equal parts it has
 pub record Share : Type 0 where
   pub parts : ℕ
   pub cuts : ℕ

@@ -10,7 +10,7 @@ use Rattle.crash_model.specs.Disk.{Disk}
 use Rattle.crash_model.specs.Patches.{Place, places_of, deps_of, image_from, overlap}
 use Rattle.crash_model.specs.Replay.{image_after_replay}
 use Rattle.crash_model.specs.Strict.{IsCleanUnder, IsFailingUnder}
-use Rattle.crash_model.specs.Trace.{Emitted, Tracing, IsGraphOf, applies, depends, groups_depend}
+use Rattle.crash_model.specs.Trace.{Emitted, Tracing, IsGraphOf, applies, depends, shares_block, groups_depend}
 use Rattle.crash_model.specs.declared.patches.Patch.{Patch}
 use Rattle.crash_model.specs.declared.rules.Rule.{Rule}
 use Rattle.rule_laws.proofs.Closed.{get_some, length-deps}
@@ -33,11 +33,11 @@ or_right true b h = refl
 or_right false b h = h
 
 -- without any rule the patch depends on the other too, or a rule makes it wait
-depends_by : (rules others : List Rule) (links : List (List ℕ × List ℕ)) (q p : Emitted)
-    → depends rules links q p ≡ true
-    → (depends others links q p ≡ true) ⊎ ((rule : Rule) × Contains rules rule × (applies rule q p ≡ true))
-depends_by rules others links q p h =
-    let first = overlap q.place p.place || groups_depend links q p in
+depends_by : (rules others : List Rule) (whole : Bool) (links : List (List ℕ × List ℕ)) (q p : Emitted)
+    → depends rules whole links q p ≡ true
+    → (depends others whole links q p ≡ true) ⊎ ((rule : Rule) × Contains rules rule × (applies rule q p ≡ true))
+depends_by rules others whole links q p h =
+    let first = overlap q.place p.place || shares_block whole q p || groups_depend links q p in
     elim (or_cases first (list_any (λ rule. applies rule q p) rules) h) [
       | inl always ↦ inl (or_left first (list_any (λ rule. applies rule q p) others) always)
       | inr any ↦
@@ -45,10 +45,11 @@ depends_by rules others links q p h =
           inr (found.1, (found.0, found.2, found.3), found.4)
     ]
 
-depends_from : (rules : List Rule) (links : List (List ℕ × List ℕ)) (q p : Emitted) (rule : Rule)
-    → Contains rules rule → applies rule q p ≡ true → depends rules links q p ≡ true
-depends_from rules links q p rule (at, within, is) holds =
-    or_right (overlap q.place p.place || groups_depend links q p) (list_any (λ r. applies r q p) rules)
+depends_from : (rules : List Rule) (whole : Bool) (links : List (List ℕ × List ℕ)) (q p : Emitted) (rule : Rule)
+    → Contains rules rule → applies rule q p ≡ true → depends rules whole links q p ≡ true
+depends_from rules whole links q p rule (at, within, is) holds =
+    or_right (overlap q.place p.place || shares_block whole q p || groups_depend links q p)
+    (list_any (λ r. applies r q p) rules)
     (list_any_at (λ r. applies r q p) rules at rule within (ap (λ r. applies r q p) is ∙ holds))
 
 -- ---- a rule and two labels
@@ -86,7 +87,7 @@ module _ (rules : List Rule) (base : Disk) (s : Tracing) (patches : List Patch)
   pub not_excluded : IsClosed (deps_of patches) set → (rule : Rule) → Contains rules rule
       → Excludes s.emitted rule set → ⊥
   not_excluded closed rule is (q, has, (p, wait, outside)) =
-      let depends_on = depends_from rules s.links wait.later wait.before rule is wait.waits in
+      let depends_on = depends_from rules s.whole s.links wait.later wait.before rule is wait.waits in
       outside (closed.whole q p has
       ((graph.exactly q p wait.later wait.before wait.order wait.later_at wait.before_at).1 depends_on))
 
@@ -98,14 +99,15 @@ module _ (rules : List Rule) (base : Disk) (s : Tracing) (patches : List Patch)
         let long = length-deps rules base s patches graph in
         let short = length-deps others base s changed other in
         record {
-          known = λ id has. let below : id < length (deps_of patches) = closed.known id has in omega (arith, long, short, below);
+          known = λ id has. let below : id < length (deps_of patches) = closed.known id has in omega
+              (arith, long, short, below);
           whole = λ q p has dep.
               let before = other.earlier q p dep in
               let below = closed.known q has in
               let later = get_some s.emitted q (omega (arith, long, below)) in
               let earlier = get_some s.emitted p (omega (arith, long, below, before)) in
               let waits = (other.exactly q p later.0 earlier.0 before later.1 earlier.1).0 dep in
-              elim (depends_by others rules s.links later.0 earlier.0 waits) [
+              elim (depends_by others rules s.whole s.links later.0 earlier.0 waits) [
                 | inl here ↦ closed.whole q p has
                     ((graph.exactly q p later.0 earlier.0 before later.1 earlier.1).1 here)
                 | inr it ↦ elim (eq_or_not (bit_at set p) 1) [

@@ -53,7 +53,8 @@ with_deps deps id (p ∷ ps) = record p { deps = deps id } ∷ with_deps deps (s
 module _ (deps : ℕ → ℕ) where
   same_places : (id : ℕ) (ps : List Patch) → places_of (with_deps deps id ps) ≡ places_of ps
   same_places id [] = refl
-  same_places id (p ∷ ps) = ap (λ (rest : List Place). place p.block p.offset p.new.items ∷ rest) (same_places (suc id) ps)
+  same_places id (p ∷ ps) = ap (λ (rest : List Place). place p.block p.offset p.new.items ∷ rest) (same_places
+      (suc id) ps)
 
   same_undo : (id : ℕ) (d : Disk) (ps : List Patch) → AreUndo d ps → AreUndo d (with_deps deps id ps)
   same_undo id d [] undo = undo
@@ -73,9 +74,9 @@ module _ (deps : ℕ → ℕ) where
 -- ---- the graph
 
 -- whether one depends on the other, where both are there
-abbrev depends_if : List Rule → List (List ℕ × List ℕ) → Option Emitted → Option Emitted → Bool
-depends_if rules links (Some q) (Some p) = depends rules links q p
-depends_if rules links _ _ = false
+abbrev depends_if : List Rule → Bool → List (List ℕ × List ℕ) → Option Emitted → Option Emitted → Bool
+depends_if rules whole links (Some q) (Some p) = depends rules whole links q p
+depends_if rules whole links _ _ = false
 
 pub less_or_not : (a b : ℕ) → (a < b) ⊎ (a < b → ⊥)
 less_or_not zero zero = inr (λ less. omega arith)
@@ -89,7 +90,7 @@ less_or_not (suc a) (suc b) = elim (less_or_not a b) [
 module _ (rules others : List Rule) (base : Disk) (s : Tracing) (patches : List Patch)
     (graph : IsGraphOf rules base s patches) where
   abbrev waits_at : ℕ → ℕ → Bool
-  waits_at q p = depends_if others s.links (slice_get s.emitted q) (slice_get s.emitted p)
+  waits_at q p = depends_if others s.whole s.links (slice_get s.emitted q) (slice_get s.emitted p)
 
   abbrev deps_by : ℕ → ℕ
   deps_by q = set_below q (waits_at q)
@@ -115,14 +116,14 @@ module _ (rules others : List Rule) (base : Disk) (s : Tracing) (patches : List 
   ]
 
   waits_is : (q p : ℕ) (later before : Emitted) → slice_get s.emitted q ≡ Some later
-      → slice_get s.emitted p ≡ Some before → waits_at q p ≡ depends others s.links later before
+      → slice_get s.emitted p ≡ Some before → waits_at q p ≡ depends others s.whole s.links later before
   waits_is q p later before is_later is_before =
-      ap (λ (o : Option Emitted). depends_if others s.links o (slice_get s.emitted p)) is_later
-      ∙ ap (λ (o : Option Emitted). depends_if others s.links (Some later) o) is_before
+      ap (λ (o : Option Emitted). depends_if others s.whole s.links o (slice_get s.emitted p)) is_later
+      ∙ ap (λ (o : Option Emitted). depends_if others s.whole s.links (Some later) o) is_before
 
   exactly_too : (q p : ℕ) (later before : Emitted) → p < q → slice_get s.emitted q ≡ Some later
       → slice_get s.emitted p ≡ Some before
-      → (Has (get_or (deps_of changed) q 0) p ↔ IsTrue (depends others s.links later before))
+      → (Has (get_or (deps_of changed) q 0) p ↔ IsTrue (depends others s.whole s.links later before))
   exactly_too q p later before less is_later is_before =
       let within = slice_get_within s.emitted q later is_later in
       let here = at q (omega (arith, as_many, within)) in

@@ -12,6 +12,7 @@ use patch_sets::set::has;
 pub fn rules_in(ordering: &Ordering, set: u128) -> Ordering
     ensures module { result.«module» ≡ ordering.now.«module» }
     ensures rules { result.rules.items ≡ rules_in ordering.now.rules.items set }
+    ensures whole { result.whole_blocks ≡ ordering.now.whole_blocks }
 {
     let all = ordering.rules.as_slice();
     let mut rules = ArrayVec::new();
@@ -23,6 +24,7 @@ pub fn rules_in(ordering: &Ordering, set: u128) -> Ordering
     Ordering {
         module: ordering.module,
         rules,
+        whole_blocks: ordering.whole_blocks,
     }
 }
 

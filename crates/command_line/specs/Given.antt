@@ -6,7 +6,7 @@ use Rattle.crash_model.specs.Rules.{rule_text, rules_of, has_rule}
 use Rattle.crash_model.specs.declared.rules.Rule.{Rule}
 use Rattle.crash_model.specs.declared.settings.Settings.{Settings}
 
--- the text is one of the words, or ends one, as behind `--with=`
+-- the text is one of the words, or ends one, as after `--with=`
 abbrev pub is_written_in : List (Bor (List ℕ)) → List ℕ → Bool
 is_written_in words text = list_any (λ word. ends_with eqb word.now text) words
 

@@ -7,7 +7,7 @@ use Rattle.questions.specs.declared.Request.{Request}
 abbrev pub IsWithin : ℕ → ℕ → ℕ → Type 0
 IsWithin from until n = (from ≤ n) × (n ≤ until)
 
--- so many sets can be explored, by the board at most 32,768
+-- this limit can be explored; by the board at most 32,768 sets
 abbrev pub IsLimitUnder : Explorer → ℕ → Type 0
 IsLimitUnder explorer limit = IsWithin 1 1000000000 limit × (explorer ≡ Board → limit ≤ 32768)
 

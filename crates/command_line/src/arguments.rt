@@ -3,7 +3,7 @@
 use clap::{Arg, ArgAction, Command, value_parser};
 use std::alloc::{AllocError, Global};
 
-/// What `--version` shows behind the program's name.
+/// What `--version` shows after the program's name.
 const VERSION: &str = "1.0.0";
 
 /// A head in help, and the options under it.
@@ -19,7 +19,7 @@ struct Entry {
     help: &'static str,
 }
 
-/// What stands behind an option, which help calls by the symbol.
+/// What an option takes. The symbol is its name in help.
 enum Takes {
     /// Nothing: the option is a flag.
     Nothing,
@@ -38,7 +38,7 @@ enum Takes {
 }
 
 impl Takes {
-    /// What an option does with what stands behind it.
+    /// What `clap` does with an option of this kind.
     fn action(&self) -> ArgAction {
         match self {
             Takes::Nothing | Takes::NothingWithout(_) => ArgAction::SetTrue,
@@ -54,13 +54,14 @@ impl Takes {
 type Made<'a> = Result<Command<'a>, AllocError>;
 
 const ABOUT: &str =
-    "Explores every state that a crash can leave a small file system in, and reports those that its checker refuses \
+    "Finds every state that a crash can leave a small file system in, and reports those that its checker rejects \
      after journal replay";
 
 const AFTER: &str = "\
-A rule LATER:EARLIER says that a patch waits for an earlier one of its operation, LATER:previous-EARLIER for one of the
-operation right before. Each part is InodeInit, EntrySet, EntryClear, MapSet, MapClear, InitFile, InitDir, Ptr, LinkUp,
-LinkDown, InodeFree, any of these in place (InPlace), or FileData, Copy, Commit, Done.
+With a rule LATER:EARLIER a patch waits for an earlier one of its operation, with LATER:previous-EARLIER for one of the
+operation right before, LATER:before-EARLIER for those of all operations before. Each part is InodeInit, EntrySet,
+EntryClear, MapSet, MapClear, InitFile, InitDir, Ptr, LinkUp, LinkDown, InodeFree, any of these in place (InPlace), or
+FileData, Copy, Commit, Done.
 
 Examples:
   printf 'start\\ncreate /a\\n' | crashmap --module async
@@ -86,7 +87,7 @@ static HEADS: [Head; 5] = [
             Entry {
                 name: "SCRIPT",
                 takes: Takes::Itself,
-                help: "The script to read; standard input where it is left out",
+                help: "The script to read; without it standard input is read",
             },
             Entry {
                 name: "blocks",
@@ -100,7 +101,7 @@ static HEADS: [Head; 5] = [
             },
         ],
     },
-    // The module, and the rules to take out of it and to put in.
+    // The module, the rules to take out of it and to put in, and how blocks are written.
     Head {
         name: "The ordering",
         entries: &[
@@ -118,6 +119,12 @@ static HEADS: [Head; 5] = [
                 name: "with",
                 takes: Takes::Rule,
                 help: "A rule to put in, up to 16 times",
+            },
+            Entry {
+                name: "whole-blocks",
+                takes: Takes::Nothing,
+                help: "Write each block with all its changes in memory, so that a change waits for each earlier one of \
+                       its block",
             },
             Entry {
                 name: "rules",
@@ -148,7 +155,7 @@ static HEADS: [Head; 5] = [
             Entry {
                 name: "explorer",
                 takes: Takes::OneOf("E", &["auto", "board", "sweep"], "auto"),
-                help: "Who explores: a board that workers share, up to a limit of 32768, or a sweep that keeps no \
+                help: "How to explore: a board that workers share, up to a limit of 32768, or a sweep without a \
                        table",
             },
             Entry {

@@ -15,7 +15,7 @@ pub(crate) struct WordFault<'a> {
 /// A value that is refused.
 #[derive(Clone, Copy)]
 pub(crate) enum Value<'a> {
-    /// A word where a rule stands.
+    /// A word in the place of a rule.
     Word(&'a str),
     Rule(Rule),
     Limit(usize),

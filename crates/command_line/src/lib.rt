@@ -34,7 +34,7 @@ pub struct Call<'a> {
     pub request: Request,
 }
 
-/// Reads the words of a command line, which stand without the program's name.
+/// Reads the words of a command linewithout the program's name.
 ///
 /// Each rule to take out is one of the module's, and none is given twice. A fault of the command line, a request for
 /// help or for the version, and out of memory are `clap`'s errors.
@@ -113,6 +113,7 @@ fn call_of<'a>(
         explorer,
         json: matches.get_flag("json"),
         explain: matches.get_flag("explain"),
+        whole_blocks: matches.get_flag("whole-blocks"),
         strict: matches.get_flag("strict"),
         by: report_by(matches),
     };

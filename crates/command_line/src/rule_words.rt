@@ -186,7 +186,10 @@ pub(crate) fn why_no_rule(heap: Global, word: &str) -> Why<'_> {
     let Some((later, rest)) = word.split_once(":") else {
         return Why::NoColon;
     };
-    let earlier = rest.strip_prefix("previous-").unwrap_or(rest);
+    let earlier = match rest.strip_prefix("previous-") {
+        Some(earlier) => earlier,
+        None => rest.strip_prefix("before-").unwrap_or(rest),
+    };
     let part = if RulePart::read(later).is_none() {
         later
     } else {
@@ -263,8 +266,9 @@ pub(crate) fn rules_page(heap: Global, module: Module) -> Result<String, AllocEr
         "\nA rule LATER:EARLIER makes the later part wait for the earlier one of the same operation, ",
     )?;
     page.push_str(
-        "and LATER:previous-EARLIER for\nthe one of the operation before. The parts are:\n",
+        "LATER:previous-EARLIER for the\none of the operation right before, and LATER:before-EARLIER for those ",
     )?;
+    page.push_str("of all operations before. The parts are:\n")?;
     for part in &PARTS {
         let Meaning { word, meaning } = part;
         write!(page, "  {word:<10}  {meaning}\n")?;

@@ -66,7 +66,7 @@ pub(crate) fn explorer_of(matches: &ArgMatches<'_>) -> Explorer {
     }
 }
 
-/// What the report is to tell: each failing set, else each fault or each rule.
+/// What the report lists: failing sets, faults or rules.
 pub(crate) fn report_by(matches: &ArgMatches<'_>) -> ReportBy {
     if matches.get_flag("needs") {
         ReportBy::ByRule

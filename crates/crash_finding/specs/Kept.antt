@@ -20,7 +20,7 @@ use Rattle.crash_finding.specs.declared.finding.Kept.TheVariants.{Sets, Faults, 
 abbrev pub Fails : {A : Type 0} → Crashes A → ℕ → Type 0
 Fails c = IsFailingUnder c.kept c.base.now c.graph.now
 
--- so many sets can a crash leave, at most the limit, and so many of them fail, which are these
+-- how many sets a crash can leave, at most the limit, how many of them fail, and which
 pub record AreTotals (limit : ℕ) (kept : Option ℕ) (base : Disk) (patches : List Patch) (closed failing : ℕ)
     (sets : List ℕ)
     : Type 0 where
@@ -36,7 +36,7 @@ IsKept settings kept base patches sets (Faults rows) =
     (settings.by ≡ ByFault) × AreRows (HasFault kept base patches) rows.items
 IsKept settings kept base patches sets Number = settings.by ≡ ByRule
 
--- what is found of the sets that a crash can leave, where the checker is told of these kept inodes or of none
+-- what is found of the sets that a crash can leave, by the strict checker with these kept inodes, or by the other
 pub record AreFound {A : Type 0} (settings : Settings) (inodes : Option ℕ) (base : Disk) (patches : List Patch)
     (found : Found A)
     : Type 0 where

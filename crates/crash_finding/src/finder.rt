@@ -9,7 +9,7 @@ use std::alloc::Allocator;
 /// Workers that find what a crash can leave, as the settings ask.
 ///
 /// They are 1 to 16, and for each number of them and every schedule the same is found. The limit of the settings is
-/// one that the explorer of the settings can reach. The gate is told how far they are.
+/// one that the explorer of the settings can reach. The gate gets their progress.
 #[derive(Drop)]
 pub struct Finder<'a, R, A: Allocator + Copy, G> {
     pub rt: &'a R,

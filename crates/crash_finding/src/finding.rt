@@ -161,7 +161,7 @@ where
     }
 }
 
-/// The first of these sets, which stand in canonical order, that a crash cannot leave under a graph, if there is one.
+/// The first of these sets, in canonical order, that a crash cannot leave under a graph, if there is one.
 fn first_prevented<A: Allocator + Copy>(other: &Graph<A>, sets: &[u128]) -> Option<u128>
     requires { AllPairs IsBefore sets.now }
     ensures { IsFirstPrevented (Contains sets.now) (IsClosed (deps_of other.now)) result }

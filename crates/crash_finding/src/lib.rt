@@ -1,4 +1,4 @@
-//! The failing sets of a graph of patches: a crash can leave them, and in their images a fault stands after replay.
+//! The failing sets of a graph of patches: a crash can leave them, and their images have a fault after replay.
 //!
 //! [`Finder::find`] keeps as much of them as a report asks for, and [`Finder::count_failing`] no more than their
 //! number and the first that another graph prevents. By the settings the board of seen sets explores them, or the

@@ -3,7 +3,7 @@
 use explorers::Gate;
 use set_sweep::Watch;
 
-/// Tells a gate what the watch of a sweep is told.
+/// Passes the progress of a sweep on to a gate.
 #[derive(Drop)]
 pub(crate) struct GateWatch<'a, G: Gate> {
     pub gate: &'a G,

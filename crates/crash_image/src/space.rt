@@ -15,7 +15,7 @@ use std::alloc::{AllocError, Allocator};
 use std::marker::Model;
 
 /// The sets of a graph that a crash can leave on a base. Each leads to the sets with one ready patch more, and it is
-/// good where its image is clean after replay, by the checker that is told of these kept inodes or of none.
+/// good where its image is clean after replay, by the strict checker with these kept inodes, or by the other without.
 ///
 /// Contracts see the base, the patches and the kept inodes.
 #[derive(Drop)]
@@ -65,7 +65,7 @@ impl<A: Allocator + Copy> Scratch<'_, A> {
 }
 
 impl<'a, A: Allocator + Copy> PatchSpace<'a, A> {
-    /// The space of a graph over a base, where the checker is told which inodes the script keeps, or is told nothing.
+    /// The space of a graph over a base, with the inodes that the script keeps for a strict checker, or none.
     ///
     /// The patches change blocks of the base, and their undo data are the bytes that they replace there.
     pub fn new(base: &'a Image<A>, graph: &'a Graph<A>, kept: Option<u16>) -> PatchSpace<'a, A>

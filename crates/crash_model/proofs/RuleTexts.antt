@@ -5,13 +5,13 @@ use Rattle.std.specs.List.{list_all}
 use Rattle.std.proofs.lemmas.Bool.{and_parts}
 use Rattle.std.proofs.lemmas.Bool.Decides.{nat_tests}
 use Rattle.crash_model.specs.Rules.{rule_part_text, scope_text, rule_text}
-use Rattle.crash_model.specs.RuleFacts.{IsNoRulePart, IsNoRule}
+use Rattle.crash_model.specs.RuleFacts.{IsNoRulePart, IsNoRule, HasNoScope}
 use Rattle.crash_model.specs.declared.plans.Role.TheVariants.{InodeInit, EntrySet, EntryClear, MapSet, MapClear}
 use Rattle.crash_model.specs.declared.plans.Role.TheVariants.{InitFile, InitDir, Ptr, LinkUp, LinkDown, InodeFree}
 use Rattle.crash_model.specs.declared.rules.RulePart.{RulePart}
 use Rattle.crash_model.specs.declared.rules.RulePart.TheVariants.{Change, InPlace, FileData, Copy, Commit, Done}
 use Rattle.crash_model.specs.declared.rules.Scope.{Scope}
-use Rattle.crash_model.specs.declared.rules.Scope.TheVariants.{Same, Previous}
+use Rattle.crash_model.specs.declared.rules.Scope.TheVariants.{Same, Previous, Before}
 use Rattle.crash_model.specs.declared.rules.Rule.{Rule}
 use Rattle.crash_model.proofs.Cuts.{Lacks}
 
@@ -43,7 +43,7 @@ lacks_append s (x ∷ xs) ys first second = (first.0, lacks_append s xs ys first
 
 -- a part's first letter is a capital, and no colon is in it
 abbrev is_plain : List ℕ → Bool
-is_plain text = nat_lt (get_or text 0 0) 112 && list_all (λ c. not (c == 58)) text
+is_plain text = nat_lt (get_or text 0 0) 98 && list_all (λ c. not (c == 58)) text
 
 parts_are_plain : (part : RulePart) → is_plain (rule_part_text part) ≡ true
 parts_are_plain (Change InodeInit) = refl
@@ -72,20 +72,25 @@ plain_lacks (c ∷ cs) e = let both = and_parts (not (c == 58)) (list_all (λ c.
     (no_colon c both.0, plain_lacks cs both.1)
 
 part_lacks : (part : RulePart) → Lacks 58 (rule_part_text part)
-part_lacks part = plain_lacks (rule_part_text part) (and_parts (nat_lt (get_or (rule_part_text part) 0 0) 112)
+part_lacks part = plain_lacks (rule_part_text part) (and_parts (nat_lt (get_or (rule_part_text part) 0 0) 98)
     _ (parts_are_plain part)).1
 
 scope_lacks : (scope : Scope) → Lacks 58 (scope_text scope)
 scope_lacks Same = tt
 scope_lacks Previous = plain_lacks (codes "previous-") refl
+scope_lacks Before = plain_lacks (codes "before-") refl
 
--- no part's text begins as the scope's
-no_previous : (part : RulePart) (rest : List ℕ) → codes "previous-" ++ rest ≢ rule_part_text part
-no_previous part rest e =
-    let plain = (and_parts (nat_lt (get_or (rule_part_text part) 0 0) 112) _ (parts_are_plain part)).0 in
-    let first : 112 ≡ get_or (rule_part_text part) 0 0 = ap (λ (t : List ℕ). get_or t 0 0) e in
-    let less : nat_lt 112 112 ≡ true = subst (λ (n : ℕ). nat_lt n 112 ≡ true) (sym first) plain in
-    (let bad : false ≡ true = less in cc)
+-- no part's text begins with a small letter
+no_small : (part : RulePart) (letter : ℕ) (rest : List ℕ) → nat_lt letter 98 ≡ false
+    → letter ∷ rest ≢ rule_part_text part
+no_small part letter rest small e =
+    let plain = (and_parts (nat_lt (get_or (rule_part_text part) 0 0) 98) _ (parts_are_plain part)).0 in
+    let first : letter ≡ get_or (rule_part_text part) 0 0 = ap (λ (t : List ℕ). get_or t 0 0) e in
+    let less : nat_lt letter 98 ≡ true = subst (λ (n : ℕ). nat_lt n 98 ≡ true) (sym first) plain in
+    (let bad : false ≡ true = sym small ∙ less in cc)
+
+other_letter : (a b : ℕ) → (a == b) ≡ false → a ≢ b
+other_letter a b other same = grind (arith, nat_tests)
 
 -- ---- the texts of rules
 
@@ -114,22 +119,23 @@ module _ (text later rest : List ℕ) (whole : text ≡ later ++ (codes ":" ++ r
   needs_later none rule e = none rule.later (parts rule e).0
 
   -- what stands behind the colon and the scope is a part
-  pub needs_earlier : (earlier : List ℕ) → rest ≡ codes "previous-" ++ earlier → IsNoRulePart earlier → IsNoRule text
-  needs_earlier earlier scoped none rule e = by_scope rule.scope refl
+  pub needs_earlier : (scope : Scope) (earlier : List ℕ) → rest ≡ scope_text scope ++ earlier
+      → (scope ≡ Same → HasNoScope rest) → IsNoRulePart earlier → IsNoRule text
+  needs_earlier scope earlier scoped unscoped none rule e =
+      by_scope rule.scope scope scoped unscoped (parts rule e).1
     where
-      by_scope : (scope : Scope) → rule.scope ≡ scope → ⊥
-      by_scope Same is = no_previous rule.earlier earlier (sym scoped
-          ∙ ((parts rule e).1 ∙ ap (λ (s : Scope). scope_text s ++ rule_part_text rule.earlier) is))
-      by_scope Previous is =
-          let texts : codes "previous-" ++ earlier ≡ codes "previous-" ++ rule_part_text rule.earlier = sym scoped
-          ∙ ((parts rule e).1 ∙ ap (λ (s : Scope). scope_text s ++ rule_part_text rule.earlier) is) in
-          none rule.earlier (ap (drop 9) texts)
-
-  pub needs_part : ((ys : List ℕ) → rest ≢ codes "previous-" ++ ys) → IsNoRulePart rest → IsNoRule text
-  needs_part unscoped none rule e = by_scope rule.scope refl
-    where
-      by_scope : (scope : Scope) → rule.scope ≡ scope → ⊥
-      by_scope Same is = none rule.earlier ((parts rule e).1
-          ∙ ap (λ (s : Scope). scope_text s ++ rule_part_text rule.earlier) is)
-      by_scope Previous is = unscoped (rule_part_text rule.earlier)
-          ((parts rule e).1 ∙ ap (λ (s : Scope). scope_text s ++ rule_part_text rule.earlier) is)
+      by_scope : (scope found : Scope) → rest ≡ scope_text found ++ earlier → (found ≡ Same → HasNoScope rest)
+          → rest ≡ scope_text scope ++ rule_part_text rule.earlier → ⊥
+      by_scope Same Same here unscoped is = none rule.earlier (sym here ∙ is)
+      by_scope Previous Same here unscoped is = (unscoped refl (rule_part_text rule.earlier)).0 is
+      by_scope Before Same here unscoped is = (unscoped refl (rule_part_text rule.earlier)).1 is
+      by_scope Same Previous here unscoped is =
+          no_small rule.earlier 112 (codes "revious-" ++ earlier) refl (sym here ∙ is)
+      by_scope Previous Previous here unscoped is = none rule.earlier (ap (drop 9) (sym here ∙ is))
+      by_scope Before Previous here unscoped is =
+          other_letter 112 98 refl (ap (λ (t : List ℕ). get_or t 0 0) (sym here ∙ is))
+      by_scope Same Before here unscoped is =
+          no_small rule.earlier 98 (codes "efore-" ++ earlier) refl (sym here ∙ is)
+      by_scope Previous Before here unscoped is =
+          other_letter 98 112 refl (ap (λ (t : List ℕ). get_or t 0 0) (sym here ∙ is))
+      by_scope Before Before here unscoped is = none rule.earlier (ap (drop 7) (sym here ∙ is))

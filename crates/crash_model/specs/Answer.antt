@@ -31,7 +31,7 @@ pub data Answer : Type 0 where
   Refused : RunFault → Answer
   Reported : List ℕ → ℕ → Answer
 
--- the disk at the start line, and the steps behind it
+-- the disk at the start line, and the steps after it
 pub record HasBase (bytes : List ℕ) (settings : Settings) (base : Disk) (steps : List Step) : Type 0 where
   pub before : List Step
   pub read : IsScript bytes before steps
@@ -47,14 +47,14 @@ pub record HasGraph (bytes : List ℕ) (settings : Settings) (base : Disk) (last
     (patches : List Patch) : Type 0 where
   pub steps : List Step
   pub start : HasBase bytes settings base steps
-  pub run : trace_from settings.module (trace_start base) steps ≡ Ok last
+  pub run : trace_from settings.module (trace_start settings.whole_blocks base) steps ≡ Ok last
   pub graph : IsGraphOf (ordering_rules settings) base last patches
 
--- how much is told of a set, where the checker is told of these kept inodes or of none
+-- what is reported of a set, with these kept inodes for a strict checker or none
 abbrev pub detail_of : Settings → Option ℕ → Detail
 detail_of settings kept = record { explain = settings.explain; kept = kept }
 
--- what stands behind a report's head, as the settings ask for it, of these failing sets
+-- the body of a report on these failing sets, as the settings ask for it
 abbrev pub IsBody : Settings → Option ℕ → Disk → Tracing → List Patch → List ℕ → Body → Type 0
 IsBody settings kept base last patches sets (Sets sections) =
     (settings.by ≡ BySet) × AreSections (detail_of settings kept) base patches sets sections
@@ -100,7 +100,7 @@ pub data IsAnswer (bytes : List ℕ) (settings : Settings) : Answer → Type 0 w
       → base_from (empty_disk settings.blocks settings.journal) before ≡ Err fault
       → IsAnswer bytes settings (Refused (run_of_trace fault))
   bad_trace : (base : Disk) (steps : List Step) (fault : TraceFault) → HasBase bytes settings base steps
-      → trace_from settings.module (trace_start base) steps ≡ Err fault
+      → trace_from settings.module (trace_start settings.whole_blocks base) steps ≡ Err fault
       → IsAnswer bytes settings (Refused (run_of_trace fault))
   too_many : (base : Disk) (last : Tracing) (patches : List Patch) → HasGraph bytes settings base last patches
       → ExceedsLimit patches settings.limit

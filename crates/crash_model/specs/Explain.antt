@@ -1,5 +1,5 @@
 -- What the patches of a trace are, and why each depends on others.
-use Rattle.std.specs.Prelude.{ℕ, List, [], ◌∷◌, ◌++◌, length, map, flat_map, if◌then◌else◌, Option, Some, None}
+use Rattle.std.specs.Prelude.{ℕ, List, [], ◌∷◌, ◌++◌, length, map, flat_map, Bool, if◌then◌else◌, Option, Some, None}
 use Rattle.std.specs.Prelude.{slice_get, codes, decimal}
 use Rattle.std.specs.List.{range_with_len}
 use Rattle.hex.specs.Hex.{encode_lower}
@@ -8,7 +8,7 @@ use Rattle.crash_model.specs.Disk.{Disk, block_of}
 use Rattle.crash_model.specs.Patches.{overlap}
 use Rattle.crash_model.specs.Rules.{part_text, rule_text}
 use Rattle.crash_model.specs.Script.{words_of}
-use Rattle.crash_model.specs.Trace.{Emitted, Tracing, groups_depend, rules_between, depends}
+use Rattle.crash_model.specs.Trace.{Emitted, Tracing, shares_block, groups_depend, rules_between, depends}
 use Rattle.crash_model.specs.Report.{line, json_string, json_array}
 use Rattle.crash_model.specs.declared.operations.Op.{Op}
 use Rattle.crash_model.specs.declared.patches.Patch.{Patch}
@@ -20,7 +20,7 @@ pub record Dependency : Type 0 where
   pub id : ℕ
   pub reasons : List (List ℕ)
 
--- what is told of a patch: its id, what it is, its undo data, and what it depends on, ascending
+-- the explanation of a patch: its id, what it is, its undo data, and what it depends on, ascending
 pub record ToldPatch : Type 0 where
   pub id : ℕ
   pub emitted : Emitted
@@ -28,49 +28,51 @@ pub record ToldPatch : Type 0 where
   pub after : List Dependency
 
 -- why a patch depends on an earlier one
-abbrev pub reasons : List Rule → List (List ℕ × List ℕ) → Emitted → Emitted → List (List ℕ)
-reasons rules links q p =
+abbrev pub reasons : List Rule → Bool → List (List ℕ × List ℕ) → Emitted → Emitted → List (List ℕ)
+reasons rules whole links q p =
     (if overlap q.place p.place then codes "overlap" ∷ [] else [])
+    ++ (if shares_block whole q p then codes "block" ∷ [] else [])
     ++ (if groups_depend links q p then codes "group" ∷ [] else [])
     ++ map rule_text (rules_between rules q p)
 
 -- the patch of an id, where q depends on it
-abbrev pub dependency : List Rule → List (List ℕ × List ℕ) → List Emitted → Emitted → ℕ → Option Dependency
-dependency rules links emitted q id = elim (slice_get emitted id) [
-  | Some p ↦ when (depends rules links q p) (record { id = id; reasons = reasons rules links q p })
+abbrev pub dependency : List Rule → Bool → List (List ℕ × List ℕ) → List Emitted → Emitted → ℕ → Option Dependency
+dependency rules whole links emitted q id = elim (slice_get emitted id) [
+  | Some p ↦ when (depends rules whole links q p) (record { id = id; reasons = reasons rules whole links q p })
   | None ↦ None
 ]
 
--- what is told of an id's patch
-abbrev pub told_patch : List Rule → List (List ℕ × List ℕ) → List Emitted → List Patch → ℕ → Option ToldPatch
-told_patch rules links emitted patches id = elim (slice_get emitted id) [
+-- the explanation of an id's patch
+abbrev pub told_patch : List Rule → Bool → List (List ℕ × List ℕ) → List Emitted → List Patch → ℕ → Option ToldPatch
+told_patch rules whole links emitted patches id = elim (slice_get emitted id) [
   | Some q ↦ elim (slice_get patches id) [
     | Some patch ↦ Some (record {
       id = id;
       emitted = q;
       undo = patch.undo.items;
-      after = some_below id (dependency rules links emitted q);
+      after = some_below id (dependency rules whole links emitted q);
     })
     | None ↦ None
   ]
   | None ↦ None
 ]
 
--- what is told of each patch, ascending
-abbrev pub told_patches : List Rule → List (List ℕ × List ℕ) → List Emitted → List Patch → List ToldPatch
-told_patches rules links emitted patches = some_below (length patches) (told_patch rules links emitted patches)
+-- the explanation of each patch, ascending
+abbrev pub told_patches : List Rule → Bool → List (List ℕ × List ℕ) → List Emitted → List Patch → List ToldPatch
+told_patches rules whole links emitted patches =
+    some_below (length patches) (told_patch rules whole links emitted patches)
 
 abbrev pub blocks_of : Disk → List (List ℕ)
 blocks_of disk = map (block_of disk) (range_with_len 0 disk.blocks)
 
--- the base's blocks, and what is told of each patch
+-- the base's blocks, and the explanation of each patch
 pub record Explanation : Type 0 where
   pub base : List (List ℕ)
   pub patches : List ToldPatch
 
 abbrev pub explanation : List Rule → Disk → Tracing → List Patch → Explanation
 explanation rules base s patches =
-    record { base = blocks_of base; patches = told_patches rules s.links s.emitted patches }
+    record { base = blocks_of base; patches = told_patches rules s.whole s.links s.emitted patches }
 
 -- ---- text
 
@@ -121,7 +123,7 @@ told_json t =
     ++ codes ",\"step\":" ++ json_string (op_text e.origin.op)
     ++ codes ",\"undo\":" ++ hex_json t.undo ++ codes "}"
 
--- the first key, with a comma behind it
+-- the first key, followed by a comma
 abbrev pub base_json : Option Explanation → List ℕ
 base_json None = []
 base_json (Some told) = codes "\"base\":" ++ json_array (map hex_json told.base) ++ codes ","

@@ -1,4 +1,4 @@
--- How names and paths are read: by their length, and name by name. No answer of a run stands on these.
+-- How names and paths are read: by their length, and name by name. No answer of a run depends on these.
 use Rattle.std.specs.Prelude.{◌≡◌, ℕ, ◌≤◌, ◌<◌, List, [], ◌∷◌, ◌++◌, length}
 use Rattle.crash_model.specs.Names.{IsName}
 

@@ -48,7 +48,7 @@ is_entry d dir k = counts d dir && not (entry_of d dir k == 0)
 abbrev pub target_of : Disk → ℕ → ℕ → ℕ
 target_of d dir k = entry_of d dir k - 1
 
--- an entry's name with its length before it and zeros behind it
+-- an entry's name with its length before it and zeros after it
 abbrev pub spelling_of : Disk → ℕ → ℕ → List ℕ
 spelling_of d dir k = take 11 (drop (128 * pointer_of d dir 0 + entry_offset k + 1) d.bytes)
 

@@ -3,7 +3,7 @@ use Rattle.std.specs.Prelude.{ℕ, zero, suc, List, [], ◌∷◌, ◌++◌, Boo
 use Rattle.std.specs.Prelude.{option_to_list}
 use Rattle.std.specs.Option.{option_or}
 
--- the lists for 0, 1, .. and n - 1, one behind another
+-- the lists for 0, 1, .. and n - 1, joined in this order
 unfoldable pub each_below : {X : Type 0} → ℕ → (ℕ → List X) → List X
 each_below zero list = []
 each_below (suc n) list = each_below n list ++ list n

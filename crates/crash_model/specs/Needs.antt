@@ -20,7 +20,7 @@ pub record Without : Type 0 where
   pub failing : ℕ
   pub first : Option Section
 
--- what is told of a rule: that it applies to no pair; or to so many, and what there is without it, or too many closed
+-- the entry of a rule: that it applies to no pair; or to how many, and what there is without it, or too many closed
 -- sets
 pub data RuleUsage : Type 0 where
   Unused : RuleUsage
@@ -69,7 +69,7 @@ IsRuleUsage detail limit rules base s patches rule (Used pairs w) =
     (pairs ≡ pairs_of rule s.emitted) × (1 ≤ pairs)
     × HasGraphBy (rules_in_first rules (rule ∷ [])) base s (λ changed. IsWithout detail limit base patches changed w)
 
--- each rule of `some` is told, in their order; `rules` are all rules
+-- there is an entry for each rule of `some`, in their order; `rules` are all rules
 abbrev pub AreToldRules : Detail → ℕ → List Rule → Disk → Tracing → List Patch → List Rule → List ToldRule → Type 0
 AreToldRules detail limit rules base s patches [] told = told ≡ []
 AreToldRules detail limit rules base s patches (rule ∷ some) told =
@@ -99,7 +99,7 @@ abbrev pub first_json : ℕ → Option Section → List ℕ
 first_json n None = []
 first_json n (Some section) = codes "\"first\":" ++ section_json n section ++ codes ","
 
--- the keys before and behind `rule`
+-- the keys before and after `rule`
 abbrev pub usage_json : ℕ → List ℕ → RuleUsage → List ℕ
 usage_json n rule Unused = codes "\"pairs\":0" ++ rule
 usage_json n rule (TooMany pairs) = codes "\"pairs\":" ++ decimal pairs ++ rule ++ codes ",\"too_many\":true"

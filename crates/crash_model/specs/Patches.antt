@@ -14,7 +14,7 @@ deps_of patches = map (λ p. p.deps) patches
 abbrev pub homes_of : List Patch → List ℕ
 homes_of patches = map (λ p. p.block) patches
 
--- there are so many closed sets
+-- there are `total` closed sets
 abbrev pub CountsClosed : List Patch → ℕ → Type 0
 CountsClosed patches total = HoldsOf (IsClosed (deps_of patches)) total
 

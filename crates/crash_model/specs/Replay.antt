@@ -30,7 +30,7 @@ is_header d j t row =
     && nat_le 1 (count_of row) && nat_le (count_of row) 8 && nat_le (j + count_of row) (3 + d.journal)
     && is_ascending (targets_of row) && list_all (is_target d) (targets_of row)
 
--- The headers from block j and transaction t on, each behind the copies of the one before: the longest such list,
+-- The headers from block j and transaction t on, each after the copies of the one before: the longest such list,
 -- of at most `most`.
 abbrev pub headers_from : ℕ → Disk → ℕ → ℕ → List ℕ
 headers_from zero d j t = []

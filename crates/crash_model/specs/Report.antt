@@ -1,4 +1,4 @@
--- What reports are made of: words, and what is told of a set.
+-- What reports are made of: words, and the section of a set.
 use Rattle.std.specs.Prelude.{◌≡◌, ℕ, ◌∷◌, List, [], ◌++◌, map, flat_map, Bool, if◌then◌else◌, not, bytes_eq, Option}
 use Rattle.std.specs.Prelude.{Some, None, codes, decimal}
 use Rattle.hex.specs.Hex.{encode_lower}
@@ -19,7 +19,7 @@ use Rattle.crash_model.specs.declared.settings.Detail.{Detail}
 use Rattle.crash_model.specs.declared.modules.Module.{Module}
 use Rattle.crash_model.specs.declared.modules.Module.TheVariants.{Async, Soft, Meta, Full}
 
--- ---- what is told of a set
+-- ---- the section of a set
 
 -- a block that replay changes, with its bytes after replay
 pub record ReplayedBlock : Type 0 where
@@ -32,7 +32,7 @@ changed_blocks before after =
     some_below before.blocks (λ b.
     when (not (bytes_eq (block_of before b) (block_of after b))) (record { block = b; bytes = block_of after b }))
 
--- what is told of a set: its ids, block writes that lead to it, what replay changes where that is asked for, and the
+-- the section of a set: its ids, block writes that lead to it, what replay changes where that is asked for, and the
 -- faults of its replayed image, by the checker that is asked for
 pub record Section : Type 0 where
   pub set : ℕ

@@ -1,5 +1,5 @@
 -- Rules that order patches, and the ordering modules as lists of them.
-use Rattle.std.specs.Prelude.{ℕ, ◌+◌, List, [], ◌∷◌, ◌++◌, filter, Bool, true, false, ◌==◌, ◌&&◌, not, codes, bytes_eq}
+use Rattle.std.specs.Prelude.{ℕ, ◌+◌, List, [], ◌∷◌, ◌++◌, filter, Bool, true, false, ◌==◌, ◌&&◌, not, nat_lt, codes, bytes_eq}
 use Rattle.std.specs.List.{list_any}
 use Rattle.crash_model.specs.declared.plans.Role.{Role}
 use Rattle.crash_model.specs.declared.plans.Role.TheVariants.{InodeInit, EntrySet, EntryClear, MapSet, MapClear}
@@ -9,7 +9,7 @@ use Rattle.crash_model.specs.declared.rules.Part.TheVariants as part
 use Rattle.crash_model.specs.declared.rules.RulePart.{RulePart}
 use Rattle.crash_model.specs.declared.rules.RulePart.TheVariants.{Change, InPlace, FileData, Copy, Commit, Done}
 use Rattle.crash_model.specs.declared.rules.Scope.{Scope}
-use Rattle.crash_model.specs.declared.rules.Scope.TheVariants.{Same, Previous}
+use Rattle.crash_model.specs.declared.rules.Scope.TheVariants.{Same, Previous, Before}
 use Rattle.crash_model.specs.declared.rules.Rule.{Rule}
 use Rattle.crash_model.specs.declared.modules.Module.{Module}
 use Rattle.crash_model.specs.declared.modules.Module.TheVariants.{Async, Soft, Meta, Full}
@@ -47,14 +47,15 @@ rule_part_text Done = codes "Done"
 abbrev pub scope_text : Scope → List ℕ
 scope_text Same = []
 scope_text Previous = codes "previous-"
+scope_text Before = codes "before-"
 
 -- as a rule is written
 abbrev pub rule_text : Rule → List ℕ
 rule_text rule = rule_part_text rule.later ++ codes ":" ++ scope_text rule.scope ++ rule_part_text rule.earlier
 
--- ---- what a rule speaks of
+-- ---- what a rule applies to
 
--- a patch with this part is one that the rule speaks of
+-- the rule names a patch with this part
 abbrev pub has_part : RulePart → Part → Bool
 has_part (Change role) (part.InPlace other) = bytes_eq (role_text role) (role_text other)
 has_part InPlace (part.InPlace other) = true
@@ -64,10 +65,11 @@ has_part Commit part.Commit = true
 has_part Done part.Done = true
 has_part _ _ = false
 
--- the operations with these numbers are one, or the later one comes right after the earlier one
+-- the operations with these numbers are one, or the later one comes right after the earlier one, or anywhere after it
 abbrev pub are_scoped : Scope → ℕ → ℕ → Bool
 are_scoped Same later earlier = later == earlier
 are_scoped Previous later earlier = later == earlier + 1
+are_scoped Before later earlier = nat_lt earlier later
 
 -- ---- the orderings
 
@@ -112,7 +114,7 @@ rules_of Soft = soft_rules
 rules_of Meta = journal_rules
 rules_of Full = journal_rules
 
--- ---- an ordering of one's own
+-- ---- a module's rules with some taken out and some put in
 
 -- two rules are one: their parts and scopes are written the same
 abbrev pub is_same_rule : Rule → Rule → Bool

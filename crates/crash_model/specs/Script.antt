@@ -17,7 +17,7 @@ use Rattle.crash_model.specs.declared.steps.Step.{Step}
 abbrev pub ArePlain : List (List ℕ) → Type 0
 ArePlain lines = All (λ line. ¬ (Contains line 10)) lines
 
--- each line with a line feed behind it
+-- each line followed by a line feed
 abbrev pub text_of_lines : List (List ℕ) → List ℕ
 text_of_lines lines = flat_map (λ line. line ++ 10 ∷ []) lines
 
@@ -49,7 +49,7 @@ pub record IsPath (path : Path) : Type 0 where
 abbrev pub IsPathWord : List ℕ → Type 0
 IsPathWord word = (path : Path) × IsPath path × (word ≡ path_text path)
 
--- what stands behind a line's first word: a path, or the name of a group
+-- what follows a line's first word: a path, or the name of a group
 pub data Operand : Type 0 where
   PathOperand : Path → Operand
   GroupOperand : List ℕ → Operand

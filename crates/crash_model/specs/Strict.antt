@@ -1,4 +1,4 @@
--- What a checker finds beside the six faults where it is told which inodes the script keeps.
+-- What the strict checker finds in addition to the six faults, given the inodes that the script keeps.
 use Rattle.std.specs.Prelude.{◌≡◌, ℕ, zero, suc, ◌<◌, List, [], ◌∷◌, ◌++◌, Bool, true, false, ◌&&◌, ◌||◌, ◌==◌, not}
 use Rattle.std.specs.Prelude.{Option, Some, None}
 use Rattle.std.specs.List.{range_with_len, list_any}
@@ -35,7 +35,7 @@ stays_live d (x ∷ xs) inode = is_live d inode && stays_live (disk_after d x.ac
 abbrev pub IsKept : Disk → List Step → ℕ → Type 0
 IsKept base steps kept = (inode : ℕ) → has kept inode ≡ stays_live base steps inode
 
--- what a checker is told of them: nothing, or where it is strict the inodes that the script keeps
+-- what a checker gets of them: nothing, or if it is strict the inodes that the script keeps
 abbrev pub IsToldKept : Bool → Disk → List Step → Option ℕ → Type 0
 IsToldKept strict base steps None = strict ≡ false
 IsToldKept strict base steps (Some kept) = (strict ≡ true) × IsKept base steps kept
@@ -49,7 +49,7 @@ is_in inodes inode = list_any (λ i. inode == i) inodes
 abbrev pub has_entry_to : Disk → ℕ → ℕ → Bool
 has_entry_to d dir inode = list_any (λ k. leads_to d dir k inode) (range_with_len 0 10)
 
--- the inodes to which entries lead from inode 0, a directory, in at most so many steps, each to a live inode
+-- the inodes to which entries lead from inode 0, a directory, in at most n steps, each to a live inode
 unfoldable pub reach_in : Disk → ℕ → List ℕ
 reach_in d zero = ids_below 16 (λ inode. inode == 0 && kind_of d 0 == DIRECTORY_KIND)
 reach_in d (suc n) =

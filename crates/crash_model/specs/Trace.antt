@@ -36,7 +36,7 @@ pub record Origin : Type 0 where
 abbrev pub origin_at : ℕ → Op → Option (List ℕ) → Origin
 origin_at line op group = record { line = line; op = op; group = group }
 
--- a patch without its dependencies: where it stands with its bytes, what it is of its operation, and that one's number,
+-- a patch without its dependencies: its place and bytes, what it is of its operation, and that operation's number,
 -- from 1
 pub record Emitted : Type 0 where
   pub place : Place
@@ -59,10 +59,15 @@ groups_depend links q p =
 abbrev pub applies : Rule → Emitted → Emitted → Bool
 applies rule q p = has_part rule.later q.part && (has_part rule.earlier p.part && are_scoped rule.scope q.turn p.turn)
 
+-- blocks are written whole, and two patches change the same block
+abbrev pub shares_block : Bool → Emitted → Emitted → Bool
+shares_block whole q p = whole && q.place.block == p.place.block
+
 -- a patch depends on an earlier one
-abbrev pub depends : List Rule → List (List ℕ × List ℕ) → Emitted → Emitted → Bool
-depends rules links q p =
-    overlap q.place p.place || groups_depend links q p || list_any (λ rule. applies rule q p) rules
+abbrev pub depends : List Rule → Bool → List (List ℕ × List ℕ) → Emitted → Emitted → Bool
+depends rules whole links q p =
+    overlap q.place p.place || shares_block whole q p || groups_depend links q p
+    || list_any (λ rule. applies rule q p) rules
 
 -- the rules that make it wait
 abbrev pub rules_between : List Rule → Emitted → Emitted → List Rule
@@ -121,15 +126,26 @@ pub record Tracing : Type 0 where
   -- the number of the next operation, and the next free journal block
   pub turn : ℕ
   pub journal : ℕ
+  -- whether blocks are written whole
+  pub whole : Bool
   -- the groups: the open one, those that were opened, those that have ended, and the pairs (B, A)
   pub current : Option (List ℕ)
   pub opened : List (List ℕ)
   pub ended : List (List ℕ)
   pub links : List (List ℕ × List ℕ)
 
-abbrev pub trace_start : Disk → Tracing
-trace_start base =
-    record { disk = base; emitted = []; turn = 1; journal = 4; current = None; opened = []; ended = []; links = [] }
+abbrev pub trace_start : Bool → Disk → Tracing
+trace_start whole base = record {
+  disk = base;
+  emitted = [];
+  turn = 1;
+  journal = 4;
+  whole = whole;
+  current = None;
+  opened = [];
+  ended = [];
+  links = [];
+}
 
 -- how many journal blocks an operation takes, and its patches
 abbrev pub journal_blocks : Module → ℕ → List Change → ℕ
@@ -196,4 +212,4 @@ pub record IsGraphOf (rules : List Rule) (base : Disk) (s : Tracing) (patches : 
   pub earlier : AreEarlier (deps_of patches)
   pub exactly : (q p : ℕ) (later before : Emitted) → p < q → slice_get s.emitted q ≡ Some later
       → slice_get s.emitted p ≡ Some before
-      → (Has (slice_index (deps_of patches) q) p ↔ IsTrue (depends rules s.links later before))
+      → (Has (slice_index (deps_of patches) q) p ↔ IsTrue (depends rules s.whole s.links later before))

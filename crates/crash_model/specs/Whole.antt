@@ -8,7 +8,7 @@ use Rattle.crash_model.specs.Needs.{ToldRule, told_rule_text, told_rule_json}
 use Rattle.crash_model.specs.declared.rules.Rule.{Rule}
 use Rattle.crash_model.specs.declared.settings.Settings.{Settings}
 
--- what stands behind the head: the failing sets, each fault once, or the use of each rule
+-- the body, after the head: the failing sets, each fault once, or the use of each rule
 pub data Body : Type 0 where
   Sets : List Section → Body
   Faults : List ToldFault → Body
@@ -22,7 +22,7 @@ pub record Report : Type 0 where
   pub explanation : Option Explanation
   pub body : Body
 
--- the rules that a report tells as taken out and as put in
+-- the rules that a report lists as taken out and as put in
 abbrev pub told_without : Settings → List Rule
 told_without settings = rules_taken_out settings.module settings.without.items
 
@@ -31,7 +31,7 @@ told_with settings = rules_put_in settings.module settings.without.items setting
 
 -- ---- text
 
--- a line for each rule, behind the word
+-- a line for each rule: the word and the rule
 abbrev pub rule_lines : List ℕ → List Rule → List ℕ
 rule_lines word rules = flat_map (λ rule. line (word ++ codes " " ++ rule_text rule)) rules
 
@@ -41,6 +41,7 @@ head_text settings patches closed failing =
     line (codes "module " ++ module_text settings.module)
     ++ rule_lines (codes "without") (told_without settings)
     ++ rule_lines (codes "with") (told_with settings)
+    ++ (if settings.whole_blocks then line (codes "whole blocks") else [])
     ++ (if settings.strict then line (codes "strict") else [])
     ++ line (codes "patches " ++ decimal patches)
     ++ line (codes "closed " ++ decimal closed)
@@ -69,7 +70,7 @@ early_json n failing (Sets sections) = codes ",\"failing\":" ++ json_array (map 
 early_json n failing (Faults told) = codes ",\"faults\":" ++ json_array (map (told_fault_json n) told)
 early_json n failing (Rules told) = codes ",\"failing\":" ++ decimal failing
 
--- and those behind `patches`
+-- and those after `patches`
 abbrev pub late_json : ℕ → ℕ → Body → List ℕ
 late_json n failing (Sets sections) = []
 late_json n failing (Faults told) = codes ",\"sets\":" ++ decimal failing
@@ -85,6 +86,7 @@ json_report settings r =
     ++ late_json r.patches r.failing r.body
     ++ (if settings.strict then codes ",\"strict\":true" else [])
     ++ trace_json r.explanation
+    ++ (if settings.whole_blocks then codes ",\"whole_blocks\":true" else [])
     ++ rules_json (codes "with") (told_with settings)
     ++ rules_json (codes "without") (told_without settings)
     ++ codes "}\n"

@@ -76,7 +76,7 @@ impl fmt::Debug for Fault {
 }
 
 impl Fault {
-    /// Its number, those of its text from left to right, and zeros behind them. Faults are told in the order of these.
+    /// The sort key of a fault: its number, then the numbers in its text, padded with zeros.
     pub fn numbers(self) -> [u8; 4]
         ensures { result ≡ numbers_of self }
     {
@@ -97,7 +97,7 @@ impl Fault {
     }
 }
 
-/// What a summary tells of a fault: how many failing sets have it, and which of them is the first in canonical order.
+/// A fault in a summary: how many failing sets have it, and which of them is the first in canonical order.
 #[derive(Clone, Copy, Debug, PartialEq, Eq, Drop)]
 pub struct FaultRow {
     pub fault: Fault,

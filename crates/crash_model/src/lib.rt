@@ -1,6 +1,6 @@
-//! What crashmap speaks of: names, operations, changes, patches, steps, faults and refusals.
+//! The data that crashmap uses: names, operations, changes, patches, steps, faults and refusals.
 //!
-//! The definitions that contracts cite stand in `specs/`: the disk and its layout, what operations change, the
+//! The definitions that contracts use are in `specs/`: the disk and its layout, what operations change, the
 //! patches of a script and their dependencies, replay, the checker's faults, the sets that fail, the script, the
 //! report and the answer. None of them is code; the crates above are proved to meet them.
 #![tactic(auto)]

@@ -131,7 +131,7 @@ impl fmt::Display for Path {
     }
 }
 
-/// The first name of a path's text, behind its slash, and the text behind it, which is empty or begins with a slash.
+/// The first name of a path's text, after its slash, and the rest, which is empty or begins with a slash.
 fn first_name(text: &[u8]) -> Option<(Name, &[u8])>
     ensures { MatchOption result (¬ (HasFirstName text.now)) (λ first. BeginsWith text.now first.0 first.1.now) }
 {

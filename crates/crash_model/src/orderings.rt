@@ -1,6 +1,6 @@
 //! Orderings: how operations become patches, and the rules that order these.
 
-ghost use Rattle.std.specs.Prelude.{◌≡◌, ◌≤◌, ◌+◌, ◌++◌, length};
+ghost use Rattle.std.specs.Prelude.{◌≡◌, ◌≤◌, ◌+◌, ◌++◌, length, false};
 ghost use Rattle.crash_model.specs.Rules.{rules_of, rules_taken_out, kept_rules, rules_put_in, rules_under};
 
 use crate::modules::Module;
@@ -167,11 +167,13 @@ impl Module {
 /// How many rules an ordering can have: those of a module, and as many as a user puts in.
 pub const MAX_RULES: usize = 28;
 
-/// An ordering: the module that turns operations into patches, and the rules that order these.
+/// An ordering: the module that turns operations into patches, and the rules that order these. Where blocks are written
+/// whole, a patch also depends on each earlier one of its block.
 #[derive(Drop)]
 pub struct Ordering {
     pub module: Module,
     pub rules: ArrayVec<Rule, MAX_RULES>,
+    pub whole_blocks: bool,
 }
 
 impl Ordering {
@@ -179,10 +181,15 @@ impl Ordering {
     pub fn of(module: Module) -> Ordering
         ensures module { result.«module» ≡ «module» }
         ensures rules { result.rules.items ≡ rules_of «module» }
+        ensures parts { result.whole_blocks ≡ false }
     {
         let mut rules = ArrayVec::new();
         push_rules(&mut rules, module.rules());
-        Ordering { module, rules }
+        Ordering {
+            module,
+            rules,
+            whole_blocks: false,
+        }
     }
 
     /// The ordering with the rules `without` taken out of the module's list, and the rules `with` put in at its end.
@@ -192,11 +199,16 @@ impl Ordering {
         requires { length with.now ≤ 16 }
         ensures module { result.«module» ≡ «module» }
         ensures rules { result.rules.items ≡ rules_under «module» without.now with.now }
+        ensures parts { result.whole_blocks ≡ false }
     {
         let mut rules = ArrayVec::new();
         push_rules(&mut rules, module.kept_rules(without).as_slice());
         push_rules(&mut rules, module.put_in(without, with).as_slice());
-        Ordering { module, rules }
+        Ordering {
+            module,
+            rules,
+            whole_blocks: false,
+        }
     }
 }
 

@@ -1,6 +1,6 @@
 //! Refusals. Each has a number, a name and a text; its `Display` writes the number, a space and the text.
 //!
-//! Numbers and texts stand once, in `RunFault`; what a single layer refuses is shown as the run's refusal that it
+//! Numbers and texts are in `RunFault`. The fault of a single layer is displayed as the run's refusal that it
 //! becomes.
 
 ghost use Rattle.std.specs.Prelude.{◌≡◌, ℕ, Some, None};

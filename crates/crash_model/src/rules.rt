@@ -1,8 +1,9 @@
 //! Rules that order patches.
 
-ghost use Rattle.std.specs.Prelude.{◌≡◌, MatchOption, bytes_eq};
+ghost use Rattle.std.specs.Prelude.{◌≡◌, ◌++◌, MatchOption, bytes_eq};
 ghost use Rattle.crash_model.specs.Rules.{has_part, are_scoped, part_text, rule_part_text, scope_text, is_same_rule};
-ghost use Rattle.crash_model.specs.RuleFacts.{IsNoRulePart};
+ghost use Rattle.crash_model.specs.RuleFacts.{IsNoRulePart, HasNoScope};
+ghost use Rattle.crash_model.specs.declared.rules.Scope.TheVariants.{Same};
 
 use crate::plans::Role;
 use std::fmt;
@@ -112,15 +113,31 @@ impl RulePart {
     }
 }
 
-/// How the operations of two patches stand: they are one, or the later patch's is the next after the earlier one's.
+/// Where the operation of the earlier patch stands: it is the later patch's own, the one right before it, or any one
+/// before it.
 #[derive(Clone, Copy, Debug, PartialEq, Eq, Default)]
 pub enum Scope {
     #[default]
     Same,
     Previous,
+    Before,
 }
 
 impl Scope {
+    /// The scope that a text begins with, and the text behind it.
+    fn read(text: &str) -> (Scope, &str)
+        ensures scope { text.now ≡ scope_text result.0 ++ result.1.now }
+        ensures same { (result.0 ≡ Same) → HasNoScope text.now }
+    {
+        if let Some(rest) = text.strip_prefix("previous-") {
+            return (Scope::Previous, rest);
+        }
+        if let Some(rest) = text.strip_prefix("before-") {
+            return (Scope::Before, rest);
+        }
+        (Scope::Same, text)
+    }
+
     /// Whether it is the same scope.
     fn same(self, other: Scope) -> bool
         ensures { result ≡ bytes_eq (scope_text self) (scope_text other) }
@@ -128,19 +145,20 @@ impl Scope {
         self == other
     }
 
-    /// Whether the operations with these numbers stand so.
+    /// Whether the operations with these numbers are placed so.
     pub fn has(self, later: usize, earlier: usize) -> bool
         ensures { result ≡ are_scoped self later earlier }
     {
         match self {
             Scope::Same => later == earlier,
             Scope::Previous => later > earlier && later - earlier == 1,
+            Scope::Before => later > earlier,
         }
     }
 }
 
 /// A rule of an ordering: a patch with the part `later` waits for each earlier one with the part `earlier` whose
-/// operation stands as the scope says.
+/// operation is placed as the scope says.
 #[derive(Clone, Copy, Debug, PartialEq, Eq, Default)]
 pub struct Rule {
     pub later: RulePart,
@@ -152,15 +170,13 @@ impl Rule {
     ghost use Rattle.crash_model.specs.Rules.{rule_text};
     ghost use Rattle.crash_model.specs.RuleFacts.{IsNoRule};
 
-    /// The rule that is written so: `LATER:EARLIER`, or `LATER:previous-EARLIER`. `None` for any other text.
+    /// The rule that is written so: `LATER:EARLIER`, `LATER:previous-EARLIER` or `LATER:before-EARLIER`. `None` for any
+    /// other text.
     pub fn read(text: &str) -> Option<Rule>
         ensures { MatchOption result (IsNoRule text.now) (λ rule. text.now ≡ rule_text rule) }
     {
         let (later, rest) = text.split_once(":")?;
-        let (scope, earlier) = match rest.strip_prefix("previous-") {
-            Some(earlier) => (Scope::Previous, earlier),
-            None => (Scope::Same, rest),
-        };
+        let (scope, earlier) = Scope::read(rest);
         Some(Rule {
             later: RulePart::read(later)?,
             earlier: RulePart::read(earlier)?,
@@ -189,6 +205,7 @@ impl fmt::Display for Rule {
         match self.scope {
             Scope::Same => write!(f, "{later}:{earlier}"),
             Scope::Previous => write!(f, "{later}:previous-{earlier}"),
+            Scope::Before => write!(f, "{later}:before-{earlier}"),
         }
     }
 }

@@ -17,7 +17,7 @@ pub enum Explorer {
     Sweep,
 }
 
-/// What a report tells behind its head: the failing sets, each fault once, or for each rule what a crash can leave
+/// The body of a report: the failing sets, each fault once, or for each rule what a crash can leave
 /// without it.
 #[derive(Clone, Copy, Debug, PartialEq, Eq)]
 pub enum ReportBy {
@@ -26,8 +26,8 @@ pub enum ReportBy {
     ByRule,
 }
 
-/// How much is told of a set: with `explain` what replay changes; with a set of inodes that the script keeps, the two
-/// faults on what is lost of them beside the other six.
+/// What is reported of a set: with `explain` what replay changes; with a set of kept inodes, also the two faults of
+/// the strict checker.
 #[derive(Clone, Copy, Debug, PartialEq, Eq)]
 pub struct Detail {
     pub explain: bool,
@@ -38,9 +38,10 @@ pub struct Detail {
 ///
 /// The ordering is the module's with the rules `without` taken out and the rules `with` put in at its end. The disk
 /// has `blocks` blocks of 128 bytes, of which `journal` are the journal's. A run that has more than `limit` closed
-/// sets is refused. The report is JSON where `json` is set, else text; with `explain` it tells what the patches are
-/// and what replay changes. With `strict` the checker asks of each image, too, that nothing which the script keeps is
-/// lost.
+/// sets is refused. The report is JSON if `json` is set, else text; with `explain` it says what the patches are
+/// and what replay changes. With `whole_blocks` a block is written with all changes that it has in memory, so a patch
+/// depends on each earlier one of its block. With `strict` the checker asks of each image, too, that nothing which the
+/// script keeps is lost.
 #[derive(Debug, PartialEq, Eq, Drop)]
 pub struct Settings {
     pub module: Module,
@@ -52,6 +53,7 @@ pub struct Settings {
     pub explorer: Explorer,
     pub json: bool,
     pub explain: bool,
+    pub whole_blocks: bool,
     pub strict: bool,
     pub by: ReportBy,
 }
@@ -60,9 +62,13 @@ impl Settings {
     /// The ordering that they ask for.
     pub fn ordering(&self) -> Ordering
         ensures module { result.«module» ≡ self.now.«module» }
+        ensures whole { result.whole_blocks ≡ self.now.whole_blocks }
         ensures rules { result.rules.items ≡ rules_under self.now.«module» self.now.without.items self.now.with.items }
     {
-        Ordering::under(self.module, self.without.as_slice(), self.with.as_slice())
+        Ordering {
+            whole_blocks: self.whole_blocks,
+            ..Ordering::under(self.module, self.without.as_slice(), self.with.as_slice())
+        }
     }
 
     /// The rules that are taken out, in the order of the module's list.

@@ -81,7 +81,7 @@ firsts_closed kept base patches rows are = All-map (IsClosed (deps_of patches)) 
 module _ (settings : Settings) (kept : Option ℕ) (base : Disk) (t : TracedPatches) (last : Tracing)
     (is : IsTraceOf settings base t last) where
   pub same_explanation : explanation_by base t ≡ explanation (ordering_rules settings) base last t.patches
-  same_explanation = rw (is.rules, is.links, is.emitted) refl
+  same_explanation = rw (is.rules, is.whole, is.links, is.emitted) refl
 
   -- the text makes it the report on the failing sets
   is_report : (total failing : ℕ) (sets text : List ℕ) → AreTotals settings.limit kept base t.patches total failing sets

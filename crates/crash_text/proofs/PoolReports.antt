@@ -21,9 +21,10 @@ use Rattle.search_report.specs.Findings.{told_kind}
 use Rattle.search_report.specs.declared.findings.KindCrash.{KindCrash}
 
 -- a search under this ordering
-abbrev pub search_under : Settings → ℕ → Disk → List Step → Module → List Rule → Search
-search_under settings most base pool ordering rules = record {
+abbrev pub search_under : Settings → ℕ → Disk → List Step → Module → Bool → List Rule → Search
+search_under settings most base pool ordering whole rules = record {
   ordering = ordering;
+  whole = whole;
   rules = rules;
   strict = settings.strict;
   base = base;
@@ -31,35 +32,12 @@ search_under settings most base pool ordering rules = record {
   most = most;
 }
 
--- is the one that the settings ask for
-pub is_search_of : (settings : Settings) (most : ℕ) (base : Disk) (pool : List Step) (ordering : Module)
-    (rules : List Rule) → ordering ≡ settings.module → rules ≡ ordering_rules settings
-    → search_under settings most base pool ordering rules ≡ search_of settings most base pool
-is_search_of settings most base pool ordering rules by all =
-    ap₂ (λ (m : Module) (rs : List Rule). search_under settings most base pool m rs) by all
-
-pub is_search_report : (settings : Settings) (most : ℕ) (base : Disk) (pool : List Step) (s : Search) (found : Found)
-    (told : List ToldKind) (text : List ℕ) (number : ℕ) → s ≡ search_of settings most base pool → AreFound s found
-    → map (λ t. t.shown) told ≡ found.kinds.items → All (IsToldKind s settings.explain) told
-    → text ≡ search_bytes settings most (length pool) found told
-    → number ≡ (if found.failing == 0 then 0 else 1)
-    → IsSearchReport settings most base pool text number
-is_search_report settings most base pool s found told text number same are kinds each whole number_of = record {
-  found = found;
-  exactly = subst (λ (x : Search). AreFound x found) same are;
-  told = told;
-  kinds = kinds;
-  each = subst (λ (x : Search). All (IsToldKind x settings.explain) told) same each;
-  whole = whole;
-  number_of = number_of;
-}
-
 -- the number of a search is 1 where a workload fails
 pub number_of_failing : (none : Bool) → from_bool (not none) ≡ (if none then 0 else 1)
 number_of_failing true = refl
 number_of_failing false = refl
 
--- what is told of a kind, with the steps at the places of its workload
+-- a kind in the report, with the steps at the places of its workload
 pub with_steps : (s : Search) (explain : Bool) (shown : ShownKind) (steps : List Step) (patches : ℕ) (first : Section)
     → IsToldKind s explain (record { shown = shown; steps = steps; patches = patches; first = first })
     → IsToldKind s explain
@@ -77,7 +55,7 @@ shown_more {A = A} kinds i d crashes after crash within so_far is more =
     ap (map (λ (k : KindCrash A). k.shown.now)) more ∙ (map_push (λ (k : KindCrash A). k.shown.now) crashes crash
     ∙ (ap₂ (λ (ks : List ShownKind) (k : ShownKind). ks ++ k ∷ []) so_far is ∙ sym (take_more kinds i d within)))
 
--- and what is told of it
+-- and what the report says of it
 pub crash_more : {A : Type 0} (P : KindCrash A → Type 0) (crashes after : List (KindCrash A)) (crash : KindCrash A)
     → All P crashes → P crash → after ≡ crashes ++ crash ∷ [] → All P after
 crash_more {A = A} P crashes after crash so_far one more =

@@ -32,7 +32,7 @@ pub record IsNoPool (steps : List Step) (fault : RunFault) : Type 0 where
   pub first : ¬ (IsOperation step)
   pub told : fault ≡ GroupFault step.line
 
--- the crash of each kind, in order, is told as the report tells it
+-- the crashes of the kinds, in order, as the report has them
 pub record AreToldKinds {A : Type 0} (s : Search) (explain : Bool) (kinds : List ShownKind)
     (crashes : List (KindCrash A)) : Type 0 where
   pub shown : map (λ k. k.shown.now) crashes ≡ kinds

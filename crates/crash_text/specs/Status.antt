@@ -1,4 +1,4 @@
--- What an exit status tells.
+-- What an exit status means.
 use Rattle.std.specs.Prelude.{ℕ, ◌<◌, List, Option, Some, None}
 use Rattle.command_line.specs.declared.Call.{Call}
 use Rattle.crash_text.specs.Served.{IsServed}

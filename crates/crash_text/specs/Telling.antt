@@ -1,4 +1,4 @@
--- What the report of a run tells.
+-- What the report of a run says.
 use Rattle.std.specs.Prelude.{◌≡◌, ◌≢◌, ◌⊎◌, ℕ, List, Option, Ok, Err, length}
 use Rattle.crash_model.specs.Answer.{ordering_rules, IsReport}
 use Rattle.crash_model.specs.Disk.{Disk}
@@ -32,6 +32,7 @@ use Rattle.crash_text.specs.declared.traced_script.TracedScript.{TracedScript}
 pub record IsTraceOf (settings : Settings) (base : Disk) (t : TracedPatches) (last : Tracing) : Type 0 where
   pub emitted : t.emitted ≡ last.emitted
   pub links : t.links ≡ last.links
+  pub whole : t.whole ≡ last.whole
   pub rules : t.rules ≡ ordering_rules settings
   pub graph : IsGraphOf (ordering_rules settings) base last t.patches
 
@@ -85,12 +86,12 @@ IsReportOn question settings s text number =
 abbrev pub NoneFails : {A : Type 0} → TracedScript A → Type 0
 NoneFails s = (set : ℕ) → ¬ (IsFailingUnder s.kept s.base.now s.traced.patches set)
 
--- the report on steps that are traced over the base, by a checker that is told what the steps keep
+-- the report on steps that are traced over the base, by a checker with the inodes that the steps keep
 pub record AreReported (question : Question) (settings : Settings) (base : Disk) (steps : List Step) (text : List ℕ)
     (number : ℕ) : Type 0 where
   pub last : Tracing
   pub patches : List Patch
-  pub run : trace_from settings.module (trace_start base) steps ≡ Ok last
+  pub run : trace_from settings.module (trace_start settings.whole_blocks base) steps ≡ Ok last
   pub graph : IsGraphOf (ordering_rules settings) base last patches
   pub kept : Option ℕ
   pub told : IsToldKept settings.strict base steps kept
@@ -104,12 +105,14 @@ IsPastLimit question settings patches fault =
 -- a step is refused, or there are too many closed sets to visit
 abbrev pub AreRefused : Question → Settings → Disk → List Step → RunFault → Type 0
 AreRefused question settings base steps fault =
-    ((why : TraceFault) × (trace_from settings.module (trace_start base) steps ≡ Err why) × (fault ≡ run_of_trace why))
-    ⊎ ((last : Tracing) × (patches : List Patch) × (trace_from settings.module (trace_start base) steps ≡ Ok last)
+    ((why : TraceFault) × (trace_from settings.module (trace_start settings.whole_blocks base) steps ≡ Err why) × (fault
+    ≡ run_of_trace why))
+    ⊎ ((last : Tracing) × (patches : List Patch) × (trace_from settings.module (trace_start settings.whole_blocks base)
+    steps ≡ Ok last)
     × IsGraphOf (ordering_rules settings) base last patches × (question ≡ Visit)
     × ExceedsLimit patches settings.limit × (fault ≡ TooMany))
 
--- what there is where the patches have other dependencies, as those without a rule that applies to so many pairs
+-- what there is where the patches have other dependencies, as without a rule that applies to this many pairs
 abbrev pub IsUsageBy : Detail → ℕ → Disk → List Patch → List Patch → ℕ → RuleUsage → Type 0
 IsUsageBy detail limit base patches changed pairs Unused = ⊥
 IsUsageBy detail limit base patches changed pairs (PastLimit told) = (told ≡ pairs) × ExceedsLimit changed limit

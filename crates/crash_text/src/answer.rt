@@ -29,7 +29,7 @@ const REFUSED: u8 = 2;
 
 /// Answers a command line, and gives the exit status: 0 with no failing set or fault, 1 with one, 2 with a refusal.
 ///
-/// `words` stand without the program's name. It reads the script that they name, else `input`, writes the report to
+/// `words` leave out the program's name. It reads the script that they name, else `input`, writes the report to
 /// `out`, and a refusal, as one line, or a fault of the command line to `err`. A request for help or for the version
 /// is printed on `out`, with status 0.
 pub fn answer<'a, R, A, I, O, E>(
@@ -50,7 +50,7 @@ where
     answer_watched(host, words, input, out, err, &OpenGate)
 }
 
-/// The same, and the gate is told of each claim of a worker on a board, and of how far the run is.
+/// Like `answer`; the gate gets each claim of a worker on a board, and the progress of the run.
 pub fn answer_watched<'a, R, A, I, O, E, G>(
     host: &Host<'_, R, A>,
     words: &'a [&'a str],

@@ -1,4 +1,4 @@
-//! What the checker of a run is told of the inodes that the script keeps.
+//! The kept inodes that the checker of a run gets.
 
 ghost use Rattle.std.specs.Prelude.{IfOk};
 ghost use Rattle.crash_model.specs.Strict.{IsToldKept};

@@ -48,9 +48,9 @@ where
     findings.by_rule(host, &rules, finder.workers)
 }
 
-/// What is told of each rule of the ordering, in its order.
+/// The entry of each rule of the ordering, in its order.
 ///
-/// A rule that applies to no pair of patches is told as that; for each other rule the same patches are explored under
+/// A rule that applies to no pair is reported as such; for each other rule the same patches are explored under
 /// the ordering without it, within the limit of the settings. It fails only when out of memory.
 fn needs<R, A, G>(
     finder: &Finder<'_, R, A, G>,
@@ -91,7 +91,7 @@ where
     requires same { finder.now.settings.now ≡ findings.now.settings.now }
     requires found { AreFindings findings.now }
     ensures { IfOk result (λ usage. (last : Tracing) → last.emitted ≡ findings.now.traced.emitted
-        → last.links ≡ findings.now.traced.links
+        → last.links ≡ findings.now.traced.links → last.whole ≡ findings.now.traced.whole
         → IsRuleUsage (detail_of findings.now.settings.now findings.now.kept) findings.now.settings.now.limit
         findings.now.traced.rules findings.now.base.now last findings.now.traced.patches rule (usage_of usage)) }
 {
@@ -103,7 +103,7 @@ where
     usage_without(finder, findings, pairs, &changed)
 }
 
-/// What a crash can leave without a rule that applies to so many pairs of patches. It fails only when out of memory.
+/// What a crash can leave without a rule that applies to `pairs` pairs of patches. It fails only when out of memory.
 ///
 /// `changed` has the same patches without that rule.
 fn usage_without<R, A, G>(

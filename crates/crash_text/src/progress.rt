@@ -1,4 +1,4 @@
-//! How far a run is, told on a terminal.
+//! The progress of a run, shown on a terminal.
 
 use explorers::Gate;
 use std::io::Write;

@@ -46,9 +46,9 @@ pub struct Outcome<A: Allocator> {
 /// judges each workload of it.
 ///
 /// For every number of workers, 1 to 16, and every schedule, an answer other than out of memory is the one defined for
-/// the script's bytes and the settings, without threads. The gate is told of each claim of a worker on a board, and of
-/// how far a run is. Under the full journal with no rule taken out no set fails and no fault is found, whatever the
-/// script and the rules put in, by a strict checker either.
+/// the script's bytes and the settings, without threads. The gate gets each claim of a worker on a board, and
+/// progress reports. Under the full journal with no rule taken out no set fails and no fault is found, whatever the
+/// script and the rules put in, by a strict checker either, and where blocks are written whole.
 pub fn run<R, A, G>(
     host: &Host<'_, R, A>,
     script: &[u8],

@@ -1,4 +1,4 @@
-//! What a run tells of the sets that it found.
+//! The report on the sets that a run found.
 
 ghost use Rattle.std.specs.Prelude.{◌≡◌, map, IfOk, string_bytes};
 ghost use Rattle.patch_sets.specs.Sets.{AreAllInOrder};
@@ -25,7 +25,7 @@ use std::alloc::{AllocError, Allocator};
 use std::thread::Threads;
 use traced_patches::Traced;
 
-/// What was found of the patches that were traced over a base, by the checker that is told of these kept inodes or of
+/// What was found of the patches that were traced over a base, by the strict checker with these kept inodes, or the
 /// none.
 #[derive(Drop)]
 pub(crate) struct Findings<'steps, 'asked, A: Allocator + Copy> {
@@ -37,7 +37,7 @@ pub(crate) struct Findings<'steps, 'asked, A: Allocator + Copy> {
 }
 
 impl<'steps, 'asked, A: Allocator + Copy> Findings<'steps, 'asked, A> {
-    /// How much is told of a set.
+    /// What is reported of a set.
     pub fn detail(&self) -> Detail
         ensures { result ≡ detail_of self.now.settings.now self.now.kept }
     {
@@ -80,7 +80,7 @@ impl<'steps, 'asked, A: Allocator + Copy + Send + Sync> Findings<'steps, 'asked,
         self.write(host, Body::Faults(rows), workers)
     }
 
-    /// The report on the rules of the ordering, of which this is told. It fails only when out of memory.
+    /// The report on the rules of the ordering, with these entries. It fails only when out of memory.
     pub fn by_rule<R: Threads + Sync>(
         &self,
         host: &Host<'_, R, A>,

@@ -44,6 +44,7 @@ ordering_text settings =
     line (codes "module " ++ module_text settings.module)
     ++ rule_lines (codes "without") (told_without settings)
     ++ rule_lines (codes "with") (told_with settings)
+    ++ (if settings.whole_blocks then line (codes "whole blocks") else [])
     ++ (if settings.strict then line (codes "strict") else [])
 
 -- patches are n in all
@@ -77,6 +78,7 @@ json_decision settings d =
     ++ codes ",\"patches\":" ++ decimal d.patches
     ++ (if settings.strict then codes ",\"strict\":true" else [])
     ++ trace_json d.explanation
+    ++ (if settings.whole_blocks then codes ",\"whole_blocks\":true" else [])
     ++ rules_json (codes "with") (told_with settings)
     ++ rules_json (codes "without") (told_without settings)
     ++ codes "}\n"

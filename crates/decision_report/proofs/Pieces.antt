@@ -13,7 +13,7 @@ use Rattle.decision_model.specs.Decision.{ToldDecided, decided_text, decided_jso
 use Rattle.decision_model.specs.Decision.{decision_bytes, ordering_text}
 use Rattle.decision_model.specs.declared.decided_fault.DecidedFault.{DecidedFault}
 use Rattle.json_values.specs.Items.{crash_json}
-use Rattle.report_json.specs.JsonReport.{module_key, strict_key, from_strict}
+use Rattle.report_json.specs.JsonReport.{module_key, strict_key, whole_key, from_strict}
 use Rattle.report_sections.specs.Bodies.{explanation_by}
 use Rattle.traced_patches.specs.Traced.{TracedPatches}
 use Rattle.decision_report.specs.declared.decision.Decision.{Decision}
@@ -126,11 +126,13 @@ json_pieces decision n told empty one two three four five six seven last number 
     ∙ regroup (codes "{") base (codes "\"closed\":") (codes "\"") (decimal decision.closed) (codes ",\"faults\":")
     (codes "[") items (codes "]") (codes ",\"module\":") (module_text settings.module) (codes ",\"patches\":")
     (decimal patches) (strict_key settings.strict) (trace_json (when settings.explain explained))
+    (whole_key settings.whole_blocks)
     (rules_json (codes "with") (told_with settings)) (rules_json (codes "without") (told_without settings))
     (codes "}\n"))
   where
-    regroup : (a b c d e f g h i j k l m n o p q r : List ℕ)
-        → a ++ b ++ ((c ++ d) ++ e ++ (d ++ f ++ g)) ++ h ++ i ++ ((j ++ d) ++ k ++ (d ++ l) ++ m) ++ (n ++ o ++ p ++ q)
+    regroup : (a b c d e f g h i j k l m n o w p q r : List ℕ)
+        → a ++ b ++ ((c ++ d) ++ e ++ (d ++ f ++ g)) ++ h ++ i ++ ((j ++ d) ++ k ++ (d ++ l) ++ m) ++ (n ++ o ++ w
+        ++ p ++ q) ++ r
+        ≡ a ++ b ++ c ++ (d ++ e ++ d) ++ f ++ (g ++ h ++ i) ++ j ++ (d ++ k ++ d) ++ l ++ m ++ n ++ o ++ w ++ p ++ q
         ++ r
-        ≡ a ++ b ++ c ++ (d ++ e ++ d) ++ f ++ (g ++ h ++ i) ++ j ++ (d ++ k ++ d) ++ l ++ m ++ n ++ o ++ p ++ q ++ r
-    regroup a b c d e f g h i j k l m n o p q r = simp append_assoc
+    regroup a b c d e f g h i j k l m n o w p q r = simp append_assoc

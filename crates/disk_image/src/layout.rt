@@ -45,7 +45,7 @@ impl<A: Allocator + Copy> Image<A> {
         inode < 16 && self.kind(inode) != FREE_KIND
     }
 
-    /// Whether a number is that of a block of the data area, which begins behind the journal.
+    /// Whether a number is that of a block of the data area, which begins after the journal.
     pub fn is_data(&self, block: u8) -> bool
         ensures value { result ≡ is_data self.now block }
         ensures within { IsTrue result → block < 128 }
@@ -83,7 +83,7 @@ impl<A: Allocator + Copy> Image<A> {
         self.byte(self.pointer(dir, 0) as usize, 8 + 12 * k as usize)
     }
 
-    /// Whether the 11 bytes behind byte 0 of an entry, its name's length and its padded name, are these.
+    /// Whether the 11 bytes after byte 0 of an entry, its name's length and its padded name, are these.
     pub fn is_spelled(&self, dir: u8, k: u8, spelled: &[u8]) -> bool
         requires dir { dir < 16 }
         requires k { k < 10 }

@@ -1,5 +1,5 @@
 -- What is said of rules in one state of tracing is said in each with the same patches and links.
-use Rattle.std.proofs.Common.{◌≡◌, ℕ, List, Option, map, refl, subst, sym, ap, ◌∙◌}
+use Rattle.std.proofs.Common.{◌≡◌, ℕ, List, Bool, Option, map, refl, subst, sym, ap, ◌∙◌}
 use Rattle.std.specs.Prelude.{◌↔◌, IsTrue, slice_get, slice_index}
 use Rattle.patch_sets.specs.Sets.{Has}
 use Rattle.crash_model.specs.Disk.{Disk}
@@ -12,7 +12,7 @@ use Rattle.enough_deciding.specs.Rules.{IsTracingOf, tracing_of}
 use Rattle.traced_patches.specs.Traced.{TracedPatches}
 
 pub one_tracing : (base : Disk) (t : TracedPatches) → IsTracingOf t (tracing_of base t)
-one_tracing base t = record { emitted = refl; links = refl }
+one_tracing base t = record { emitted = refl; links = refl; whole = refl }
 
 module _ (kept : Option ℕ) (base : Disk) (t : TracedPatches) where
   -- the patches by some rules are those of each state
@@ -21,14 +21,18 @@ module _ (kept : Option ℕ) (base : Disk) (t : TracedPatches) where
   same_graph s other rules patches of_s of_other is =
       let emitted : s.emitted ≡ other.emitted = of_s.emitted ∙ sym of_other.emitted in
       let links : s.links ≡ other.links = of_s.links ∙ sym of_other.links in
+      let whole : s.whole ≡ other.whole = of_s.whole ∙ sym of_other.whole in
       record {
         places = is.places ∙ ap (λ es. map (λ e. e.place) es) emitted;
         undo = is.undo;
         earlier = is.earlier;
         exactly = λ q p later before less at_q at_p.
-            subst (λ ls. Has (slice_index (deps_of patches) q) p ↔ IsTrue (depends rules ls later before)) links
+            subst (λ (w : Bool). Has (slice_index (deps_of patches) q) p
+            ↔ IsTrue (depends rules w other.links later before)) whole
+            (subst (λ ls. Has (slice_index (deps_of patches) q) p ↔ IsTrue (depends rules s.whole ls later before))
+            links
             (is.exactly q p later before less (ap (λ (es : List Emitted). slice_get es q) emitted ∙ at_q)
-            (ap (λ (es : List Emitted). slice_get es p) emitted ∙ at_p));
+            (ap (λ (es : List Emitted). slice_get es p) emitted ∙ at_p)));
       }
 
   -- so rules that are enough are enough in each

@@ -10,14 +10,15 @@ use Rattle.decision_model.specs.declared.decided_fault.DecidedFault.{DecidedFaul
 use Rattle.fault_deciding.specs.Asked.{IsFirstFault}
 use Rattle.traced_patches.specs.Traced.{TracedPatches}
 
--- a state of tracing with these patches and links
+-- a state of tracing with these patches and links, where blocks are written whole or not as there
 pub record IsTracingOf (t : TracedPatches) (s : Tracing) : Type 0 where
   pub emitted : s.emitted ≡ t.emitted
   pub links : s.links ≡ t.links
+  pub whole : s.whole ≡ t.whole
 
 -- one such state
 abbrev pub tracing_of : Disk → TracedPatches → Tracing
-tracing_of base t = record (trace_start base) { emitted = t.emitted; links = t.links }
+tracing_of base t = record (trace_start t.whole base) { emitted = t.emitted; links = t.links }
 
 -- the patches by these rules, in each such state
 abbrev pub IsGraphBy : List Rule → Disk → TracedPatches → List Patch → Type 0

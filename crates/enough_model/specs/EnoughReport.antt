@@ -116,6 +116,7 @@ json_rules_report settings r =
     ++ codes ",\"patches\":" ++ decimal r.patches
     ++ (if settings.strict then codes ",\"strict\":true" else [])
     ++ trace_json r.explanation
+    ++ (if settings.whole_blocks then codes ",\"whole_blocks\":true" else [])
     ++ rules_json (codes "with") (told_with settings)
     ++ rules_json (codes "without") (told_without settings)
     ++ codes "}\n"

@@ -16,7 +16,7 @@ use Rattle.decision_report.specs.Written.{head_lines}
 use Rattle.enough_model.specs.EnoughReport.{ToldGroup, first_fault_json, group_json, group_text, json_rules_report}
 use Rattle.enough_model.specs.EnoughReport.{rules_report_bytes, rules_text, set_json, text_rules_report}
 use Rattle.json_values.specs.Items.{leading_json}
-use Rattle.report_json.specs.JsonReport.{strict_key, from_strict}
+use Rattle.report_json.specs.JsonReport.{strict_key, whole_key, from_strict}
 use Rattle.report_sections.specs.Bodies.{explanation_by}
 use Rattle.enough_report.specs.Found.{group_items, group_lines, report_of, set_items, told_first, told_group}
 use Rattle.enough_report.specs.declared.findings.EnoughFindings.{EnoughFindings}
@@ -156,12 +156,13 @@ json_pieces {A = A} found rules n k m empty one two three four five six seven ei
     ∙ regroup (codes "{") base (codes "\"closed\":") (codes "\"") (decimal found.closed) (codes ",\"enough\":")
     (codes "[") sets (codes "]") fault (codes ",\"module\":") (json_string (module_text settings.module))
     (codes ",\"needs\":") groups (codes ",\"patches\":") (decimal patches) (strict_key settings.strict)
-    (trace_json (when settings.explain explained)) (rules_json (codes "with") (told_with settings))
+    (trace_json (when settings.explain explained)) (whole_key settings.whole_blocks) (rules_json (codes "with")
+    (told_with settings))
     (rules_json (codes "without") (told_without settings)) (codes "}\n"))
   where
-    regroup : (a b c d e f g h i j k m n o p q r s t u v : List ℕ)
+    regroup : (a b c d e f g h i j k m n o p q r s w t u v : List ℕ)
         → a ++ b ++ ((c ++ d) ++ e ++ (d ++ f ++ g)) ++ h ++ i ++ j ++ (k ++ m) ++ (n ++ g) ++ o ++ ((i ++ p) ++ q)
-        ++ (r ++ s ++ t ++ u) ++ v
+        ++ (r ++ s ++ w ++ t ++ u) ++ v
         ≡ a ++ b ++ c ++ (d ++ e ++ d) ++ f ++ (g ++ h ++ i) ++ j ++ k ++ m ++ n ++ (g ++ o ++ i) ++ p ++ q ++ r ++ s
-        ++ t ++ u ++ v
-    regroup a b c d e f g h i j k m n o p q r s t u v = simp append_assoc
+        ++ w ++ t ++ u ++ v
+    regroup a b c d e f g h i j k m n o p q r s w t u v = simp append_assoc

@@ -5,7 +5,7 @@ use Rattle.board_rule.specs.Lists.{row_of}
 use Rattle.board_rule.specs.declared.life.Life.TheVariants.{Broken}
 use Rattle.seen_board.specs.Ended.{Ended, life_of_entry}
 
--- the word is that of a broken entry which stands before place k of shard q
+-- the word is that of a broken entry before place k of shard q
 pub record IsBrokenBefore (e : Ended) (q k word : ℕ) : Type 0 where
   pub shard : ℕ
   pub at : ℕ
@@ -15,7 +15,7 @@ pub record IsBrokenBefore (e : Ended) (q k word : ℕ) : Type 0 where
   pub is : slice_index (row_of e.rows shard) at ≡ word
   pub life : life_of_entry e shard at ≡ Broken
 
--- no word stands at two places
+-- no word is at two places
 abbrev pub AreDistinct : List (List ℕ) → Type 0
 AreDistinct rows =
     (p q j k : ℕ) → p < SHARDS → q < SHARDS → j < length (row_of rows p) → k < length (row_of rows q)

@@ -51,6 +51,6 @@ pub record Expands {S : Type 0} (b : Shown S) (before : List (List ℕ)) (place 
   pub sees : SeesOn before s.seen
   pub has : (j : ℕ) → j < k → Has s.seen (slice_index next j)
 
--- the seat is idle, and knows that more words are reached than the board may have where its worker was told so
+-- the seat is idle, and knows that more words are reached than the board may have if the board said so to its worker
 abbrev pub IsLeft : {S : Type 0} → Shown S → Left → Type 0
 IsLeft b left = IsIdle b left.seat × (left.is_over ≡ true → left.seat.over ≡ 1)

@@ -51,8 +51,8 @@ pub(crate) fn join_all<S: Space, A: Allocator>(
     all
 }
 
-/// The answer: what the board holds where it is finished, too many words for the board's room where a worker was told
-/// so, and else out of memory.
+/// The answer: what the board holds if it is finished, too many words for the board's room if the board said so to a
+/// worker, otherwise out of memory.
 pub(crate) fn answer<S: Space, A: Allocator + Copy>(
     alloc: A,
     space: &S,

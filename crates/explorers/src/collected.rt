@@ -1,4 +1,4 @@
-//! What a closed board tells.
+//! The contents of a closed board, collected.
 ghost use Rattle.std.specs.Prelude.{◌≡◌, ℕ, ◌+◌, ◌<◌, ◌≤◌, length, IfOk, OnOk, IsErrOf};
 ghost use Rattle.std.specs.List.{concat};
 ghost use Rattle.state_space.specs.Counts.{IsListOf};

@@ -34,8 +34,8 @@ impl<S: Space, G: Gate, A: Allocator + Copy> Exploration<'_, S, G, A> {
         self.visit(rt, mine, place)
     }
 
-    /// Expands the entry at a place if the worker's seat can claim it, and tells the gate before. Where memory is
-    /// refused it tells the others to stop.
+    /// Expands the entry at a place if the worker's seat can claim it, and calls the gate first. If memory is
+    /// refused, it makes the others stop.
     pub(crate) fn visit<R: Wait>(
         &self,
         rt: &R,

@@ -4,7 +4,7 @@ use seen_board::Board;
 use state_space::Space;
 use std::alloc::Allocator;
 
-/// A space that is explored over a board, and the gate that is told of each claim.
+/// A space that is explored over a board, and the gate that gets each claim.
 #[derive(Drop)]
 pub(crate) struct Exploration<'a, S: Space, G, A: Allocator + Copy> {
     pub board: &'a Board<S, A>,
@@ -17,7 +17,7 @@ pub(crate) struct Exploration<'a, S: Space, G, A: Allocator + Copy> {
 pub(crate) enum Turn {
     /// The worker goes on.
     Within,
-    /// The worker was told that more words than the limit are reached.
+    /// The board said that more words than the limit are reached.
     Over,
     /// The board is finished, or a stop was read.
     Ended,

@@ -37,7 +37,7 @@ const MOST_MET: usize = 8192;
 /// once more with rows as long as the limit.
 ///
 /// Worker 1 works on the caller's thread, and each of the others on a thread of its own where one can be made. The
-/// gate is told of each claim before the word is expanded.
+/// gate gets each claim before the word is expanded.
 pub fn explore<R, A, S, G>(
     rt: &R,
     alloc: A,
@@ -145,7 +145,7 @@ where
     Ok(join_all(exploration.board, before, left))
 }
 
-/// A hand for each worker. The first has the initial word, which stands at the place, as its task.
+/// A hand for each worker. The first has the initial word, which is at `place`, as its task.
 fn first_hands<S: Space, A: Allocator + Copy>(
     alloc: A,
     space: &S,

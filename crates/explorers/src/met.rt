@@ -25,7 +25,7 @@ impl<A: Allocator> Model for Met<A> {
 }
 
 impl<A: Allocator> Met<A> {
-    /// A table of so many places, each with a word that the worker has met. It fails only when out of memory.
+    /// A table with `places` places, each with a word that the worker has met. It fails only when out of memory.
     pub fn new(alloc: A, word: u128, places: usize) -> Result<Met<A>, AllocError>
         requires places { (0 < places) × (places ≤ 32768) }
         ensures { IfOk result (All (λ met. met ≡ word)) }

@@ -14,7 +14,7 @@ pub(crate) struct Room {
 /// A board for fewer words has rows as long as its limit.
 const FEW: usize = 64;
 
-/// How many places the rows of a board for so many words have first.
+/// The places of a row in the first board for `limit` words.
 ///
 /// A shard has a 13th of the words on average, and each place of each row takes memory. So it is the smallest prime
 /// that is at least a quarter of the limit, which is three times that and leaves the index of a row two thirds empty.

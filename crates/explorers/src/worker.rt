@@ -14,7 +14,7 @@ use std::alloc::{AllocError, Allocator};
 use std::sync::Wait;
 use std::thread::yield_now;
 
-/// After so many rounds in a row in which all deques were found empty, a worker searches the rows.
+/// After this many rounds in a row with all deques empty, a worker searches the rows.
 const EMPTY_ROUNDS: u8 = 64;
 
 /// A worker: its number, from 1, its seat at the board, what it judges in, its tasks, the words that it has met, and
@@ -50,7 +50,7 @@ impl<C, A: Allocator> Worker<C, A> {
     }
 }
 
-/// What a worker leaves: its seat, and whether it was told that more words than the limit are reached.
+/// The result of a worker: its seat, and whether the board said that more words than the limit are reached.
 #[derive(Drop)]
 pub(crate) struct Left {
     pub seat: BoardSeat,

@@ -11,7 +11,7 @@ use Rattle.crash_model.specs.Strict.{IsCleanUnder}
 use Rattle.crash_model.specs.declared.patches.Patch.{Patch}
 use Rattle.fault_summary.specs.Summed.{IsEarlier}
 
--- a base and patches over it, the inodes that the script keeps, where a checker is told of them, and the patches of
+-- a base and patches over it, the inodes that the script keeps, for a strict checker, and the patches of
 -- another graph
 pub record Compared : Type 0 where
   pub base : Disk
@@ -42,12 +42,12 @@ IsFirstPrevented fails allowed (Some set) = IsFirstOut fails allowed set
 abbrev pub FailsAmong : (ℕ → Type 0) → List ℕ → ℕ → Type 0
 FailsAmong fails sets set = Contains sets set × fails set
 
--- so many sets of the list fail, and this is the first of them that is not allowed
+-- how many sets of the list fail, and this is the first of them that is not allowed
 pub record AreCounted (fails allowed : ℕ → Type 0) (sets : List ℕ) (failing : ℕ) (earliest : Option ℕ) : Type 0 where
   pub number : HoldsOf (FailsAmong fails sets) failing
   pub first : IsFirstPrevented (FailsAmong fails sets) allowed earliest
 
--- the same, where no set stands twice and 64 bits count them
+-- the same, if no set is there twice and 64 bits count them
 abbrev pub IsCount : (ℕ → Type 0) → (ℕ → Type 0) → List ℕ → ℕ → Option ℕ → Type 0
 IsCount fails allowed sets failing first =
     AllPairs (λ a b. a ≢ b) sets → length sets < 2 ^ 64 → AreCounted fails allowed sets failing first
@@ -58,7 +58,7 @@ IsEarlierOf None b earlier = earlier ≡ b
 IsEarlierOf (Some a) None earlier = earlier ≡ Some a
 IsEarlierOf (Some a) (Some b) earlier = (set : ℕ) × IsEarlier a b set × (earlier ≡ Some set)
 
--- the count and the first set of two lists together; numbers past 64 bits are not told rightly
+-- the count and the first set of two lists together; numbers past 64 bits are wrong
 pub record JoinsCounts (failing : ℕ) (set : Option ℕ) (more : ℕ) (other : Option ℕ) (both : ℕ) (earlier : Option ℕ)
     : Type 0 where
   pub number : failing + more < 2 ^ 64 → both ≡ failing + more

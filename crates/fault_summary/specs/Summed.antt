@@ -15,11 +15,11 @@ use Rattle.crash_model.specs.declared.patches.Patch.{Patch}
 abbrev pub fault_of : FaultRow → Fault
 fault_of row = row.fault
 
--- no fault is told twice
+-- no fault has two rows
 abbrev pub TellsOnce : List FaultRow → Type 0
 TellsOnce rows = AllPairs (λ f g. f ≢ g) (map fault_of rows)
 
--- each fault that a set has is told in one row, and no other
+-- each fault that a set has has one row, and no other fault has one
 pub record AreSummed (has : Fault → ℕ → Type 0) (rows : List FaultRow) : Type 0 where
   pub once : TellsOnce rows
   pub each : All (IsRow has) rows
@@ -29,12 +29,12 @@ pub record AreSummed (has : Fault → ℕ → Type 0) (rows : List FaultRow) : T
 abbrev pub IsEarlier : ℕ → ℕ → ℕ → Type 0
 IsEarlier a b earlier = ((earlier ≡ a) × ¬ (IsBefore b a)) ⊎ ((earlier ≡ b) × IsBefore b a)
 
--- the row of a fault that no row told
+-- the row of a fault that had no row
 pub record IsNewRow (old : List FaultRow) (row : FaultRow) (new : List FaultRow) : Type 0 where
   pub absent : All (λ r. r.fault ≢ row.fault) old
   pub more : new ≡ old ++ row ∷ []
 
--- the row at a place tells the fault, and tells further sets with it now; numbers past 64 bits are not told rightly
+-- the row at a place has the fault, and now counts further sets with it; numbers past 64 bits are wrong
 pub record IsWiderRow (at : ℕ) (old : List FaultRow) (row : FaultRow) (new : List FaultRow) : Type 0 where
   pub was : FaultRow
   pub both : FaultRow
@@ -55,7 +55,7 @@ abbrev pub AddsRows : List FaultRow → List FaultRow → List FaultRow → Type
 AddsRows old [] new = new ≡ old
 AddsRows old (row ∷ rows) new = (mid : List FaultRow) × AddsRow old row mid × AddsRows mid rows new
 
--- what one set tells of a fault
+-- what one set adds to a fault's row
 abbrev pub row_of : ℕ → Fault → FaultRow
 row_of set fault = record { fault = fault; sets = 1; first = set }
 
@@ -70,6 +70,6 @@ pub record AddsFaults (old : List FaultRow) (set : ℕ) (faults : List Fault) (n
 abbrev pub HasAmong : (ℕ → List Fault) → List ℕ → Fault → ℕ → Type 0
 HasAmong faults_of sets fault set = Contains sets set × Contains (faults_of set) fault
 
--- the faults that the image of a set has after replay, where a checker is told of kept inodes or of none
+-- the faults that the image of a set has after replay, by the strict checker with kept inodes, or by the other
 abbrev pub faults_after : Option ℕ → Disk → List Patch → ℕ → List Fault
 faults_after kept base patches set = faults_under kept (image_after_replay (image_of base patches set))

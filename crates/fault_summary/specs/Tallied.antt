@@ -6,12 +6,12 @@ use Rattle.crash_model.specs.declared.fault.Fault.{Fault}
 use Rattle.crash_model.specs.declared.fault.FaultRow.{FaultRow}
 use Rattle.fault_summary.specs.Summed.{AreSummed, HasAmong}
 
--- so many of the sets have faults, and the rows sum these up
+-- how many of the sets have faults; the rows sum these up
 pub record AreTallied (faults_of : ℕ → List Fault) (sets : List ℕ) (failing : ℕ) (rows : List FaultRow) : Type 0 where
   pub number : HoldsOf (λ set. Contains sets set × (faults_of set ≢ [])) failing
   pub summed : AreSummed (HasAmong faults_of sets) rows
 
--- the same, where no set stands twice and 64 bits count them
+-- the same, if no set is there twice and 64 bits count them
 abbrev pub IsTally : (ℕ → List Fault) → List ℕ → ℕ → List FaultRow → Type 0
 IsTally faults_of sets failing rows =
     AllPairs (λ a b. a ≢ b) sets → length sets < 2 ^ 64 → AreTallied faults_of sets failing rows

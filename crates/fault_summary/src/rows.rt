@@ -18,7 +18,7 @@ use std::alloc::{AllocError, Allocator};
 /// Each fault that a failing set of the graph has, in the order of faults: how many failing sets have it, and which of
 /// them is the first in canonical order.
 ///
-/// `sets` are the failing sets by the checker that is told of these kept inodes or of none, and the patches change
+/// `sets` are the failing sets of the strict checker with these kept inodes, or of the other; the patches change
 /// blocks of the base. Beside the rows it takes memory for one image and for the faults of one set. It fails only when
 /// out of memory.
 pub fn fault_rows<A: Allocator + Copy>(

@@ -11,7 +11,7 @@ use patch_sets::order::is_before;
 use std::alloc::{AllocError, Allocator};
 use std::marker::Model;
 
-/// The faults of some sets, each told once: how many of the sets have it, and which of them is the first in canonical
+/// The faults of some sets, each once: how many of the sets have it, and which of them is the first in canonical
 /// order.
 ///
 /// Sets come in any order, each once. Contracts see the rows, in the order in which their faults came first.
@@ -59,7 +59,7 @@ impl<A: Allocator> Summary<A> {
         Ok(())
     }
 
-    /// Adds what a summary of other sets tells.
+    /// Adds the rows of a summary of other sets.
     ///
     /// It fails only when out of memory; some of the faults may then be counted.
     pub fn join(&mut self, other: &Summary<A>) -> Result<(), AllocError>
@@ -96,7 +96,7 @@ impl<A: Allocator> Summary<A> {
         Ok(())
     }
 
-    /// Where the row of a fault stands.
+    /// The place of a fault's row.
     fn place_of(&self, fault: Fault) -> Option<usize>
         ensures { MatchOption result (All (λ row. row.fault ≢ fault) self.now)
             (λ at. (at < length self.now) × ((d : FaultRow) → (slice_index_or self.now at d).fault ≡ fault)) }
@@ -109,7 +109,7 @@ impl<A: Allocator> Summary<A> {
         None
     }
 
-    /// Adds further sets to the row at this place, which tells their fault.
+    /// Adds more sets to the row at this place, which has their fault.
     fn widen(&mut self, at: usize, more: FaultRow)
         requires within { at < length self.old }
         requires same { (d : FaultRow) → (slice_index_or self.old at d).fault ≡ more.fault }

@@ -71,8 +71,8 @@ pub struct Tally<A: Allocator> {
     pub summary: Summary<A>,
 }
 
-/// Tallies the faults of the sets of a graph that a crash can leave on a base, by the checker that is told of these
-/// kept inodes or of none. No list of the sets is kept.
+/// Tallies the faults of the sets of a graph that a crash can leave on a base, by the strict checker with these
+/// kept inodes, or by the other. No list of the sets is kept.
 ///
 /// Contracts see the base, the patches and the kept inodes.
 #[derive(Drop)]
@@ -94,8 +94,8 @@ impl<'a, A: Allocator + Copy> Model for FaultVisitor<'a, A> {
 }
 
 impl<'a, A: Allocator + Copy> FaultVisitor<'a, A> {
-    /// Tallies the faults of sets of a graph over a base, where the checker is told which inodes the script keeps, or
-    /// is told nothing.
+    /// Tallies the faults of sets of a graph over a base, with the inodes that the script keeps for a strict checker,
+    /// or with none.
     ///
     /// The patches change blocks of the base, and their undo data are the bytes that they replace there.
     pub fn new(

@@ -27,8 +27,8 @@ is_marked d inode block = is_right_mark (kind_of d inode) (byte d block 0) && by
 abbrev pub is_right_block : Disk → ℕ → ℕ → Bool
 is_right_block d inode block = is_data d block && not (map_of d block == 0) && is_marked d inode block
 
--- Places in rows of one width, the keys below a number, what stands at a place for a key, which places have a fault of
--- their own, and the most places that may stand for a key.
+-- Places in rows of one width, the keys below a number, which key a place counts for, which places have a fault of
+-- their own, and the most places that may count for a key.
 pub record Table : Type 0 where
   pub width : ℕ
   pub keys : ℕ
@@ -36,7 +36,7 @@ pub record Table : Type 0 where
   pub is_faulty : ℕ → ℕ → Bool
   pub most : ℕ → ℕ
 
--- the slots by inode, which stand for the blocks that they name
+-- the slots by inode, which count for the blocks that they name
 abbrev pub slots_of : Disk → Table
 slots_of d = record {
   width = 4;
@@ -46,7 +46,7 @@ slots_of d = record {
   most = λ block. 1;
 }
 
--- the entries by directory, which stand for the inodes that they lead to
+-- the entries by directory, which count for the inodes that they lead to
 abbrev pub entries_of : Disk → Table
 entries_of d = record {
   width = 10;

@@ -6,7 +6,7 @@ use Rattle.crash_model.specs.Lists.{each_below, some_below}
 abbrev pub row_of : {X : Type 0} → ℕ → (ℕ → ℕ → Option X) → ℕ → List X
 row_of width at row = some_below width (at row)
 
--- how many elements of a table stand before a place
+-- how many elements of a table come before a place
 unfoldable pub count_before : {X : Type 0} → ℕ → (ℕ → ℕ → Option X) → ℕ → ℕ → ℕ
 count_before width at row column = length (each_below row (row_of width at)) + length (some_below column (at row))
 

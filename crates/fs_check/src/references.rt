@@ -13,7 +13,7 @@ use crash_model::fault::Fault;
 use disk_image::Image;
 use std::alloc::{AllocError, Allocator};
 
-/// A pointer that is not 0: where it stands, and the block that it names.
+/// A pointer that is not 0: its inode and slot, and the block that it names.
 #[derive(Clone, Copy, Default, Drop)]
 pub(crate) struct Pointer {
     pub inode: u8,

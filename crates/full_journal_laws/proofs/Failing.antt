@@ -15,21 +15,21 @@ use Rattle.full_journal_laws.specs.Full.{IsFullSafe}
 use Rattle.full_journal_laws.proofs.Kept.{strictly_clean}
 
 -- what replay leaves is clean, whatever the checker is told
-safe_is_clean : (strict : Bool) (kept : Option ℕ) (base : Disk) (steps : List Step) (patches : List Patch) → IsDisk base
-    → IsToldKept strict base steps kept
-    → IsFullSafe base steps patches → (set : ℕ) → IsClosed (deps_of patches) set
+safe_is_clean : (strict whole : Bool) (kept : Option ℕ) (base : Disk) (steps : List Step) (patches : List Patch)
+    → IsDisk base → IsToldKept strict base steps kept
+    → IsFullSafe whole base steps patches → (set : ℕ) → IsClosed (deps_of patches) set
     → IsCleanUnder kept (image_after_replay (image_of base patches set))
-safe_is_clean strict None base steps patches disk told safe set closed =
+safe_is_clean strict whole None base steps patches disk told safe set closed =
     record { faultless = (safe.2 set closed).sound.clean.faultless }
-safe_is_clean strict (Some kept) base steps patches disk told safe set closed =
+safe_is_clean strict whole (Some kept) base steps patches disk told safe set closed =
     strictly_clean base steps safe.0 patches set kept disk told.1 (safe.2 set closed)
 
 -- no set fails
-pub none_fails : (strict : Bool) (kept : Option ℕ) (base : Disk) (steps : List Step) (patches : List Patch)
-    → IsDisk base → IsToldKept strict base steps kept → IsFullSafe base steps patches
+pub none_fails : (strict whole : Bool) (kept : Option ℕ) (base : Disk) (steps : List Step) (patches : List Patch)
+    → IsDisk base → IsToldKept strict base steps kept → IsFullSafe whole base steps patches
     → (set : ℕ) → ¬ (IsFailingUnder kept base patches set)
-none_fails strict kept base steps patches disk told safe set failing =
-    failing.unclean (safe_is_clean strict kept base steps patches disk told safe set failing.closed)
+none_fails strict whole kept base steps patches disk told safe set failing =
+    failing.unclean (safe_is_clean strict whole kept base steps patches disk told safe set failing.closed)
 
 -- a journal that stays is as zero as it was
 pub zero-kept : (old new : Disk) → new.journal ≡ old.journal → HasSameJournal old new → HasZeroJournal old

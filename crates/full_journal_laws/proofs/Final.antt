@@ -47,10 +47,10 @@ use Rattle.full_journal_laws.proofs.Traces.{Logged, changes_of, IsLogged, traced
 -- a set that is closed by the graph's dependencies has what its members depend on by the rules of the journal
 pub closed_in : (rules : List Rule) (base : Disk) (s : Tracing) (patches : List Patch) (set : ℕ)
     → AreAmong journal_rules rules → IsGraphOf rules base s patches → IsClosed (deps_of patches) set
-    → IsClosedIn s.links s.emitted set
+    → IsClosedIn s.whole s.links s.emitted set
 closed_in rules base s patches set among graph closed q p x y hx hy less dep hq =
     let mask : Has (slice_index (deps_of patches) q) p = (graph.exactly q p x y less hx hy).1
-    (depends-among journal_rules rules s.links x y among dep) in
+    (depends-among journal_rules rules s.whole s.links x y among dep) in
     equal_test _ 1 (closed.whole q p (same_number _ 1 hq) mask)
 
 -- ---- the places of what is emitted
@@ -293,9 +293,9 @@ good_after (suc k) n jl (op ∷ ops) (cs ∷ plans) d good names are =
 
 -- ---- the whole
 
-module _ (rules : List Rule) (base : Disk) (steps : List Step) (s : Tracing) (patches : List Patch) (set : ℕ)
-    (disk : IsDisk base) (sound : IsSound base) (zeros : HasZeroJournal base)
-    (names : All GivesName (ops_of steps)) (is_traced : trace_from Full (trace_start base) steps ≡ Ok s)
+module _ (rules : List Rule) (whole : Bool) (base : Disk) (steps : List Step) (s : Tracing) (patches : List Patch)
+    (set : ℕ) (disk : IsDisk base) (sound : IsSound base) (zeros : HasZeroJournal base)
+    (names : All GivesName (ops_of steps)) (is_traced : trace_from Full (trace_start whole base) steps ≡ Ok s)
     (among : AreAmong journal_rules rules) (graph : IsGraphOf rules base s patches)
     (closed : IsClosed (deps_of patches) set) where
   abbrev n : ℕ
@@ -310,12 +310,12 @@ module _ (rules : List Rule) (base : Disk) (steps : List Step) (s : Tracing) (pa
   shaped : IsShaped n jl base
   shaped = record { blocks = refl; journal = refl; long = disk.whole }
 
-  logged : IsLogged n jl (ops_of steps) (trace_start base) s
-  logged = traced_logged n jl steps (trace_start base) s good names is_traced
+  logged : IsLogged n jl (ops_of steps) (trace_start whole base) s
+  logged = traced_logged n jl steps (trace_start whole base) s good names is_traced
 
   log_closed : IsLogClosed n 0 true true (changes_of logged.changes) set
   log_closed =
-      closed_log logged.changes n s.emitted s.links set base 0 1 4 true true
+      closed_log logged.changes n s.emitted s.whole s.links set base 0 1 4 true true
       (closed_in rules base s patches set among graph closed)
       (λ i y h. ap (λ (xs : List Emitted). slice_get xs (0 + i)) logged.emits
       ∙ ap (λ (m : ℕ). slice_get (log_emitted n base 1 4 logged.changes) m) (omega arith) ∙ h)

@@ -1,5 +1,5 @@
 -- A trace under the full journal as a log.
-use Rattle.std.specs.Prelude.{◌≡◌, ℕ, ◌+◌, ◌<◌, List, [], ◌∷◌, ◌++◌, length, true, Some, Ok, slice_get}
+use Rattle.std.specs.Prelude.{◌≡◌, ℕ, ◌+◌, ◌<◌, List, [], ◌∷◌, ◌++◌, length, Bool, true, Some, Ok, slice_get}
 use Rattle.crash_model.specs.Disk.{Disk, IsDisk}
 use Rattle.patch_sets.specs.Sets.{has}
 use Rattle.crash_model.specs.Sound.{IsSound}
@@ -17,9 +17,10 @@ log_emitted n d t j (o ∷ ops) =
     ++ log_emitted n (with_changes d o.1) (t + 1) (j + 1 + length (touched_blocks n o.1)) ops
 
 -- a set that has what its members depend on by the rules of the journal
-abbrev pub IsClosedIn : List (List ℕ × List ℕ) → List Emitted → ℕ → Type 0
-IsClosedIn links emitted set = (q p : ℕ) (x y : Emitted) → slice_get emitted q ≡ Some x → slice_get emitted p ≡ Some y
-    → p < q → depends journal_rules links x y ≡ true → has set q ≡ true → has set p ≡ true
+abbrev pub IsClosedIn : Bool → List (List ℕ × List ℕ) → List Emitted → ℕ → Type 0
+IsClosedIn whole links emitted set = (q p : ℕ) (x y : Emitted) → slice_get emitted q ≡ Some x
+    → slice_get emitted p ≡ Some y → p < q → depends journal_rules whole links x y ≡ true → has set q ≡ true
+    → has set p ≡ true
 
 -- a sound disk of n blocks, jl of them the journal's
 pub record IsGood (n jl : ℕ) (d : Disk) : Type 0 where

@@ -53,7 +53,7 @@ pub record IsRecovered (base : Disk) (steps : List Step) (s : Tracing) (patches 
   pub sound : IsSound (image_after_replay (image_of base patches set))
 
 -- the patches are those of the steps under the full journal, and replay recovers from every set that a crash can leave
-abbrev pub IsFullSafe : Disk → List Step → List Patch → Type 0
-IsFullSafe base steps patches =
-    (s : Tracing) × (trace_from Full (trace_start base) steps ≡ Ok s)
+abbrev pub IsFullSafe : Bool → Disk → List Step → List Patch → Type 0
+IsFullSafe whole base steps patches =
+    (s : Tracing) × (trace_from Full (trace_start whole base) steps ≡ Ok s)
     × ((set : ℕ) → IsClosed (deps_of patches) set → IsRecovered base steps s patches set)

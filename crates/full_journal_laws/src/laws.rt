@@ -1,6 +1,6 @@
 //! What a script under the full journal is sure of, as functions that do nothing and promise the law.
 
-ghost use Rattle.std.specs.Prelude.{◌≡◌, ℕ, List, All, Ok, Some};
+ghost use Rattle.std.specs.Prelude.{◌≡◌, ℕ, List, All, Bool, Ok, Some};
 ghost use Rattle.patch_sets.specs.Closed.{IsClosed};
 ghost use Rattle.crash_model.specs.Disk.{Disk, IsDisk};
 ghost use Rattle.crash_model.specs.Sound.{IsSound, HasZeroJournal};
@@ -19,24 +19,24 @@ ghost use Rattle.full_journal_laws.specs.Full.{ops_of, IsRecovered};
 
 /// From a sound disk with a zero journal, and for every set of patches that a crash can leave: replay makes a sound
 /// disk, which outside the journal is the base after the first k operations, k being how many commit patches the set
-/// has. It is so with whatever rules beside those of the journal.
+/// has. It is so with whatever rules beside those of the journal, and where blocks are written whole.
 pub fn replay_recovers_the_committed_operations()
-    ensures { (rules : List Rule) → (base : Disk) → (steps : List Step) → (s : Tracing) → (patches : List Patch)
-        → (set : ℕ)
+    ensures { (rules : List Rule) → (whole : Bool) → (base : Disk) → (steps : List Step) → (s : Tracing)
+        → (patches : List Patch) → (set : ℕ)
         → IsDisk base → IsSound base → HasZeroJournal base → All GivesName (ops_of steps)
-        → trace_from Full (trace_start base) steps ≡ Ok s → AreAmong (rules_of Full) rules
+        → trace_from Full (trace_start whole base) steps ≡ Ok s → AreAmong (rules_of Full) rules
         → IsGraphOf rules base s patches
         → IsClosed (deps_of patches) set
         → IsRecovered base steps s patches set }
 {}
 
-/// So nothing fails where a checker is told which inodes the script keeps, either: the image after replay has none of
+/// So nothing fails with a strict checker either: the image after replay has none of
 /// the eight faults, for every script and every set of patches that a crash can leave.
 pub fn nothing_that_the_script_keeps_is_lost()
-    ensures { (rules : List Rule) → (base : Disk) → (steps : List Step) → (s : Tracing) → (patches : List Patch)
-        → (set kept : ℕ)
+    ensures { (rules : List Rule) → (whole : Bool) → (base : Disk) → (steps : List Step) → (s : Tracing)
+        → (patches : List Patch) → (set kept : ℕ)
         → IsDisk base → IsSound base → HasZeroJournal base → All GivesName (ops_of steps)
-        → trace_from Full (trace_start base) steps ≡ Ok s → AreAmong (rules_of Full) rules
+        → trace_from Full (trace_start whole base) steps ≡ Ok s → AreAmong (rules_of Full) rules
         → IsGraphOf rules base s patches
         → IsClosed (deps_of patches) set → IsKept base steps kept
         → IsCleanUnder (Some kept) (image_after_replay (image_of base patches set)) }

@@ -50,7 +50,8 @@ pub(crate) fn enough_blocks<A: Allocator + Copy>(
     settings: &Settings,
 ) -> Result<Option<Enough>, AllocError>
     ensures { IfOk result (λ found.
-        IfSome found (IsEnough settings.now.module script.now.base.items script.now.traced.items)) }
+        IfSome found (IsEnough settings.now.module settings.now.whole_blocks script.now.base.items
+        script.now.traced.items)) }
 {
     match least_disk(alloc, script, settings, settings.journal)? {
         Some(enough) => Ok(Some(enough)),
@@ -66,7 +67,8 @@ pub(crate) fn enough_journal<A: Allocator + Copy>(
     from: usize,
 ) -> Result<Option<Enough>, AllocError>
     ensures { IfOk result (λ found.
-        IfSome found (IsEnough settings.now.module script.now.base.items script.now.traced.items)) }
+        IfSome found (IsEnough settings.now.module settings.now.whole_blocks script.now.base.items
+        script.now.traced.items)) }
 {
     let blocks = MOST_BLOCKS;
     for journal in from..=MOST_BLOCKS {
@@ -85,7 +87,8 @@ fn least_disk<A: Allocator + Copy>(
     journal: usize,
 ) -> Result<Option<Enough>, AllocError>
     ensures enough { IfOk result (λ found.
-        IfSome found (IsEnough settings.now.module script.now.base.items script.now.traced.items)) }
+        IfSome found (IsEnough settings.now.module settings.now.whole_blocks script.now.base.items
+        script.now.traced.items)) }
     ensures blocks { IfOk result (λ found. IfSome found (λ enough. settings.now.blocks ≤ enough.disk.blocks)) }
     ensures journal { IfOk result (λ found. IfSome found (λ enough. enough.disk.journal ≡ journal)) }
 {
@@ -105,7 +108,8 @@ fn enough_on<A: Allocator + Copy>(
     disk: DiskSize,
 ) -> Result<Option<Enough>, AllocError>
     ensures enough { IfOk result (λ found.
-        IfSome found (IsEnough settings.now.module script.now.base.items script.now.traced.items)) }
+        IfSome found (IsEnough settings.now.module settings.now.whole_blocks script.now.base.items
+        script.now.traced.items)) }
     ensures disk { IfOk result (λ found. IfSome found (λ enough. enough.disk ≡ disk)) }
 {
     let Err(fault) = trace_on(alloc, script, settings, disk) else {
@@ -131,7 +135,8 @@ fn trace_on<A: Allocator + Copy>(
     disk: DiskSize,
 ) -> Result<(), RunFault>
     ensures { OnOk result
-        (FitsOn settings.now.module disk.blocks disk.journal script.now.base.items script.now.traced.items) }
+        (FitsOn settings.now.module settings.now.whole_blocks disk.blocks disk.journal script.now.base.items
+        script.now.traced.items) }
 {
     let base = base_on(alloc, script, disk)?;
     let ordering = settings.ordering();

@@ -59,7 +59,7 @@ pub(crate) fn size_fault<A: Allocator + Copy>(
     fault: RunFault,
 ) -> Option<SizeFault>
     ensures { IfSome result (λ size. IfSome (enough_in size)
-        (IsEnough settings.now.module script.now.base.items script.now.traced.items)) }
+        (IsEnough settings.now.module settings.now.whole_blocks script.now.base.items script.now.traced.items)) }
 {
     let asked = disk_of(settings);
     Some(match fault {

@@ -6,7 +6,7 @@ use Rattle.crash_model.specs.declared.plans.Change.{Change}
 use Rattle.crash_model.specs.declared.operations.Op.{Op}
 use Rattle.crash_model.specs.declared.operations.Op.TheVariants.{Create, Write, Link, Unlink, Rename, Mkdir, Rmdir}
 
--- the range of a change is one of a block of a disk with so many blocks, and has a byte
+-- the range of a change is one of a block of a disk with this many blocks, and has a byte
 pub record LiesInside (blocks : ℕ) (c : Change) : Type 0 where
   pub block : c.block < blocks
   pub some : 0 < length c.new.items

@@ -29,7 +29,7 @@ fn add_zeros(bytes: &mut ArrayVec<u8, 128>, count: usize)
     }
 }
 
-/// The bytes with zeros behind them, as many as are asked for.
+/// The bytes, followed by `zeros` zeros.
 fn with_zeros(bytes: &[u8], zeros: usize) -> ArrayVec<u8, 128>
     requires { length bytes.now + zeros ≤ 128 }
     ensures { result.items ≡ bytes.now ++ replicate zeros 0 }
@@ -40,7 +40,7 @@ fn with_zeros(bytes: &[u8], zeros: usize) -> ArrayVec<u8, 128>
     all
 }
 
-/// New bytes of an inode, from a byte of it on. Inodes 0 to 7 stand in block 2, 8 to 15 in block 3, 16 bytes each.
+/// New bytes of an inode, from byte `from` on. Inodes 0 to 7 are in block 2, 8 to 15 in block 3, 16 bytes each.
 fn at_inode(role: Role, inode: u8, from: u8, new: ArrayVec<u8, 128>) -> Change
     requires inode { inode < 16 }
     requires from { from < 16 }

@@ -36,7 +36,7 @@ use std::alloc::Allocator;
 /// refused by the first of its tests that fails, and takes the lowest free inode, block, entry and slot. The changes
 /// lie inside the image, and none of them in the journal.
 ///
-/// On a sound image it is refused exactly as its tests tell of the names, inodes, pointers and used blocks of the
+/// On a sound image it is refused exactly as its tests say about the names, inodes, pointers and used blocks of the
 /// image; the image after its changes is sound, and has gained and lost what the operation means.
 pub fn plan<A: Allocator + Copy>(image: &Image<A>, op: &Op) -> Result<Plan, FsFault>
     ensures changes { MatchResult result (λ plan. plan_of image.now op.now ≡ Ok plan.items) (λ fault.

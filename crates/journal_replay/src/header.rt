@@ -16,7 +16,7 @@ use std::marker::Model;
 pub struct Header {
     committed: bool,
     count: usize,
-    /// The eight bytes behind the count, of which the first are the targets. All of them are moved at once, which
+    /// The eight bytes after the count, of which the first are the targets. All of them are moved at once, which
     /// takes less than to move those that are meant.
     numbers: [u8; 8],
 }
@@ -40,7 +40,7 @@ impl Header {
         self.committed
     }
 
-    /// The blocks that have copies behind the header, ascending.
+    /// The blocks that have copies after the header, ascending.
     pub fn targets(&self) -> &[u8]
         ensures { result.now ≡ self.now.targets }
     {

@@ -1,6 +1,6 @@
 -- The bytes of the values of patches.
 use Rattle.std.proofs.Common.{◌≡◌, ℕ, zero, suc, Bool, true, false, List, [], ◌∷◌, ◌++◌, map, Option, Some, None}
-use Rattle.std.proofs.Common.{Result, Ok, Err, codes, decimal, refl, ap, ◌∙◌, arith, append_assoc}
+use Rattle.std.proofs.Common.{Result, Ok, Err, codes, decimal, refl, sym, ap, subst, ◌∙◌, arith, append_assoc}
 use Rattle.std.specs.Prelude.{slice_get, if◌then◌else◌, option_to_list, IfOk, OnOk}
 use Rattle.std.specs.List.{All, list_all, flat_map}
 use Rattle.std.proofs.lemmas.Bool.{and_parts}
@@ -29,7 +29,7 @@ use Rattle.crash_model.specs.declared.rules.Part.TheVariants as part
 use Rattle.crash_model.specs.declared.rules.RulePart.{RulePart}
 use Rattle.crash_model.specs.declared.rules.RulePart.TheVariants as rule_part
 use Rattle.crash_model.specs.declared.rules.Scope.{Scope}
-use Rattle.crash_model.specs.declared.rules.Scope.TheVariants.{Same, Previous}
+use Rattle.crash_model.specs.declared.rules.Scope.TheVariants.{Same, Previous, Before}
 use Rattle.crash_model.specs.declared.rules.Rule.{Rule}
 use Rattle.crash_model.specs.declared.steps.Act.TheVariants.{Do}
 use Rattle.traced_patches.specs.Traced.{TracedPatches, told_at, dependency_at}
@@ -76,6 +76,7 @@ scope_plain : (s : Scope) → IsPlain (scope_text s)
 unfolding escape_byte
 scope_plain Same = refl
 scope_plain Previous = refl
+scope_plain Before = refl
 
 colon_plain : IsPlain (codes ":")
 unfolding escape_byte
@@ -146,15 +147,30 @@ rules_plain : (rs : List Rule) → All IsPlain (map rule_text rs)
 rules_plain [] = All-nil IsPlain
 rules_plain (r ∷ rs) = All-cons IsPlain (rule_text r) (map rule_text rs) (rule_plain r) (rules_plain rs)
 
-reasons_of_plain : (overlap group : Bool) (rs : List Rule)
-    → All IsPlain ((if overlap then codes "overlap" ∷ [] else []) ++ (if group then codes "group" ∷ [] else [])
-    ++ map rule_text rs)
+regroup_4 : {X : Type 0} (a b c d : List X) → a ++ (b ++ (c ++ d)) ≡ a ++ b ++ c ++ d
+regroup_4 a b c d = sym (append_assoc (a ++ b) c d ∙ append_assoc a b (c ++ d))
+
+-- a plain text, where it is told, before plain texts
+told_plain : (told : Bool) (text : List ℕ) (texts : List (List ℕ)) → IsPlain text → All IsPlain texts
+    → All IsPlain ((if told then text ∷ [] else []) ++ texts)
+told_plain true text texts plain rest = All-cons IsPlain text texts plain rest
+told_plain false text texts plain rest = rest
+
+reasons_of_plain : (overlap block group : Bool) (rs : List Rule)
+    → All IsPlain ((if overlap then codes "overlap" ∷ [] else []) ++ (if block then codes "block" ∷ [] else [])
+    ++ (if group then codes "group" ∷ [] else []) ++ map rule_text rs)
 unfolding escape_byte
-reasons_of_plain true true rs = All-cons IsPlain (codes "overlap") (codes "group" ∷ map rule_text rs) refl
-    (All-cons IsPlain (codes "group") (map rule_text rs) refl (rules_plain rs))
-reasons_of_plain true false rs = All-cons IsPlain (codes "overlap") (map rule_text rs) refl (rules_plain rs)
-reasons_of_plain false true rs = All-cons IsPlain (codes "group") (map rule_text rs) refl (rules_plain rs)
-reasons_of_plain false false rs = rules_plain rs
+reasons_of_plain overlap block group rs =
+    let rules : List (List ℕ) = map rule_text rs in
+    let groups : List (List ℕ) = if group then codes "group" ∷ [] else [] in
+    let blocks : List (List ℕ) = if block then codes "block" ∷ [] else [] in
+    let overlaps : List (List ℕ) = if overlap then codes "overlap" ∷ [] else [] in
+    let last : All IsPlain (groups ++ rules) = told_plain group (codes "group") rules refl (rules_plain rs) in
+    let next : All IsPlain (blocks ++ (groups ++ rules)) =
+    told_plain block (codes "block") (groups ++ rules) refl last in
+    let all : All IsPlain (overlaps ++ (blocks ++ (groups ++ rules))) =
+    told_plain overlap (codes "overlap") (blocks ++ (groups ++ rules)) refl next in
+    subst (All IsPlain) (regroup_4 overlaps blocks groups rules) all
 
 dependency_plain : (t : TracedPatches) (q : Emitted) (id : ℕ)
     → All HasPlainReasons (option_to_list (dependency_at t q id))
@@ -162,20 +178,20 @@ dependency_plain t q id = by_patch (slice_get t.emitted id)
   where
     told : Option Emitted → Option Dependency
     told o = elim o [
-      | Some p ↦ when (depends t.rules t.links q p)
-          (record { id = id; reasons = reasons t.rules t.links q p })
+      | Some p ↦ when (depends t.rules t.whole t.links q p)
+          (record { id = id; reasons = reasons t.rules t.whole t.links q p })
       | None ↦ None
     ]
 
     by_test : (p : Emitted) (test : Bool) → All HasPlainReasons
-        (option_to_list (when test (record { id = id; reasons = reasons t.rules t.links q p })))
-    by_test p true = All-cons HasPlainReasons (record { id = id; reasons = reasons t.rules t.links q p }) []
-        (reasons_of_plain _ _ _) (All-nil HasPlainReasons)
+        (option_to_list (when test (record { id = id; reasons = reasons t.rules t.whole t.links q p })))
+    by_test p true = All-cons HasPlainReasons (record { id = id; reasons = reasons t.rules t.whole t.links q p }) []
+        (reasons_of_plain _ _ _ _) (All-nil HasPlainReasons)
     by_test p false = All-nil HasPlainReasons
 
     by_patch : (o : Option Emitted) → All HasPlainReasons (option_to_list (told o))
     by_patch None = All-nil HasPlainReasons
-    by_patch (Some p) = by_test p (depends t.rules t.links q p)
+    by_patch (Some p) = by_test p (depends t.rules t.whole t.links q p)
 
 pub dependencies_plain : (t : TracedPatches) (q : Emitted) (n : ℕ)
     → All HasPlainReasons (some_below n (dependency_at t q))

@@ -1,4 +1,4 @@
--- The JSON values of the patches of a trace. Keys stand in ascending order.
+-- The JSON values of the patches of a trace. Keys are in ascending order.
 use Rattle.std.specs.Prelude.{ℕ, List, map, codes}
 use Rattle.hex.specs.Hex.{IsBytes}
 use Rattle.serde_json.specs.Data.{Data, Members, string, array, object, member, no_members, put}
@@ -33,13 +33,13 @@ patch_data after e undo =
     (member (codes "step") (string (op_text e.origin.op))
     (member (codes "undo") (hex_data undo) no_members))))))))
 
--- members with what tells of the operation that a patch is of
+-- members with those of the operation that a patch is of
 abbrev pub label_put : Emitted → Members → Members
 label_put e members =
     put (codes "step") (string (op_text e.origin.op))
     (put (codes "part") (string (part_text e.part)) (put (codes "line") (number_data e.origin.line) members))
 
--- and with what tells where it is, of its bytes and of those before it
+-- and with those of its place, its bytes and the bytes before it
 abbrev pub place_put : Place → List ℕ → Members → Members
 place_put p undo members =
     put (codes "undo") (hex_data undo) (put (codes "offset") (number_data p.offset)
@@ -48,7 +48,7 @@ place_put p undo members =
 abbrev pub told_data : ToldPatch → Data
 told_data t = patch_data (dependencies_data t.after) t.emitted t.undo
 
--- what is told of a patch are bytes and an operation that a script can have
+-- the data of a patch are bytes and an operation that a script can have
 pub record IsPlainPatch (t : ToldPatch) : Type 0 where
   pub new : IsBytes t.emitted.place.new
   pub undo : IsBytes t.undo

@@ -1,4 +1,4 @@
--- The JSON values of the parts of a section. Keys stand in ascending order.
+-- The JSON values of the parts of a section. Keys are in ascending order.
 use Rattle.std.specs.Prelude.{ℕ, List, map, codes, Option, Some, None}
 use Rattle.std.specs.List.{All}
 use Rattle.hex.specs.Hex.{encode_lower, IsBytes}
@@ -42,7 +42,7 @@ replayed_data r =
 abbrev pub replay_data : List ReplayedBlock → Data
 replay_data replay = array (items_of (map replayed_data replay))
 
--- what replay changes, where that is told, before further members
+-- what replay changes, if that is reported, before further members
 abbrev pub with_replay : Option (List ReplayedBlock) → Members → Members
 with_replay None members = members
 with_replay (Some replay) members = member (codes "replay") (replay_data replay) members
@@ -54,22 +54,22 @@ section_data patches s =
     (with_replay s.replay (member (codes "set") (ids_data patches s.set)
     (member (codes "writes") (writes_data patches s.writes) no_members))))
 
--- members with what replay changes put among them, where that is told
+-- members with what replay changes put among them, if that is reported
 abbrev pub replay_put : Option (List ReplayedBlock) → Members → Members
 replay_put None members = members
 replay_put (Some replay) members = put (codes "replay") (replay_data replay) members
 
--- with what tells of the set itself
+-- with the members of the set itself
 abbrev pub set_put : ℕ → Section → Members → Members
 set_put patches s members =
     put (codes "writes") (writes_data patches s.writes)
     (put (codes "set") (ids_data patches s.set) (replay_put s.replay members))
 
--- and with all that tells of a section
+-- and with all members of a section
 abbrev pub section_put : ℕ → Section → Members → Members
 section_put patches s members = set_put patches s (put (codes "faults") (faults_data s.found) members)
 
--- what is told of replay are bytes
+-- the data of replay are bytes
 abbrev pub AreReplayedBytes : Option (List ReplayedBlock) → Type 0
 AreReplayedBytes None = Unit {0}
 AreReplayedBytes (Some replay) = All (λ r. IsBytes r.bytes) replay

@@ -62,7 +62,7 @@ fn patch_object(
     Ok(Value::Object(members))
 }
 
-/// The members that tell of the operation and the part of it.
+/// The members for the operation and the part.
 fn put_label(
     members: &mut Map<String, Value>,
     heap: Global,
@@ -78,7 +78,7 @@ fn put_label(
     put(members, heap, "step", step_value(heap, label.origin.op)?)
 }
 
-/// The members that tell where the patch is, of its bytes and of those before it.
+/// The members for the place of the patch, its bytes and those before it.
 fn put_place(
     members: &mut Map<String, Value>,
     heap: Global,
@@ -126,7 +126,7 @@ fn dependencies_value<A: Allocator + Copy>(
     Ok(Value::Array(after))
 }
 
-/// Puts a value behind the others, where there is one.
+/// Appends a value, if there is one.
 fn push_some(values: &mut Vec<Value>, value: Option<Value>) -> Result<(), AllocError>
     ensures { OnOk result (values.new.items ≡ values.old.items ++ option_to_list value) }
 {

@@ -48,7 +48,7 @@ fn put_section<A: Allocator>(
     put_set(members, heap, patches, section)
 }
 
-/// The members that tell of a set itself: its ids, its block writes, and what replay changes where that is told. It
+/// The members of a set itself: its ids, its block writes, and what replay changes if that is reported. It
 /// fails only when out of memory.
 pub fn put_set<A: Allocator>(
     members: &mut Map<String, Value>,
@@ -67,7 +67,7 @@ pub fn put_set<A: Allocator>(
     put(members, heap, "writes", writes)
 }
 
-/// The blocks that replay changes, where they are told.
+/// The blocks that replay changes, if they are reported.
 fn put_replay<A: Allocator>(
     members: &mut Map<String, Value>,
     heap: Global,

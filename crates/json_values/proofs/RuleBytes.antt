@@ -15,7 +15,7 @@ use Rattle.crash_model.specs.declared.rules.Rule.{Rule}
 use Rattle.crash_model.specs.declared.rules.RulePart.{RulePart}
 use Rattle.crash_model.specs.declared.rules.RulePart.TheVariants.{Change, InPlace, FileData, Copy, Commit, Done}
 use Rattle.crash_model.specs.declared.rules.Scope.{Scope}
-use Rattle.crash_model.specs.declared.rules.Scope.TheVariants.{Same, Previous}
+use Rattle.crash_model.specs.declared.rules.Scope.TheVariants.{Same, Previous, Before}
 use Rattle.json_parts.specs.Written.{IsWritten}
 use Rattle.json_values.specs.RuleValues.{first_section, told_rule_data, rule_put, IsFirst}
 use Rattle.json_parts.proofs.Bytes.{IsPlain, plain-append, string_bytes}
@@ -49,6 +49,7 @@ scope_plain : (scope : Scope) → IsPlain (scope_text scope)
 unfolding escape_byte
 scope_plain Same = refl
 scope_plain Previous = refl
+scope_plain Before = refl
 
 rule_plain : (rule : Rule) → IsPlain (rule_text rule)
 unfolding escape_byte

@@ -1,4 +1,4 @@
--- The JSON values of what is told of rules. Keys stand in ascending order.
+-- The JSON values of the entries of rules. Keys are in ascending order.
 use Rattle.std.specs.Prelude.{ℕ, List, true, Option, Some, None, codes}
 use Rattle.serde_json.specs.Data.{Data, Members, boolean, string, object, member, no_members, put}
 use Rattle.crash_model.specs.Needs.{RuleUsage, Unused, TooMany, Used, ToldRule}
@@ -7,7 +7,7 @@ use Rattle.crash_model.specs.Rules.{rule_text}
 use Rattle.json_parts.specs.Written.{IsWritten}
 use Rattle.json_parts.specs.Values.{number_data}
 
--- the first section that a rule's usage tells, if it tells one
+-- the first section of a rule's usage, if it has one
 abbrev pub first_section : RuleUsage → Option Section
 first_section Unused = None
 first_section (TooMany pairs) = None
@@ -20,7 +20,7 @@ IsFirst patches None (Some value) = ⊥
 IsFirst patches (Some section) None = ⊥
 IsFirst patches (Some section) (Some value) = IsWritten value (section_json patches section)
 
--- the key of the first section, where there is one, and those behind it
+-- the key of the first section, if there is one, and the keys after it
 abbrev pub first_members : Option Data → Members → Members
 first_members None behind = behind
 first_members (Some first) behind = member (codes "first") first behind
@@ -35,7 +35,7 @@ usage_members rule (Used pairs w) first =
     member (codes "closed") (number_data w.closed) (member (codes "failing") (number_data w.failing)
     (first_members first (member (codes "pairs") (number_data pairs) (member (codes "rule") (string rule) no_members))))
 
--- what is told of a rule, with the value of the first section
+-- the entry of a rule, with the value of the first section
 abbrev pub told_rule_data : ToldRule → Option Data → Data
 told_rule_data t first = object (usage_members (rule_text t.rule) t.usage first)
 
@@ -44,7 +44,7 @@ abbrev pub first_put : Option Data → Members → Members
 first_put None members = members
 first_put (Some first) members = put (codes "first") first members
 
--- with what is told of a rule's usage
+-- with the members of a rule's usage
 abbrev pub usage_put : RuleUsage → Option Data → Members → Members
 usage_put Unused first members = put (codes "pairs") (number_data 0) members
 usage_put (TooMany pairs) first members =
@@ -54,6 +54,6 @@ usage_put (Used pairs w) first members =
     (put (codes "failing") (number_data w.failing) (put (codes "closed") (number_data w.closed)
     (put (codes "pairs") (number_data pairs) members)))
 
--- and with all that is told of a rule
+-- and with all members of a rule's entry
 abbrev pub rule_put : ToldRule → Option Data → Members → Members
 rule_put t first members = usage_put t.usage first (put (codes "rule") (string (rule_text t.rule)) members)

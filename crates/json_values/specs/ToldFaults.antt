@@ -1,4 +1,4 @@
--- The JSON value of what is told of a fault. Keys stand in ascending order.
+-- The JSON value of the entry of a fault. Keys are in ascending order.
 use Rattle.std.specs.Prelude.{ℕ, List, codes, Option}
 use Rattle.patch_sets.specs.declared.write.BlockWrite.{BlockWrite}
 use Rattle.serde_json.specs.Data.{Data, Members, object, member, no_members, put}
@@ -7,7 +7,7 @@ use Rattle.crash_model.specs.declared.fault.Fault.{Fault}
 use Rattle.crash_model.specs.declared.fault.FaultRow.{FaultRow}
 use Rattle.json_parts.specs.Values.{number_data, ids_data, writes_data, fault_data, with_replay, set_put}
 
--- a fault that so many sets have, with the first of them, its block writes and what replay changes
+-- a fault, the number of sets that have it, the first of them, its block writes and what replay changes
 abbrev pub told_fault_data : ℕ → Fault → ℕ → ℕ → List BlockWrite → Option (List ReplayedBlock) → Data
 told_fault_data patches fault sets set writes replay =
     object (member (codes "fault") (fault_data fault)

@@ -13,7 +13,7 @@ use report_sections::places::{FAULT_PLACES, place_of_fault, place_of_ids};
 use std::alloc::{AllocError, Global};
 use std::marker::Model;
 
-/// How many texts of block writes are kept. The ids of a block write tell its block.
+/// How many texts of block writes are kept. The ids of a block write determine its block.
 const WRITE_PLACES: usize = 4096;
 
 /// A block write and its text.
@@ -30,9 +30,9 @@ struct KnownFault {
     text: String,
 }
 
-/// The texts of block writes and of faults that were told last, so that one that comes again is not made a value anew.
+/// A cache of the texts of block writes and faults, so that one that comes again is not made a value again.
 ///
-/// Each stands at the one place of a table where it is looked for, and a later one that comes there takes its place.
+/// Each text has one place in a table, and a later text with the same place replaces it.
 /// Contracts see the number of patches of the graph.
 #[derive(Drop)]
 pub struct KnownTexts {
@@ -143,7 +143,7 @@ impl KnownTexts {
         }
     }
 
-    /// Keeps the object of a block write, in place of the one that stood there.
+    /// Keeps the object of a block write, replacing the one that was there.
     fn keep_write(&mut self, write: BlockWrite, text: String)
         requires { string_bytes text ≡ write_json self.old write }
         ensures { self.new ≡ self.old }
@@ -152,7 +152,7 @@ impl KnownTexts {
         self.writes[place] = Some(KnownWrite { write, text });
     }
 
-    /// Keeps the text of a fault, in place of the one that stood there.
+    /// Keeps the text of a fault, replacing the one that was there.
     fn keep_fault(&mut self, fault: Fault, text: String)
         requires { string_bytes text ≡ fault_json fault }
         ensures { self.new ≡ self.old }

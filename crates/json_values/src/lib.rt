@@ -1,4 +1,4 @@
-//! JSON of what reports tell: values of faults with their rows and of rules, and the texts of failing sets.
+//! JSON for reports: values of faults with their rows and of rules, and the texts of failing sets.
 #![tactic(auto)]
 
 mod items;

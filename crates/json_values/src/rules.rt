@@ -1,4 +1,4 @@
-//! JSON values of what is told of rules.
+//! JSON values of the entries of rules.
 
 ghost use Rattle.std.specs.Prelude.{◌≡◌, Option, option_map, IfOk, OnOk};
 ghost use Rattle.crash_model.specs.Needs.{told_rule_json};
@@ -16,7 +16,7 @@ use report_sections::{RuleUsage, Section, ToldRule};
 use serde_json::{Map, Value, put};
 use std::alloc::{AllocError, Allocator, Global};
 
-/// What is told of a rule. The graph has `patches` patches. It fails only when out of memory.
+/// The entry of a rule. The graph has `patches` patches. It fails only when out of memory.
 pub fn told_rule_value<A: Allocator>(
     heap: Global,
     patches: usize,
@@ -29,7 +29,7 @@ pub fn told_rule_value<A: Allocator>(
     Ok(Value::Object(members))
 }
 
-/// The members of what is told of a rule.
+/// The members of a rule's entry.
 fn put_rule<A: Allocator>(
     members: &mut Map<String, Value>,
     heap: Global,
@@ -83,7 +83,7 @@ fn put_usage<A: Allocator>(
     }
 }
 
-/// The first section, where one is told.
+/// The first section, if there is one.
 fn put_first<A: Allocator>(
     members: &mut Map<String, Value>,
     heap: Global,

@@ -1,4 +1,4 @@
-//! JSON values of what is told of faults.
+//! JSON values of the entries of faults.
 
 ghost use Rattle.std.specs.Prelude.{◌≡◌, IfOk, OnOk};
 ghost use Rattle.crash_model.specs.Summary.{told_fault_json};
@@ -15,8 +15,8 @@ use report_sections::Section;
 use serde_json::{Map, Value, put};
 use std::alloc::{AllocError, Allocator, Global};
 
-/// What is told of a fault: its text, how many failing sets have it, and the first of them, of which the section
-/// tells. The graph has `patches` patches. It fails only when out of memory.
+/// The entry of a fault: its text, how many failing sets have it, and the first of them, the section's set.
+/// The graph has `patches` patches. It fails only when out of memory.
 pub fn told_fault_value<A: Allocator>(
     heap: Global,
     patches: usize,
@@ -31,7 +31,7 @@ pub fn told_fault_value<A: Allocator>(
     Ok(Value::Object(members))
 }
 
-/// The members of what is told of a fault.
+/// The members of a fault's entry.
 fn put_fault<A: Allocator>(
     members: &mut Map<String, Value>,
     heap: Global,

@@ -1,4 +1,4 @@
--- What is told of a kind of fault.
+-- A kind of fault in the report.
 use Rattle.std.proofs.Common.{◌≡◌, ℕ, ◌<◌, List, [], ◌∷◌, Bool, length, subst, sym, ◌∙◌}
 use Rattle.std.specs.Prelude.{Option, Result, Ok, Err}
 use Rattle.std.specs.List.{All}
@@ -24,9 +24,9 @@ use Rattle.kind_sections.specs.Told.{IsTraced, HaveGraph}
 
 -- steps that are traced are not refused
 pub never_refused : (s : Search) (steps : List Step) (fault : TraceFault) → IsTraced s steps
-    → ¬ (trace_from s.ordering (trace_start s.base) steps ≡ Err fault)
+    → ¬ (trace_from s.ordering (trace_start s.whole s.base) steps ≡ Err fault)
 never_refused s steps fault traced refused =
-    apart (trace_from s.ordering (trace_start s.base) steps) traced.0 traced.1 refused
+    apart (trace_from s.ordering (trace_start s.whole s.base) steps) traced.0 traced.1 refused
   where
     apart : (answer : Result Tracing TraceFault) (last : Tracing) → answer ≡ Ok last → answer ≡ Err fault → ⊥
     apart answer last is also = cc

@@ -1,4 +1,4 @@
--- What is told of a kind of fault, as the definition of the report sees it.
+-- A kind of fault as the definition of the report has it.
 use Rattle.std.specs.Prelude.{◌≡◌, List, Ok}
 use Rattle.crash_model.specs.Trace.{Tracing, trace_start, trace_from, IsGraphOf}
 use Rattle.crash_model.specs.declared.patches.Patch.{Patch}
@@ -15,10 +15,10 @@ told_kind shown told =
 
 -- none of the steps is refused
 abbrev pub IsTraced : Search → List Step → Type 0
-IsTraced s steps = (last : Tracing) × (trace_from s.ordering (trace_start s.base) steps ≡ Ok last)
+IsTraced s steps = (last : Tracing) × (trace_from s.ordering (trace_start s.whole s.base) steps ≡ Ok last)
 
 -- the patches are those of the steps
 abbrev pub HaveGraph : Search → List Step → List Patch → Type 0
 HaveGraph s steps patches =
-    (last : Tracing) × (trace_from s.ordering (trace_start s.base) steps ≡ Ok last)
+    (last : Tracing) × (trace_from s.ordering (trace_start s.whole s.base) steps ≡ Ok last)
     × IsGraphOf s.rules s.base last patches

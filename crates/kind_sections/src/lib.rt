@@ -1,4 +1,4 @@
-//! What is told of each kind of fault that a search finds: the crash that shows it first.
+//! For each kind of fault that a search finds, the crash that shows it first.
 #![tactic(auto)]
 
 mod sections;

@@ -27,7 +27,7 @@ pub struct KindSection<A: Allocator> {
     pub section: Section<A>,
 }
 
-/// What is told of a kind of fault that a search by the judge finds, with what replay changes where `explain` is set.
+/// The crash that shows a kind of fault first, with what replay changes where `explain` is set.
 /// It fails only when out of memory.
 pub fn kind_section<A: Allocator + Copy>(
     judge: &PoolJudge<'_, A>,

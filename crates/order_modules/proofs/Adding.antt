@@ -13,13 +13,21 @@ use Rattle.order_modules.specs.Log.{Log, Adds}
 use Rattle.order_modules.specs.Transactions.{is_ahead, changes_ahead, changes_in_place, file_data, transaction_of}
 
 pub adds-none : (log : Log) → Adds log log []
-adds-none log = record { base = refl; kind = refl; rules = refl; links = refl; emitted = sym (append-nil log.emitted) }
+adds-none log = record {
+  base = refl;
+  kind = refl;
+  rules = refl;
+  whole = refl;
+  links = refl;
+  emitted = sym (append-nil log.emitted);
+}
 
 pub adds-then : (a b c : Log) (xs ys : List Emitted) → Adds a b xs → Adds b c ys → Adds a c (xs ++ ys)
 adds-then a b c xs ys one two = record {
   base = two.base ∙ one.base;
   kind = two.kind ∙ one.kind;
   rules = two.rules ∙ one.rules;
+  whole = two.whole ∙ one.whole;
   links = two.links ∙ one.links;
   emitted = two.emitted ∙ ap (λ (es : List Emitted). es ++ ys) one.emitted ∙ append_assoc a.emitted xs ys;
 }

@@ -1,5 +1,6 @@
 -- A log with a patch more, or a link more.
 use Rattle.std.proofs.Common.{◌≡◌, ℕ, zero, suc, ◌+◌, ◌*◌, ◌<◌, ◌≤◌, ◌⊎◌, inl, inr, List, [], ◌∷◌, ◌++◌, ◌-◌, length}
+use Rattle.std.proofs.Common.{◌&&◌, ◌==◌, bit_or}
 use Rattle.std.proofs.Common.{take, drop, map, Bool, true, false, ◌||◌, Some, arith, tests, refl, sym, ◌∙◌, ap, subst}
 use Rattle.std.proofs.Common.{length-append}
 use Rattle.std.specs.Prelude.{◌↔◌, IsTrue, slice_index, slice_get, slice_range}
@@ -11,16 +12,16 @@ use Rattle.std.proofs.lemmas.Option.{slice_get_within}
 use Rattle.std.proofs.lemmas.Bool.{cases_lt}
 use Rattle.arrayvec.specs.ArrayVec.{ArrayVec}
 use Rattle.patch_sets.specs.Sets.{Has}
-use Rattle.patch_sets.proofs.Bits.{eq_or_not, none_in_empty}
+use Rattle.patch_sets.proofs.Bits.{eq_or_not, none_in_empty, in_or_cases, in_or_left, in_or_right}
 use Rattle.crash_model.specs.Disk.{Disk, block_of, with_bytes}
 use Rattle.crash_model.specs.Patches.{Place, place, places_of, deps_of, overlap, AreUndo}
-use Rattle.crash_model.specs.Trace.{Emitted, is_same_group, groups_depend, applies, depends}
+use Rattle.crash_model.specs.Trace.{Emitted, is_same_group, shares_block, groups_depend, applies, depends}
 use Rattle.crash_model.specs.declared.patches.Patch.{Patch}
 use Rattle.crash_model.specs.declared.rules.Rule.{Rule}
 use Rattle.crash_model.specs.declared.modules.Module.{Module}
 use Rattle.patch_graph.specs.Graph.{Overlaps, OverlapsAt, AddsOverlaps}
 use Rattle.traced_patches.specs.Labels.{emitted_at, emitted_of, emitted_by, group_by, links_by}
-use Rattle.order_modules.specs.Log.{Log, IsLog, WaitsAt, with_places}
+use Rattle.order_modules.specs.Log.{Log, IsLog, WaitsAt, SharesAt, with_places}
 use Rattle.traced_patches.specs.declared.labels.Label.{Label}
 use Rattle.traced_patches.specs.declared.labels.Link.{Link}
 
@@ -83,17 +84,24 @@ from_overlap : (q p : Emitted) → overlap q.place p.place ≡ true → (p.place
     × (p.place.offset < q.place.offset + length q.place.new) × (q.place.offset < p.place.offset + length p.place.new)
 from_overlap q p t = (grind (arith, tests), grind (arith, tests), grind (arith, tests))
 
-or_cases : (a b c : Bool) → (a || b || c) ≡ true → (a ≡ true) ⊎ ((b || c) ≡ true)
-or_cases true b c t = inl refl
-or_cases false b c t = inr t
+or_cases : (a b c d : Bool) → (a || b || c || d) ≡ true → (a ≡ true) ⊎ ((b ≡ true) ⊎ ((c || d) ≡ true))
+or_cases true b c d t = inl refl
+or_cases false true c d t = inr (inl refl)
+or_cases false false c d t = inr (inr t)
 
-or_first : (a b c : Bool) → a ≡ true → (a || b || c) ≡ true
-or_first true b c t = refl
-or_first false b c t = absurd (cc)
+or_first : (a b c d : Bool) → a ≡ true → (a || b || c || d) ≡ true
+or_first true b c d t = refl
+or_first false b c d t = absurd (cc)
 
-or_rest : (a b c : Bool) → (b || c) ≡ true → (a || b || c) ≡ true
-or_rest true b c t = refl
-or_rest false b c t = t
+or_second : (a b c d : Bool) → b ≡ true → (a || b || c || d) ≡ true
+or_second true b c d t = refl
+or_second false true c d t = refl
+or_second false false c d t = absurd (cc)
+
+or_rest : (a b c d : Bool) → (c || d) ≡ true → (a || b || c || d) ≡ true
+or_rest true b c d t = refl
+or_rest false true c d t = refl
+or_rest false false c d t = t
 
 -- ---- one patch more
 
@@ -119,7 +127,8 @@ module _ (log : Log) (labels : List Label) (label : Label) (patch : Patch) (set 
     (is : IsLog log) (labelled : length labels ≡ length log.patches)
     (emitted : log.emitted ≡ emitted_by (places_of log.patches) labels)
     (adds : (id : ℕ) → Has set id ↔ (Has patch.deps id ⊎ OverlapsAt log.patches patch id))
-    (waits : (id : ℕ) → Has patch.deps id ↔ WaitsAt log.rules log.links labels label id) where
+    (waits : (id : ℕ) → Has patch.deps id
+    ↔ (WaitsAt log.rules log.links labels label id ⊎ SharesAt log.whole log.patches patch.block id)) where
   same_long : length log.emitted ≡ length log.patches
   same_long =
       let places : length (places_of log.patches) ≡ length log.patches =
@@ -132,7 +141,7 @@ module _ (log : Log) (labels : List Label) (label : Label) (patch : Patch) (set 
 
   -- the dependencies of the new patch are those that it is to have
   new_deps : (p : ℕ) (before : Emitted) → slice_get log.emitted p ≡ Some before → Has set p
-      ↔ IsTrue (depends log.rules log.links (emitted_patch patch label) before)
+      ↔ IsTrue (depends log.rules log.whole log.links (emitted_patch patch label) before)
   new_deps p before at =
       let found = label_at (places_of log.patches) labels p before
       (subst (λ (es : List Emitted). slice_get es p ≡ Some before) emitted at) in
@@ -149,33 +158,49 @@ module _ (log : Log) (labels : List Label) (label : Label) (patch : Patch) (set 
       let e : Emitted = emitted_patch patch label in
       let full : before ≡ emitted_patch earlier other = is_it ∙ ap (λ (at : Place). emitted_at at other) place_is in (
         λ has. elim ((adds p).0 has) [
-          | inl own ↦
-              let w = (waits p).0 own in
-              let same : w.0 ≡ other = some_same (sym w.1 ∙ other_at) in
-              let t = subst (λ (l : Label). IsTrue (groups_depend log.links (emitted_of label) (emitted_of l)
-              || list_any (λ rule. applies rule (emitted_of label) (emitted_of l)) log.rules)) same w.2 in
-              subst (λ (b : Emitted). IsTrue (depends log.rules log.links e b)) (sym is_it)
-              (or_rest (overlap e.place stood) (groups_depend log.links e (emitted_at stood other))
-              (list_any (λ rule. applies rule e (emitted_at stood other)) log.rules) (sym rule ∙ t))
+          | inl own ↦ elim ((waits p).0 own) [
+            | inl w ↦
+                let same : w.0 ≡ other = some_same (sym w.1 ∙ other_at) in
+                let t = subst (λ (l : Label). IsTrue (groups_depend log.links (emitted_of label) (emitted_of l)
+                || list_any (λ rule. applies rule (emitted_of label) (emitted_of l)) log.rules)) same w.2 in
+                subst (λ (b : Emitted). IsTrue (depends log.rules log.whole log.links e b)) (sym is_it)
+                (or_rest (overlap e.place stood) (shares_block log.whole e (emitted_at stood other))
+                (groups_depend log.links e (emitted_at stood other))
+                (list_any (λ rule. applies rule e (emitted_at stood other)) log.rules) (sym rule ∙ t))
+            | inr shared ↦
+                let same : shared.0 ≡ earlier = patch_same (sym shared.1 ∙ earlier_at) in
+                let t = subst (λ (x : Patch). IsTrue (log.whole && patch.block == x.block)) same shared.2 in
+                subst (λ (b : Emitted). IsTrue (depends log.rules log.whole log.links e b)) (sym full)
+                (or_second (overlap e.place (place earlier.block earlier.offset earlier.new.items))
+                (shares_block log.whole e (emitted_patch earlier other))
+                (groups_depend log.links e (emitted_patch earlier other))
+                (list_any (λ rule. applies rule e (emitted_patch earlier other)) log.rules) t)
+          ]
           | inr over ↦
               let same : over.0 ≡ earlier = patch_same (sym over.1 ∙ earlier_at) in
               let o : Overlaps earlier patch = subst (λ (x : Patch). Overlaps x patch) same over.2 in
-              subst (λ (b : Emitted). IsTrue (depends log.rules log.links e b)) (sym full)
+              subst (λ (b : Emitted). IsTrue (depends log.rules log.whole log.links e b)) (sym full)
               (or_first (overlap e.place (place earlier.block earlier.offset earlier.new.items))
+              (shares_block log.whole e (emitted_patch earlier other))
               (groups_depend log.links e (emitted_patch earlier other))
               (list_any (λ rule. applies rule e (emitted_patch earlier other)) log.rules)
               (overlap_true e (emitted_patch earlier other) o.together o.below o.above))
         ],
-        λ t. elim (or_cases (overlap e.place before.place) (groups_depend log.links e before)
-            (list_any (λ rule. applies rule e before) log.rules) t) [
+        λ t. elim (or_cases (overlap e.place before.place) (shares_block log.whole e before)
+            (groups_depend log.links e before) (list_any (λ rule. applies rule e before) log.rules) t) [
               | inl over ↦
                   let o = from_overlap e (emitted_patch earlier other)
                   (subst (λ (b : Emitted). overlap e.place b.place ≡ true) full over) in
                   (adds p).1 (inr (earlier, earlier_at, record { together = o.0; below = o.1; above = o.2 }))
-              | inr rest ↦
-                  let r = subst (λ (b : Emitted). (groups_depend log.links e b
-                  || list_any (λ rule. applies rule e b) log.rules) ≡ true) is_it rest in
-                  (adds p).1 (inl ((waits p).1 (other, other_at, rule ∙ r)))
+              | inr more ↦ elim more [
+                | inl shared ↦
+                    let s = subst (λ (b : Emitted). shares_block log.whole e b ≡ true) full shared in
+                    (adds p).1 (inl ((waits p).1 (inr (earlier, earlier_at, s))))
+                | inr rest ↦
+                    let r = subst (λ (b : Emitted). (groups_depend log.links e b
+                    || list_any (λ rule. applies rule e b) log.rules) ≡ true) is_it rest in
+                    (adds p).1 (inl ((waits p).1 (inl (other, other_at, rule ∙ r))))
+              ]
             ],
       )
     where
@@ -221,8 +246,11 @@ module _ (log : Log) (labels : List Label) (label : Label) (patch : Patch) (set 
 
       before : (p : ℕ) → Has set p → p < length log.patches
       before p has = elim ((adds p).0 has) [
-        | inl own ↦ let w = (waits p).0 own in let inside : p < length labels = slice_get_within labels p w.0 w.1 in
-            omega (arith, inside, labelled)
+        | inl own ↦ elim ((waits p).0 own) [
+          | inl w ↦ let inside : p < length labels = slice_get_within labels p w.0 w.1 in
+              omega (arith, inside, labelled)
+          | inr shared ↦ slice_get_within log.patches p shared.0 shared.1
+        ]
         | inr over ↦ slice_get_within log.patches p over.0 over.1
       ]
 
@@ -246,7 +274,7 @@ module _ (log : Log) (labels : List Label) (label : Label) (patch : Patch) (set 
           → slice_get (log.emitted ++ emitted_patch patch label ∷ []) q ≡ Some later
           → slice_get (log.emitted ++ emitted_patch patch label ∷ []) p ≡ Some before
           → (Has (slice_index (deps_of (log.patches ++ record patch { deps = set } ∷ [])) q) p
-          ↔ IsTrue (depends log.rules log.links later before))
+          ↔ IsTrue (depends log.rules log.whole log.links later before))
       exactly q p later before less at_q at_p =
           elim (get_push log.emitted (emitted_patch patch label) later q at_q) [
             | inl old_q ↦
@@ -258,7 +286,8 @@ module _ (log : Log) (labels : List Label) (label : Label) (patch : Patch) (set 
                       ≡ slice_index (deps_of log.patches) q =
                       ap (λ (xs : List ℕ). slice_index xs q) deps_push
                       ∙ get_or_append_left (deps_of log.patches) (set ∷ []) 0 q within in
-                      subst (λ (s : ℕ). Has s p ↔ IsTrue (depends log.rules log.links later before)) (sym here)
+                      subst (λ (s : ℕ). Has s p ↔ IsTrue (depends log.rules log.whole log.links later before))
+                      (sym here)
                       (is.graph.exactly q p later before less old_q old_p)
                   | inr new_p ↦ let where_p : p ≡ length log.emitted = new_p.0 in absurd (omega arith)
                 ]
@@ -269,8 +298,10 @@ module _ (log : Log) (labels : List Label) (label : Label) (patch : Patch) (set 
                       let here : slice_index (deps_of (log.patches ++ record patch { deps = set } ∷ [])) q ≡ set =
                       ap (λ (xs : List ℕ). slice_index xs q) deps_push
                       ∙ get_or_push (deps_of log.patches) set 0 q (omega (arith, same_long, deps_long)) in
-                      subst (λ (s : ℕ). Has s p ↔ IsTrue (depends log.rules log.links later before)) (sym here)
-                      (subst (λ (l : Emitted). Has set p ↔ IsTrue (depends log.rules log.links l before)) (sym new_q.1)
+                      subst (λ (s : ℕ). Has s p ↔ IsTrue (depends log.rules log.whole log.links later before))
+                      (sym here)
+                      (subst (λ (l : Emitted). Has set p ↔ IsTrue (depends log.rules log.whole log.links l before))
+                      (sym new_q.1)
                       (new_deps p before old_p))
                   | inr new_p ↦ let where_p : p ≡ length log.emitted = new_p.0 in absurd (omega arith)
                 ]
@@ -290,7 +321,7 @@ same_patch patches patch added adds =
 pub log-emit : (log : Log) (labels : List Label) (label : Label) (patch added : Patch)
     → IsLog log → length labels ≡ length log.patches → log.emitted ≡ emitted_by (places_of log.patches) labels
     → AddsOverlaps log.patches patch added → ((id : ℕ) → Has patch.deps id
-    ↔ WaitsAt log.rules log.links labels label id)
+    ↔ (WaitsAt log.rules log.links labels label id ⊎ SharesAt log.whole log.patches patch.block id))
     → patch.block < log.base.blocks → patch.undo.items ≡ slice_range log.written.bytes
     (128 * patch.block + patch.offset) (128 * patch.block + patch.offset + length patch.new.items)
     → IsLog (record log {
@@ -311,14 +342,16 @@ pub written_blocks : (log : Log) → IsLog log → log.written.blocks ≡ log.ba
 written_blocks log is = ap (λ (d : Disk). d.blocks) is.written ∙ with_places-blocks log.base (places_of log.patches)
 
 -- the same by what stands in the fields
-module _ (base written : Disk) (kind : Module) (rules : List Rule) (links : List (List ℕ × List ℕ))
-    (labels : List Label) (label : Label) (patches : List Patch) (patch added : Patch) where
+module _ (base written : Disk) (kind : Module) (rules : List Rule) (whole : Bool)
+    (links : List (List ℕ × List ℕ)) (labels : List Label) (label : Label) (patches : List Patch)
+    (patch added : Patch) where
   abbrev pub log_before : Log
   log_before = record {
     base = base;
     written = written;
     kind = kind;
     rules = rules;
+    whole = whole;
     links = links;
     emitted = emitted_by (places_of patches) labels;
     patches = patches;
@@ -350,7 +383,8 @@ module _ (base written : Disk) (kind : Module) (rules : List Rule) (links : List
 
   pub emit_fields : (new : List Patch) (labels' : List Label) (written' : Disk)
       → IsLog log_before → length labels ≡ length patches → AddsOverlaps patches patch added
-      → ((id : ℕ) → Has patch.deps id ↔ WaitsAt rules links labels label id)
+      → ((id : ℕ) → Has patch.deps id
+      ↔ (WaitsAt rules links labels label id ⊎ SharesAt whole patches patch.block id))
       → patch.block < base.blocks → patch.undo.items ≡ slice_range written.bytes (128 * patch.block + patch.offset)
       (128 * patch.block + patch.offset + length patch.new.items)
       → new ≡ patches ++ added ∷ [] → labels' ≡ labels ++ label ∷ []
@@ -360,6 +394,7 @@ module _ (base written : Disk) (kind : Module) (rules : List Rule) (links : List
         written = written';
         kind = kind;
         rules = rules;
+        whole = whole;
         links = links;
         emitted = emitted_by (places_of new) labels';
         patches = new;
@@ -367,7 +402,16 @@ module _ (base written : Disk) (kind : Module) (rules : List Rule) (links : List
   emit_fields new labels' written' is labelled adds waits known undo new_is labels_is written_is =
       let last = log-emit log_before labels label patch added is labelled refl adds waits known undo in
       let make : List Patch → List Emitted → Disk → Log = λ ps es d.
-      record { base = base; written = d; kind = kind; rules = rules; links = links; emitted = es; patches = ps } in
+      record {
+        base = base;
+        written = d;
+        kind = kind;
+        rules = rules;
+        whole = whole;
+        links = links;
+        emitted = es;
+        patches = ps;
+      } in
       let es : emitted_by (places_of new) labels' ≡ emitted_by (places_of patches) labels ++ emitted_patch patch label
       ∷ [] =
       emitted_new new labels' labelled adds new_is labels_is in
@@ -434,3 +478,29 @@ waits_read rules rules' set links links' labels labels' label same_rules same_li
     (subst (λ (ls : List Label). (id : ℕ) → Has set id ↔ WaitsAt rules' (links_by links) ls label id) same_labels
     (subst (λ (ls : List Link). (id : ℕ) → Has set id ↔ WaitsAt rules' (links_by ls) labels' label id) same_links
     waits))
+
+-- the ids that a label waits for, and those of patches that share its block
+pub deps_read : (own shared : ℕ) (rules : List Rule) (links : List (List ℕ × List ℕ)) (labels : List Label)
+    (label : Label) (whole : Bool) (patches : List Patch) (block : ℕ)
+    → ((id : ℕ) → Has own id ↔ WaitsAt rules links labels label id)
+    → ((id : ℕ) → Has shared id ↔ SharesAt whole patches block id) → (id : ℕ)
+    → Has (bit_or own shared) id ↔ (WaitsAt rules links labels label id ⊎ SharesAt whole patches block id)
+deps_read own shared rules links labels label whole patches block waits shares id = (
+  λ is. elim (in_or_cases own shared id is) [
+    | inl one ↦ inl ((waits id).0 one)
+    | inr other ↦ inr ((shares id).0 other)
+  ],
+  λ it. elim it [
+    | inl one ↦ in_or_left own shared id ((waits id).1 one)
+    | inr other ↦ in_or_right own shared id ((shares id).1 other)
+  ],
+)
+
+-- two that stand at one place are one
+pub one_at : (patches : List Patch) (id : ℕ) (a b : Patch) → slice_get patches id ≡ Some a → slice_get patches id
+    ≡ Some b
+    → a ≡ b
+one_at patches id a b first second = one (sym first ∙ second)
+  where
+    one : Some a ≡ Some b → a ≡ b
+    one h = cc

@@ -8,7 +8,7 @@ use Rattle.std.proofs.lemmas.List.Folds.{list_any-append}
 use Rattle.patch_sets.specs.Sets.{Has}
 use Rattle.crash_model.specs.Disk.{Disk}
 use Rattle.crash_model.specs.Patches.{places_of, deps_of, overlap}
-use Rattle.crash_model.specs.Trace.{Emitted, is_same_group, groups_depend, applies, depends}
+use Rattle.crash_model.specs.Trace.{Emitted, is_same_group, shares_block, groups_depend, applies, depends}
 use Rattle.crash_model.specs.declared.patches.Patch.{Patch}
 use Rattle.crash_model.specs.declared.rules.Rule.{Rule}
 use Rattle.crash_model.specs.declared.modules.Module.{Module}
@@ -29,7 +29,7 @@ log-link log later earlier is none = record {
     earlier = is.graph.earlier;
     exactly = λ q p l b less at_q at_p.
         subst (λ (t : Bool). Has (slice_index (deps_of log.patches) q) p ↔ IsTrue t)
-        (sym (more_links log.rules log.links later earlier l b (none_at log.emitted later q l none at_q)))
+        (sym (more_links log.rules log.whole log.links later earlier l b (none_at log.emitted later q l none at_q)))
         (is.graph.exactly q p l b less at_q at_p);
   };
 }
@@ -59,11 +59,12 @@ log-link log later earlier is none = record {
     and_false : (a b : Bool) → a ≡ false → (a && b || false) ≡ false
     and_false a b h = rw h refl
 
-    more_links : (rules : List Rule) (links : List (List ℕ × List ℕ)) (later earlier : List ℕ) (q p : Emitted)
-        → is_same_group q.origin.group later ≡ false → depends rules (links ++ (later, earlier) ∷ []) q p
-        ≡ depends rules links q p
-    more_links rules links later earlier q p none =
-        ap (λ (t : Bool). overlap q.place p.place || t || list_any (λ rule. applies rule q p) rules)
+    more_links : (rules : List Rule) (whole : Bool) (links : List (List ℕ × List ℕ)) (later earlier : List ℕ)
+        (q p : Emitted) → is_same_group q.origin.group later ≡ false
+        → depends rules whole (links ++ (later, earlier) ∷ []) q p ≡ depends rules whole links q p
+    more_links rules whole links later earlier q p none =
+        ap (λ (t : Bool). overlap q.place p.place || shares_block whole q p || t
+        || list_any (λ rule. applies rule q p) rules)
         (list_any-append (λ link. is_same_group q.origin.group link.0 && is_same_group p.origin.group link.1) links
         ((later, earlier) ∷ [])
         ∙ or_false (groups_depend links q p) (is_same_group q.origin.group later && is_same_group p.origin.group earlier
@@ -74,13 +75,14 @@ pub links_push : (links new : List Link) (link : Link) → new ≡ links ++ link
 links_push links new link more = ap (λ (ls : List Link). links_by ls) more
     ∙ map_push (λ (l : Link). (l.later.now, l.earlier.now)) links link
 
-pub link_fields : (base written : Disk) (kind : Module) (rules : List Rule) (links new : List Link)
+pub link_fields : (base written : Disk) (kind : Module) (rules : List Rule) (whole : Bool) (links new : List Link)
     (labels : List Label) (patches : List Patch) (link : Link)
     → IsLog (record {
       base = base;
       written = written;
       kind = kind;
       rules = rules;
+      whole = whole;
       links = links_by links;
       emitted = emitted_by (places_of patches) labels;
       patches = patches;
@@ -92,16 +94,18 @@ pub link_fields : (base written : Disk) (kind : Module) (rules : List Rule) (lin
       written = written;
       kind = kind;
       rules = rules;
+      whole = whole;
       links = links_by new;
       emitted = emitted_by (places_of patches) labels;
       patches = patches;
     })
-link_fields base written kind rules links new labels patches link is none more =
+link_fields base written kind rules whole links new labels patches link is none more =
     let make : List (List ℕ × List ℕ) → Log = λ ls. record {
       base = base;
       written = written;
       kind = kind;
       rules = rules;
+      whole = whole;
       links = ls;
       emitted = emitted_by (places_of patches) labels;
       patches = patches;

@@ -188,6 +188,7 @@ trace_with old log disk turn next = record {
     emitted = log.emitted;
     turn = turn;
     journal = next;
+    whole = log.whole;
     links = log.links;
   };
 }
@@ -217,15 +218,15 @@ not_journaled Full o j = o
 
 module _ (old : Trace) (line : ℕ) (op : Op) (cs : List Change) (log : Log) (disk : Disk) (turn next : ℕ)
     (same : old.tracing.emitted ≡ old.log.emitted) (same_links : old.tracing.links ≡ old.log.links)
-    (here : disk ≡ with_changes old.tracing.disk cs) where
+    (same_whole : old.tracing.whole ≡ old.log.whole) (here : disk ≡ with_changes old.tracing.disk cs) where
   tracing_is : (kind : Module) (more : List Emitted) → Adds old.log log more
       → more ≡ patches_by kind (with_changes old.tracing.disk cs) old.tracing.turn old.tracing.journal
       (origin_at line op old.tracing.current) cs
       → turn ≡ old.tracing.turn + 1 → next ≡ old.tracing.journal + journal_blocks kind old.tracing.disk.blocks cs
       → after_plan kind line op old.tracing cs ≡ (trace_with old log disk turn next).tracing
   tracing_is kind more adds is turns nexts =
-      let make : Disk → List Emitted → ℕ → ℕ → List (List ℕ × List ℕ)
-      → Tracing = λ d es t j ls. record old.tracing { disk = d; emitted = es; turn = t; journal = j; links = ls } in
+      let make : Disk → List Emitted → ℕ → ℕ → List (List ℕ × List ℕ) → Bool → Tracing = λ d es t j ls w.
+      record old.tracing { disk = d; emitted = es; turn = t; journal = j; whole = w; links = ls } in
       let es : old.tracing.emitted ++ patches_by kind (with_changes old.tracing.disk cs) old.tracing.turn
       old.tracing.journal (origin_at line op old.tracing.current) cs ≡ log.emitted =
       ap (λ (xs : List Emitted). xs ++ patches_by kind (with_changes old.tracing.disk cs) old.tracing.turn
@@ -234,13 +235,15 @@ module _ (old : Trace) (line : ℕ) (op : Op) (cs : List Change) (log : Log) (di
       let ls : old.tracing.links ≡ log.links = same_links ∙ sym adds.links in
       ap (λ (d : Disk). make d (old.tracing.emitted ++ patches_by kind (with_changes old.tracing.disk cs)
       old.tracing.turn old.tracing.journal (origin_at line op old.tracing.current) cs) (old.tracing.turn + 1)
-      (old.tracing.journal + journal_blocks kind old.tracing.disk.blocks cs) old.tracing.links) (sym here)
+      (old.tracing.journal + journal_blocks kind old.tracing.disk.blocks cs) old.tracing.links old.tracing.whole)
+      (sym here)
       ∙ ap (λ (xs : List Emitted). make disk xs (old.tracing.turn + 1)
-      (old.tracing.journal + journal_blocks kind old.tracing.disk.blocks cs) old.tracing.links) es
+      (old.tracing.journal + journal_blocks kind old.tracing.disk.blocks cs) old.tracing.links old.tracing.whole) es
       ∙ ap (λ (t : ℕ). make disk log.emitted t (old.tracing.journal + journal_blocks kind old.tracing.disk.blocks cs)
-      old.tracing.links) (sym turns)
-      ∙ ap (λ (j : ℕ). make disk log.emitted turn j old.tracing.links) (sym nexts)
-      ∙ ap (λ (xs : List (List ℕ × List ℕ)). make disk log.emitted turn next xs) ls
+      old.tracing.links old.tracing.whole) (sym turns)
+      ∙ ap (λ (j : ℕ). make disk log.emitted turn j old.tracing.links old.tracing.whole) (sym nexts)
+      ∙ ap (λ (xs : List (List ℕ × List ℕ)). make disk log.emitted turn next xs old.tracing.whole) ls
+      ∙ ap (λ (b : Bool). make disk log.emitted turn next log.links b) (same_whole ∙ sym adds.whole)
 
   moves_by : (more : List Emitted) → Adds old.log log more
       → more ≡ patches_by old.log.kind (with_changes old.tracing.disk cs) old.tracing.turn old.tracing.journal
@@ -253,6 +256,7 @@ module _ (old : Trace) (line : ℕ) (op : Op) (cs : List Change) (log : Log) (di
     base = adds.base;
     kind = adds.kind;
     rules = adds.rules;
+    whole = adds.whole;
     turns = omega arith;
     answered = planned_ok old.log.kind line op old.tracing cs (omega arith)
         (omega (arith, ap (λ (xs : List Emitted). length xs) is))

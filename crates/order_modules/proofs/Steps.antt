@@ -1,6 +1,6 @@
 -- The steps of a script, one after another.
 use Rattle.std.proofs.Common.{◌≡◌, ℕ, ◌+◌, ◌<◌, ◌≤◌, List, [], ◌∷◌, ◌++◌, length, take, drop, get_or, append-nil}
-use Rattle.std.proofs.Common.{append_assoc, refl, sym, ◌∙◌, ap, subst, arith}
+use Rattle.std.proofs.Common.{Bool, append_assoc, refl, sym, ◌∙◌, ap, subst, arith}
 use Rattle.std.specs.Prelude.{All, Result, Ok, Err}
 use Rattle.std.proofs.lemmas.List.{take_more, take-append-drop, take_all}
 use Rattle.std.proofs.lemmas.List.Elements.{All-nil, All-append}
@@ -31,37 +31,40 @@ trace_from-append kind s (x ∷ xs) ys = then_then kind ys (step kind s x.line x
     (λ next. trace_from-append kind next xs ys)
 
 -- the trace so far, of the steps taken
-pub record IsTraced (kind : Module) (rules : List Rule) (base : Disk) (steps : List Step) (i : ℕ) (t : Trace) : Type
-    0 where
+pub record IsTraced (kind : Module) (rules : List Rule) (whole : Bool) (base : Disk) (steps : List Step) (i : ℕ)
+    (t : Trace) : Type 0 where
   pub same_base : t.log.base ≡ base
   pub same_kind : t.log.kind ≡ kind
   pub same_rules : t.log.rules ≡ rules
+  pub same_whole : t.log.whole ≡ whole
   pub turns : t.tracing.turn ≤ i + 1
-  pub so_far : trace_from kind (trace_start base) (take i steps) ≡ Ok t.tracing
+  pub so_far : trace_from kind (trace_start whole base) (take i steps) ≡ Ok t.tracing
   pub names : All GivesName (ops_of (take i steps))
 
-module _ (kind : Module) (rules : List Rule) (base : Disk) (steps : List Step) (i : ℕ) (t : Trace) (x : Step)
-    (inside : i < length steps) (read : x ≡ get_or steps i x) (is : IsTraced kind rules base steps i t) where
+module _ (kind : Module) (rules : List Rule) (whole : Bool) (base : Disk) (steps : List Step) (i : ℕ) (t : Trace)
+    (x : Step) (inside : i < length steps) (read : x ≡ get_or steps i x)
+    (is : IsTraced kind rules whole base steps i t) where
   with_next : take (i + 1) steps ≡ take i steps ++ x ∷ []
   with_next = take_more steps i x inside ∙ ap (λ (y : Step). take i steps ++ y ∷ []) (sym read)
 
   -- the steps taken with one more, and those after it
-  after_step : (ys : List Step) → trace_from kind (trace_start base) (take i steps ++ x ∷ ys)
+  after_step : (ys : List Step) → trace_from kind (trace_start whole base) (take i steps ++ x ∷ ys)
       ≡ then_ok (step kind t.tracing x.line x.act) (λ next. trace_from kind next ys)
-  after_step ys = trace_from-append kind (trace_start base) (take i steps) (x ∷ ys)
+  after_step ys = trace_from-append kind (trace_start whole base) (take i steps) (x ∷ ys)
       ∙ ap (λ (r : Result Tracing TraceFault). then_ok r (λ next. trace_from kind next (x ∷ ys))) is.so_far
 
   same_step : step t.log.kind t.tracing x.line x.act ≡ step kind t.tracing x.line x.act
   same_step = ap (λ (k : Module). step k t.tracing x.line x.act) is.same_kind
 
   pub step_taken : (next : Trace) → Moves t next (step t.log.kind t.tracing x.line x.act) → All GivesName (ops_at x.act)
-      → IsTraced kind rules base steps (i + 1) next
+      → IsTraced kind rules whole base steps (i + 1) next
   step_taken next moves named = record {
     same_base = moves.base ∙ is.same_base;
     same_kind = moves.kind ∙ is.same_kind;
     same_rules = moves.rules ∙ is.same_rules;
+    same_whole = moves.whole ∙ is.same_whole;
     turns = omega (arith, moves.turns, is.turns);
-    so_far = ap (λ (xs : List Step). trace_from kind (trace_start base) xs) with_next ∙ after_step []
+    so_far = ap (λ (xs : List Step). trace_from kind (trace_start whole base) xs) with_next ∙ after_step []
         ∙ ap (λ (r : Result Tracing TraceFault). then_ok r (λ next. trace_from kind next []))
         (sym same_step ∙ moves.answered);
     names = subst (λ (xs : List Step). All GivesName (ops_of xs)) (sym with_next)
@@ -72,33 +75,36 @@ module _ (kind : Module) (rules : List Rule) (base : Disk) (steps : List Step) (
   }
 
   pub step_refused : (e : TraceFault) → step t.log.kind t.tracing x.line x.act ≡ Err e
-      → trace_from kind (trace_start base) steps ≡ Err e
+      → trace_from kind (trace_start whole base) steps ≡ Err e
   step_refused e why =
       let all : steps ≡ take i steps ++ x ∷ drop (i + 1) steps =
       sym (take-append-drop (i + 1) steps) ∙ ap (λ (xs : List Step). xs ++ drop (i + 1) steps) with_next
       ∙ append_assoc (take i steps) (x ∷ []) (drop (i + 1) steps) in
-      ap (λ (xs : List Step). trace_from kind (trace_start base) xs) all ∙ after_step (drop (i + 1) steps)
+      ap (λ (xs : List Step). trace_from kind (trace_start whole base) xs) all ∙ after_step (drop (i + 1) steps)
       ∙ ap (λ (r : Result Tracing TraceFault). then_ok r (λ next. trace_from kind next (drop (i + 1) steps)))
       (sym same_step ∙ why)
 
-pub traced_start : (kind : Module) (rules : List Rule) (base : Disk) (steps : List Step) (t : Trace)
-    → t.tracing ≡ trace_start base → t.log.base ≡ base → t.log.kind ≡ kind → t.log.rules ≡ rules
-    → IsTraced kind rules base steps 0 t
-traced_start kind rules base steps t began same_base same_kind same_rules = record {
+pub traced_start : (kind : Module) (rules : List Rule) (whole : Bool) (base : Disk) (steps : List Step) (t : Trace)
+    → t.tracing ≡ trace_start whole base → t.log.base ≡ base → t.log.kind ≡ kind → t.log.rules ≡ rules
+    → t.log.whole ≡ whole → IsTraced kind rules whole base steps 0 t
+traced_start kind rules whole base steps t began same_base same_kind same_rules same_whole = record {
   same_base = same_base;
   same_kind = same_kind;
   same_rules = same_rules;
+  same_whole = same_whole;
   turns = omega (arith, ap (λ (s : Tracing). s.turn) began);
   so_far = ap (λ (s : Tracing). Ok s) (sym began);
   names = All-nil GivesName;
 }
 
-pub traced_end : (kind : Module) (rules : List Rule) (base : Disk) (steps : List Step) (i : ℕ) (t : Trace)
-    → length steps ≤ i → IsTraced kind rules base steps i t → trace_from kind (trace_start base) steps ≡ Ok t.tracing
-traced_end kind rules base steps i t past is = ap (λ (xs : List Step). trace_from kind (trace_start base) xs)
+pub traced_end : (kind : Module) (rules : List Rule) (whole : Bool) (base : Disk) (steps : List Step) (i : ℕ)
+    (t : Trace) → length steps ≤ i → IsTraced kind rules whole base steps i t
+    → trace_from kind (trace_start whole base) steps ≡ Ok t.tracing
+traced_end kind rules whole base steps i t past is = ap (λ (xs : List Step). trace_from kind
+    (trace_start whole base) xs)
     (sym (take_all i steps past)) ∙ is.so_far
 
-pub traced_names : (kind : Module) (rules : List Rule) (base : Disk) (steps : List Step) (i : ℕ) (t : Trace)
-    → length steps ≤ i → IsTraced kind rules base steps i t → All GivesName (ops_of steps)
-traced_names kind rules base steps i t past is = subst (λ (xs : List Step). All GivesName (ops_of xs))
+pub traced_names : (kind : Module) (rules : List Rule) (whole : Bool) (base : Disk) (steps : List Step) (i : ℕ)
+    (t : Trace) → length steps ≤ i → IsTraced kind rules whole base steps i t → All GivesName (ops_of steps)
+traced_names kind rules whole base steps i t past is = subst (λ (xs : List Step). All GivesName (ops_of xs))
     (take_all i steps past) is.names

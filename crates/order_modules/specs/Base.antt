@@ -29,7 +29,7 @@ abbrev pub StepsTurn : Disk → List Step → Disk → Type 0
 StepsTurn d [] end = end ≡ d
 StepsTurn d (x ∷ xs) end = (next : Disk) × StepTurns d x next × StepsTurn next xs end
 
--- the step is refused on the disk, as what it holds tells, or is one on groups
+-- the step is refused, exactly as the contents of the disk require, or is one on groups
 abbrev pub IsStopped : Disk → Step → TraceFault → Type 0
 IsStopped d x fault =
     ((op : Op) × (why : FsFault) × (x.act ≡ Do op) × IsRefused d.blocks d.journal (view_of d) op why

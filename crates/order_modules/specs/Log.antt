@@ -1,5 +1,6 @@
 -- The patches so far.
-use Rattle.std.specs.Prelude.{◌≡◌, ℕ, ◌<◌, All, List, [], ◌∷◌, ◌++◌, ◌||◌, Some, slice_get, IsTrue}
+use Rattle.std.specs.Prelude.{◌≡◌, ℕ, ◌<◌, All, List, [], ◌∷◌, ◌++◌, Bool, ◌&&◌, ◌||◌, ◌==◌, Some, slice_get}
+use Rattle.std.specs.Prelude.{IsTrue}
 use Rattle.std.specs.List.{list_any}
 use Rattle.crash_model.specs.Disk.{Disk, with_bytes}
 use Rattle.crash_model.specs.Patches.{Place, places_of}
@@ -18,8 +19,10 @@ pub record Log : Type 0 where
   pub written : Disk
   pub kind : Module
   pub rules : List Rule
+  -- whether blocks are written whole
+  pub whole : Bool
   pub links : List (List ℕ × List ℕ)
-  -- the patches with what they are of their operations, and as they stand in the graph
+  -- the patches with what they are of their operations, and as they are in the graph
   pub emitted : List Emitted
   pub patches : List Patch
 
@@ -30,6 +33,7 @@ log_of base written ordering patches labels links = record {
   written = written;
   kind = ordering.«module»;
   rules = ordering.rules.items;
+  whole = ordering.whole_blocks;
   links = links_by links;
   emitted = emitted_by (places_of patches) labels;
   patches = patches;
@@ -45,19 +49,21 @@ pub record IsLog (log : Log) : Type 0 where
   pub written : log.written ≡ with_places log.base (places_of log.patches)
   pub known : All (λ patch. patch.block < log.base.blocks) log.patches
   pub graph : IsGraphOf log.rules log.base
-      (record (trace_start log.base) { emitted = log.emitted; links = log.links }) log.patches
+      (record (trace_start log.whole log.base) { emitted = log.emitted; links = log.links }) log.patches
 
 -- the log is over the same base, by the same ordering
 pub record Keeps (old new : Log) : Type 0 where
   pub base : new.base ≡ old.base
   pub kind : new.kind ≡ old.kind
   pub rules : new.rules ≡ old.rules
+  pub whole : new.whole ≡ old.whole
 
 -- the log has these patches more, and is else as it was
 pub record Adds (old new : Log) (more : List Emitted) : Type 0 where
   pub base : new.base ≡ old.base
   pub kind : new.kind ≡ old.kind
   pub rules : new.rules ≡ old.rules
+  pub whole : new.whole ≡ old.whole
   pub links : new.links ≡ old.links
   pub emitted : new.emitted ≡ old.emitted ++ more
 
@@ -67,3 +73,8 @@ WaitsAt rules links labels later id =
     (earlier : Label) × (slice_get labels id ≡ Some earlier)
     × IsTrue (groups_depend links (emitted_of later) (emitted_of earlier)
     || list_any (λ rule. applies rule (emitted_of later) (emitted_of earlier)) rules)
+
+-- blocks are written whole, and the patch with this id changes the block
+abbrev pub SharesAt : Bool → List Patch → ℕ → ℕ → Type 0
+SharesAt whole patches block id =
+    (earlier : Patch) × (slice_get patches id ≡ Some earlier) × IsTrue (whole && block == earlier.block)

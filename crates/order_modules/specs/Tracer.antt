@@ -38,6 +38,7 @@ trace_of log disk turn next current opened ended = record {
     emitted = log.emitted;
     turn = turn;
     journal = next;
+    whole = log.whole;
     current = current;
     opened = opened;
     ended = ended;
@@ -58,6 +59,7 @@ pub record Moves (old new : Trace) (answer : Result Tracing TraceFault) : Type 0
   pub base : new.log.base ≡ old.log.base
   pub kind : new.log.kind ≡ old.log.kind
   pub rules : new.log.rules ≡ old.log.rules
+  pub whole : new.log.whole ≡ old.log.whole
   pub turns : new.tracing.turn ≤ old.tracing.turn + 1
   pub answered : answer ≡ Ok new.tracing
 

@@ -16,7 +16,7 @@ use std::alloc::Allocator;
 ///
 /// A refused operation changes nothing; a step on groups is refused, since groups order traced patches alone. The
 /// journal is not touched, and a sound image stays sound. On a sound image each operation makes the disk gain and lose
-/// what it means, and a step is refused as the disk before it tells. It takes no memory.
+/// what it means, and a step is refused exactly as the disk before it requires. It takes no memory.
 pub fn build_base<A: Allocator + Copy>(
     image: &mut Image<A>,
     steps: &[Step],

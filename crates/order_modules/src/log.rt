@@ -1,13 +1,13 @@
 //! The patches so far.
 
 ghost use Rattle.std.specs.Prelude.{◌≡◌, ℕ, ◌+◌, ◌<◌, ◌≤◌, ◌↔◌, [], ◌∷◌, ◌++◌, length, false, IsTrue, OnOk, OnErr};
-ghost use Rattle.std.specs.Prelude.{IfOk};
+ghost use Rattle.std.specs.Prelude.{IfOk, ◌&&◌, ◌==◌};
 ghost use Rattle.std.specs.List.{list_any};
 ghost use Rattle.patch_sets.specs.Sets.{Has};
 ghost use Rattle.crash_model.specs.Patches.{place};
 ghost use Rattle.crash_model.specs.Trace.{is_same_group};
 ghost use Rattle.traced_patches.specs.Labels.{emitted_at, group_by, links_by};
-ghost use Rattle.order_modules.specs.Log.{Adds, IsLog, Keeps, WaitsAt};
+ghost use Rattle.order_modules.specs.Log.{Adds, IsLog, Keeps, WaitsAt, SharesAt};
 
 use arrayvec::ArrayVec;
 use crash_model::modules::Module;
@@ -54,7 +54,7 @@ impl<'a, A: Allocator + Copy> PatchLog<'a, A> {
         ordering: &'a Ordering,
     ) -> Result<PatchLog<'a, A>, AllocError>
         ensures ordering { IfOk result (λ log. (log.kind ≡ ordering.now.«module»)
-            × (log.rules ≡ ordering.now.rules.items)) }
+            × (log.rules ≡ ordering.now.rules.items) × (log.whole ≡ ordering.now.whole_blocks)) }
         ensures new { IfOk result (λ log. (log.base ≡ base.now) × (log.links ≡ []) × (log.emitted ≡ [])) }
     {
         Ok(PatchLog {
@@ -81,7 +81,7 @@ impl<'a, A: Allocator + Copy> PatchLog<'a, A> {
         self.ordering.module
     }
 
-    /// Whether so many patches more are not too many.
+    /// Whether `count` further patches fit the graph.
     pub fn has_room(&self, count: usize) -> bool
         requires { count ≤ 1000 }
         ensures { IsTrue result ↔ (length self.now.emitted + count ≤ 124) }
@@ -111,8 +111,9 @@ impl<'a, A: Allocator + Copy> PatchLog<'a, A> {
 
     /// Adds a patch: new bytes from byte `offset` of a block on.
     ///
-    /// It waits for the patches that it overlaps, and for those that its label says. Its undo data are the bytes
-    /// before it. It fails only when out of memory, and then the log is as it was.
+    /// It waits for the patches that it overlaps, for those of its block where blocks are written whole, and for those
+    /// that its label says. Its undo data are the bytes before it. It fails only when out of memory, and then the log
+    /// is as it was.
     pub fn emit(
         &mut self,
         label: Label<'a>,
@@ -135,13 +136,14 @@ impl<'a, A: Allocator + Copy> PatchLog<'a, A> {
             self.labels.as_slice(),
             &label,
         );
+        let shared = sharing_block(self.ordering.whole_blocks, &self.graph, block);
         let from = usize::from(offset);
         let patch = Patch {
             block,
             offset,
             new: bytes_of(bytes),
             undo: bytes_of(&self.written.block(usize::from(block))[from..from + bytes.len()]),
-            deps,
+            deps: deps | shared,
         };
         self.labels.push(label)?;
         match self.graph.push(patch) {
@@ -162,6 +164,7 @@ impl<'a, A: Allocator + Copy> PatchLog<'a, A> {
         ensures emitted { result.emitted ≡ self.entry.emitted }
         ensures links { result.links ≡ self.entry.links }
         ensures rules { result.rules ≡ self.entry.rules }
+        ensures whole { result.whole ≡ self.entry.whole }
         ensures log { IsLog self.entry }
     {
         Traced::new(self.graph, self.labels, self.links, self.ordering)
@@ -180,6 +183,26 @@ fn dependencies(rules: &[Rule], links: &[Link<'_>], labels: &[Label<'_>], later:
         }
     }
     ids
+}
+
+/// The ids of the patches that change a block, where blocks are written whole; else none.
+fn sharing_block<A: Allocator + Copy>(whole: bool, graph: &Graph<A>, block: u8) -> u128
+    ensures { (id : ℕ) → Has result id ↔ SharesAt whole graph.now block id }
+{
+    let mut ids = 0;
+    for id in 0..graph.len() {
+        if is_shared(whole, graph.patch(id), block) {
+            ids = with(ids, id);
+        }
+    }
+    ids
+}
+
+/// Whether blocks are written whole, and the patch changes the block.
+fn is_shared(whole: bool, patch: &Patch, block: u8) -> bool
+    ensures { result ≡ (whole && block == patch.now.block) }
+{
+    whole && block == patch.block
 }
 
 /// Whether a label is of a group.

@@ -1,6 +1,6 @@
 //! The trace of a script: its operations, in order, turned into patches.
 
-ghost use Rattle.std.specs.Prelude.{◌≡◌, ◌<◌, ◌^◌, Ok, IfOk, OnOk, All};
+ghost use Rattle.std.specs.Prelude.{◌≡◌, ◌<◌, ◌^◌, false, Ok, IfOk, OnOk, All};
 ghost use Rattle.crash_model.specs.Trace.{Tracing, trace_start, trace_of_plan, trace_from, IsGraphOf};
 ghost use Rattle.crash_model.specs.Disk.{IsDisk};
 ghost use Rattle.crash_model.specs.Plan.{plan_of};
@@ -34,10 +34,11 @@ use traced_patches::{Origin, Traced};
 ///
 /// Each operation is planned on the image after those before it. Its patches carry as undo data the bytes that they
 /// replace, in the image after all patches before them. They depend on each earlier patch of an overlapping range, on
-/// the patches of groups by the script's `depend` lines, and on those that a rule of the ordering names. A step is
-/// refused by the operation itself, by a full journal, by too many patches (the graph holds 124), or by the rules of
-/// groups: a group is opened once and only while none is open, `depend b a` takes an ended group a and a group b, not
-/// a, that has no patch. It fails when out of memory too.
+/// the patches of groups by the script's `depend` lines, and on those that a rule of the ordering names; where the
+/// ordering has blocks written whole, on each earlier patch of their block too. A step is refused by the operation
+/// itself, by a full journal, by too many patches (the graph holds 124), or by the rules of groups: a group is opened
+/// once and only while none is open, `depend b a` takes an ended group a and a group b, not a, that has no patch. It
+/// fails when out of memory too.
 ///
 /// Under the full journal with all its rules, and with any others put in, from a sound image whose journal is zero,
 /// replay recovers from every crash: whatever closed set of the patches is on disk, replay leaves a sound image that
@@ -49,14 +50,18 @@ pub fn trace<'a, A: Allocator + Copy>(
     ordering: &'a Ordering,
 ) -> Result<Traced<'a, A>, TraceFault>
     ensures ok { IfOk result (λ t. (s : Tracing)
-        × (trace_from ordering.now.«module» (trace_start image.now) steps.now ≡ Ok s)
-        × IsGraphOf ordering.now.rules.items image.now s t.patches × (t.emitted ≡ s.emitted) × (t.links ≡ s.links)) }
+        × (trace_from ordering.now.«module» (trace_start ordering.now.whole_blocks image.now) steps.now ≡ Ok s)
+        × IsGraphOf ordering.now.rules.items image.now s t.patches × (t.emitted ≡ s.emitted) × (t.links ≡ s.links)
+        × (t.whole ≡ s.whole)) }
     ensures rules { IfOk result (λ t. t.rules ≡ ordering.now.rules.items) }
-    ensures refused { RefusesAs result (trace_from ordering.now.«module» (trace_start image.now) steps.now) }
+    ensures whole { IfOk result (λ t. t.whole ≡ ordering.now.whole_blocks) }
+    ensures refused { RefusesAs result
+        (trace_from ordering.now.«module» (trace_start ordering.now.whole_blocks image.now) steps.now) }
     ensures fits { IfOk result (λ t. All (λ patch. patch.block < image.now.blocks) t.patches) }
     ensures names { IfOk result (λ _. All GivesName (ops_of steps.now)) }
     ensures full { ordering.now.«module» ≡ Full → AreAmong (rules_of Full) ordering.now.rules.items → IsSound image.now
-        → HasZeroJournal image.now → IfOk result (λ t. IsFullSafe image.now steps.now t.patches) }
+        → HasZeroJournal image.now
+        → IfOk result (λ t. IsFullSafe ordering.now.whole_blocks image.now steps.now t.patches) }
 {
     let mut tracer = Tracer::new(alloc, image, ordering)?;
     for step in steps {
@@ -65,7 +70,8 @@ pub fn trace<'a, A: Allocator + Copy>(
     Ok(tracer.into_traced())
 }
 
-/// The graph of the steps, over this image, under a module with its own rules; or the first refused step.
+/// The graph of the steps, over this image, under a module with its own rules, where a block can be written without
+/// some of its changes; or the first refused step.
 ///
 /// It is that of `trace` under this ordering.
 pub fn trace_under<A: Allocator + Copy>(
@@ -74,13 +80,14 @@ pub fn trace_under<A: Allocator + Copy>(
     steps: &[Step],
     module: Module,
 ) -> Result<Graph<A>, TraceFault>
-    ensures ok { IfOk result (λ graph. (s : Tracing) × (trace_from «module» (trace_start image.now) steps.now ≡ Ok s)
+    ensures ok { IfOk result (λ graph. (s : Tracing)
+        × (trace_from «module» (trace_start false image.now) steps.now ≡ Ok s)
         × IsGraphOf (rules_of «module») image.now s graph) }
-    ensures refused { RefusesAs result (trace_from «module» (trace_start image.now) steps.now) }
+    ensures refused { RefusesAs result (trace_from «module» (trace_start false image.now) steps.now) }
     ensures fits { IfOk result (λ graph. All (λ patch. patch.block < image.now.blocks) graph) }
     ensures names { IfOk result (λ _. All GivesName (ops_of steps.now)) }
     ensures full { «module» ≡ Full → IsSound image.now → HasZeroJournal image.now
-        → IfOk result (λ graph. IsFullSafe image.now steps.now graph) }
+        → IfOk result (λ graph. IsFullSafe false image.now steps.now graph) }
 {
     let ordering = Ordering::of(module);
     let traced = trace(alloc, image, steps, &ordering)?;
@@ -123,9 +130,10 @@ impl<'a, A: Allocator + Copy> Tracer<'a, A> {
         base: &'a Image<A>,
         ordering: &'a Ordering,
     ) -> Result<Tracer<'a, A>, AllocError>
-        ensures begun { IfOk result (λ t. (t.tracing ≡ trace_start base.now) × (t.log.base ≡ base.now)) }
+        ensures begun { IfOk result (λ t. (t.tracing ≡ trace_start ordering.now.whole_blocks base.now)
+            × (t.log.base ≡ base.now)) }
         ensures ordering { IfOk result (λ t. (t.log.kind ≡ ordering.now.«module»)
-            × (t.log.rules ≡ ordering.now.rules.items)) }
+            × (t.log.rules ≡ ordering.now.rules.items) × (t.log.whole ≡ ordering.now.whole_blocks)) }
         ensures disk { IfOk result (λ _. IsDisk base.now) }
     {
         Ok(Tracer {
@@ -145,6 +153,8 @@ impl<'a, A: Allocator + Copy> Tracer<'a, A> {
         ensures emitted { result.emitted ≡ self.entry.tracing.emitted }
         ensures links { result.links ≡ self.entry.tracing.links }
         ensures rules { result.rules ≡ self.entry.log.rules }
+        ensures whole { result.whole ≡ self.entry.log.whole }
+        ensures traced { result.whole ≡ self.entry.tracing.whole }
         ensures fits { All (λ patch. patch.block < self.entry.log.base.blocks) result.patches }
     {
         self.log.into_traced()

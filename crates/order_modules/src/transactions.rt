@@ -132,7 +132,7 @@ impl<'a, A: Allocator + Copy> PatchLog<'a, A> {
         Ok(())
     }
 
-    /// Adds the copies of the targets, in the journal blocks behind the header.
+    /// Adds the copies of the targets, in the journal blocks after the header.
     fn emit_copies(
         &mut self,
         transaction: Transaction<'a>,

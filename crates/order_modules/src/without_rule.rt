@@ -27,7 +27,7 @@ pub fn graph_by<A: Allocator + Copy>(
 ) -> Result<Graph<A>, AllocError>
     requires { All (λ patch. patch.block < base.now.blocks) traced.now.patches }
     ensures graph { IfOk result (λ graph. (s : Tracing) → s.emitted ≡ traced.now.emitted → s.links ≡ traced.now.links
-        → IsGraphOf ordering.now.rules.items base.now s graph) }
+        → s.whole ≡ ordering.now.whole_blocks → IsGraphOf ordering.now.rules.items base.now s graph) }
     ensures fits { IfOk result (λ graph. All (λ patch. patch.block < base.now.blocks) graph) }
 {
     let mut log = PatchLog::new(alloc, base, ordering)?;
@@ -48,7 +48,7 @@ pub fn graph_without<A: Allocator + Copy>(
 ) -> Result<Graph<A>, AllocError>
     requires { All (λ patch. patch.block < base.now.blocks) traced.now.patches }
     ensures graph { IfOk result (λ graph. (s : Tracing) → s.emitted ≡ traced.now.emitted → s.links ≡ traced.now.links
-        → IsGraphOf (rules_in_first traced.now.rules (rule ∷ [])) base.now s graph) }
+        → s.whole ≡ traced.now.whole → IsGraphOf (rules_in_first traced.now.rules (rule ∷ [])) base.now s graph) }
     ensures fits { IfOk result (λ graph. All (λ patch. patch.block < base.now.blocks) graph) }
 {
     let ordering = ordering_without(traced.ordering(), rule);
@@ -58,7 +58,8 @@ pub fn graph_without<A: Allocator + Copy>(
 
 /// The ordering without a rule.
 fn ordering_without(ordering: &Ordering, rule: Rule) -> Ordering
-    ensures { result.rules.items ≡ rules_in_first ordering.now.rules.items (rule ∷ []) }
+    ensures rules { result.rules.items ≡ rules_in_first ordering.now.rules.items (rule ∷ []) }
+    ensures whole { result.whole_blocks ≡ ordering.now.whole_blocks }
 {
     let mut rules = ArrayVec::new();
     for other in ordering.rules.as_slice() {
@@ -69,6 +70,7 @@ fn ordering_without(ordering: &Ordering, rule: Rule) -> Ordering
     Ordering {
         module: ordering.module,
         rules,
+        whole_blocks: ordering.whole_blocks,
     }
 }
 

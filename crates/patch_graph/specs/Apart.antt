@@ -1,10 +1,10 @@
--- For each id of a graph, the ids that do not stand on it.
+-- For each id of a graph, the ids that do not depend on it.
 use Rattle.std.specs.Prelude.{◌≡◌, ◌≢◌, ℕ, ◌<◌, ◌≤◌, ◌⊎◌, ◌↔◌, List, length, slice_index}
 use Rattle.patch_sets.specs.Sets.{Has, IsSubset}
 use Rattle.patch_sets.specs.Ends.{IsWithout}
 use Rattle.patch_graph.specs.declared.graph.TheConstants.{MAX_PATCHES}
 
--- Each id has a mask of the ids that do not stand on it. An id stands on itself; another stands on it where it depends
+-- Each id has a mask of the ids that do not rest on it. An id rests on itself; another rests on it if it depends
 -- on one that does. Where the graph lacks one of the two ids, the mask has the other.
 pub record AreApart (deps apart : List ℕ) : Type 0 where
   pub sized : length apart ≡ MAX_PATCHES
@@ -14,7 +14,7 @@ pub record AreApart (deps apart : List ℕ) : Type 0 where
   pub fresh : (p q : ℕ) → p < MAX_PATCHES → q < 128 → (length deps ≤ p) ⊎ (length deps ≤ q)
       → Has (slice_index apart p) q
 
--- an id with these dependencies is taken out of the masks of those of the first n ids on which it stands
+-- an id with these dependencies is taken out of the masks of those of the first n ids on which it rests
 pub record StandsOn (id own n : ℕ) (before after : List ℕ) : Type 0 where
   pub sized : length after ≡ length before
   pub apart : (p : ℕ) → p < n → IsSubset own (slice_index before p) → slice_index after p ≡ slice_index before p
@@ -22,7 +22,7 @@ pub record StandsOn (id own n : ℕ) (before after : List ℕ) : Type 0 where
       → IsWithout (slice_index before p) id (slice_index after p)
   pub rest : (p : ℕ) → n ≤ p → slice_index after p ≡ slice_index before p
 
--- an id with these dependencies is taken out of the masks of the ids on which it stands, itself among them
+-- an id with these dependencies is taken out of the masks of the ids on which it rests, including its own
 pub record AddsId (id own : ℕ) (before after : List ℕ) : Type 0 where
   pub sized : length after ≡ length before
   pub apart : (p : ℕ) → p < id → IsSubset own (slice_index before p) → slice_index after p ≡ slice_index before p

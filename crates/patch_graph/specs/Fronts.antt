@@ -11,7 +11,7 @@ pub record IsFront (deps : List ℕ) (set front from : ℕ) : Type 0 where
   pub above : (q : ℕ) → Has front q → from ≤ q
   pub every : (q : ℕ) → from ≤ q → IsReady deps set q → Has front q
 
--- so many ready ids have come, and those that are left have not
+-- k ready ids have come, and those that are left have not
 pub record Leaves (deps : List ℕ) (set front count : ℕ) : Type 0 where
   pub from : ℕ
   pub within : from ≤ length deps

@@ -26,7 +26,7 @@ use std::marker::Model;
 /// How many patches a graph can have.
 pub const MAX_PATCHES: usize = 124;
 
-/// The block writes of a set are told apart for so many ids at a time, by [`Graph::leading_writes`].
+/// [`Graph::leading_writes`] cuts a set into parts of this many ids.
 const STRIDE: usize = 8;
 
 /// For how many block writes of a set room is taken at first. An allocator gives a kilobyte at once, and more than
@@ -47,7 +47,7 @@ pub struct Lead {
 #[derive(Drop)]
 pub struct Graph<A: Allocator + Copy> {
     patches: Vec<Patch, A>,
-    /// For each id those that do not stand on it, so that the ready ids of a closed set come one by one.
+    /// For each id those that do not depend on it, so that the ready ids of a closed set come one by one.
     apart: [u128; MAX_PATCHES],
     /// For each block the ids of its patches, so that a run of them comes at once.
     at_block: [u128; 256],
@@ -161,7 +161,7 @@ impl<A: Allocator + Copy> Graph<A> {
         ready
     }
 
-    /// How many sets have one ready id more. Of a closed set `degree` tells it faster.
+    /// How many sets have one ready id more. For a closed set `degree` is faster.
     pub fn ready_count(&self, set: u128) -> u32
         ensures { result ≡ length (successors_of (deps_of self.now) set) }
     {
@@ -177,7 +177,7 @@ impl<A: Allocator + Copy> Graph<A> {
     }
 
     /// The set with one ready id more, for the k-th of them, counted from 0 by ascending ids. Of a closed set `next`
-    /// tells it faster.
+    /// is faster.
     pub fn successor(&self, set: u128, k: u32) -> u128
         requires { k < length (successors_of (deps_of self.now) set) }
         ensures { result ≡ slice_index (successors_of (deps_of self.now) set) k }
@@ -212,7 +212,7 @@ impl<A: Allocator + Copy> Graph<A> {
         difference(self.ids(), set)
     }
 
-    /// The set with the next ready id of a walk more, by ascending ids, or none after the last. What stands on the id
+    /// The set with the next ready id of a walk added, by ascending ids, or none after the last. What depends on the id
     /// is not ready, and is left out of what is ahead.
     pub fn advance(&self, set: u128, ahead: &mut u128) -> Option<u128>
         requires closed { IsClosed (deps_of self.now) set }
@@ -307,7 +307,7 @@ impl<A: Allocator + Copy> Graph<A> {
     }
 }
 
-/// Where the ids end that are told apart together with this one.
+/// The end of the part of ids that this id is in.
 fn next_stop(id: usize) -> usize
     requires { id < 128 }
     ensures { id < result }
@@ -367,7 +367,7 @@ fn is_closed_in(patches: &[Patch], set: u128) -> bool
     true
 }
 
-/// Takes an id, of a patch that depends on `deps`, out of the masks of the ids that it stands on, itself among them.
+/// Takes an id, of a patch that depends on `deps`, out of the masks of the ids that it depends on, including its own.
 fn take_out(apart: &mut [u128; MAX_PATCHES], id: usize, deps: u128)
     requires { id < MAX_PATCHES }
     ensures { AddsId id deps apart.old apart.new }

@@ -16,7 +16,7 @@ pub fn in_order<A: Allocator>(mut sets: Vec<u128, A>) -> Vec<u128, A>
     sets
 }
 
-/// Whether a set stands before another in canonical order.
+/// Whether a set comes before another in canonical order.
 pub fn is_before(set: u128, other: u128) -> bool
     ensures { IsTrue result ↔ IsBefore set other }
 {

@@ -61,19 +61,19 @@ steps_at_places pool (place ∷ places) all = All-append IsStep (option_to_list 
 pub nothing_fails : (s : Search) → IsFullJournal s → IsDisk s.base → IsSound s.base → HasZeroJournal s.base
     → All IsStep s.pool → (places : List ℕ) → ¬ (Fails s places)
 nothing_fails s full disk sound zeros acts places (kept, patches, is, (set, failing)) =
-    none_fails s.strict kept s.base steps patches disk is.told safe set failing
+    none_fails s.strict s.whole kept s.base steps patches disk is.told safe set failing
   where
     steps : List Step
     steps = steps_at s.pool places
 
-    is_traced : trace_from Full (trace_start s.base) steps ≡ Ok is.last
-    is_traced = subst (λ (m : Module). trace_from m (trace_start s.base) steps ≡ Ok is.last) full.full is.traced
+    is_traced : trace_from Full (trace_start s.whole s.base) steps ≡ Ok is.last
+    is_traced = subst (λ (m : Module). trace_from m (trace_start s.whole s.base) steps ≡ Ok is.last) full.full is.traced
 
-    safe : IsFullSafe s.base steps patches
+    safe : IsFullSafe s.whole s.base steps patches
     safe = (
       is.last,
       is_traced,
-      λ closed_set closed. recovered s.rules s.base steps is.last patches closed_set disk sound zeros
+      λ closed_set closed. recovered s.rules s.whole s.base steps is.last patches closed_set disk sound zeros
           (steps_give steps (steps_at_places s.pool places acts)) is_traced full.all is.graph closed,
     )
 

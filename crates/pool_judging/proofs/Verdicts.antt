@@ -26,26 +26,26 @@ one_ok r a b e f = cc
 -- the patches of the steps at some places are those of the sequence
 pub patches_at : (s : Search) (places : List ℕ) (steps : List Step) (kept : Option ℕ) (last : Tracing)
     (patches : List Patch) → steps ≡ steps_at s.pool places
-    → trace_from s.ordering (trace_start s.base) steps ≡ Ok last → IsGraphOf s.rules s.base last patches
+    → trace_from s.ordering (trace_start s.whole s.base) steps ≡ Ok last → IsGraphOf s.rules s.base last patches
     → IsToldKept s.strict s.base steps kept → HasPatches s places kept patches
 patches_at s places steps kept last patches are run graph told = record {
   last = last;
-  traced = subst (λ (xs : List Step). trace_from s.ordering (trace_start s.base) xs ≡ Ok last) are run;
+  traced = subst (λ (xs : List Step). trace_from s.ordering (trace_start s.whole s.base) xs ≡ Ok last) are run;
   graph = graph;
   told = subst (λ (xs : List Step). IsToldKept s.strict s.base xs kept) are told;
 }
 
 -- what refuses the steps refuses the sequence
 pub refusal_at : (s : Search) (places : List ℕ) (steps : List Step) (fault : TraceFault) (reason : Refusal)
-    → steps ≡ steps_at s.pool places → trace_from s.ordering (trace_start s.base) steps ≡ Err fault
+    → steps ≡ steps_at s.pool places → trace_from s.ordering (trace_start s.whole s.base) steps ≡ Err fault
     → refusal_of fault ≡ Some reason → IsRefusal s places reason
 refusal_at s places steps fault reason are run because = record {
   fault = fault;
-  refused = subst (λ (xs : List Step). trace_from s.ordering (trace_start s.base) xs ≡ Err fault) are run;
+  refused = subst (λ (xs : List Step). trace_from s.ordering (trace_start s.whole s.base) xs ≡ Err fault) are run;
   because = because;
 }
 
--- a sequence has one graph, and what a checker is told of it is one
+-- a sequence has one graph, and one set of kept inodes
 module _ (s : Search) (places : List ℕ) (kept other : Option ℕ) (patches others : List Patch)
     (is : HasPatches s places kept patches) (also : HasPatches s places other others) where
   pub same_kept : kept ≡ other
@@ -84,10 +84,10 @@ no_failure_prop (Ok (Fails firsts)) = hlevel
 no_failure_prop (Err e) = hlevel
 
 -- where replay recovers from every crash no set fails
-pub never_fails : (strict : Bool) (kept : Option ℕ) (base : Disk) (steps : List Step) (patches : List Patch)
-    (verdict : Verdict) → IsDisk base → IsToldKept strict base steps kept → IsFullSafe base steps patches
+pub never_fails : (strict whole : Bool) (kept : Option ℕ) (base : Disk) (steps : List Step) (patches : List Patch)
+    (verdict : Verdict) → IsDisk base → IsToldKept strict base steps kept → IsFullSafe whole base steps patches
     → IsVerdictOn kept base patches verdict → IsNoFailure verdict
-never_fails strict kept base steps patches Passes disk told safe is = tt
-never_fails strict kept base steps patches (Refused reason) disk told safe is = tt
-never_fails strict kept base steps patches (Fails firsts) disk told safe (some, are) =
-    absurd (none_fails strict kept base steps patches disk told safe some.0 some.1)
+never_fails strict whole kept base steps patches Passes disk told safe is = tt
+never_fails strict whole kept base steps patches (Refused reason) disk told safe is = tt
+never_fails strict whole kept base steps patches (Fails firsts) disk told safe (some, are) =
+    absurd (none_fails strict whole kept base steps patches disk told safe some.0 some.1)

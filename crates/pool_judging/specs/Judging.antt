@@ -17,6 +17,7 @@ abbrev pub search_by : {A : Type 0} → PoolJudge A → Search
 search_by j = record {
   ordering = j.ordering.now.«module»;
   rules = j.ordering.now.rules.items;
+  whole = j.ordering.now.whole_blocks;
   strict = j.strict;
   base = j.base.now;
   pool = j.pool.now;

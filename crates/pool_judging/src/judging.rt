@@ -34,7 +34,7 @@ impl<A: Allocator + Copy> PoolJudge<'_, A> {
         Ok(steps)
     }
 
-    /// What the checker is told of the inodes that the steps keep: nothing where it is not strict. It fails only when
+    /// The inodes that the steps keep, for a strict checker, and `None` for another. It fails only when
     /// out of memory.
     pub fn told_kept(&self, steps: &[Step]) -> Result<Option<u16>, AllocError>
         ensures { IfOk result (IsToldKept self.now.strict self.now.base.now steps.now) }

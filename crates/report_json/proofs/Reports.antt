@@ -17,7 +17,8 @@ use Rattle.report_sections.specs.declared.section.Section as code
 use Rattle.report_sections.specs.Sections.{section_of, IsSection}
 use Rattle.report_sections.proofs.Joined.{rows_more, firsts_more}
 use Rattle.report_sections.proofs.Pushed.{sections_more, length-sections}
-use Rattle.report_json.specs.JsonReport.{WritesSections, WritesFaults, module_key, strict_key, from_module, from_strict}
+use Rattle.report_json.specs.JsonReport.{WritesSections, WritesFaults, module_key, strict_key, whole_key}
+use Rattle.report_json.specs.JsonReport.{from_module, from_strict}
 use Rattle.json_values.specs.Items.{comma_before}
 use Rattle.json_values.proofs.Commas.{mapped_more}
 use Rattle.json_values.proofs.SectionPieces.{three_pieces}
@@ -108,10 +109,11 @@ whole_text report body empty one two three four five last none first second thir
     ∙ regroup (codes "{") base (codes "\"closed\":") (decimal report.closed) early (codes ",\"module\":") (codes "\"")
     (module_text report.settings.now.module) (codes "\"") (codes ",\"patches\":") (decimal patches)
     (late_json patches report.failing body) (strict_key report.settings.now.strict) (trace_json told)
+    (whole_key report.settings.now.whole_blocks)
     (rules_json (codes "with") (told_with report.settings.now))
     (rules_json (codes "without") (told_without report.settings.now)) (codes "}\n"))
   where
-    regroup : (a b c d e f g h i j k l m n o p q : List ℕ)
-        → a ++ b ++ (c ++ d) ++ e ++ ((f ++ g) ++ h ++ (i ++ j) ++ k ++ l ++ (m ++ n ++ o ++ p)) ++ q
-        ≡ a ++ b ++ c ++ d ++ e ++ f ++ (g ++ h ++ i) ++ j ++ k ++ l ++ m ++ n ++ o ++ p ++ q
-    regroup a b c d e f g h i j k l m n o p q = simp append_assoc
+    regroup : (a b c d e f g h i j k l m n w o p q : List ℕ)
+        → a ++ b ++ (c ++ d) ++ e ++ ((f ++ g) ++ h ++ (i ++ j) ++ k ++ l ++ (m ++ n ++ w ++ o ++ p)) ++ q
+        ≡ a ++ b ++ c ++ d ++ e ++ f ++ (g ++ h ++ i) ++ j ++ k ++ l ++ m ++ n ++ w ++ o ++ p ++ q
+    regroup a b c d e f g h i j k l m n w o p q = simp append_assoc

@@ -24,31 +24,37 @@ abbrev pub base_key : Disk → List ℕ
 base_key base = codes "\"base\":" ++ json_array (map hex_json (blocks_of base)) ++ codes ","
 
 abbrev pub trace_key : TracedPatches → List ℕ
-trace_key t = codes ",\"trace\":" ++ json_array (map told_json (told_patches t.rules t.links t.emitted t.patches))
+trace_key t = codes ",\"trace\":" ++ json_array (map told_json (told_patches t.rules t.whole t.links t.emitted
+    t.patches))
 
 -- the module and the number of patches
 abbrev pub module_key : Module → ℕ → List ℕ
 module_key kind patches = codes ",\"module\":\"" ++ module_text kind ++ codes "\",\"patches\":" ++ decimal patches
 
--- that the run is strict, told where it is
+-- that the run is strict, if it is
 abbrev pub strict_key : Bool → List ℕ
 strict_key strict = if strict then codes ",\"strict\":true" else []
+
+-- that blocks are written whole, told where they are
+abbrev pub whole_key : Bool → List ℕ
+whole_key whole = if whole then codes ",\"whole_blocks\":true" else []
 
 -- the keys from `strict` on, where this explains the patches
 abbrev pub from_strict : Settings → Explanation → List ℕ
 from_strict settings explanation =
     strict_key settings.strict
     ++ trace_json (when settings.explain explanation)
+    ++ whole_key settings.whole_blocks
     ++ rules_json (codes "with") (told_with settings)
     ++ rules_json (codes "without") (told_without settings)
 
--- behind what stood there the text has the body's key before `module`
+-- the text has the body's key before `module` appended
 abbrev pub WritesEarly : {A : Type 0} → Report A → List ℕ → List ℕ → Type 0
 WritesEarly report old new =
     (body : whole.Body) × TellsBody report.detail report.base.now report.traced.now.patches report.body body
     × (new ≡ old ++ early_json (length report.traced.now.patches) report.failing body)
 
--- and its key behind `patches`
+-- and its key after `patches`
 abbrev pub WritesLate : {A : Type 0} → Report A → List ℕ → List ℕ → Type 0
 WritesLate report old new =
     (body : whole.Body) → TellsBody report.detail report.base.now report.traced.now.patches report.body body
@@ -61,13 +67,13 @@ from_module report body =
     ++ late_json (length report.traced.now.patches) report.failing body
     ++ from_strict report.settings.now (explanation_by report.base.now report.traced.now)
 
--- behind what stood there the text has those
+-- the text has those appended
 abbrev pub WritesFromModule : {A : Type 0} → Report A → List ℕ → List ℕ → Type 0
 WritesFromModule report old new =
     (body : whole.Body) → TellsBody report.detail report.base.now report.traced.now.patches report.body body
     → new ≡ old ++ from_module report body
 
--- behind what stood there the text has the objects of these sets, with a comma between two
+-- the text has the objects of these sets appended, separated by commas
 pub record WritesSections (detail : Detail) (base : Disk) (patches : List Patch) (sets old new : List ℕ) : Type 0 where
   pub sections : List Section
   pub are : AreSections detail base patches sets sections

@@ -9,7 +9,7 @@ ghost use Rattle.crash_model.specs.Rules.{rule_text};
 ghost use Rattle.crash_model.specs.Whole.{rules_json};
 ghost use Rattle.traced_patches.specs.Traced.{TracedPatches};
 ghost use Rattle.report_sections.specs.Bodies.{explanation_by};
-ghost use Rattle.report_json.specs.JsonReport.{module_key, strict_key, from_strict};
+ghost use Rattle.report_json.specs.JsonReport.{module_key, strict_key, whole_key, from_strict};
 
 use crate::patches::{write_base, write_trace};
 use crash_model::modules::Module;
@@ -37,8 +37,8 @@ pub fn write_explained_base<A: Allocator + Copy>(
     Ok(())
 }
 
-/// The keys from `strict` on: that the run is strict, the patches where an explanation is asked for, and the rules that
-/// are put in and taken out. It fails only when out of memory.
+/// The keys from `strict` on: that the run is strict, the patches where an explanation is asked for, that blocks are
+/// written whole, and the rules that are put in and taken out. It fails only when out of memory.
 ///
 /// They are the same over each base.
 pub fn write_from_strict<A: Allocator + Copy>(
@@ -51,6 +51,7 @@ pub fn write_from_strict<A: Allocator + Copy>(
 {
     write_strict_key(out, settings.strict)?;
     write_explained_trace(out, traced, settings.explain)?;
+    write_whole_key(out, settings.whole_blocks)?;
     write_rule_key(out, "with", settings.put_in().as_slice())?;
     write_rule_key(out, "without", settings.taken_out().as_slice())?;
     Ok(())
@@ -98,6 +99,16 @@ pub fn write_strict_key(out: &mut String, strict: bool) -> Result<(), AllocError
 {
     if strict {
         out.push_str(",\"strict\":true")?;
+    }
+    Ok(())
+}
+
+/// The key of a run where blocks are written whole, with a comma before it. It fails only when out of memory.
+pub fn write_whole_key(out: &mut String, whole: bool) -> Result<(), AllocError>
+    ensures { OnOk result (string_bytes out.new ≡ string_bytes out.old ++ whole_key whole) }
+{
+    if whole {
+        out.push_str(",\"whole_blocks\":true")?;
     }
     Ok(())
 }

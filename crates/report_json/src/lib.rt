@@ -8,6 +8,6 @@ pub mod report;
 
 pub use head::{
     write_explained_base, write_from_strict, write_module, write_module_key, write_rule_key,
-    write_rule_texts, write_strict_key,
+    write_rule_texts, write_strict_key, write_whole_key,
 };
 pub use report::report_json;

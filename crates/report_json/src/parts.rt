@@ -50,7 +50,7 @@ where
     Ok(())
 }
 
-/// The objects of each part of so many sets, with a comma between two, all side by side.
+/// The objects of each part of `size` sets, separated by commas, all parts side by side.
 fn part_texts<R, A>(
     rt: &R,
     heap: Global,

@@ -13,7 +13,7 @@ use json_values::write_item;
 use std::alloc::{AllocError, Allocator};
 use traced_patches::Traced;
 
-/// The key `base` with the bytes of each block, and a comma behind it.
+/// The key `base` with the bytes of each block, followed by a comma.
 pub(crate) fn write_base<A: Allocator + Copy>(
     out: &mut String,
     base: &Image<A>,

@@ -25,7 +25,7 @@ use std::thread::Threads;
 /// A report as JSON: one compact object, its keys in ascending order, and a line feed.
 ///
 /// The patches change blocks of the base, and a crash can leave each of the sets. JSON takes its memory from `heap`,
-/// and sections take theirs from `alloc`; a section's is free again before the next is made. Up to so many workers
+/// and sections take theirs from `alloc`; a section's is free again before the next is made. Up to `workers` workers
 /// write sections side by side. It fails only when out of memory.
 pub fn report_json<R, A>(
     rt: &R,
@@ -122,7 +122,7 @@ where
     Ok(())
 }
 
-/// The body's key behind `patches`.
+/// The body's key after `patches`.
 fn write_late<A: Allocator + Copy>(
     out: &mut String,
     report: &Report<'_, '_, '_, '_, A>,
@@ -145,7 +145,7 @@ fn write_late<A: Allocator + Copy>(
 }
 
 /// The objects of the sets, with a comma between two. What each is made of are values of their own, which are freed
-/// once they are written; the texts of block writes and faults serve the sets behind it.
+/// once they are written; the cached texts of block writes and faults serve later sets.
 pub(crate) fn write_sections<A: Allocator + Copy>(
     out: &mut String,
     alloc: A,

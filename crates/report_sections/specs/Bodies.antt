@@ -1,4 +1,4 @@
--- What a report's data tell.
+-- What a report's data say.
 use Rattle.std.specs.Prelude.{◌≡◌, ℕ, ◌<◌, List, [], length, map}
 use Rattle.std.specs.List.{All}
 use Rattle.patch_sets.specs.Closed.{IsClosed}
@@ -32,7 +32,7 @@ sets_of (Sets sets) = sets.now
 sets_of (Faults rows) = map (λ row. row.first) rows.now
 sets_of (Rules rules) = []
 
--- what a report can tell of: patches of the base, and sets that a crash can leave
+-- what a report can be about: patches of the base, and sets that a crash can leave
 pub record CanTell {A : Type 0} (report : Report A) : Type 0 where
   pub on_base : AreOnBase report.base.now report.traced.now.patches
   pub closed : AreClosed report.traced.now.patches (sets_of report.body)
@@ -48,7 +48,8 @@ TellsBody detail base patches (Faults rows) body =
 TellsBody detail base patches (Rules rules) body = body ≡ whole.Rules (map told_rule rules.now)
 
 abbrev pub explanation_by : Disk → TracedPatches → Explanation
-explanation_by base t = record { base = blocks_of base; patches = told_patches t.rules t.links t.emitted t.patches }
+explanation_by base t =
+    record { base = blocks_of base; patches = told_patches t.rules t.whole t.links t.emitted t.patches }
 
 -- the report with this body as the definition sees it
 abbrev pub whole_of : {A : Type 0} → Report A → whole.Body → whole.Report

@@ -1,4 +1,4 @@
--- What is told of replay.
+-- What is reported of replay.
 use Rattle.std.specs.Prelude.{List, map, Option, option_map, Vec}
 use Rattle.crash_model.specs.Report as report
 use Rattle.report_sections.specs.declared.replayed.ReplayedBlock.{ReplayedBlock}

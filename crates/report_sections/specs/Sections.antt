@@ -1,4 +1,4 @@
--- What a section tells.
+-- What a section says.
 use Rattle.std.specs.Prelude.{◌≡◌, ℕ, List}
 use Rattle.patch_sets.specs.Writes.{AreRuns}
 use Rattle.crash_model.specs.Disk.{Disk}

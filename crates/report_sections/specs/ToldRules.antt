@@ -1,4 +1,4 @@
--- What is told of a rule, as the report's definition sees it.
+-- The entry of a rule, as in the definition of the report.
 use Rattle.std.specs.Prelude.{option_map}
 use Rattle.crash_model.specs.Needs as needs
 use Rattle.report_sections.specs.Sections.{section_of}

@@ -1,4 +1,4 @@
-//! What a report tells of each failing set.
+//! The data of a report on each failing set.
 #![tactic(auto)]
 
 pub mod places;

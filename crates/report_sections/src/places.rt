@@ -1,13 +1,13 @@
-//! Where tables keep what was told last of block writes and of faults, so that what comes again is copied.
+//! Places in the tables that cache lines of block writes and faults, so that repeated ones are copied.
 
 ghost use Rattle.std.specs.Prelude.{◌<◌};
 
 use crash_model::fault::Fault;
 
-/// How many places a table has for what is told of faults.
+/// How many places a table has for lines of faults.
 pub const FAULT_PLACES: usize = 256;
 
-/// The place of the ids among so many: a multiplicative hash of each half, of which the highest bits depend on all
+/// The place of the ids among `places`: a multiplicative hash of each half, of which the highest bits depend on all
 /// others (Knuth, "The Art of Computer Programming", volume 3, section 6.4). Of 4,096 places it reaches all.
 pub fn place_of_ids(ids: u128, places: usize) -> usize
     requires { 0 < places }

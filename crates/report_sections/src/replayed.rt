@@ -1,4 +1,4 @@
-//! What is told of a block that replay changes.
+//! A block that replay changes.
 
 /// A block that replay changes, with its bytes after replay.
 #[derive(Clone, Copy, Drop)]

@@ -1,4 +1,4 @@
-//! What a report tells.
+//! The data of a report.
 
 ghost use Rattle.std.specs.Prelude.{◌≡◌};
 
@@ -9,7 +9,7 @@ use disk_image::Image;
 use std::alloc::{AllocError, Allocator};
 use traced_patches::Traced;
 
-/// What stands behind a report's head: the failing sets, each fault with its row, or what is told of each rule.
+/// The body of a report: the failing sets, each fault with its row, or the entry of each rule.
 pub enum Body<'a, A: Allocator> {
     Sets(&'a [u128]),
     Faults(&'a [FaultRow]),
@@ -30,7 +30,7 @@ impl<'a, A: Allocator> Copy for Body<'a, A> {}
 
 /// A report before it is written: the image that the traced steps began on, their patches, and what was found of them.
 ///
-/// `detail` is how much it tells of a set; `closed` and `failing` are the numbers of closed and of failing sets.
+/// `detail` is what it reports of a set; `closed` and `failing` are the numbers of closed and of failing sets.
 pub struct Report<'found, 'steps, 'asked, 'body, A: Allocator + Copy> {
     pub base: &'steps Image<A>,
     pub traced: &'found Traced<'steps, A>,

@@ -1,11 +1,11 @@
-//! What is told of a rule.
+//! The entry of a rule.
 
 use crate::section::Section;
 use crash_model::rules::Rule;
 use std::alloc::Allocator;
 
 /// How many pairs of patches a rule applies to, and what a crash can leave without it: too many closed sets, or so
-/// many, of which so many fail, with the first failing set that the rule prevents.
+/// many, how many of them fail, and the first failing set that the rule prevents.
 #[derive(Drop)]
 pub enum RuleUsage<A: Allocator> {
     Unused,

@@ -13,7 +13,7 @@ patch_line id e =
     ++ decimal e.place.offset
     ++ codes " length " ++ decimal (length e.place.new))
 
--- what stands before the item at a place of a list
+-- what comes before the item at a place of a list
 abbrev pub gap_before : ℕ → List ℕ
 gap_before zero = []
 gap_before (suc n) = codes ", "

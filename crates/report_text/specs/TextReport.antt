@@ -7,13 +7,13 @@ use Rattle.crash_model.specs.declared.fault.FaultRow.{FaultRow}
 use Rattle.crash_model.specs.declared.patches.Patch.{Patch}
 use Rattle.crash_model.specs.declared.settings.Detail.{Detail}
 
--- behind what stood there the text has the sections of these sets
+-- the text has the sections of these sets appended
 pub record WritesSections (detail : Detail) (base : Disk) (patches : List Patch) (sets old new : List ℕ) : Type 0 where
   pub sections : List Section
   pub are : AreSections detail base patches sets sections
   pub whole : new ≡ old ++ flat_map (section_text (length patches)) sections
 
--- behind what stood there the text has what is told of these rows
+-- the text has the entries of these rows appended
 pub record WritesFaults (detail : Detail) (base : Disk) (patches : List Patch) (rows : List FaultRow)
     (old new : List ℕ) : Type 0 where
   pub told : List ToldFault

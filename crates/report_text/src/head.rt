@@ -27,7 +27,7 @@ pub(crate) fn write_head<A: Allocator>(
 }
 
 /// The lines that say by which ordering a run goes, and by which checker: the module, each rule that is taken out or
-/// put in, and whether the run is strict. It fails only when out of memory.
+/// put in, whether blocks are written whole, and whether the run is strict. It fails only when out of memory.
 pub fn write_ordering<A: Allocator>(
     out: &mut String<A>,
     settings: &Settings,
@@ -36,13 +36,26 @@ pub fn write_ordering<A: Allocator>(
         ++ (line (codes "module " ++ module_text settings.now.module)
         ++ rule_lines (codes "without") (told_without settings.now)
         ++ rule_lines (codes "with") (told_with settings.now)
+        ++ (if settings.now.whole_blocks then line (codes "whole blocks") else [])
         ++ (if settings.now.strict then line (codes "strict") else []))) }
 {
     let name = settings.module.name();
     write!(out, "module {name}\n")?;
     write_rule_lines(out, "without", settings.taken_out().as_slice())?;
     write_rule_lines(out, "with", settings.put_in().as_slice())?;
+    write_whole_line(out, settings.whole_blocks)?;
     write_strict_line(out, settings.strict)
+}
+
+/// The line of a run where blocks are written whole.
+fn write_whole_line<A: Allocator>(out: &mut String<A>, whole: bool) -> Result<(), AllocError>
+    ensures { OnOk result (string_bytes out.new
+        ≡ string_bytes out.old ++ (if whole then line (codes "whole blocks") else [])) }
+{
+    if whole {
+        out.push_str("whole blocks\n")?;
+    }
+    Ok(())
 }
 
 /// The line of a strict run.
@@ -56,7 +69,7 @@ fn write_strict_line<A: Allocator>(out: &mut String<A>, strict: bool) -> Result<
     Ok(())
 }
 
-/// A line for each rule, behind the word.
+/// A line for each rule: the word and the rule.
 fn write_rule_lines<A: Allocator>(
     out: &mut String<A>,
     word: &str,

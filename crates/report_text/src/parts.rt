@@ -46,7 +46,7 @@ where
     Ok(())
 }
 
-/// The lines of each part of so many sets, all side by side.
+/// The lines of each part of `size` sets, all parts side by side.
 fn part_texts<R, A>(
     rt: &R,
     alloc: A,

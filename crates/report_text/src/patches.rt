@@ -41,7 +41,8 @@ fn write_patches<A: Allocator, B: Allocator + Copy>(
 ) -> Result<(), AllocError>
     ensures { OnOk result (string_bytes out.new
         ≡ string_bytes out.old ++ flat_map told_text
-        (told_patches traced.now.rules traced.now.links traced.now.emitted traced.now.patches)) }
+        (told_patches traced.now.rules traced.now.whole traced.now.links traced.now.emitted
+        traced.now.patches)) }
 {
     for id in 0..traced.len() {
         write_patch(out, traced, id)?;

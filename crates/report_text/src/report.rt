@@ -25,7 +25,7 @@ use std::thread::Threads;
 
 /// A report as text: the lines of the head, for each patch its lines where that is asked for, and the body's lines.
 ///
-/// The patches change blocks of the base, and a crash can leave each of the sets. Up to so many workers write sections
+/// The patches change blocks of the base, and a crash can leave each set. Up to `workers` workers write sections
 /// side by side. It fails only when out of memory.
 pub fn report_text<R, A>(
     rt: &R,
@@ -116,7 +116,7 @@ fn write_each<A: Allocator + Copy>(
     Ok(())
 }
 
-/// The lines of one set. What a crash comes to is told in `outcome`, whose memory serves one set after another.
+/// The lines of one set. Its data are written to `outcome`, whose memory is used for one set after another.
 fn write_one<A: Allocator + Copy>(
     out: &mut String<A>,
     lines: &mut LineCache<'_, A>,

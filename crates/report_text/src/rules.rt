@@ -1,4 +1,4 @@
-//! What is told of the rules of an ordering.
+//! The entries of the rules of an ordering.
 
 ghost use Rattle.std.specs.Prelude.{◌≡◌, ◌++◌, [], flat_map, option_map, string_bytes, OnOk};
 ghost use Rattle.crash_model.specs.Needs.{first_text, usage_text, told_rule_text};
@@ -9,7 +9,7 @@ use report_sections::{RuleUsage, Section, ToldRule};
 use section_lines::lines::write_section;
 use std::alloc::{AllocError, Allocator};
 
-/// What is told of each rule. The graph has `patches` patches.
+/// The entry of each rule. The graph has `patches` patches.
 pub(crate) fn write_rules<A: Allocator + Copy>(
     out: &mut String<A>,
     patches: usize,
@@ -39,7 +39,7 @@ fn write_rule<A: Allocator + Copy>(
     Ok(())
 }
 
-/// What stands behind a rule's name.
+/// The text after a rule's name.
 fn write_usage<A: Allocator + Copy>(
     out: &mut String<A>,
     patches: usize,

@@ -1,2 +1,3 @@
 pub mod Closed
 pub mod Tables
+pub mod Whole

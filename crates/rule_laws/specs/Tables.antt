@@ -41,7 +41,7 @@ row Soft later earlier = soft_row later earlier
 row Meta later earlier = journal_row later earlier
 row Full later earlier = journal_row later earlier
 
--- the operations with these numbers stand as a row of the table asks
+-- the operations with these numbers are placed as a row of the table requires
 abbrev pub are_in : Option Scope → ℕ → ℕ → Bool
 are_in None later earlier = false
 are_in (Some scope) later earlier = are_scoped scope later earlier

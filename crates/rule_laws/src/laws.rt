@@ -1,6 +1,6 @@
 //! What lists of rules order, as functions that do nothing and promise the law.
 
-ghost use Rattle.std.specs.Prelude.{◌≡◌, ℕ, List, [], Option};
+ghost use Rattle.std.specs.Prelude.{◌≡◌, ℕ, List, [], Bool, true, false, Option};
 ghost use Rattle.std.specs.List.{list_any};
 ghost use Rattle.patch_sets.specs.Closed.{IsClosed};
 ghost use Rattle.crash_model.specs.Disk.{Disk};
@@ -9,11 +9,13 @@ ghost use Rattle.crash_model.specs.Patches.{deps_of};
 ghost use Rattle.crash_model.specs.Rules.{rules_of, rules_under};
 ghost use Rattle.crash_model.specs.RuleFacts.{AreAmong};
 ghost use Rattle.crash_model.specs.Strict.{IsFailingUnder};
-ghost use Rattle.crash_model.specs.Trace.{Emitted, Tracing, IsGraphOf, applies};
+ghost use Rattle.crash_model.specs.Trace.{Emitted, Tracing, trace_from, IsGraphOf, applies};
 ghost use Rattle.crash_model.specs.declared.patches.Patch.{Patch};
 ghost use Rattle.crash_model.specs.declared.rules.Rule.{Rule};
 ghost use Rattle.crash_model.specs.declared.modules.Module.{Module};
+ghost use Rattle.crash_model.specs.declared.steps.Step.{Step};
 ghost use Rattle.rule_laws.specs.Tables.{row, are_in};
+ghost use Rattle.rule_laws.specs.Whole.{with_whole, written_whole};
 
 /// The rules of a module make a patch wait for an earlier one exactly where the module's table does.
 pub fn the_orderings_are_their_tables()
@@ -22,7 +24,7 @@ pub fn the_orderings_are_their_tables()
 {}
 
 /// More rules never add a crash state: of the same patches, what is closed, or fails, under all of the rules is so
-/// under some of them, whatever a checker is told of the inodes that the script keeps.
+/// under some of them, whatever inodes the script keeps.
 pub fn more_rules_never_add_a_crash_state()
     ensures closed { (some all : List Rule) (base : Disk) (s : Tracing) (few more : List Patch) (set : ℕ)
         → AreAmong some all
@@ -35,6 +37,27 @@ pub fn more_rules_never_add_a_crash_state()
         → (set : ℕ) → AreAmong some all
         → IsGraphOf some base s few → IsGraphOf all base s more → IsFailingUnder kept base more set
         → IsFailingUnder kept base few set }
+{}
+
+/// Whether blocks are written whole changes no step of a trace, and no refusal: the patches are the same.
+pub fn whole_blocks_change_no_patch()
+    ensures { (kind : Module) (s : Tracing) (steps : List Step) (whole : Bool)
+        → trace_from kind (with_whole whole s) steps ≡ written_whole whole (trace_from kind s steps) }
+{}
+
+/// Blocks that are written whole never add a crash state: of the same patches, what is closed, or fails, where blocks
+/// are written whole is so where they are not, whatever a checker is told of the inodes that the script keeps.
+pub fn whole_blocks_never_add_a_crash_state()
+    ensures closed { (rules : List Rule) (base : Disk) (s : Tracing) (few more : List Patch) (set : ℕ)
+        → IsGraphOf rules base (with_whole false s) few → IsGraphOf rules base (with_whole true s) more
+        → IsClosed (deps_of more) set → IsClosed (deps_of few) set }
+    ensures failing { (rules : List Rule) (base : Disk) (s : Tracing) (few more : List Patch) (set : ℕ)
+        → IsGraphOf rules base (with_whole false s) few → IsGraphOf rules base (with_whole true s) more
+        → IsFailing base more set → IsFailing base few set }
+    ensures strict { (kept : Option ℕ) (rules : List Rule) (base : Disk) (s : Tracing) (few more : List Patch)
+        → (set : ℕ)
+        → IsGraphOf rules base (with_whole false s) few → IsGraphOf rules base (with_whole true s) more
+        → IsFailingUnder kept base more set → IsFailingUnder kept base few set }
 {}
 
 /// Where no rule is taken out, each rule of the module is in the ordering, whatever is put in; and where none is put

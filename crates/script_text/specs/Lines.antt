@@ -1,7 +1,7 @@
 -- The first line of bytes, and all of them.
 use Rattle.std.specs.Prelude.{◌≡◌, ℕ, ◌⊎◌, List, [], ◌∷◌, ◌++◌, Contains, if◌then◌else◌, ◌==◌}
 
--- the bytes up to the first line feed, and those behind it
+-- the bytes up to the first line feed, and those after it
 pub record IsFirstLine (bytes line rest : List ℕ) : Type 0 where
   pub plain : ¬ (Contains line 10)
   pub whole : (bytes ≡ line ++ (10 ∷ rest)) ⊎ ((bytes ≡ line) × (rest ≡ []))
@@ -11,7 +11,7 @@ abbrev pub before_lines : ℕ → List (List ℕ) → List (List ℕ)
 before_lines c [] = (c ∷ []) ∷ []
 before_lines c (line ∷ lines) = (c ∷ line) ∷ lines
 
--- the lines of the bytes; nothing behind the last line feed is no line
+-- the lines of the bytes; nothing after the last line feed is not a line
 abbrev pub lines_of : List ℕ → List (List ℕ)
 lines_of [] = []
 lines_of (c ∷ cs) = if c == 10 then [] ∷ lines_of cs else before_lines c (lines_of cs)

@@ -8,7 +8,7 @@ use Rattle.script_text.specs.Lines.{lines_of}
 use Rattle.script_text.specs.Words.{IsLineFault, line_fault}
 use denote.Ref.{Bor}
 
--- lines from number `first` on that say these steps, up to a start line with number n and bytes behind it, or up to the
+-- lines from number `first` on that say these steps, up to a start line with number n and bytes after it, or up to the
 -- end
 pub record IsPart (bytes : List ℕ) (first : ℕ) (steps : List Step) (n : ℕ)
     (behind : Option (Bor (List ℕ))) : Type 0 where

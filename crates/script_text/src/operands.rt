@@ -1,4 +1,4 @@
-//! Operands: the words of a line behind the first.
+//! Operands: the words of a line after the first.
 
 ghost use Rattle.std.specs.Prelude.{◌≡◌, [], ◌∷◌, map, MatchResult};
 ghost use Rattle.crash_model.specs.Names.{IsGroupName};

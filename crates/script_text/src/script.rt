@@ -10,7 +10,7 @@ use crash_model::refusals::ScriptFault;
 use crash_model::steps::Step;
 use std::alloc::Allocator;
 
-/// The steps of a script: those that build the base, and those behind the start line, which are traced.
+/// The steps of a script: those that build the base, and those after the start line, which are traced.
 #[derive(Drop)]
 pub struct Script<A: Allocator> {
     pub base: Vec<Step, A>,
@@ -20,7 +20,7 @@ pub struct Script<A: Allocator> {
 /// The script that the bytes spell.
 ///
 /// It is refused at its first refused line: one that is not UTF-8, one that has none of the forms or is a second
-/// start line, or one with a word that is no path where a path stands, tried in this order; then where no line is
+/// start line, or one with a word that is not a path in the place of a path, in this order; then if no line is
 /// the start line. Each byte is read a few times, whatever the script.
 pub fn read_script<A: Allocator + Copy>(alloc: A, bytes: &[u8]) -> Result<Script<A>, ScriptFault>
     ensures ok { IfOk result (λ script. IsScript bytes.now script.base.items script.traced.items) }
@@ -42,7 +42,7 @@ pub fn read_script<A: Allocator + Copy>(alloc: A, bytes: &[u8]) -> Result<Script
 
 /// The steps of lines up to a start line, or up to the end.
 ///
-/// `line` is the number of the start line, and `behind` the bytes behind it; where there is none, `line` is one
+/// `line` is the number of the start line, and `behind` the bytes after it; if there is none, `line` is one
 /// more than the number of the last line.
 #[derive(Drop)]
 struct Part<'a, A: Allocator> {

@@ -24,7 +24,7 @@ use Rattle.search_model.specs.declared.found.Found.{Found}
 use Rattle.search_model.specs.declared.found.RefusedCount.{RefusedCount}
 use Rattle.search_model.specs.declared.found.ShownKind.{ShownKind}
 
--- what is told of a kind of fault: what was found; of the first workload that shows it the steps, how many patches it
+-- a kind of fault in the report: what was found; of the first workload that shows it the steps, how many patches it
 -- has, and the section of the first set that has such a fault
 pub record ToldKind : Type 0 where
   pub shown : ShownKind
@@ -100,6 +100,7 @@ json_search settings most pool found kinds =
     ++ codes ",\"refused\":" ++ json_array (map refused_json found.refused.items)
     ++ codes ",\"search\":" ++ decimal most
     ++ (if settings.strict then codes ",\"strict\":true" else [])
+    ++ (if settings.whole_blocks then codes ",\"whole_blocks\":true" else [])
     ++ rules_json (codes "with") (told_with settings)
     ++ rules_json (codes "without") (told_without settings)
     ++ codes ",\"workloads\":" ++ decimal found.workloads
@@ -117,6 +118,7 @@ abbrev pub search_of : Settings → ℕ → Disk → List Step → Search
 search_of settings most base pool = record {
   ordering = settings.module;
   rules = ordering_rules settings;
+  whole = settings.whole_blocks;
   strict = settings.strict;
   base = base;
   pool = pool;

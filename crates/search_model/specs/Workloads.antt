@@ -24,6 +24,8 @@ use Rattle.search_model.specs.declared.refusal.Refusal.{Refusal}
 pub record Search : Type 0 where
   pub ordering : Module
   pub rules : List Rule
+  -- whether blocks are written whole
+  pub whole : Bool
   pub strict : Bool
   pub base : Disk
   pub pool : List Step
@@ -39,9 +41,9 @@ steps_at pool places = flat_map (λ place. option_to_list (slice_get pool place)
 
 -- the trace of a sequence over the base
 abbrev pub trace_at : Search → List ℕ → Result Tracing TraceFault
-trace_at s places = trace_from s.ordering (trace_start s.base) (steps_at s.pool places)
+trace_at s places = trace_from s.ordering (trace_start s.whole s.base) (steps_at s.pool places)
 
--- the patches of a sequence, and what the checker is told of the inodes that it keeps
+-- the patches of a sequence, and the kept inodes that a strict checker gets
 pub record HasPatches (s : Search) (places : List ℕ) (kept : Option ℕ) (patches : List Patch) : Type 0 where
   pub last : Tracing
   pub traced : trace_at s places ≡ Ok last

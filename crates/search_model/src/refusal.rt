@@ -68,7 +68,7 @@ impl Refusal {
         }
     }
 
-    /// Its text, as it stands behind the number of a refused script.
+    /// Its text, which follows the number where a script is refused.
     pub fn text(self) -> &'static str
         ensures { result.now ≡ refusal_text self }
     {

@@ -5,7 +5,7 @@ use Rattle.crash_model.specs.Lists.{join_of}
 use Rattle.crash_model.specs.Report.{fault_text, ids_json, json_string, module_text, replay_json, write_json}
 use Rattle.crash_model.specs.Whole.{rules_json, told_with, told_without}
 use Rattle.crash_model.specs.declared.steps.Step.{Step}
-use Rattle.report_json.specs.JsonReport.{strict_key}
+use Rattle.report_json.specs.JsonReport.{strict_key, whole_key}
 use Rattle.report_sections.specs.Replay.{told_replay}
 use Rattle.search_model.specs.Kinds.{kind_number, kind_name}
 use Rattle.search_model.specs.Refused.{refusal_number, refusal_text}
@@ -133,12 +133,13 @@ json_pieces {A = A} f empty one two three four five six seven eight last none fi
     ∙ regroup (codes "{\"failing\":") (decimal found.failing) (codes ",\"kinds\":") (codes "[") kinds (codes "]")
     (codes ",\"module\":") (json_string (module_text settings.module)) (codes ",\"pool\":") (decimal pool)
     (codes ",\"refused\":") refused (codes ",\"search\":") (decimal f.most) (strict_key settings.strict)
+    (whole_key settings.whole_blocks)
     (rules_json (codes "with") (told_with settings)) (rules_json (codes "without") (told_without settings))
     (codes ",\"workloads\":") (decimal found.workloads) (codes "}\n"))
   where
-    regroup : (a b c o k p d m e n f r g s x y z h w i : List ℕ)
+    regroup : (a b c o k p d m e n f r g s x v y z h w i : List ℕ)
         → (a ++ (b ++ (c ++ o))) ++ k ++ p ++ (d ++ m) ++ (e ++ (n ++ (f ++ o))) ++ r ++ ((p ++ g) ++ s)
-        ++ (x ++ y ++ z) ++ (h ++ (w ++ i))
-        ≡ a ++ b ++ c ++ (o ++ k ++ p) ++ d ++ m ++ e ++ n ++ f ++ (o ++ r ++ p) ++ g ++ s ++ x ++ y ++ z ++ h ++ w
+        ++ (x ++ v ++ y ++ z) ++ (h ++ (w ++ i))
+        ≡ a ++ b ++ c ++ (o ++ k ++ p) ++ d ++ m ++ e ++ n ++ f ++ (o ++ r ++ p) ++ g ++ s ++ x ++ v ++ y ++ z ++ h ++ w
         ++ i
-    regroup a b c o k p d m e n f r g s x y z h w i = simp append_assoc
+    regroup a b c o k p d m e n f r g s x v y z h w i = simp append_assoc

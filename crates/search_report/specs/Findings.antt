@@ -6,7 +6,7 @@ use Rattle.crash_model.specs.Whole.{told_with, told_without, rules_json}
 use Rattle.crash_model.specs.declared.settings.Settings.{Settings}
 use Rattle.crash_model.specs.declared.steps.Act.{Act}
 use Rattle.crash_model.specs.declared.steps.Step.{Step}
-use Rattle.report_json.specs.JsonReport.{strict_key}
+use Rattle.report_json.specs.JsonReport.{strict_key, whole_key}
 use Rattle.report_sections.specs.Replay.{told_replay}
 use Rattle.report_sections.specs.Sections.{section_of}
 use Rattle.search_model.specs.Kinds.{kind_number, kind_name}
@@ -47,9 +47,10 @@ kind_head k =
     ++ codes ",\"name\":" ++ json_string (kind_name k.shown.now.kind) ++ codes ","
     ++ replay_json (told_replay k.section.replay)
 
--- the keys that say that the run is strict, and which rules are put in and taken out
+-- the keys that say that the run is strict, that blocks are written whole, and which rules are put in and taken out
 abbrev pub ordering_keys : Settings → List ℕ
 ordering_keys settings =
     strict_key settings.strict
+    ++ whole_key settings.whole_blocks
     ++ rules_json (codes "with") (told_with settings)
     ++ rules_json (codes "without") (told_without settings)

@@ -15,7 +15,7 @@ use crash_model::operations::Op;
 use crash_model::settings::Settings;
 use crash_model::steps::Step;
 use json_values::{KnownTexts, push_replay, push_set, write_comma};
-use report_json::{write_module_key, write_rule_key, write_strict_key};
+use report_json::{write_module_key, write_rule_key, write_strict_key, write_whole_key};
 use search_model::RefusedCount;
 use std::alloc::{AllocError, Allocator, Global};
 
@@ -60,12 +60,13 @@ fn write_findings<A: Allocator>(
     Ok(())
 }
 
-/// The keys that say that the run is strict, and which rules are put in and taken out.
+/// The keys that say that the run is strict, that blocks are written whole, and which rules are put in and taken out.
 fn write_ordering_keys(out: &mut String, settings: &Settings) -> Result<(), AllocError>
     ensures { OnOk result (string_bytes out.new ≡ string_bytes out.old
         ++ ordering_keys settings.now) }
 {
     write_strict_key(out, settings.strict)?;
+    write_whole_key(out, settings.whole_blocks)?;
     write_rule_key(out, "with", settings.put_in().as_slice())?;
     write_rule_key(out, "without", settings.taken_out().as_slice())?;
     Ok(())

@@ -6,7 +6,7 @@ use Rattle.crash_model.specs.Patches.{homes_of}
 use Rattle.crash_model.specs.Report.{write_text}
 use Rattle.crash_model.specs.declared.patches.Patch.{Patch}
 
--- behind what stood there the text has the lines of block writes that lead to a set
+-- the text has the lines of block writes that lead to a set appended
 pub record WritesRuns (patches : List Patch) (set : ℕ) (old new : List ℕ) : Type 0 where
   pub writes : List BlockWrite
   pub runs : AreRuns (homes_of patches) set writes

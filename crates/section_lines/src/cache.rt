@@ -15,7 +15,7 @@ use std::marker::Model;
 
 /// The lines of block writes and of faults that were written last, so that those that come again are copied.
 ///
-/// Contracts see the patches of which the block writes tell.
+/// Contracts see the patches of the block writes.
 #[derive(Drop)]
 pub struct LineCache<'a, A: Allocator + Copy> {
     graph: &'a Graph<A>,

@@ -32,7 +32,7 @@ pub fn write_section<A: Allocator + Copy, B: Allocator>(
 }
 
 /// The lines of a crash: its set, a line for each block write that leads to it, and one for each block that replay
-/// changes, where that is told. It fails only when out of memory.
+/// changes, if that is reported. It fails only when out of memory.
 pub fn write_crash<A: Allocator + Copy, B: Allocator>(
     out: &mut String<A>,
     patches: usize,
@@ -62,7 +62,7 @@ pub fn write_set<A: Allocator + Copy>(
     Ok(())
 }
 
-/// A line for each block that replay changes, where that is told. It fails only when out of memory.
+/// A line for each block that replay changes, if that is reported. It fails only when out of memory.
 pub fn write_replay<A: Allocator + Copy, B: Allocator>(
     out: &mut String<A>,
     replay: &Option<Vec<ReplayedBlock, B>>,
@@ -145,7 +145,7 @@ fn write_write<A: Allocator>(
     Ok(())
 }
 
-/// The ids of the set, ascending, each behind a space. A run of consecutive ids is written at once.
+/// The ids of the set, ascending, each after a space. A run of consecutive ids is written at once.
 fn write_ids<A: Allocator>(out: &mut String<A>, patches: usize, set: u128) -> Result<(), AllocError>
     ensures { OnOk result (string_bytes out.new ≡ string_bytes out.old ++ numbers (ids_of patches set)) }
 {
@@ -157,7 +157,7 @@ fn write_ids<A: Allocator>(out: &mut String<A>, patches: usize, set: u128) -> Re
     Ok(())
 }
 
-/// The number of a block, behind a space.
+/// The number of a block, after a space.
 fn write_block<A: Allocator>(out: &mut String<A>, block: u8) -> Result<(), AllocError>
     ensures { OnOk result (string_bytes out.new ≡ string_bytes out.old ++ (codes " " ++ decimal block)) }
 {

@@ -3,7 +3,7 @@
 ghost use Rattle.std.specs.Prelude.{◌≡◌, ◌≤◌};
 ghost use Rattle.section_lines.specs.Numbers.{number_start, numbers_text};
 
-/// The numbers of a byte, each behind a space, so that the text of consecutive numbers is a part of this one.
+/// The numbers of a byte, each after a space, so that the text of consecutive numbers is a part of this one.
 const NUMBERS: &str = " \
 0 1 2 3 4 5 6 7 8 9 10 11 12 13 14 15 16 17 18 19 20 21 22 23 24 25 26 27 28 29 30 31 32 33 34 35 36 \
 37 38 39 40 41 42 43 44 45 46 47 48 49 50 51 52 53 54 55 56 57 58 59 60 61 62 63 64 65 66 67 68 69 \
@@ -16,7 +16,7 @@ const NUMBERS: &str = " \
 227 228 229 230 231 232 233 234 235 236 237 238 239 240 241 242 243 244 245 246 247 248 249 250 251 \
 252 253 254 255";
 
-/// The text of the numbers from `from` on below `end`, each behind a space.
+/// The text of the numbers from `from` on below `end`, each after a space.
 pub(crate) fn numbers_between(from: usize, end: usize) -> &'static str
     requires order { from ≤ end }
     requires below { end ≤ 256 }

@@ -4,7 +4,7 @@ use Rattle.crash_model.specs.Disk.{Disk}
 use Rattle.crash_model.specs.declared.patches.Patch.{Patch}
 use Rattle.crash_model.specs.declared.settings.Detail.{Detail}
 
--- a base and the patches of a graph over it, and how much is told of a set
+-- a base and the patches of a graph over it, and what is reported of a set
 pub record Reported : Type 0 where
   pub base : Disk
   pub patches : List Patch

@@ -18,7 +18,7 @@ use std::marker::Model;
 /// What the sections of a report are made in: the images of one set before and after replay, which move from set to
 /// set.
 ///
-/// Contracts see the base and the patches, and how much is told of a set.
+/// Contracts see the base and the patches, and what is reported of a set.
 #[derive(Drop)]
 pub struct SectionMaker<'a, A: Allocator + Copy> {
     alloc: A,
@@ -62,7 +62,7 @@ impl<'a, A: Allocator + Copy> SectionMaker<'a, A> {
         })
     }
 
-    /// What is told of a set that a crash can leave. It fails only when out of memory.
+    /// The section of a set that a crash can leave. It fails only when out of memory.
     pub fn section(&mut self, set: u128) -> Result<Section<A>, AllocError>
         requires closed { IsClosed (deps_of self.old.patches) set }
         ensures told { IfOk result (IsSection self.old.detail self.old.base self.old.patches set) }
@@ -80,7 +80,7 @@ impl<'a, A: Allocator + Copy> SectionMaker<'a, A> {
         })
     }
 
-    /// Tells what a crash that leaves a set comes to, in place of what was told, and in its memory where that is
+    /// Writes the section of a set to `outcome`, replacing what was there and using its memory if that is
     /// enough. It fails only when out of memory.
     pub fn tell(&mut self, set: u128, outcome: &mut Outcome<A>) -> Result<(), AllocError>
         requires closed { IsClosed (deps_of self.old.patches) set }

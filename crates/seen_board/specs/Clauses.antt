@@ -86,6 +86,6 @@ HasPlace rows place = (place.shard < SHARDS) × (place.at < length (row_of rows 
 abbrev pub word_at : List (List ℕ) → Place → ℕ
 word_at rows place = slice_index (row_of rows place.shard) place.at
 
--- the word stands at the place, in the shard of its number
+-- the word is at the place, in the shard of its number
 abbrev pub Names : List (List ℕ) → Place → ℕ → Type 0
 Names rows place word = HasPlace rows place × (word_at rows place ≡ word) × (place.shard ≡ word % SHARDS)

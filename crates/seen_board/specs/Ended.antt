@@ -71,9 +71,9 @@ pub record IsDone (next : ℕ → List ℕ) (origin : ℕ) (e : Ended) : Type 0 
   pub every : (x : ℕ) → IsReached next origin x → Has e.rows x
   pub list : IsListOf (IsReached next origin) (concat e.rows)
 
--- what one seat with the whole board was told is all that happened
+-- what one seat with the whole board knows is all that happened
 pub record Accounts (origin : ℕ) (s : Known) (e : Ended) : Type 0 where
-  -- the places that it was told New of and the start's are, each once, the places of the entries
+  -- the places of its answers New and the start's are, each once, the places of the entries
   pub places : (p : ℕ) → times_among p s.added + cond (p == start_place origin) 1 0 ≡ is_published e.rows p
   pub entries : total length e.rows ≡ length s.added + 1
   pub count : e.count ≡ length s.added + 1

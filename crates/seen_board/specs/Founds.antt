@@ -1,4 +1,4 @@
--- What the index words of a word tell under a right.
+-- What the index words of a word say under a right.
 use Rattle.std.specs.Prelude.{◌≡◌, ℕ, ◌<◌, List, length, slice_index}
 use Rattle.seen_board.specs.Clauses.{Lacks}
 use Rattle.seen_board.specs.declared.answers.Found.{Found}

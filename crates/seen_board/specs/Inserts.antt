@@ -13,7 +13,7 @@ use Rattle.seen_board.specs.declared.answers.Put.TheVariants.{New, Known as Foun
 use Rattle.seen_board.specs.declared.answers.Looked.{Looked}
 use Rattle.seen_board.specs.declared.answers.Looked.TheVariants.{Taken, At, Absent}
 
--- the word that stands at the place with this one number
+-- the word at the place with this one number
 abbrev pub word_of_place : List (List ℕ) → ℕ → ℕ
 word_of_place seen p = slice_index (row_of seen (p % SHARDS)) (p / SHARDS)
 
@@ -55,7 +55,7 @@ AddOk word v w Busy = ⊥
 AddOk word v w Over =
     (w ≡ record (with_given_up v) { seen = w.seen; right = 0; added = w.added; over = 1 }) × SeesOn v.seen w.seen
 
--- what a look under the read right tells of the row
+-- what a look under the read right says of the row
 abbrev pub LookedOk : List ℕ → ℕ → Looked → Type 0
 LookedOk row word Taken = Unit {0}
 LookedOk row word (At k) = (k < length row) × (slice_index row k ≡ word)

@@ -27,7 +27,7 @@ pub enum Put {
     Over,
 }
 
-/// What the index words of a word tell under a right.
+/// What the index words of a word say under a right.
 #[derive(Clone, Copy, Debug, PartialEq, Eq, Drop)]
 pub(crate) enum Found {
     At(u16),
@@ -36,7 +36,7 @@ pub(crate) enum Found {
     Full,
 }
 
-/// What a look under the read right told.
+/// The result of a look under the read right.
 #[derive(Clone, Copy, Debug, PartialEq, Eq, Drop)]
 pub(crate) enum Looked {
     /// The right was not had.

@@ -68,7 +68,7 @@ impl<S: Space, A: Allocator + Copy> Board<S, A> {
         Board::open_with_rows(alloc, space, limit, limit)
     }
 
-    /// A board as of `open`, whose rows have so many places. It takes 416 bytes for each of them.
+    /// A board like that of `open`, with `places` places in each row. It takes 416 bytes for each of them.
     pub fn open_with_rows(
         alloc: A,
         space: &S,

@@ -1,4 +1,4 @@
-//! Reading that all is finished, and telling the others to stop.
+//! Reading that all is finished, and making the others stop.
 ghost use Rattle.std.specs.Prelude.{◌≡◌, true, false};
 ghost use Rattle.seen_board.specs.Clauses.{IsOf, with_given_up};
 

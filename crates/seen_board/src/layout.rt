@@ -17,8 +17,8 @@ pub(crate) const COUNT: usize = 1;
 /// Whether the workers are to stop.
 pub(crate) const STOP: usize = 2;
 
-/// How many words apart the locks and the lengths stand: a line of a cache, so that who takes one leaves the others
-/// where they are.
+/// How many words apart the locks and the lengths are: a cache line, so that taking one does not take the line of
+/// another.
 const APART: usize = 8;
 
 const LOCKS: usize = APART;
@@ -37,7 +37,7 @@ pub fn shard_of(word: u128) -> u8
     ((3 * high + low) % SHARDS as u64) as u8
 }
 
-/// The table of a board whose rows have so many places. Behind the counters, the locks and the lengths come four
+/// The table of a board whose rows have `places` places. After the counters, the locks and the lengths come four
 /// blocks with a word for each place: low halves, high halves, lives, and the index. In a block the shards take turns.
 #[derive(Clone, Copy, Debug, Drop)]
 pub(crate) struct Layout {
@@ -116,7 +116,7 @@ impl Layout {
         ensures word { result.word ≡ word }
         ensures probe { IsProbe self.now.places result }
     {
-        // One long division tells both: of what it leaves, the shard is the last digit to base 13, and the index word
+        // One long division gives both: of its remainder, the shard is the last digit to base 13, and the index word
         // the rest.
         let places = SHARDS * self.places;
         let left = match u64::try_from(word) {

@@ -24,7 +24,7 @@ impl<S: Space, A: Allocator> Board<S, A> {
         self.layout.probe(word)
     }
 
-    /// What the index tells of a word, under a right of its shard and with nothing to file.
+    /// What the index says of a word, under a right of its shard and with nothing to file.
     fn search(&self, seat: &mut Seat<(), View>, probe: Probe) -> Found
         requires seat { SitsAt self.now seat.old }
         requires probe { IsProbe self.now.places probe }

@@ -74,7 +74,7 @@ impl<S: Space, A: Allocator> Board<S, A> {
     }
 
     /// Ends the board: the final rows, lives and counters, as the last state of the words has them. A seat that has
-    /// the whole board, after all others were joined, was told of all that happened.
+    /// the whole board, after all others were joined, knows all that happened.
     pub fn close(self, seat: BoardSeat) -> Contents<A>
         requires { IsOf self seat }
         ensures seen { SeesOn seat.seen result.rows }

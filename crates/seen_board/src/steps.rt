@@ -13,7 +13,7 @@ use state_space::Space;
 use std::marker::{Brand, PhantomData};
 use std::snapshot::Snapshot;
 
-/// What a board's table is told when it is made.
+/// What is known of a board's table when it is made.
 #[derive(Drop)]
 pub struct About<S> {
     pub space: Snapshot<S>,
@@ -38,7 +38,7 @@ impl<S: Space> TableRule<(), View, About<S>> for Order<S> {
     ghost first = { λ about. first_view about.limit about.places (S.initial about.space.value) };
 }
 
-/// What is said of each entry: a load of one is told it by its type, since it cannot read the table's space.
+/// What holds of each entry. A load of one gets it from its type, since it cannot read the table's space.
 pub trait EntryFact {
     ghost holds_of: { ℕ → Type 0 };
 }

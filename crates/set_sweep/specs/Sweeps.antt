@@ -16,7 +16,7 @@ pub record IsAscendingListOf (P : ℕ → Type 0) (words : List ℕ) : Type 0 wh
   pub each : All P words
   pub every : (word : ℕ) → P word → Contains words word
 
--- a tally tells of all closed sets of a graph in ascending order, of which there are so many
+-- a tally is that of all closed sets of a graph, in ascending order, and of their number
 pub record IsSweep {T : Type 0} (tells : List ℕ → T → Type 0) (deps : List ℕ) (total : ℕ) (tally : T) : Type 0 where
   pub sets : List ℕ
   pub closed : IsAscendingListOf (IsClosed deps) sets
@@ -31,7 +31,7 @@ EachClosed deps P = (set : ℕ) → IsClosed deps set → P set
 abbrev pub SaysTooMany : {A : Type 0} → List ℕ → ℕ → Result A ExploreFault → Type 0
 SaysTooMany deps limit answer = IsErrOf answer TooMany → Outnumbers (IsClosed deps) limit
 
--- the picked sets are those of the others of which P holds, and stand in ascending order where the others do
+-- the picked sets are those of the others of which P holds, and are in ascending order if the others are
 pub record IsPickOf (P : ℕ → Type 0) (sets picked : List ℕ) : Type 0 where
   pub exactly : (set : ℕ) → (Contains picked set ↔ (Contains sets set × P set))
   pub ascend : AllPairs (λ a b. a < b) sets → AllPairs (λ a b. a < b) picked
@@ -73,7 +73,7 @@ pub record IsClosedIn (deps : List ℕ) (from to set : ℕ) : Type 0 where
   pub above : from ≤ set
   pub below : set < to
 
--- a tally tells of those closed sets in ascending order, of which there are so many
+-- a tally is that of those closed sets, in ascending order, and of their number
 pub record AreSwept {T : Type 0} (tells : List ℕ → T → Type 0) (deps : List ℕ) (from to count : ℕ)
     (tally : T) : Type 0 where
   pub ascends : from ≤ to
@@ -82,7 +82,7 @@ pub record AreSwept {T : Type 0} (tells : List ℕ → T → Type 0) (deps : Lis
   pub counted : length sets ≡ count
   pub told : tells sets tally
 
--- there are so many of those closed sets
+-- the number of those closed sets
 abbrev pub AreCounted : List ℕ → ℕ → ℕ → ℕ → Type 0
 AreCounted deps from to count = AreSwept {T = Unit {0}} (λ sets tally. Unit {0}) deps from to count (tt {0})
 
@@ -98,7 +98,7 @@ pub record AreParts (deps : List ℕ) (low to : ℕ) (roots : List ℕ) : Type 0
 abbrev pub AreAllParts : List ℕ → ℕ → List ℕ → Type 0
 AreAllParts deps low roots = AreParts deps low (2 ^ length deps) roots
 
--- a tally tells of the closed sets of the part with a root, of which there are so many
+-- a tally is that of the closed sets of the part with a root, and of their number
 abbrev pub IsPartSwept : {T : Type 0} → (List ℕ → T → Type 0) → List ℕ → ℕ → ℕ → ℕ → T → Type 0
 IsPartSwept tells deps low root count tally = AreSwept tells deps root (part_end root low) count tally
 

@@ -135,7 +135,7 @@ where
     }
 }
 
-/// Whether the closed sets of so many ids may be more than the limit. They are no more than all sets of the ids.
+/// Whether the closed sets of `ids` ids may be more than the limit. They are no more than all sets of the ids.
 fn may_outnumber(ids: usize, limit: usize) -> bool
     ensures { result ≡ false → 2 ^ ids ≤ limit }
 {

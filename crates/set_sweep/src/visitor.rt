@@ -31,7 +31,7 @@ pub trait Visitor {
     fn none(&self) -> Self::Tally
         ensures { tells self.now [] result };
 
-    /// Visits one set more. It fails only when out of memory; what the tally tells is then unknown.
+    /// Visits one more set. It fails only when out of memory; the tally is then unspecified.
     fn visit(
         &self,
         scratch: &mut Self::Scratch,

@@ -4,9 +4,9 @@ ghost use Rattle.std.specs.Prelude.{◌≡◌};
 use crate::visitor::Visitor;
 use std::alloc::AllocError;
 
-/// Is told how far a sweep is. No answer rests on it.
+/// Gets the progress of a sweep. No answer depends on it.
 pub trait Watch {
-    /// A worker has visited so many sets more, of which so many are kept. Neither is any while sets are counted alone.
+    /// Reports progress: `sets` more visited, `kept` of them failing. Both are 0 during the counting pass.
     fn visited(&self, sets: usize, kept: usize);
 }
 
@@ -17,20 +17,20 @@ impl Watch for Unwatched {
     fn visited(&self, _sets: usize, _kept: usize) {}
 }
 
-/// How many sets a worker visits before it tells of them.
+/// How many sets a worker visits between two progress reports.
 const TOLD_AT_ONCE: usize = 1024;
 
-/// How many sets a worker counts before it tells that it goes on, in a fraction of the time.
+/// How many sets a worker counts between two progress reports; counting is faster than visiting.
 const COUNTED_AT_ONCE: usize = 65_536;
 
-/// Visits as another visitor does, and tells a watch of it.
+/// Visits like another visitor, and reports progress to a watch.
 #[derive(Drop)]
 pub(crate) struct Watched<'a, V: Visitor, W: Watch> {
     pub visitor: &'a V,
     pub watch: &'a W,
 }
 
-/// What a worker visits in, and the sets that it has not told of yet.
+/// The state of a worker's visits, and the sets not yet reported.
 #[derive(Drop)]
 pub(crate) struct Untold<C> {
     scratch: C,
@@ -98,7 +98,7 @@ impl<'a, V: Visitor, W: Watch> Visitor for Watched<'a, V, W> {
     }
 }
 
-/// Visits nothing, for a sweep that counts alone; a watch is told that it goes on.
+/// Visits nothing, for the counting pass; only progress is reported.
 #[derive(Drop)]
 pub(crate) struct Counting<'a, W: Watch> {
     pub watch: &'a W,

@@ -3,7 +3,7 @@ ghost use Rattle.std.specs.Prelude.{◌≤◌};
 
 use std::alloc::Allocator;
 
-/// Workers that sweep side by side, 1 to 16, on threads by `rt`. The watch is told how far they are.
+/// Workers that sweep side by side, 1 to 16, on threads by `rt`. The watch gets their progress.
 #[derive(Drop)]
 pub struct Workers<'a, R, A: Allocator + Copy, W> {
     pub rt: &'a R,

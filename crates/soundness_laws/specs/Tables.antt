@@ -130,7 +130,7 @@ tables_after_write t i s b = with_pointer (with_mark (with_used t b true) b (Fil
 abbrev pub tables_after_link : Tables → ℕ → ℕ → ℕ → List ℕ → Tables
 tables_after_link t dir k i name = with_entry (with_links t i (t.links i + 1)) dir k (Leads i (name_spelling name))
 
--- a file has one name less, and so many links
+-- a file has one name less, and this many links
 abbrev pub tables_after_unlink : Tables → ℕ → ℕ → ℕ → ℕ → Tables
 tables_after_unlink t dir k i links = with_links (with_entry t dir k Free) i links
 

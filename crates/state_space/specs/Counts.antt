@@ -2,7 +2,7 @@
 use Rattle.std.specs.Prelude.{◌≡◌, ◌≢◌, ℕ, ◌<◌, List, length}
 use Rattle.std.specs.List.{All, AllPairs, Contains}
 
--- no word stands twice in the list, and P holds of each
+-- no word is in the list twice, and P holds of each
 pub record IsSome (P : ℕ → Type 0) (words : List ℕ) : Type 0 where
   pub distinct : AllPairs (λ x y. x ≢ y) words
   pub each : All P words

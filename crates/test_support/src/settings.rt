@@ -21,6 +21,7 @@ pub fn plain_settings(module: Module) -> Settings
         explorer: Explorer::Auto,
         json: false,
         explain: false,
+        whole_blocks: false,
         strict: false,
         by: ReportBy::BySet,
     }

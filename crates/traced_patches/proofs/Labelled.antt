@@ -27,6 +27,19 @@ emitted_read (x ∷ patches) (l ∷ labels) zero label patch e at_label at_patch
 emitted_read (x ∷ patches) (l ∷ labels) (suc id) label patch e at_label at_patch at =
     emitted_read patches labels id label patch e at_label at_patch at
 
+-- an emitted patch stands where the patch of its id does
+pub emitted_placed : (patches : List Patch) (labels : List Label) (id : ℕ) (patch : Patch) (e : Emitted)
+    → slice_get patches id ≡ Some patch → slice_get (emitted_by (places_of patches) labels) id ≡ Some e
+    → e.place ≡ place patch.block patch.offset patch.new.items
+emitted_placed [] labels id patch e at_patch at = absurd (cc)
+emitted_placed (x ∷ patches) [] id patch e at_patch at = absurd (cc)
+emitted_placed (x ∷ patches) (l ∷ labels) zero patch e at_patch at =
+    let same : x ≡ patch = cc in
+    let is : emitted_at (place x.block x.offset x.new.items) l ≡ e = cc in
+    sym (ap (λ (y : Emitted). y.place) is) ∙ ap (λ (y : Patch). place y.block y.offset y.new.items) same
+emitted_placed (x ∷ patches) (l ∷ labels) (suc id) patch e at_patch at =
+    emitted_placed patches labels id patch e at_patch at
+
 -- an emitted patch is that of its id
 pub emitted_there : (patches : List Patch) (labels : List Label) (id : ℕ) (label : Label) (patch : Patch)
     → slice_get labels id ≡ Some label → slice_get patches id ≡ Some patch

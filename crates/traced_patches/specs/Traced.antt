@@ -1,29 +1,32 @@
 -- The patches of a trace, with what each of them is.
-use Rattle.std.specs.Prelude.{◌≡◌, ℕ, List, Option}
+use Rattle.std.specs.Prelude.{◌≡◌, ℕ, List, Bool, Option}
 use Rattle.crash_model.specs.Explain.{Dependency, ToldPatch, dependency, told_patch}
 use Rattle.crash_model.specs.Patches.{overlap}
-use Rattle.crash_model.specs.Trace.{Emitted, groups_depend, rules_between}
+use Rattle.crash_model.specs.Trace.{Emitted, shares_block, groups_depend, rules_between}
 use Rattle.crash_model.specs.declared.patches.Patch.{Patch}
 use Rattle.crash_model.specs.declared.rules.Rule.{Rule}
 use Rattle.traced_patches.specs.declared.reasons.Reasons.{Reasons}
 
 pub record TracedPatches : Type 0 where
-  -- the patches as they stand in the graph, and as they were emitted
+  -- the patches as they are in the graph, and as they were emitted
   pub patches : List Patch
   pub emitted : List Emitted
   -- the pairs (B, A) of groups with `depend B A`, and the rules of the ordering
   pub links : List (List ℕ × List ℕ)
   pub rules : List Rule
+  -- whether blocks are written whole
+  pub whole : Bool
 
 -- all that makes patch q wait for the earlier patch p
 pub record AreReasons (t : TracedPatches) (q p : Emitted) (reasons : Reasons) : Type 0 where
   pub overlap : reasons.overlap ≡ overlap q.place p.place
+  pub block : reasons.block ≡ shares_block t.whole q p
   pub group : reasons.group ≡ groups_depend t.links q p
   pub rules : reasons.rules.items ≡ rules_between t.rules q p
 
--- what is told of the patch of an id, and of an earlier one that patch q depends on
+-- the explanation of the patch of an id, and of an earlier one that patch q depends on
 abbrev pub told_at : TracedPatches → ℕ → Option ToldPatch
-told_at t id = told_patch t.rules t.links t.emitted t.patches id
+told_at t id = told_patch t.rules t.whole t.links t.emitted t.patches id
 
 abbrev pub dependency_at : TracedPatches → Emitted → ℕ → Option Dependency
-dependency_at t q earlier = dependency t.rules t.links t.emitted q earlier
+dependency_at t q earlier = dependency t.rules t.whole t.links t.emitted q earlier

@@ -11,13 +11,15 @@ use crash_model::orderings::MAX_RULES;
 use crash_model::rules::Rule;
 use std::fmt;
 
-/// The reasons that there can be: an overlap, a link of groups, and each rule.
-const MAX_REASONS: usize = 30;
+/// The reasons that there can be: an overlap, a block that is written whole, a link of groups, and each rule.
+const MAX_REASONS: usize = MAX_RULES + 3;
 
-/// Why a patch depends on an earlier one: they overlap, their groups are linked, or these rules apply to them.
+/// Why a patch depends on an earlier one: they overlap, they change a block that is written whole, their groups are
+/// linked, or these rules apply to them.
 #[derive(Drop)]
 pub struct Reasons {
     pub overlap: bool,
+    pub block: bool,
     pub group: bool,
     pub rules: ArrayVec<Rule, MAX_RULES>,
 }
@@ -27,6 +29,7 @@ pub struct Reasons {
 pub enum Reason {
     #[default]
     Overlap,
+    Block,
     Group,
     Rule(Rule),
 }
@@ -40,6 +43,7 @@ impl fmt::Display for Reason {
     fn fmt<W: fmt::Write>(&self, f: &mut fmt::Formatter<W>) -> fmt::Result {
         match *self {
             Reason::Overlap => write!(f, "overlap"),
+            Reason::Block => write!(f, "block"),
             Reason::Group => write!(f, "group"),
             Reason::Rule(rule) => write!(f, "{rule}"),
         }
@@ -47,17 +51,20 @@ impl fmt::Display for Reason {
 }
 
 impl Reasons {
-    /// The reasons one by one, in the order in which they are told. There is one exactly where the patch depends on
+    /// The reasons one by one, in the order of the report. There is one exactly where the patch depends on
     /// the earlier one.
     pub fn list(&self) -> ArrayVec<Reason, MAX_REASONS>
         ensures texts { (t : TracedPatches) (q p : Emitted) → AreReasons t q p self.now
-            → map reason_text result.items ≡ reasons t.rules t.links q p }
+            → map reason_text result.items ≡ reasons t.rules t.whole t.links q p }
         ensures some { (t : TracedPatches) (q p : Emitted) → AreReasons t q p self.now
-            → depends t.rules t.links q p ≡ not (length result.items == 0) }
+            → depends t.rules t.whole t.links q p ≡ not (length result.items == 0) }
     {
         let mut list = ArrayVec::new();
         if self.overlap {
             list.push(Reason::Overlap);
+        }
+        if self.block {
+            list.push(Reason::Block);
         }
         if self.group {
             list.push(Reason::Group);

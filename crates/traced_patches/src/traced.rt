@@ -3,7 +3,7 @@
 ghost use Rattle.std.specs.Prelude.{◌≡◌, ℕ, ◌<◌, ◌≤◌, length, Some, slice_get};
 ghost use Rattle.crash_model.specs.Patches.{place, places_of};
 ghost use Rattle.crash_model.specs.declared.patches.Patch.{Patch};
-ghost use Rattle.crash_model.specs.Trace.{Emitted, rules_between};
+ghost use Rattle.crash_model.specs.Trace.{Emitted, rules_between, shares_block};
 ghost use Rattle.traced_patches.specs.Labels.{links_by, emitted_at, emitted_by, emitted_of};
 ghost use Rattle.traced_patches.specs.Traced.{AreReasons};
 
@@ -41,6 +41,7 @@ impl<'a, A: Allocator + Copy> Model for Traced<'a, A> {
           emitted = emitted_by (places_of t.graph) t.labels.items;
           links = links_by t.links.items;
           rules = t.ordering.now.rules.items;
+          whole = t.ordering.now.whole_blocks;
         } };
 
     ghost invariant = { λ t. length t.labels.items ≡ length t.graph };
@@ -59,6 +60,7 @@ impl<'a, A: Allocator + Copy> Traced<'a, A> {
         ensures emitted { result.emitted ≡ emitted_by (places_of graph) labels.entry.items }
         ensures links { result.links ≡ links_by links.entry.items }
         ensures rules { result.rules ≡ ordering.now.rules.items }
+        ensures whole { result.whole ≡ ordering.now.whole_blocks }
     {
         Traced {
             graph,
@@ -117,7 +119,8 @@ impl<'a, A: Allocator + Copy> Traced<'a, A> {
 
     /// The ordering.
     pub fn ordering(&self) -> &Ordering
-        ensures { result.now.rules.items ≡ self.now.rules }
+        ensures rules { result.now.rules.items ≡ self.now.rules }
+        ensures whole { result.now.whole_blocks ≡ self.now.whole }
     {
         self.ordering
     }
@@ -127,6 +130,17 @@ impl<'a, A: Allocator + Copy> Traced<'a, A> {
         ensures { result.now ≡ self.now.rules }
     {
         self.ordering.rules.as_slice()
+    }
+
+    /// Whether blocks are written whole, and two patches change the same block.
+    fn shares_block(&self, later: usize, earlier: usize) -> bool
+        requires later { later < length self.now.patches }
+        requires earlier { earlier < length self.now.patches }
+        ensures { (q p : Emitted) → slice_get self.now.emitted later ≡ Some q
+            → slice_get self.now.emitted earlier ≡ Some p → result ≡ shares_block self.now.whole q p }
+    {
+        self.ordering.whole_blocks
+            && self.graph.patch(later).block == self.graph.patch(earlier).block
     }
 
     /// Why a patch depends on an earlier one; of one that does not there is no reason.
@@ -141,6 +155,7 @@ impl<'a, A: Allocator + Copy> Traced<'a, A> {
         let first = label_of(labels, earlier);
         Reasons {
             overlap: overlaps(self.graph.patch(earlier), self.graph.patch(later)),
+            block: self.shares_block(later, earlier),
             group: is_linked(self.links.as_slice(), last, first),
             rules: rules_between(self.ordering.rules.as_slice(), last, first),
         }

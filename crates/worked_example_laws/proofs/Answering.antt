@@ -61,16 +61,19 @@ module _ (settings : Settings) (before behind : List Act) (read : are_acts befor
   }
 
   pub has_graph : has_base (base_from (empty_disk settings.blocks settings.journal) (numbered_steps 1 before)) ≡ true
-      → is_accepted (trace_from settings.module (trace_start (base_of settings before)) (trace_steps before behind))
+      → is_accepted (trace_from settings.module (trace_start settings.whole_blocks (base_of settings before))
+      (trace_steps before behind))
       ≡ true
       → HasGraph (script before behind) settings (base_of settings before)
-      (trace_of settings.module (base_of settings before) (trace_steps before behind)) (graph settings before behind)
+      (trace_of settings.module settings.whole_blocks (base_of settings before) (trace_steps before behind))
+      (graph settings before behind)
   has_graph whole run =
       let base = base_of settings before in
-      let last = trace_of settings.module base (trace_steps before behind) in record {
+      let last = trace_of settings.module settings.whole_blocks base (trace_steps before behind) in record {
         steps = trace_steps before behind;
         start = start whole;
-        run = accepted_is base (trace_from settings.module (trace_start base) (trace_steps before behind)) run;
+        run = accepted_is base (trace_from settings.module (trace_start settings.whole_blocks base)
+            (trace_steps before behind)) run;
         graph = graph_is (ordering_rules settings) base last;
       }
 
@@ -87,7 +90,8 @@ refused_base settings before behind fault read read_too geometry is =
 pub refused_trace : (settings : Settings) (before behind : List Act) (fault : TraceFault)
     → are_acts before ≡ true → are_acts behind ≡ true → is_geometry settings ≡ true
     → has_base (base_from (empty_disk settings.blocks settings.journal) (numbered_steps 1 before)) ≡ true
-    → trace_from settings.module (trace_start (base_of settings before)) (trace_steps before behind) ≡ Err fault
+    → trace_from settings.module (trace_start settings.whole_blocks (base_of settings before))
+    (trace_steps before behind) ≡ Err fault
     → IsAnswer (script before behind) settings (Refused (run_of_trace fault))
 refused_trace settings before behind fault read read_too geometry whole is =
     answers.bad_trace (base_of settings before) (trace_steps before behind) fault
@@ -105,7 +109,7 @@ is_told_quickly settings before behind closed failing =
     let patches = graph settings before behind in
     are_acts before && (are_acts behind && (is_geometry settings
     && (has_base (base_from (empty_disk settings.blocks settings.journal) (numbered_steps 1 before))
-    && (is_accepted (trace_from settings.module (trace_start base) (trace_steps before behind))
+    && (is_accepted (trace_from settings.module (trace_start settings.whole_blocks base) (trace_steps before behind))
     && ((length (closed_sets (deps_of patches)) == closed)
     && (are_in_order (length (deps_of patches)) failing
     (failing_quickly_under (kept_of settings.strict base (trace_steps before behind)) base patches)
@@ -127,7 +131,7 @@ pub reported : (settings : Settings) (before behind : List Act) (closed : ℕ) (
       closed = closed;
       failing = length failing;
       explanation = when settings.explain (explanation (ordering_rules settings) (base_of settings before)
-          (trace_of settings.module (base_of settings before) (trace_steps before behind))
+          (trace_of settings.module settings.whole_blocks (base_of settings before) (trace_steps before behind))
           (graph settings before behind));
       body = Sets (map (section_of (told_detail settings before behind) (base_of settings before)
           (graph settings before behind)) failing);
@@ -139,7 +143,7 @@ reported settings before behind closed failing text told_quickly by_set is =
     sym (quickly_is settings before behind closed failing) ∙ told_quickly in
     let base = base_of settings before in
     let steps = trace_steps before behind in
-    let last = trace_of settings.module base steps in
+    let last = trace_of settings.module settings.whole_blocks base steps in
     let kept = kept_of settings.strict base steps in
     let detail = detail_of settings kept in
     let patches = graph settings before behind in
@@ -148,7 +152,8 @@ reported settings before behind closed failing text told_quickly by_set is =
     let three = and_parts (is_geometry settings) _ two.1 in
     let four = and_parts (has_base (base_from (empty_disk settings.blocks settings.journal) (numbered_steps 1 before)))
     _ three.1 in
-    let five = and_parts (is_accepted (trace_from settings.module (trace_start base) steps)) _ four.1 in
+    let five = and_parts (is_accepted (trace_from settings.module (trace_start settings.whole_blocks base) steps)) _
+    four.1 in
     let six = and_parts (length (closed_sets (deps_of patches)) == closed) _ five.1 in
     let seven = and_parts (are_in_order (length (deps_of patches)) failing (failing_under kept base patches))
     (nat_le closed settings.limit && have_runs patches failing) six.1 in
@@ -201,14 +206,15 @@ refused_geometry settings before behind read read_too none =
 pub refused_limit : (settings : Settings) (before behind : List Act)
     → are_acts before ≡ true → are_acts behind ≡ true → is_geometry settings ≡ true
     → has_base (base_from (empty_disk settings.blocks settings.journal) (numbered_steps 1 before)) ≡ true
-    → is_accepted (trace_from settings.module (trace_start (base_of settings before)) (trace_steps before behind))
+    → is_accepted (trace_from settings.module (trace_start settings.whole_blocks (base_of settings before))
+    (trace_steps before behind))
     ≡ true
     → nat_lt settings.limit (length (closed_sets (deps_of (graph settings before behind)))) ≡ true
     → IsAnswer (script before behind) settings (Refused TooMany)
 refused_limit settings before behind read read_too geometry whole run more =
     let base = base_of settings before in
     let patches = graph settings before behind in
-    let last = trace_of settings.module base (trace_steps before behind) in
+    let last = trace_of settings.module settings.whole_blocks base (trace_steps before behind) in
     let first = earlier (ordering_rules settings) base last in
     let all = counts_closed patches (length (closed_sets (deps_of patches))) first refl in
     answers.too_many base last patches (has_graph settings before behind read read_too geometry whole run) (

@@ -227,11 +227,11 @@ at_graph kind base f (Err fault) = None
 at_graph kind base f (Ok s) = Some (f (graph_of (rules_of kind) base s))
 
 pub graph_if : {X : Type 0} (kind : Module) (base : Disk) (steps : List Step) (f : List Patch → X) (x : X)
-    → at_graph kind base f (trace_from kind (trace_start base) steps) ≡ Some x
+    → at_graph kind base f (trace_from kind (trace_start false base) steps) ≡ Some x
     → HasGraph kind base steps (λ patches. f patches ≡ x)
-graph_if kind base steps f x e = of_run (trace_from kind (trace_start base) steps) refl e
+graph_if kind base steps f x e = of_run (trace_from kind (trace_start false base) steps) refl e
   where
-    of_run : (r : Result Tracing TraceFault) → trace_from kind (trace_start base) steps ≡ r
+    of_run : (r : Result Tracing TraceFault) → trace_from kind (trace_start false base) steps ≡ r
         → at_graph kind base f r ≡ Some x
         → HasGraph kind base steps (λ patches. f patches ≡ x)
     of_run (Err fault) run e = cc
@@ -258,7 +258,8 @@ graph_then kind base steps P Q then_is has = record {
 -- ---- how many, and by how many of some ids
 
 pub counted_if : (kind : Module) (base : Disk) (steps : List Step) (closed : ℕ)
-    → at_graph kind base (λ patches. length (closed_sets (deps_of patches))) (trace_from kind (trace_start base) steps)
+    → at_graph kind base (λ patches. length (closed_sets (deps_of patches))) (trace_from kind
+    (trace_start false base) steps)
     ≡ Some closed
     → HasGraph kind base steps (λ patches. CountsClosed patches closed)
 counted_if kind base steps closed e =
@@ -297,7 +298,7 @@ count_at ids (n ∷ counts) sets from (suc held) many sum e within =
 
 pub counts_if : (kind : Module) (base : Disk) (steps : List Step) (ids counts : List ℕ) (total : ℕ)
     → at_graph kind base (λ patches. are_counted ids counts total (closed_sets (deps_of patches)))
-    (trace_from kind (trace_start base) steps) ≡ Some true
+    (trace_from kind (trace_start false base) steps) ≡ Some true
     → HasCounts kind base steps ids counts total
 counts_if kind base steps ids counts total e =
     let test = λ (patches : List Patch). are_counted ids counts total (closed_sets (deps_of patches)) in
@@ -344,7 +345,8 @@ failing_are : (base : Disk) (patches : List Patch) → failing_quickly base patc
 failing_are base patches = failing_under_are None base patches
 
 pub number_if : (kind : Module) (base : Disk) (steps : List Step) (many : ℕ)
-    → at_graph kind base (λ patches. length (failing_quickly base patches)) (trace_from kind (trace_start base) steps)
+    → at_graph kind base (λ patches. length (failing_quickly base patches)) (trace_from kind
+    (trace_start false base) steps)
     ≡ Some many
     → HasGraph kind base steps (λ patches. HoldsOf (IsFailing base patches) many)
 number_if kind base steps many e =
@@ -356,7 +358,7 @@ number_if kind base steps many e =
 -- one of the closed sets fails
 pub failing_if : (kind : Module) (base : Disk) (steps : List Step) (set : ℕ)
     → at_graph kind base (λ patches. is_in (failing_quickly base patches) set)
-    (trace_from kind (trace_start base) steps) ≡ Some true
+    (trace_from kind (trace_start false base) steps) ≡ Some true
     → HasGraph kind base steps (λ patches. IsFailing base patches set)
 failing_if kind base steps set e =
     graph_then kind base steps (λ patches. is_in (failing_quickly base patches) set ≡ true)
@@ -381,7 +383,7 @@ are_explored base closed failing patches =
     (failing_quickly base patches)
 
 pub explored_if : (kind : Module) (base : Disk) (steps : List Step) (closed : ℕ) (failing : List ℕ)
-    → at_graph kind base (are_explored base closed failing) (trace_from kind (trace_start base) steps) ≡ Some true
+    → at_graph kind base (are_explored base closed failing) (trace_from kind (trace_start false base) steps) ≡ Some true
     → ExploresTo kind base steps closed failing
 explored_if kind base steps closed failing e =
     graph_then kind base steps (λ patches. are_explored base closed failing patches ≡ true)

@@ -72,7 +72,7 @@ module _ (settings : Settings) where
       → ComesOfBase settings r steps answer → ComesOfBase settings r steps other → answer ≡ other
   based_one (Err fault) steps answer other is also = is ∙ sym also
   based_one (Ok base) steps answer other is also = traced_one settings base steps
-      (trace_from settings.module (trace_start base) steps) answer other is also
+      (trace_from settings.module (trace_start settings.whole_blocks base) steps) answer other is also
 
   steps_answer_one : (base steps : List Step) (answer other : Answer) → ComesOfSteps settings base steps answer
       → ComesOfSteps settings base steps other → answer ≡ other

@@ -81,9 +81,10 @@ module _ (settings : Settings) (bytes : List ℕ) where
 
   from_base : (base : Disk) (steps : List Step) → HasBase bytes settings base steps → (answer : Answer)
       × IsAnswer bytes settings answer
-  from_base base steps start = by_trace (trace_from settings.module (trace_start base) steps) refl
+  from_base base steps start = by_trace (trace_from settings.module (trace_start settings.whole_blocks base) steps) refl
     where
-      by_trace : (r : Result Tracing TraceFault) → trace_from settings.module (trace_start base) steps ≡ r
+      by_trace : (r : Result Tracing TraceFault) → trace_from settings.module (trace_start settings.whole_blocks base)
+          steps ≡ r
           → (answer : Answer) × IsAnswer bytes settings answer
       by_trace (Err fault) is = (Refused (run_of_trace fault), bad_trace base steps fault start is)
       by_trace (Ok last) is = from_graph base last (graph_of (ordering_rules settings) base last)

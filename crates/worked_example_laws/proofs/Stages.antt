@@ -31,7 +31,8 @@ module _ (settings : Settings) where
 
   abbrev pub ComesOfBase : Result Disk TraceFault → List Step → Answer → Type 0
   ComesOfBase (Err fault) steps answer = answer ≡ Refused (run_of_trace fault)
-  ComesOfBase (Ok base) steps answer = ComesOfTrace base steps (trace_from settings.module (trace_start base) steps)
+  ComesOfBase (Ok base) steps answer = ComesOfTrace base steps (trace_from settings.module
+      (trace_start settings.whole_blocks base) steps)
       answer
 
   abbrev pub ComesOfSteps : List Step → List Step → Answer → Type 0
@@ -46,7 +47,7 @@ module _ (settings : Settings) where
       ⊎ ((before : List Step) × (steps : List Step) × IsScript bytes before steps × ComesOfSteps before steps answer)
 
   from_base : (bytes : List ℕ) (base : Disk) (steps : List Step) (answer : Answer) → HasBase bytes settings base steps
-      → ComesOfTrace base steps (trace_from settings.module (trace_start base) steps) answer
+      → ComesOfTrace base steps (trace_from settings.module (trace_start settings.whole_blocks base) steps) answer
       → ComesOfScript bytes answer
   from_base bytes base steps answer start comes =
       inr (

@@ -33,18 +33,19 @@ set_below zero passes = 0
 set_below (suc n) passes = if passes n then with_id (set_below n passes) n else set_below n passes
 
 -- whether the patch at one place depends on the one at another
-abbrev pub depends_if : List Rule → List (List ℕ × List ℕ) → Option Emitted → Option Emitted → Bool
-depends_if rules links None p = false
-depends_if rules links (Some q) None = false
-depends_if rules links (Some q) (Some p) = depends rules links q p
+abbrev pub depends_if : List Rule → Bool → List (List ℕ × List ℕ) → Option Emitted → Option Emitted → Bool
+depends_if rules whole links None p = false
+depends_if rules whole links (Some q) None = false
+depends_if rules whole links (Some q) (Some p) = depends rules whole links q p
 
-abbrev pub needs : List Rule → List (List ℕ × List ℕ) → List Emitted → ℕ → ℕ
-needs rules links all q = set_below q (λ p. depends_if rules links (slice_get all q) (slice_get all p))
+abbrev pub needs : List Rule → Bool → List (List ℕ × List ℕ) → List Emitted → ℕ → ℕ
+needs rules whole links all q = set_below q (λ p. depends_if rules whole links (slice_get all q) (slice_get all p))
 
 -- the patches from place q on, on the disk after those before it
-abbrev pub patches_from : List Rule → List (List ℕ × List ℕ) → List Emitted → ℕ → Disk → List Emitted → List Patch
-patches_from rules links all q d [] = []
-patches_from rules links all q d (e ∷ es) =
+abbrev pub patches_from : List Rule → Bool → List (List ℕ × List ℕ) → List Emitted → ℕ → Disk → List Emitted
+    → List Patch
+patches_from rules whole links all q d [] = []
+patches_from rules whole links all q d (e ∷ es) =
     record {
       block = e.place.block;
       offset = e.place.offset;
@@ -53,12 +54,12 @@ patches_from rules links all q d (e ∷ es) =
         items = slice_range d.bytes
             (128 * e.place.block + e.place.offset) (128 * e.place.block + e.place.offset + length e.place.new);
       };
-      deps = needs rules links all q;
+      deps = needs rules whole links all q;
     }
-    ∷ patches_from rules links all (q + 1) (with_bytes d e.place.block e.place.offset e.place.new) es
+    ∷ patches_from rules whole links all (q + 1) (with_bytes d e.place.block e.place.offset e.place.new) es
 
 abbrev pub graph_of : List Rule → Disk → Tracing → List Patch
-graph_of rules base s = patches_from rules s.links s.emitted 0 base s.emitted
+graph_of rules base s = patches_from rules s.whole s.links s.emitted 0 base s.emitted
 
 -- the closed sets, patch by patch: those so far, and with the next patch those that have what it depends on
 abbrev pub closed_from : ℕ → List ℕ → List ℕ → List ℕ
@@ -87,12 +88,12 @@ fails_under kept base patches set =
 abbrev pub failing_under : Option ℕ → Disk → List Patch → List ℕ
 failing_under kept base patches = filter (fails_under kept base patches) (closed_sets (deps_of patches))
 
--- what a checker is told of the inodes that a script keeps
+-- the kept inodes that a checker gets
 abbrev pub kept_of : Bool → Disk → List Step → Option ℕ
 kept_of false base steps = None
 kept_of true base steps = Some (set_below 16 (stays_live base steps))
 
--- the ids of a set below 2 ^ n are so many
+-- the number of ids of a set below 2 ^ n
 abbrev pub ones_below : ℕ → ℕ → ℕ
 ones_below zero set = 0
 ones_below (suc n) set = set % 2 + ones_below n (set / 2)
@@ -124,30 +125,30 @@ sets each = map set_of each
 
 -- what the steps emit, or nothing where one is refused
 abbrev pub trace_or_start : Disk → Result Tracing TraceFault → Tracing
-trace_or_start base (Err fault) = trace_start base
+trace_or_start base (Err fault) = trace_start false base
 trace_or_start base (Ok s) = s
 
 abbrev pub is_accepted : Result Tracing TraceFault → Bool
 is_accepted (Err fault) = false
 is_accepted (Ok s) = true
 
-abbrev pub trace_of : Module → Disk → List Step → Tracing
-trace_of kind base steps = trace_or_start base (trace_from kind (trace_start base) steps)
+abbrev pub trace_of : Module → Bool → Disk → List Step → Tracing
+trace_of kind whole base steps = trace_or_start base (trace_from kind (trace_start whole base) steps)
 
--- the steps are accepted, and their graph has the property
+-- the steps are accepted, and their graph has the property, where a block can be written without some of its changes
 pub record HasGraph (kind : Module) (base : Disk) (steps : List Step) (P : List Patch → Type 0) : Type 0 where
   pub last : Tracing
-  pub run : trace_from kind (trace_start base) steps ≡ Ok last
+  pub run : trace_from kind (trace_start false base) steps ≡ Ok last
   pub patches : List Patch
   pub graph : IsGraphOf (rules_of kind) base last patches
   pub holds : P patches
 
--- the steps are accepted, so many sets are closed, and these are all that fail, in canonical order
+-- the steps are accepted, this many sets are closed, and these are all that fail, in canonical order
 abbrev pub ExploresTo : Module → Disk → List Step → ℕ → List ℕ → Type 0
 ExploresTo kind base steps closed failing =
     HasGraph kind base steps (λ patches. CountsClosed patches closed × AreAllInOrder (IsFailing base patches) failing)
 
--- so many closed sets have exactly `many` of these ids
+-- the number of closed sets that have exactly `many` of these ids
 abbrev pub CountsWith : List Patch → List ℕ → ℕ → ℕ → Type 0
 CountsWith patches ids many count =
     HoldsOf (λ set. IsClosed (deps_of patches) set × (length (filter (has set) ids) ≡ many)) count
@@ -196,7 +197,7 @@ is_zero_journal d = all_below (4 + d.journal) (λ b. nat_lt b 4 || all_below 128
 
 -- ---- block writes and reports
 
--- a patch ahead of the block writes behind it
+-- a patch before the block writes that follow
 abbrev pub with_patch_ahead : List ℕ → ℕ → List BlockWrite → List BlockWrite
 with_patch_ahead homes id [] = record { block = slice_index homes id; ids = with_id 0 id } ∷ []
 with_patch_ahead homes id (w ∷ writes) =
@@ -211,7 +212,7 @@ writes_by_block homes (id ∷ ids) = with_patch_ahead homes id (writes_by_block 
 abbrev pub writes_of : List ℕ → ℕ → List BlockWrite
 writes_of homes set = writes_by_block homes (ids_of (length homes) set)
 
--- a write of some ids of its block, with another block behind it
+-- a write of some ids of its block, followed by another block
 abbrev pub is_own : List ℕ → BlockWrite → Bool
 is_own homes w =
     not (w.ids == 0) && (nat_lt w.ids (2 ^ length homes)

@@ -80,26 +80,26 @@ trace_steps before behind = numbered_steps (length (map line_of before) + 2) beh
 abbrev pub graph : Settings → List Act → List Act → List Patch
 graph settings before behind =
     graph_of (ordering_rules settings) (base_of settings before)
-    (trace_of settings.module (base_of settings before) (trace_steps before behind))
+    (trace_of settings.module settings.whole_blocks (base_of settings before) (trace_steps before behind))
 
 abbrev pub is_geometry : Settings → Bool
 is_geometry settings =
     nat_le 16 settings.blocks && (nat_le settings.blocks 128 && nat_le (settings.journal + 6) settings.blocks)
 
--- the script is read, its acts are accepted, these sets fail, and there are so many closed sets
+-- the script is read, its acts are accepted, these sets fail, and this many sets are closed
 abbrev pub is_told : Settings → List Act → List Act → ℕ → List ℕ → Bool
 is_told settings before behind closed failing =
     let base = base_of settings before in
     let patches = graph settings before behind in
     are_acts before && (are_acts behind && (is_geometry settings
     && (has_base (base_from (empty_disk settings.blocks settings.journal) (numbered_steps 1 before))
-    && (is_accepted (trace_from settings.module (trace_start base) (trace_steps before behind))
+    && (is_accepted (trace_from settings.module (trace_start settings.whole_blocks base) (trace_steps before behind))
     && ((length (closed_sets (deps_of patches)) == closed)
     && (are_in_order (length (deps_of patches)) failing
     (failing_under (kept_of settings.strict base (trace_steps before behind)) base patches)
     && (nat_le closed settings.limit && have_runs patches failing)))))))
 
--- the settings of a module's own ordering, whose report tells each failing set
+-- the settings of a module's own ordering, whose report lists each failing set
 abbrev pub settings_of : Module → ℕ → ℕ → ℕ → Bool → Settings
 settings_of kind blocks journal limit json = record {
   «module» = kind;
@@ -111,6 +111,7 @@ settings_of kind blocks journal limit json = record {
   explorer = Auto;
   json = json;
   explain = false;
+  whole_blocks = false;
   strict = false;
   by = BySet;
 }
@@ -127,6 +128,7 @@ strict_settings_of kind blocks journal limit json = record {
   explorer = Auto;
   json = json;
   explain = false;
+  whole_blocks = false;
   strict = true;
   by = BySet;
 }

@@ -82,7 +82,7 @@ pub fn writes_are_cut_where_the_block_changes()
         ∷ record { block = 2; ids = set_of (3 ∷ []) } ∷ []) }
 {}
 
-/// An operation that is refused is told by its line, in the base and in the trace.
+/// A refused operation is reported with its line, in the base and in the trace.
 pub fn a_refused_operation_is_told_by_its_line()
     ensures not_found { IsAnswer (codes "start\ncreate /x/y\n") (settings_of Async 16 0 4096 false)
         (Refused (run.NotFound 2)) }

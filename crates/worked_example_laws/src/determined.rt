@@ -43,7 +43,7 @@ pub fn a_trace_has_one_graph()
         → IsGraphOf rules base last patches → IsGraphOf rules base last others → patches ≡ others }
 {}
 
-/// What a checker is told of the inodes that a script keeps is determined.
+/// The kept inodes that a checker gets are determined.
 pub fn what_is_kept_is_determined()
     ensures some { (strict : Bool) (base : Disk) (steps : List Step) → (kept : Option ℕ)
         × IsToldKept strict base steps kept }

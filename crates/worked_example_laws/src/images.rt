@@ -58,7 +58,7 @@ pub fn what_is_no_header_stops_replay()
         ≡ with_bytes fresh_with_journal 4 0 (0xC7 ∷ 1 ∷ 6 ∷ 1 ∷ 2 ∷ 3 ∷ 0x0A ∷ 0x0B ∷ 0x0C ∷ []) }
 {}
 
-/// A transaction that is done is passed over, and the committed one behind it is replayed.
+/// A transaction that is done is skipped, and the committed one after it is replayed.
 pub fn a_done_transaction_is_passed_over()
     ensures bytes { image_after_replay (with_bytes (with_bytes fresh_with_journal 4 0
         (0xC8 ∷ 1 ∷ 2 ∷ 2 ∷ 0x0A ∷ [])) 7 0

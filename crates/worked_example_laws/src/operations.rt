@@ -87,7 +87,7 @@ pub fn names_decide_refusals()
     ensures not_empty { plan_of (after fresh_disk (Mkdir d ∷ Create d_x ∷ [])) (Rmdir d) ≡ Err NotEmpty }
 {}
 
-/// Directories of ten entries, 16 inodes, and which of both is told.
+/// Directories of ten entries, 16 inodes, and which refusal comes first.
 pub fn room_decides_refusals()
     ensures directory { plan_of full_directory (Create (inside (codes "d") (codes "z"))) ≡ Err DirectoryFull }
     ensures inode { plan_of few_inodes (Create f) ≡ Err NoInode }

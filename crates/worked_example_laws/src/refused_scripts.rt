@@ -1,4 +1,4 @@
-//! Scripts that are refused, and the line that is told.
+//! Scripts that are refused, and the line of the refusal.
 
 ghost use Rattle.std.specs.Prelude.{[], ◌∷◌, ◌++◌, codes};
 ghost use Rattle.crash_model.specs.Script.{IsScriptRefusal};

@@ -11,7 +11,7 @@ ghost use Rattle.crash_model.specs.declared.patches.Patch.{Patch};
 ghost use Rattle.crash_model.specs.declared.operations.Op.TheVariants.{Create, Unlink, Rename};
 ghost use Rattle.worked_example_laws.specs.Examples.{a, b, after, steps_from, fresh_disk};
 
-/// Where a checker is told of no kept inodes, nothing but the six faults is asked of an image.
+/// Without kept inodes a checker looks for the six faults only.
 pub fn a_checker_that_is_told_of_nothing_is_not_strict()
     ensures clean { (d : Disk) → IsCleanUnder None d ↔ IsClean d }
     ensures failing { (base : Disk) (patches : List Patch) (set : ℕ)

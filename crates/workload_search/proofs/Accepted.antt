@@ -28,9 +28,9 @@ front_traced kind s (x ∷ xs) ys last e =
     )
 
 pub accepted_front : (s : Search) (front rest : List ℕ) → IsAccepted s (front ++ rest) → IsAccepted s front
-accepted_front s front rest (last, e) = front_traced s.ordering (trace_start s.base) (steps_at s.pool front)
+accepted_front s front rest (last, e) = front_traced s.ordering (trace_start s.whole s.base) (steps_at s.pool front)
     (steps_at s.pool rest) last
-    (ap (λ (steps : List Step). trace_from s.ordering (trace_start s.base) steps)
+    (ap (λ (steps : List Step). trace_from s.ordering (trace_start s.whole s.base) steps)
     (sym (flat_map-append (λ place. option_to_list (slice_get s.pool place)) front rest))
     ∙ e)
 

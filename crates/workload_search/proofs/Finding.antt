@@ -59,7 +59,7 @@ module _ {A : Type 0} (s : Search) (tried : List Tried) (all : AreAllTried s s.m
       (refused s tried all reason) places it in
       omega (arith, some, is.refused (reason_place reason) (reason_low reason))
 
-  -- the first workload that is told of a kind is the first that shows it
+  -- the first workload of a kind in the tally is the first that shows it
   first_told : (k : ShownKind) → told_first (slice_index_or tally.kinds.items (kind_place k.kind) blank).first
       ≡ Some (k.places.items, k.first) → IsFirstOf (kind_place k.kind) tried k.places.items k.first
   first_told k told = first_of (kind_place k.kind) tried k.places.items k.first

@@ -15,7 +15,7 @@ use std::thread::Threads;
 /// What is found of the workloads of up to `most` operations, 1 to 8, of the pool of the judge's search, which has
 /// `pool` operations.
 ///
-/// For each number of workers the same is found. The watch is told of each workload, as of a visited set, and whether
+/// For each number of workers the same is found. The watch counts each workload, as a visited set, and whether
 /// it fails.
 ///
 /// # Errors

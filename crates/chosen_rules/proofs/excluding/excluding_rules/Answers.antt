@@ -29,5 +29,5 @@ loop-place-preserved g c =
 
 pub returns : goal.returns
 returns g c = all_placed c.args.traced.now.emitted c.as_slice-rules.result.now c.args.set c.loop-place.place
-    c.args.traced.now.rules c.loop-place.found (c.as_slice-rules.ensures.value ∙ c.ordering.ensures)
+    c.args.traced.now.rules c.loop-place.found (c.as_slice-rules.ensures.value ∙ c.ordering.ensures.rules)
     c.loop-place-test.false c.loop-place.invariant

@@ -33,7 +33,11 @@ returns-clause-reported g c = λ last is.
     let script = c.args.script.now in
     let t = script.traced in
     let first = c.in_ok-first.first in
-    let of_trace : IsTracingOf t last = record { emitted = sym is.emitted; links = sym is.links } in
+    let of_trace : IsTracingOf t last = record {
+      emitted = sym is.emitted;
+      links = sym is.links;
+      whole = sym is.whole;
+    } in
     let found = c.in_ok-found.ensures in
     let needs = c.in_ok-needs.ensures in
     let counted = subst (λ ps. CountsClosed ps c.closed_number.result) c.graph-2.ensures c.closed_number.ensures in

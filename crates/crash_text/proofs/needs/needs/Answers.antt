@@ -8,12 +8,13 @@ use Rattle.crash_text.proofs.Needing.{rule_more}
 use Rattle.crash_text.proofs.needs.needs.Goals as goal
 
 pub loop-rule-preserved : goal.loop-rule-preserved
-loop-rule-preserved g c = λ last emitted links.
+loop-rule-preserved g c = λ last emitted links whole.
     let f = c.args.findings.now in
     rule_more (detail_of f.settings.now f.kept) f.settings.now.limit f.traced.rules f.base.now last f.traced.patches
     c.rules-rule-items.result.now c.loop-rule.rule-index _ c.loop-rule.rules.items c.push.new.self.items
     c.in_ok-usage.usage
-    c.loop-rule-test.true (c.loop-rule.invariant last emitted links) (c.in_ok-usage.ensures last emitted links)
+    c.loop-rule-test.true (c.loop-rule.invariant last emitted links whole)
+    (c.in_ok-usage.ensures last emitted links whole)
     c.in_ok-push.ensures.items
 
 pub returns : goal.returns
@@ -27,4 +28,4 @@ returns g c = λ last is.
     last f.traced.patches rules told) is.rules
     (subst (λ (rules : List Rule). AreToldRules (detail_of f.settings.now f.kept) f.settings.now.limit f.traced.rules
     f.base.now last f.traced.patches rules told) all
-    (c.loop-rule.invariant last (sym is.emitted) (sym is.links)))
+    (c.loop-rule.invariant last (sym is.emitted) (sym is.links) (sym is.whole)))

@@ -1,4 +1,4 @@
-use Rattle.std.proofs.Common.{rules, ◌≡◌, List, [], Ok, inr, sym, subst, ap, ◌∙◌}
+use Rattle.std.proofs.Common.{rules, ◌≡◌, List, [], Bool, Ok, inr, sym, subst, ap, ◌∙◌}
 use Rattle.std.proofs.lemmas.Result.{IfErr-weaker, IfOk-weaker}
 use Rattle.crash_model.specs.Answer.{ordering_rules}
 use Rattle.crash_model.specs.Disk.{Disk, IsDisk}
@@ -17,13 +17,15 @@ use Rattle.crash_text.specs.Telling.{IsTraceOf}
 use Rattle.crash_text.proofs.run.answer_steps.Goals as goal
 
 -- what is traced under an ordering of these settings is traced under the settings
-of_settings : (settings : Settings) (base : Disk) (steps : List Step) (by : Module) (rules : List Rule) (last : Tracing)
-    (patches : List Patch) → by ≡ settings.module → rules ≡ ordering_rules settings
-    → trace_from by (trace_start base) steps ≡ Ok last → IsGraphOf rules base last patches
-    → (trace_from settings.module (trace_start base) steps ≡ Ok last)
+of_settings : (settings : Settings) (base : Disk) (steps : List Step) (by : Module) (whole : Bool) (rules : List Rule)
+    (last : Tracing) (patches : List Patch) → by ≡ settings.module → whole ≡ settings.whole_blocks
+    → rules ≡ ordering_rules settings
+    → trace_from by (trace_start whole base) steps ≡ Ok last → IsGraphOf rules base last patches
+    → (trace_from settings.module (trace_start settings.whole_blocks base) steps ≡ Ok last)
     × IsGraphOf (ordering_rules settings) base last patches
-of_settings settings base steps by rules last patches module_is rules_are run graph = (
-  subst (λ (m : Module). trace_from m (trace_start base) steps ≡ Ok last) module_is run,
+of_settings settings base steps by whole rules last patches module_is whole_is rules_are run graph = (
+  subst (λ (m : Module). trace_from m (trace_start settings.whole_blocks base) steps ≡ Ok last) module_is
+      (subst (λ (w : Bool). trace_from by (trace_start w base) steps ≡ Ok last) whole_is run),
   subst (λ (rs : List Rule). IsGraphOf rs base last patches) rules_are graph,
 )
 
@@ -39,7 +41,8 @@ returns-clause-full g c = λ full none.
     subst (λ (rs : List Rule). AreAmong (rules_of Full) rs) (sym all) (put_in_among Full settings.with.items) in
     let safe = c.in_ok-traced.ensures.full (ordering.«module» ∙ full) among c.requires.sound.0 c.requires.sound.1 in
     let disk : IsDisk base = search rules in
-    c.answer_traced.ensures.safe (none_fails settings.strict c.in_ok-kept.kept base c.args.steps.now
+    c.answer_traced.ensures.safe (none_fails settings.strict c.ordering-ordering.result.whole_blocks c.in_ok-kept.kept
+    base c.args.steps.now
     c.in_ok-traced.traced.patches disk c.in_ok-kept.ensures safe)
 
 pub returns-clause-reported : goal.returns-clause-reported
@@ -48,11 +51,12 @@ returns-clause-reported g c =
     let t = c.in_ok-traced.traced in
     let ok = c.in_ok-traced.ensures.ok in
     let ordering = c.ordering-ordering.ensures in
-    let under = of_settings settings c.args.base.now c.args.steps.now _ _ ok.0 t.patches ordering.«module»
-    ordering.rules ok.1 ok.2 in
+    let under = of_settings settings c.args.base.now c.args.steps.now _ _ _ ok.0 t.patches ordering.«module»
+    ordering.whole ordering.rules ok.1 ok.2 in
     let is : IsTraceOf settings c.args.base.now t ok.0 = record {
       emitted = ok.3;
       links = ok.4;
+      whole = ok.5;
       rules = c.in_ok-traced.ensures.rules ∙ ordering.rules;
       graph = under.1;
     } in
@@ -71,8 +75,9 @@ returns-clause-reported g c =
 pub returns-clause-refused : goal.returns-clause-refused
 returns-clause-refused g c =
     let ok = c.in_ok-traced.ensures.ok in
-    let under = of_settings c.args.request.now.settings c.args.base.now c.args.steps.now _ _ ok.0 _
-    c.ordering-ordering.ensures.«module» c.ordering-ordering.ensures.rules ok.1 ok.2 in
+    let under = of_settings c.args.request.now.settings c.args.base.now c.args.steps.now _ _ _ ok.0 _
+    c.ordering-ordering.ensures.«module» c.ordering-ordering.ensures.whole c.ordering-ordering.ensures.rules ok.1 ok.2
+    in
     IfErr-weaker c.answer_traced.result _ _
     (λ fault past memory. let said = past memory in
     inr (ok.0, c.in_ok-traced.traced.patches, under.0, under.1, said.0, said.2, said.1))

@@ -13,7 +13,7 @@ returns-clause-full g c = λ full none.
     let pool = c.args.pool.now in
     let ordering = c.ordering-ordering in
     let s = search_under settings c.number.result pool.base.now pool.steps.now ordering.result.«module»
-    ordering.result.rules.items in
+    ordering.result.whole_blocks ordering.result.rules.items in
     let is_full : IsFullJournal s = record {
       full = ordering.ensures.«module» ∙ full;
       all = full_rules settings ordering.result.rules.items full none ordering.ensures.rules;

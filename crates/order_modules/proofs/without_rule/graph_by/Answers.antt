@@ -25,7 +25,7 @@ pub emit_all-requires-clause-none : goal.emit_all-requires-clause-none
 emit_all-requires-clause-none g c = ap (λ (l : Log). l.emitted) c.in_ok-link_all.ensures ∙ c.in_ok-log.ensures.new.2
 
 pub returns-clause-graph : goal.returns-clause-graph
-returns-clause-graph g c = λ s same_emitted same_links.
+returns-clause-graph g c = λ s same_emitted same_links same_whole.
     let traced = c.args.traced.now in
     let log = c.emit_all.new.log in
     let linked = c.in_ok-link_all.ensures in
@@ -33,6 +33,8 @@ returns-clause-graph g c = λ s same_emitted same_links.
     let new = c.in_ok-log.ensures in
     let rules : log.rules ≡ c.args.ordering.now.rules.items =
     adds.rules ∙ (ap (λ (l : Log). l.rules) linked ∙ new.ordering.1) in
+    let whole : log.whole ≡ c.args.ordering.now.whole_blocks =
+    adds.whole ∙ (ap (λ (l : Log). l.whole) linked ∙ new.ordering.2) in
     let base : log.base ≡ c.args.base.now = adds.base ∙ (ap (λ (l : Log). l.base) linked ∙ new.new.0) in
     let none : c.link_all.new.log.emitted ≡ [] = ap (λ (l : Log). l.emitted) linked ∙ new.new.2 in
     let emitted : log.emitted ≡ traced.emitted =
@@ -44,7 +46,7 @@ returns-clause-graph g c = λ s same_emitted same_links.
     ∙ c.links.ensures)) in
     rw (c.into_graph.ensures, c.into_traced.ensures.patches)
     (graph_of_log log c.args.ordering.now.rules.items c.args.base.now s c.into_traced.ensures.log rules
-    base (same_emitted ∙ sym emitted) (same_links ∙ sym links))
+    base (same_emitted ∙ sym emitted) (same_links ∙ sym links) (same_whole ∙ sym whole))
 
 pub returns-clause-fits : goal.returns-clause-fits
 returns-clause-fits g c =

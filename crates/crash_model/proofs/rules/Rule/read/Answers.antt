@@ -2,8 +2,7 @@ use Rattle.std.proofs.Common.{◌≡◌, List, ℕ, ◌++◌, Some, None, Bor, c
 use Rattle.std.proofs.lemmas.Str.Pattern.{split_text_parts}
 use Rattle.crash_model.specs.RuleFacts.{IsNoRulePart}
 use Rattle.crash_model.specs.declared.rules.Scope.{Scope}
-use Rattle.crash_model.proofs.RuleTexts.{needs_colon, needs_later, needs_earlier, needs_part}
-use Rattle.crash_model.proofs.rules.Rule.read.Goals.{in-Some, in-None}
+use Rattle.crash_model.proofs.RuleTexts.{needs_colon, needs_later, needs_earlier}
 use Rattle.crash_model.proofs.rules.Rule.read.Goals as goal
 
 pub returns-in_err-later : goal.returns-in_err-later
@@ -22,18 +21,6 @@ pub returns-in_err-read-2 : goal.returns-in_err-read-2
 returns-in_err-read-2 c =
     let cut = split_text_parts (codes ":") c.args.text.now (Some (c.in_ok-later.later, c.in_ok-later.rest))
     c.in_ok-later.ensures.cases in
-    let text = c.args.text.now in
-    let later = c.in_ok-later.later.now in
-    let rest = c.in_ok-later.rest.now in
-    let no_part = c.in_err-read-2.ensures in
-    rw c.from_residual-in_err-read-2.ensures (elim c.match-strip_prefix.branch [
-      | in-Some w ↦
-          let found = w.in-Some.ensures.cases in
-          let scoped : rest ≡ codes "previous-" ++ w.in-Some.earlier.now = found.1.1
-          ∙ ap (λ (t : List ℕ). codes "previous-" ++ t) (sym found.2) in
-          needs_earlier text later rest cut w.in-Some.earlier.now scoped
-          (subst (λ (s : Scope × Bor (List ℕ)). IsNoRulePart s.1.now) w.scope-is no_part)
-      | in-None w ↦
-          needs_part text later rest cut w.in-None.ensures.cases
-          (subst (λ (s : Scope × Bor (List ℕ)). IsNoRulePart s.1.now) w.scope-is no_part)
-    ])
+    rw c.from_residual-in_err-read-2.ensures (needs_earlier c.args.text.now c.in_ok-later.later.now
+    c.in_ok-later.rest.now cut c.read-scope.result.0 c.read-scope.result.1.now c.read-scope.ensures.scope
+    c.read-scope.ensures.same c.in_err-read-2.ensures)

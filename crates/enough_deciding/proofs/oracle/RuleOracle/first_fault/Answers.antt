@@ -7,6 +7,6 @@ returns g c =
     let base = c.args.self.now.base.now in
     let t = c.args.self.now.traced.now in (
       c.in_ok-graph.graph,
-      c.in_ok-graph.ensures.graph (tracing_of base t) (record { emitted = refl; links = refl }),
+      c.in_ok-graph.ensures.graph (tracing_of base t) (record { emitted = refl; links = refl; whole = refl }),
       c.in_ok-found.ensures,
     )

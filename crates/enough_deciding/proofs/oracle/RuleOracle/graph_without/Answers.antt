@@ -12,7 +12,7 @@ returns-clause-graph g c =
     let kept = c.args.self.now.kept in
     let base = c.args.self.now.base.now in
     let t = c.args.self.now.traced.now in
-    let all = c.all_rules-all.ensures ∙ ap (λ (rules : List Rule). all_of rules) c.ordering.ensures in
+    let all = c.all_rules-all.ensures ∙ ap (λ (rules : List Rule). all_of rules) c.ordering.ensures.rules in
     let apart = subst (λ (set : ℕ). IsDifference set c.args.group c.difference.result) all c.difference.ensures in
     let same = rest_rules kept base (tracing_of base t) t.rules (all_of t.rules) (all_places t.rules) c.args.group
     c.difference.result apart in

@@ -11,7 +11,7 @@ invariant_of-self-2 g c =
     let none = subst (λ (l : Log). list_any (λ e. is_same_group e.origin.group c.args.later.now) l.emitted ≡ false)
     (sym c.self.view_is) c.requires in (
       link_fields inside.base.now inside.written inside.ordering.now.module inside.ordering.now.rules.items
-          inside.links.items c.push.new.self.items inside.labels.items inside.graph
+          inside.ordering.now.whole_blocks inside.links.items c.push.new.self.items inside.labels.items inside.graph
           (record { later = c.args.later; earlier = c.args.earlier }) c.self.invariant.0 none
           c.in_ok-push.ensures.items,
       c.self.invariant.1,

@@ -57,9 +57,11 @@ returns-clause-ok g c =
       base = ap (λ (l : Log). l.base) linked;
       kind = ap (λ (l : Log). l.kind) linked;
       rules = ap (λ (l : Log). l.rules) linked;
+      whole = ap (λ (l : Log). l.whole) linked;
       turns = omega arith;
       answered = accepted (a || b || p) (fault.GroupFault line) _
           (or_neither (a || b) p (or_neither a b (ap not (among ∙ c.if-not-is_among.false))
           (sym c.is_same.ensures ∙ c.if-is_same.false)) (sym c.has_patch_in.ensures ∙ c.if-has_patch_in.false))
-          ∙ ap (λ (l : Log). Ok (record old.tracing { emitted = l.emitted; links = l.links })) (sym linked);
+          ∙ ap (λ (l : Log). Ok (record old.tracing { emitted = l.emitted; whole = l.whole; links = l.links }))
+          (sym linked);
     })

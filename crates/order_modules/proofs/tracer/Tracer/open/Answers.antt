@@ -49,6 +49,7 @@ returns-clause-ok g c =
       base = refl;
       kind = refl;
       rules = refl;
+      whole = refl;
       turns = omega arith;
       answered = accepted (is_some (group_by i.current) || is_among name (names_by i.opened.items))
           (fault.GroupFault line) _ (or_neither (is_some (group_by i.current)) (is_among name (names_by i.opened.items))

@@ -49,5 +49,5 @@ returns-clause-ok g c =
     (group_by i.current) (names_by i.opened.items) (names_by i.ended.items))
     (trace_of_plan t.log.kind c.args.line c.args.op.now t.tracing (Ok cs))) c.self.view_is
     (moves_in_place old c.args.line c.args.op.now cs c.emit_in_place.new.self c.apply.new.image (i.turn + 1) i.next refl
-    refl c.apply.ensures.changes order adds refl refl c.self.invariant.to
+    refl refl c.apply.ensures.changes order adds refl refl c.self.invariant.to
     (omega (arith, room, c.len.ensures.value)))

@@ -68,6 +68,6 @@ returns-clause-ok g c =
     (i.next + 1 + c.len.result) (group_by i.current) (names_by i.opened.items) (names_by i.ended.items))
     (trace_of_plan t.log.kind c.args.line c.args.op.now t.tracing (Ok cs))) c.self.view_is
     (moves_journaled old c.args.line c.args.op.now cs c.emit_transaction.new.self c.apply.new.image (i.turn + 1)
-    (i.next + 1 + c.len.result) refl refl c.apply.ensures.changes targets order are adds refl
+    (i.next + 1 + c.len.result) refl refl refl c.apply.ensures.changes targets order are adds refl
     (omega (arith, c.len.ensures.value)) (omega (arith, c.if-next-journal.false, c.journal.ensures.value))
     (omega (arith, room, c.len-2.ensures.value, c.len-3.ensures.value)))

@@ -31,19 +31,19 @@ returns-in_ok-kept-in-Ok-clause-full g c = λ is.
     c.judge_graph.ensures in
     ∥∥₁_elim j.sound (no_failure_prop c.judge_graph.result)
     (λ sound. IfOk-weaker c.judge_graph.result _ _
-    (λ verdict is_on. never_fails j.strict kept base c.args.steps.now patches verdict c.blocks-blocks.ensures.disk
+    (λ verdict is_on. never_fails j.strict j.ordering.now.whole_blocks kept base c.args.steps.now patches verdict c.blocks-blocks.ensures.disk
     c.in_ok-kept-in-Ok.ensures (c.in-Ok.ensures.full is.full is.all sound.0 sound.1) is_on) on)
 
 pub refused-requires : goal.refused-requires
 refused-requires g c =
     let j = c.args.self.now in
     ∥∥₁_elim c.requires (hlevel)
-    (λ all memory. operation_refused j.ordering.now.«module» c.args.steps.now (trace_start j.base.now) all
+    (λ all memory. operation_refused j.ordering.now.«module» c.args.steps.now (trace_start j.ordering.now.whole_blocks j.base.now) all
     c.in-Err.fault (c.in-Err.ensures.refused memory))
 
 pub returns-in-Err-clause-verdict : goal.returns-in-Err-clause-verdict
 returns-in-Err-clause-verdict g c = λ places are.
     let s = search_by c.args.self.now in
     c.refused.ensures.verdict s places
-    (λ memory. subst (λ (xs : List Step). trace_from s.ordering (trace_start s.base) xs ≡ Err c.in-Err.fault) are
+    (λ memory. subst (λ (xs : List Step). trace_from s.ordering (trace_start s.whole s.base) xs ≡ Err c.in-Err.fault) are
     (c.in-Err.ensures.refused memory))

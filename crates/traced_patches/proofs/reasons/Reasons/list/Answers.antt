@@ -9,7 +9,7 @@ use Rattle.traced_patches.proofs.reasons.Reasons.list.Goals as goal
 pub returns-clause-texts : goal.returns-clause-texts
 returns-clause-texts c = λ t q p are.
     let r = c.args.self.now in
-    let all = c.loop-rule.invariant.items ∙ ap (λ (rs : List rules.Rule). first_reasons r.overlap r.group
+    let all = c.loop-rule.invariant.items ∙ ap (λ (rs : List rules.Rule). first_reasons r.overlap r.block r.group
     ++ map Rule rs) (take_all c.loop-rule.rule-index r.rules.items
     (omega (arith, ap length c.as_slice-rule-items.ensures.value))) in
     texts_are t q p r c.loop-rule.list.items all are
@@ -17,7 +17,7 @@ returns-clause-texts c = λ t q p are.
 pub returns-clause-some : goal.returns-clause-some
 returns-clause-some c = λ t q p are.
     let r = c.args.self.now in
-    let all = c.loop-rule.invariant.items ∙ ap (λ (rs : List rules.Rule). first_reasons r.overlap r.group
+    let all = c.loop-rule.invariant.items ∙ ap (λ (rs : List rules.Rule). first_reasons r.overlap r.block r.group
     ++ map Rule rs) (take_all c.loop-rule.rule-index r.rules.items
     (omega (arith, ap length c.as_slice-rule-items.ensures.value))) in
     some_are t q p r c.loop-rule.list.items all are

@@ -31,6 +31,7 @@ returns g c = λ q p at_q at_p.
       overlap = overlap_read after before c.overlaps.result c.overlaps.ensures
           ∙ ap (λ (e : Emitted). overlap e.place (place before.block before.offset before.new.items)) (sym q_is)
           ∙ ap (λ (e : Emitted). overlap q.place e.place) (sym p_is);
+      block = c.shares_block.ensures q p at_q at_p;
       group = c.is_linked.ensures
           ∙ ap (λ (ls : List Link). groups_depend (links_by ls) (emitted_of later) (emitted_of earlier))
           c.as_slice.ensures.value
