@@ -12,7 +12,7 @@ CREATE = b"start\ncreate /a\n"
 CREATED = b"module soft\npatches 2\nclosed 3\nfailing 0\n"
 
 # What stands in the help, each behind the one before.
-HELP = ("Explores every state", "Usage: crashmap", "\nWhat to run:\n", "[SCRIPT]", "--blocks <N>", "--journal <JL>",
+HELP = ("Finds every state", "Usage: crashmap", "\nWhat to run:\n", "[SCRIPT]", "--blocks <N>", "--journal <JL>",
         "\nThe ordering:\n", "--module <M>", "--without <RULE>", "--with <RULE>", "--whole-blocks",
         "\nWhat fails:\n", "--strict",
         "\nHow far:\n", "--limit <L>", "--explorer <E>", "--workers <W>", "--decide", "--enough", "--search <N>",
