@@ -1,4 +1,4 @@
-"""Proves and builds a program by the gate's own command, in a copy of the crates that it stands on.
+"""Proves and builds a program by the gate's own command, in a copy of the crates that it needs.
 
 In the checkout `rt ci` would prove the tests and try the wrong bodies too; the copy has neither. The proofs are kept on
 the machine for the gate, and those of the gate are taken. `rt ci NAME` keeps proofs as well, but gives no program.
@@ -25,7 +25,7 @@ def say(text):
 
 
 def rows_of(top, program):
-    """Returns the rows of crates.txt for a program and all that it stands on in the repository, by name, libraries
+    """Returns the rows of crates.txt for a program and all that it needs in the repository, by name, libraries
     first."""
     lines = (top / "crates.txt").read_text().splitlines(keepends=True)
     rows = {re.match(r"\w+", line)[0]: line for line in lines if line[:1].isalpha()}

@@ -13,7 +13,7 @@ from .runs import Run, differences, run_either_way, run_reference
 TOP = pathlib.Path(__file__).resolve().parent.parent
 
 Value = namedtuple("Value", "name problem write")
-"""A kept value: a name for readers, None or what is wrong with it, and None or a function that writes it anew."""
+"""A kept value: a name for readers, None or what is wrong with it, and None or a function that writes it."""
 
 
 def bytes_of(path):

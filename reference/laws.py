@@ -148,7 +148,7 @@ class SingleScripts:
         return self.known[places]
 
     def run(self, places):
-        """As `verdict`, found anew."""
+        """As `verdict`, found again."""
         rows = self.base + ["start"] + [self.pool[place] for place in places]
         script = "".join(row + "\n" for row in rows).encode()
         try:

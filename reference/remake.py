@@ -1,6 +1,6 @@
 """python3 -m reference.remake [--write] [PART..]
 
-Makes anew every expected value that the repository keeps, and prints what differs. The parts are cases, gallery, page
+Makes every expected value that the repository keeps, and prints what differs. The parts are cases, gallery, page
 and images; without PART all of them. With --write the values that differ are written. Prints for each part how many
 values it keeps, and a last line `N passed, M failed`; the exit status is 1 where something differs, written or not.
 """

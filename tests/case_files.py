@@ -12,7 +12,7 @@ import shlex
 
 CASES = pathlib.Path(__file__).resolve().parent.parent / "cases"
 
-# The fields in the order in which they stand, and whether lines follow the field.
+# The fields in their order, and whether lines follow the field.
 FIELDS = {"words": False, "status": False, "script": True, "script-file": False, "output": True,
           "output-file": False, "output-digest": False, "errors": True, "fault": False, "terminal": True}
 INDENT = "    "
@@ -194,7 +194,7 @@ def content(path, fields, field):
 
 
 def is_block(data):
-    """Whether these bytes can stand as lines of a block: text, and a line feed at the end of each line."""
+    """Whether these bytes can be the lines of a block: text, and a line feed at the end of each line."""
     try:
         text = data.decode()
     except UnicodeDecodeError:

@@ -1,6 +1,6 @@
-"""findings.py [--all]: makes the findings of docs/FINDINGS.md anew, and compares.
+"""findings.py [--all]: makes the findings of docs/FINDINGS.md again, and compares.
 
-A command stands in a block of its own, behind `$ ./crashmap`, and its whole output follows. A block marked `slow` runs
+A command is in a block of its own, after `$ ./crashmap`, and its whole output follows. A block marked `slow` runs
 with --all alone. A table has a comment before it with the words of its searches, and a row for each rule: the shortest
 search that finds more failing workloads without the rule than with it, the first failing workload and its fault. It
 says how long each command and each table took. The last line is `N passed, M failed`.
@@ -24,7 +24,7 @@ BLOCK = re.compile(r"^```console( slow)?\n\$ \./crashmap ([^\n]*)\n(.*?)^```$", 
 TABLE = re.compile(r"^<!-- searches: (.*) -->\n\|.*\n\|.*\n((?:\|.*\n)+)", re.MULTILINE)
 
 Finding = namedtuple("Finding", "words wanted make is_slow")
-"""The words of a command or of a table's searches, what stands in the document, what makes it anew, and whether that
+"""The words of a command or of a table's searches, what the document has, what makes it again, and whether that
 takes long."""
 
 
@@ -36,7 +36,7 @@ def printed_by(words):
 
 
 def value(name, report):
-    """What stands behind the name on the report's first line that begins with it."""
+    """What follows the name on the report's first line that begins with it."""
     return re.search(rf"^{name} (.*)$", report, re.MULTILINE)[1]
 
 
@@ -53,7 +53,7 @@ def first_shown(words, rule, most=3):
 
 
 def table_made(words, rows):
-    """The table with its rows made anew."""
+    """The table with its rows made again."""
     rules = re.findall(r"^\| `([^`]*)` \|", rows, re.MULTILINE)
     made = ["| `%s` | %s" % (rule, first_shown(words, rule)) for rule in rules]
     return "".join(row + ("\n" if row.endswith("|") else " |\n") for row in made)

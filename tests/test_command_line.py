@@ -11,7 +11,7 @@ MOST_SCRIPT_BYTES = 1 << 20
 CREATE = b"start\ncreate /a\n"
 CREATED = b"module soft\npatches 2\nclosed 3\nfailing 0\n"
 
-# What stands in the help, each behind the one before.
+# What is in the help, in this order.
 HELP = ("Finds every state", "Usage: crashmap", "\nWhat to run:\n", "[SCRIPT]", "--blocks <N>", "--journal <JL>",
         "\nThe ordering:\n", "--module <M>", "--without <RULE>", "--with <RULE>", "--whole-blocks",
         "\nWhat fails:\n", "--strict",

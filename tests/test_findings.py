@@ -1,4 +1,4 @@
-"""The commands and tables of docs/FINDINGS.md that do not take long find what stands there."""
+"""The commands and tables of docs/FINDINGS.md that do not take long find what the page says."""
 
 import unittest
 

@@ -77,7 +77,7 @@ class Devices(unittest.TestCase):
 
 
 class StandardInput(unittest.TestCase):
-    """A person who gives no words is told that the program waits for a script."""
+    """Without words, the program says that it waits for a script."""
 
     def test_no_words_on_a_terminal(self):
         run = typed_on_terminal([program()], CREATE)
@@ -93,7 +93,7 @@ class StandardInput(unittest.TestCase):
 
 
 class Search(unittest.TestCase):
-    """A search tries the lines of a pool, and not the script as it stands."""
+    """A search tries the lines of a pool, and not the script itself."""
 
     def test_a_search_has_no_warnings(self):
         words, script = ["--with", "Copy:Copy"], b"start\ncreate /a\n"

@@ -22,7 +22,7 @@ class Kept(unittest.TestCase):
     """The repository keeps what the reference makes."""
 
     def check_part(self, name, at_least):
-        """Nothing of a part differs, and it has so many values."""
+        """Nothing of a part differs, and it has at least this many values."""
         values = remake.PARTS[name]()
         self.assertEqual([(value.name, value.problem) for value in values if value.problem], [])
         self.assertGreaterEqual(len(values), at_least)

@@ -42,7 +42,7 @@ export function checkTexts(place, value) {
   value.forEach((one, k) => checkText(`${place}[${k}]`, one));
 }
 
-/** Hexadecimal digits for at least one byte and at most so many. */
+/** Hexadecimal digits for at least one byte and at most this many. */
 export function checkHex(place, value, least, most) {
   const size = least === most ? `${least}` : `${least} to ${most}`;
   const holds = typeof value === "string" && /^(?:[0-9a-f]{2})*$/.test(value)

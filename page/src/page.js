@@ -36,7 +36,7 @@ function choose(at, step) {
   goTo(view.step);
 }
 
-/** Shows the disk after so many block writes. */
+/** Shows the disk after a number of block writes. */
 function goTo(step) {
   view.step = Math.min(Math.max(step, 0), choiceNow().writes.length);
   paintSteps();

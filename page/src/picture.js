@@ -26,7 +26,7 @@ export function drawGraph() {
   if (place.id !== undefined) focusNode(place.id);
 }
 
-/** How far the picture is scrolled, and the patch that has the focus, so that both stay when it is drawn anew. */
+/** How far the picture is scrolled, and the patch that has the focus, so that both stay when it is drawn again. */
 function placeInPicture(card) {
   const focused = document.activeElement;
   return { left: card.querySelector(".scroll")?.scrollLeft ?? 0,
@@ -170,7 +170,7 @@ function unlight() {
 
 /* --- the step that is looked at --- */
 
-/** Filled, hollow, frontier and the write of this step, without drawing anew. */
+/** Filled, hollow, frontier and the write of this step, without drawing again. */
 export function paintGraph() {
   const drawing = byId("drawing");
   if (!drawing) return;

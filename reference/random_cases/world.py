@@ -96,7 +96,7 @@ class World:
         return None if other is None else "%s %s %s" % (act, path, other)
 
     def grow(self, count, weights=None):
-        """Does so many random lines, or fewer where many are refused."""
+        """Does this number of random lines, or fewer if many are refused."""
         for _ in range(count * 4):
             if count == 0:
                 return

@@ -74,7 +74,7 @@ def script_of(rows):
 
 
 def toggles(count):
-    """A script that adds and takes away a second name of a file, in so many lines."""
+    """A script that adds and takes away a second name of a file, in this number of lines."""
     operations = ["link /a /b", "unlink /b"]
     return " ; ".join(["create /a", "start"] + [operations[k % 2] for k in range(count)])
 

@@ -173,7 +173,7 @@ class Reader:
         return self.found
 
     def read_headers(self):
-        """As `headers`, read anew."""
+        """As `headers`, read again."""
         found = []
         block, transaction = JOURNAL_START, 1
         while block < JOURNAL_START + self.problem.base.journal:
