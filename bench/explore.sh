@@ -12,7 +12,7 @@
 # what the same run takes longer at the limit, which is what the board of that limit costs. 'collisions' is what the
 # run takes longer than one whose limit is the largest prime below, 32749: their boards are as large, and an index of
 # prime size has next to none. Where the board is made for the number of the closed sets and not for the limit, both
-# are next to nothing, and what opening it costs is part of the rest. 'judging' is what judging this number of sets takes by
+# are next to nothing, and what opening it costs is part of the rest. 'judging' is what judging these sets takes by
 # itself, by the rate of the first 4,096 (see judge.sh), divided by the workers. 'rest' is the trace, exploring, the
 # report and the wait at the end. A part of less than a millisecond drowns in what two runs differ by, and may come
 # out negative.

@@ -8,7 +8,7 @@
 # What is timed takes turns in ROUNDS rounds (15; of the last script, which takes long, a fifth of them), so that all
 # meet the machine alike. The median run counts: a single busy processor may run a third faster than one of four, but
 # does so in some rounds only, so that the shortest runs of one worker and of four compare two machines. What they say
-# is printed next to it. Where RIVAL names another program that takes the same arguments but --explorer and --summary, it
+# is printed too. Where RIVAL names another program that takes the same arguments but --explorer and --summary, it
 # takes its turns too, and its time is printed as well; CRASHMAP_ENGINE is 'list' for it.
 set -eu
 top=$(cd "$(dirname "${BASH_SOURCE[0]}")/.." && pwd)
