@@ -1,18 +1,21 @@
 -- The rules that a command line names.
-use Rattle.std.specs.Prelude.{◌≡◌, ℕ, List, Bool, true, false, eqb}
-use Rattle.std.specs.List.{All, list_any, ends_with}
+use Rattle.std.specs.Prelude.{◌≡◌, ℕ, ◌≤◌, List, true, false, length}
+use Rattle.std.specs.List.{All, AllPairs}
 use Rattle.std.specs.Borrow.{Bor}
-use Rattle.crash_model.specs.Rules.{rule_text, rules_of, has_rule}
+use Rattle.crash_model.specs.Rules.{rule_text, rules_of, has_rule, is_same_rule}
 use Rattle.crash_model.specs.declared.rules.Rule.{Rule}
 use Rattle.crash_model.specs.declared.settings.Settings.{Settings}
+use Rattle.command_line.specs.GivenBy.{IsGivenBy}
 
--- the text is one of the words, or ends one, as after `--with=`
-abbrev pub is_written_in : List (Bor (List ℕ)) → List ℕ → Bool
-is_written_in words text = list_any (λ word. ends_with eqb word.now text) words
+-- no rule is given twice
+abbrev pub AreOnce : List Rule → Type 0
+AreOnce rules = AllPairs (λ one other. is_same_rule other one ≡ false) rules
 
--- each rule is written so among the words
-abbrev pub AreWrittenIn : List (Bor (List ℕ)) → List Rule → Type 0
-AreWrittenIn words rules = All (λ rule. is_written_in words (rule_text rule) ≡ true) rules
+-- an option is given each of these rules, none twice, and at most 16
+pub record AreGiven (option : List ℕ) (words : List (Bor (List ℕ))) (rules : List Rule) : Type 0 where
+  pub given : All (λ rule. IsGivenBy option words (rule_text rule)) rules
+  pub once : AreOnce rules
+  pub few : length rules ≤ 16
 
 abbrev pub AreAllIn : List Rule → List Rule → Type 0
 AreAllIn others rules = All (λ rule. has_rule others rule ≡ true) rules

@@ -1,11 +1,12 @@
 //! The rules to take out of an ordering and to put in.
 
-ghost use Rattle.std.specs.Prelude.{◌≡◌, ◌<◌, true, IfOk, OnOk, eqb, length};
-ghost use Rattle.std.specs.List.{ends_with};
-ghost use Rattle.crash_model.specs.Rules.{rule_text};
-ghost use Rattle.command_line.specs.Given.{AreWrittenIn, is_written_in, AreAllIn, AreNoneIn};
+ghost use Rattle.std.specs.Prelude.{◌≡◌, ◌<◌, false, IfOk, OnOk, length};
+ghost use Rattle.crash_model.specs.Rules.{rule_text, has_rule};
+ghost use Rattle.command_line.specs.Given.{AreGiven, AreAllIn, AreNoneIn};
+ghost use Rattle.command_line.specs.GivenBy.{IsGivenBy};
 
 use crate::faults::{Value, WordFault};
+use crate::given_by::is_given_by;
 use crate::rule_words::{Why, why_no_rule};
 use clap::ArgMatches;
 use crash_model::modules::Module;
@@ -13,18 +14,19 @@ use crash_model::rule_lists::{RuleList, has_rule};
 use crash_model::rules::Rule;
 use std::alloc::Global;
 
-/// The rules that an option was given, in their order: each once, and at most 16.
+/// The rules that an option was given, in their order: each once, and at most 16. `long` is the option's word.
 pub(crate) fn given_rules<'a>(
     heap: Global,
     matches: &ArgMatches<'a>,
     words: &[&str],
     option: &'static str,
+    long: &str,
 ) -> Result<RuleList, WordFault<'a>>
-    ensures { IfOk result (λ rules. AreWrittenIn words.now rules.items) }
+    ensures { IfOk result (λ rules. AreGiven long.now words.now rules.items) }
 {
     let mut rules = RuleList::new();
     for word in matches.get_strs(option).unwrap_or(&[]) {
-        match next_rule(heap, words, &rules, word) {
+        match next_rule(heap, words, long, &rules, word) {
             Ok(rule) => rules.push(rule),
             Err(why) => {
                 let value = Value::Word(word);
@@ -36,17 +38,21 @@ pub(crate) fn given_rules<'a>(
 }
 
 /// The rule that the word spells, which can follow these rules, or why none can.
+///
+/// `clap` does not promise that its values are among the words, so the rule is looked up there.
 fn next_rule<'a>(
     heap: Global,
     words: &[&str],
+    long: &str,
     rules: &RuleList,
     word: &'a str,
 ) -> Result<Rule, Why<'a>>
-    ensures written { IfOk result (λ rule. is_written_in words.now (rule_text rule) ≡ true) }
+    ensures given { IfOk result (λ rule. IsGivenBy long.now words.now (rule_text rule)) }
+    ensures new { IfOk result (λ rule. has_rule rules.now.items rule ≡ false) }
     ensures room { OnOk result (length rules.now.items < 16) }
 {
     let rule = match Rule::read(word) {
-        Some(rule) if is_written_in(words, word) => rule,
+        Some(rule) if is_given_by(words, long, word) => rule,
         _ => return Err(why_no_rule(heap, word)),
     };
     if has_rule(rules.as_slice(), rule) {
@@ -56,20 +62,6 @@ fn next_rule<'a>(
         return Err(Why::TooMany);
     }
     Ok(rule)
-}
-
-/// Whether the text is one of the words, or ends one.
-fn is_written_in(words: &[&str], text: &str) -> bool
-    ensures { result ≡ is_written_in words.now text.now }
-{
-    words.iter().any(|word| ends_with(word, text))
-}
-
-/// Whether the word ends with the text.
-fn ends_with(word: &str, text: &str) -> bool
-    ensures { result ≡ ends_with eqb word.now text.now }
-{
-    word.ends_with(text)
 }
 
 /// Each rule to take out is one of these, which are the module's.

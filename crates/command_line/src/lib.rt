@@ -1,13 +1,14 @@
 //! The command line.
 #![tactic(auto)]
 
-ghost use Rattle.std.specs.Prelude.{◌≡◌, IfOk};
-ghost use Rattle.command_line.specs.Given.{AreWrittenIn, AreAllIn, AreNoneIn, AreLawful};
+ghost use Rattle.std.specs.Prelude.{IfOk, codes};
+ghost use Rattle.command_line.specs.Given.{AreGiven, AreAllIn, AreNoneIn, AreLawful};
 ghost use Rattle.crash_model.specs.Rules.{rules_of};
 ghost use Rattle.command_line.specs.Ranges.{IsInRanges};
 
 mod arguments;
 mod faults;
+mod given_by;
 mod given_rules;
 mod rule_words;
 mod values;
@@ -34,14 +35,16 @@ pub struct Call<'a> {
     pub request: Request,
 }
 
-/// Reads the words of a command linewithout the program's name.
+/// Reads the words of a command line without the program's name.
 ///
-/// Each rule to take out is one of the module's, and none is given twice. A fault of the command line, a request for
+/// Each rule to take out is one of the module's. An option has at most 16 rules, each given by its own word, and none is
+/// given twice, to one option or to both. A fault of the command line, a request for
 /// help or for the version, and out of memory are `clap`'s errors.
 pub fn settings_of<'a>(heap: Global, words: &'a [&'a str]) -> Result<Call<'a>, Error>
     ensures ranges { IfOk result (λ call. IsInRanges call.request) }
-    ensures without { IfOk result (λ call. AreWrittenIn words.now call.request.settings.without.items) }
-    ensures with { IfOk result (λ call. AreWrittenIn words.now call.request.settings.with.items) }
+    ensures without { IfOk result (λ call.
+        AreGiven (codes "--without") words.now call.request.settings.without.items) }
+    ensures with { IfOk result (λ call. AreGiven (codes "--with") words.now call.request.settings.with.items) }
     ensures lawful { IfOk result (λ call. AreLawful call.request.settings) }
 {
     let mut command = command(heap)?;
@@ -55,8 +58,9 @@ fn call_by<'a>(
     words: &'a [&'a str],
 ) -> Result<Call<'a>, Error>
     ensures ranges { IfOk result (λ call. IsInRanges call.request) }
-    ensures without { IfOk result (λ call. AreWrittenIn words.now call.request.settings.without.items) }
-    ensures with { IfOk result (λ call. AreWrittenIn words.now call.request.settings.with.items) }
+    ensures without { IfOk result (λ call.
+        AreGiven (codes "--without") words.now call.request.settings.without.items) }
+    ensures with { IfOk result (λ call. AreGiven (codes "--with") words.now call.request.settings.with.items) }
     ensures lawful { IfOk result (λ call. AreLawful call.request.settings) }
 {
     let matches = command.try_get_matches_from_mut(words)?;
@@ -96,8 +100,9 @@ fn call_of<'a>(
     words: &[&str],
 ) -> Result<Call<'a>, WordFault<'a>>
     ensures ranges { IfOk result (λ call. IsInRanges call.request) }
-    ensures without { IfOk result (λ call. AreWrittenIn words.now call.request.settings.without.items) }
-    ensures with { IfOk result (λ call. AreWrittenIn words.now call.request.settings.with.items) }
+    ensures without { IfOk result (λ call.
+        AreGiven (codes "--without") words.now call.request.settings.without.items) }
+    ensures with { IfOk result (λ call. AreGiven (codes "--with") words.now call.request.settings.with.items) }
     ensures lawful { IfOk result (λ call. AreLawful call.request.settings) }
 {
     let module = module_of(matches);
@@ -134,13 +139,13 @@ fn rules_for<'a>(
     words: &[&str],
     ordering: Module,
 ) -> Result<(RuleList, RuleList), WordFault<'a>>
-    ensures without { IfOk result (λ rules. AreWrittenIn words.now rules.0.items) }
-    ensures with { IfOk result (λ rules. AreWrittenIn words.now rules.1.items) }
+    ensures without { IfOk result (λ rules. AreGiven (codes "--without") words.now rules.0.items) }
+    ensures with { IfOk result (λ rules. AreGiven (codes "--with") words.now rules.1.items) }
     ensures lawful { IfOk result (λ rules. AreAllIn (rules_of ordering) rules.0.items
         × AreNoneIn rules.0.items rules.1.items) }
 {
-    let without = given_rules(heap, matches, words, "without")?;
-    let with = given_rules(heap, matches, words, "with")?;
+    let without = given_rules(heap, matches, words, "without", "--without")?;
+    let with = given_rules(heap, matches, words, "with", "--with")?;
     check_without(without.as_slice(), ordering.rules(), ordering)?;
     check_with(with.as_slice(), without.as_slice())?;
     Ok((without, with))

@@ -187,7 +187,7 @@ fn are_written(alloc: Global, found: &[Fault], texts: &[&str]) -> Result<bool, F
 }
 
 /// Whether an image has the faults with these texts, and is clean where there are none.
-fn has_faults(alloc: Global, image: &Image<Global>, texts: &[&str]) -> Result<bool, Fail> {
+pub fn has_faults(alloc: Global, image: &Image<Global>, texts: &[&str]) -> Result<bool, Fail> {
     if is_clean(image) != texts.is_empty() {
         return Ok(false);
     }

@@ -1,5 +1,6 @@
-//! What replay does on images whose journal no operation writes.
+//! What replay does on images whose journal no operation writes, and what the checker says of them then.
 
+use crate::damaged::has_faults;
 use disk_image::Image;
 use journal_replay::replay;
 use std::alloc::Global;
@@ -39,25 +40,59 @@ fn are_zeroed(before: &Image<Global>, after: &Image<Global>, zeroed: &[usize]) -
     true
 }
 
-/// Headers of journal blocks, and the blocks that replay makes zero.
-struct Case(&'static [(usize, &'static [u8])], &'static [usize]);
+/// Headers of journal blocks, the blocks that replay makes zero, and the faults after it.
+struct Case {
+    headers: &'static [(usize, &'static [u8])],
+    zeroed: &'static [usize],
+    faults: &'static [&'static str],
+}
 
 const CASES: [Case; 7] = [
-    Case(&[], &[]),
-    Case(&[(4, &[0xC7, 1, 2, 2, 10])], &[2, 10]),
-    Case(&[(4, &[0xC7, 1, 2, 10, 2])], &[]),
-    Case(&[(4, &[0xC7, 2, 1, 2])], &[]),
-    Case(&[(4, &[0xC7, 1, 9])], &[]),
-    Case(&[(4, &[0xC7, 1, 6, 1, 2, 3, 10, 11, 12])], &[]),
-    Case(&[(4, &[0xC8, 1, 2, 2, 10]), (7, &[0xC7, 2, 1, 1])], &[1]),
+    Case {
+        headers: &[],
+        zeroed: &[],
+        faults: &[],
+    },
+    // The inodes and the root's block, so that nothing is left that could be wrong.
+    Case {
+        headers: &[(4, &[0xC7, 1, 2, 2, 10])],
+        zeroed: &[2, 10],
+        faults: &[],
+    },
+    Case {
+        headers: &[(4, &[0xC7, 1, 2, 10, 2])],
+        zeroed: &[],
+        faults: &[],
+    },
+    Case {
+        headers: &[(4, &[0xC7, 2, 1, 2])],
+        zeroed: &[],
+        faults: &[],
+    },
+    Case {
+        headers: &[(4, &[0xC7, 1, 9])],
+        zeroed: &[],
+        faults: &[],
+    },
+    Case {
+        headers: &[(4, &[0xC7, 1, 6, 1, 2, 3, 10, 11, 12])],
+        zeroed: &[],
+        faults: &[],
+    },
+    // The map, by a transaction behind one that is done.
+    Case {
+        headers: &[(4, &[0xC8, 1, 2, 2, 10]), (7, &[0xC7, 2, 1, 1])],
+        zeroed: &[1],
+        faults: &["5 used block marked free: inode 0 slot 0 block 10"],
+    },
 ];
 
-/// Whether replay zeroes exactly the blocks of a case.
-fn replays(alloc: Global, Case(headers, zeroed): &Case) -> Result<bool, Fail> {
-    let before = with_headers(alloc, headers)?;
+/// Whether replay zeroes exactly the blocks of a case, and the checker then finds its faults.
+fn replays(alloc: Global, case: &Case) -> Result<bool, Fail> {
+    let before = with_headers(alloc, case.headers)?;
     let mut after = before.try_copy()?;
     replay(&mut after);
-    Ok(are_zeroed(&before, &after, zeroed))
+    Ok(are_zeroed(&before, &after, case.zeroed) && has_faults(alloc, &after, case.faults)?)
 }
 
 #[test]
