@@ -3,4 +3,4 @@
 LEVEL = "reaching"
 """`plain`: those of the first release. `extended`: also rules, `--explain`, `--summary`, `--needs` and `--strict`.
 `deciding`: also `--decide`. `choosing`: also `--enough`. `searching`: also `--search`. `reaching`: also
-`--whole-blocks` and rules with `before`. `all`: also `--atomic`, and `--search` with `--enough`."""
+`--whole-blocks`, rules with `before`, and `--search` with `--enough`. `all`: also `--atomic`."""

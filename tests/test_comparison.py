@@ -44,7 +44,7 @@ class TheProgram(unittest.TestCase):
                      for one in results if one.differences]
         self.assertEqual(differing, [])
         self.assertEqual(len(results), CASES)
-        self.assertGreater(sum(one.runs for one in results), 9 * CASES // 4)
+        self.assertGreater(sum(one.runs for one in results), 2 * CASES)
 
     def test_decides_big_scripts_as_the_reference(self):
         self.assertTrue(program().exists(), "%s is not built" % program())

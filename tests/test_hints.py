@@ -98,7 +98,8 @@ class Search(unittest.TestCase):
     def test_a_search_has_no_warnings(self):
         words, script = ["--with", "Copy:Copy"], b"start\ncreate /a\n"
         self.assertIn(b"warning: ", on_terminal([program(), *words], script).terminal)
-        self.assertEqual(on_terminal([program(), *words, "--search", "1"], script).terminal, b"")
+        for search in (["--search", "1"], ["--search", "1", "--enough"]):
+            self.assertEqual(on_terminal([program(), *words, *search], script).terminal, b"")
 
 
 if __name__ == "__main__":

@@ -187,10 +187,15 @@ class CrashmapPage(unittest.TestCase):
         status, out, err = self.is_the_programs("--nope")
         self.assertEqual((status, out, err != b""), (2, b"", True))
 
+    def test_a_search_for_rules_is_one_question(self):
+        words = ["--search", "2", "--enough"]
+        printed = self.make(*words, of=self.stand_in('echo "$@"\n'))[1].decode()
+        self.assertEqual(printed.split(), [*words, "--json", "--explain"])
+
     def test_words_that_do_not_go_together(self):
         """The program names all that it was given, so the page adds nothing."""
         for words in (["--needs", "--summary"], ["--decide", "--limit=5"], ["--explorer", "sweep", "--enough"],
-                      ["--decide", "--enough"]):
+                      ["--decide", "--enough"], ["--search", "2", "--enough", "--decide"]):
             with self.subTest(words):
                 status, out, err = self.is_the_programs(self.script, *words)
                 self.assertEqual((status, out, err != b""), (2, b"", True))

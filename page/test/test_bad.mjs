@@ -33,6 +33,9 @@ const noReports = [
   ["an empty object", "{}", "This report does not say what its patches are. Make it with --json --explain --summary."],
   ["a search", '{"failing":0,"kinds":[],"module":"soft","pool":0,"refused":[],"search":8,"workloads":0}\n',
     "This is the report of a search. The page shows the report of one script: make it of the steps of a workload."],
+  ["a search for rules", '{"enough":[[]],"failing":0,"module":"soft","needs":[],"pool":0,"refused":[],"search":8,' +
+    '"workloads":0}\n',
+    "This is the report of a search. The page shows the report of one script: make it of the steps of a workload."],
   ["a report without --explain", changed("create", ({ base, trace, ...rest }) => rest),
     "This report does not say what its patches are. Make it with --json --explain --summary."],
 ];

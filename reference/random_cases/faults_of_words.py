@@ -79,6 +79,8 @@ def reaching_fault(chance, module):
     if chance.random() < 0.5:
         return searching_fault(chance, module)
     kinds = [["--whole-blocks=yes"], ["--whole-blocks", "--whole-blocks"]]
+    kinds += [["--search=8", "--enough"] + more for more in (["--decide"], ["--summary"], ["--needs"],
+                                                             ["--limit", "4096"], ["--explorer", "auto"], ["--enough"])]
     kinds += [["--with", word] for word in NO_BEFORE_RULES]
     kinds += [["--with", "Ptr:before-Ptr", "--with", "Ptr:before-Ptr"], ["--without", "Ptr:before-Ptr"]]
     return ["--module", module] + chance.choice(kinds)

@@ -13,7 +13,7 @@ from .spoiled import mutate, spoil
 
 LEVELS = ("plain", "extended", "deciding", "choosing", "searching", "reaching", "all")
 """Which options a case may have: those of the first release; rules, ways to read a report and strict checkers too;
-`--decide` too; `--enough` too; `--search` too; `--whole-blocks` and rules with `before` too; all."""
+`--decide` too; `--enough` too; `--search` too; `--whole-blocks`, `before`, and searches for rules too; all."""
 
 WITH_QUESTIONS = {"deciding": (0.04, decide_fault, decide), "choosing": (0.04, choosing_fault, choose),
                   "searching": (0.05, searching_fault, search), "reaching": (0.06, reaching_fault, reach),

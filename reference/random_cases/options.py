@@ -104,7 +104,7 @@ def deciding(case, chance):
 def reach(case, chance):
     """Gives a case whole blocks, rules for all operations before, and a question about all its sets."""
     change_blocks_and_reach(case, chance)
-    ask_one_of(case, chance, [question for question in QUESTIONS if question != "search enough"])
+    ask_one_of(case, chance, QUESTIONS)
 
 
 def change_blocks_and_reach(case, chance):

@@ -173,7 +173,7 @@ static HEADS: [Head; 5] = [
                 name: "enough",
                 takes: Takes::NothingWithout(&["decide", "limit", "explorer", "summary", "needs"]),
                 help: "Find the smallest sets of the ordering's rules that are enough, and each group of which one \
-                       rule is needed, with the crash that comes without it",
+                       rule is needed, with the crash that comes without it; with --search for all workloads together",
             },
             Entry {
                 name: "search",
@@ -181,7 +181,7 @@ static HEADS: [Head; 5] = [
                     "N",
                     1,
                     8,
-                    &["decide", "enough", "limit", "explorer", "summary", "needs"],
+                    &["decide", "limit", "explorer", "summary", "needs"],
                 ),
                 help: "Try every workload of up to N operations, 1 to 8, out of the script's lines behind `start`, and \
                        show the first that fails for each kind of fault",

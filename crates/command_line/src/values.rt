@@ -77,15 +77,17 @@ pub(crate) fn report_by(matches: &ArgMatches<'_>) -> ReportBy {
     }
 }
 
-/// What to find out: each failing set, each fault with `--decide`, which rules are enough with `--enough`, or which
-/// workloads fail with `--search`.
+/// What to find out: each failing set, each fault with `--decide`, which rules are enough with `--enough`, which
+/// workloads fail with `--search`, or which rules are enough for all of them with both.
 pub(crate) fn question_of(matches: &ArgMatches<'_>) -> Question {
     if matches.get_flag("decide") {
-        Question::Decide
-    } else if matches.get_flag("enough") {
-        Question::Enough
-    } else {
-        searched(matches).map_or(Question::Visit, Question::Search)
+        return Question::Decide;
+    }
+    match (searched(matches), matches.get_flag("enough")) {
+        (Some(most), true) => Question::SearchRules(most),
+        (Some(most), false) => Question::Search(most),
+        (None, true) => Question::Enough,
+        (None, false) => Question::Visit,
     }
 }
 

@@ -16,12 +16,13 @@ use Rattle.crash_model.specs.declared.settings.Settings.{Settings}
 use Rattle.crash_model.specs.declared.steps.Step.{Step}
 use Rattle.questions.specs.Answers.{IsAnswerTo}
 use Rattle.questions.specs.declared.Question.{Question}
-use Rattle.questions.specs.declared.Question.TheVariants.{Visit, Decide, Enough, Search}
+use Rattle.questions.specs.declared.Question.TheVariants.{Visit, Decide, Enough, Search, SearchRules}
 use Rattle.search_model.specs.declared.most.Most.{Most}
 use Rattle.search_model.specs.SearchReport.{IsSearchRefusal, before_the_pool, no_operation}
 use Rattle.worked_example_laws.proofs.Scripts.{read_or_refused, script_one}
 use Rattle.crash_text.specs.BaseRefusal.{IsBaseRefusal}
 use Rattle.crash_text.specs.Searching.{IsNoPool, IsSearchOf}
+use Rattle.crash_text.specs.SearchingRules.{IsRuleSearchOf}
 use Rattle.crash_text.specs.Telling.{AreReported, AreRefused, IsOfSteps}
 
 -- whether a refusal is for too many closed sets
@@ -64,6 +65,7 @@ module _ (bytes : List ℕ) (settings : Settings) where
   refused_of Decide fault asked other is = (is, not_too_many fault other)
   refused_of Enough fault asked other is = (is, not_too_many fault other)
   refused_of (Search most) fault asked other is = absurd asked
+  refused_of (SearchRules most) fault asked other is = absurd asked
 
   -- and without a base each question
   refused_to : (question : Question) (fault : RunFault) → HasNone → is_too_many fault ≡ false
@@ -72,6 +74,7 @@ module _ (bytes : List ℕ) (settings : Settings) where
   refused_to Decide fault none other is = refused_of Decide fault tt other is
   refused_to Enough fault none other is = refused_of Enough fault tt other is
   refused_to (Search most) fault none other is = before_the_pool fault is none
+  refused_to (SearchRules most) fault none other is = before_the_pool fault is none
 
   pub refused_script : (question : Question) (fault : ScriptFault) → IsScriptRefusal bytes fault
       → IsAnswerTo question bytes settings (Refused (run_of_script fault))
@@ -136,11 +139,12 @@ module _ (bytes : List ℕ) (settings : Settings) where
     report = are.report;
   }
   reported_steps (Search most) base steps text number start are = absurd are.report
+  reported_steps (SearchRules most) base steps text number start are = absurd are.report
 
-  pub refused_pool : (most : Most) (base : Disk) (steps : List Step) (fault : RunFault)
-      → HasBase bytes settings base steps → IsNoPool steps fault
-      → IsAnswerTo (Search most) bytes settings (Refused fault)
-  refused_pool most base steps fault start is = subst (IsSearchRefusal bytes settings) (sym is.told)
+  -- what refuses a search refuses one for rules too
+  pub refused_pool : (base : Disk) (steps : List Step) (fault : RunFault) → HasBase bytes settings base steps
+      → IsNoPool steps fault → IsSearchRefusal bytes settings fault
+  refused_pool base steps fault start is = subst (IsSearchRefusal bytes settings) (sym is.told)
       (no_operation base is.front is.rest is.step (subst (HasBase bytes settings base) is.whole start) is.operations
       is.first)
 
@@ -148,6 +152,17 @@ module _ (bytes : List ℕ) (settings : Settings) where
       → HasBase bytes settings base steps → IsSearchOf settings most base steps text number
       → IsAnswerTo (Search most) bytes settings (Reported text number)
   reported_pool most base steps text number start is = record {
+    base = base;
+    pool = steps;
+    start = start;
+    operations = is.0;
+    report = is.1;
+  }
+
+  pub reported_rules : (most : Most) (base : Disk) (steps : List Step) (text : List ℕ) (number : ℕ)
+      → HasBase bytes settings base steps → IsRuleSearchOf settings most base steps text number
+      → IsAnswerTo (SearchRules most) bytes settings (Reported text number)
+  reported_rules most base steps text number start is = record {
     base = base;
     pool = steps;
     start = start;

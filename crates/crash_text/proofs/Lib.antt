@@ -2,6 +2,7 @@ pub mod Answering
 pub mod Needing
 pub mod Pools
 pub mod PoolReports
+pub mod RuleReports
 pub mod Serving
 pub mod Sparing
 pub mod Bodies

@@ -17,7 +17,7 @@ use Rattle.crash_model.specs.declared.settings.Settings.{Settings}
 use Rattle.devices.specs.Counted.{IsReadFault}
 use Rattle.questions.specs.Answers.{IsAnswerTo}
 use Rattle.questions.specs.declared.Question.{Question}
-use Rattle.questions.specs.declared.Question.TheVariants.{Visit, Decide, Enough, Search}
+use Rattle.questions.specs.declared.Question.TheVariants.{Visit, Decide, Enough, Search, SearchRules}
 use Rattle.questions.specs.declared.Request.{Request}
 use Rattle.search_model.specs.SearchReport.{IsSearchRefusal, before_the_pool, no_operation}
 use Rattle.crash_text.specs.Served.{IsWhole, IsRefusedBy}
@@ -96,6 +96,7 @@ refusal_is_of_run Visit bytes settings fault is = of_run is
 refusal_is_of_run Decide bytes settings fault is = of_run is.0
 refusal_is_of_run Enough bytes settings fault is = of_run is.0
 refusal_is_of_run (Search most) bytes settings fault is = search_is_of_run is
+refusal_is_of_run (SearchRules most) bytes settings fault is = search_is_of_run is
 
 -- where a run refused, the refusal is no device's
 pub not_of_device : {X : Type 0} (result : Result X RunFault) (bytes : List ℕ) (request : Request)

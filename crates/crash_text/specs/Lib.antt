@@ -1,5 +1,6 @@
 pub mod BaseRefusal
 pub mod Searching
+pub mod SearchingRules
 pub mod Served
 pub mod Status
 pub mod Telling

@@ -20,7 +20,7 @@ use Rattle.crash_model.specs.declared.steps.Step.{Step}
 use Rattle.decision_model.specs.Decision.{IsDecision}
 use Rattle.enough_model.specs.EnoughReport.{IsEnoughReport}
 use Rattle.questions.specs.declared.Question.{Question}
-use Rattle.questions.specs.declared.Question.TheVariants.{Visit, Decide, Enough, Search}
+use Rattle.questions.specs.declared.Question.TheVariants.{Visit, Decide, Enough, Search, SearchRules}
 use Rattle.traced_patches.specs.Traced.{TracedPatches}
 use Rattle.report_sections.specs.Bodies.{AreOnBase, TellsBody, explanation_by}
 use Rattle.report_sections.specs.declared.report.Body as code
@@ -66,6 +66,7 @@ Tells settings detail base t closed failing chosen text =
 -- the question is one about the steps of a script, and not about a pool
 abbrev pub IsOfSteps : Question → Type 0
 IsOfSteps (Search most) = ⊥
+IsOfSteps (SearchRules most) = ⊥
 IsOfSteps _ = Unit {0}
 
 -- the report that answers a question on a graph; a search is about many graphs
@@ -75,6 +76,7 @@ IsReportTo Decide settings kept base last patches text number = IsDecision setti
 IsReportTo Enough settings kept base last patches text number =
     IsEnoughReport settings kept base last patches text number
 IsReportTo (Search most) settings kept base last patches text number = ⊥
+IsReportTo (SearchRules most) settings kept base last patches text number = ⊥
 
 -- the text is that report on a traced script, whatever state traced its patches
 abbrev pub IsReportOn : {A : Type 0} → Question → Settings → TracedScript A → List ℕ → ℕ → Type 0

@@ -195,7 +195,8 @@ where
     A: Allocator + Copy,
     E: Write,
 {
-    if !host.gives_hints || matches!(question, Question::Search(_)) {
+    let searches = matches!(question, Question::Search(_) | Question::SearchRules(_));
+    if !host.gives_hints || searches {
         return;
     }
     let Ok(warnings) = warnings_of(host.alloc, asked) else {

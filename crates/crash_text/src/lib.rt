@@ -10,6 +10,7 @@ mod needs;
 pub mod progress;
 pub mod run;
 mod searching;
+mod searching_rules;
 pub mod serve;
 mod telling;
 mod traced_script;

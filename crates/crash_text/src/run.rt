@@ -17,6 +17,7 @@ use crate::enough::enough;
 use crate::host::Host;
 use crate::keeping::told_kept;
 use crate::searching::{Pool, searched};
+use crate::searching_rules::searched_for_rules;
 use crate::traced_script::TracedScript;
 use crate::visiting::visited;
 use crash_model::refusals::RunFault;
@@ -33,8 +34,8 @@ use std::thread::Threads;
 
 /// A report's text, and the number of its failing sets, or of its faults where that is the question.
 ///
-/// Where the question is which rules are enough, the number is 0 where all of them are, and else 1; of a search it is 1
-/// where a workload fails, and else 0.
+/// Where the question is which rules are enough, the number is 0 where all of them are, and else 1; of a search, for rules
+/// too, it is 1 where a workload fails, and else 0.
 #[derive(Drop)]
 pub struct Outcome<A: Allocator> {
     pub text: String<A>,
@@ -43,7 +44,7 @@ pub struct Outcome<A: Allocator> {
 
 /// Answers a question about a script: reads it, builds the base, traces the rest, visits what a crash can leave, or
 /// decides which faults it can leave or which rules are enough, and reports. A search takes the rest as a pool, and
-/// judges each workload of it.
+/// judges each workload of it; it can find, too, which rules are enough for all that do not fail.
 ///
 /// For every number of workers, 1 to 16, and every schedule, an answer other than out of memory is the one defined for
 /// the script's bytes and the settings, without threads. The gate gets each claim of a worker on a board, and
@@ -75,6 +76,10 @@ where
         Question::Search(most) => {
             let base = &base;
             searched(host, request, gate, &Pool { base, steps, most })
+        }
+        Question::SearchRules(most) => {
+            let base = &base;
+            searched_for_rules(host, request, gate, &Pool { base, steps, most })
         }
         Question::Visit | Question::Decide | Question::Enough => {
             answer_steps(host, request, gate, &base, steps)
@@ -145,7 +150,7 @@ where
             let outcome = enough(host, &request.settings, &script)?;
             Ok(outcome)
         }
-        Question::Search(_) => unreachable!(),
+        Question::Search(_) | Question::SearchRules(_) => unreachable!(),
     }
 }
 

@@ -38,8 +38,8 @@ pub(crate) struct Pool<'script, A: Allocator + Copy> {
 
 /// Tells a gate how many workloads were judged, as visited sets.
 #[derive(Drop)]
-struct WorkloadWatch<'a, G: Gate> {
-    gate: &'a G,
+pub(crate) struct WorkloadWatch<'a, G: Gate> {
+    pub gate: &'a G,
 }
 
 impl<'a, G: Gate> Watch for WorkloadWatch<'a, G> {
@@ -160,7 +160,7 @@ fn kind_crashes<'found, A: Allocator + Copy>(
 }
 
 /// Refuses the first step that is no operation.
-fn check_operations(steps: &[Step]) -> Result<(), RunFault>
+pub(crate) fn check_operations(steps: &[Step]) -> Result<(), RunFault>
     ensures ok { OnOk result (All IsOperation steps.now) }
     ensures refused { IfErr result (IsNoPool steps.now) }
 {

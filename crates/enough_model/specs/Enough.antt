@@ -25,6 +25,20 @@ rules_in rules set = rules_where rules (has set)
 abbrev pub rules_but : List Rule → ℕ → List Rule
 rules_but rules set = rules_where rules (λ place. not (has set place))
 
+-- a minimal set of rules that are enough for a purpose: those of no smaller part are
+pub record IsMinimalFor (IsEnough : List Rule → Type 0) (rules : List Rule) (set : ℕ) : Type 0 where
+  pub places : ArePlaces rules set
+  pub enough : IsEnough (rules_in rules set)
+  pub minimal : (part : ℕ) → IsSubset part set → part ≢ set → ¬ (IsEnough (rules_in rules part))
+
+-- a minimal group of rules of which one is needed for it: all rules but the group are not enough, and all but a smaller
+-- part of it are
+pub record IsNeededFor (IsEnough : List Rule → Type 0) (rules : List Rule) (group : ℕ) : Type 0 where
+  pub places : ArePlaces rules group
+  pub some : group ≢ 0
+  pub needed : ¬ (IsEnough (rules_but rules group))
+  pub minimal : (part : ℕ) → IsSubset part group → part ≢ group → IsEnough (rules_but rules part)
+
 -- these rules are enough: no closed set of the patches by them fails
 abbrev pub AreEnough : Option ℕ → Disk → Tracing → List Rule → Type 0
 AreEnough kept base s rules = HasGraphBy rules base s (λ patches. (set : ℕ) → ¬ (IsFailingUnder kept base patches set))

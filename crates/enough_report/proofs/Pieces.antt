@@ -11,14 +11,15 @@ use Rattle.crash_model.specs.Lists.{join_of, when}
 use Rattle.crash_model.specs.Report.{fault_text, ids_json, json_string, line, module_text, replay_json, writes_json}
 use Rattle.crash_model.specs.Whole.{rules_json, told_with, told_without}
 use Rattle.crash_model.specs.declared.rules.Rule.{Rule}
-use Rattle.decision_model.specs.Decision.{decided_text}
+use Rattle.decision_model.specs.Decision.{ToldDecided, decided_text}
 use Rattle.decision_report.specs.Written.{head_lines}
 use Rattle.enough_model.specs.EnoughReport.{ToldGroup, first_fault_json, group_json, group_text, json_rules_report}
 use Rattle.enough_model.specs.EnoughReport.{rules_report_bytes, rules_text, set_json, text_rules_report}
 use Rattle.json_values.specs.Items.{leading_json}
 use Rattle.report_json.specs.JsonReport.{strict_key, whole_key, from_strict}
 use Rattle.report_sections.specs.Bodies.{explanation_by}
-use Rattle.enough_report.specs.Found.{group_items, group_lines, report_of, set_items, told_first, told_group}
+use Rattle.enough_report.specs.Found.{group_head, group_items, group_lines, report_of, set_items, told_first}
+use Rattle.enough_report.specs.Found.{told_group}
 use Rattle.enough_report.specs.declared.findings.EnoughFindings.{EnoughFindings}
 
 -- the bytes of a report in JSON or in text
@@ -63,34 +64,45 @@ text_pieces {A = A} found rules n empty head sets groups last same number none f
     ∙ ap (λ (t : List ℕ). t ++ count ++ flat_map (rules_text all (codes "rules")) found.enough.now)
     (first ∙ ap (λ (t : List ℕ). t ++ start) none))))))))
 
--- the object of a group
-pub group_pieces : (rules : List Rule) (n : ℕ) (told : ToldGroup)
-    (before one two three four five six seven after : List ℕ)
+-- the keys of a group's object before the set
+pub group_head_pieces : (rules : List Rule) (group : ℕ) (fault : ToldDecided)
+    (before one two three four five after : List ℕ)
     → one ≡ before ++ codes "{\"fault\":"
-    → two ≡ one ++ json_string (fault_text told.fault.decided.fault)
+    → two ≡ one ++ json_string (fault_text fault.decided.fault)
     → three ≡ two ++ codes ","
-    → four ≡ three ++ replay_json told.fault.first.replay
+    → four ≡ three ++ replay_json fault.first.replay
     → five ≡ four ++ codes "\"rules\":"
-    → six ≡ five ++ set_json rules told.group
-    → seven ≡ six ++ codes ","
-    → after ≡ seven ++ leading_json n told.fault.first
-    → after ≡ before ++ group_json rules n told
-group_pieces rules n told before one two three four five six seven after first second third fourth fifth sixth seventh
-    eighth =
-    let fault = json_string (fault_text told.fault.decided.fault) in
-    let replay = replay_json told.fault.first.replay in
-    let set = set_json rules told.group in
-    eighth ∙ (ap (λ (t : List ℕ). t ++ leading_json n told.fault.first)
-    (seventh ∙ ap (λ (t : List ℕ). t ++ codes ",") (sixth ∙ ap (λ (t : List ℕ). t ++ set)
-    (fifth ∙ ap (λ (t : List ℕ). t ++ codes "\"rules\":") (fourth ∙ ap (λ (t : List ℕ). t ++ replay)
-    (third ∙ ap (λ (t : List ℕ). t ++ codes ",") (second ∙ ap (λ (t : List ℕ). t ++ fault) first))))))
-    ∙ regroup before (codes "{\"fault\":") fault (codes ",") replay (codes "\"rules\":") set (codes "\"set\":")
-    (ids_json n told.fault.first.set) (codes ",\"writes\":") (writes_json n told.fault.first.writes) (codes "}"))
+    → after ≡ five ++ set_json rules group
+    → after ≡ before ++ group_head rules group fault
+group_head_pieces rules group fault before one two three four five after first second third fourth fifth sixth =
+    let text = json_string (fault_text fault.decided.fault) in
+    let replay = replay_json fault.first.replay in
+    let set = set_json rules group in
+    sixth ∙ (ap (λ (t : List ℕ). t ++ set) (fifth ∙ ap (λ (t : List ℕ). t ++ codes "\"rules\":")
+    (fourth ∙ ap (λ (t : List ℕ). t ++ replay) (third ∙ ap (λ (t : List ℕ). t ++ codes ",")
+    (second ∙ ap (λ (t : List ℕ). t ++ text) first))))
+    ∙ regroup before (codes "{\"fault\":") text (codes ",") replay (codes "\"rules\":") set)
   where
-    regroup : (before a b c d e f g h i j k : List ℕ)
-        → before ++ a ++ b ++ c ++ d ++ e ++ f ++ c ++ (g ++ h ++ i ++ j ++ k)
-        ≡ before ++ (a ++ b ++ c ++ d ++ e ++ f ++ (c ++ g) ++ h ++ i ++ j ++ k)
-    regroup before a b c d e f g h i j k = simp append_assoc
+    regroup : (before a b c d e f : List ℕ)
+        → before ++ a ++ b ++ c ++ d ++ e ++ f ≡ before ++ (a ++ b ++ c ++ d ++ e ++ f)
+    regroup before a b c d e f = simp append_assoc
+
+-- the object of a group
+pub group_pieces : (rules : List Rule) (n : ℕ) (told : ToldGroup) (before one two after : List ℕ)
+    → one ≡ before ++ group_head rules told.group told.fault
+    → two ≡ one ++ codes ","
+    → after ≡ two ++ leading_json n told.fault.first
+    → after ≡ before ++ group_json rules n told
+group_pieces rules n told before one two after first second third =
+    let head = group_head rules told.group told.fault in
+    third ∙ (ap (λ (t : List ℕ). t ++ leading_json n told.fault.first)
+    (second ∙ ap (λ (t : List ℕ). t ++ codes ",") first)
+    ∙ regroup before head (codes ",") (codes "\"set\":") (ids_json n told.fault.first.set) (codes ",\"writes\":")
+    (writes_json n told.fault.first.writes) (codes "}"))
+  where
+    regroup : (before f c g h i j k : List ℕ)
+        → before ++ f ++ c ++ (g ++ h ++ i ++ j ++ k) ≡ before ++ (f ++ (c ++ g) ++ h ++ i ++ j ++ k)
+    regroup before f c g h i j k = simp append_assoc
 
 -- the keys up to the sets that are enough
 json_start : (base closed items empty one two three four after : List ℕ) → empty ≡ []

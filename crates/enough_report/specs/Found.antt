@@ -1,6 +1,7 @@
 -- What is found of the rules that a script needs, as the definition of the report sees it.
-use Rattle.std.specs.Prelude.{ℕ, List, length, map, flat_map, option_map}
+use Rattle.std.specs.Prelude.{ℕ, List, ◌++◌, codes, length, map, flat_map, option_map}
 use Rattle.crash_model.specs.Lists.{join_of, when}
+use Rattle.crash_model.specs.Report.{fault_text, json_string, replay_json}
 use Rattle.crash_model.specs.declared.rules.Rule.{Rule}
 use Rattle.decision_model.specs.Decision.{ToldDecided}
 use Rattle.enough_model.specs.EnoughReport.{RulesReport, ToldGroup, set_json, group_json, group_text}
@@ -36,3 +37,10 @@ set_items rules sets = join_of 44 (map (set_json rules) sets)
 
 abbrev pub group_items : {A : Type 0} → List Rule → ℕ → List (NeededGroup A) → List ℕ
 group_items rules n groups = join_of 44 (map (λ needed. group_json rules n (told_group needed)) groups)
+
+-- the keys of a group's object before the set
+abbrev pub group_head : List Rule → ℕ → ToldDecided → List ℕ
+group_head rules group fault =
+    codes "{\"fault\":" ++ json_string (fault_text fault.decided.fault) ++ codes ","
+    ++ replay_json fault.first.replay
+    ++ codes "\"rules\":" ++ set_json rules group

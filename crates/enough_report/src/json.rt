@@ -4,7 +4,7 @@ ghost use Rattle.std.specs.Prelude.{◌≡◌, ◌++◌, [], option_map};
 ghost use Rattle.std.specs.Prelude.{string_bytes, IfOk, OnOk};
 ghost use Rattle.crash_model.specs.Answer.{ordering_rules};
 ghost use Rattle.enough_model.specs.EnoughReport.{first_fault_json, group_json, json_rules_report, set_json};
-ghost use Rattle.enough_report.specs.Found.{group_items, report_of, set_items, told_first, told_group};
+ghost use Rattle.enough_report.specs.Found.{group_head, group_items, report_of, set_items, told_first, told_group};
 
 use crate::findings::{EnoughFindings, FirstFault, NeededGroup};
 use chosen_rules::rules_in;
@@ -58,8 +58,8 @@ fn write_findings<A: Allocator + Copy>(
     Ok(())
 }
 
-/// The arrays of the sets, with a comma between two.
-fn write_sets(out: &mut String, ordering: &Ordering, sets: &[u128]) -> Result<(), AllocError>
+/// The arrays of the sets of rules, with a comma between two. It fails only when out of memory.
+pub fn write_sets(out: &mut String, ordering: &Ordering, sets: &[u128]) -> Result<(), AllocError>
     ensures { OnOk result (string_bytes out.new
         ≡ string_bytes out.old ++ set_items ordering.now.rules.items sets.now) }
 {
@@ -127,13 +127,31 @@ fn write_group<A: Allocator>(
         ≡ string_bytes out.old ++ group_json ordering.now.rules.items known.old (told_group needed.now)) }
     ensures known { known.new ≡ known.old }
 {
-    let section = &needed.fault.section;
+    write_group_head(out, known, ordering, needed.group, &needed.fault)?;
+    out.push_str(",")?;
+    known.push_leading(out, &needed.fault.section)
+}
+
+/// The first keys of the object of a group of which one rule is needed: the first fault that a crash can leave without
+/// the group, the blocks that replay changes where these are told, and the rules of the group.
+///
+/// It fails only when out of memory.
+pub fn write_group_head<A: Allocator>(
+    out: &mut String,
+    known: &mut KnownTexts,
+    ordering: &Ordering,
+    group: u128,
+    fault: &FirstFault<A>,
+) -> Result<(), AllocError>
+    ensures text { OnOk result (string_bytes out.new
+        ≡ string_bytes out.old ++ group_head ordering.now.rules.items group (told_first fault.now)) }
+    ensures known { known.new ≡ known.old }
+{
     out.push_str("{\"fault\":")?;
-    known.push_fault(out, needed.fault.decided.fault)?;
+    known.push_fault(out, fault.decided.fault)?;
     out.push_str(",")?;
-    push_replay(out, &section.replay)?;
+    push_replay(out, &fault.section.replay)?;
     out.push_str("\"rules\":")?;
-    write_set(out, ordering, needed.group)?;
-    out.push_str(",")?;
-    known.push_leading(out, section)
+    write_set(out, ordering, group)?;
+    Ok(())
 }

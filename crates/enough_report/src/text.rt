@@ -38,8 +38,8 @@ pub fn enough_text<A: Allocator + Copy>(
     Ok(out)
 }
 
-/// The number of sets that are enough, and a line for each.
-fn write_sets<A: Allocator>(
+/// The number of sets of rules that are enough, and a line for each. It fails only when out of memory.
+pub fn write_sets<A: Allocator>(
     out: &mut String<A>,
     ordering: &Ordering,
     sets: &[u128],
@@ -68,8 +68,8 @@ fn write_each_set<A: Allocator>(
     Ok(())
 }
 
-/// The line of a set of rules: the word, and each rule of the set after a space.
-fn write_set<A: Allocator>(
+/// The line of a set of rules: the word, and each rule of the set after a space. It fails only when out of memory.
+pub fn write_set<A: Allocator>(
     out: &mut String<A>,
     word: &str,
     ordering: &Ordering,

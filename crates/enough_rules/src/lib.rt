@@ -5,10 +5,12 @@
 #![tactic(auto)]
 
 mod asking;
+mod blocking;
 #[cfg(test)]
 mod known;
 mod oracle;
 mod sets;
 
+pub use blocking::blocking_groups;
 pub use oracle::Oracle;
-pub use sets::{EnoughSets, enough_sets};
+pub use sets::{EnoughSets, enough_sets, sets_of};

@@ -7,9 +7,10 @@ use Rattle.crash_model.specs.declared.settings.Settings.{Settings}
 use Rattle.decision_model.specs.Decision.{IsDecided}
 use Rattle.enough_model.specs.EnoughReport.{IsEnoughAnswer}
 use Rattle.questions.specs.declared.Question.{Question}
-use Rattle.questions.specs.declared.Question.TheVariants.{Visit, Decide, Enough, Search}
+use Rattle.questions.specs.declared.Question.TheVariants.{Visit, Decide, Enough, Search, SearchRules}
 use Rattle.search_model.specs.Most.{number_of_most}
 use Rattle.search_model.specs.SearchReport.{IsSearched, IsSearchRefusal}
+use Rattle.search_rules_model.specs.SearchRulesReport.{IsSearchedForRules}
 
 -- a refusal where no closed set is visited: that of a visit, but never for too many closed sets
 abbrev pub IsRefusedUnvisited : List ℕ → Settings → RunFault → Type 0
@@ -24,3 +25,6 @@ IsAnswerTo Enough bytes settings (Reported text number) = IsEnoughAnswer bytes s
 IsAnswerTo (Search most) bytes settings (Refused fault) = IsSearchRefusal bytes settings fault
 IsAnswerTo (Search most) bytes settings (Reported text number) =
     IsSearched bytes settings (number_of_most most) text number
+IsAnswerTo (SearchRules most) bytes settings (Refused fault) = IsSearchRefusal bytes settings fault
+IsAnswerTo (SearchRules most) bytes settings (Reported text number) =
+    IsSearchedForRules bytes settings (number_of_most most) text number

@@ -19,6 +19,9 @@ pub enum Question {
     /// Which workloads fail, out of all of up to so many operations of the pool that the script's lines behind `start`
     /// are. No closed set need be visited, so there is no limit.
     Search(Most),
+    /// Which sets of rules are enough for all workloads of such a search together, and of which rules one is needed. A
+    /// workload that fails by all rules says nothing of them. No closed set need be visited, so there is no limit.
+    SearchRules(Most),
 }
 
 /// A question, the settings that it is asked under, and the number of threads that answer it, 1 to 16.

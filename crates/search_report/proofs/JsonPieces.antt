@@ -2,16 +2,19 @@
 use Rattle.std.proofs.Common.{◌≡◌, ℕ, List, [], ◌++◌, length, map, codes, decimal, sym, ap, ◌∙◌, append_assoc}
 use Rattle.std.proofs.lemmas.Simd.{map-map}
 use Rattle.crash_model.specs.Lists.{join_of}
-use Rattle.crash_model.specs.Report.{fault_text, ids_json, json_string, module_text, replay_json, write_json}
+use Rattle.crash_model.specs.Report.{fault_text, ids_json, json_array, json_string, module_text, replay_json}
+use Rattle.crash_model.specs.Report.{write_json}
 use Rattle.crash_model.specs.Whole.{rules_json, told_with, told_without}
+use Rattle.crash_model.specs.declared.settings.Settings.{Settings}
 use Rattle.crash_model.specs.declared.steps.Step.{Step}
 use Rattle.report_json.specs.JsonReport.{strict_key, whole_key}
 use Rattle.report_sections.specs.Replay.{told_replay}
 use Rattle.search_model.specs.Kinds.{kind_number, kind_name}
 use Rattle.search_model.specs.Refused.{refusal_number, refusal_text}
 use Rattle.search_model.specs.SearchReport.{json_search, kind_json, refused_json, step_text}
+use Rattle.search_model.specs.declared.found.Found.{Found}
 use Rattle.search_model.specs.declared.found.RefusedCount.{RefusedCount}
-use Rattle.search_report.specs.Findings.{kind_head, kind_items, ordering_keys, told_kind, told_kinds}
+use Rattle.search_report.specs.Findings.{kind_head, kind_items, last_keys, ordering_keys, told_kind, told_kinds}
 use Rattle.search_report.specs.declared.findings.KindCrash.{KindCrash}
 use Rattle.search_report.specs.declared.findings.SearchFindings.{SearchFindings}
 
@@ -60,33 +63,31 @@ kind_head_pieces k number name before one two three after number_is name_is firs
     regroup before a o f p b n c q m d r = simp append_assoc
 
 -- the object of a kind
-pub kind_pieces : {A : Type 0} (pool : List Step) (k : KindCrash A) (n : ℕ) (steps : List (List ℕ))
+pub kind_pieces : {A : Type 0} (pool : List Step) (k : KindCrash A) (n : ℕ)
     (before one two three four five six seven after : List ℕ) → n ≡ k.patches
-    → steps ≡ map (λ step. json_string (step_text step)) (told_kind pool k).steps
     → one ≡ before ++ kind_head k
     → two ≡ one ++ codes "\"set\":"
     → three ≡ two ++ ids_json k.patches k.section.set
     → four ≡ three ++ codes ",\"steps\":["
-    → five ≡ four ++ join_of 44 steps
+    → five ≡ four ++ join_of 44 (map (λ step. json_string (step_text step)) (told_kind pool k).steps)
     → six ≡ five ++ (codes "],\"workloads\":" ++ (decimal k.shown.now.workloads ++ codes ",\"writes\":["))
     → seven ≡ six ++ join_of 44 (map (write_json n) k.section.writes.items)
     → after ≡ seven ++ codes "]}"
     → after ≡ before ++ kind_json (told_kind pool k)
-kind_pieces pool k n steps before one two three four five six seven after n_is steps_are first second third fourth
-    fifth sixth seventh eighth =
-    let texts = map (λ step. json_string (step_text step)) (told_kind pool k).steps in
+kind_pieces pool k n before one two three four five six seven after n_is first second third fourth fifth sixth seventh
+    eighth =
+    let texts = join_of 44 (map (λ step. json_string (step_text step)) (told_kind pool k).steps) in
     let writes = join_of 44 (map (write_json k.patches) k.section.writes.items) in
     let ids = ids_json k.patches k.section.set in
     let count = codes "],\"workloads\":" ++ (decimal k.shown.now.workloads ++ codes ",\"writes\":[") in
     let set : three ≡ before ++ kind_head k ++ codes "\"set\":" ++ ids = third ∙ ap (λ (t : List ℕ). t ++ ids)
     (second ∙ ap (λ (t : List ℕ). t ++ codes "\"set\":") first) in
-    let told : five ≡ before ++ kind_head k ++ codes "\"set\":" ++ ids ++ codes ",\"steps\":[" ++ join_of 44 texts =
-    fifth ∙ (ap (λ (ts : List (List ℕ)). four ++ join_of 44 ts) steps_are
-    ∙ ap (λ (t : List ℕ). t ++ join_of 44 texts) (fourth ∙ ap (λ (t : List ℕ). t ++ codes ",\"steps\":[") set)) in
+    let told : five ≡ before ++ kind_head k ++ codes "\"set\":" ++ ids ++ codes ",\"steps\":[" ++ texts =
+    fifth ∙ ap (λ (t : List ℕ). t ++ texts) (fourth ∙ ap (λ (t : List ℕ). t ++ codes ",\"steps\":[") set) in
     eighth ∙ (ap (λ (t : List ℕ). t ++ codes "]}") (seventh
     ∙ (ap (λ (j : ℕ). six ++ join_of 44 (map (write_json j) k.section.writes.items)) n_is
     ∙ ap (λ (t : List ℕ). t ++ writes) (sixth ∙ ap (λ (t : List ℕ). t ++ count) told)))
-    ∙ regroup before (kind_head k) (codes "\"set\":") ids (codes ",\"steps\":") (codes "[") (join_of 44 texts)
+    ∙ regroup before (kind_head k) (codes "\"set\":") ids (codes ",\"steps\":") (codes "[") texts
     (codes "]") (codes ",\"workloads\":") (decimal k.shown.now.workloads) (codes ",\"writes\":") writes (codes "}"))
   where
     regroup : (before h s i t o p q w n x y z : List ℕ)
@@ -94,52 +95,61 @@ kind_pieces pool k n steps before one two three four five six seven after n_is s
         ≡ before ++ (h ++ s ++ i ++ t ++ (o ++ p ++ q) ++ w ++ n ++ x ++ (o ++ y ++ q) ++ z)
     regroup before h s i t o p q w n x y z = simp append_assoc
 
+-- the keys behind the module's
+pub last_pieces : (settings : Settings) (most pool : ℕ) (found : Found) (before one two three four after : List ℕ)
+    → one ≡ before ++ (codes ",\"pool\":" ++ (decimal pool ++ codes ",\"refused\":["))
+    → two ≡ one ++ join_of 44 (map refused_json found.refused.items)
+    → three ≡ two ++ (codes "],\"search\":" ++ decimal most)
+    → four ≡ three ++ ordering_keys settings
+    → after ≡ four ++ (codes ",\"workloads\":" ++ (decimal found.workloads ++ codes "}\n"))
+    → after ≡ before ++ last_keys settings most pool found
+last_pieces settings most pool found before one two three four after first second third fourth fifth =
+    let number = codes ",\"pool\":" ++ (decimal pool ++ codes ",\"refused\":[") in
+    let refused = join_of 44 (map refused_json found.refused.items) in
+    let longest = codes "],\"search\":" ++ decimal most in
+    let keys = ordering_keys settings in
+    let end = codes ",\"workloads\":" ++ (decimal found.workloads ++ codes "}\n") in
+    fifth ∙ (ap (λ (t : List ℕ). t ++ end) (fourth ∙ ap (λ (t : List ℕ). t ++ keys)
+    (third ∙ ap (λ (t : List ℕ). t ++ longest) (second ∙ ap (λ (t : List ℕ). t ++ refused) first)))
+    ∙ regroup before (codes ",\"pool\":") (decimal pool) (codes ",\"refused\":") (codes "[") refused (codes "]")
+    (codes ",\"search\":") (decimal most) keys (codes ",\"workloads\":") (decimal found.workloads) (codes "}\n"))
+  where
+    regroup : (before e n f o r p g s k h w i : List ℕ)
+        → before ++ (e ++ (n ++ (f ++ o))) ++ r ++ ((p ++ g) ++ s) ++ k ++ (h ++ (w ++ i))
+        ≡ before ++ (e ++ n ++ f ++ (o ++ r ++ p) ++ g ++ s ++ k ++ h ++ w ++ i)
+    regroup before e n f o r p g s k h w i = simp append_assoc
+
 -- the whole object
-pub json_pieces : {A : Type 0} (f : SearchFindings A)
-    (empty one two three four five six seven eight last : List ℕ) → empty ≡ []
+pub json_pieces : {A : Type 0} (f : SearchFindings A) (empty one two three four last : List ℕ) → empty ≡ []
     → one ≡ empty ++ (codes "{\"failing\":" ++ (decimal f.found.now.failing ++ codes ",\"kinds\":["))
     → two ≡ one ++ kind_items f.pool.now f.kinds.now
     → three ≡ two ++ codes "]"
     → four ≡ three ++ (codes ",\"module\":" ++ json_string (module_text f.settings.now.module))
-    → five ≡ four ++ (codes ",\"pool\":" ++ (decimal (length f.pool.now) ++ codes ",\"refused\":["))
-    → six ≡ five ++ join_of 44 (map refused_json f.found.now.refused.items)
-    → seven ≡ six ++ (codes "],\"search\":" ++ decimal f.most)
-    → eight ≡ seven ++ ordering_keys f.settings.now
-    → last ≡ eight ++ (codes ",\"workloads\":" ++ (decimal f.found.now.workloads ++ codes "}\n"))
+    → last ≡ four ++ last_keys f.settings.now f.most (length f.pool.now) f.found.now
     → last ≡ json_search f.settings.now f.most (length f.pool.now) f.found.now (told_kinds f)
 unfolding json_search
-json_pieces {A = A} f empty one two three four five six seven eight last none first second third fourth fifth sixth
-    seventh eighth ninth =
+json_pieces {A = A} f empty one two three four last none first second third fourth fifth =
     let settings = f.settings.now in
     let found = f.found.now in
     let pool = length f.pool.now in
     let head = codes "{\"failing\":" ++ (decimal found.failing ++ codes ",\"kinds\":[") in
     let kinds = join_of 44 (map kind_json (told_kinds f)) in
     let name = codes ",\"module\":" ++ json_string (module_text settings.module) in
-    let number = codes ",\"pool\":" ++ (decimal pool ++ codes ",\"refused\":[") in
-    let refused = join_of 44 (map refused_json found.refused.items) in
-    let most = codes "],\"search\":" ++ decimal f.most in
-    let keys = ordering_keys settings in
-    let end = codes ",\"workloads\":" ++ (decimal found.workloads ++ codes "}\n") in
-    let start : four ≡ head ++ kinds ++ codes "]" ++ name =
-    fourth ∙ ap (λ (t : List ℕ). t ++ name) (third ∙ ap (λ (t : List ℕ). t ++ codes "]")
+    let end = last_keys settings f.most pool found in
+    fifth ∙ (ap (λ (t : List ℕ). t ++ end) (fourth ∙ ap (λ (t : List ℕ). t ++ name)
+    (third ∙ ap (λ (t : List ℕ). t ++ codes "]")
     (second ∙ (ap (λ (ts : List (List ℕ)). one ++ join_of 44 ts)
     (sym (map-map kind_json (told_kind {A = A} f.pool.now) f.kinds.now))
-    ∙ ap (λ (t : List ℕ). t ++ kinds) (first ∙ ap (λ (t : List ℕ). t ++ head) none)))) in
-    let counts : six ≡ head ++ kinds ++ codes "]" ++ name ++ number ++ refused =
-    sixth ∙ ap (λ (t : List ℕ). t ++ refused) (fifth ∙ ap (λ (t : List ℕ). t ++ number) start) in
-    ninth ∙ (ap (λ (t : List ℕ). t ++ end) (eighth ∙ ap (λ (t : List ℕ). t ++ keys) (seventh
-    ∙ ap (λ (t : List ℕ). t ++ most) counts))
+    ∙ ap (λ (t : List ℕ). t ++ kinds) (first ∙ ap (λ (t : List ℕ). t ++ head) none)))))
     ∙ regroup (codes "{\"failing\":") (decimal found.failing) (codes ",\"kinds\":") (codes "[") kinds (codes "]")
     (codes ",\"module\":") (json_string (module_text settings.module)) (codes ",\"pool\":") (decimal pool)
-    (codes ",\"refused\":") refused (codes ",\"search\":") (decimal f.most) (strict_key settings.strict)
-    (whole_key settings.whole_blocks)
+    (codes ",\"refused\":") (json_array (map refused_json found.refused.items)) (codes ",\"search\":")
+    (decimal f.most) (strict_key settings.strict) (whole_key settings.whole_blocks)
     (rules_json (codes "with") (told_with settings)) (rules_json (codes "without") (told_without settings))
     (codes ",\"workloads\":") (decimal found.workloads) (codes "}\n"))
   where
     regroup : (a b c o k p d m e n f r g s x v y z h w i : List ℕ)
-        → (a ++ (b ++ (c ++ o))) ++ k ++ p ++ (d ++ m) ++ (e ++ (n ++ (f ++ o))) ++ r ++ ((p ++ g) ++ s)
-        ++ (x ++ v ++ y ++ z) ++ (h ++ (w ++ i))
-        ≡ a ++ b ++ c ++ (o ++ k ++ p) ++ d ++ m ++ e ++ n ++ f ++ (o ++ r ++ p) ++ g ++ s ++ x ++ v ++ y ++ z ++ h ++ w
-        ++ i
+        → (a ++ (b ++ (c ++ o))) ++ k ++ p ++ (d ++ m)
+        ++ (e ++ n ++ f ++ r ++ g ++ s ++ (x ++ v ++ y ++ z) ++ h ++ w ++ i)
+        ≡ a ++ b ++ c ++ (o ++ k ++ p) ++ d ++ m ++ e ++ n ++ f ++ r ++ g ++ s ++ x ++ v ++ y ++ z ++ h ++ w ++ i
     regroup a b c o k p d m e n f r g s x v y z h w i = simp append_assoc

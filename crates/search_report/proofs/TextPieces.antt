@@ -54,22 +54,22 @@ refusal_pieces r number text before after number_is text_is wrote =
     regroup a b c d e f g = simp append_assoc
 
 -- the lines of a kind
-pub kind_pieces : (t : ToldKind) (number : ℕ) (name steps before one two after : List ℕ)
+pub kind_pieces : (t : ToldKind) (number : ℕ) (name before one two after : List ℕ)
     → number ≡ kind_number t.shown.kind → name ≡ kind_name t.shown.kind
-    → steps ≡ flat_map (λ step. line (codes "step " ++ step_text step)) t.steps
     → one ≡ before ++ (codes "kind " ++ (decimal number ++ (codes " " ++ (name ++ (codes "\nworkloads "
     ++ (decimal t.shown.workloads ++ codes "\n"))))))
-    → two ≡ one ++ steps → after ≡ two ++ section_text t.patches t.first
+    → two ≡ one ++ flat_map (λ step. line (codes "step " ++ step_text step)) t.steps
+    → after ≡ two ++ section_text t.patches t.first
     → after ≡ before ++ kind_text t
-kind_pieces t number name steps before one two after number_is name_is steps_are first second third =
+kind_pieces t number name before one two after number_is name_is first second third =
     let kind = t.shown.kind in
     let lines = flat_map (λ step. line (codes "step " ++ step_text step)) t.steps in
     let section = section_text t.patches t.first in
     let head = λ (k : ℕ) (text : List ℕ). codes "kind " ++ (decimal k ++ (codes " " ++ (text ++ (codes "\nworkloads "
     ++ (decimal t.shown.workloads ++ codes "\n"))))) in
-    third ∙ (ap (λ (t : List ℕ). t ++ section) (second ∙ (ap (λ (t : List ℕ). one ++ t) steps_are
-    ∙ ap (λ (t : List ℕ). t ++ lines) (first ∙ (ap (λ (k : ℕ). before ++ head k name) number_is
-    ∙ ap (λ (text : List ℕ). before ++ head (kind_number kind) text) name_is))))
+    third ∙ (ap (λ (t : List ℕ). t ++ section) (second ∙ ap (λ (t : List ℕ). t ++ lines)
+    (first ∙ (ap (λ (k : ℕ). before ++ head k name) number_is
+    ∙ ap (λ (text : List ℕ). before ++ head (kind_number kind) text) name_is)))
     ∙ regroup before (codes "kind ") (decimal (kind_number kind)) (codes " ") (kind_name kind) (codes "\n")
     (codes "workloads ") (decimal t.shown.workloads) lines section)
   where

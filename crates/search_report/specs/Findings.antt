@@ -10,8 +10,9 @@ use Rattle.report_json.specs.JsonReport.{strict_key, whole_key}
 use Rattle.report_sections.specs.Replay.{told_replay}
 use Rattle.report_sections.specs.Sections.{section_of}
 use Rattle.search_model.specs.Kinds.{kind_number, kind_name}
-use Rattle.search_model.specs.SearchReport.{ToldKind, kind_json, kind_text}
+use Rattle.search_model.specs.SearchReport.{ToldKind, kind_json, kind_text, refused_json}
 use Rattle.search_model.specs.Workloads.{steps_at}
+use Rattle.search_model.specs.declared.found.Found.{Found}
 use Rattle.search_report.specs.declared.findings.KindCrash.{KindCrash}
 use Rattle.search_report.specs.declared.findings.SearchFindings.{SearchFindings}
 
@@ -54,3 +55,13 @@ ordering_keys settings =
     ++ whole_key settings.whole_blocks
     ++ rules_json (codes "with") (told_with settings)
     ++ rules_json (codes "without") (told_without settings)
+
+-- the keys behind the module's, the object's end and a line feed; a pool has so many operations
+abbrev pub last_keys : Settings → ℕ → ℕ → Found → List ℕ
+last_keys settings most pool found =
+    codes ",\"pool\":" ++ decimal pool
+    ++ codes ",\"refused\":" ++ json_array (map refused_json found.refused.items)
+    ++ codes ",\"search\":" ++ decimal most
+    ++ ordering_keys settings
+    ++ codes ",\"workloads\":" ++ decimal found.workloads
+    ++ codes "}\n"

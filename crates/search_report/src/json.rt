@@ -5,9 +5,10 @@ ghost use Rattle.std.specs.List.{All};
 ghost use Rattle.crash_model.specs.Lists.{join_of};
 ghost use Rattle.crash_model.specs.Explain.{op_text};
 ghost use Rattle.crash_model.specs.Report.{json_string};
-ghost use Rattle.search_model.specs.SearchReport.{json_search, kind_json, refused_json};
-ghost use Rattle.search_model.specs.Workloads.{IsOperation};
-ghost use Rattle.search_report.specs.Findings.{kind_head, kind_items, ordering_keys, told_kind, told_kinds};
+ghost use Rattle.search_model.specs.SearchReport.{json_search, kind_json, refused_json, step_text};
+ghost use Rattle.search_model.specs.Workloads.{IsOperation, steps_at};
+ghost use Rattle.search_report.specs.Findings.{kind_head, kind_items, last_keys, ordering_keys, told_kind};
+ghost use Rattle.search_report.specs.Findings.{told_kinds};
 
 use crate::findings::{KindCrash, SearchFindings};
 use crate::operations::operations_at;
@@ -16,7 +17,7 @@ use crash_model::settings::Settings;
 use crash_model::steps::Step;
 use json_values::{KnownTexts, push_replay, push_set, write_comma};
 use report_json::{write_module_key, write_rule_key, write_strict_key, write_whole_key};
-use search_model::RefusedCount;
+use search_model::{Found, RefusedCount};
 use std::alloc::{AllocError, Allocator, Global};
 
 /// A report of a search as JSON: one compact object, its keys in ascending order, and a line feed. The numbers of
@@ -46,16 +47,35 @@ fn write_findings<A: Allocator>(
     ensures { OnOk result (string_bytes out.new ≡ json_search findings.now.settings.now findings.now.most
         (length findings.now.pool.now) findings.now.found.now (told_kinds findings.now)) }
 {
-    let (most, pool) = (findings.most, findings.pool.len());
-    let (workloads, failing) = (findings.found.workloads, findings.found.failing);
+    let (pool, failing) = (findings.pool.len(), findings.found.failing);
     write!(out, "{{\"failing\":{failing},\"kinds\":[")?;
     write_kinds(out, findings.pool, findings.kinds)?;
     out.push_str("]")?;
     write_module_key(out, findings.settings.module)?;
+    write_last_keys(out, findings.settings, findings.most, pool, findings.found)?;
+    Ok(())
+}
+
+/// The last keys of the object of a search, with its end and a line feed: how many operations the pool has, the reasons
+/// for which operations are refused, how many operations the longest workloads have, whether the run is strict and
+/// blocks are written whole, which rules are put in and taken out, and how many workloads there are.
+///
+/// It fails only when out of memory.
+pub fn write_last_keys(
+    out: &mut String,
+    settings: &Settings,
+    most: usize,
+    pool: usize,
+    found: &Found,
+) -> Result<(), AllocError>
+    ensures { OnOk result (string_bytes out.new
+        ≡ string_bytes out.old ++ last_keys settings.now most pool found.now) }
+{
+    let workloads = found.workloads;
     write!(out, ",\"pool\":{pool},\"refused\":[")?;
-    write_refused(out, findings.found.refused.as_slice())?;
+    write_refused(out, found.refused.as_slice())?;
     write!(out, "],\"search\":{most}")?;
-    write_ordering_keys(out, findings.settings)?;
+    write_ordering_keys(out, settings)?;
     write!(out, ",\"workloads\":{workloads}}}\n")?;
     Ok(())
 }
@@ -123,15 +143,13 @@ fn write_kind<A: Allocator>(
     requires { All IsOperation pool.now }
     ensures { OnOk result (string_bytes out.new ≡ string_bytes out.old ++ kind_json (told_kind pool.now crash.now)) }
 {
-    let heap = *out.allocator();
     let (section, workloads) = (&crash.section, crash.shown.workloads);
-    let mut known = KnownTexts::new(heap, crash.patches)?;
+    let mut known = KnownTexts::new(*out.allocator(), crash.patches)?;
     write_head(out, &mut known, crash)?;
     out.push_str("\"set\":")?;
     push_set(out, crash.patches, section.set)?;
     out.push_str(",\"steps\":[")?;
-    let ops = operations_at(heap, pool, crash.shown.places.as_slice())?;
-    write_steps(out, &ops)?;
+    write_steps(out, pool, crash.shown.places.as_slice())?;
     write!(out, "],\"workloads\":{workloads},\"writes\":[")?;
     known.push_writes(out, &section.writes)?;
     out.push_str("]}")?;
@@ -155,20 +173,34 @@ fn write_head<A: Allocator>(
     Ok(())
 }
 
+/// The texts of the operations of a workload, in quotes and with a comma between two. They are at these places of the
+/// pool.
+///
+/// The pool has operations alone. It fails only when out of memory.
+pub fn write_steps(out: &mut String, pool: &[Step], places: &[usize]) -> Result<(), AllocError>
+    requires { All IsOperation pool.now }
+    ensures { OnOk result (string_bytes out.new ≡ string_bytes out.old
+        ++ join_of 44 (map (λ step. json_string (step_text step)) (steps_at pool.now places.now))) }
+{
+    let ops = operations_at(*out.allocator(), pool, places)?;
+    write_operations(out, &ops)?;
+    Ok(())
+}
+
 /// The texts of the operations, with a comma between two.
-fn write_steps(out: &mut String, ops: &[&Op]) -> Result<(), AllocError>
+fn write_operations(out: &mut String, ops: &[&Op]) -> Result<(), AllocError>
     ensures { OnOk result (string_bytes out.new
         ≡ string_bytes out.old ++ join_of 44 (map (λ op. json_string (op_text op.now)) ops.now)) }
 {
     for (at, op) in ops.iter().enumerate() {
         write_comma(out, at)?;
-        write_step(out, *op)?;
+        write_operation(out, *op)?;
     }
     Ok(())
 }
 
 /// The text of an operation, in quotes.
-fn write_step(out: &mut String, op: &Op) -> Result<(), AllocError>
+fn write_operation(out: &mut String, op: &Op) -> Result<(), AllocError>
     ensures { OnOk result (string_bytes out.new ≡ string_bytes out.old ++ json_string (op_text op.now)) }
 {
     write!(out, "\"{op}\"")

@@ -4,16 +4,18 @@ ghost use Rattle.std.specs.Prelude.{◌≡◌, ◌++◌, codes, flat_map, length
 ghost use Rattle.std.specs.List.{All};
 ghost use Rattle.crash_model.specs.Explain.{op_text};
 ghost use Rattle.crash_model.specs.Report.{line};
-ghost use Rattle.search_model.specs.SearchReport.{kind_text, refused_text, search_text as head_text, text_search};
-ghost use Rattle.search_model.specs.Workloads.{IsOperation};
+ghost use Rattle.search_model.specs.SearchReport.{kind_text, refused_text, search_text as head_text, step_text};
+ghost use Rattle.search_model.specs.SearchReport.{text_search};
+ghost use Rattle.search_model.specs.Workloads.{IsOperation, steps_at};
 ghost use Rattle.search_report.specs.Findings.{kind_lines, told_kind, told_kinds};
 
 use crate::findings::{KindCrash, SearchFindings};
 use crate::operations::operations_at;
 use crash_model::operations::Op;
+use crash_model::settings::Settings;
 use crash_model::steps::Step;
 use report_text::write_ordering;
-use search_model::RefusedCount;
+use search_model::{Found, RefusedCount};
 use section_lines::lines::write_section;
 use std::alloc::{AllocError, Allocator};
 
@@ -31,27 +33,40 @@ pub fn search_text<A: Allocator + Copy>(
         (length findings.now.pool.now) findings.now.found.now (told_kinds findings.now)) }
 {
     let mut out = String::new(alloc);
-    write_head(&mut out, findings)?;
+    let pool = findings.pool.len();
+    write_head(
+        &mut out,
+        findings.settings,
+        findings.most,
+        pool,
+        findings.found,
+    )?;
     write_kinds(&mut out, findings.pool, findings.kinds)?;
     Ok(out)
 }
 
-/// The lines before the first kind.
-fn write_head<A: Allocator>(
+/// The lines that a report of a search begins with: those of the ordering, how many operations the longest workloads
+/// and the pool have, how many workloads there are and how many fail, and a line for each reason for which operations
+/// are refused.
+///
+/// It fails only when out of memory.
+pub fn write_head<A: Allocator>(
     out: &mut String<A>,
-    findings: &SearchFindings<'_, A>,
+    settings: &Settings,
+    most: usize,
+    pool: usize,
+    found: &Found,
 ) -> Result<(), AllocError>
-    ensures { OnOk result (string_bytes out.new ≡ string_bytes out.old ++ head_text findings.now.settings.now
-        findings.now.most (length findings.now.pool.now) findings.now.found.now) }
+    ensures { OnOk result (string_bytes out.new
+        ≡ string_bytes out.old ++ head_text settings.now most pool found.now) }
 {
-    let (most, pool) = (findings.most, findings.pool.len());
-    let (workloads, failing) = (findings.found.workloads, findings.found.failing);
-    write_ordering(out, findings.settings)?;
+    let (workloads, failing) = (found.workloads, found.failing);
+    write_ordering(out, settings)?;
     write!(
         out,
         "search {most}\npool {pool}\nworkloads {workloads}\nfailing {failing}\n"
     )?;
-    write_refused(out, findings.found.refused.as_slice())?;
+    write_refused(out, found.refused.as_slice())?;
     Ok(())
 }
 
@@ -106,25 +121,41 @@ fn write_kind<A: Allocator + Copy>(
     let (number, name) = (crash.shown.kind.number(), crash.shown.kind.name());
     let workloads = crash.shown.workloads;
     write!(out, "kind {number} {name}\nworkloads {workloads}\n")?;
-    let ops = operations_at(*out.allocator(), pool, crash.shown.places.as_slice())?;
-    write_steps(out, &ops)?;
+    write_steps(out, pool, crash.shown.places.as_slice())?;
     write_section(out, crash.patches, &crash.section)?;
     Ok(())
 }
 
+/// A line for each operation of a workload, whose operations are at these places of the pool.
+///
+/// The pool has operations alone. It fails only when out of memory.
+pub fn write_steps<A: Allocator + Copy>(
+    out: &mut String<A>,
+    pool: &[Step],
+    places: &[usize],
+) -> Result<(), AllocError>
+    requires { All IsOperation pool.now }
+    ensures { OnOk result (string_bytes out.new ≡ string_bytes out.old
+        ++ flat_map (λ step. line (codes "step " ++ step_text step)) (steps_at pool.now places.now)) }
+{
+    let ops = operations_at(*out.allocator(), pool, places)?;
+    write_operations(out, &ops)?;
+    Ok(())
+}
+
 /// A line for each operation.
-fn write_steps<A: Allocator>(out: &mut String<A>, ops: &[&Op]) -> Result<(), AllocError>
+fn write_operations<A: Allocator>(out: &mut String<A>, ops: &[&Op]) -> Result<(), AllocError>
     ensures { OnOk result (string_bytes out.new
         ≡ string_bytes out.old ++ flat_map (λ op. line (codes "step " ++ op_text op.now)) ops.now) }
 {
     for op in ops {
-        write_step(out, *op)?;
+        write_operation(out, *op)?;
     }
     Ok(())
 }
 
 /// The line of an operation.
-fn write_step<A: Allocator>(out: &mut String<A>, op: &Op) -> Result<(), AllocError>
+fn write_operation<A: Allocator>(out: &mut String<A>, op: &Op) -> Result<(), AllocError>
     ensures { OnOk result (string_bytes out.new
         ≡ string_bytes out.old ++ line (codes "step " ++ op_text op.now)) }
 {

@@ -8,7 +8,7 @@ use search_model::Most;
 use std::test::Fail;
 
 /// Words, the question that they ask.
-const ASKED: [(&[&str], Question); 6] = [
+const ASKED: [(&[&str], Question); 8] = [
     (&[], Question::Visit),
     (&["--summary", "--limit=1"], Question::Visit),
     (&["--decide", "--workers=2", "--strict"], Question::Decide),
@@ -17,6 +17,14 @@ const ASKED: [(&[&str], Question); 6] = [
     (
         &["--strict", "--search", "8"],
         Question::Search(Most::Eight),
+    ),
+    (
+        &["--search=3", "--enough"],
+        Question::SearchRules(Most::Three),
+    ),
+    (
+        &["--enough", "--strict", "--search", "7"],
+        Question::SearchRules(Most::Seven),
     ),
 ];
 
@@ -32,7 +40,7 @@ const LEFT_OUT: [&[&str]; 15] = [
     &["--enough", "--limit=4096"],
     &["--explorer", "sweep", "--enough"],
     &["--needs", "--enough"],
-    &["--search=2", "--enough"],
+    &["--search=2", "--enough", "--decide"],
     &["--decide", "--search", "2"],
     &["--search=1", "--limit=4096"],
     &["--explorer", "auto", "--search=1"],

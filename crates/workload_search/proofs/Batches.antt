@@ -14,7 +14,7 @@ use Rattle.workload_search.specs.declared.batch.Batch.{Batch}
 use Rattle.search_model.specs.declared.verdict.Verdict.{Verdict}
 use Rattle.workload_search.proofs.Counted.{places_of, IsRight}
 
-passing_join : (tried others : List Tried) → passing_of (tried ++ others) ≡ passing_of tried ++ passing_of others
+pub passing_join : (tried others : List Tried) → passing_of (tried ++ others) ≡ passing_of tried ++ passing_of others
 passing_join tried others =
     ap (map places_of) (filter-append (λ (t : Tried). is_passing t.verdict) tried others)
     ∙ map-append places_of (filter (λ t. is_passing t.verdict) tried) (filter (λ t. is_passing t.verdict) others)

@@ -12,3 +12,4 @@ pub mod Finding
 pub mod Telling
 pub mod Searched
 pub mod Parts
+pub mod Kept

@@ -59,7 +59,7 @@ pub level_room : (pool : ℕ) (beginnings : List (ArrayVec ℕ)) → length begi
 level_room pool beginnings few small = omega (arith, level_most pool beginnings few)
 
 module _ {A : Type 0} (s : Search) (pool : ℕ) where
-  pub searched_none : (tally : Tally A) (beginnings : List (ArrayVec ℕ)) → IsTally [] tally
+  unfoldable pub searched_none : (tally : Tally A) (beginnings : List (ArrayVec ℕ)) → IsTally [] tally
       → map items_of beginnings ≡ [] ∷ [] → IsSearchedTo s pool 0 tally beginnings
   searched_none tally beginnings is one = record {
     tried = [];
@@ -69,14 +69,14 @@ module _ {A : Type 0} (s : Search) (pool : ℕ) where
     room = omega arith;
   }
 
-  tried_long : (keeps : Bool) (beginnings : List (ArrayVec ℕ)) (batch : Batch A)
+  pub tried_long : (keeps : Bool) (beginnings : List (ArrayVec ℕ)) (batch : Batch A)
       (b : IsBatch s keeps (extensions pool (map items_of beginnings)) batch)
       → length b.tried ≡ length beginnings * pool
   tried_long keeps beginnings batch b =
       sym (length-map b.tried places_of)
       ∙ (ap length b.are ∙ level_long pool beginnings)
 
-  next_room : (made : ℕ) (beginnings : List (ArrayVec ℕ)) (tally : Tally A) (keeps : Bool) (batch : Batch A)
+  pub next_room : (made : ℕ) (beginnings : List (ArrayVec ℕ)) (tally : Tally A) (keeps : Bool) (batch : Batch A)
       → length beginnings ≤ 2 ^ 63 → (so_far : IsSearchedTo s pool made tally beginnings)
       (b : IsBatch s keeps (extensions pool (map items_of beginnings)) batch)
       → length so_far.tried + length b.tried ≤ (made + 1) * (2 ^ 63 * pool)
@@ -102,7 +102,7 @@ module _ {A : Type 0} (s : Search) (pool : ℕ) where
   }
 
   -- one level more
-  pub searched_more : (made : ℕ) (beginnings : List (ArrayVec ℕ)) (tally next : Tally A) (keeps : Bool)
+  unfoldable pub searched_more : (made : ℕ) (beginnings : List (ArrayVec ℕ)) (tally next : Tally A) (keeps : Bool)
       (batch : Batch A) → pool ≡ length s.pool → length beginnings ≤ 2 ^ 63 → made < s.most
       → (made + 1 < s.most → keeps ≡ true) → (so_far : IsSearchedTo s pool made tally beginnings)
       (b : IsBatch s keeps (extensions pool (map items_of beginnings)) batch)

@@ -1,3 +1,4 @@
 pub mod Tallies
 pub mod Tries
 pub mod Told
+pub mod Passing

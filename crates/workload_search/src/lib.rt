@@ -11,10 +11,12 @@ mod found;
 mod judge;
 mod kinds;
 mod levels;
-mod places;
+mod passing;
+pub mod places;
 mod searching;
 mod tally;
 mod trying;
 
 pub use judge::Judge;
+pub use passing::{FoundWorkloads, search_passing};
 pub use searching::search;

@@ -4,7 +4,7 @@ ghost use Rattle.std.specs.Prelude.{◌≡◌, ◌<◌, ◌∷◌, ◌++◌, [],
 use search_model::Places;
 
 /// The same places.
-pub(crate) fn copied(places: &Places) -> Places
+pub fn copied(places: &Places) -> Places
     ensures { result.items ≡ places.now.items }
 {
     let mut copy = Places::new();

@@ -57,7 +57,7 @@ where
 }
 
 /// The empty sequence alone. It fails only when out of memory.
-fn empty_beginning<A: Allocator>(alloc: A) -> Result<Vec<Places, A>, AllocError>
+pub(crate) fn empty_beginning<A: Allocator>(alloc: A) -> Result<Vec<Places, A>, AllocError>
     ensures { IfOk result (λ beginnings. map items_of beginnings.items ≡ [] ∷ []) }
 {
     let mut beginnings = Vec::new(alloc);

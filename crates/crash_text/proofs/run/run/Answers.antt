@@ -9,9 +9,10 @@ use Rattle.crash_model.specs.declared.steps.Step.{Step}
 use Rattle.questions.specs.Answers.{IsAnswerTo}
 use Rattle.crash_text.specs.BaseRefusal.{IsBaseRefusal}
 use Rattle.crash_text.specs.Searching.{IsNoPool, IsSearchOf}
+use Rattle.crash_text.specs.SearchingRules.{IsRuleSearchOf}
 use Rattle.crash_text.specs.Telling.{AreReported, AreRefused, IsOfSteps}
 use Rattle.crash_text.proofs.Answering.{has_base, refused_script, refused_base, refused_steps, reported_steps}
-use Rattle.crash_text.proofs.Answering.{refused_pool, reported_pool}
+use Rattle.crash_text.proofs.Answering.{refused_pool, reported_pool, reported_rules}
 use Rattle.crash_text.proofs.Pools.{are_acts}
 use Rattle.crash_text.proofs.run.run.Goals as goal
 
@@ -72,9 +73,47 @@ returns-in-Search-clause-refused g c =
     → IsAnswerTo q c.args.script.now asked.settings (Refused f))) (sym c.in-Search.is)
     (IfErr-weaker c.searched.result _ _
     (λ fault refused memory.
-    refused_pool c.args.script.now asked.settings c.in-Search.most base read.traced.items fault start
+    refused_pool c.args.script.now asked.settings base read.traced.items fault start
     (subst (λ s. IsNoPool s fault) c.deref-in-Search.ensures.value (refused memory)))
     c.searched.ensures.refused)
+
+pub searched_for_rules-requires-clause-acts : goal.searched_for_rules-requires-clause-acts
+searched_for_rules-requires-clause-acts g c κs within =
+    let read = c.in_ok-read.read in
+    subst (λ (steps : List Step). All (λ step. IsAct step.act) steps) (sym c.deref-in-SearchRules.ensures.value)
+    (are_acts c.args.script.now read.base.items read.traced.items c.in_ok-read.ensures.ok)
+
+pub returns-in-SearchRules-clause-reported : goal.returns-in-SearchRules-clause-reported
+returns-in-SearchRules-clause-reported g c =
+    let asked = c.args.request.now in
+    let read = c.in_ok-read.read in
+    let base = c.in_ok-base.base in
+    let start = has_base c.args.script.now asked.settings read.base.items _ read.traced.items base
+    c.in_ok-read.ensures.ok c.in_ok-base.ensures.lawful c.deref.ensures.value c.in_ok-base.ensures.built in
+    subst (λ q. IfOk c.searched_for_rules.result (λ outcome. IsAnswerTo q c.args.script.now asked.settings
+    (Reported (string_bytes outcome.text) outcome.number))) (sym c.in-SearchRules.is)
+    (IfOk-weaker c.searched_for_rules.result _ _
+    (λ outcome reported.
+    reported_rules c.args.script.now asked.settings c.in-SearchRules.most base read.traced.items
+    (string_bytes outcome.text) outcome.number start
+    (subst (λ s. IsRuleSearchOf asked.settings c.in-SearchRules.most base s (string_bytes outcome.text) outcome.number)
+    c.deref-in-SearchRules.ensures.value reported))
+    c.searched_for_rules.ensures.reported)
+
+pub returns-in-SearchRules-clause-refused : goal.returns-in-SearchRules-clause-refused
+returns-in-SearchRules-clause-refused g c =
+    let asked = c.args.request.now in
+    let read = c.in_ok-read.read in
+    let base = c.in_ok-base.base in
+    let start = has_base c.args.script.now asked.settings read.base.items _ read.traced.items base
+    c.in_ok-read.ensures.ok c.in_ok-base.ensures.lawful c.deref.ensures.value c.in_ok-base.ensures.built in
+    subst (λ q. IfErr c.searched_for_rules.result (λ f. f ≢ OutOfMemory
+    → IsAnswerTo q c.args.script.now asked.settings (Refused f))) (sym c.in-SearchRules.is)
+    (IfErr-weaker c.searched_for_rules.result _ _
+    (λ fault refused memory.
+    refused_pool c.args.script.now asked.settings base read.traced.items fault start
+    (subst (λ s. IsNoPool s fault) c.deref-in-SearchRules.ensures.value (refused memory)))
+    c.searched_for_rules.ensures.refused)
 
 pub returns : goal.returns
 returns g c =

@@ -11,13 +11,11 @@ returns-clause-text g c =
     let n = c.args.known.now in
     let rules = c.args.ordering.now.rules.items in
     let told = told_group c.args.needed.now in
-    let before = string_bytes c.push_str-4.new.self in
-    let same : c.push_fault.new.self ≡ n = c.in_ok-push_fault.ensures.kept in
+    let before = string_bytes c.push_str.new.self in
+    let same : c.write_group_head.new.known ≡ n = c.in_ok-write_group_head.ensures.known in
     on_ok_weaker {P = string_bytes c.push_leading.new.out ≡ before
-    ++ leading_json c.push_fault.new.self told.fault.first}
+    ++ leading_json c.write_group_head.new.known told.fault.first}
     {Q = string_bytes c.push_leading.new.out ≡ string_bytes c.args.out.now ++ group_json rules n told}
     c.push_leading.result
-    (λ wrote. group_pieces rules n told _ _ _ _ _ _ _ _ _ c.in_ok-push_str.ensures.bytes
-    c.in_ok-push_fault.ensures.text c.in_ok-push_str-2.ensures.bytes c.in_ok-push_replay.ensures
-    c.in_ok-push_str-3.ensures.bytes c.in_ok-write_set.ensures c.in_ok-push_str-4.ensures.bytes
+    (λ wrote. group_pieces rules n told _ _ _ _ c.in_ok-write_group_head.ensures.text c.in_ok-push_str.ensures.bytes
     (wrote ∙ ap (λ (k : ℕ). before ++ leading_json k told.fault.first) same)) c.push_leading.ensures.text

@@ -1,15 +1,16 @@
 use denote.Ref.{Bor}
-use Rattle.std.proofs.Common.{List, ℕ, ◌++◌, string_bytes, ap, ◌∙◌}
+use Rattle.std.proofs.Common.{◌++◌, List, ℕ, map, string_bytes, ap, ◌∙◌}
+use Rattle.crash_model.specs.Lists.{join_of}
 use Rattle.crash_model.specs.declared.operations.Op.{Op}
-use Rattle.json_values.proofs.Commas.{taken_more}
+use Rattle.search_model.specs.Workloads.{steps_at}
+use Rattle.search_report.proofs.Acts.{items_of_acts}
 use Rattle.search_report.proofs.Lent.{act_json, asked}
 use Rattle.search_report.proofs.json.write_steps.Goals as goal
 
-pub loop-at-preserved : goal.loop-at-preserved
-loop-at-preserved c =
-    let form : Bor Op → List ℕ = λ op. act_json (asked op) in
-    let text = form c.index-ops-at.result in
-    taken_more form c.args.ops.now c.loop-at.at c.index-ops-at.result (string_bytes c.args.out.now)
-    (string_bytes c.loop-at.out) (string_bytes c.write_step.new.out) text c.loop-at-test.true c.loop-at.invariant
-    (ap form c.index-ops-at.is)
-    (c.in_ok-write_step.ensures ∙ ap (λ (t : List ℕ). t ++ text) c.in_ok-write_comma.ensures)
+pub returns : goal.returns
+returns c =
+    let before = string_bytes c.args.out.now in
+    let texts = ap (λ (ops : List (Bor Op)). before ++ join_of 44 (map (λ op. act_json (asked op)) ops))
+    c.deref.ensures.value in
+    let steps = items_of_acts act_json asked _ (steps_at c.args.pool.now c.args.places.now) c.in_ok-ops.ensures in
+    c.in_ok-write_operations.ensures ∙ (texts ∙ ap (λ (ts : List (List ℕ)). before ++ join_of 44 ts) steps)

@@ -1,4 +1,4 @@
-use Rattle.std.proofs.Common.{◌++◌, List, length, string_bytes, ap, ◌∙◌}
+use Rattle.std.proofs.Common.{◌++◌, List, string_bytes, ap, ◌∙◌}
 use Rattle.std.specs.List.{flat_map}
 use Rattle.search_model.specs.SearchReport.{refused_text}
 use Rattle.search_model.specs.declared.found.RefusedCount.{RefusedCount}
@@ -7,8 +7,7 @@ use Rattle.search_report.proofs.text.write_head.Goals as goal
 
 pub returns : goal.returns
 returns g c =
-    let f = c.args.findings.now in
     let refused = ap (λ (rs : List RefusedCount). string_bytes c.write.new.self ++ flat_map refused_text rs)
     c.as_slice.ensures.value in
-    head_pieces f.settings.now f.most (length f.pool.now) f.found.now _ _ _ _
+    head_pieces c.args.settings.now c.args.most c.args.pool c.args.found.now _ _ _ _
     c.in_ok-write_ordering.ensures c.in_ok-write.ensures.bytes (c.in_ok-write_refused.ensures ∙ refused)

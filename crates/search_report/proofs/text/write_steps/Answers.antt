@@ -1,14 +1,16 @@
 use denote.Ref.{Bor}
-use Rattle.std.proofs.Common.{List, ℕ, ◌++◌, string_bytes, ap, ◌∙◌}
+use Rattle.std.proofs.Common.{◌++◌, List, ℕ, string_bytes, ap, ◌∙◌}
+use Rattle.std.specs.List.{flat_map}
 use Rattle.crash_model.specs.declared.operations.Op.{Op}
-use Rattle.section_lines.proofs.Told.{item_told}
+use Rattle.search_model.specs.Workloads.{steps_at}
+use Rattle.search_report.proofs.Acts.{lines_of_acts}
 use Rattle.search_report.proofs.Lent.{act_line, asked}
 use Rattle.search_report.proofs.text.write_steps.Goals as goal
 
-pub loop-op-preserved : goal.loop-op-preserved
-loop-op-preserved g c =
-    let form : Bor Op → List ℕ = λ op. act_line (asked op) in
-    let so_far = string_bytes c.loop-op.out in
-    item_told form c.args.ops.now c.loop-op.op-index c.op-item.result (string_bytes c.args.out.now) so_far
-    (string_bytes c.write_step.new.out) c.loop-op-test.true c.loop-op.invariant
-    (c.in_ok-write_step.ensures ∙ ap (λ (op : Bor Op). so_far ++ form op) c.op-item.is)
+pub returns : goal.returns
+returns g c =
+    let before = string_bytes c.args.out.now in
+    let lines = ap (λ (ops : List (Bor Op)). before ++ flat_map (λ op. act_line (asked op)) ops)
+    c.deref.ensures.value in
+    let steps = lines_of_acts act_line asked _ (steps_at c.args.pool.now c.args.places.now) c.in_ok-ops.ensures in
+    c.in_ok-write_operations.ensures ∙ (lines ∙ ap (λ (t : List ℕ). before ++ t) steps)

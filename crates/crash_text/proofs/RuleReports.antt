@@ -1,0 +1,18 @@
+-- What is told of groups of rules of which one is needed.
+use Rattle.std.proofs.Common.{◌≡◌, ℕ, List, [], ◌∷◌, map, get_or, refl, ap}
+use Rattle.std.proofs.lemmas.List.Elements.{Contains-get_or}
+use Rattle.std.specs.Prelude.{All}
+use Rattle.patch_sets.specs.Sets.{AreAllInOrder}
+use Rattle.crash_model.specs.declared.steps.Step.{Step}
+use Rattle.search_rules_report.specs.Findings.{told_need}
+use Rattle.search_rules_report.specs.declared.findings.NeededWorkload.{NeededWorkload}
+
+-- the groups that are told are those of the workloads
+pub told_groups : {A : Type 0} (pool : List Step) (needs : List (NeededWorkload A))
+    → map (λ told. told.group) (map (told_need pool) needs) ≡ map (λ needed. needed.group) needs
+told_groups pool [] = refl
+told_groups pool (needed ∷ needs) = ap (λ (rest : List ℕ). needed.group ∷ rest) (told_groups pool needs)
+
+-- each of the sets that are listed has the property
+pub each_listed : (P : ℕ → Type 0) (sets : List ℕ) → AreAllInOrder P sets → All P sets
+each_listed P sets are k d within = (are.exactly (get_or sets k d)).0 (Contains-get_or sets k d within)

@@ -1,0 +1,30 @@
+-- What a search over a pool answers of the rules that its workloads need.
+use Rattle.std.specs.Prelude.{◌≡◌, ℕ, List, map, length}
+use Rattle.std.specs.List.{All}
+use Rattle.patch_sets.specs.Sets.{AreAllInOrder}
+use Rattle.crash_model.specs.Disk.{Disk}
+use Rattle.crash_model.specs.declared.settings.Settings.{Settings}
+use Rattle.crash_model.specs.declared.steps.Step.{Step}
+use Rattle.search_model.specs.Most.{number_of_most}
+use Rattle.search_model.specs.Workloads.{IsOperation}
+use Rattle.search_model.specs.declared.found.Found.{Found}
+use Rattle.search_model.specs.declared.most.Most.{Most}
+use Rattle.search_rules_model.specs.EnoughFor.{IsMinimalInSearch, IsNeededInSearch}
+use Rattle.search_rules_model.specs.SearchRulesReport.{IsSearchRulesReport, IsToldNeed, ToldNeed, search_rules_bytes}
+use Rattle.pool_judging.specs.Judging.{search_by}
+use Rattle.pool_judging.specs.declared.judge.PoolJudge.{PoolJudge}
+
+-- the steps are a pool of operations, and the text is the report on the rules that its workloads need
+abbrev pub IsRuleSearchOf : Settings → Most → Disk → List Step → List ℕ → ℕ → Type 0
+IsRuleSearchOf settings most base steps text number =
+    All IsOperation steps × IsSearchRulesReport settings (number_of_most most) base steps text number
+
+-- the text is the report on what a judge's search finds and the rules that its workloads need
+pub record IsRuleReportBy {A : Type 0} (settings : Settings) (judge : PoolJudge A) (found : Found)
+    (text : List ℕ) : Type 0 where
+  pub enough : List ℕ
+  pub minimal : AreAllInOrder (IsMinimalInSearch (search_by judge)) enough
+  pub needs : List ToldNeed
+  pub needed : AreAllInOrder (IsNeededInSearch (search_by judge)) (map (λ told. told.group) needs)
+  pub told : All (IsToldNeed (search_by judge) settings.explain) needs
+  pub whole : text ≡ search_rules_bytes settings judge.most (length judge.pool.now) found enough needs

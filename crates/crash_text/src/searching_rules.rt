@@ -1,0 +1,169 @@
+//! A pool of operations, answered by the rules that all its workloads need together.
+
+ghost use Rattle.std.specs.Prelude.{◌≡◌, ◌≢◌, ◌≤◌, ◌<◌, ◌^◌, [], length, map, string_bytes, All, IfOk, IfErr};
+ghost use Rattle.std.specs.Prelude.{◌==◌, if◌then◌else◌};
+ghost use Rattle.patch_sets.specs.Sets.{AreAllInOrder};
+ghost use Rattle.crash_model.specs.Script.{IsAct};
+ghost use Rattle.crash_model.specs.Sound.{IsSound, HasZeroJournal};
+ghost use Rattle.crash_model.specs.declared.modules.Module.TheVariants.{Full};
+ghost use Rattle.search_model.specs.Found.{AreFound};
+ghost use Rattle.search_model.specs.Sequences.{AreAllSequences};
+ghost use Rattle.search_model.specs.Workloads.{IsOperation};
+ghost use Rattle.search_rules_model.specs.EnoughFor.{IsPassing, IsMinimalInSearch, IsNeededInSearch};
+ghost use Rattle.workload_search.specs.Passing.{AreAllPassing};
+ghost use Rattle.workload_search.specs.Tries.{items_of};
+ghost use Rattle.pool_judging.specs.Judging.{search_by};
+ghost use Rattle.crash_text.specs.Searching.{IsNoPool};
+ghost use Rattle.crash_text.specs.SearchingRules.{IsRuleSearchOf, IsRuleReportBy};
+
+use crate::host::Host;
+use crate::run::Outcome;
+use crate::searching::{Pool, WorkloadWatch, check_operations};
+use crash_model::refusals::RunFault;
+use enough_rules::EnoughSets;
+use explorers::Gate;
+use need_sections::needed_workloads;
+use pool_judging::PoolJudge;
+use pool_rules::PoolRules;
+use questions::Request;
+use search_model::Places;
+use search_rules_report::{SearchRulesFindings, search_rules_report};
+use set_sweep::Workers;
+use std::alloc::{AllocError, Allocator};
+use std::sync::Wait;
+use std::thread::Threads;
+use workload_rules::enough_for_all;
+use workload_search::{FoundWorkloads, search_passing};
+
+/// Judges each workload of the pool, finds which rules those that do not fail need, and reports. The first step that is
+/// no operation is refused.
+pub(crate) fn searched_for_rules<R, A, G>(
+    host: &Host<'_, R, A>,
+    request: &Request,
+    gate: &G,
+    pool: &Pool<'_, A>,
+) -> Result<Outcome<A>, RunFault>
+where
+    R: Threads + Wait + Sync,
+    A: Allocator + Copy + Send + Sync,
+    G: Gate + Sync,
+    requires workers { (1 ≤ request.now.workers) × (request.now.workers ≤ 16) }
+    requires few { length pool.now.steps.now < 2 ^ 62 }
+    requires acts { All (λ step. IsAct step.act) pool.now.steps.now }
+    requires sound { IsSound pool.now.base.now × HasZeroJournal pool.now.base.now }
+    ensures reported { IfOk result (λ outcome. IsRuleSearchOf request.now.settings pool.now.most pool.now.base.now
+        pool.now.steps.now (string_bytes outcome.text) outcome.number) }
+    ensures refused { IfErr result (λ fault. (fault ≢ RunFault.OutOfMemory) → IsNoPool pool.now.steps.now fault) }
+    ensures full { request.now.settings.module ≡ Full → request.now.settings.without.items ≡ []
+        → IfOk result (λ outcome. outcome.number ≡ 0) }
+{
+    check_operations(pool.steps)?;
+    let ordering = request.settings.ordering();
+    // For the proof: what every image keeps.
+    let _blocks = pool.base.blocks();
+    let judge = PoolJudge {
+        alloc: host.alloc,
+        base: pool.base,
+        pool: pool.steps,
+        most: pool.most.number(),
+        ordering: &ordering,
+        strict: request.settings.strict,
+    };
+    let searched = search_pool_passing(host.rt, request.workers, gate, &judge)?;
+    let outcome = report_on_rules(host, request, &judge, &searched)?;
+    Ok(outcome)
+}
+
+/// What workers find of the workloads of a judge's pool, and those of them that do not fail. It fails only when out of
+/// memory.
+fn search_pool_passing<R, A, G>(
+    rt: &R,
+    number: usize,
+    gate: &G,
+    judge: &PoolJudge<'_, A>,
+) -> Result<FoundWorkloads<A>, AllocError>
+where
+    R: Threads + Sync,
+    A: Allocator + Copy + Send + Sync,
+    G: Gate + Sync,
+    requires workers { (1 ≤ number) × (number ≤ 16) }
+    requires few { length judge.now.pool.now < 2 ^ 62 }
+    requires most { (1 ≤ judge.now.most) × (judge.now.most ≤ 8) }
+    ensures found { IfOk result (λ searched. AreFound (search_by judge.now) searched.found) }
+    ensures passing { IfOk result (λ searched.
+        AreAllPassing (search_by judge.now) (map items_of searched.passing.items)) }
+{
+    let watch = WorkloadWatch { gate };
+    let workers = Workers {
+        rt,
+        alloc: judge.alloc,
+        number,
+        watch: &watch,
+    };
+    search_passing(&workers, judge, judge.pool.len(), judge.most)
+}
+
+/// The report on the rules that the workloads need which do not fail. It fails only when out of memory.
+fn report_on_rules<R, A>(
+    host: &Host<'_, R, A>,
+    request: &Request,
+    judge: &PoolJudge<'_, A>,
+    searched: &FoundWorkloads<A>,
+) -> Result<Outcome<A>, AllocError>
+where
+    R: Threads + Sync,
+    A: Allocator + Copy + Send + Sync,
+    requires workers { (1 ≤ request.now.workers) × (request.now.workers ≤ 16) }
+    requires operations { All IsOperation judge.now.pool.now }
+    requires found { AreFound (search_by judge.now) searched.now.found }
+    requires passing { AreAllPassing (search_by judge.now) (map items_of searched.now.passing.items) }
+    ensures report { IfOk result (λ outcome.
+        IsRuleReportBy request.now.settings judge.now searched.now.found (string_bytes outcome.text)) }
+    ensures number { IfOk result (λ outcome.
+        outcome.number ≡ (if searched.now.found.failing == 0 then 0 else 1)) }
+{
+    let settings = &request.settings;
+    let rules = PoolRules { judge };
+    let passing = searched.passing.as_slice();
+    let sets = enough_in_pool(host.rt, request.workers, &rules, passing)?;
+    let needs = needed_workloads(&rules, settings.explain, passing, &sets.needed)?;
+    let findings = SearchRulesFindings {
+        settings,
+        most: judge.most,
+        pool: judge.pool,
+        found: &searched.found,
+        enough: &sets.enough,
+        needs: &needs,
+    };
+    Ok(Outcome {
+        text: search_rules_report(host.heap, host.alloc, &findings)?,
+        number: usize::from(searched.found.failing != 0),
+    })
+}
+
+/// What workers find of the rules that are enough for the workloads that do not fail, which `passing` has in order. It
+/// fails only when out of memory.
+fn enough_in_pool<R, A>(
+    rt: &R,
+    number: usize,
+    rules: &PoolRules<'_, A>,
+    passing: &[Places],
+) -> Result<EnoughSets<A>, AllocError>
+where
+    R: Threads + Sync,
+    A: Allocator + Copy + Send + Sync,
+    requires workers { (1 ≤ number) × (number ≤ 16) }
+    requires whole { AreAllSequences (IsPassing (search_by rules.now.judge.now)) (map items_of passing.now) }
+    ensures enough { IfOk result (λ sets.
+        AreAllInOrder (IsMinimalInSearch (search_by rules.now.judge.now)) sets.enough.items) }
+    ensures needed { IfOk result (λ sets.
+        AreAllInOrder (IsNeededInSearch (search_by rules.now.judge.now)) sets.needed.items) }
+{
+    let workers = Workers {
+        rt,
+        alloc: rules.judge.alloc,
+        number,
+        watch: &(),
+    };
+    enough_for_all(&workers, rules, passing)
+}

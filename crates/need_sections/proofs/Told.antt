@@ -1,0 +1,73 @@
+-- The first workload that fails without a group of rules, and what is told of it.
+use Rattle.std.proofs.Common.{◌≡◌, ℕ, ◌<◌, List, Bool, length, refl, subst, sym, ◌∙◌}
+use Rattle.std.specs.Prelude.{Option, None}
+use Rattle.std.specs.List.{All}
+use Rattle.arrayvec.specs.ArrayVec.{ArrayVec}
+use Rattle.crash_model.specs.Strict.{IsToldKept}
+use Rattle.crash_model.specs.declared.patches.Patch.{Patch}
+use Rattle.crash_model.specs.declared.steps.Step.{Step}
+use Rattle.enough_deciding.specs.Rules.{IsGraphBy}
+use Rattle.enough_model.specs.Enough.{rules_but}
+use Rattle.enough_model.specs.EnoughReport.{IsToldAny, IsToldFirst}
+use Rattle.enough_report.specs.Found.{told_first}
+use Rattle.enough_report.specs.declared.findings.FirstFault.{FirstFault}
+use Rattle.fault_deciding.proofs.Firsts.{some_fault}
+use Rattle.pool_judging.specs.Judging.{SomeFails}
+use Rattle.pool_judging.proofs.Verdicts.{of_each}
+use Rattle.pool_rules.specs.Traces.{IsTraceOf, IsTraced}
+use Rattle.pool_rules.proofs.Workloads.{patches_but}
+use Rattle.search_model.specs.Sequences.{IsFirstSequence}
+use Rattle.search_model.specs.Workloads.{Search, Fails, HasPatches, steps_at}
+use Rattle.search_rules_model.specs.EnoughFor.{FailsBy}
+use Rattle.search_rules_model.specs.SearchRulesReport.{IsToldNeed, search_but}
+use Rattle.search_rules_report.specs.Findings.{told_need}
+use Rattle.traced_patches.specs.Traced.{TracedPatches}
+
+module _ (s : Search) (group : ℕ) (places : List ℕ)
+    (first : IsFirstSequence (FailsBy s (rules_but s.rules group)) places) where
+  -- its operations are those of the pool
+  pub below : All (λ place. place < length s.pool) places
+  below = first.among.0.0.among
+
+  -- none of its steps is refused
+  pub traced : (made steps : List Step) → made ≡ steps_at s.pool places → steps ≡ made → ∥ IsTraced s steps ∥₁
+  traced made steps are same = ∣ subst (IsTraced s) (sym (same ∙ are)) first.among.0.0.accepted ∣₁
+
+  -- its patches without the group
+  pub patches_of : (made steps others : List Step) (t : TracedPatches) (kept : Option ℕ) (patches : List Patch)
+      → made ≡ steps_at s.pool places → steps ≡ made → others ≡ made → IsTraceOf s steps t
+      → IsToldKept s.strict s.base others kept → IsGraphBy (rules_but t.rules group) s.base t patches
+      → HasPatches (search_but s group) places kept patches
+  patches_of made steps others t kept patches are same also is told by =
+      patches_but s places steps others t kept (same ∙ are) (also ∙ are) is told group patches by
+
+  module _ (kept : Option ℕ) (patches : List Patch) (has : HasPatches (search_but s group) places kept patches) where
+    -- a set of its patches without the group fails
+    some_fails : SomeFails kept s.base patches
+    some_fails = by first.among.1
+      where
+        by : Fails (search_but s group) places → SomeFails kept s.base patches
+        by (other, those, too, some) = of_each (search_but s group) places other kept those patches too has
+            (λ k ps. SomeFails k s.base ps) some
+
+    -- so there is a first fault
+    pub some_told : (explain : Bool)
+        → ¬ (IsToldAny (record { explain = explain; kept = kept }) s.base patches None)
+    some_told explain none =
+        let fault = some_fault kept (record { base = s.base; patches = patches }) some_fails.0 some_fails.1 in
+        none fault.0 some_fails.0 fault.1
+
+    pub need_told : {A : Type 0} (explain : Bool) (copy : ArrayVec ℕ) (number : ℕ) (fault : FirstFault A)
+        → copy.items ≡ places → number ≡ length patches
+        → IsToldFirst (record { explain = explain; kept = kept }) s.base patches (told_first fault)
+        → IsToldNeed s explain
+        (told_need s.pool (record { group = group; places = copy; patches = number; fault = fault }))
+    need_told explain copy number fault same counted is = record {
+      earliest = subst (IsFirstSequence (FailsBy s (rules_but s.rules group))) (sym same) first;
+      steps = refl;
+      kept = kept;
+      patches = patches;
+      traced = subst (λ (ps : List ℕ). HasPatches (search_but s group) ps kept patches) (sym same) has;
+      number = counted;
+      first = is;
+    }

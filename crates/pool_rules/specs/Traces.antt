@@ -1,0 +1,30 @@
+-- What is traced of steps of a pool.
+use Rattle.std.specs.Prelude.{◌≡◌, ◌↔◌, ℕ, List, Option, Ok, Bool, IsTrue}
+use Rattle.crash_model.specs.Disk.{Disk}
+use Rattle.crash_model.specs.Trace.{Tracing, trace_start, trace_from, IsGraphOf}
+use Rattle.crash_model.specs.declared.patches.Patch.{Patch}
+use Rattle.crash_model.specs.declared.rules.Rule.{Rule}
+use Rattle.crash_model.specs.declared.steps.Step.{Step}
+use Rattle.enough_deciding.specs.Rules.{IsTracingOf, IsGraphBy}
+use Rattle.pool_judging.specs.Judging.{SomeFails}
+use Rattle.search_model.specs.Workloads.{Search}
+use Rattle.traced_patches.specs.Traced.{TracedPatches}
+
+-- none of the steps is refused
+abbrev pub IsTraced : Search → List Step → Type 0
+IsTraced s steps = (last : Tracing) × (trace_from s.ordering (trace_start s.whole s.base) steps ≡ Ok last)
+
+-- the patches of the steps by the rules of the search, with what each of them is
+pub record IsTraceOf (s : Search) (steps : List Step) (t : TracedPatches) : Type 0 where
+  pub last : Tracing
+  pub run : trace_from s.ordering (trace_start s.whole s.base) steps ≡ Ok last
+  pub graph : IsGraphOf s.rules s.base last t.patches
+  pub of_it : IsTracingOf t last
+  pub rules : t.rules ≡ s.rules
+
+-- the answer tells whether a set of the patches by these rules fails
+pub record IsAnswerBy (kept : Option ℕ) (base : Disk) (t : TracedPatches) (rules : List Rule)
+    (fails : Bool) : Type 0 where
+  pub patches : List Patch
+  pub graph : IsGraphBy rules base t patches
+  pub answer : IsTrue fails ↔ SomeFails kept base patches

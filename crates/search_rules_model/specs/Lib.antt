@@ -1,0 +1,2 @@
+pub mod EnoughFor
+pub mod SearchRulesReport

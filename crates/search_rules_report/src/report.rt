@@ -1,0 +1,33 @@
+//! Reports in the form that the settings ask for.
+
+ghost use Rattle.std.specs.Prelude.{◌≡◌, length, string_bytes, IfOk};
+ghost use Rattle.std.specs.List.{All};
+ghost use Rattle.search_model.specs.Workloads.{IsOperation};
+ghost use Rattle.search_rules_model.specs.SearchRulesReport.{search_rules_bytes};
+ghost use Rattle.search_rules_report.specs.Findings.{told_needs};
+
+use crate::findings::SearchRulesFindings;
+use crate::json::search_rules_json;
+use crate::text::search_rules_text;
+use std::alloc::{AllocError, Allocator, Global};
+
+/// A report of the rules that the workloads of a search need as text, or as JSON where the settings ask for that.
+///
+/// The pool has operations alone. JSON takes its memory from `heap`, and all else from `alloc`. It fails only when out
+/// of memory.
+pub fn search_rules_report<A: Allocator + Copy>(
+    heap: Global,
+    alloc: A,
+    findings: &SearchRulesFindings<'_, A>,
+) -> Result<String<A>, AllocError>
+    requires { All IsOperation findings.now.pool.now }
+    ensures { IfOk result (λ text. string_bytes text ≡ search_rules_bytes findings.now.settings.now findings.now.most
+        (length findings.now.pool.now) findings.now.found.now findings.now.enough.now (told_needs findings.now)) }
+{
+    if findings.settings.json {
+        let text = search_rules_json(heap, findings)?;
+        String::from_str(alloc, text.as_str())
+    } else {
+        search_rules_text(alloc, findings)
+    }
+}

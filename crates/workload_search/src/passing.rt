@@ -1,0 +1,67 @@
+//! The search that keeps the workloads that do not fail.
+ghost use Rattle.std.specs.Prelude.{◌≡◌, ◌<◌, ◌≤◌, ◌^◌, length, map, IfOk};
+ghost use Rattle.search_model.specs.Found.{AreFound};
+ghost use Rattle.workload_search.specs.Passing.{AreAllPassing};
+ghost use Rattle.workload_search.specs.Tries.{items_of};
+
+use crate::judge::Judge;
+use crate::searching::empty_beginning;
+use crate::tally::Tally;
+use crate::trying::Trying;
+use search_model::{Found, Places};
+use set_sweep::{Watch, Workers};
+use std::alloc::{AllocError, Allocator};
+use std::thread::Threads;
+
+/// What a search finds, and its workloads that do not fail, in order.
+#[derive(Drop)]
+pub struct FoundWorkloads<A: Allocator> {
+    pub found: Found,
+    pub passing: Vec<Places, A>,
+}
+
+/// What `search` finds, and the workloads that do not fail.
+///
+/// # Errors
+///
+/// There is not enough memory, for the judge or for the workloads that do not fail.
+pub fn search_passing<J, R, A, W>(
+    workers: &Workers<'_, R, A, W>,
+    judge: &J,
+    pool: usize,
+    most: usize,
+) -> Result<FoundWorkloads<A>, AllocError>
+where
+    J: Judge + Sync,
+    R: Threads + Sync,
+    A: Allocator + Copy + Send + Sync,
+    W: Watch + Sync,
+    requires pool { pool ≡ length (J.search judge.now).pool }
+    requires small { pool < 2 ^ 62 }
+    requires most { most ≡ (J.search judge.now).most }
+    requires range { (1 ≤ most) × (most ≤ 8) }
+    ensures found { IfOk result (λ searched. AreFound (J.search judge.now) searched.found) }
+    ensures passing { IfOk result (λ searched.
+        AreAllPassing (J.search judge.now) (map items_of searched.passing.items)) }
+{
+    let mut tally = Tally::new(workers.alloc)?;
+    let mut passing = Vec::new(workers.alloc);
+    let mut beginnings = empty_beginning(workers.alloc)?;
+    for made in 0..most {
+        let trying = Trying {
+            judge,
+            alloc: workers.alloc,
+            watch: workers.watch,
+            pool,
+            keeps: true,
+        };
+        let batch = trying.try_level(workers.rt, &beginnings, workers.number)?;
+        tally.join(&batch.tally);
+        passing.append(&mut beginnings)?;
+        beginnings = batch.passing;
+    }
+    passing.append(&mut beginnings)?;
+    let _empty = passing.remove(0);
+    let found = tally.found();
+    Ok(FoundWorkloads { found, passing })
+}
