@@ -72,7 +72,7 @@ class Devices(unittest.TestCase):
             with open("/dev/full", "wb") as full:
                 run = on_terminal([program(), *words], CREATE, stdout=full)
             self.assert_refused(run, "crashmap: 51 cannot write the report$",
-                                "hint: standard output does not take all that is told$",
+                                "hint: standard output did not take the whole report$",
                                 "hint: see that its disk has room, and that the program which reads it still runs$")
 
 

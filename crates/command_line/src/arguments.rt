@@ -6,13 +6,13 @@ use std::alloc::{AllocError, Global};
 /// What `--version` shows after the program's name.
 const VERSION: &str = "1.0.0";
 
-/// A head in help, and the options under it.
+/// A heading in help, and the options under it.
 struct Head {
     name: &'static str,
     entries: &'static [Entry],
 }
 
-/// An option in the table of its head.
+/// An option in the table of its heading.
 struct Entry {
     name: &'static str,
     takes: Takes,
@@ -25,9 +25,9 @@ enum Takes {
     Nothing,
     /// Nothing, and the option goes with none of the others.
     NothingWithout(&'static [&'static str]),
-    /// The option is a word of its own, which no name goes before.
+    /// The option is a word by itself, without a name before it.
     Itself,
-    /// A rule, in each of several uses.
+    /// A rule. The option may be used several times.
     Rule,
     /// A number from the first to the second, else the default.
     Number(&'static str, i64, i64, &'static str),
@@ -139,11 +139,11 @@ static HEADS: [Head; 5] = [
         entries: &[Entry {
             name: "strict",
             takes: Takes::Nothing,
-            help: "Also fail where a crash loses a file or directory that the script never removes, or leaves a \
+            help: "Also fail if a crash loses a file or directory that the script never removes, or leaves a \
                    directory without its block",
         }],
     },
-    // How many sets are explored, and by whom.
+    // How many sets are explored, and how.
     Head {
         name: "How far",
         entries: &[
@@ -183,29 +183,29 @@ static HEADS: [Head; 5] = [
                     8,
                     &["decide", "limit", "explorer", "summary", "needs"],
                 ),
-                help: "Try every workload of up to N operations, 1 to 8, out of the script's lines behind `start`, and \
+                help: "Try every workload of up to N operations, 1 to 8, from the script's lines after `start`, and \
                        show the first that fails for each kind of fault",
             },
         ],
     },
-    // What the report tells, and in which form.
+    // What is in the report, and in which form.
     Head {
         name: "How to read it",
         entries: &[
             Entry {
                 name: "explain",
                 takes: Takes::Nothing,
-                help: "Tell what each patch is, why it waits for others, and what replay changes",
+                help: "Say what each patch is, why it waits for others, and what replay changes",
             },
             Entry {
                 name: "summary",
                 takes: Takes::Nothing,
-                help: "Tell each fault once, with the first set that has it, in place of the failing sets",
+                help: "List each fault once, with the first set that has it, in place of the failing sets",
             },
             Entry {
                 name: "needs",
                 takes: Takes::NothingWithout(&["summary"]),
-                help: "Tell what goes wrong without each rule of the ordering, in place of the failing sets",
+                help: "Show what a crash can leave without each rule of the ordering, in place of the failing sets",
             },
             Entry {
                 name: "json",
@@ -216,7 +216,7 @@ static HEADS: [Head; 5] = [
     },
 ];
 
-/// The program's options, in help under their heads.
+/// The program's options, in help under their headings.
 pub(crate) fn command<'a>(heap: Global) -> Made<'a> {
     let mut command = the_program(heap);
     for head in &HEADS {
@@ -225,7 +225,7 @@ pub(crate) fn command<'a>(heap: Global) -> Made<'a> {
     Ok(command)
 }
 
-/// Adds the options under a head, in this order.
+/// Adds the options under a heading, in this order.
 fn add<'a>(heap: Global, command: Command<'a>, head: &'static Head) -> Made<'a> {
     let mut command = command.next_help_heading(head.name);
     for (place, entry) in head.entries.iter().enumerate() {
@@ -256,7 +256,7 @@ fn argument<'a>(heap: Global, entry: &'static Entry) -> Result<Arg<'a>, AllocErr
     taking(arg.long(entry.name), &entry.takes)
 }
 
-/// The option with what stands behind it.
+/// The option with what follows it.
 fn taking<'a>(arg: Arg<'a>, takes: &'static Takes) -> Result<Arg<'a>, AllocError> {
     match takes {
         Takes::Nothing | Takes::Itself => Ok(arg),

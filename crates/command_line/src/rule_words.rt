@@ -1,4 +1,4 @@
-//! The words of rules: why one is no rule, and which there are.
+//! The words of rules: which there are, and why a word is not a rule.
 
 use crash_model::modules::Module;
 use crash_model::rules::RulePart;
@@ -163,12 +163,12 @@ static RULES: [Meaning; 19] = [
     },
 ];
 
-/// What is wrong with a word where a rule or a limit stands.
+/// What is wrong with a word in the place of a rule or a limit.
 #[derive(Clone, Copy)]
 pub(crate) enum Why<'a> {
     /// It has no colon.
     NoColon,
-    /// Its part is none that a rule names. Perhaps another was meant.
+    /// It has a part that no rule names. Perhaps another was meant.
     NoPart {
         part: &'a str,
         nearest: Option<&'static str>,

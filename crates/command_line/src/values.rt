@@ -57,7 +57,7 @@ pub(crate) fn module_of(matches: &ArgMatches<'_>) -> Module {
     }
 }
 
-/// Who is to explore: the board or the sweep, else whichever the limit says.
+/// Which explorer to use: the board or the sweep, or else the one that the limit decides.
 pub(crate) fn explorer_of(matches: &ArgMatches<'_>) -> Explorer {
     match matches.get_str("explorer") {
         Some("board") => Explorer::Board,
@@ -91,7 +91,7 @@ pub(crate) fn question_of(matches: &ArgMatches<'_>) -> Question {
     }
 }
 
-/// The most operations of a workload, where workloads are to be searched.
+/// The most operations of a workload, if workloads are to be searched.
 fn searched(matches: &ArgMatches<'_>) -> Option<Most> {
     Most::new(matches.get_one::<usize>("search")?)
 }

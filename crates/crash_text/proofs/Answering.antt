@@ -54,7 +54,7 @@ module _ (bytes : List ℕ) (settings : Settings) where
   not_too_many fault other same =
       let many : is_too_many fault ≡ true = subst (λ f. is_too_many f ≡ true) (sym same) refl in cc
 
-  -- there is no base, so no step behind the start line is asked about
+  -- there is no base, so no step after the start line is asked about
   abbrev HasNone : Type 0
   HasNone = (base : Disk) (steps : List Step) → ¬ (HasBase bytes settings base steps)
 

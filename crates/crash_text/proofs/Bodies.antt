@@ -1,4 +1,4 @@
--- What the body of a run's report tells.
+-- What the body of a run's report says.
 use Rattle.std.proofs.Common.{◌≡◌, ℕ, Bor, List, Option, length, map, All, refl, sym, subst, ap, ◌∙◌, arith}
 use Rattle.std.proofs.Math.ListN.{get_or-map}
 use Rattle.std.proofs.lemmas.List.{length-map}
@@ -37,7 +37,7 @@ use Rattle.crash_text.specs.Telling.{IsTraceOf, Tells, whole}
 pub all_of : {X Y : Type 0} (P : X → Type 0) (f : Y → X) (ys : List Y) → All P (map f ys) → All (λ y. P (f y)) ys
 all_of P f ys all k d within = subst P (get_or-map f ys k d) (all k (f d) (omega (arith, within, length-map ys f)))
 
--- the text of the report on these failing sets, of so many closed ones
+-- the text of the report on these failing sets, with this number of closed ones
 abbrev IsTextOn : Settings → Option ℕ → Disk → Tracing → List Patch → ℕ → List ℕ → List ℕ → Type 0
 IsTextOn settings kept base last patches total sets text =
     (body : Body) × IsBody settings kept base last patches sets body
@@ -76,7 +76,7 @@ pub firsts_closed : (kept : Option ℕ) (base : Disk) (patches : List Patch) (ro
 firsts_closed kept base patches rows are = All-map (IsClosed (deps_of patches)) (λ (row : FaultRow). row.first) rows
     (λ k d within. (are.each k d within).first.among.failing.closed)
 
--- ---- what it tells
+-- ---- what it says
 
 module _ (settings : Settings) (kept : Option ℕ) (base : Disk) (t : TracedPatches) (last : Tracing)
     (is : IsTraceOf settings base t last) where

@@ -1,4 +1,4 @@
--- What a decision tells makes it the report that is asked for.
+-- What a decision reports makes it the report that is asked for.
 use Rattle.std.proofs.Common.{◌≡◌, ℕ, List, Option, length, map, All, sym, subst, ap, ◌∙◌}
 use Rattle.std.proofs.lemmas.List.{length-map}
 use Rattle.std.proofs.lemmas.Simd.{map-map}

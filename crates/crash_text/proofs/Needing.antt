@@ -1,4 +1,4 @@
--- What is told of the rules of an ordering.
+-- What is reported of the rules of an ordering.
 use Rattle.std.proofs.Common.{◌≡◌, ℕ, ◌+◌, ◌<◌, ◌≤◌, suc, List, [], ◌∷◌, ◌++◌, length, get_or, map, take, drop, Option}
 use Rattle.std.proofs.Common.{All, refl, sym, ap, subst, ◌∙◌, arith, length-take}
 use Rattle.std.specs.Prelude.{Some, None}
@@ -86,7 +86,7 @@ some_new detail base patches changed sets set s earlier first all is =
         subst (IsClosed (deps_of patches)) (sym (get_or-take at sets k d lt))
         (first.before (get_or sets k d) ((all.exactly (get_or sets k d)).0 (Contains-get_or sets k d known)) before)
 
--- a rule's usage, which is told by the patches without it
+-- a rule's usage, which the patches without it determine
 pub usage_of_pairs : (detail : Detail) (limit : ℕ) (rules : List Rule) (base : Disk) (last : Tracing)
     (patches changed : List Patch) (rule : Rule) (pairs : ℕ) (usage : RuleUsage) → pairs ≡ pairs_of rule last.emitted
     → 1 ≤ pairs
@@ -107,7 +107,7 @@ closed_known patches set closed id has =
     omega (arith, known, length-map patches (λ (p : Patch). p.deps))
 
 module _ (detail : Detail) (limit : ℕ) (rules : List Rule) (base : Disk) (last : Tracing) (patches : List Patch) where
-  -- one rule more is told
+  -- one more rule is reported
   pub rule_pushed : (some : List Rule) (rule : Rule) (told : List ToldRule) (usage : RuleUsage)
       → AreToldRules detail limit rules base last patches some told
       → IsRuleUsage detail limit rules base last patches rule usage
@@ -128,7 +128,7 @@ module _ (detail : Detail) (limit : ℕ) (rules : List Rule) (base : Disk) (last
     ap (λ (ts : List ToldRule). ts ++ record { rule = rule; usage = usage } ∷ []) whole,
   )
 
-  -- the rules told so far, with the next one
+  -- the rules reported so far, with the next one
   pub rule_more : {A : Type 0} (items : List Rule) (i : ℕ) (d : Rule) (told after : List (code_rule.ToldRule A))
       (usage : code_usage.RuleUsage A) → i < length items
       → AreToldRules detail limit rules base last patches (take i items) (map told_rule told)

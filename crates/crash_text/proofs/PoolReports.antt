@@ -61,7 +61,7 @@ pub crash_more : {A : Type 0} (P : KindCrash A → Type 0) (crashes after : List
 crash_more {A = A} P crashes after crash so_far one more =
     subst (λ (ks : List (KindCrash A)). All P ks) (sym more) (All-push P crashes crash so_far one)
 
--- the kinds that are told are those of the crashes
+-- the kinds that are reported are those of the crashes
 pub told_shown : {A : Type 0} (pool : List Step) (crashes : List (KindCrash A))
     → map (λ t. t.shown) (map (told_kind pool) crashes) ≡ map (λ k. k.shown.now) crashes
 told_shown pool [] = refl

@@ -75,6 +75,6 @@ pub number_of : {A : Type 0} (first : Option (FirstFault A))
 number_of None = refl
 number_of (Some f) = refl
 
--- and 0 where there is none
+-- and 0 if there is none
 pub none_number : {A : Type 0} (first : Option (FirstFault A)) → first ≡ None → from_bool (is_some first) ≡ 0
 none_number first none = ap (λ o. from_bool (is_some o)) none

@@ -79,7 +79,7 @@ where
 
 /// Serves the script that the call names, else the source, prints a refusal to `err`, and gives the exit status.
 ///
-/// 0 and 1 stand for the whole report on the script in the sink: 0 where it has no failing set or fault, 1 where it has
+/// 0 and 1 mean that the sink took the whole report on the script: 0 if it has no failing set or fault, 1 if it has
 /// one. With 2 the sink took nothing, unless it failed itself. A named file's bytes are not known: the report is on the
 /// bytes that it gave, and the source is not read.
 pub fn answer_call<R, A, S, K, E, G>(
@@ -131,8 +131,8 @@ where
     }
 }
 
-/// Serves the script, prints a refusal to `err`, and gives the exit status, as [`answer_call`] does. Where the host
-/// gives hints, they follow the refusal, and warnings the report.
+/// Serves the script, prints a refusal to `err`, and gives the exit status, as [`answer_call`] does. If the host gives
+/// hints, they follow the refusal, and warnings follow the report.
 fn answer_script<R, A, K, E, G>(
     host: &Host<'_, R, A>,
     call: &Call<'_>,
@@ -173,7 +173,7 @@ where
     }
 }
 
-/// Writes what would help after a refusal, where the host gives hints.
+/// Writes what would help after a refusal, if the host gives hints.
 fn write_hint<R, A, E>(host: &Host<'_, R, A>, asked: Asked<'_>, fault: RunFault, err: &mut E)
 where
     A: Allocator + Copy,
@@ -187,9 +187,9 @@ where
     }
 }
 
-/// Writes what the run was asked for in vain, where the host gives hints.
+/// Writes what the run was asked for without effect, if the host gives hints.
 ///
-/// A search tries the lines of a pool and not the script as it stands, so it has no warnings.
+/// A search tries the lines of a pool and not the script itself, so it has no warnings.
 fn write_warnings<R, A, E>(host: &Host<'_, R, A>, question: Question, asked: Asked<'_>, err: &mut E)
 where
     A: Allocator + Copy,
@@ -207,7 +207,7 @@ where
     }
 }
 
-/// Writes why the script cannot be read, with the system's reason for a file, where the host gives hints.
+/// Writes why the script cannot be read, with the system's reason for a file, if the host gives hints.
 fn write_reason<R, A, E>(host: &Host<'_, R, A>, call: &Call<'_>, fault: RunFault, err: &mut E)
 where
     R: Files,
@@ -291,7 +291,7 @@ pub fn refuse_words<E: Write>(err: &mut E, error: &io::Error) -> u8
     REFUSED
 }
 
-/// Prints a refusal as one line. Where that fails too, the status is the same.
+/// Prints a refusal as one line. If that fails too, the status is the same.
 pub fn refuse<E: Write>(err: &mut E, fault: RunFault) -> u8
     ensures { result ≡ 2 }
 {

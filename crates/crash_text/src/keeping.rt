@@ -9,7 +9,7 @@ use disk_image::Image;
 use inode_fs::kept;
 use std::alloc::{AllocError, Allocator};
 
-/// Where the settings are strict, the inodes that the steps keep; else nothing. It fails only when out of memory.
+/// If the settings are strict, the inodes that the steps keep; otherwise nothing. It fails only when out of memory.
 pub(crate) fn told_kept<A: Allocator + Copy>(
     base: &Image<A>,
     steps: &[Step],

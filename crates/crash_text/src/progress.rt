@@ -10,23 +10,23 @@ use std::time::Instant;
 /// How many milliseconds a run lasts before the line comes.
 const FIRST: u64 = 1000;
 
-/// How many milliseconds lie between two lines at least.
+/// The least number of milliseconds between two lines.
 const BETWEEN: u64 = 250;
 
-/// Takes the terminal's line away.
+/// Clears the terminal's line.
 const WIPED: &str = "\r\x1b[K";
 
 /// Shows how many sets were visited or workloads judged, and how many of them fail, on one line that is rewritten.
 ///
-/// The line comes on a terminal alone, once the run has lasted a second, and is gone when the answer comes. Workers
-/// are not held at their claims, and one of them at a time writes.
+/// The line comes only on a terminal, once the run has lasted a second, and is gone when the answer comes. Workers are
+/// not held at their claims, and one of them at a time writes.
 #[derive(Drop)]
 pub struct Progress<'a, C: Clock, E: Write + Copy> {
     clock: &'a C,
     err: E,
     /// What is counted.
     what: &'static str,
-    /// When the run began, where lines are shown.
+    /// When the run began, if lines are shown.
     start: Option<Instant>,
     /// How many sets were visited or workloads judged, and how many of them fail.
     done: AtomicU64,
@@ -38,7 +38,7 @@ pub struct Progress<'a, C: Clock, E: Write + Copy> {
 }
 
 impl<'a, C: Clock, E: Write + Copy> Progress<'a, C, E> {
-    /// At the beginning of a run. Nothing is ever written where `err` is no terminal.
+    /// At the beginning of a run. Nothing is ever written if `err` is not a terminal.
     pub fn new(clock: &'a C, err: E, is_terminal: bool) -> Progress<'a, C, E> {
         let start = if is_terminal {
             Instant::now(clock).ok()
@@ -64,7 +64,7 @@ impl<'a, C: Clock, E: Write + Copy> Progress<'a, C, E> {
         self
     }
 
-    /// How many milliseconds the run has lasted, where a line is due now.
+    /// How many milliseconds the run has lasted, if a line is due now.
     fn due_at(&self) -> Option<u64> {
         let start = self.start?;
         let lasted = start.elapsed(self.clock).ok()?;
@@ -76,7 +76,7 @@ impl<'a, C: Clock, E: Write + Copy> Progress<'a, C, E> {
         }
     }
 
-    /// Writes the line anew.
+    /// Writes the line again.
     fn show(&self, now: u64) {
         let (done, failing) = (self.done.load(SeqCst), self.failing.load(SeqCst));
         let (mut err, what) = (self.err, self.what);

@@ -32,10 +32,10 @@ use std::alloc::Allocator;
 use std::sync::Wait;
 use std::thread::Threads;
 
-/// A report's text, and the number of its failing sets, or of its faults where that is the question.
+/// A report's text, and the number of its failing sets, or of its faults if that is the question.
 ///
-/// Where the question is which rules are enough, the number is 0 where all of them are, and else 1; of a search, for rules
-/// too, it is 1 where a workload fails, and else 0.
+/// If the question is which rules are enough, the number is 0 if all of them together are, and otherwise 1. For a
+/// search, also for one that asks for rules, it is 1 if a workload fails, and otherwise 0.
 #[derive(Drop)]
 pub struct Outcome<A: Allocator> {
     pub text: String<A>,
@@ -44,12 +44,12 @@ pub struct Outcome<A: Allocator> {
 
 /// Answers a question about a script: reads it, builds the base, traces the rest, visits what a crash can leave, or
 /// decides which faults it can leave or which rules are enough, and reports. A search takes the rest as a pool, and
-/// judges each workload of it; it can find, too, which rules are enough for all that do not fail.
+/// judges each workload of it. It can also find which rules are enough for all workloads that do not fail.
 ///
 /// For every number of workers, 1 to 16, and every schedule, an answer other than out of memory is the one defined for
-/// the script's bytes and the settings, without threads. The gate gets each claim of a worker on a board, and
-/// progress reports. Under the full journal with no rule taken out no set fails and no fault is found, whatever the
-/// script and the rules put in, by a strict checker either, and where blocks are written whole.
+/// the script's bytes and the settings, without threads. The gate gets each claim of a worker on a board, and progress
+/// reports. Under the full journal with no rule taken out no set fails and no fault is found, whatever the script and
+/// the rules put in, not by a strict checker either, and not with whole blocks.
 pub fn run<R, A, G>(
     host: &Host<'_, R, A>,
     script: &[u8],
@@ -111,7 +111,7 @@ where
         → IfOk result (λ outcome. outcome.number ≡ 0) }
 {
     let ordering = request.settings.ordering();
-    // For the proof: what every image keeps.
+    // For the proof: what holds of every image.
     let _blocks = base.blocks();
     let traced = trace(host.alloc, base, steps, &ordering)?;
     let kept = told_kept(base, steps, &request.settings)?;

@@ -36,7 +36,7 @@ pub(crate) struct Pool<'script, A: Allocator + Copy> {
     pub most: Most,
 }
 
-/// Tells a gate how many workloads were judged, as visited sets.
+/// Reports to a gate how many workloads were judged, as visited sets.
 #[derive(Drop)]
 pub(crate) struct WorkloadWatch<'a, G: Gate> {
     pub gate: &'a G,
@@ -71,7 +71,7 @@ where
 {
     check_operations(pool.steps)?;
     let ordering = request.settings.ordering();
-    // For the proof: what every image keeps.
+    // For the proof: what holds of every image.
     let _blocks = pool.base.blocks();
     let judge = PoolJudge {
         alloc: host.alloc,

@@ -22,9 +22,9 @@ use std::thread::Threads;
 /// `run`.
 ///
 /// The answer is that of `run` on all bytes of the source. A script that cannot be read or is too long is refused
-/// before it is run, and one that is too long in no other way but by out of memory or a failed read. Nothing is
-/// written before the report is whole. After a refusal the sink has taken nothing, unless the sink itself failed,
-/// which then has a beginning of the report.
+/// before it is run. If it is too long, it is refused as that, for a failed read, or for want of memory, and in no
+/// other way. Nothing is written before the report is whole. After a refusal the sink has taken nothing, unless the
+/// sink itself failed, which then has a beginning of the report.
 pub fn serve<R, A, S, K, G>(
     host: &Host<'_, R, A>,
     source: &mut S,

@@ -25,8 +25,8 @@ use std::alloc::{AllocError, Allocator};
 use std::thread::Threads;
 use traced_patches::Traced;
 
-/// What was found of the patches that were traced over a base, by the strict checker with these kept inodes, or the
-/// none.
+/// What was found of the patches that were traced over a base, by the strict checker with these kept inodes, or by the
+/// other without.
 #[derive(Drop)]
 pub(crate) struct Findings<'steps, 'asked, A: Allocator + Copy> {
     pub base: &'steps Image<A>,

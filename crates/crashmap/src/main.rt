@@ -11,7 +11,7 @@ use std::process::ExitCode;
 use std::rt::Env;
 use std::{env, io};
 
-/// What a person sees who names no script, before the program waits for one.
+/// What the program shows before it waits for a script on a terminal.
 const READS_INPUT: &str =
     "crashmap: reads a script from standard input, up to Ctrl-D; --help lists the options\n";
 

@@ -46,7 +46,7 @@ pub(crate) fn empty_group<'a>(
     })
 }
 
-/// Whether an operation stands in the group.
+/// Whether an operation is in the group.
 fn has_operation(steps: &[Step], name: &GroupName) -> bool {
     let mut is_open = false;
     for step in steps {

@@ -7,7 +7,7 @@ use std::fmt;
 /// Why a line on groups is refused.
 #[derive(Debug, Drop)]
 pub enum GroupFault {
-    /// It stands before the start line.
+    /// It is before the start line.
     BeforeStart,
     /// A group is open since this line.
     IsOpen(usize),
@@ -108,7 +108,7 @@ fn opened_at(steps: &[Step], number: usize, name: &GroupName) -> Option<usize> {
 impl fmt::Display for GroupFault {
     fn fmt<W: fmt::Write>(&self, f: &mut fmt::Formatter<W>) -> fmt::Result {
         match self {
-            GroupFault::BeforeStart => f.write_str("the line stands before `start`"),
+            GroupFault::BeforeStart => f.write_str("the line is before `start`"),
             GroupFault::IsOpen(line) => write!(f, "a group is open since line {line}"),
             GroupFault::WasOpened(line) => write!(f, "line {line} opened this group already"),
             GroupFault::NoneIsOpen => f.write_str("no group is open at this line"),

@@ -68,7 +68,7 @@ pub(crate) fn idle_rules<A: Allocator + Copy>(
     Ok(idle)
 }
 
-/// Why a rule orders no two patches of any script under the module. `None` where it orders some, or memory ran out.
+/// Why a rule orders no two patches of any script under the module. `None` if it orders some, or memory ran out.
 pub(crate) fn why_never<A: Allocator + Copy>(
     alloc: A,
     rule: Rule,

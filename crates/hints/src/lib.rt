@@ -1,7 +1,7 @@
 //! Hints: what helps a person whose script or options were refused.
 //!
 //! A refusal is one line with a number. A hint quotes the script's line, says what is wrong with it, and what would be
-//! right. No answer rests on a hint: a hint is made from what was asked and from the refusal, after the answer.
+//! right. No answer depends on a hint: a hint is made after the answer, from what was asked and from the refusal.
 #![tactic(auto)]
 
 mod disk_before;

@@ -17,7 +17,7 @@ pub enum LineFault<'a> {
     NotUtf8,
     CarriageReturn,
     Tab,
-    /// Two spaces stand side by side, or one at an end of the line.
+    /// Two spaces are side by side, or one is at an end of the line.
     Spaces,
     /// A comment follows the words.
     Comment,
@@ -28,14 +28,14 @@ pub enum LineFault<'a> {
     },
     /// The number of words after the first is wrong.
     Operands(&'static Verb),
-    /// The word stands where a group's name stands, and is none.
+    /// The word is in the place of a group's name, but is not one.
     NoGroupName(&'a str),
     /// The script has a start line already, on this line.
     SecondStart(usize),
     Path(PathFault<'a>),
 }
 
-/// What is wrong with the line of this number, which the program refused as no line of a script.
+/// What is wrong with the line of this number, which the program refused because it is not a line of a script.
 pub(crate) fn line_fault<A: Allocator + Copy>(
     alloc: A,
     script: &[u8],
@@ -96,7 +96,7 @@ fn words_fault<'a, A: Allocator + Copy>(
     }
 }
 
-/// The number of the first line that is `start`, from 1; 0 where there is none.
+/// The number of the first line that is `start`, from 1; 0 if there is none.
 fn start_line(script: &[u8]) -> usize {
     let mut number = 0_usize;
     for line in script.split(|c| *c == b'\n') {

@@ -20,7 +20,7 @@ pub enum OperationFault<'a> {
     RenameOnto(&'a [u8]),
     /// Both paths of a link or a rename.
     SamePath(&'a [u8]),
-    /// A directory, where a file is wanted.
+    /// A directory in the place of a file.
     IsDirectory(&'a [u8]),
     /// A directory that is to be unlinked.
     UnlinkOfDirectory(&'a [u8]),
@@ -36,7 +36,7 @@ pub enum OperationFault<'a> {
 pub(crate) struct Spoken<'a> {
     pub verb: &'a str,
     pub first: &'a [u8],
-    /// The second path, or the first where there is only one.
+    /// The second path, or the first if there is only one.
     pub last: &'a [u8],
 }
 

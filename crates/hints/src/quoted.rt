@@ -24,7 +24,7 @@ impl fmt::Display for Quoted<'_> {
     }
 }
 
-/// Writes a byte, escaped where it is no printable ASCII.
+/// Writes a byte, escaped if it is not printable ASCII.
 fn write_byte<W: fmt::Write>(f: &mut fmt::Formatter<W>, byte: u8) -> fmt::Result {
     match byte {
         b'\t' => f.write_str("\\t"),
@@ -34,7 +34,7 @@ fn write_byte<W: fmt::Write>(f: &mut fmt::Formatter<W>, byte: u8) -> fmt::Result
     }
 }
 
-/// The line with this number, from 1, without its line feed. It is empty where the script has fewer lines.
+/// The line with this number, from 1, without its line feed. It is empty if the script has fewer lines.
 pub(crate) fn line_at(script: &[u8], number: usize) -> &[u8] {
     let mut rest = script;
     for _ in 1..number {
@@ -43,7 +43,7 @@ pub(crate) fn line_at(script: &[u8], number: usize) -> &[u8] {
     cut(rest, b'\n').0
 }
 
-/// The word of a line in this place, from 0. It is empty where the line has fewer words.
+/// The word of a line in this place, from 0. It is empty if the line has fewer words.
 pub(crate) fn word_at(line: &[u8], place: usize) -> &[u8] {
     let mut rest = line;
     for _ in 0..place {

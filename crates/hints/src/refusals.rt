@@ -29,7 +29,7 @@ pub struct Asked<'a> {
 /// the script with what is wrong with it, and what would be right.
 #[derive(Debug, Drop)]
 pub struct Hint<'a> {
-    /// The refused line of the script, where the refusal has one.
+    /// The refused line of the script, if the refusal has one.
     pub line: Option<Quoted<'a>>,
     pub cause: Cause<'a>,
 }
@@ -43,11 +43,11 @@ pub enum Cause<'a> {
     Size(SizeFault),
     /// No line is `start`.
     NoStart,
-    /// What is told cannot be written.
+    /// The output cannot be written.
     Output,
 }
 
-/// The hint to a refusal of what was asked. `None` where none would help, or memory ran out, in the run or here.
+/// The hint to a refusal of what was asked. `None` if none would help, or memory ran out, in the run or here.
 pub fn hint_of<'a, A: Allocator + Copy>(
     alloc: A,
     asked: Asked<'a>,
@@ -71,7 +71,7 @@ pub fn hint_of<'a, A: Allocator + Copy>(
     })
 }
 
-/// The hint where help, the version or a report cannot be written.
+/// The hint if help, the version or a report cannot be written.
 pub fn output_hint() -> Hint<'static> {
     Hint {
         line: None,
@@ -79,7 +79,7 @@ pub fn output_hint() -> Hint<'static> {
     }
 }
 
-/// Why what was asked is refused so.
+/// Why what was asked is refused in this way.
 fn cause_of<'a, A: Allocator + Copy>(
     alloc: A,
     asked: Asked<'a>,
@@ -107,7 +107,7 @@ fn cause_of<'a, A: Allocator + Copy>(
     }
 }
 
-/// Why a script that can be read is refused so.
+/// Why a script that can be read is refused in this way.
 fn cause_in<'a, A: Allocator + Copy>(
     alloc: A,
     asked: Asked<'a>,
@@ -166,7 +166,7 @@ impl Display for Cause<'_> {
             Cause::Group(fault) => fault.fmt(f),
             Cause::Size(fault) => fault.fmt(f),
             Cause::NoStart => f.write_str("no line of the script is `start`"),
-            Cause::Output => f.write_str("standard output does not take all that is told"),
+            Cause::Output => f.write_str("standard output did not take the whole report"),
         }
     }
 }

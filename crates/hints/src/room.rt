@@ -42,8 +42,8 @@ pub struct Enough {
     pub before: Option<usize>,
 }
 
-/// The disk that is enough for a script on which the one asked for has too few blocks. It has the same journal where
-/// that can be, else the smallest. `None` where none is enough.
+/// The disk that is enough for a script on which the one asked for has too few blocks. It has the same journal if that
+/// is possible, otherwise the smallest. `None` if none is enough.
 pub(crate) fn enough_blocks<A: Allocator + Copy>(
     alloc: A,
     script: &Script<A>,
@@ -59,7 +59,7 @@ pub(crate) fn enough_blocks<A: Allocator + Copy>(
     }
 }
 
-/// The disk with the smallest journal, from this size on, that is enough for a script. `None` where none is enough.
+/// The disk with the smallest journal, from this size on, that is enough for a script. `None` if none is enough.
 pub(crate) fn enough_journal<A: Allocator + Copy>(
     alloc: A,
     script: &Script<A>,
@@ -100,7 +100,7 @@ fn least_disk<A: Allocator + Copy>(
     Ok(None)
 }
 
-/// How far a disk of this size is enough for a script. `None` where a line is refused for the size.
+/// How far a disk of this size is enough for a script. `None` if a line is refused for the size.
 fn enough_on<A: Allocator + Copy>(
     alloc: A,
     script: &Script<A>,

@@ -51,7 +51,7 @@ pub struct ManySets {
     pub by: ReportBy,
 }
 
-/// What does not fit, by the refusal. `None` where the refusal is about something else, or memory ran out.
+/// What does not fit, by the refusal. `None` if the refusal is about something else, or memory ran out.
 pub(crate) fn size_fault<A: Allocator + Copy>(
     alloc: A,
     script: &Script<A>,
@@ -169,7 +169,7 @@ fn write_enough<W: fmt::Write>(
     }
 }
 
-/// Writes the options that answer a script with so many closed sets.
+/// Writes the options that answer a script with this number of closed sets.
 fn write_answers<W: fmt::Write>(f: &mut fmt::Formatter<W>, many: ManySets) -> fmt::Result {
     let sets = many.sets;
     if sets > LARGEST_LIMIT {

@@ -19,8 +19,7 @@ pub enum Warning<'a> {
     IdleRule(IdleRule),
 }
 
-/// The warnings on what was asked, in the order of the script, and then of the rules. Empty where the script is
-/// refused.
+/// The warnings on what was asked, in the order of the script, and then of the rules. Empty if the script is refused.
 pub fn warnings_of<'a, A: Allocator + Copy>(
     alloc: A,
     asked: Asked<'a>,
