@@ -14,7 +14,7 @@ CREATED = b"module soft\npatches 2\nclosed 3\nfailing 0\n"
 # What is in the help, in this order.
 HELP = ("Finds every state", "Usage: crashmap", "\nWhat to run:\n", "[SCRIPT]", "--blocks <N>", "--journal <JL>",
         "\nThe ordering:\n", "--module <M>", "--without <RULE>", "--with <RULE>", "--whole-blocks",
-        "\nWhat fails:\n", "--strict",
+        "\nWhat fails:\n", "--strict", "--atomic",
         "\nHow far:\n", "--limit <L>", "--explorer <E>", "--workers <W>", "--decide", "--enough", "--search <N>",
         "\nHow to read it:\n", "--explain", "--summary", "--needs", "--json")
 

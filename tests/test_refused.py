@@ -74,6 +74,12 @@ class RefusedMemory(unittest.TestCase):
     def test_a_strict_checker(self):
         self.assert_out_of_memory(str(self.script), "--module", "async", "--strict")
 
+    def test_whole_operations(self):
+        self.assert_out_of_memory(str(self.script), "--module", "async", "--atomic")
+
+    def test_a_decision_on_whole_operations(self):
+        self.assert_out_of_memory(str(self.script), "--module", "async", "--decide", "--atomic")
+
     def test_two_workers(self):
         self.assert_out_of_memory(str(self.script), "--module", "async", "--workers", "2", may_report=True)
 

@@ -135,7 +135,7 @@ function checkHead(json) {
     must(json.patches === json.trace.length, "patches", `the length of trace (${json.trace.length})`, json.patches);
   }
   for (const list of ["with", "without"]) if (json[list] !== undefined) checkTexts(list, json[list]);
-  for (const flag of ["strict", "whole_blocks"]) {
+  for (const flag of ["atomic", "strict", "whole_blocks"]) {
     if (json[flag] !== undefined) must(typeof json[flag] === "boolean", flag, "true or false", json[flag]);
   }
 }

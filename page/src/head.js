@@ -18,13 +18,16 @@ function diskWords({ blocks, journal, root }) {
   return `${countOf(blocks, "block", "blocks")}, ${part}, data from block ${root}`;
 }
 
+/** What the checker also asks for, if it does. */
+const checkersOf = ({ strict, atomic }) => [...strict ? ["strict"] : [], ...atomic ? ["atomic"] : []];
+
 /** The title of the window: script, result, ordering and size of the disk. */
 export function titleNow() {
-  const { report } = view, strict = report.strict ? ", strict" : "";
+  const { report } = view, asked = ["", ...checkersOf(report)].join(", ");
   const found = report.enough ? foundWords(report)
     : report.isDecision ? `${countOf(report.failing, "fault", "faults")} in ${report.closed} sets`
     : `${report.failing} of ${report.closed} sets fail`;
-  return `${nameNow()}: ${found} under ${orderingWords(report)}${strict}, ${diskWords(report)} - crashmap`;
+  return `${nameNow()}: ${found} under ${orderingWords(report)}${asked}, ${diskWords(report)} - crashmap`;
 }
 
 export function drawHead() {
@@ -67,7 +70,7 @@ function drawOrdering(report) {
   const rules = (list, kind, word) => list.map(rule => element("span", { class: `rule ${kind}` }, `${word} ${rule}`));
   return element("div", { class: "rules" }, rules(report.without, "out", "without"), rules(report.with, "in", "with"),
     report.wholeBlocks && element("span", { class: "rule in" }, "whole blocks"),
-    report.strict && element("span", { class: "rule in" }, "strict"));
+    checkersOf(report).map(word => element("span", { class: "rule in" }, word)));
 }
 
 function drawAbout(report) {
@@ -75,7 +78,7 @@ function drawAbout(report) {
   const meaning = MODULES[report.module] ? ` (${MODULES[report.module]})` : "";
   return element("p", { class: "soft" },
     part("Ordering", orderingWords(report).replace(report.module, `${report.module}${meaning}`)),
-    part("Disk", diskWords(report)), part("Checker", report.strict ? "strict" : "the usual one"));
+    part("Disk", diskWords(report)), part("Checker", checkersOf(report).join(", ") || "the usual one"));
 }
 
 function drawOpener() {

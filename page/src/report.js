@@ -27,7 +27,7 @@ export function readReport(text) {
   const report = {
     module: json.module, closed: numberOf(json.closed), isDecision: isDecision(json), failing: failingOf(json),
     without: json.without ?? [], with: json.with ?? [], strict: json.strict ?? false,
-    wholeBlocks: json.whole_blocks ?? false, enough: json.enough,
+    atomic: json.atomic ?? false, wholeBlocks: json.whole_blocks ?? false, enough: json.enough,
     base, blocks, journal, root: JOURNAL_START + journal, trace,
   };
   Object.assign(report, operationsOf(trace));

@@ -85,6 +85,7 @@ const odd = [
   ["create", r => { r.with = {}; }, "with must be a list, but it is an object."],
   ["pointer", r => { r.without = [7]; }, "without[0] must be a text, but it is the number 7."],
   ["lost", r => { r.strict = "yes"; }, "strict must be true or false, but it is the text \"yes\"."],
+  ["lost", r => { r.atomic = 1; }, "atomic must be true or false, but it is the number 1."],
   ["decided", r => { r.closed = "0"; },
     "closed must be the digits of a whole number, at least 1, but it is the text \"0\"."],
   ["decided", r => { r.closed = "24 "; },

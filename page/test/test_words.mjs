@@ -60,6 +60,10 @@ async function testHeadOfAReport() {
   check("a strict checker is named", (await browser.ask(HEAD)).about[2], "Checker strict");
   check("in the title too", (await shown()).title, "lost.json: 5 of 12 sets fail under async, strict, "
     + "16 blocks, no journal, data from block 4 - crashmap");
+  await open("half");
+  check("a checker of whole operations is named", (await browser.ask(HEAD)).about[2], "Checker strict, atomic");
+  check("in the title as well", (await shown()).title, "half.json: 3 of 5 sets fail under soft, strict, atomic, "
+    + "16 blocks, no journal, data from block 4 - crashmap");
 }
 
 /* --- faults and rules --- */
@@ -74,6 +78,7 @@ const KINDS = [
   ["6 wild pointer: inode 1 slot 0 block 200", "outside the data area"],
   ["7 lost inode: inode 1", "no path leads to it any more"],
   ["8 directory without a block: inode 1", "directory that has no block"],
+  ["9 half-done operation", "An operation is half done"],
 ];
 
 async function testMeanings() {

@@ -15,7 +15,7 @@ use std::test::Fail;
 use std::time::Instant;
 use test_board::{Fan, Small, expand};
 
-/// A board of the words behind the first of a fan.
+/// A board of the words after the first of a fan.
 type FanBoard<'a> = Board<Small<Fan<'a>>, Global>;
 
 /// The most words of a board.
@@ -32,7 +32,7 @@ fn scattered(heap: Global, count: u32) -> Result<Vec<u128>, AllocError>
     Ok(words)
 }
 
-/// Puts in so many words and finds each once more, and prints the rates.
+/// Puts in a number of words and finds each once more, and prints the rates.
 fn time_words<R: Wait + Runtime + AllocGlobal>(rt: &R, count: u32) -> Result<(), Fail>
     requires { count < 32768 }
 {
@@ -45,7 +45,7 @@ fn time_words<R: Wait + Runtime + AllocGlobal>(rt: &R, count: u32) -> Result<(),
     time_board(rt, &board, &space, &mut seat, place)
 }
 
-/// Puts in the words behind the claimed one and finds each once more, and prints the rates.
+/// Puts in the words after the claimed one and finds each once more, and prints the rates.
 fn time_board<'a, R: Wait + Runtime>(
     rt: &R,
     board: &FanBoard<'a>,

@@ -8,7 +8,7 @@ ghost use Rattle.crash_image.specs.Moves.{IsGood};
 ghost use Rattle.bench_judge.specs.Counted.{IsCountOfOthers};
 
 use crash_image::{PatchSpace, Scratch};
-use disk_image::Image;
+use disk_image::{Demands, Image};
 use patch_graph::Graph;
 use state_space::Space;
 use std::alloc::{AllocError, Global};
@@ -35,7 +35,7 @@ pub fn judge_rounds(
     tell(rt, sets.len(), failing, took)
 }
 
-/// How many of the sets are not good, by one scratch, which judges them in each round anew.
+/// How many of the sets are not good, by one scratch, which judges them again in each round.
 fn count_in_rounds(
     base: &Image<Global>,
     graph: &Graph<Global>,
@@ -45,7 +45,8 @@ fn count_in_rounds(
     requires undo { AreUndo base.now graph.now }
     requires closed { All (IsClosed (deps_of graph.now)) sets.now }
 {
-    let space = PatchSpace::new(base, graph, None);
+    let demands = Demands::none();
+    let space = PatchSpace::new(base, graph, &demands);
     let mut scratch = space.scratch()?;
     let mut failing = 0;
     for _ in 0..ROUNDS {

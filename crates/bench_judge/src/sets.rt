@@ -33,7 +33,7 @@ fn add_sets(sets: &mut Vec<u128>, graph: &Graph<Global>, limit: usize) -> Result
     Ok(())
 }
 
-/// Adds each set with a patch more where the set has all dependencies of the patch.
+/// Adds each set with one more patch, if the set has all dependencies of the patch.
 fn add_sets_with(
     sets: &mut Vec<u128>,
     graph: &Graph<Global>,

@@ -41,14 +41,14 @@ stands_same places f g x k wide same st t tw z = let s =
     st t tw (sym (same (slot places x t) (slot_lt places x t wide)) ∙ z) in
     (s.0, s.1, same (slot places x s.0) (slot_lt places x s.0 wide) ∙ s.2)
 
--- a zero mark becomes y: the other places stand as before
+-- a zero mark becomes y: the other places stay as before
 stands_on : (places : ℕ) (f g : ℕ → ℕ) (x k j y : ℕ) → f j ≡ 0 → g j ≡ y → 0 < y → ((a : ℕ) → a ≢ j → g a ≡ f a)
     → Stands places f x k → Stands places g x k
 stands_on places f g x k j y was now positive same st t tw z = let away : slot places x t ≢ j =
     λ e. absurd (omega (arith, positive, now, z, ap g e)) in let s = st t tw (sym (same (slot places x t) away) ∙ z) in
     (s.0, s.1, same (slot places x s.0) (λ e. absurd (omega (arith, was, s.2, ap f e))) ∙ s.2)
 
--- and the place of which y is 1 more stands too
+-- and so does the place of which y is 1 more
 stands_now : (places : ℕ) (f g : ℕ → ℕ) (x k t0 : ℕ) → ((u : ℕ) → u < t0 → f (slot places x u) ≢ 0)
     → g (slot places x t0) ≡ k + 1 → ((a : ℕ) → a ≢ slot places x t0 → g a ≡ f a) → Stands places g x k
 stands_now places f g x k t0 full now same t tw z = dite (dec_le (suc t) t0)

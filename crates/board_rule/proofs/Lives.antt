@@ -241,7 +241,7 @@ lives_turn t good rows lives words views i v w q k n new_life near inside long o
           (λ j u ne e. still u (o.learned j u e));
     }
 
--- lives beside a row that grows: the new place is waiting
+-- the lives of a row that grows: the new place is waiting
 pub lives_grow : (t : Told) (good : ℕ → Type 0) (rows lives : List (List ℕ)) (words words' : List ℕ) (views : List View)
     (i q x : ℕ) (v w : View) → q < 13 → length rows ≡ 13 → length (row_of rows q) < t.places
     → LivesOk t good rows lives words views → get_elem? views i ≡ some v

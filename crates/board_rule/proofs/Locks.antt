@@ -21,7 +21,7 @@ pub weight_idle : (q : ℕ) (v : View) → v.rows.right ≡ 0 → weight q v ≡
 weight_idle q v e = dite (ℕ_discrete v.rows.held q) (λ h. ap (λ b. cond b v.rows.right 0) (eq-eqb v.rows.held q h) ∙ e)
     (λ n. weight_else q v n)
 
--- no second seat has a right beside a writer
+-- no second seat has a right while there is a writer
 pub alone : (words : List ℕ) (views : List View) (i j : ℕ) (v u : View) → LocksOk words views → v.rows.held < 13
     → get_elem? views i ≡ some v → get_elem? views j ≡ some u → j ≢ i → v.rows.right ≡ writer
     → u.rows.held ≡ v.rows.held → u.rows.right ≡ 0

@@ -47,7 +47,7 @@ module _ (t : Told) (good : ℕ → Type 0) (S : Type 0) where
     starts-at (row_of o.rows q) (row_of m.0.rows.seen q) k saw b,
   )
 
-  -- the two loads of an entry. The first tells what holds of each word that is reached
+  -- the two loads of an entry. The first says what holds of each word that is reached
   pub glances_low : (holds : ℕ → Type 0) (n id : ℕ) (m : Me S View) (i : ℕ)
       → ((x : ℕ) → IsReached t.next t.origin x → holds x) → Allows Rule n id m i (λ y. y)
       (ReadsLow holds (step n i 0 0 none) m)
@@ -80,7 +80,7 @@ module _ (t : Told) (good : ℕ → Type 0) (S : Type 0) where
     ),
   )
 
-  -- a writer stores a half of a word behind the row, at the word i
+  -- a writer stores a half of a word after the row, at the word i
   lays : (s : State S View) (o : Rule s) (id i x : ℕ) (m : Me S View) (r : OnRows) → get_elem? s.views id ≡ some m.0
       → m.0.rows.right ≡ writer
       → r.seen ≡ m.0.rows.seen → r.held ≡ m.0.rows.held → r.right ≡ m.0.rows.right → r.marks ≡ m.0.rows.marks
@@ -231,7 +231,7 @@ module _ (t : Told) (good : ℕ → Type 0) (S : Type 0) where
       (λ p h ne a c. (c, refl)) p h a in let e = kept (y % 13) has.0 (omega arith) has.1 in
       (has.0, e.0, e.1 ∙ has.2)
 
-  -- the length is stored: the word behind the row is an entry now, and waits
+  -- the length is stored: the word after the row is an entry now, and waits
   pub publishes_it : (n id : ℕ) (m : Me S View) (i x new c k : ℕ) → i ≡ length_word m.0.rows.held
       → m.0.rows.low ≡ x % half ∷ [] → m.0.rows.high ≡ x / half ∷ [] → m.0.rows.unfiled ≡ 0 → m.0.pending.announced ≡ 1
       → new ≡ length (row_of m.0.rows.seen m.0.rows.held) + 1 → x % 13 ≡ m.0.rows.held

@@ -69,7 +69,7 @@ seat_stay places rows words words' u o halves marks = seat_other places rows row
     (λ e. absurd (omega (arith, e, o.near))) (λ p h. starts-refl (row_of rows p)) (λ p ne. refl)
     (λ p k h ne b. halves p k h b) (λ p j h ne b. marks p j h b)
 
--- the row of shard q grows by a word that it lacks, both halves of which lie behind it
+-- the row of shard q grows by a word that it lacks, both halves of which come after it
 pub rows_grow : (t : Told) (rows : List (List ℕ)) (words : List ℕ) (q x : ℕ) → q < 13 → 216 ≤ length words
     → RowsOk t rows words → length (row_of rows q) < t.places
     → get_or words (low_word q (length (row_of rows q))) 0 ≡ x % half

@@ -35,7 +35,7 @@ module _ (t : Told) (good : ℕ → Type 0) (S : Type 0) where
       } in
       subst Rule same o
 
-  -- a step on a lock, an entry behind the row or the index
+  -- a step on a lock, an entry after the row or the index
   pub rows_turn : (s : State S View) (o : Rule s) (id i n : ℕ) (m : Me S View) (r : OnRows) → 3 ≤ i
       → ((a : ℕ) → 216 + 26 * t.places ≤ a → a < 216 + 39 * t.places → a ≢ i) → get_elem? s.views id ≡ some m.0
       → r.added ≡ m.0.rows.added → m.0.pending.announced * writer ≤ r.right

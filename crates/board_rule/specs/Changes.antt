@@ -54,7 +54,7 @@ with_claim v p life =
 abbrev pub without_claim : View → View
 without_claim v = record v { lives = record v.lives { claims = 0 } }
 
--- the claim is given up, where there is one, and its entry stays claimed
+-- the claim is given up, if there is one, and its entry stays claimed
 abbrev pub with_given_up : View → View
 with_given_up v =
     record v {
@@ -149,6 +149,6 @@ both_views v w = record v {
   share = both_shares v.share w.share;
 }
 
--- two seats that cannot be side by side
+-- two seats that cannot exist together
 abbrev pub impossible_view : View → View → View
 impossible_view v w = record v { rows = record v.rows { held = SHARDS } }

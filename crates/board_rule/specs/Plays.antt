@@ -1,6 +1,6 @@
 -- What each kind of step says: of the step, the seat before, the number found (at a store the number stored) and the
 -- seat after. The shard or the place of a step is known by its address. A play reads no key of the table, so the load
--- of an entry is told which words are reached.
+-- of an entry is given the words that are reached.
 use Rattle.std.specs.Prelude.{◌≡◌, ◌≢◌, ℕ, ◌+◌, ◌/◌, ◌%◌, ◌<◌, ◌≤◌, List, [], ◌∷◌, length, slice_index, slice_set, max}
 use Rattle.std.specs.Prelude.{Contains}
 use Rattle.board_rule.specs.declared.shards.TheConstants.{SHARDS}

@@ -1,4 +1,4 @@
--- The rule of a board's table: one fact a subject, side by side.
+-- The rule of a board's table: one fact for each subject.
 use Rattle.std.specs.Prelude.{◌≡◌, ℕ, ◌+◌, ◌*◌, ◌/◌, ◌%◌, ◌^◌, ◌<◌, ◌≤◌, ◌⊎◌, List, [], ◌∷◌, length, slice_index, cond}
 use Rattle.std.specs.Prelude.{◌==◌, nat_lt, Contains}
 use Rattle.std.specs.List.{All}
@@ -23,7 +23,7 @@ EachSeat F views = (j : ℕ) (v : View) → get_elem? views j ≡ some v → F v
 abbrev pub weight : ℕ → View → ℕ
 weight q v = cond (v.rows.held == q) v.rows.right 0
 
--- Locks: all rights of a shard weigh no more than its lock word, and that no more than one writer.
+-- Locks: all rights of a shard weigh no more than its lock word, and the lock word no more than one writer.
 abbrev pub LocksOk : List ℕ → List View → Type 0
 LocksOk words views =
     (q : ℕ) → q < SHARDS → (total (weight q) views ≤ slice_index words (lock_word q))
@@ -92,9 +92,9 @@ claims_at p v = cond (v.lives.place == p) v.lives.claims 0
 abbrev pub claims_on : ℕ → View → ℕ
 claims_on p v = claims_at p v + times_among p v.lives.given_up
 
--- Lives: beside each row, with one claim on each claimed entry, which a seat has or has given up, and none on another.
--- A settled life is the space's verdict, and the successors of its entry are entries. What was learned of a life stays
--- true.
+-- Lives: there is one for each entry, with one claim on each claimed entry, which a seat has or has given up, and none
+-- on another. A settled life is the space's verdict, and the successors of its entry are entries. What was learned of a
+-- life stays true.
 pub record LivesOk (t : Told) (good : ℕ → Type 0) (rows lives : List (List ℕ)) (words : List ℕ)
     (views : List View) : Type 0 where
   pub all : length lives ≡ SHARDS

@@ -4,7 +4,7 @@ ghost use Rattle.std.specs.Borrow.{ftrue};
 
 use std::marker::Model;
 
-/// What a seat knows, one part a subject of the rule. No value of it is made.
+/// What a seat knows, with one part for each subject of the rule. No value of it is ever made.
 pub struct View {
     // How many entries the board may have.
     pub ghost limit: { ℕ },

@@ -6,6 +6,7 @@ use Rattle.patch_sets.specs.Ends.{IsDifference}
 use Rattle.patch_sets.specs.Sets.{Has, has}
 use Rattle.patch_sets.proofs.Bits.{eq_or_not}
 use Rattle.patch_sets.proofs.Ids.{has_true, has_false}
+use Rattle.crash_model.specs.Checker.{Demands}
 use Rattle.crash_model.specs.Disk.{Disk}
 use Rattle.crash_model.specs.Lists.{some_below}
 use Rattle.crash_model.specs.Trace.{Tracing}
@@ -23,7 +24,7 @@ some_below_alike zero at other same = refl
 some_below_alike (suc n) at other same =
     rw (some_below_alike n at other (λ k less. same k (omega (arith, less))), same n (omega arith)) refl
 
-module _ (kept : Option ℕ) (base : Disk) (s : Tracing) (rules : List Rule) (all : ℕ)
+module _ (demands : Demands) (base : Disk) (s : Tracing) (rules : List Rule) (all : ℕ)
     (places : (place : ℕ) → Has all place ↔ (place < length rules)) where
   -- the rules of the rest are all rules but those of the group
   pub rest_rules : (group rest : ℕ) → IsDifference all group rest → rules_in rules rest ≡ rules_but rules group
@@ -40,8 +41,8 @@ module _ (kept : Option ℕ) (base : Disk) (s : Tracing) (rules : List Rule) (al
             ∙ sym (ap not (has_false group place lacks))
       ]
 
-  pub minimal_same : (set : ℕ) → IsMinimalEnough all (EnoughOf kept base s rules) set
-      ↔ model.IsMinimalEnough kept base s rules set
+  pub minimal_same : (set : ℕ) → IsMinimalEnough all (EnoughOf demands base s rules) set
+      ↔ model.IsMinimalEnough demands base s rules set
   minimal_same set = (
     λ is. record {
       places = λ place has. (places place).0 (is.within place has);
@@ -55,25 +56,25 @@ module _ (kept : Option ℕ) (base : Disk) (s : Tracing) (rules : List Rule) (al
     },
   )
 
-  pub needed_same : (group : ℕ) → IsNeeded all (EnoughOf kept base s rules) group
-      ↔ model.IsNeeded kept base s rules group
+  pub needed_same : (group : ℕ) → IsNeeded all (EnoughOf demands base s rules) group
+      ↔ model.IsNeeded demands base s rules group
   needed_same group = (
     λ is.
         let rest = difference_of all group in
         record {
           places = λ place has. (places place).0 (is.within place has);
           some = is.some;
-          needed = λ enough. is.needed rest.0 rest.1 (subst (AreEnough kept base s)
+          needed = λ enough. is.needed rest.0 rest.1 (subst (AreEnough demands base s)
               (sym (rest_rules group rest.0 rest.1)) enough);
           minimal = λ part inside other.
               let less = difference_of all part in
-              subst (AreEnough kept base s) (rest_rules part less.0 less.1) (is.minimal part less.0 inside other less.1);
+              subst (AreEnough demands base s) (rest_rules part less.0 less.1) (is.minimal part less.0 inside other less.1);
         },
     λ is. record {
       within = λ place has. (places place).1 (is.places place has);
       some = is.some;
-      needed = λ rest apart enough. is.needed (subst (AreEnough kept base s) (rest_rules group rest apart) enough);
-      minimal = λ part rest inside other apart. subst (AreEnough kept base s) (sym (rest_rules part rest apart))
+      needed = λ rest apart enough. is.needed (subst (AreEnough demands base s) (rest_rules group rest apart) enough);
+      minimal = λ part rest inside other apart. subst (AreEnough demands base s) (sym (rest_rules part rest apart))
           (is.minimal part inside other);
     },
   )

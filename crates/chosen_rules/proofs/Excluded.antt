@@ -1,6 +1,6 @@
 -- Closed sets, and the rules that exclude sets.
 use Rattle.std.proofs.Common.{◌≡◌, ℕ, ◌<◌, List, length, Bool, true, false, Some, arith, refl, sym, ◌∙◌, ap, subst, inl, inr}
-use Rattle.std.specs.Prelude.{◌⊎◌, ◌↔◌, ◌||◌, Option, IsTrue, slice_get}
+use Rattle.std.specs.Prelude.{◌⊎◌, ◌↔◌, ◌||◌, IsTrue, slice_get}
 use Rattle.std.specs.Int.{bit_at}
 use Rattle.std.specs.List.{Contains, list_any}
 use Rattle.std.proofs.lemmas.List.Folds.{Any-from_list_any, list_any_at}
@@ -9,7 +9,7 @@ use Rattle.patch_sets.proofs.Bits.{eq_or_not}
 use Rattle.crash_model.specs.Disk.{Disk}
 use Rattle.crash_model.specs.Patches.{Place, places_of, deps_of, image_from, overlap}
 use Rattle.crash_model.specs.Replay.{image_after_replay}
-use Rattle.crash_model.specs.Strict.{IsCleanUnder, IsFailingUnder}
+use Rattle.crash_model.specs.Checker.{Demands, IsCleanUnder, IsFailingUnder}
 use Rattle.crash_model.specs.Trace.{Emitted, Tracing, IsGraphOf, applies, depends, shares_block, groups_depend}
 use Rattle.crash_model.specs.declared.patches.Patch.{Patch}
 use Rattle.crash_model.specs.declared.rules.Rule.{Rule}
@@ -91,7 +91,7 @@ module _ (rules : List Rule) (base : Disk) (s : Tracing) (patches : List Patch)
       outside (closed.whole q p has
       ((graph.exactly q p wait.later wait.before wait.order wait.later_at wait.before_at).1 depends_on))
 
-  -- what is closed in one graph is so in another, where no rule of that excludes it
+  -- what is closed in one graph is also closed in another, if no rule of that one excludes it
   module _ (others : List Rule) (changed : List Patch) (other : IsGraphOf others base s changed)
       (none : (rule : Rule) → Contains others rule → Excludes s.emitted rule set → ⊥) where
     pub closed_too : IsClosed (deps_of patches) set → IsClosed (deps_of changed) set
@@ -132,11 +132,12 @@ module _ (rules : List Rule) (base : Disk) (s : Tracing) (patches : List Patch)
               ];
         }
 
-    pub failing_too : (kept : Option ℕ) → IsFailingUnder kept base patches set → IsFailingUnder kept base changed set
-    failing_too kept failing =
+    pub failing_too : (demands : Demands) → IsFailingUnder demands base patches set
+        → IsFailingUnder demands base changed set
+    failing_too demands failing =
         let same : places_of changed ≡ places_of patches = other.places ∙ sym graph.places in
         record {
           closed = closed_too failing.closed;
           unclean = λ clean. failing.unclean (subst (λ (ps : List Place).
-              IsCleanUnder kept (image_after_replay (image_from 0 base ps set))) same clean);
+              IsCleanUnder demands (image_after_replay (image_from 0 base ps set))) same clean);
         }

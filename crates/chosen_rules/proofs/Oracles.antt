@@ -1,12 +1,12 @@
--- What a failing set tells of the sets of rules that are enough.
+-- What a failing set says about the sets of rules that are enough.
 use Rattle.std.proofs.Common.{ℕ, ◌<◌, List, length, Some, arith, inl, inr}
-use Rattle.std.specs.Prelude.{◌↔◌, Option}
+use Rattle.std.specs.Prelude.{◌↔◌}
 use Rattle.std.proofs.lemmas.Option.{slice_get_within}
 use Rattle.std.proofs.lemmas.Nat.Bits.{bit_at_ones, bit_at_ones_above}
 use Rattle.patch_sets.specs.Sets.{Has}
 use Rattle.hitting_sets.proofs.Within.{decide_meets}
 use Rattle.crash_model.specs.Disk.{Disk}
-use Rattle.crash_model.specs.Strict.{IsFailingUnder}
+use Rattle.crash_model.specs.Checker.{Demands, IsFailingUnder}
 use Rattle.crash_model.specs.Trace.{Tracing, IsGraphOf}
 use Rattle.crash_model.specs.declared.patches.Patch.{Patch}
 use Rattle.crash_model.specs.declared.rules.Rule.{Rule}
@@ -29,22 +29,22 @@ all_places rules place = (
   λ less. bit_at_ones (length rules) place less,
 )
 
-module _ (kept : Option ℕ) (base : Disk) (s : Tracing) (rules : List Rule) (all : ℕ)
+module _ (demands : Demands) (base : Disk) (s : Tracing) (rules : List Rule) (all : ℕ)
     (places : (place : ℕ) → Has all place ↔ (place < length rules)) where
-  pub more_are_enough : MoreAreEnough all (EnoughOf kept base s rules)
+  pub more_are_enough : MoreAreEnough all (EnoughOf demands base s rules)
   more_are_enough set more inside within enough =
       let few = enough.0 in
       let wide = graph_by_others (rules_in rules set) (rules_in rules more) base s few enough.1 in (
         wide.0,
         wide.1,
         λ crash failing. enough.2 crash (failing_under_more (rules_in rules set) (rules_in rules more) base s few wide.0
-            crash (fewer_among rules set more inside) enough.1 wide.1 kept failing),
+            crash (fewer_among rules set more inside) enough.1 wide.1 demands failing),
       )
 
   module _ (set group : ℕ) (patches : List Patch) (graph : IsGraphOf (rules_in rules set) base s patches) (crash : ℕ)
-      (failing : IsFailingUnder kept base patches crash)
+      (failing : IsFailingUnder demands base patches crash)
       (excludes : (place : ℕ) → Has group place ↔ ExcludesAt s.emitted rules crash place) where
-    excluders : IsInEach all (EnoughOf kept base s rules) group
+    excluders : IsInEach all (EnoughOf demands base s rules) group
     excluders = record {
       within = λ place has.
           let it = (excludes place).0 has in (places place).1 (slice_get_within rules place it.0 it.1);
@@ -55,11 +55,11 @@ module _ (kept : Option ℕ) (base : Disk) (s : Tracing) (rules : List Rule) (al
             (λ rule is out.
             let at = from_rules rules other rule is in
             misses (at.0, at.1, (excludes at.0).1 (rule, at.2, out)))
-            kept failing))
+            demands failing))
       ];
     }
 
-    pub group_found : IsFound all (EnoughOf kept base s rules) set (Some group)
+    pub group_found : IsFound all (EnoughOf demands base s rules) set (Some group)
     group_found = (
       excluders,
       λ met.

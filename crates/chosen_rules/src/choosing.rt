@@ -8,7 +8,7 @@ use arrayvec::ArrayVec;
 use crash_model::orderings::Ordering;
 use patch_sets::set::has;
 
-/// The ordering with the rules of a set alone, in their order.
+/// The ordering with only the rules of a set, in their order.
 pub fn rules_in(ordering: &Ordering, set: u128) -> Ordering
     ensures module { result.«module» ≡ ordering.now.«module» }
     ensures rules { result.rules.items ≡ rules_in ordering.now.rules.items set }

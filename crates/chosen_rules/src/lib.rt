@@ -1,7 +1,7 @@
-//! Some of an ordering's rules: the ordering with these alone, and the rules that exclude a set of patches.
+//! Some of an ordering's rules: the ordering with only these, and the rules that exclude a set of patches.
 //!
 //! A set of rules is the set of their places in the ordering's list, written as sets of patches are in `patch_sets`. A
-//! rule excludes a set of patches where it makes one of them wait for a patch outside the set.
+//! rule excludes a set of patches if it makes one of them wait for a patch outside the set.
 #![tactic(auto)]
 
 mod choosing;

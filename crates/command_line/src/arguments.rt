@@ -136,12 +136,20 @@ static HEADS: [Head; 5] = [
     // What the checker asks for.
     Head {
         name: "What fails",
-        entries: &[Entry {
-            name: "strict",
-            takes: Takes::Nothing,
-            help: "Also fail if a crash loses a file or directory that the script never removes, or leaves a \
-                   directory without its block",
-        }],
+        entries: &[
+            Entry {
+                name: "strict",
+                takes: Takes::Nothing,
+                help: "Also fail if a crash loses a file or directory that the script never removes, or leaves a \
+                       directory without its block",
+            },
+            Entry {
+                name: "atomic",
+                takes: Takes::Nothing,
+                help: "Also fail if a crash leaves an operation half done: the disk is not the one after some number \
+                       of whole operations",
+            },
+        ],
     },
     // How many sets are explored, and how.
     Head {

@@ -120,6 +120,7 @@ fn call_of<'a>(
         explain: matches.get_flag("explain"),
         whole_blocks: matches.get_flag("whole-blocks"),
         strict: matches.get_flag("strict"),
+        atomic: matches.get_flag("atomic"),
         by: report_by(matches),
     };
     Ok(Call {

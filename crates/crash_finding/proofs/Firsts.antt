@@ -8,7 +8,7 @@ use Rattle.patch_sets.specs.Sets.{IsBefore}
 use Rattle.patch_sets.proofs.Canonical.{before_trans, before_self}
 use Rattle.fault_summary.specs.Prevented.{IsFirstOut}
 
--- a set that is not allowed, where those that stand before it are
+-- a set that is not allowed, if those before it are
 pub first_out : (allowed : ℕ → Type 0) (sets : List ℕ) (i : ℕ) → AllPairs IsBefore sets → i < length sets
     → All allowed (take i sets) → ¬ (allowed (get_or sets i 0)) → IsFirstOut (Contains sets) allowed (get_or sets i 0)
 first_out allowed sets i ordered within front out = record {

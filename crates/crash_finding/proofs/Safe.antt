@@ -8,7 +8,7 @@ use Rattle.crash_finding.specs.declared.crashes.Crashes.{Crashes}
 
 -- no set is one of those that fail
 pub counts_none : {A : Type 0} (limit : ℕ) (c : Crashes A) (number : Option ℕ) (total : ℕ) → number ≡ Some total
-    → MatchOption number (SomeFails c) (AreSafe limit c) → CountsFailing c.kept c.base.now c.graph.now 0
+    → MatchOption number (SomeFails c) (AreSafe limit c) → CountsFailing c.demands.now c.base.now c.graph.now 0
 counts_none limit c number total is told = (
   [],
   record {

@@ -8,7 +8,7 @@ use Rattle.crash_finding.specs.declared.crashes.Crashes.{Crashes}
 abbrev pub SomeFails : {A : Type 0} → Crashes A → Type 0
 SomeFails c = (set : ℕ) × Fails c set
 
--- a crash can leave so many sets, at most the limit, and none of them fails
+-- a crash can leave this many sets, at most the limit, and none of them fails
 pub record AreSafe {A : Type 0} (limit : ℕ) (c : Crashes A) (total : ℕ) : Type 0 where
   pub counted : CountsClosed c.graph.now total
   pub within : total ≤ limit

@@ -1,6 +1,6 @@
 //! The sets that a crash can leave, swept over with no table of sets.
 //!
-//! Each function refuses where they are more than the limit, and visits none of them where none fails.
+//! Each function refuses if they are more than the limit, and visits none of them if none fails.
 
 ghost use Rattle.std.specs.Prelude.{◌≤◌, IfOk, IfErr};
 ghost use Rattle.patch_sets.specs.Closed.{IsClosed};
@@ -34,7 +34,7 @@ where
     A: Allocator + Copy + Send + Sync,
     G: Gate + Sync,
 {
-    /// Its workers, where they sweep.
+    /// Its workers, as they sweep.
     fn sweepers<'s, W: Watch + Sync>(&'s self, watch: &'s W) -> Workers<'s, R, A, W> {
         Workers {
             rt: self.rt,
@@ -56,7 +56,7 @@ where
             let broken = Vec::new(self.alloc);
             return Ok(Explored { total, broken });
         }
-        let space = PatchSpace::new(crashes.base, crashes.graph, crashes.kept);
+        let space = PatchSpace::new(crashes.base, crashes.graph, crashes.demands);
         let (deps, limit) = (dependencies(crashes.graph), self.settings.limit);
         let watch = GateWatch { gate: self.gate };
         match self.sweepers(&watch).sweep(&space, &deps, limit) {
@@ -72,9 +72,9 @@ where
         ensures total { IfOk result (λ found. CountsClosed crashes.now.graph.now found.total) }
         ensures within { IfOk result (λ found. found.total ≤ self.now.settings.now.limit) }
         ensures failing { IfOk result (λ found.
-            CountsFailing crashes.now.kept crashes.now.base.now crashes.now.graph.now found.failing) }
+            CountsFailing crashes.now.demands.now crashes.now.base.now crashes.now.graph.now found.failing) }
         ensures rows { IfOk result (λ found.
-            AreRows (HasFault crashes.now.kept crashes.now.base.now crashes.now.graph.now) found.rows.items) }
+            AreRows (HasFault crashes.now.demands.now crashes.now.base.now crashes.now.graph.now) found.rows.items) }
         ensures too_many { IfErr result (SaysTooMany crashes.now.graph.now self.now.settings.now.limit) }
     {
         if let Some(total) = self.safe_number(crashes)? {
@@ -84,7 +84,7 @@ where
                 rows: Vec::new(self.alloc),
             });
         }
-        let visitor = FaultVisitor::new(self.alloc, crashes.base, crashes.graph, crashes.kept);
+        let visitor = FaultVisitor::new(self.alloc, crashes.base, crashes.graph, crashes.demands);
         let (deps, limit) = (dependencies(crashes.graph), self.settings.limit);
         let watch = GateWatch { gate: self.gate };
         match sweep_faults(&self.sweepers(&watch), &visitor, &deps, limit) {
@@ -104,7 +104,7 @@ where
         ensures total { IfOk result (λ found. CountsClosed crashes.now.graph.now found.total) }
         ensures within { IfOk result (λ found. found.total ≤ self.now.settings.now.limit) }
         ensures failing { IfOk result (λ found.
-            CountsFailing crashes.now.kept crashes.now.base.now crashes.now.graph.now found.failing) }
+            CountsFailing crashes.now.demands.now crashes.now.base.now crashes.now.graph.now found.failing) }
         ensures first { IfOk result (λ found.
             IsFirstPrevented (Fails crashes.now) (IsClosed (deps_of other.now)) found.first) }
         ensures too_many { IfErr result (SaysTooMany crashes.now.graph.now self.now.settings.now.limit) }
@@ -116,7 +116,7 @@ where
                 first: None,
             });
         }
-        let space = PatchSpace::new(crashes.base, crashes.graph, crashes.kept);
+        let space = PatchSpace::new(crashes.base, crashes.graph, crashes.demands);
         let visitor = CountVisitor::new(self.alloc, space, other);
         let (deps, limit) = (dependencies(crashes.graph), self.settings.limit);
         let watch = GateWatch { gate: self.gate };

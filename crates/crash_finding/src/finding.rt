@@ -1,7 +1,7 @@
 //! What is found of the sets that a crash can leave, as much of it as the report asks for.
 //!
-//! The board explores them, or the sweep, as the settings ask. Each function refuses where they are more than the
-//! limit of the settings.
+//! The board explores them, or the sweep, as the settings ask. Each function refuses if they are more than the limit of
+//! the settings.
 
 ghost use Rattle.std.specs.Prelude.{◌≡◌, ◌≤◌, IfOk, IfErr, IsTrue};
 ghost use Rattle.std.specs.List.{AllPairs, Contains};
@@ -51,11 +51,11 @@ where
 {
     /// What the report that the settings ask for needs.
     ///
-    /// It fails with `TooMany` only where a crash can leave more sets than the limit, and else only when out of
+    /// It fails with `TooMany` only if a crash can leave more sets than the limit, and else only when out of
     /// memory.
     pub fn find(&self, crashes: &Crashes<'_, A>) -> Result<Found<A>, RunFault>
         ensures found { IfOk result
-            (AreFound self.now.settings.now crashes.now.kept crashes.now.base.now crashes.now.graph.now) }
+            (AreFound self.now.settings.now crashes.now.demands.now crashes.now.base.now crashes.now.graph.now) }
         ensures too_many { IfErr result (SaysTooMany crashes.now.graph.now self.now.settings.now.limit) }
     {
         match self.settings.by {
@@ -83,7 +83,7 @@ where
     fn find_faults(&self, crashes: &Crashes<'_, A>) -> Result<Found<A>, RunFault>
         requires by { self.now.settings.now.by ≡ ByFault }
         ensures found { IfOk result
-            (AreFound self.now.settings.now crashes.now.kept crashes.now.base.now crashes.now.graph.now) }
+            (AreFound self.now.settings.now crashes.now.demands.now crashes.now.base.now crashes.now.graph.now) }
         ensures too_many { IfErr result (SaysTooMany crashes.now.graph.now self.now.settings.now.limit) }
     {
         if self.sweeps() {
@@ -99,7 +99,7 @@ where
             self.alloc,
             crashes.base,
             crashes.graph,
-            crashes.kept,
+            crashes.demands,
             &found.broken,
         )?;
         Ok(Found {
@@ -112,15 +112,15 @@ where
     /// How many sets a crash can leave, how many of them fail, and the first failing one that a crash cannot leave
     /// under another graph.
     ///
-    /// It fails with `TooMany` only where a crash can leave more sets than the limit, and else only when out of
+    /// It fails with `TooMany` only if a crash can leave more sets than the limit, and else only when out of
     /// memory.
     pub fn count_failing(
         &self,
         crashes: &Crashes<'_, A>,
         other: &Graph<A>,
     ) -> Result<FailingCount, RunFault>
-        ensures counted { IfOk result (IsCountWith self.now.settings.now.limit crashes.now.kept crashes.now.base.now
-            crashes.now.graph.now other.now) }
+        ensures counted { IfOk result (IsCountWith self.now.settings.now.limit crashes.now.demands.now
+            crashes.now.base.now crashes.now.graph.now other.now) }
         ensures too_many { IfErr result (SaysTooMany crashes.now.graph.now self.now.settings.now.limit) }
     {
         if self.sweeps() {

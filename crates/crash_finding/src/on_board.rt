@@ -29,7 +29,7 @@ where
     /// How many sets a crash can leave, at most the limit, and which of them fail, in canonical order.
     ///
     /// The sets are counted first, so that the board is no larger than their number asks for: its limit is the smallest
-    /// prime that is at least their number, or else the run's limit. It refuses where they are more than that.
+    /// prime that is at least their number, or else the run's limit. It refuses if they are more than that.
     pub(crate) fn explored_on_board(
         &self,
         crashes: &Crashes<'_, A>,
@@ -40,7 +40,7 @@ where
         ensures failing { IfOk result (λ found. AreAllInOrder (Fails crashes.now) found.broken.items) }
         ensures too_many { IfErr result (SaysTooMany crashes.now.graph.now self.now.settings.now.limit) }
     {
-        let space = PatchSpace::new(crashes.base, crashes.graph, crashes.kept);
+        let space = PatchSpace::new(crashes.base, crashes.graph, crashes.demands);
         exploring_finds_the_failing_sets(&space);
         let (deps, limit) = (dependencies(crashes.graph), self.settings.limit);
         let Some(sets) = count_closed(&deps, limit) else {

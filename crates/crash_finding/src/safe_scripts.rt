@@ -1,4 +1,4 @@
-//! Graphs of which no set fails, told without a visit to any set.
+//! Graphs of which no set fails, found without a visit to any set.
 
 ghost use Rattle.std.specs.Prelude.{IfOk, IfErr, MatchOption};
 ghost use Rattle.crash_finding.specs.Limits.{SaysTooMany};
@@ -11,11 +11,11 @@ use fault_deciding::{Decider, closed_number};
 use std::alloc::Allocator;
 
 impl<R, A: Allocator + Copy, G> Finder<'_, R, A, G> {
-    /// How many sets a crash can leave, where none of them fails, and `None` where one fails.
+    /// How many sets a crash can leave, if none of them fails, and `None` if one fails.
     ///
     /// No set is visited: families of sets decide whether one fails. The memory that it takes does not grow with the
-    /// number of sets, no thread starts, and the gate is told nothing. It fails with `TooMany` where a crash can leave
-    /// more sets than the limit, and else only when out of memory.
+    /// number of sets, no thread starts, and the gate is not called. It fails with `TooMany` if a crash can leave more
+    /// sets than the limit, and else only when out of memory.
     pub(crate) fn safe_number(&self, crashes: &Crashes<'_, A>) -> Result<Option<usize>, RunFault>
         ensures answer { IfOk result (λ number.
             MatchOption number (SomeFails crashes.now) (AreSafe self.now.settings.now.limit crashes.now)) }
@@ -29,7 +29,7 @@ impl<R, A: Allocator + Copy, G> Finder<'_, R, A, G> {
             alloc: self.alloc,
             base: crashes.base,
             graph: crashes.graph,
-            kept: crashes.kept,
+            demands: crashes.demands,
         };
         if decider.any_fails()? {
             return Ok(None);

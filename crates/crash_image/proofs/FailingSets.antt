@@ -1,5 +1,5 @@
 -- What is reached in the space of a graph, and which of it is bad.
-use Rattle.std.proofs.Common.{◌≡◌, ℕ, List, Option, subst}
+use Rattle.std.proofs.Common.{◌≡◌, ℕ, List, subst}
 use Rattle.std.specs.Prelude.{◌↔◌}
 use Rattle.state_space.specs.Reach.{IsReached}
 use Rattle.state_space.specs.Counts.{HoldsOf, Outnumbers}
@@ -10,7 +10,7 @@ use Rattle.patch_sets.specs.Ready.{successors_of}
 use Rattle.patch_sets.proofs.Successors.{reached_closed, closed_reached}
 use Rattle.crash_model.specs.Disk.{Disk}
 use Rattle.crash_model.specs.Patches.{deps_of, CountsClosed, ExceedsLimit}
-use Rattle.crash_model.specs.Strict.{IsFailingUnder}
+use Rattle.crash_model.specs.Checker.{Demands, IsFailingUnder}
 use Rattle.crash_model.specs.declared.patches.Patch.{Patch}
 use Rattle.crash_image.specs.Moves.{AreOver, Crashes, IsGood}
 
@@ -19,10 +19,10 @@ abbrev pub Reached : Crashes → ℕ → Type 0
 Reached c = IsReached (successors_of (deps_of c.patches)) 0
 
 -- the patches of a space depend on earlier ones
-pub earlier_of : (c : Crashes) (base : Disk) (patches : List Patch) (kept : Option ℕ)
-    → (let d : Crashes = record { base = base; patches = patches; kept = kept } in d) ≡ c → AreOver base patches
+pub earlier_of : (c : Crashes) (base : Disk) (patches : List Patch) (demands : Demands)
+    → (let d : Crashes = record { base = base; patches = patches; demands = demands } in d) ≡ c → AreOver base patches
     → AreEarlier (deps_of c.patches)
-earlier_of c base patches kept is over = subst (λ (d : Crashes). AreEarlier (deps_of d.patches)) is over.graph.earlier
+earlier_of c base patches demands is over = subst (λ (d : Crashes). AreEarlier (deps_of d.patches)) is over.graph.earlier
 
 module _ (c : Crashes) (earlier : AreEarlier (deps_of c.patches)) where
   pub reach_closed : (set : ℕ) → Reached c set ↔ IsClosed (deps_of c.patches) set
@@ -36,7 +36,7 @@ module _ (c : Crashes) (earlier : AreEarlier (deps_of c.patches)) where
   closed_more = outnumbers_like (Reached c) (IsClosed (deps_of c.patches)) (λ set. (reach_closed set).0)
       (λ set. (reach_closed set).1)
 
-  bad_failing : (set : ℕ) → (Reached c set × ¬ (IsGood c set)) ↔ IsFailingUnder c.kept c.base c.patches set
+  bad_failing : (set : ℕ) → (Reached c set × ¬ (IsGood c set)) ↔ IsFailingUnder c.demands c.base c.patches set
   bad_failing set = (
     λ bad. record { closed = (reach_closed set).0 bad.0; unclean = bad.1 },
     λ fails. ((reach_closed set).1 fails.closed, fails.unclean),
@@ -52,6 +52,6 @@ all_like P Q same sets all = record {
 
 pub bad_list : (c : Crashes) → AreEarlier (deps_of c.patches) → (sets : List ℕ)
     → AreAllInOrder (λ set. Reached c set × ¬ (IsGood c set)) sets
-    → AreAllInOrder (IsFailingUnder c.kept c.base c.patches) sets
-bad_list c earlier = all_like (λ set. Reached c set × ¬ (IsGood c set)) (IsFailingUnder c.kept c.base c.patches)
+    → AreAllInOrder (IsFailingUnder c.demands c.base c.patches) sets
+bad_list c earlier = all_like (λ set. Reached c set × ¬ (IsGood c set)) (IsFailingUnder c.demands c.base c.patches)
     (bad_failing c earlier)

@@ -1,5 +1,5 @@
 -- Patches put on a disk and taken back.
-use Rattle.std.specs.Prelude.{◌≡◌, ℕ, ◌+◌, ◌<◌, List, [], ◌∷◌, Option, if◌then◌else◌}
+use Rattle.std.specs.Prelude.{◌≡◌, ℕ, ◌+◌, ◌<◌, List, [], ◌∷◌, if◌then◌else◌}
 use Rattle.std.specs.List.{All}
 use Rattle.patch_sets.specs.Sets.{Has, has}
 use Rattle.patch_sets.specs.Closed.{IsClosed}
@@ -8,7 +8,7 @@ use Rattle.journal_replay.specs.Changed.{DifferAtMost}
 use Rattle.crash_model.specs.Disk.{Disk, IsDisk, with_bytes}
 use Rattle.crash_model.specs.Patches.{deps_of, image_of, AreUndo}
 use Rattle.crash_model.specs.Replay.{image_after_replay}
-use Rattle.crash_model.specs.Strict.{IsCleanUnder}
+use Rattle.crash_model.specs.Checker.{Demands, IsCleanUnder}
 use Rattle.crash_model.specs.declared.patches.Patch.{Patch}
 
 -- the disk with the new bytes of a patch, and with the bytes that they replaced
@@ -29,7 +29,7 @@ without_patches_from id d (p ∷ ps) set =
 abbrev pub without_set : Disk → List Patch → ℕ → Disk
 without_set d patches set = without_patches_from 0 d patches set
 
--- the patches of a graph change blocks of the disk alone, and hold the bytes that they replace
+-- the patches of a graph change only blocks of the disk, and hold the bytes that they replace
 pub record AreOver (base : Disk) (patches : List Patch) : Type 0 where
   pub disk : IsDisk base
   pub graph : IsGraph patches
@@ -52,16 +52,15 @@ pub record IsApplied (a : Applied) (image : Disk) : Type 0 where
   pub closed : IsClosed (deps_of a.patches) a.set
   pub holds : image ≡ image_of a.base a.patches a.set
 
--- a base and patches over it, of which a crash can leave some, and the inodes that the script keeps, where a checker is
--- told of them
+-- a base and patches over it, of which a crash can leave some, and what is demanded of the image that it leaves
 pub record Crashes : Type 0 where
   pub base : Disk
   pub patches : List Patch
-  pub kept : Option ℕ
+  pub demands : Demands
 
 -- the image that a set leaves is clean after replay
 abbrev pub IsGood : Crashes → ℕ → Type 0
-IsGood crashes set = IsCleanUnder crashes.kept (image_after_replay (image_of crashes.base crashes.patches set))
+IsGood crashes set = IsCleanUnder crashes.demands (image_after_replay (image_of crashes.base crashes.patches set))
 
 -- a set of blocks has that of each patch of a set
 pub record HasBlocks (patches : List Patch) (set blocks : ℕ) : Type 0 where

@@ -27,7 +27,7 @@ pub fn build<A: Allocator + Copy>(
     Ok(image)
 }
 
-/// Makes of an image with as many blocks as the base the disk that a set of patches leaves, as [`build`] does. It
+/// Turns an image with as many blocks as the base into the disk that a set of patches leaves, as [`build`] makes it. It
 /// takes no memory.
 pub fn rebuild<A: Allocator + Copy>(
     image: &mut Image<A>,

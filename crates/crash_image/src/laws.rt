@@ -7,7 +7,7 @@ ghost use Rattle.patch_sets.specs.Closed.{IsClosed};
 ghost use Rattle.state_space.specs.Reach.{IsReached};
 ghost use Rattle.state_space.specs.Counts.{HoldsOf, Outnumbers};
 ghost use Rattle.crash_model.specs.Patches.{deps_of, CountsClosed, ExceedsLimit};
-ghost use Rattle.crash_model.specs.Strict.{IsFailingUnder};
+ghost use Rattle.crash_model.specs.Checker.{IsFailingUnder};
 
 use crate::space::PatchSpace;
 use state_space::Space;
@@ -34,7 +34,7 @@ pub fn exploring_finds_the_failing_sets<'a, A: Allocator + Copy>(space: &PatchSp
     ensures failing { let words = ⟦<PatchSpace<'a, A> as Space>⟧ in
         let is_reached = IsReached (words.successors space.now) (words.initial space.now) in
         (sets : List ℕ) → AreAllInOrder (λ set. is_reached set × ¬ (words.is_good space.now set)) sets
-        → AreAllInOrder (IsFailingUnder space.now.kept space.now.base space.now.patches) sets }
+        → AreAllInOrder (IsFailingUnder space.now.demands space.now.base space.now.patches) sets }
 {
     let _graph = space.graph;
 }

@@ -1,9 +1,9 @@
 //! Crash images: the disk that a set of patches leaves, and the space of the sets that a crash can leave.
 //!
-//! [`build`] makes the image of a set anew, and [`rebuild`] in an image that there is. A [`Mover`] brings one image
-//! from set to set by undo and redo, so that neighbouring sets cost little, and a [`Replayer`] keeps the image after
-//! replay of the journal in step with it. A [`PatchSpace`] has the sets that a crash can leave as its words; a set is
-//! good where its image is clean after replay.
+//! [`build`] makes the image of a set, and [`rebuild`] makes it in an existing image. A [`Mover`] brings one image from
+//! set to set by undo and redo, so that neighbouring sets cost little, and a [`Replayer`] keeps the image after replay
+//! of the journal in step with it. A [`PatchSpace`] has the sets that a crash can leave as its words; a set is good if
+//! its image is clean after replay.
 #![tactic(auto)]
 
 mod images;

@@ -47,7 +47,7 @@ impl<'a, A: Allocator + Copy> Mover<'a, A> {
         requires undo { AreUndo base graph.now }
         ensures { result ≡ record { base = base; patches = graph.now; set = 0 } }
     {
-        // For the proof: what every image and every graph keeps.
+        // For the proof: what holds of every image and every graph.
         let _blocks = base.blocks();
         let _len = graph.len();
         Mover {
@@ -92,7 +92,7 @@ impl<'a, A: Allocator + Copy> Mover<'a, A> {
         &self.image
     }
 
-    /// Makes of another image of the base's size the image of the set after replay of the journal.
+    /// Turns another image of the base's size into the image of the set after replay of the journal.
     pub fn replayed(&self, into: &mut Image<A>)
         requires { into.old.blocks ≡ self.now.base.blocks }
         ensures { into.new ≡ image_after_replay (image_of self.now.base self.now.patches self.now.set) }

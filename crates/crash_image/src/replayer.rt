@@ -17,13 +17,13 @@ use std::marker::Model;
 
 /// The image after replay of a set that a crash can leave, which moves from set to set.
 ///
-/// A [`Mover`] brings the image before replay along. Of its blocks those alone are copied that a move or a replay
-/// wrote since the last set, and none where there is no journal. Contracts see the base, the patches and the set. No
-/// call takes memory.
+/// A [`Mover`] brings the image before replay along. Only those of its blocks are copied that a move or a replay wrote
+/// since the last set, and none if there is no journal. Contracts see the base, the patches and the set. No call takes
+/// memory.
 #[derive(Drop)]
 pub struct Replayer<'a, A: Allocator + Copy> {
     mover: Mover<'a, A>,
-    /// The image after replay, where there is a journal.
+    /// The image after replay, if there is a journal.
     after: Image<A>,
     /// The blocks in which the images before and after replay may differ.
     stale: u128,

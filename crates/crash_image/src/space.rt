@@ -7,7 +7,7 @@ ghost use Rattle.crash_model.specs.Patches.{deps_of, AreUndo};
 ghost use Rattle.crash_image.specs.Moves.{IsGood};
 
 use crate::replayer::Replayer;
-use disk_image::Image;
+use disk_image::{Demands, Image};
 use fs_check::is_clean_under;
 use patch_graph::Graph;
 use state_space::Space;
@@ -15,14 +15,14 @@ use std::alloc::{AllocError, Allocator};
 use std::marker::Model;
 
 /// The sets of a graph that a crash can leave on a base. Each leads to the sets with one ready patch more, and it is
-/// good where its image is clean after replay, by the strict checker with these kept inodes, or by the other without.
+/// good if its image is clean after replay, by what is demanded of it.
 ///
-/// Contracts see the base, the patches and the kept inodes.
+/// Contracts see the base, the patches and the demands.
 #[derive(Drop)]
 pub struct PatchSpace<'a, A: Allocator + Copy> {
     base: &'a Image<A>,
     pub(crate) graph: &'a Graph<A>,
-    kept: Option<u16>,
+    demands: &'a Demands<A>,
 }
 
 impl<'a, A: Allocator + Copy> Model for PatchSpace<'a, A> {
@@ -30,18 +30,18 @@ impl<'a, A: Allocator + Copy> Model for PatchSpace<'a, A> {
 
     ghost Value = { Crashes };
 
-    ghost view = { λ s. record { base = s.base.now; patches = s.graph.now; kept = s.kept } };
+    ghost view = { λ s. record { base = s.base.now; patches = s.graph.now; demands = s.demands.now } };
 
     ghost invariant = { λ s. AreOver s.base.now s.graph.now };
 }
 
 /// What sets are judged in: the image after replay of the set that was judged last.
 ///
-/// Contracts see its base, patches and kept inodes.
+/// Contracts see its base, patches and demands.
 #[derive(Drop)]
 pub struct Scratch<'a, A: Allocator + Copy> {
     replayer: Replayer<'a, A>,
-    kept: Option<u16>,
+    demands: &'a Demands<A>,
 }
 
 impl<'a, A: Allocator + Copy> Model for Scratch<'a, A> {
@@ -49,7 +49,7 @@ impl<'a, A: Allocator + Copy> Model for Scratch<'a, A> {
 
     ghost Value = { Crashes };
 
-    ghost view = { λ s. record { base = s.replayer.base; patches = s.replayer.patches; kept = s.kept } };
+    ghost view = { λ s. record { base = s.replayer.base; patches = s.replayer.patches; demands = s.demands.now } };
 }
 
 impl<A: Allocator + Copy> Scratch<'_, A> {
@@ -60,23 +60,31 @@ impl<A: Allocator + Copy> Scratch<'_, A> {
         ensures kept { self.new ≡ self.old }
     {
         self.replayer.move_to(set);
-        is_clean_under(self.replayer.image(), self.kept)
+        is_clean_under(self.replayer.image(), self.demands)
     }
 }
 
 impl<'a, A: Allocator + Copy> PatchSpace<'a, A> {
-    /// The space of a graph over a base, with the inodes that the script keeps for a strict checker, or none.
+    /// The space of a graph over a base, with what is demanded of each image after replay.
     ///
     /// The patches change blocks of the base, and their undo data are the bytes that they replace there.
-    pub fn new(base: &'a Image<A>, graph: &'a Graph<A>, kept: Option<u16>) -> PatchSpace<'a, A>
+    pub fn new(
+        base: &'a Image<A>,
+        graph: &'a Graph<A>,
+        demands: &'a Demands<A>,
+    ) -> PatchSpace<'a, A>
         requires fits { All (λ patch. patch.block < base.now.blocks) graph.now }
         requires undo { AreUndo base.now graph.now }
-        ensures { result ≡ record { base = base.now; patches = graph.now; kept = kept } }
+        ensures { result ≡ record { base = base.now; patches = graph.now; demands = demands.now } }
     {
-        // For the proof: what every image and every graph keeps.
+        // For the proof: what holds of every image and every graph.
         let _blocks = base.blocks();
         let _len = graph.len();
-        PatchSpace { base, graph, kept }
+        PatchSpace {
+            base,
+            graph,
+            demands,
+        }
     }
 }
 
@@ -108,7 +116,7 @@ impl<'a, A: Allocator + Copy> Space for PatchSpace<'a, A> {
     fn scratch(&self) -> Result<Scratch<'a, A>, AllocError> {
         Ok(Scratch {
             replayer: Replayer::new(self.base.try_copy()?, self.base.try_copy()?, self.graph),
-            kept: self.kept,
+            demands: self.demands,
         })
     }
 

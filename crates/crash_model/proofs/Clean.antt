@@ -1,4 +1,4 @@
--- An image is clean exactly where no test finds a fault.
+-- An image is clean exactly if no test finds a fault.
 use Rattle.std.proofs.Common.{◌≡◌, ℕ, zero, suc, ◌<◌, ◌⊎◌, inl, inr, List, [], ◌∷◌, ◌++◌, Bool, true, false, arith}
 use Rattle.std.proofs.Common.{refl, subst, sym, length}
 use Rattle.std.specs.Prelude.{option_to_list}

@@ -1,5 +1,5 @@
--- A crash can leave each failing set, and the block writes told of it lead there.
-use Rattle.std.proofs.Common.{◌≡◌, ℕ, Option, List, [], ◌∷◌, length, get_or, All, sym, subst, ◌∙◌}
+-- A crash can leave each failing set, and the block writes shown for it lead there.
+use Rattle.std.proofs.Common.{◌≡◌, ℕ, List, [], ◌∷◌, length, get_or, All, sym, subst, ◌∙◌}
 use Rattle.std.proofs.lemmas.List.{length-map}
 use Rattle.std.proofs.lemmas.List.Elements.{Contains-get_or, All-nil, All-cons, All-head, All-tail}
 use Rattle.patch_sets.specs.Closed.{AreEarlier, IsClosed}
@@ -7,15 +7,14 @@ use Rattle.patch_sets.specs.Machine.{CanLeave}
 use Rattle.patch_sets.specs.Sets.{AreAllInOrder}
 use Rattle.patch_sets.proofs.Runs.{closed_left, runs_lead}
 use Rattle.crash_model.specs.Disk.{Disk}
-use Rattle.crash_model.specs.Strict.{IsFailingUnder}
+use Rattle.crash_model.specs.Checker.{Demands, IsFailingUnder}
 use Rattle.crash_model.specs.Patches.{deps_of, homes_of}
-use Rattle.crash_model.specs.Report.{Section, AreSections, IsLed}
+use Rattle.crash_model.specs.Report.{Detail, Section, AreSections, IsLed}
 use Rattle.crash_model.specs.declared.patches.Patch.{Patch}
-use Rattle.crash_model.specs.declared.settings.Detail.{Detail}
 
-pub failing_closed : (kept : Option ℕ) (base : Disk) (patches : List Patch) (sets : List ℕ)
-    → AreAllInOrder (IsFailingUnder kept base patches) sets → All (IsClosed (deps_of patches)) sets
-failing_closed kept base patches sets are k d within =
+pub failing_closed : (demands : Demands) (base : Disk) (patches : List Patch) (sets : List ℕ)
+    → AreAllInOrder (IsFailingUnder demands base patches) sets → All (IsClosed (deps_of patches)) sets
+failing_closed demands base patches sets are k d within =
     ((are.exactly (get_or sets k d)).0 (Contains-get_or sets k d within)).closed
 
 module _ (base : Disk) (patches : List Patch) (earlier : AreEarlier (deps_of patches)) where

@@ -1,10 +1,11 @@
--- Where a script keeps inodes, an image is clean exactly where none of the six faults holds and neither of the two
+-- Where a script keeps inodes, an image is clean exactly if none of the six faults holds and neither of the two
 -- others.
 use Rattle.std.proofs.Common.{◌≡◌, ℕ, []}
 use Rattle.crash_model.specs.Disk.{Disk}
 use Rattle.crash_model.specs.Lists.{some_below, when}
 use Rattle.crash_model.specs.Faults.{IsClean, faults}
-use Rattle.crash_model.specs.Strict.{is_lost, lacks_block, strict_faults, LosesNothing, IsCleanUnder}
+use Rattle.crash_model.specs.Checker.{IsCleanKeeping}
+use Rattle.crash_model.specs.Strict.{is_lost, lacks_block, strict_faults, LosesNothing}
 use Rattle.crash_model.specs.declared.fault.Fault.TheVariants.{Lost, NoBlock}
 use Rattle.crash_model.proofs.Clean.{nil_left, nil_right, nil_both, some_none, none_some}
 use Rattle.std.specs.Prelude.{Some}
@@ -24,14 +25,14 @@ module _ (kept : ℕ) (d : Disk) where
   none_from_loses loses = nil_both _ _ (none_some (is_lost d kept) Lost 16 loses.no_lost)
       (none_some (lacks_block d) NoBlock 16 loses.no_bare)
 
-  pub clean_under : IsClean d → LosesNothing kept d → IsCleanUnder (Some kept) d
-  clean_under clean loses = record {
+  pub clean_keeping : IsClean d → LosesNothing kept d → IsCleanKeeping (Some kept) d
+  clean_keeping clean loses = record {
     faultless = nil_both (faults d) (strict_faults kept d) clean.faultless
         (none_from_loses loses);
   }
 
-  pub clean_from_under : IsCleanUnder (Some kept) d → IsClean d
-  clean_from_under under = record { faultless = nil_left (faults d) (strict_faults kept d) under.faultless }
+  pub clean_from_keeping : IsCleanKeeping (Some kept) d → IsClean d
+  clean_from_keeping keeping = record { faultless = nil_left (faults d) (strict_faults kept d) keeping.faultless }
 
-  pub loses_from_under : IsCleanUnder (Some kept) d → LosesNothing kept d
-  loses_from_under under = loses_from_none (nil_right (faults d) (strict_faults kept d) under.faultless)
+  pub loses_from_keeping : IsCleanKeeping (Some kept) d → LosesNothing kept d
+  loses_from_keeping keeping = loses_from_none (nil_right (faults d) (strict_faults kept d) keeping.faultless)

@@ -107,7 +107,7 @@ All-front [] ys all = All-nil IsName
 All-front (x ∷ xs) ys all = All-cons IsName x xs (All-head IsName x (xs ++ ys) all)
     (All-front xs ys (All-tail IsName x (xs ++ ys) all))
 
--- where a path's text goes on behind some of its names, the path has one more
+-- where a path's text goes on after some of its names, the path has one more
 pub path_goes_on : (text : List ℕ) (names : List (List ℕ)) (rest : List ℕ) → All IsName names
     → text ≡ slash_text names ++ rest → IsNothingOrSlash rest → rest ≢ [] → IsPathWord text → HasFirstName rest
     × (length names ≤ 3)

@@ -172,7 +172,7 @@ module _ (d : Disk) where
   still_on n zero still = subst IsStill (zero_more n) still
   still_on n (suc m) still = subst IsStill (one_more_in m n) (still_more (m + n) (still_on n m still))
 
-  -- so many are reached, unless nothing is added by an earlier step
+  -- this many are reached, unless an earlier step adds nothing
   counted : (n : ℕ) → ((j : ℕ) × (j < n) × IsStill j) ⊎ (n ≤ length (reach_in d n))
   counted zero = inr (omega arith)
   counted (suc n) = elim (counted n) [

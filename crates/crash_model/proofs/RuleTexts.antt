@@ -114,11 +114,11 @@ module _ (text later rest : List ℕ) (whole : text ≡ later ++ (codes ":" ++ r
       (sym whole ∙ (e ∙ regroup (rule_part_text rule.later) (codes ":") (scope_text rule.scope)
       (rule_part_text rule.earlier)))
 
-  -- what stands before the colon is a part
+  -- what is before the colon is a part
   pub needs_later : IsNoRulePart later → IsNoRule text
   needs_later none rule e = none rule.later (parts rule e).0
 
-  -- what stands behind the colon and the scope is a part
+  -- what is after the colon and the scope is a part
   pub needs_earlier : (scope : Scope) (earlier : List ℕ) → rest ≡ scope_text scope ++ earlier
       → (scope ≡ Same → HasNoScope rest) → IsNoRulePart earlier → IsNoRule text
   needs_earlier scope earlier scoped unscoped none rule e =

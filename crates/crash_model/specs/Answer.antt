@@ -1,5 +1,5 @@
 -- What a run answers, from a script's bytes and the settings. No worker and no order of discovery is in it.
-use Rattle.std.specs.Prelude.{◌≡◌, ℕ, ◌≤◌, List, length, Option, Ok, Err, All}
+use Rattle.std.specs.Prelude.{◌≡◌, ℕ, ◌≤◌, List, length, Ok, Err, All}
 use Rattle.patch_sets.specs.Machine.{CanLeave}
 use Rattle.patch_sets.specs.Sets.{AreAllInOrder}
 use Rattle.crash_model.specs.Disk.{Disk, empty_disk, IsGeometry}
@@ -7,9 +7,9 @@ use Rattle.crash_model.specs.Patches.{deps_of, homes_of, CountsClosed, ExceedsLi
 use Rattle.crash_model.specs.Refusals.{run_of_script, run_of_trace}
 use Rattle.crash_model.specs.Rules.{rules_under}
 use Rattle.crash_model.specs.Trace.{Tracing, trace_start, trace_from, base_from, IsGraphOf}
-use Rattle.crash_model.specs.Strict.{IsToldKept, IsFailingUnder}
+use Rattle.crash_model.specs.Checker.{Demands, AreDemands, IsFailingUnder}
 use Rattle.crash_model.specs.Lists.{when}
-use Rattle.crash_model.specs.Report.{AreSections, IsLed}
+use Rattle.crash_model.specs.Report.{Detail, AreSections, IsLed}
 use Rattle.crash_model.specs.Explain.{explanation}
 use Rattle.crash_model.specs.Summary.{AreToldFaults}
 use Rattle.crash_model.specs.Needs.{AreToldRules}
@@ -17,7 +17,6 @@ use Rattle.crash_model.specs.Whole.{Body, Sets, Faults, Rules, report}
 use Rattle.crash_model.specs.Script.{IsScript, IsScriptRefusal}
 use Rattle.crash_model.specs.declared.patches.Patch.{Patch}
 use Rattle.crash_model.specs.declared.rules.Rule.{Rule}
-use Rattle.crash_model.specs.declared.settings.Detail.{Detail}
 use Rattle.crash_model.specs.declared.settings.Settings.{Settings}
 use Rattle.crash_model.specs.declared.settings.ReportBy.TheVariants.{BySet, ByFault, ByRule}
 use Rattle.crash_model.specs.declared.steps.Step.{Step}
@@ -50,36 +49,36 @@ pub record HasGraph (bytes : List ℕ) (settings : Settings) (base : Disk) (last
   pub run : trace_from settings.module (trace_start settings.whole_blocks base) steps ≡ Ok last
   pub graph : IsGraphOf (ordering_rules settings) base last patches
 
--- what is reported of a set, with these kept inodes for a strict checker or none
-abbrev pub detail_of : Settings → Option ℕ → Detail
-detail_of settings kept = record { explain = settings.explain; kept = kept }
+-- what is reported of a set, with what is demanded of its image
+abbrev pub detail_of : Settings → Demands → Detail
+detail_of settings demands = record { explain = settings.explain; demands = demands }
 
 -- the body of a report on these failing sets, as the settings ask for it
-abbrev pub IsBody : Settings → Option ℕ → Disk → Tracing → List Patch → List ℕ → Body → Type 0
-IsBody settings kept base last patches sets (Sets sections) =
-    (settings.by ≡ BySet) × AreSections (detail_of settings kept) base patches sets sections
+abbrev pub IsBody : Settings → Demands → Disk → Tracing → List Patch → List ℕ → Body → Type 0
+IsBody settings demands base last patches sets (Sets sections) =
+    (settings.by ≡ BySet) × AreSections (detail_of settings demands) base patches sets sections
     × All (IsLed patches) sections
-IsBody settings kept base last patches sets (Faults told) =
-    (settings.by ≡ ByFault) × AreToldFaults (detail_of settings kept) base patches told
+IsBody settings demands base last patches sets (Faults told) =
+    (settings.by ≡ ByFault) × AreToldFaults (detail_of settings demands) base patches told
     × All (λ t. IsLed patches t.first) told
-IsBody settings kept base last patches sets (Rules told) =
+IsBody settings demands base last patches sets (Rules told) =
     (settings.by ≡ ByRule)
-    × AreToldRules (detail_of settings kept) settings.limit (ordering_rules settings) base last patches
+    × AreToldRules (detail_of settings demands) settings.limit (ordering_rules settings) base last patches
     (ordering_rules settings) told
 
 -- the report on a graph: how many of its closed sets fail, each of which a crash can leave
-pub record IsReport (settings : Settings) (kept : Option ℕ) (base : Disk) (last : Tracing) (patches : List Patch)
+pub record IsReport (settings : Settings) (demands : Demands) (base : Disk) (last : Tracing) (patches : List Patch)
     (text : List ℕ)
     (failing : ℕ) : Type 0 where
   pub total : ℕ
   pub counted : CountsClosed patches total
   pub within : total ≤ settings.limit
   pub sets : List ℕ
-  pub exactly : AreAllInOrder (IsFailingUnder kept base patches) sets
+  pub exactly : AreAllInOrder (IsFailingUnder demands base patches) sets
   pub left : All (CanLeave (deps_of patches) (homes_of patches)) sets
   pub number : failing ≡ length sets
   pub body : Body
-  pub told : IsBody settings kept base last patches sets body
+  pub told : IsBody settings demands base last patches sets body
   pub whole : text ≡ report settings (record {
     patches = length patches;
     closed = total;
@@ -105,7 +104,8 @@ pub data IsAnswer (bytes : List ℕ) (settings : Settings) : Answer → Type 0 w
   too_many : (base : Disk) (last : Tracing) (patches : List Patch) → HasGraph bytes settings base last patches
       → ExceedsLimit patches settings.limit
       → IsAnswer bytes settings (Refused TooMany)
-  reported : (kept : Option ℕ) (base : Disk) (last : Tracing) (patches : List Patch) (text : List ℕ) (failing : ℕ)
-      → (graph : HasGraph bytes settings base last patches) → IsToldKept settings.strict base graph.steps kept
-      → IsReport settings kept base last patches text failing
+  reported : (demands : Demands) (base : Disk) (last : Tracing) (patches : List Patch) (text : List ℕ) (failing : ℕ)
+      → (graph : HasGraph bytes settings base last patches)
+      → AreDemands settings.strict settings.atomic base graph.steps demands
+      → IsReport settings demands base last patches text failing
       → IsAnswer bytes settings (Reported text failing)

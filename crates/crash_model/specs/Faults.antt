@@ -8,11 +8,11 @@ use Rattle.crash_model.specs.Lists.{each_below, some_below, when}
 use Rattle.crash_model.specs.declared.fault.Fault.{Fault}
 use Rattle.crash_model.specs.declared.fault.Fault.TheVariants.{Dangling, Twice, Unwritten, LowLinks, MarkedFree, Wild}
 
--- for each slot what there is of it, by inode and slot
+-- what a test finds for each slot, by inode and slot
 unfoldable pub each_slot : {X : Type 0} → (ℕ → ℕ → Option X) → List X
 each_slot at = each_below 16 (λ inode. some_below 4 (at inode))
 
--- for each entry what there is of it, by directory and place
+-- what a test finds for each entry, by directory and place
 unfoldable pub each_entry : {X : Type 0} → (ℕ → ℕ → Option X) → List X
 each_entry at = each_below 16 (λ dir. some_below 10 (at dir))
 
@@ -40,7 +40,7 @@ namers d block = each_slot (λ inode slot. when (names_block d inode slot block)
 abbrev pub is_twice : Disk → ℕ → Bool
 is_twice d block = nat_lt 1 (length (namers d block))
 
--- the mark that is right for the block of an inode of a kind
+-- the right mark for the block of an inode of a kind
 abbrev pub is_right_mark : ℕ → ℕ → Bool
 is_right_mark kind mark = (kind == FILE_KIND && mark == FILE_MARK) || (kind == DIRECTORY_KIND && mark == DIRECTORY_MARK)
 
@@ -62,7 +62,7 @@ entries_to d inode = each_entry (λ dir k. when (leads_to d dir k inode) (dir, k
 abbrev pub has_low_links : Disk → ℕ → Bool
 has_low_links d inode = is_live d inode && nat_lt (links_of d inode) (length (entries_to d inode))
 
--- 5: a pointer, not wild, to a block that the map has as free
+-- 5: a pointer, not wild, to a block that the map marks as free
 abbrev pub is_marked_free : Disk → ℕ → ℕ → Bool
 is_marked_free d inode slot = is_tame d inode slot && map_of d (pointer_of d inode slot) == 0
 

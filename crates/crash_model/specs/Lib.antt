@@ -17,6 +17,8 @@ pub mod RuleFacts
 pub mod Trace
 pub mod Failing
 pub mod Strict
+pub mod Atomic
+pub mod Checker
 pub mod Report
 pub mod Script
 pub mod Explain

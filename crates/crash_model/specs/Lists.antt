@@ -8,11 +8,11 @@ unfoldable pub each_below : {X : Type 0} → ℕ → (ℕ → List X) → List X
 each_below zero list = []
 each_below (suc n) list = each_below n list ++ list n
 
--- the element, where the test holds
+-- the element, if the test holds
 abbrev pub when : {X : Type 0} → Bool → X → Option X
 when test x = if test then Some x else None
 
--- the elements that there are for 0, 1, .. and n - 1
+-- the elements that there are for 0, 1, .. and n - 1, in this order
 unfoldable pub some_below : {X : Type 0} → ℕ → (ℕ → Option X) → List X
 some_below zero at = []
 some_below (suc n) at = some_below n at ++ option_to_list (at n)

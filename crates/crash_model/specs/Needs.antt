@@ -7,11 +7,10 @@ use Rattle.crash_model.specs.Disk.{Disk}
 use Rattle.crash_model.specs.Patches.{deps_of, CountsClosed, ExceedsLimit}
 use Rattle.crash_model.specs.Rules.{rules_in_first, rule_text}
 use Rattle.crash_model.specs.Trace.{Emitted, Tracing, IsGraphOf, applies}
-use Rattle.crash_model.specs.Strict.{IsFailingUnder}
-use Rattle.crash_model.specs.Report.{Section, AreSections, IsLed, line, section_text, json_string, section_json}
+use Rattle.crash_model.specs.Checker.{IsFailingUnder}
+use Rattle.crash_model.specs.Report.{Detail, Section, AreSections, IsLed, line, section_text, json_string, section_json}
 use Rattle.crash_model.specs.declared.patches.Patch.{Patch}
 use Rattle.crash_model.specs.declared.rules.Rule.{Rule}
-use Rattle.crash_model.specs.declared.settings.Detail.{Detail}
 
 -- how many closed and failing sets there are without a rule, and the section of the first failing set that the rule
 -- prevents
@@ -51,7 +50,7 @@ pub record IsWithout (detail : Detail) (limit : ℕ) (base : Disk) (patches chan
   pub counted : CountsClosed changed w.closed
   pub within : w.closed ≤ limit
   pub sets : List ℕ
-  pub exactly : AreAllInOrder (IsFailingUnder detail.kept base changed) sets
+  pub exactly : AreAllInOrder (IsFailingUnder detail.demands base changed) sets
   pub number : w.failing ≡ length sets
   pub first : IsFirstNew detail base patches changed sets w.first
 

@@ -22,7 +22,7 @@ use Rattle.crash_model.specs.declared.plans.Role.TheVariants.{InitFile, InitDir,
 
 -- ---- answers, which may be refusals
 
--- the second answer, made of the first where that is Ok
+-- the second answer, made from the first if that is Ok
 abbrev pub then_ok : {A B E : Type 0} → Result A E → (A → Result B E) → Result B E
 then_ok (Err e) next = Err e
 then_ok (Ok x) next = next x
@@ -31,7 +31,7 @@ then_ok (Ok x) next = next x
 abbrev pub unless : {A E : Type 0} → Bool → E → Result A E → Result A E
 unless test fault answer = if test then Err fault else answer
 
--- the answer made of what is found; where nothing is, it is refused
+-- the answer made from what is found; if nothing is, it is refused
 abbrev pub with_found : {A B E : Type 0} → Option A → E → (A → Result B E) → Result B E
 with_found None fault answer = Err fault
 with_found (Some x) fault answer = answer x
@@ -199,7 +199,7 @@ abbrev pub with_changes : Disk → List Change → Disk
 with_changes d [] = d
 with_changes d (c ∷ cs) = with_changes (with_bytes d c.block c.offset c.new.items) cs
 
--- the same of an answer: as it was where it is a refusal
+-- the same for an answer: the disk as it was if it is a refusal
 abbrev pub with_plan : Disk → Result (List Change) FsFault → Disk
 with_plan d (Err e) = d
 with_plan d (Ok cs) = with_changes d cs

@@ -10,12 +10,11 @@ use Rattle.crash_model.specs.Lists.{join_of, some_below, when}
 use Rattle.crash_model.specs.Disk.{Disk, block_of}
 use Rattle.crash_model.specs.Patches.{deps_of, homes_of, image_of}
 use Rattle.crash_model.specs.Replay.{image_after_replay}
-use Rattle.crash_model.specs.Strict.{faults_under}
+use Rattle.crash_model.specs.Checker.{Demands, faults_under}
 use Rattle.crash_model.specs.declared.fault.Fault.{Fault}
 use Rattle.crash_model.specs.declared.fault.Fault.TheVariants.{Dangling, Twice, Unwritten, LowLinks, MarkedFree, Wild}
-use Rattle.crash_model.specs.declared.fault.Fault.TheVariants.{Lost, NoBlock}
+use Rattle.crash_model.specs.declared.fault.Fault.TheVariants.{Lost, NoBlock, HalfDone}
 use Rattle.crash_model.specs.declared.patches.Patch.{Patch}
-use Rattle.crash_model.specs.declared.settings.Detail.{Detail}
 use Rattle.crash_model.specs.declared.modules.Module.{Module}
 use Rattle.crash_model.specs.declared.modules.Module.TheVariants.{Async, Soft, Meta, Full}
 
@@ -32,7 +31,12 @@ changed_blocks before after =
     some_below before.blocks (λ b.
     when (not (bytes_eq (block_of before b) (block_of after b))) (record { block = b; bytes = block_of after b }))
 
--- the section of a set: its ids, block writes that lead to it, what replay changes where that is asked for, and the
+-- what is reported of a set: whether replay is explained, and what is demanded of the image
+pub record Detail : Type 0 where
+  pub explain : Bool
+  pub demands : Demands
+
+-- the section of a set: its ids, block writes that lead to it, what replay changes if that is asked for, and the
 -- faults of its replayed image, by the checker that is asked for
 pub record Section : Type 0 where
   pub set : ℕ
@@ -40,7 +44,7 @@ pub record Section : Type 0 where
   pub replay : Option (List ReplayedBlock)
   pub found : List Fault
 
--- what replay changes in an image, where it is to be explained
+-- what replay changes in an image, if it is to be explained
 abbrev pub replay_of : Bool → Disk → Option (List ReplayedBlock)
 replay_of explain image = if explain then Some (changed_blocks image (image_after_replay image)) else None
 
@@ -54,7 +58,7 @@ AreSections detail base patches (set ∷ sets) sections =
       set = set;
       writes = writes;
       replay = replay_of detail.explain (image_of base patches set);
-      found = faults_under detail.kept (image_after_replay (image_of base patches set));
+      found = faults_under detail.demands (image_after_replay (image_of base patches set));
     } ∷ rest)
 
 -- the section's block writes lead to its set
@@ -77,6 +81,7 @@ fault_text (Wild i s b) =
     codes "6 wild pointer: inode " ++ decimal i ++ codes " slot " ++ decimal s ++ codes " block " ++ decimal b
 fault_text (Lost i) = codes "7 lost inode: inode " ++ decimal i
 fault_text (NoBlock i) = codes "8 directory without a block: inode " ++ decimal i
+fault_text HalfDone = codes "9 half-done operation"
 
 abbrev pub module_text : Module → List ℕ
 module_text Async = codes "async"
@@ -134,7 +139,7 @@ abbrev pub replayed_json : ReplayedBlock → List ℕ
 replayed_json r =
     codes "{\"block\":" ++ decimal r.block ++ codes ",\"bytes\":" ++ json_string (encode_lower r.bytes) ++ codes "}"
 
--- a key with its value and a comma, where there is one
+-- a key with its value and a comma, if there is one
 abbrev pub replay_json : Option (List ReplayedBlock) → List ℕ
 replay_json None = []
 replay_json (Some replay) = codes "\"replay\":" ++ json_array (map replayed_json replay) ++ codes ","

@@ -126,7 +126,7 @@ is_same_rule rule other =
 abbrev pub has_rule : List Rule → Rule → Bool
 has_rule rules rule = list_any (is_same_rule rule) rules
 
--- the rules that both lists have, and those that the second has not, in the order of the first
+-- the rules that both lists have, and those that the second does not have, in the order of the first
 abbrev pub rules_in_both : List Rule → List Rule → List Rule
 rules_in_both rules others = filter (has_rule others) rules
 
@@ -140,7 +140,7 @@ rules_taken_out kind without = rules_in_both (rules_of kind) without
 abbrev pub kept_rules : Module → List Rule → List Rule
 kept_rules kind without = rules_in_first (rules_of kind) without
 
--- the rules that are put in, where the module's list has not kept them
+-- the rules that are put in, if the module's list has not kept them
 abbrev pub rules_put_in : Module → List Rule → List Rule → List Rule
 rules_put_in kind without with = rules_in_first with (kept_rules kind without)
 

@@ -4,17 +4,13 @@ use Rattle.std.specs.Prelude.{Option, Some, None}
 use Rattle.std.specs.List.{range_with_len, list_any}
 use Rattle.crash_model.specs.declared.disk_bytes.TheConstants.{DIRECTORY_KIND}
 use Rattle.patch_sets.specs.Sets.{has, ids_below}
-use Rattle.patch_sets.specs.Closed.{IsClosed}
 use Rattle.crash_model.specs.Disk.{Disk}
 use Rattle.crash_model.specs.Layout.{kind_of, pointer_of, is_live}
 use Rattle.crash_model.specs.Lists.{some_below, when}
-use Rattle.crash_model.specs.Faults.{leads_to, faults}
+use Rattle.crash_model.specs.Faults.{leads_to}
 use Rattle.crash_model.specs.Plan.{plan_of, with_plan}
-use Rattle.crash_model.specs.Patches.{deps_of, image_of}
-use Rattle.crash_model.specs.Replay.{image_after_replay}
 use Rattle.crash_model.specs.declared.fault.Fault.{Fault}
 use Rattle.crash_model.specs.declared.fault.Fault.TheVariants.{Lost, NoBlock}
-use Rattle.crash_model.specs.declared.patches.Patch.{Patch}
 use Rattle.crash_model.specs.declared.steps.Act.{Act}
 use Rattle.crash_model.specs.declared.steps.Act.TheVariants.{Do}
 use Rattle.crash_model.specs.declared.steps.Step.{Step}
@@ -35,7 +31,7 @@ stays_live d (x ∷ xs) inode = is_live d inode && stays_live (disk_after d x.ac
 abbrev pub IsKept : Disk → List Step → ℕ → Type 0
 IsKept base steps kept = (inode : ℕ) → has kept inode ≡ stays_live base steps inode
 
--- what a checker gets of them: nothing, or if it is strict the inodes that the script keeps
+-- what is demanded of them: nothing, or of a strict checker the inodes that the script keeps
 abbrev pub IsToldKept : Bool → Disk → List Step → Option ℕ → Type 0
 IsToldKept strict base steps None = strict ≡ false
 IsToldKept strict base steps (Some kept) = (strict ≡ true) × IsKept base steps kept
@@ -56,7 +52,7 @@ reach_in d (suc n) =
     let before = reach_in d n in
     ids_below 16 (λ inode. is_in before inode || (is_live d inode && list_any (λ dir. has_entry_to d dir inode) before))
 
--- of 16 inodes each that is reached at all is reached in 16 steps
+-- each of the 16 inodes that is reached is reached in at most 16 steps
 unfoldable pub is_reached : Disk → ℕ → Bool
 is_reached d inode = is_in (reach_in d 16) inode
 
@@ -80,17 +76,3 @@ strict_faults kept d =
 pub record LosesNothing (kept : ℕ) (d : Disk) : Type 0 where
   pub no_lost : (inode : ℕ) → inode < 16 → is_lost d kept inode ≡ false
   pub no_bare : (inode : ℕ) → inode < 16 → lacks_block d inode ≡ false
-
--- all faults of an image, in order, where the script keeps a set of inodes or nothing is asked of that
-abbrev pub faults_under : Option ℕ → Disk → List Fault
-faults_under None d = faults d
-faults_under (Some kept) d = faults d ++ strict_faults kept d
-
--- no fault holds
-pub record IsCleanUnder (kept : Option ℕ) (d : Disk) : Type 0 where
-  pub faultless : faults_under kept d ≡ []
-
--- a closed set whose image is not clean after replay
-pub record IsFailingUnder (kept : Option ℕ) (base : Disk) (patches : List Patch) (set : ℕ) : Type 0 where
-  pub closed : IsClosed (deps_of patches) set
-  pub unclean : ¬ (IsCleanUnder kept (image_after_replay (image_of base patches set)))

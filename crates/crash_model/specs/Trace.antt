@@ -44,7 +44,7 @@ pub record Emitted : Type 0 where
   pub turn : ℕ
   pub origin : Origin
 
--- ---- who depends on whom
+-- ---- which patch depends on which
 
 abbrev pub is_same_group : Option (List ℕ) → List ℕ → Bool
 is_same_group None name = false

@@ -25,7 +25,7 @@ pub record HasPointer (d : Disk) (inode slot block : ℕ) : Type 0 where
   pub used : IsTrue (is_pointer d inode slot)
   pub block_is : pointer_of d inode slot ≡ block
 
--- a block of the data area that the allocation map has as in use
+-- a block of the data area that the allocation map marks as in use
 pub record IsUsed (d : Disk) (block : ℕ) : Type 0 where
   pub data_area : IsTrue (is_data d block)
   pub marked : map_of d block ≢ 0

@@ -1,5 +1,5 @@
 -- A whole report, as text and as JSON.
-use Rattle.std.specs.Prelude.{ℕ, List, [], ◌∷◌, ◌++◌, map, flat_map, if◌then◌else◌, Option, codes, decimal}
+use Rattle.std.specs.Prelude.{ℕ, List, [], ◌∷◌, ◌++◌, map, flat_map, Bool, if◌then◌else◌, Option, codes, decimal}
 use Rattle.crash_model.specs.Rules.{rule_text, rules_taken_out, rules_put_in}
 use Rattle.crash_model.specs.Report.{Section, module_text, line, section_text, json_string, json_array, section_json}
 use Rattle.crash_model.specs.Explain.{Explanation, explanation_text, base_json, trace_json}
@@ -14,7 +14,7 @@ pub data Body : Type 0 where
   Faults : List ToldFault → Body
   Rules : List ToldRule → Body
 
--- how many patches, closed sets and failing sets there are; what the patches are, where that is asked for; and the body
+-- how many patches, closed sets and failing sets there are; what the patches are, if that is asked for; and the body
 pub record Report : Type 0 where
   pub patches : ℕ
   pub closed : ℕ
@@ -43,6 +43,7 @@ head_text settings patches closed failing =
     ++ rule_lines (codes "with") (told_with settings)
     ++ (if settings.whole_blocks then line (codes "whole blocks") else [])
     ++ (if settings.strict then line (codes "strict") else [])
+    ++ (if settings.atomic then line (codes "atomic") else [])
     ++ line (codes "patches " ++ decimal patches)
     ++ line (codes "closed " ++ decimal closed)
     ++ line (codes "failing " ++ decimal failing)
@@ -58,11 +59,18 @@ text_report settings r =
 
 -- ---- JSON: one compact object, its keys in ascending order, and a line feed
 
--- a key with the texts of the rules, where there are any
+-- a key with the texts of the rules, if there are any
 abbrev pub rules_json : List ℕ → List Rule → List ℕ
 rules_json key [] = []
 rules_json key (rule ∷ rules) =
     codes "," ++ json_string key ++ codes ":" ++ json_array (map (λ r. json_string (rule_text r)) (rule ∷ rules))
+
+-- that operations are to be atomic, with a comma behind it, and behind that the base
+abbrev pub atomic_json : Bool → List ℕ
+atomic_json atomic = if atomic then codes "\"atomic\":true," else []
+
+abbrev pub first_json : Settings → Option Explanation → List ℕ
+first_json settings explanation = atomic_json settings.atomic ++ base_json explanation
 
 -- the body's keys before `module`
 abbrev pub early_json : ℕ → ℕ → Body → List ℕ
@@ -78,7 +86,7 @@ late_json n failing (Rules told) = codes ",\"rules\":" ++ json_array (map (told_
 
 unfoldable pub json_report : Settings → Report → List ℕ
 json_report settings r =
-    codes "{" ++ base_json r.explanation
+    codes "{" ++ first_json settings r.explanation
     ++ codes "\"closed\":" ++ decimal r.closed
     ++ early_json r.patches r.failing r.body
     ++ codes ",\"module\":" ++ json_string (module_text settings.module)

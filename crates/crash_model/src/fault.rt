@@ -28,6 +28,8 @@ pub enum Fault {
     Lost { inode: u8 },
     /// A directory that is reached and has no block.
     NoBlock { inode: u8 },
+    /// An image that shows the disk after no number of whole operations.
+    HalfDone,
 }
 
 impl fmt::Display for Fault {
@@ -65,6 +67,7 @@ impl fmt::Display for Fault {
             }
             Fault::Lost { inode } => write!(f, "7 lost inode: inode {inode}"),
             Fault::NoBlock { inode } => write!(f, "8 directory without a block: inode {inode}"),
+            Fault::HalfDone => write!(f, "9 half-done operation"),
         }
     }
 }
@@ -93,6 +96,7 @@ impl Fault {
             Fault::Wild { inode, slot, block } => [6, inode, slot, block],
             Fault::Lost { inode } => [7, inode, 0, 0],
             Fault::NoBlock { inode } => [8, inode, 0, 0],
+            Fault::HalfDone => [9, 0, 0, 0],
         }
     }
 }

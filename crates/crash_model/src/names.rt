@@ -38,7 +38,7 @@ impl Default for Name {
 }
 
 impl Name {
-    /// The name of these bytes, or `None` where they are no name.
+    /// The name of these bytes, or `None` if they are no name.
     pub fn read(bytes: &[u8]) -> Option<Name>
         ensures { MatchOption result (¬ (IsName bytes.now)) (λ name. (name ≡ bytes.now) × IsName bytes.now) }
     {
@@ -142,7 +142,7 @@ fn first_name(text: &[u8]) -> Option<(Name, &[u8])>
     Some((Name::read(name)?, behind))
 }
 
-/// The place of the first slash, or the length where there is none.
+/// The place of the first slash, or the length if there is none.
 fn first_slash(text: &[u8]) -> usize
     ensures inside { result ≤ length text.now }
     ensures before { (k : ℕ) → k < result → slice_index text.now k ≢ 47 }
@@ -152,7 +152,7 @@ fn first_slash(text: &[u8]) -> usize
     place.unwrap_or(text.len())
 }
 
-/// The bytes, where they are 1 to 10.
+/// The bytes, if they are 1 to 10.
 fn word(bytes: &[u8]) -> Option<ArrayVec<u8, 10>>
     ensures { MatchOption result (¬ (IsShort bytes.now)) (λ word. (word.items ≡ bytes.now) × IsShort bytes.now) }
 {
@@ -197,7 +197,7 @@ impl Model for GroupName {
 }
 
 impl GroupName {
-    /// The name of a group with this text, or `None` where the text is no such name.
+    /// The name of a group with this text, or `None` if the text is no such name.
     pub fn read(text: &str) -> Option<GroupName>
         ensures { MatchOption result (¬ (IsGroupName text.now)) (λ name. (name ≡ text.now) × IsGroupName text.now) }
     {

@@ -138,14 +138,14 @@ impl Module {
         }
     }
 
-    /// Those of its rules that are taken out, in its order.
+    /// The module's rules that are taken out, in the module's order.
     pub fn taken_out(self, without: &[Rule]) -> RuleList
         ensures { result.items ≡ rules_taken_out self without.now }
     {
         rules_in_both(self.rules(), without)
     }
 
-    /// Those of its rules that stay, in its order.
+    /// The module's rules that stay, in the module's order.
     pub fn kept_rules(self, without: &[Rule]) -> RuleList
         ensures rules { result.items ≡ kept_rules self without.now }
         ensures few { length result.items ≤ 12 }
@@ -153,7 +153,7 @@ impl Module {
         rules_in_first(self.rules(), without)
     }
 
-    /// Those of the rules `with` that it has not kept, in their order.
+    /// The rules of `with` that the module's list has not kept, in their order.
     pub fn put_in(self, without: &[Rule], with: &[Rule]) -> RuleList
         requires { length with.now ≤ 16 }
         ensures rules { result.items ≡ rules_put_in self without.now with.now }
@@ -167,7 +167,7 @@ impl Module {
 /// How many rules an ordering can have: those of a module, and as many as a user puts in.
 pub const MAX_RULES: usize = 28;
 
-/// An ordering: the module that turns operations into patches, and the rules that order these. Where blocks are written
+/// An ordering: the module that turns operations into patches, and the rules that order these. If blocks are written
 /// whole, a patch also depends on each earlier one of its block.
 #[derive(Drop)]
 pub struct Ordering {
@@ -194,7 +194,8 @@ impl Ordering {
 
     /// The ordering with the rules `without` taken out of the module's list, and the rules `with` put in at its end.
     ///
-    /// A rule that the module's list has not is taken out of nothing, and one that it has kept is not put in again.
+    /// A rule of `without` that the module's list does not have changes nothing, and a rule of `with` that the list has
+    /// kept is not put in again.
     pub fn under(module: Module, without: &[Rule], with: &[Rule]) -> Ordering
         requires { length with.now ≤ 16 }
         ensures module { result.«module» ≡ «module» }

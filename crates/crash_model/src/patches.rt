@@ -4,8 +4,8 @@ use arrayvec::ArrayVec;
 
 /// A change to bytes of one block, with the patches that it depends on (Frost et al., SOSP 2007).
 ///
-/// `new` replaces the bytes from byte `offset` of block `block` on, `undo` are those before it, of the same length,
-/// and `deps` is the set of the patches that must be committed no later than this one.
+/// `new` replaces the bytes from byte `offset` of block `block` on, `undo` are the bytes that were there before, of the
+/// same length, and `deps` is the set of the patches that must be committed no later than this one.
 #[derive(Drop)]
 pub struct Patch {
     pub block: u8,

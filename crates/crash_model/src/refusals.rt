@@ -165,7 +165,7 @@ impl RunFault {
         }
     }
 
-    /// The number of the line that is refused, from 1, where the refusal has one.
+    /// The number of the line that is refused, from 1, if the refusal has one.
     pub fn line(&self) -> Option<usize>
         ensures { result ≡ line_of self.now }
     {

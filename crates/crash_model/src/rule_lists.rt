@@ -33,7 +33,7 @@ pub(crate) fn rules_in_both(rules: &[Rule], others: &[Rule]) -> RuleList
     both
 }
 
-/// The rules that the others have not.
+/// The rules that the others do not have.
 pub(crate) fn rules_in_first(rules: &[Rule], others: &[Rule]) -> RuleList
     requires { length rules.now ≤ 16 }
     ensures rules { result.items ≡ rules_in_first rules.now others.now }

@@ -24,7 +24,7 @@ pub enum Part {
 }
 
 impl Part {
-    /// Its name in reports, which of a change in place is its role's.
+    /// Its name in reports. That of a change in place is the name of its role.
     pub fn name(self) -> &'static str
         ensures { result.now ≡ part_text self }
     {
@@ -38,7 +38,8 @@ impl Part {
     }
 }
 
-/// The patches that a rule speaks of: changes in place of one role, or of any, or one of a transaction's other parts.
+/// The patches that a rule is about: changes in place of one role or of any role, or one of the other parts of a
+/// transaction.
 #[derive(Clone, Copy, Debug, PartialEq, Eq, Default)]
 pub enum RulePart {
     Change(Role),
@@ -51,7 +52,7 @@ pub enum RulePart {
 }
 
 impl RulePart {
-    /// The part of a rule that is spelt so, if there is one.
+    /// The part of a rule with this spelling, if there is one.
     pub fn read(text: &str) -> Option<RulePart>
         ensures { MatchOption result (IsNoRulePart text.now) (λ part. text.now ≡ rule_part_text part) }
     {
@@ -97,7 +98,7 @@ impl RulePart {
         self == other
     }
 
-    /// Whether it speaks of patches with this part.
+    /// Whether a rule with it is about patches with this part.
     pub fn has(self, part: Part) -> bool
         ensures { result ≡ has_part self part }
     {
@@ -113,8 +114,7 @@ impl RulePart {
     }
 }
 
-/// Where the operation of the earlier patch stands: it is the later patch's own, the one right before it, or any one
-/// before it.
+/// Which operation the earlier patch belongs to: the later patch's own, the one right before it, or any one before it.
 #[derive(Clone, Copy, Debug, PartialEq, Eq, Default)]
 pub enum Scope {
     #[default]
@@ -124,7 +124,7 @@ pub enum Scope {
 }
 
 impl Scope {
-    /// The scope that a text begins with, and the text behind it.
+    /// The scope that a text begins with, and the text after it.
     fn read(text: &str) -> (Scope, &str)
         ensures scope { text.now ≡ scope_text result.0 ++ result.1.now }
         ensures same { (result.0 ≡ Same) → HasNoScope text.now }
@@ -145,7 +145,7 @@ impl Scope {
         self == other
     }
 
-    /// Whether the operations with these numbers are placed so.
+    /// Whether the operations with these numbers are placed as the scope says.
     pub fn has(self, later: usize, earlier: usize) -> bool
         ensures { result ≡ are_scoped self later earlier }
     {
@@ -170,8 +170,8 @@ impl Rule {
     ghost use Rattle.crash_model.specs.Rules.{rule_text};
     ghost use Rattle.crash_model.specs.RuleFacts.{IsNoRule};
 
-    /// The rule that is written so: `LATER:EARLIER`, `LATER:previous-EARLIER` or `LATER:before-EARLIER`. `None` for any
-    /// other text.
+    /// The rule that this text writes, as `LATER:EARLIER`, `LATER:previous-EARLIER` or `LATER:before-EARLIER`. `None`
+    /// for any other text.
     pub fn read(text: &str) -> Option<Rule>
         ensures { MatchOption result (IsNoRule text.now) (λ rule. text.now ≡ rule_text rule) }
     {

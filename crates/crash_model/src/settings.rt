@@ -9,7 +9,7 @@ use crate::rule_lists::RuleList;
 
 /// Who explores: the board that workers share, which holds up to 32,768 sets, or the sweep, which keeps no table.
 ///
-/// `Auto` is the board where the limit is at most 32,768, else the sweep.
+/// `Auto` is the board if the limit is at most 32,768, else the sweep.
 #[derive(Clone, Copy, Debug, PartialEq, Eq)]
 pub enum Explorer {
     Auto,
@@ -26,22 +26,14 @@ pub enum ReportBy {
     ByRule,
 }
 
-/// What is reported of a set: with `explain` what replay changes; with a set of kept inodes, also the two faults of
-/// the strict checker.
-#[derive(Clone, Copy, Debug, PartialEq, Eq)]
-pub struct Detail {
-    pub explain: bool,
-    pub kept: Option<u16>,
-}
-
 /// The settings of a run.
 ///
 /// The ordering is the module's with the rules `without` taken out and the rules `with` put in at its end. The disk
 /// has `blocks` blocks of 128 bytes, of which `journal` are the journal's. A run that has more than `limit` closed
 /// sets is refused. The report is JSON if `json` is set, else text; with `explain` it says what the patches are
 /// and what replay changes. With `whole_blocks` a block is written with all changes that it has in memory, so a patch
-/// depends on each earlier one of its block. With `strict` the checker asks of each image, too, that nothing which the
-/// script keeps is lost.
+/// depends on each earlier one of its block. With `strict` the checker also requires of each image that nothing
+/// the script keeps is lost; with `atomic`, that it shows the disk after some number of whole operations.
 #[derive(Debug, PartialEq, Eq, Drop)]
 pub struct Settings {
     pub module: Module,
@@ -55,6 +47,7 @@ pub struct Settings {
     pub explain: bool,
     pub whole_blocks: bool,
     pub strict: bool,
+    pub atomic: bool,
     pub by: ReportBy,
 }
 

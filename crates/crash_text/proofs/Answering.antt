@@ -118,10 +118,10 @@ module _ (bytes : List ℕ) (settings : Settings) where
       → HasBase bytes settings base steps → AreReported question settings base steps text number
       → IsAnswerTo question bytes settings (Reported text number)
   reported_steps Visit base steps text number start are =
-      reported are.kept base are.last are.patches text number
+      reported are.demands base are.last are.patches text number
       (record { steps = steps; start = start; run = are.run; graph = are.graph }) are.told are.report
   reported_steps Decide base steps text number start are = record {
-    kept = are.kept;
+    demands = are.demands;
     base = base;
     last = are.last;
     patches = are.patches;
@@ -130,7 +130,7 @@ module _ (bytes : List ℕ) (settings : Settings) where
     report = are.report;
   }
   reported_steps Enough base steps text number start are = record {
-    kept = are.kept;
+    demands = are.demands;
     base = base;
     last = are.last;
     patches = are.patches;

@@ -1,5 +1,5 @@
 -- What the body of a run's report says.
-use Rattle.std.proofs.Common.{◌≡◌, ℕ, Bor, List, Option, length, map, All, refl, sym, subst, ap, ◌∙◌, arith}
+use Rattle.std.proofs.Common.{◌≡◌, ℕ, Bor, List, length, map, All, refl, sym, subst, ap, ◌∙◌, arith}
 use Rattle.std.proofs.Math.ListN.{get_or-map}
 use Rattle.std.proofs.lemmas.List.{length-map}
 use Rattle.std.proofs.lemmas.Simd.{map-map}
@@ -10,7 +10,7 @@ use Rattle.patch_sets.proofs.Canonical.{one_list}
 use Rattle.crash_model.specs.Answer.{detail_of, ordering_rules, IsBody, IsReport}
 use Rattle.crash_model.specs.Disk.{Disk}
 use Rattle.crash_model.specs.Explain.{Explanation, explanation}
-use Rattle.crash_model.specs.Strict.{IsFailingUnder}
+use Rattle.crash_model.specs.Checker.{Demands, IsFailingUnder}
 use Rattle.crash_model.specs.Needs.{ToldRule, AreToldRules}
 use Rattle.crash_model.specs.Patches.{deps_of}
 use Rattle.crash_model.specs.Report.{Section, AreSections, IsLed}
@@ -19,12 +19,11 @@ use Rattle.crash_model.specs.Trace.{Tracing}
 use Rattle.crash_model.specs.Whole.{Body, Sets, Faults, Rules, report}
 use Rattle.crash_model.specs.declared.fault.FaultRow.{FaultRow}
 use Rattle.crash_model.specs.declared.patches.Patch.{Patch}
-use Rattle.crash_model.specs.declared.settings.Detail.{Detail}
 use Rattle.crash_model.specs.declared.settings.Settings.{Settings}
 use Rattle.crash_model.specs.declared.settings.ReportBy.TheVariants.{BySet, ByFault, ByRule}
 use Rattle.crash_model.proofs.Leading.{failing_closed, closed_are_left, sections_lead}
 use Rattle.traced_patches.specs.Traced.{TracedPatches}
-use Rattle.report_sections.specs.Bodies.{AreOnBase, AreClosed, CanTell, sets_of, explanation_by}
+use Rattle.report_sections.specs.Bodies.{AreOnBase, AreClosed, CanTell, detail_by, sets_of, explanation_by}
 use Rattle.report_sections.specs.declared.report.Body as code
 use Rattle.report_sections.specs.declared.report.Body.TheVariants as code_body
 use Rattle.report_sections.specs.declared.report.Report as code_report
@@ -38,9 +37,9 @@ pub all_of : {X Y : Type 0} (P : X → Type 0) (f : Y → X) (ys : List Y) → A
 all_of P f ys all k d within = subst P (get_or-map f ys k d) (all k (f d) (omega (arith, within, length-map ys f)))
 
 -- the text of the report on these failing sets, with this number of closed ones
-abbrev IsTextOn : Settings → Option ℕ → Disk → Tracing → List Patch → ℕ → List ℕ → List ℕ → Type 0
-IsTextOn settings kept base last patches total sets text =
-    (body : Body) × IsBody settings kept base last patches sets body
+abbrev IsTextOn : Settings → Demands → Disk → Tracing → List Patch → ℕ → List ℕ → List ℕ → Type 0
+IsTextOn settings demands base last patches total sets text =
+    (body : Body) × IsBody settings demands base last patches sets body
     × (text ≡ report settings (whole settings (explanation (ordering_rules settings) base last patches) patches total
     (length sets) body))
 
@@ -54,40 +53,42 @@ can_tell r base t same_base same_trace on_base closed = record {
   closed = subst (λ (u : TracedPatches). AreClosed u.patches (sets_of r.body)) (sym same_trace) closed;
 }
 
-pub tells_of : {A : Type 0} (r : code_report.Report A) (settings : Settings) (detail : Detail) (base : Disk)
+pub tells_of : {A : Type 0} (r : code_report.Report A) (settings : Settings) (demands : Demands) (base : Disk)
     (t : TracedPatches) (closed failing : ℕ) (chosen : code.Body A) (text : List ℕ) → r.settings.now ≡ settings
-    → r.detail ≡ detail → r.base.now ≡ base → r.traced.now ≡ t → r.closed ≡ closed → r.failing ≡ failing
+    → r.demands.now ≡ demands → r.base.now ≡ base → r.traced.now ≡ t → r.closed ≡ closed → r.failing ≡ failing
     → r.body ≡ chosen
-    → Tells r.settings.now r.detail r.base.now r.traced.now r.closed r.failing r.body text
-    → Tells settings detail base t closed failing chosen text
-tells_of r settings detail base t closed failing chosen text same_settings same_detail same_base same_trace same_closed
+    → Tells r.settings.now (detail_by r) r.base.now r.traced.now r.closed r.failing r.body text
+    → Tells settings (detail_of settings demands) base t closed failing chosen text
+tells_of r settings demands base t closed failing chosen text same_settings same_demands same_base same_trace same_closed
     same_failing same_data told =
-    subst (λ (s : Settings). Tells s detail base t closed failing chosen text) same_settings
-    (subst (λ (k : Detail). Tells r.settings.now k base t closed failing chosen text) same_detail
-    (subst (λ (d : Disk). Tells r.settings.now r.detail d t closed failing chosen text) same_base
-    (subst (λ (u : TracedPatches). Tells r.settings.now r.detail r.base.now u closed failing chosen text) same_trace
-    (subst (λ (n : ℕ). Tells r.settings.now r.detail r.base.now r.traced.now n failing chosen text) same_closed
-    (subst (λ (n : ℕ). Tells r.settings.now r.detail r.base.now r.traced.now r.closed n chosen text) same_failing
-    (subst (λ b. Tells r.settings.now r.detail r.base.now r.traced.now r.closed r.failing b text) same_data told))))))
+    subst (λ (s : Settings). Tells s (detail_of s demands) base t closed failing chosen text) same_settings
+    (subst (λ (k : Demands). Tells r.settings.now (detail_of r.settings.now k) base t closed failing chosen text)
+    same_demands
+    (subst (λ (d : Disk). Tells r.settings.now (detail_by r) d t closed failing chosen text) same_base
+    (subst (λ (u : TracedPatches). Tells r.settings.now (detail_by r) r.base.now u closed failing chosen text) same_trace
+    (subst (λ (n : ℕ). Tells r.settings.now (detail_by r) r.base.now r.traced.now n failing chosen text) same_closed
+    (subst (λ (n : ℕ). Tells r.settings.now (detail_by r) r.base.now r.traced.now r.closed n chosen text) same_failing
+    (subst (λ b. Tells r.settings.now (detail_by r) r.base.now r.traced.now r.closed r.failing b text) same_data told))))))
 
 -- a crash can leave the first sets of faults
-pub firsts_closed : (kept : Option ℕ) (base : Disk) (patches : List Patch) (rows : List FaultRow)
-    → AreRows (HasFault kept base patches) rows → AreClosed patches (map (λ row. row.first) rows)
-firsts_closed kept base patches rows are = All-map (IsClosed (deps_of patches)) (λ (row : FaultRow). row.first) rows
+pub firsts_closed : (demands : Demands) (base : Disk) (patches : List Patch) (rows : List FaultRow)
+    → AreRows (HasFault demands base patches) rows → AreClosed patches (map (λ row. row.first) rows)
+firsts_closed demands base patches rows are = All-map (IsClosed (deps_of patches)) (λ (row : FaultRow). row.first) rows
     (λ k d within. (are.each k d within).first.among.failing.closed)
 
 -- ---- what it says
 
-module _ (settings : Settings) (kept : Option ℕ) (base : Disk) (t : TracedPatches) (last : Tracing)
+module _ (settings : Settings) (demands : Demands) (base : Disk) (t : TracedPatches) (last : Tracing)
     (is : IsTraceOf settings base t last) where
   pub same_explanation : explanation_by base t ≡ explanation (ordering_rules settings) base last t.patches
   same_explanation = rw (is.rules, is.whole, is.links, is.emitted) refl
 
   -- the text makes it the report on the failing sets
-  is_report : (total failing : ℕ) (sets text : List ℕ) → AreTotals settings.limit kept base t.patches total failing sets
-      → IsTextOn settings kept base last t.patches total sets text
-      → IsReport settings kept base last t.patches text failing
-  is_report total failing sets text totals told = subst (IsReport settings kept base last t.patches text)
+  is_report : (total failing : ℕ) (sets text : List ℕ)
+      → AreTotals settings.limit demands base t.patches total failing sets
+      → IsTextOn settings demands base last t.patches total sets text
+      → IsReport settings demands base last t.patches text failing
+  is_report total failing sets text totals told = subst (IsReport settings demands base last t.patches text)
       (sym totals.number) (record {
         total = total;
         counted = totals.counted;
@@ -95,7 +96,7 @@ module _ (settings : Settings) (kept : Option ℕ) (base : Disk) (t : TracedPatc
         sets = sets;
         exactly = totals.exactly;
         left = closed_are_left base t.patches is.graph.earlier sets
-            (failing_closed kept base t.patches sets totals.exactly);
+            (failing_closed demands base t.patches sets totals.exactly);
         number = refl;
         body = told.0;
         told = told.1;
@@ -103,9 +104,9 @@ module _ (settings : Settings) (kept : Option ℕ) (base : Disk) (t : TracedPatc
       })
 
   -- a text with a body of this kind
-  text_on : (total : ℕ) (sets text : List ℕ) (body : Body) → IsBody settings kept base last t.patches sets body
+  text_on : (total : ℕ) (sets text : List ℕ) (body : Body) → IsBody settings demands base last t.patches sets body
       → text ≡ report settings (whole settings (explanation_by base t) t.patches total (length sets) body)
-      → IsTextOn settings kept base last t.patches total sets text
+      → IsTextOn settings demands base last t.patches total sets text
   text_on total sets text body told whole_text = (
     body,
     told,
@@ -114,39 +115,39 @@ module _ (settings : Settings) (kept : Option ℕ) (base : Disk) (t : TracedPatc
   )
 
   told_sets : (total : ℕ) (sets text : List ℕ) (body : Body) (sections : List Section) → settings.by ≡ BySet
-      → AreAllInOrder (IsFailingUnder kept base t.patches) sets
-      → AreSections (detail_of settings kept) base t.patches sets sections → body ≡ Sets sections
+      → AreAllInOrder (IsFailingUnder demands base t.patches) sets
+      → AreSections (detail_of settings demands) base t.patches sets sections → body ≡ Sets sections
       → text ≡ report settings (whole settings (explanation_by base t) t.patches total (length sets) body)
-      → IsTextOn settings kept base last t.patches total sets text
+      → IsTextOn settings demands base last t.patches total sets text
   told_sets total sets text body sections by exactly are same whole_text =
-      let closed = failing_closed kept base t.patches sets exactly in
-      let lead = sections_lead base t.patches is.graph.earlier (detail_of settings kept) sets sections closed are in
-      text_on total sets text body (subst (IsBody settings kept base last t.patches sets) (sym same) (by, are, lead))
+      let closed = failing_closed demands base t.patches sets exactly in
+      let lead = sections_lead base t.patches is.graph.earlier (detail_of settings demands) sets sections closed are in
+      text_on total sets text body (subst (IsBody settings demands base last t.patches sets) (sym same) (by, are, lead))
       whole_text
 
   told_faults : (total : ℕ) (sets text : List ℕ) (body : Body) (rows : List FaultRow) (told : List ToldFault)
       → settings.by ≡ ByFault
-      → AreRows (HasFault kept base t.patches) rows → map (λ f. f.row) told ≡ rows
-      → AreSections (detail_of settings kept) base t.patches (map (λ row. row.first) rows) (map (λ f. f.first) told)
+      → AreRows (HasFault demands base t.patches) rows → map (λ f. f.row) told ≡ rows
+      → AreSections (detail_of settings demands) base t.patches (map (λ row. row.first) rows) (map (λ f. f.first) told)
       → body ≡ Faults told
       → text ≡ report settings (whole settings (explanation_by base t) t.patches total (length sets) body)
-      → IsTextOn settings kept base last t.patches total sets text
+      → IsTextOn settings demands base last t.patches total sets text
   told_faults total sets text body rows told by are_rows of_rows are same whole_text =
-      text_on total sets text body (subst (IsBody settings kept base last t.patches sets) (sym same)
+      text_on total sets text body (subst (IsBody settings demands base last t.patches sets) (sym same)
       (by, are_told, lead)) whole_text
     where
       leads : All (IsLed t.patches) (map (λ f. f.first) told)
-      leads = sections_lead base t.patches is.graph.earlier (detail_of settings kept) (map (λ row. row.first) rows)
-          (map (λ f. f.first) told) (firsts_closed kept base t.patches rows are_rows) are
+      leads = sections_lead base t.patches is.graph.earlier (detail_of settings demands) (map (λ row. row.first) rows)
+          (map (λ f. f.first) told) (firsts_closed demands base t.patches rows are_rows) are
 
       same_firsts : map (λ row. row.first) rows ≡ map (λ f. f.row.first) told
       same_firsts = ap (map (λ (row : FaultRow). row.first)) (sym of_rows)
           ∙ map-map (λ (row : FaultRow). row.first) (λ (f : ToldFault). f.row) told
 
-      are_told : AreToldFaults (detail_of settings kept) base t.patches told
+      are_told : AreToldFaults (detail_of settings demands) base t.patches told
       are_told = record {
-        rows = subst (AreRows (HasFault kept base t.patches)) (sym of_rows) are_rows;
-        firsts = subst (λ (firsts : List ℕ). AreSections (detail_of settings kept) base t.patches firsts
+        rows = subst (AreRows (HasFault demands base t.patches)) (sym of_rows) are_rows;
+        firsts = subst (λ (firsts : List ℕ). AreSections (detail_of settings demands) base t.patches firsts
             (map (λ f. f.first) told)) same_firsts are;
       }
 
@@ -154,64 +155,65 @@ module _ (settings : Settings) (kept : Option ℕ) (base : Disk) (t : TracedPatc
       lead = all_of (IsLed t.patches) (λ f. f.first) told leads
 
   told_rules : (total : ℕ) (sets text : List ℕ) (body : Body) (told : List ToldRule) → settings.by ≡ ByRule
-      → AreToldRules (detail_of settings kept) settings.limit (ordering_rules settings) base last t.patches
+      → AreToldRules (detail_of settings demands) settings.limit (ordering_rules settings) base last t.patches
       (ordering_rules settings) told → body ≡ Rules told
       → text ≡ report settings (whole settings (explanation_by base t) t.patches total (length sets) body)
-      → IsTextOn settings kept base last t.patches total sets text
+      → IsTextOn settings demands base last t.patches total sets text
   told_rules total sets text body told by are same whole_text =
-      text_on total sets text body (subst (IsBody settings kept base last t.patches sets) (sym same) (by, are))
+      text_on total sets text body (subst (IsBody settings demands base last t.patches sets) (sym same) (by, are))
       whole_text
 
   -- the same from the data of a report, whose number of failing sets is that of the list
   with_number : {A : Type 0} (closed failing : ℕ) (sets text : List ℕ) (chosen : code.Body A) → failing ≡ length sets
-      → Tells settings (detail_of settings kept) base t closed failing chosen text
-      → Tells settings (detail_of settings kept) base t closed (length sets) chosen text
+      → Tells settings (detail_of settings demands) base t closed failing chosen text
+      → Tells settings (detail_of settings demands) base t closed (length sets) chosen text
   with_number closed failing sets text chosen number told =
-      subst (λ (n : ℕ). Tells settings (detail_of settings kept) base t closed n chosen text) number told
+      subst (λ (n : ℕ). Tells settings (detail_of settings demands) base t closed n chosen text) number told
 
   pub by_set : (A : Type 0) (total failing : ℕ) (sets text : List ℕ) (given : Bor (List ℕ))
-      → AreTotals settings.limit kept base t.patches total failing sets
-      → settings.by ≡ BySet → AreAllInOrder (IsFailingUnder kept base t.patches) given.now
-      → Tells {A = A} settings (detail_of settings kept) base t total failing (code_body.Sets given) text
-      → IsReport settings kept base last t.patches text failing
+      → AreTotals settings.limit demands base t.patches total failing sets
+      → settings.by ≡ BySet → AreAllInOrder (IsFailingUnder demands base t.patches) given.now
+      → Tells {A = A} settings (detail_of settings demands) base t total failing (code_body.Sets given) text
+      → IsReport settings demands base last t.patches text failing
   by_set A total failing sets text given totals by all told =
       is_report total failing sets text totals (on (with_number {A = A} total failing sets text (code_body.Sets given)
       totals.number told))
     where
       same : given.now ≡ sets
-      same = one_list (IsFailingUnder kept base t.patches) given.now sets all totals.exactly
+      same = one_list (IsFailingUnder demands base t.patches) given.now sets all totals.exactly
 
-      on : Tells {A = A} settings (detail_of settings kept) base t total (length sets) (code_body.Sets given) text
-          → IsTextOn settings kept base last t.patches total sets text
+      on : Tells {A = A} settings (detail_of settings demands) base t total (length sets) (code_body.Sets given) text
+          → IsTextOn settings demands base last t.patches total sets text
       on (body, (sections, are, is_body), written) =
           told_sets total sets text body sections by totals.exactly
-          (subst (λ (ss : List ℕ). AreSections (detail_of settings kept) base t.patches ss sections) same are)
+          (subst (λ (ss : List ℕ). AreSections (detail_of settings demands) base t.patches ss sections) same are)
           is_body written
 
   pub by_fault : (A : Type 0) (total failing : ℕ) (sets text : List ℕ) (given : Bor (List FaultRow))
-      → AreTotals settings.limit kept base t.patches total failing sets
-      → settings.by ≡ ByFault → AreRows (HasFault kept base t.patches) given.now
-      → Tells {A = A} settings (detail_of settings kept) base t total failing (code_body.Faults given) text
-      → IsReport settings kept base last t.patches text failing
+      → AreTotals settings.limit demands base t.patches total failing sets
+      → settings.by ≡ ByFault → AreRows (HasFault demands base t.patches) given.now
+      → Tells {A = A} settings (detail_of settings demands) base t total failing (code_body.Faults given) text
+      → IsReport settings demands base last t.patches text failing
   by_fault A total failing sets text given totals by rows told =
       is_report total failing sets text totals (on (with_number {A = A} total failing sets text (code_body.Faults given)
       totals.number told))
     where
-      on : Tells {A = A} settings (detail_of settings kept) base t total (length sets) (code_body.Faults given) text
-          → IsTextOn settings kept base last t.patches total sets text
+      on : Tells {A = A} settings (detail_of settings demands) base t total (length sets) (code_body.Faults given) text
+          → IsTextOn settings demands base last t.patches total sets text
       on (body, (rest, of_rows, firsts, is_body), written) = told_faults total sets text body given.now rest by rows
           of_rows firsts is_body written
 
   pub by_rule : (A : Type 0) (total failing : ℕ) (sets text : List ℕ) (given : Bor (List (code_rule.ToldRule A)))
-      → AreTotals settings.limit kept base t.patches total failing sets
-      → settings.by ≡ ByRule → AreToldRules (detail_of settings kept) settings.limit (ordering_rules settings) base last
+      → AreTotals settings.limit demands base t.patches total failing sets
+      → settings.by ≡ ByRule
+      → AreToldRules (detail_of settings demands) settings.limit (ordering_rules settings) base last
       t.patches (ordering_rules settings) (map told_rule given.now)
-      → Tells {A = A} settings (detail_of settings kept) base t total failing (code_body.Rules given) text
-      → IsReport settings kept base last t.patches text failing
+      → Tells {A = A} settings (detail_of settings demands) base t total failing (code_body.Rules given) text
+      → IsReport settings demands base last t.patches text failing
   by_rule A total failing sets text given totals by are told =
       is_report total failing sets text totals (on (with_number {A = A} total failing sets text (code_body.Rules given)
       totals.number told))
     where
-      on : Tells {A = A} settings (detail_of settings kept) base t total (length sets) (code_body.Rules given) text
-          → IsTextOn settings kept base last t.patches total sets text
+      on : Tells {A = A} settings (detail_of settings demands) base t total (length sets) (code_body.Rules given) text
+          → IsTextOn settings demands base last t.patches total sets text
       on (body, is_body, written) = told_rules total sets text body (map told_rule given.now) by are is_body written

@@ -1,9 +1,10 @@
 -- What a decision reports makes it the report that is asked for.
-use Rattle.std.proofs.Common.{◌≡◌, ℕ, List, Option, length, map, All, sym, subst, ap, ◌∙◌}
+use Rattle.std.proofs.Common.{◌≡◌, ℕ, List, length, map, All, sym, subst, ap, ◌∙◌}
 use Rattle.std.proofs.lemmas.List.{length-map}
 use Rattle.std.proofs.lemmas.Simd.{map-map}
 use Rattle.std.proofs.lemmas.List.Elements.{All-map}
 use Rattle.patch_sets.specs.Closed.{IsClosed}
+use Rattle.crash_model.specs.Checker.{Demands}
 use Rattle.crash_model.specs.Answer.{detail_of}
 use Rattle.crash_model.specs.Disk.{Disk}
 use Rattle.crash_model.specs.Explain.{Explanation}
@@ -24,26 +25,26 @@ use Rattle.crash_text.proofs.Bodies.{all_of, same_explanation}
 use Rattle.crash_text.specs.Telling.{IsTraceOf}
 
 -- a crash can leave the first sets of decided faults
-pub decided_closed : (kept : Option ℕ) (base : Disk) (patches : List Patch) (faults : List DecidedFault)
-    → AreDecided (HasFault kept base patches) faults → AreClosed patches (map (λ f. f.first) faults)
-decided_closed kept base patches faults are =
+pub decided_closed : (demands : Demands) (base : Disk) (patches : List Patch) (faults : List DecidedFault)
+    → AreDecided (HasFault demands base patches) faults → AreClosed patches (map (λ f. f.first) faults)
+decided_closed demands base patches faults are =
     All-map (IsClosed (deps_of patches)) (λ (f : DecidedFault). f.first) faults
     (λ k d within. (are.each k d within).among.failing.closed)
 
 -- the text is the report on a decision of traced patches
-pub is_decision : (settings : Settings) (kept : Option ℕ) (base : Disk) (t : TracedPatches) (last : Tracing)
+pub is_decision : (settings : Settings) (demands : Demands) (base : Disk) (t : TracedPatches) (last : Tracing)
     (total : ℕ) (faults : List DecidedFault) (told : List ToldDecided) (text : List ℕ)
     → IsTraceOf settings base t last → CountsClosed t.patches total
-    → AreDecided (HasFault kept base t.patches) faults → map (λ d. d.decided) told ≡ faults
-    → AreSections (detail_of settings kept) base t.patches (map (λ f. f.first) faults) (map (λ d. d.first) told)
+    → AreDecided (HasFault demands base t.patches) faults → map (λ d. d.decided) told ≡ faults
+    → AreSections (detail_of settings demands) base t.patches (map (λ f. f.first) faults) (map (λ d. d.first) told)
     → text ≡ decision_bytes settings (record {
       patches = length t.patches;
       closed = total;
       explanation = when settings.explain (explanation_by base t);
       faults = told;
     })
-    → IsDecision settings kept base last t.patches text (length faults)
-is_decision settings kept base t last total faults told text is counted decided of_faults are whole_text = record {
+    → IsDecision settings demands base last t.patches text (length faults)
+is_decision settings demands base t last total faults told text is counted decided of_faults are whole_text = record {
   total = total;
   counted = counted;
   told = told;
@@ -56,21 +57,21 @@ is_decision settings kept base t last total faults told text is counted decided 
     closed = total;
     explanation = when settings.explain e;
     faults = told;
-  })) (same_explanation settings kept base t last is);
+  })) (same_explanation settings demands base t last is);
 }
   where
     same_firsts : map (λ f. f.first) faults ≡ map (λ d. d.decided.first) told
     same_firsts = ap (map (λ (f : DecidedFault). f.first)) (sym of_faults)
         ∙ map-map (λ (f : DecidedFault). f.first) (λ (d : ToldDecided). d.decided) told
 
-    are_told : AreToldDecided (detail_of settings kept) base t.patches told
+    are_told : AreToldDecided (detail_of settings demands) base t.patches told
     are_told = record {
-      decided = subst (AreDecided (HasFault kept base t.patches)) (sym of_faults) decided;
-      firsts = subst (λ (firsts : List ℕ). AreSections (detail_of settings kept) base t.patches firsts
+      decided = subst (AreDecided (HasFault demands base t.patches)) (sym of_faults) decided;
+      firsts = subst (λ (firsts : List ℕ). AreSections (detail_of settings demands) base t.patches firsts
           (map (λ d. d.first) told)) same_firsts are;
     }
 
     led : All (λ d. IsLed t.patches d.first) told
     led = all_of (IsLed t.patches) (λ d. d.first) told (sections_lead base t.patches is.graph.earlier
-        (detail_of settings kept) (map (λ f. f.first) faults) (map (λ d. d.first) told)
-        (decided_closed kept base t.patches faults decided) are)
+        (detail_of settings demands) (map (λ f. f.first) faults) (map (λ d. d.first) told)
+        (decided_closed demands base t.patches faults decided) are)

@@ -1,5 +1,5 @@
 -- What is reported of the rules of an ordering.
-use Rattle.std.proofs.Common.{◌≡◌, ℕ, ◌+◌, ◌<◌, ◌≤◌, suc, List, [], ◌∷◌, ◌++◌, length, get_or, map, take, drop, Option}
+use Rattle.std.proofs.Common.{◌≡◌, ℕ, ◌+◌, ◌<◌, ◌≤◌, suc, List, [], ◌∷◌, ◌++◌, length, get_or, map, take, drop}
 use Rattle.std.proofs.Common.{All, refl, sym, ap, subst, ◌∙◌, arith, length-take}
 use Rattle.std.specs.Prelude.{Some, None}
 use Rattle.std.specs.List.{Contains}
@@ -9,16 +9,15 @@ use Rattle.std.proofs.lemmas.List.Elements.{All-nil, All-cons, All-head, Contain
 use Rattle.patch_sets.specs.Closed.{AreEarlier, IsClosed}
 use Rattle.patch_sets.specs.Sets.{Has, IsBefore, AreAllInOrder}
 use Rattle.crash_model.specs.Disk.{Disk}
-use Rattle.crash_model.specs.Strict.{IsFailingUnder}
+use Rattle.crash_model.specs.Checker.{Demands, IsFailingUnder}
 use Rattle.crash_model.specs.Needs.{AreToldRules, IsFirstNew, IsRuleUsage, RuleUsage, Unused, TooMany as PastLimit}
 use Rattle.crash_model.specs.Needs.{Used, ToldRule, pairs_of}
 use Rattle.crash_model.specs.Patches.{deps_of}
-use Rattle.crash_model.specs.Report.{AreSections, IsLed}
+use Rattle.crash_model.specs.Report.{Detail, AreSections, IsLed}
 use Rattle.crash_model.specs.Rules.{rules_in_first}
 use Rattle.crash_model.specs.Trace.{Tracing, IsGraphOf}
 use Rattle.crash_model.specs.declared.patches.Patch.{Patch}
 use Rattle.crash_model.specs.declared.rules.Rule.{Rule}
-use Rattle.crash_model.specs.declared.settings.Detail.{Detail}
 use Rattle.crash_model.proofs.Leading.{failing_closed, sections_lead}
 use Rattle.fault_summary.specs.Prevented.{IsFirstOut, IsFirstPrevented}
 use Rattle.report_sections.specs.Sections.{section_of, IsSection}
@@ -48,20 +47,20 @@ first_found detail base patches changed sets i set s earlier closed within read 
     (take i sets, set, drop (suc i) sets, split, before, new, are, All-head (IsLed changed) (section_of s) [] led)
 
 -- no failing set is prevented
-pub none_new : (kept : Option ℕ) (base : Disk) (patches changed : List Patch) (sets : List ℕ)
-    → IsFirstPrevented (IsFailingUnder kept base changed) (IsClosed (deps_of patches)) None
-    → AreAllInOrder (IsFailingUnder kept base changed) sets → All (IsClosed (deps_of patches)) sets
-none_new kept base patches changed sets none all k d within =
+pub none_new : (demands : Demands) (base : Disk) (patches changed : List Patch) (sets : List ℕ)
+    → IsFirstPrevented (IsFailingUnder demands base changed) (IsClosed (deps_of patches)) None
+    → AreAllInOrder (IsFailingUnder demands base changed) sets → All (IsClosed (deps_of patches)) sets
+none_new demands base patches changed sets none all k d within =
     none (get_or sets k d) ((all.exactly (get_or sets k d)).0 (Contains-get_or sets k d within))
 
 -- the section of the first failing set that the patches prevent
 pub some_new : {A : Type 0} (detail : Detail) (base : Disk) (patches changed : List Patch) (sets : List ℕ) (set : ℕ)
     (s : Section A) → AreEarlier (deps_of changed)
-    → IsFirstOut (IsFailingUnder detail.kept base changed) (IsClosed (deps_of patches)) set
-    → AreAllInOrder (IsFailingUnder detail.kept base changed) sets → IsSection detail base changed set s
+    → IsFirstOut (IsFailingUnder detail.demands base changed) (IsClosed (deps_of patches)) set
+    → AreAllInOrder (IsFailingUnder detail.demands base changed) sets → IsSection detail base changed set s
     → IsFirstNew detail base patches changed sets (Some (section_of s))
 some_new detail base patches changed sets set s earlier first all is =
-    first_found detail base patches changed sets at set s earlier (failing_closed detail.kept base changed sets all)
+    first_found detail base patches changed sets at set s earlier (failing_closed detail.demands base changed sets all)
     within read front first.out is
   where
     there : Contains sets set

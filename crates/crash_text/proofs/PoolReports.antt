@@ -27,6 +27,7 @@ search_under settings most base pool ordering whole rules = record {
   whole = whole;
   rules = rules;
   strict = settings.strict;
+  atomic = settings.atomic;
   base = base;
   pool = pool;
   most = most;

@@ -1,12 +1,12 @@
 -- Where no set fails, none is reported.
-use Rattle.std.proofs.Common.{◌≡◌, ℕ, List, [], ◌∷◌, Option, length, arith, refl, sym, subst, ap, ◌∙◌}
+use Rattle.std.proofs.Common.{◌≡◌, ℕ, List, [], ◌∷◌, length, arith, refl, sym, subst, ap, ◌∙◌}
 use Rattle.std.proofs.lemmas.List.Elements.{Contains-get_or}
 use Rattle.patch_sets.specs.Sets.{AreAllInOrder}
 use Rattle.crash_model.specs.Answer.{ordering_rules}
 use Rattle.crash_model.specs.Disk.{Disk}
 use Rattle.crash_model.specs.RuleFacts.{AreAmong}
 use Rattle.crash_model.specs.Rules.{rules_of, rules_under}
-use Rattle.crash_model.specs.Strict.{IsFailingUnder}
+use Rattle.crash_model.specs.Checker.{Demands, IsFailingUnder}
 use Rattle.crash_model.specs.Summary.{HasFault}
 use Rattle.crash_model.specs.declared.modules.Module.{Module}
 use Rattle.crash_model.specs.declared.modules.Module.TheVariants.{Full}
@@ -24,11 +24,11 @@ none_listed P (set ∷ sets) none are =
     absurd (none set ((are.exactly set).0 (Contains-get_or (set ∷ sets) 0 0 (omega arith))))
 
 -- no fault is decided
-pub none_decided : (kept : Option ℕ) (base : Disk) (patches : List Patch) (faults : List DecidedFault)
-    → ((set : ℕ) → ¬ (IsFailingUnder kept base patches set)) → AreDecided (HasFault kept base patches) faults
+pub none_decided : (demands : Demands) (base : Disk) (patches : List Patch) (faults : List DecidedFault)
+    → ((set : ℕ) → ¬ (IsFailingUnder demands base patches set)) → AreDecided (HasFault demands base patches) faults
     → length faults ≡ 0
-none_decided kept base patches [] none are = refl
-none_decided kept base patches (f ∷ faults) none are =
+none_decided demands base patches [] none are = refl
+none_decided demands base patches (f ∷ faults) none are =
     absurd (none f.first (are.each 0 f (omega arith)).among.failing)
 
 -- under the full journal with no rule taken out, each of its rules is there

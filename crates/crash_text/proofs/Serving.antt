@@ -83,7 +83,7 @@ of_run (bad_geometry before steps read none) = refl
 of_run (bad_base before steps fault read geometry is) = trace_is_of_run fault
 of_run (bad_trace base steps fault start is) = trace_is_of_run fault
 of_run (too_many base last patches has more) = refl
-of_run (reported kept base last patches text failing has told report) = refl
+of_run (reported demands base last patches text failing has told report) = refl
 
 search_is_of_run : {bytes : List ℕ} {settings : Settings} {fault : RunFault} → IsSearchRefusal bytes settings fault
     → is_of_run fault ≡ true

@@ -4,6 +4,7 @@ use Rattle.std.specs.Int.{from_bool}
 use Rattle.std.specs.Prelude.{Some, None, is_some, option_map, option_to_list}
 use Rattle.std.proofs.lemmas.Simd.{map-map}
 use Rattle.patch_sets.specs.Sets.{AreAllInOrder}
+use Rattle.crash_model.specs.Checker.{Demands}
 use Rattle.crash_model.specs.Answer.{detail_of, ordering_rules}
 use Rattle.crash_model.specs.Disk.{Disk}
 use Rattle.crash_model.specs.Explain.{Explanation}
@@ -23,14 +24,14 @@ use Rattle.crash_text.proofs.Bodies.{same_explanation}
 use Rattle.crash_text.specs.Telling.{IsTraceOf}
 
 -- the text is the report on the rules of traced patches
-pub is_enough_report : {A : Type 0} (settings : Settings) (kept : Option ℕ) (base : Disk) (t : TracedPatches)
+pub is_enough_report : {A : Type 0} (settings : Settings) (demands : Demands) (base : Disk) (t : TracedPatches)
     (last : Tracing) (total : ℕ) (enough groups : List ℕ) (needs : List (NeededGroup A)) (first : Option (FirstFault A))
     (text : List ℕ) (number : ℕ)
     → IsTraceOf settings base t last → CountsClosed t.patches total
-    → AreAllInOrder (IsMinimalEnough kept base last t.rules) enough
-    → AreAllInOrder (IsNeeded kept base last t.rules) groups → map (λ n. n.group) needs ≡ groups
-    → All (IsToldGroup (detail_of settings kept) t.rules base last) (map told_group needs)
-    → IsToldAny (detail_of settings kept) base t.patches (option_map told_first first)
+    → AreAllInOrder (IsMinimalEnough demands base last t.rules) enough
+    → AreAllInOrder (IsNeeded demands base last t.rules) groups → map (λ n. n.group) needs ≡ groups
+    → All (IsToldGroup (detail_of settings demands) t.rules base last) (map told_group needs)
+    → IsToldAny (detail_of settings demands) base t.patches (option_map told_first first)
     → number ≡ length (option_to_list (option_map (told_first {A = A}) first))
     → text ≡ rules_report_bytes settings (record {
       patches = length t.patches;
@@ -40,18 +41,18 @@ pub is_enough_report : {A : Type 0} (settings : Settings) (kept : Option ℕ) (b
       needs = map told_group needs;
       first = option_map told_first first;
     })
-    → IsEnoughReport settings kept base last t.patches text number
-is_enough_report {A = A} settings kept base t last total enough groups needs first text number is counted exactly needed
+    → IsEnoughReport settings demands base last t.patches text number
+is_enough_report {A = A} settings demands base t last total enough groups needs first text number is counted exactly needed
     of_groups told any counts whole_text = record {
       total = total;
       counted = counted;
       enough = enough;
-      exactly = subst (λ (rules : List Rule). AreAllInOrder (IsMinimalEnough kept base last rules) enough) is.rules
+      exactly = subst (λ (rules : List Rule). AreAllInOrder (IsMinimalEnough demands base last rules) enough) is.rules
           exactly;
       needs = map told_group needs;
-      needed = subst (AreAllInOrder (IsNeeded kept base last (ordering_rules settings))) same_groups
-          (subst (λ (rules : List Rule). AreAllInOrder (IsNeeded kept base last rules) groups) is.rules needed);
-      told = subst (λ (rules : List Rule). All (IsToldGroup (detail_of settings kept) rules base last)
+      needed = subst (AreAllInOrder (IsNeeded demands base last (ordering_rules settings))) same_groups
+          (subst (λ (rules : List Rule). AreAllInOrder (IsNeeded demands base last rules) groups) is.rules needed);
+      told = subst (λ (rules : List Rule). All (IsToldGroup (detail_of settings demands) rules base last)
           (map told_group needs)) is.rules told;
       first = option_map told_first first;
       any = any;
@@ -63,7 +64,7 @@ is_enough_report {A = A} settings kept base t last total enough groups needs fir
         enough = enough;
         needs = map told_group needs;
         first = option_map told_first first;
-      })) (same_explanation settings kept base t last is);
+      })) (same_explanation settings demands base t last is);
     }
   where
     same_groups : groups ≡ map (λ (n : ToldGroup). n.group) (map (told_group {A = A}) needs)

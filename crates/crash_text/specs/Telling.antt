@@ -1,5 +1,6 @@
 -- What the report of a run says.
-use Rattle.std.specs.Prelude.{◌≡◌, ◌≢◌, ◌⊎◌, ℕ, List, Option, Ok, Err, length}
+use Rattle.std.specs.Prelude.{◌≡◌, ◌≢◌, ◌⊎◌, ℕ, List, Ok, Err, length}
+use Rattle.crash_model.specs.Report.{Detail}
 use Rattle.crash_model.specs.Answer.{ordering_rules, IsReport}
 use Rattle.crash_model.specs.Disk.{Disk}
 use Rattle.crash_model.specs.Explain.{Explanation}
@@ -7,14 +8,13 @@ use Rattle.crash_model.specs.Patches.{ExceedsLimit}
 use Rattle.crash_model.specs.Lists.{when}
 use Rattle.crash_model.specs.Needs.{IsWithout, RuleUsage, Unused, TooMany as PastLimit, Used}
 use Rattle.crash_model.specs.Refusals.{run_of_trace}
-use Rattle.crash_model.specs.Strict.{IsFailingUnder, IsToldKept}
+use Rattle.crash_model.specs.Checker.{Demands, AreDemands, IsFailingUnder}
 use Rattle.crash_model.specs.Trace.{Tracing, trace_start, trace_from, IsGraphOf}
 use Rattle.crash_model.specs.Whole.{Body, Report, report}
 use Rattle.crash_model.specs.declared.patches.Patch.{Patch}
 use Rattle.crash_model.specs.declared.refusals.RunFault.{RunFault}
 use Rattle.crash_model.specs.declared.refusals.RunFault.TheVariants.{OutOfMemory, TooMany}
 use Rattle.crash_model.specs.declared.refusals.TraceFault.{TraceFault}
-use Rattle.crash_model.specs.declared.settings.Detail.{Detail}
 use Rattle.crash_model.specs.declared.settings.Settings.{Settings}
 use Rattle.crash_model.specs.declared.steps.Step.{Step}
 use Rattle.decision_model.specs.Decision.{IsDecision}
@@ -39,13 +39,13 @@ pub record IsTraceOf (settings : Settings) (base : Disk) (t : TracedPatches) (la
 -- what is found of patches that were traced over the base
 pub record AreFindings {A : Type 0} (f : Findings A) : Type 0 where
   pub on_base : AreOnBase f.base.now f.traced.patches
-  pub found : AreFound f.settings.now f.kept f.base.now f.traced.patches f.found
+  pub found : AreFound f.settings.now f.demands f.base.now f.traced.patches f.found
 
 -- the text is the report on what is found, whatever state traced these patches
 abbrev pub IsReportOf : {A : Type 0} → Findings A → List ℕ → Type 0
 IsReportOf f text =
     (last : Tracing) → IsTraceOf f.settings.now f.base.now f.traced last
-    → IsReport f.settings.now f.kept f.base.now last f.traced.patches text f.found.failing
+    → IsReport f.settings.now f.demands f.base.now last f.traced.patches text f.found.failing
 
 -- the report with this body as the definition sees it
 abbrev pub whole : Settings → Explanation → List Patch → ℕ → ℕ → Body → Report
@@ -70,34 +70,36 @@ IsOfSteps (SearchRules most) = ⊥
 IsOfSteps _ = Unit {0}
 
 -- the report that answers a question on a graph; a search is about many graphs
-abbrev pub IsReportTo : Question → Settings → Option ℕ → Disk → Tracing → List Patch → List ℕ → ℕ → Type 0
-IsReportTo Visit settings kept base last patches text number = IsReport settings kept base last patches text number
-IsReportTo Decide settings kept base last patches text number = IsDecision settings kept base last patches text number
-IsReportTo Enough settings kept base last patches text number =
-    IsEnoughReport settings kept base last patches text number
-IsReportTo (Search most) settings kept base last patches text number = ⊥
-IsReportTo (SearchRules most) settings kept base last patches text number = ⊥
+abbrev pub IsReportTo : Question → Settings → Demands → Disk → Tracing → List Patch → List ℕ → ℕ → Type 0
+IsReportTo Visit settings demands base last patches text number =
+    IsReport settings demands base last patches text number
+IsReportTo Decide settings demands base last patches text number =
+    IsDecision settings demands base last patches text number
+IsReportTo Enough settings demands base last patches text number =
+    IsEnoughReport settings demands base last patches text number
+IsReportTo (Search most) settings demands base last patches text number = ⊥
+IsReportTo (SearchRules most) settings demands base last patches text number = ⊥
 
 -- the text is that report on a traced script, whatever state traced its patches
 abbrev pub IsReportOn : {A : Type 0} → Question → Settings → TracedScript A → List ℕ → ℕ → Type 0
 IsReportOn question settings s text number =
     (last : Tracing) → IsTraceOf settings s.base.now s.traced last
-    → IsReportTo question settings s.kept s.base.now last s.traced.patches text number
+    → IsReportTo question settings s.demands s.base.now last s.traced.patches text number
 
 -- no set that a crash can leave fails
 abbrev pub NoneFails : {A : Type 0} → TracedScript A → Type 0
-NoneFails s = (set : ℕ) → ¬ (IsFailingUnder s.kept s.base.now s.traced.patches set)
+NoneFails s = (set : ℕ) → ¬ (IsFailingUnder s.demands s.base.now s.traced.patches set)
 
--- the report on steps that are traced over the base, by a checker with the inodes that the steps keep
+-- the report on steps that are traced over the base, by what the steps demand
 pub record AreReported (question : Question) (settings : Settings) (base : Disk) (steps : List Step) (text : List ℕ)
     (number : ℕ) : Type 0 where
   pub last : Tracing
   pub patches : List Patch
   pub run : trace_from settings.module (trace_start settings.whole_blocks base) steps ≡ Ok last
   pub graph : IsGraphOf (ordering_rules settings) base last patches
-  pub kept : Option ℕ
-  pub told : IsToldKept settings.strict base steps kept
-  pub report : IsReportTo question settings kept base last patches text number
+  pub demands : Demands
+  pub told : AreDemands settings.strict settings.atomic base steps demands
+  pub report : IsReportTo question settings demands base last patches text number
 
 -- unless it is out of memory, the one reason to refuse is that there are more sets to visit than the limit
 abbrev pub IsPastLimit : Question → Settings → List Patch → RunFault → Type 0

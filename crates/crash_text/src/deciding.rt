@@ -8,7 +8,6 @@ ghost use Rattle.crash_text.specs.Telling.{IsReportOn, NoneFails};
 use crate::host::Host;
 use crate::run::Outcome;
 use crate::traced_script::TracedScript;
-use crash_model::settings::Detail;
 use decision_report::{Decision, decision_report};
 use fault_deciding::{Decider, closed_number};
 use questions::Request;
@@ -30,22 +29,19 @@ where
         IsReportOn Decide request.now.settings script.now (string_bytes outcome.text) outcome.number) }
     ensures safe { NoneFails script.now → IfOk result (λ outcome. outcome.number ≡ 0) }
 {
-    let detail = Detail {
-        explain: request.settings.explain,
-        kept: script.kept,
-    };
+    let demands = &script.demands;
     let decider = Decider {
         alloc: host.alloc,
         base: script.base,
         graph: script.traced.graph(),
-        kept: detail.kept,
+        demands,
     };
     let faults = decider.faults(host.rt, request.workers)?;
     let decision = Decision {
         base: script.base,
         traced: &script.traced,
         settings: &request.settings,
-        detail,
+        demands,
         closed: closed_number(script.traced.graph()),
         faults: &faults,
     };

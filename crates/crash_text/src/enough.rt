@@ -8,7 +8,7 @@ ghost use Rattle.crash_text.specs.Telling.{IsReportOn, NoneFails};
 use crate::host::Host;
 use crate::run::Outcome;
 use crate::traced_script::TracedScript;
-use crash_model::settings::{Detail, Settings};
+use crash_model::settings::Settings;
 use enough_deciding::RuleOracle;
 use enough_report::{EnoughFindings, enough_report};
 use fault_deciding::closed_number;
@@ -26,19 +26,21 @@ pub(crate) fn enough<R, A: Allocator + Copy>(
         IsReportOn Enough settings.now script.now (string_bytes outcome.text) outcome.number) }
     ensures safe { NoneFails script.now → IfOk result (λ outcome. outcome.number ≡ 0) }
 {
-    let detail = Detail {
-        explain: settings.explain,
-        kept: script.kept,
-    };
     let oracle = RuleOracle {
         alloc: host.alloc,
         base: script.base,
         traced: &script.traced,
-        kept: detail.kept,
+        demands: &script.demands,
     };
     let found = oracle.enough_sets()?;
-    let needs = needed_groups(&oracle, detail, &found.needed)?;
-    let first = first_fault(host.alloc, script.base, script.traced.graph(), detail)?;
+    let needs = needed_groups(&oracle, settings.explain, &found.needed)?;
+    let first = first_fault(
+        host.alloc,
+        script.base,
+        script.traced.graph(),
+        settings.explain,
+        &script.demands,
+    )?;
     let findings = EnoughFindings {
         base: script.base,
         traced: &script.traced,

@@ -5,7 +5,6 @@ pub mod answer;
 mod deciding;
 mod enough;
 pub mod host;
-mod keeping;
 mod needs;
 pub mod progress;
 pub mod run;

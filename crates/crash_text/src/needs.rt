@@ -4,7 +4,7 @@ ghost use Rattle.std.specs.Prelude.{◌≡◌, ℕ, List, map, option_map, strin
 ghost use Rattle.patch_sets.specs.Closed.{AreEarlier, IsClosed};
 ghost use Rattle.patch_sets.specs.Sets.{AreAllInOrder};
 ghost use Rattle.crash_model.specs.Answer.{detail_of, ordering_rules};
-ghost use Rattle.crash_model.specs.Strict.{IsFailingUnder};
+ghost use Rattle.crash_model.specs.Checker.{IsFailingUnder};
 ghost use Rattle.crash_model.specs.Needs.{AreToldRules, IsFirstNew, IsRuleUsage};
 ghost use Rattle.crash_model.specs.Patches.{deps_of};
 ghost use Rattle.crash_model.specs.Trace.{Tracing};
@@ -64,7 +64,7 @@ where
     requires found { AreFindings findings.now }
     ensures { IfOk result (λ rules. (last : Tracing)
         → IsTraceOf findings.now.settings.now findings.now.base.now findings.now.traced last
-        → AreToldRules (detail_of findings.now.settings.now findings.now.kept) findings.now.settings.now.limit
+        → AreToldRules (detail_of findings.now.settings.now findings.now.demands) findings.now.settings.now.limit
         (ordering_rules findings.now.settings.now) findings.now.base.now last findings.now.traced.patches
         (ordering_rules findings.now.settings.now) (map told_rule rules.items)) }
 {
@@ -92,7 +92,7 @@ where
     requires found { AreFindings findings.now }
     ensures { IfOk result (λ usage. (last : Tracing) → last.emitted ≡ findings.now.traced.emitted
         → last.links ≡ findings.now.traced.links → last.whole ≡ findings.now.traced.whole
-        → IsRuleUsage (detail_of findings.now.settings.now findings.now.kept) findings.now.settings.now.limit
+        → IsRuleUsage (detail_of findings.now.settings.now findings.now.demands) findings.now.settings.now.limit
         findings.now.traced.rules findings.now.base.now last findings.now.traced.patches rule (usage_of usage)) }
 {
     let pairs = findings.traced.pairs(rule);
@@ -119,14 +119,14 @@ where
     requires same { finder.now.settings.now ≡ findings.now.settings.now }
     requires on_base { AreOnBase findings.now.base.now changed.now }
     requires earlier { AreEarlier (deps_of changed.now) }
-    ensures { IfOk result (λ usage. IsUsageBy (detail_of findings.now.settings.now findings.now.kept)
+    ensures { IfOk result (λ usage. IsUsageBy (detail_of findings.now.settings.now findings.now.demands)
         findings.now.settings.now.limit findings.now.base.now findings.now.traced.patches changed.now pairs
         (usage_of usage)) }
 {
     let crashes = Crashes {
         base: findings.base,
         graph: changed,
-        kept: findings.kept,
+        demands: &findings.demands,
     };
     match finder.count_failing(&crashes, findings.traced.graph()) {
         Ok(count) => Ok(RuleUsage::Used {
@@ -151,17 +151,18 @@ fn first_section<A: Allocator + Copy>(
 ) -> Result<Option<Section<A>>, AllocError>
     requires on_base { AreOnBase findings.now.base.now changed.now }
     requires earlier { AreEarlier (deps_of changed.now) }
-    requires first { IsFirstPrevented (IsFailingUnder findings.now.kept findings.now.base.now changed.now)
+    requires first { IsFirstPrevented (IsFailingUnder findings.now.demands findings.now.base.now changed.now)
         (IsClosed (deps_of findings.now.traced.patches)) set }
     ensures { IfOk result (λ first. (sets : List ℕ)
-        → AreAllInOrder (IsFailingUnder findings.now.kept findings.now.base.now changed.now) sets
-        → IsFirstNew (detail_of findings.now.settings.now findings.now.kept) findings.now.base.now
+        → AreAllInOrder (IsFailingUnder findings.now.demands findings.now.base.now changed.now) sets
+        → IsFirstNew (detail_of findings.now.settings.now findings.now.demands) findings.now.base.now
         findings.now.traced.patches changed.now sets (option_map section_of first)) }
 {
     let Some(set) = set else {
         return Ok(None);
     };
-    let mut maker = SectionMaker::new(alloc, findings.base, changed, findings.detail())?;
+    let (explain, demands) = (findings.settings.explain, &findings.demands);
+    let mut maker = SectionMaker::new(alloc, findings.base, changed, explain, demands)?;
     let section = maker.section(set)?;
     Ok(Some(section))
 }

@@ -15,7 +15,6 @@ ghost use Rattle.crash_text.specs.Telling.{AreReported, AreRefused, IsOfSteps, I
 use crate::deciding::decided;
 use crate::enough::enough;
 use crate::host::Host;
-use crate::keeping::told_kept;
 use crate::searching::{Pool, searched};
 use crate::searching_rules::searched_for_rules;
 use crate::traced_script::TracedScript;
@@ -25,6 +24,7 @@ use crash_model::settings::Settings;
 use crash_model::steps::Step;
 use disk_image::{Image, ImageFault};
 use explorers::Gate;
+use inode_fs::demands;
 use order_modules::{build_base, trace};
 use questions::{Question, Request};
 use script_text::read_script;
@@ -49,7 +49,7 @@ pub struct Outcome<A: Allocator> {
 /// For every number of workers, 1 to 16, and every schedule, an answer other than out of memory is the one defined for
 /// the script's bytes and the settings, without threads. The gate gets each claim of a worker on a board, and progress
 /// reports. Under the full journal with no rule taken out no set fails and no fault is found, whatever the script and
-/// the rules put in, not by a strict checker either, and not with whole blocks.
+/// the rules put in, whatever is demanded of images, and also with whole blocks.
 pub fn run<R, A, G>(
     host: &Host<'_, R, A>,
     script: &[u8],
@@ -114,8 +114,13 @@ where
     // For the proof: what holds of every image.
     let _blocks = base.blocks();
     let traced = trace(host.alloc, base, steps, &ordering)?;
-    let kept = told_kept(base, steps, &request.settings)?;
-    let script = TracedScript { base, traced, kept };
+    let settings = &request.settings;
+    let demands = demands(host.alloc, base, steps, settings.strict, settings.atomic)?;
+    let script = TracedScript {
+        base,
+        traced,
+        demands,
+    };
     answer_traced(host, request, gate, script)
 }
 

@@ -80,6 +80,7 @@ where
         most: pool.most.number(),
         ordering: &ordering,
         strict: request.settings.strict,
+        atomic: request.settings.atomic,
     };
     let found = search_pool(host.rt, request.workers, gate, &judge)?;
     let outcome = report_on(host, &request.settings, &judge, &found)?;

@@ -59,7 +59,7 @@ where
 {
     check_operations(pool.steps)?;
     let ordering = request.settings.ordering();
-    // For the proof: what every image keeps.
+    // For the proof: what holds of every image.
     let _blocks = pool.base.blocks();
     let judge = PoolJudge {
         alloc: host.alloc,
@@ -68,6 +68,7 @@ where
         most: pool.most.number(),
         ordering: &ordering,
         strict: request.settings.strict,
+        atomic: request.settings.atomic,
     };
     let searched = search_pool_passing(host.rt, request.workers, gate, &judge)?;
     let outcome = report_on_rules(host, request, &judge, &searched)?;

@@ -3,21 +3,21 @@
 ghost use Rattle.std.specs.Prelude.{◌≡◌, map, IfOk, string_bytes};
 ghost use Rattle.patch_sets.specs.Sets.{AreAllInOrder};
 ghost use Rattle.crash_model.specs.Answer.{detail_of, ordering_rules};
-ghost use Rattle.crash_model.specs.Strict.{IsFailingUnder};
+ghost use Rattle.crash_model.specs.Checker.{IsFailingUnder};
 ghost use Rattle.crash_model.specs.Needs.{AreToldRules};
 ghost use Rattle.crash_model.specs.Summary.{HasFault, AreRows};
 ghost use Rattle.crash_model.specs.Trace.{Tracing};
 ghost use Rattle.crash_model.specs.declared.settings.ReportBy.TheVariants.{BySet, ByFault, ByRule};
 ghost use Rattle.crash_model.specs.Whole.{Body as WholeBody, report as report_bytes};
-ghost use Rattle.report_sections.specs.Bodies.{AreClosed, AreOnBase, CanTell, TellsBody, sets_of, whole_of};
+ghost use Rattle.report_sections.specs.Bodies.{AreClosed, AreOnBase, CanTell, detail_by, TellsBody, sets_of, whole_of};
 ghost use Rattle.report_sections.specs.ToldRules.{told_rule};
 ghost use Rattle.crash_text.specs.Telling.{AreFindings, IsReportOf, IsTraceOf, Tells};
 
 use crate::host::Host;
 use crash_finding::Found;
 use crash_model::fault::FaultRow;
-use crash_model::settings::{Detail, Settings};
-use disk_image::Image;
+use crash_model::settings::Settings;
+use disk_image::{Demands, Image};
 use report_json::report_json;
 use report_sections::{Body, Report, ToldRule};
 use report_text::report_text;
@@ -25,27 +25,14 @@ use std::alloc::{AllocError, Allocator};
 use std::thread::Threads;
 use traced_patches::Traced;
 
-/// What was found of the patches that were traced over a base, by the strict checker with these kept inodes, or by the
-/// other without.
+/// What was found of the patches that were traced over a base, by what the script demands of images.
 #[derive(Drop)]
 pub(crate) struct Findings<'steps, 'asked, A: Allocator + Copy> {
     pub base: &'steps Image<A>,
     pub traced: Traced<'steps, A>,
     pub settings: &'asked Settings,
-    pub kept: Option<u16>,
+    pub demands: Demands<A>,
     pub found: Found<A>,
-}
-
-impl<'steps, 'asked, A: Allocator + Copy> Findings<'steps, 'asked, A> {
-    /// What is reported of a set.
-    pub fn detail(&self) -> Detail
-        ensures { result ≡ detail_of self.now.settings.now self.now.kept }
-    {
-        Detail {
-            explain: self.settings.explain,
-            kept: self.kept,
-        }
-    }
 }
 
 impl<'steps, 'asked, A: Allocator + Copy + Send + Sync> Findings<'steps, 'asked, A> {
@@ -58,7 +45,7 @@ impl<'steps, 'asked, A: Allocator + Copy + Send + Sync> Findings<'steps, 'asked,
     ) -> Result<String<A>, AllocError>
         requires found { AreFindings self.now }
         requires by { self.now.settings.now.by ≡ BySet }
-        requires sets { AreAllInOrder (IsFailingUnder self.now.kept self.now.base.now self.now.traced.patches)
+        requires sets { AreAllInOrder (IsFailingUnder self.now.demands self.now.base.now self.now.traced.patches)
             sets.now }
         ensures { IfOk result (λ text. IsReportOf self.now (string_bytes text)) }
     {
@@ -74,7 +61,7 @@ impl<'steps, 'asked, A: Allocator + Copy + Send + Sync> Findings<'steps, 'asked,
     ) -> Result<String<A>, AllocError>
         requires found { AreFindings self.now }
         requires by { self.now.settings.now.by ≡ ByFault }
-        requires rows { AreRows (HasFault self.now.kept self.now.base.now self.now.traced.patches) rows.now }
+        requires rows { AreRows (HasFault self.now.demands self.now.base.now self.now.traced.patches) rows.now }
         ensures { IfOk result (λ text. IsReportOf self.now (string_bytes text)) }
     {
         self.write(host, Body::Faults(rows), workers)
@@ -90,7 +77,7 @@ impl<'steps, 'asked, A: Allocator + Copy + Send + Sync> Findings<'steps, 'asked,
         requires found { AreFindings self.now }
         requires by { self.now.settings.now.by ≡ ByRule }
         requires rules { (last : Tracing) → IsTraceOf self.now.settings.now self.now.base.now self.now.traced last
-            → AreToldRules (detail_of self.now.settings.now self.now.kept) self.now.settings.now.limit
+            → AreToldRules (detail_of self.now.settings.now self.now.demands) self.now.settings.now.limit
             (ordering_rules self.now.settings.now) self.now.base.now last self.now.traced.patches
             (ordering_rules self.now.settings.now) (map told_rule rules.now) }
         ensures { IfOk result (λ text. IsReportOf self.now (string_bytes text)) }
@@ -107,7 +94,7 @@ impl<'steps, 'asked, A: Allocator + Copy + Send + Sync> Findings<'steps, 'asked,
     ) -> Result<String<A>, AllocError>
         requires on_base { AreOnBase self.now.base.now self.now.traced.patches }
         requires closed { AreClosed self.now.traced.patches (sets_of body) }
-        ensures { IfOk result (λ text. Tells self.now.settings.now (detail_of self.now.settings.now self.now.kept)
+        ensures { IfOk result (λ text. Tells self.now.settings.now (detail_of self.now.settings.now self.now.demands)
             self.now.base.now self.now.traced self.now.found.closed self.now.found.failing body.entry
             (string_bytes text)) }
     {
@@ -123,7 +110,7 @@ impl<'steps, 'asked, A: Allocator + Copy + Send + Sync> Findings<'steps, 'asked,
         ensures base { result.base.now ≡ self.now.base.now }
         ensures traced { result.traced.now ≡ self.now.traced }
         ensures settings { result.settings.now ≡ self.now.settings.now }
-        ensures detail { result.detail ≡ detail_of self.now.settings.now self.now.kept }
+        ensures demands { result.demands.now ≡ self.now.demands }
         ensures closed { result.closed ≡ self.now.found.closed }
         ensures failing { result.failing ≡ self.now.found.failing }
         ensures body { result.body ≡ body.entry }
@@ -132,7 +119,7 @@ impl<'steps, 'asked, A: Allocator + Copy + Send + Sync> Findings<'steps, 'asked,
             base: self.base,
             traced: &self.traced,
             settings: self.settings,
-            detail: self.detail(),
+            demands: &self.demands,
             closed: self.found.closed,
             failing: self.found.failing,
             body,
@@ -151,7 +138,7 @@ where
     A: Allocator + Copy + Send + Sync,
     requires tell { CanTell report.now }
     ensures { IfOk result (λ text. (body : WholeBody)
-        × TellsBody report.now.detail report.now.base.now report.now.traced.now.patches report.now.body
+        × TellsBody (detail_by report.now) report.now.base.now report.now.traced.now.patches report.now.body
         body
         × (string_bytes text ≡ report_bytes report.now.settings.now (whole_of report.now body))) }
 {

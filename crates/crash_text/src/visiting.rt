@@ -48,14 +48,14 @@ where
     let crashes = Crashes {
         base: script.base,
         graph: script.traced.graph(),
-        kept: script.kept,
+        demands: &script.demands,
     };
     let found = finder.find(&crashes)?;
     let findings = Findings {
         base: script.base,
         traced: script.traced,
         settings: &request.settings,
-        kept: script.kept,
+        demands: script.demands,
         found,
     };
     Ok(Outcome {

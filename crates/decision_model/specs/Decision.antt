@@ -3,17 +3,16 @@ use Rattle.std.specs.Prelude.{◌≡◌, ℕ, List, [], ◌++◌, length, map, f
 use Rattle.std.specs.List.{All}
 use Rattle.crash_model.specs.Answer.{HasGraph, detail_of, ordering_rules}
 use Rattle.crash_model.specs.Disk.{Disk}
-use Rattle.crash_model.specs.Explain.{Explanation, explanation, explanation_text, base_json, trace_json}
+use Rattle.crash_model.specs.Explain.{Explanation, explanation, explanation_text, trace_json}
 use Rattle.crash_model.specs.Lists.{when}
 use Rattle.crash_model.specs.Patches.{CountsClosed}
-use Rattle.crash_model.specs.Report.{Section, AreSections, IsLed, fault_text, module_text, line, crash_text}
+use Rattle.crash_model.specs.Report.{Detail, Section, AreSections, IsLed, fault_text, module_text, line, crash_text}
 use Rattle.crash_model.specs.Report.{json_string, json_array, ids_json, replay_json, writes_json}
-use Rattle.crash_model.specs.Strict.{IsToldKept}
+use Rattle.crash_model.specs.Checker.{Demands, AreDemands}
 use Rattle.crash_model.specs.Summary.{HasFault}
 use Rattle.crash_model.specs.Trace.{Tracing}
-use Rattle.crash_model.specs.Whole.{told_without, told_with, rule_lines, rules_json}
+use Rattle.crash_model.specs.Whole.{told_without, told_with, rule_lines, first_json, rules_json}
 use Rattle.crash_model.specs.declared.patches.Patch.{Patch}
-use Rattle.crash_model.specs.declared.settings.Detail.{Detail}
 use Rattle.crash_model.specs.declared.settings.Settings.{Settings}
 use Rattle.decision_model.specs.Decided.{AreDecided}
 use Rattle.decision_model.specs.declared.decided_fault.DecidedFault.{DecidedFault}
@@ -26,10 +25,10 @@ pub record ToldDecided : Type 0 where
 -- each fault that a failing set of the patches has
 pub record AreToldDecided (detail : Detail) (base : Disk) (patches : List Patch)
     (told : List ToldDecided) : Type 0 where
-  pub decided : AreDecided (HasFault detail.kept base patches) (map (λ t. t.decided) told)
+  pub decided : AreDecided (HasFault detail.demands base patches) (map (λ t. t.decided) told)
   pub firsts : AreSections detail base patches (map (λ t. t.decided.first) told) (map (λ t. t.first) told)
 
--- how many patches and closed sets there are, what the patches are where that is asked for, and the faults
+-- how many patches and closed sets there are, what the patches are if that is asked for, and the faults
 pub record Decision : Type 0 where
   pub patches : ℕ
   pub closed : ℕ
@@ -46,6 +45,7 @@ ordering_text settings =
     ++ rule_lines (codes "with") (told_with settings)
     ++ (if settings.whole_blocks then line (codes "whole blocks") else [])
     ++ (if settings.strict then line (codes "strict") else [])
+    ++ (if settings.atomic then line (codes "atomic") else [])
 
 -- patches are n in all
 abbrev pub decided_text : ℕ → ToldDecided → List ℕ
@@ -71,7 +71,7 @@ decided_json n t =
 -- `closed` is a text, since it can be more than a JSON number holds
 unfoldable pub json_decision : Settings → Decision → List ℕ
 json_decision settings d =
-    codes "{" ++ base_json d.explanation
+    codes "{" ++ first_json settings d.explanation
     ++ codes "\"closed\":" ++ json_string (decimal d.closed)
     ++ codes ",\"faults\":" ++ json_array (map (decided_json d.patches) d.faults)
     ++ codes ",\"module\":" ++ json_string (module_text settings.module)
@@ -87,13 +87,13 @@ json_decision settings d =
 abbrev pub decision_bytes : Settings → Decision → List ℕ
 decision_bytes settings d = if settings.json then json_decision settings d else text_decision settings d
 
--- the report on a graph with so many faults, each of whose first sets a crash can leave
-pub record IsDecision (settings : Settings) (kept : Option ℕ) (base : Disk) (last : Tracing) (patches : List Patch)
+-- the report on a graph with this number of faults; a crash can leave the first set of each
+pub record IsDecision (settings : Settings) (demands : Demands) (base : Disk) (last : Tracing) (patches : List Patch)
     (text : List ℕ) (number : ℕ) : Type 0 where
   pub total : ℕ
   pub counted : CountsClosed patches total
   pub told : List ToldDecided
-  pub are : AreToldDecided (detail_of settings kept) base patches told
+  pub are : AreToldDecided (detail_of settings demands) base patches told
   pub led : All (λ t. IsLed patches t.first) told
   pub number_of : number ≡ length told
   pub whole : text ≡ decision_bytes settings (record {
@@ -105,10 +105,10 @@ pub record IsDecision (settings : Settings) (kept : Option ℕ) (base : Disk) (l
 
 -- the report that decides a script, with the number of faults in it
 pub record IsDecided (bytes : List ℕ) (settings : Settings) (text : List ℕ) (number : ℕ) : Type 0 where
-  pub kept : Option ℕ
+  pub demands : Demands
   pub base : Disk
   pub last : Tracing
   pub patches : List Patch
   pub graph : HasGraph bytes settings base last patches
-  pub told : IsToldKept settings.strict base graph.steps kept
-  pub report : IsDecision settings kept base last patches text number
+  pub told : AreDemands settings.strict settings.atomic base graph.steps demands
+  pub report : IsDecision settings demands base last patches text number

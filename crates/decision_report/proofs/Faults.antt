@@ -3,10 +3,10 @@ use Rattle.std.proofs.Common.{◌≡◌, ℕ, ◌+◌, ◌<◌, List, [], ◌∷
 use Rattle.std.proofs.Common.{arith, length-take}
 use Rattle.std.specs.List.{flat_map}
 use Rattle.std.proofs.lemmas.List.{length-map}
+use Rattle.crash_model.specs.Report.{Detail}
 use Rattle.crash_model.specs.Disk.{Disk}
 use Rattle.crash_model.specs.declared.fault.Fault.TheVariants.{Dangling}
 use Rattle.crash_model.specs.declared.patches.Patch.{Patch}
-use Rattle.crash_model.specs.declared.settings.Detail.{Detail}
 use Rattle.decision_model.specs.Decision.{ToldDecided, decided_text, decided_json}
 use Rattle.decision_model.specs.declared.decided_fault.DecidedFault.{DecidedFault}
 use Rattle.report_sections.specs.declared.section.Section.{Section}
@@ -17,7 +17,7 @@ use Rattle.json_values.specs.Items.{comma_before}
 use Rattle.json_values.proofs.Commas.{mapped_more}
 use Rattle.decision_report.specs.Written.{WritesFaults, fault_items}
 
--- what stands where there is no fault
+-- what is written if there is no fault
 abbrev pub no_fault : DecidedFault
 no_fault = record { fault = Dangling 0 0 0; first = 0 }
 
@@ -41,7 +41,7 @@ module _ {A : Type 0} (detail : Detail) (base : Disk) (patches : List Patch) (fa
     whole = more;
   }
 
-  -- so it is where its lines stand behind those of the others
+  -- the same if its lines come after those of the others
   pub lines_more : (n : ℕ) → n ≡ length patches
       → WritesFaults detail base patches (take i faults) (flat_map (decided_text (length patches))) old so_far
       → after ≡ so_far ++ decided_text n one

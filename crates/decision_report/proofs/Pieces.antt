@@ -4,10 +4,10 @@ use Rattle.std.proofs.Common.{append_assoc}
 use Rattle.std.specs.Prelude.{if◌then◌else◌}
 use Rattle.std.specs.List.{flat_map}
 use Rattle.crash_model.specs.Disk.{Disk}
-use Rattle.crash_model.specs.Explain.{base_json, trace_json, explanation_text}
+use Rattle.crash_model.specs.Explain.{trace_json, explanation_text}
 use Rattle.crash_model.specs.Lists.{when}
 use Rattle.crash_model.specs.Report.{Section, fault_text, ids_json, json_string, module_text, replay_json, writes_json}
-use Rattle.crash_model.specs.Whole.{rules_json, told_with, told_without}
+use Rattle.crash_model.specs.Whole.{first_json, rules_json, told_with, told_without}
 use Rattle.crash_model.specs.declared.settings.Settings.{Settings}
 use Rattle.decision_model.specs.Decision.{ToldDecided, decided_text, decided_json, text_decision, json_decision}
 use Rattle.decision_model.specs.Decision.{decision_bytes, ordering_text}
@@ -25,7 +25,7 @@ in_form decision told json =
     let whole = decision_of decision told in
     if json then json_decision decision.settings.now whole else text_decision decision.settings.now whole
 
--- a decision in one form, where the settings ask for that
+-- a decision in one form, if the settings ask for that
 pub as_json : {A : Type 0} (decision : Decision A) (text : List ℕ) → decision.settings.now.json ≡ true
     → WritesDecision json_decision decision text → WritesDecision decision_bytes decision text
 as_json decision text is wrote = record {
@@ -96,7 +96,7 @@ fault_pieces n decided s before one two three after first second third fourth =
 pub json_pieces : {A : Type 0} (decision : Decision A) (n : ℕ) (told : List ToldDecided)
     (empty one two three four five six seven last : List ℕ) → n ≡ length decision.traced.now.patches → empty ≡ []
     → one ≡ empty ++ codes "{"
-    → two ≡ one ++ base_json (when decision.settings.now.explain
+    → two ≡ one ++ first_json decision.settings.now (when decision.settings.now.explain
     (explanation_by decision.base.now decision.traced.now))
     → three ≡ two ++ (codes "\"closed\":\"" ++ decimal decision.closed ++ codes "\",\"faults\":[")
     → four ≡ three ++ fault_items (length decision.traced.now.patches) told
@@ -111,7 +111,7 @@ json_pieces decision n told empty one two three four five six seven last number 
     let settings = decision.settings.now in
     let patches = length decision.traced.now.patches in
     let explained = explanation_by decision.base.now decision.traced.now in
-    let base = base_json (when settings.explain explained) in
+    let base = first_json settings (when settings.explain explained) in
     let closed = codes "\"closed\":\"" ++ decimal decision.closed ++ codes "\",\"faults\":[" in
     let items = fault_items patches told in
     let key = module_key settings.module in

@@ -1,11 +1,11 @@
 -- What is written of a decision.
 use Rattle.std.specs.Prelude.{◌≡◌, ℕ, List, ◌++◌, length, map, codes, decimal}
+use Rattle.crash_model.specs.Answer.{detail_of}
 use Rattle.crash_model.specs.Disk.{Disk}
 use Rattle.crash_model.specs.Explain.{explanation_text}
 use Rattle.crash_model.specs.Lists.{join_of, when}
-use Rattle.crash_model.specs.Report.{AreSections, line}
+use Rattle.crash_model.specs.Report.{Detail, AreSections, line}
 use Rattle.crash_model.specs.declared.patches.Patch.{Patch}
-use Rattle.crash_model.specs.declared.settings.Detail.{Detail}
 use Rattle.crash_model.specs.declared.settings.Settings.{Settings}
 use Rattle.decision_model.specs.Decision as model
 use Rattle.decision_model.specs.Decision.{ToldDecided, ordering_text, decided_json}
@@ -14,12 +14,16 @@ use Rattle.traced_patches.specs.Traced.{TracedPatches}
 use Rattle.report_sections.specs.Bodies.{AreOnBase, AreClosed, explanation_by}
 use Rattle.decision_report.specs.declared.decision.Decision.{Decision}
 
+-- what the decision tells of a set
+abbrev pub detail_by : {A : Type 0} → Decision A → Detail
+detail_by decision = detail_of decision.settings.now decision.demands.now
+
 -- what can be reported: patches of the base, and first sets that a crash can leave
 pub record CanReport {A : Type 0} (decision : Decision A) : Type 0 where
   pub on_base : AreOnBase decision.base.now decision.traced.now.patches
   pub closed : AreClosed decision.traced.now.patches (map (λ fault. fault.first) decision.faults.now)
 
--- the decision as its definition sees it, where this is told of its faults
+-- the decision as its definition sees it, if this is reported of its faults
 abbrev pub decision_of : {A : Type 0} → Decision A → List ToldDecided → model.Decision
 decision_of decision told = record {
   patches = length decision.traced.now.patches;
@@ -33,11 +37,11 @@ pub record WritesDecision {A : Type 0} (form : Settings → model.Decision → L
     (text : List ℕ) : Type 0 where
   pub told : List ToldDecided
   pub of_faults : map (λ t. t.decided) told ≡ decision.faults.now
-  pub firsts : AreSections decision.detail decision.base.now decision.traced.now.patches
+  pub firsts : AreSections (detail_by decision) decision.base.now decision.traced.now.patches
       (map (λ fault. fault.first) decision.faults.now) (map (λ t. t.first) told)
   pub whole : text ≡ form decision.settings.now (decision_of decision told)
 
--- behind what stood there the text has these faults in this form, with the sections of their first sets
+-- after its earlier contents the text has these faults in this form, with the sections of their first sets
 pub record WritesFaults (detail : Detail) (base : Disk) (patches : List Patch) (faults : List DecidedFault)
     (form : List ToldDecided → List ℕ) (old new : List ℕ) : Type 0 where
   pub told : List ToldDecided

@@ -8,12 +8,12 @@ ghost use Rattle.report_sections.specs.Bodies.{AreClosed};
 ghost use Rattle.report_sections.specs.Sections.{section_of, IsSection};
 ghost use Rattle.report_sections.specs.declared.section.Section.{Section};
 ghost use Rattle.json_values.specs.Items.{comma_before};
-ghost use Rattle.decision_report.specs.Written.{CanReport, WritesDecision, WritesFaults, fault_items};
+ghost use Rattle.decision_report.specs.Written.{detail_by, CanReport, WritesDecision, WritesFaults, fault_items};
 
 use crate::decision::Decision;
 use decision_model::DecidedFault;
 use json_values::{KnownTexts, write_comma};
-use report_json::{write_explained_base, write_from_strict, write_module};
+use report_json::{write_first_keys, write_from_strict, write_module};
 use report_sections::Section;
 use section_maker::SectionMaker;
 use std::alloc::{AllocError, Allocator, Global};
@@ -49,7 +49,7 @@ fn write_decision<A: Allocator + Copy>(
 {
     let closed = decision.closed;
     out.push_str("{")?;
-    write_explained_base(out, decision.base, decision.settings.explain)?;
+    write_first_keys(out, decision.settings, decision.base)?;
     write!(out, "\"closed\":\"{closed}\",\"faults\":[")?;
     write_faults(out, alloc, decision)?;
     out.push_str("]")?;
@@ -59,20 +59,26 @@ fn write_decision<A: Allocator + Copy>(
     Ok(())
 }
 
-/// The objects of the faults, with a comma between two. The texts of block writes serve the faults behind them.
+/// The objects of the faults, with a comma between two. The texts of block writes are reused for later faults.
 fn write_faults<A: Allocator + Copy>(
     out: &mut String,
     alloc: A,
     decision: &Decision<'_, '_, '_, A>,
 ) -> Result<(), AllocError>
     requires { CanReport decision.now }
-    ensures { OnOk result (WritesFaults decision.now.detail decision.now.base.now decision.now.traced.now.patches
+    ensures { OnOk result (WritesFaults (detail_by decision.now) decision.now.base.now decision.now.traced.now.patches
         decision.now.faults.now (fault_items (length decision.now.traced.now.patches))
         (string_bytes out.old) (string_bytes out.new)) }
 {
     let graph = decision.traced.graph();
     let mut known = KnownTexts::new(*out.allocator(), graph.len())?;
-    let mut maker = SectionMaker::new(alloc, decision.base, graph, decision.detail)?;
+    let mut maker = SectionMaker::new(
+        alloc,
+        decision.base,
+        graph,
+        decision.settings.explain,
+        decision.demands,
+    )?;
     write_each_fault(out, &mut known, &mut maker, decision.faults)
 }
 
@@ -94,7 +100,7 @@ fn write_each_fault<A: Allocator + Copy>(
     Ok(())
 }
 
-/// The object of a fault at this place of an array, with a comma before it where it is not the first.
+/// The object of a fault at this place of an array, with a comma before it if it is not the first.
 fn write_fault<A: Allocator + Copy>(
     out: &mut String,
     at: usize,
@@ -115,7 +121,8 @@ fn write_fault<A: Allocator + Copy>(
     push_decided(out, known, decided, &section)
 }
 
-/// The object of a fault, and of the first set that has it, which the section tells. It fails only when out of memory.
+/// The object of a fault, and of the first set that has it, which the section describes. It fails only when out of
+/// memory.
 pub fn push_decided<A: Allocator>(
     out: &mut String,
     known: &mut KnownTexts,

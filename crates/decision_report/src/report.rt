@@ -9,7 +9,7 @@ use crate::json::decision_json;
 use crate::text::decision_text;
 use std::alloc::{AllocError, Allocator, Global};
 
-/// A decision as text, or as JSON where the settings ask for that.
+/// A decision as text, or as JSON if the settings ask for that.
 ///
 /// The patches change blocks of the base, and a crash can leave each of the first sets. JSON takes its memory from
 /// `heap`, and all else from `alloc`. It fails only when out of memory.

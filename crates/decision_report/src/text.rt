@@ -7,7 +7,7 @@ ghost use Rattle.crash_model.specs.Patches.{deps_of};
 ghost use Rattle.decision_model.specs.Decision.{decided_text, text_decision};
 ghost use Rattle.report_sections.specs.Sections.{section_of, IsSection};
 ghost use Rattle.report_sections.specs.declared.section.Section.{Section};
-ghost use Rattle.decision_report.specs.Written.{CanReport, WritesDecision, WritesFaults, head_lines};
+ghost use Rattle.decision_report.specs.Written.{detail_by, CanReport, WritesDecision, WritesFaults, head_lines};
 
 use crate::decision::Decision;
 use crash_model::settings::Settings;
@@ -20,7 +20,7 @@ use std::alloc::{AllocError, Allocator};
 use traced_patches::Traced;
 
 /// A decision as text: the lines of the ordering, the numbers of patches and of closed sets, for each patch its lines
-/// where that is asked for, and for each fault its line with those of the smallest crash that leaves it.
+/// if that is asked for, and for each fault its line with those of the smallest crash that leaves it.
 ///
 /// The patches change blocks of the base, and a crash can leave each of the first sets. It fails only when out of
 /// memory.
@@ -43,7 +43,7 @@ pub fn decision_text<A: Allocator + Copy>(
 }
 
 /// The lines before the first fault: those of the ordering, the numbers of patches and of closed sets, and those of
-/// each patch where that is asked for. It fails only when out of memory.
+/// each patch if that is asked for. It fails only when out of memory.
 ///
 /// They are the same over each base.
 pub fn write_head<A: Allocator + Copy>(
@@ -68,12 +68,18 @@ fn write_faults<A: Allocator + Copy>(
     decision: &Decision<'_, '_, '_, A>,
 ) -> Result<(), AllocError>
     requires { CanReport decision.now }
-    ensures { OnOk result (WritesFaults decision.now.detail decision.now.base.now decision.now.traced.now.patches
+    ensures { OnOk result (WritesFaults (detail_by decision.now) decision.now.base.now decision.now.traced.now.patches
         decision.now.faults.now (flat_map (decided_text (length decision.now.traced.now.patches)))
         (string_bytes out.old) (string_bytes out.new)) }
 {
     let graph = decision.traced.graph();
-    let mut maker = SectionMaker::new(*out.allocator(), decision.base, graph, decision.detail)?;
+    let mut maker = SectionMaker::new(
+        *out.allocator(),
+        decision.base,
+        graph,
+        decision.settings.explain,
+        decision.demands,
+    )?;
     for decided in decision.faults {
         write_fault(out, &mut maker, graph.len(), *decided)?;
     }
@@ -98,7 +104,7 @@ fn write_fault<A: Allocator + Copy>(
     write_decided(out, patches, decided, &section)
 }
 
-/// The line of a fault, and those of the first set that has it, which the section tells. The graph has `patches`
+/// The line of a fault, and those of the first set that has it, which the section describes. The graph has `patches`
 /// patches. It fails only when out of memory.
 pub fn write_decided<A: Allocator + Copy>(
     out: &mut String<A>,

@@ -20,7 +20,7 @@ impl Source for &[u8] {
     }
 }
 
-/// A sink that keeps its bytes in memory. It fails where memory is refused.
+/// A sink that keeps its bytes in memory. It fails if memory is refused.
 #[derive(Drop)]
 pub struct Taken<A: Allocator> {
     pub bytes: Vec<u8, A>,

@@ -8,7 +8,7 @@ use crate::source::DeviceFault;
 
 /// Where bytes go, one write after another.
 pub trait Sink {
-    /// The bytes taken so far, where they are known.
+    /// The bytes taken so far, if they are known.
     ghost taken: { Self → Option (List ℕ) };
 
     /// How many calls have failed.
@@ -23,7 +23,7 @@ pub trait Sink {
         ensures bytes { WriteAppends (taken self.old) (taken self.new) result from.now }
         ensures counted { Counts result (failures self.old) (failures self.new) };
 
-    /// Brings what was taken to where it belongs. A failure counts as one, and what was taken stays taken.
+    /// Flushes what was taken. A failure counts as one, and what was taken stays taken.
     fn finish(&mut self) -> Result<(), DeviceFault>
         requires { failures self.old < 2 ^ 64 - 1 }
         ensures bytes { Keeps (taken self.old) (taken self.new) }
@@ -32,7 +32,7 @@ pub trait Sink {
 
 /// Writes all of the text, and finishes.
 ///
-/// Where a call fails, the sink took a beginning of the text, and no further call is made.
+/// If a call fails, the sink took a beginning of the text, and no further call is made.
 pub fn write_all<S: Sink>(sink: &mut S, text: &[u8]) -> Result<(), DeviceFault>
     requires { S.failures sink.old < 2 ^ 64 - 1 }
     ensures taken { OnOk result (Appends (S.taken sink.old) (S.taken sink.new) text.now) }

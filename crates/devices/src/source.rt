@@ -18,7 +18,7 @@ pub const MAX_SCRIPT_BYTES: usize = 1_048_576;
 
 /// Bytes that come one read after another.
 pub trait Source {
-    /// The bytes still to come, where they are known.
+    /// The bytes still to come, if they are known.
     ghost coming: { Self → Option (List ℕ) };
 
     /// How many reads have failed.
@@ -36,8 +36,8 @@ pub trait Source {
 
 /// Reads a source to its end, or until it has given one byte more than a script may have.
 ///
-/// A script that is too long is refused as that, a failed read as unreadable; else memory was wanting. What was read
-/// is gone from the source.
+/// A script that is too long and a failed read each get their own refusal; otherwise memory ran out. What was read is
+/// gone from the source.
 pub fn read_to_end<A: Allocator + Copy, S: Source>(
     alloc: A,
     source: &mut S,

@@ -8,8 +8,8 @@ use std::io::{Read, Write};
 
 /// A reader or a writer of std with the number of its failures.
 ///
-/// An error of std is a failure, whatever its kind, and so is a write that takes nothing. A failed call is not tried
-/// again.
+/// An error of std is a failure, whatever its kind. A write that takes nothing is a failure too. A failed call is not
+/// tried again.
 #[derive(Drop)]
 pub struct Counted<D> {
     pub device: D,

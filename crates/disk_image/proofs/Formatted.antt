@@ -88,7 +88,7 @@ after2 n j p good above =
     (omega (arith, length-replicate {A = ℕ} (128 * n) 0)) (inr (omega arith))
     ∙ zeros (128 * n) p
 
--- from behind inode 0's first pointer on, all bytes but the root block's mark are 0
+-- after inode 0's first pointer, all bytes but the root block's mark are 0
 zero-byte : (n j p : ℕ) → IsGeometry n j → 261 ≤ p → (p < 128 * (4 + j)) ⊎ (128 * (4 + j) + 2 ≤ p)
     → get_or (bytes4 n j) p 0 ≡ 0
 zero-byte n j p good from away = after4 n j p good away ∙ after3 n j p good (inr from)

@@ -1,4 +1,4 @@
-//! The disk that a format leaves, and why there is none.
+//! The disk that a format leaves, or why there is none.
 
 ghost use Rattle.std.specs.Prelude.{◌≡◌, ◌≤◌, ◌↔◌, IfOk, IsErrOf, OnOk, replicate};
 ghost use Rattle.crash_model.specs.Disk.{with_bytes, empty_disk, IsGeometry};

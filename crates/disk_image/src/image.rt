@@ -2,6 +2,7 @@
 
 ghost use Rattle.std.specs.Prelude.{◌≡◌, ℕ, ◌+◌, ◌*◌, ◌<◌, ◌≤◌, length, take, drop, IfOk};
 ghost use Rattle.crash_model.specs.Disk.{Disk, IsDisk, byte, block_of, overwrite, with_bytes};
+ghost use Rattle.crash_model.specs.Atomic.{is_same_disk};
 
 use std::alloc::{AllocError, Allocator};
 use std::marker::Model;
@@ -95,6 +96,15 @@ impl<A: Allocator + Copy> Image<A> {
     {
         self.journal = from.journal;
         self.bytes.copy_from_slice(from.bytes.as_slice());
+    }
+
+    /// Whether another image has the same numbers of blocks and the same bytes.
+    pub fn is_same(&self, other: &Image<A>) -> bool
+        ensures { result ≡ is_same_disk self.now other.now }
+    {
+        self.blocks == other.blocks
+            && self.journal == other.journal
+            && self.bytes.as_slice() == other.bytes.as_slice()
     }
 
     /// The same image in memory of its own.

@@ -53,7 +53,7 @@ impl<A: Allocator + Copy> Image<A> {
         4 + self.journal <= block as usize && (block as usize) < self.blocks
     }
 
-    /// The allocation map's byte for a block: 0 where it is free.
+    /// The allocation map's byte for a block: 0 if it is free.
     pub fn map(&self, block: u8) -> u8
         requires { block < self.now.blocks }
         ensures { result ≡ map_of self.now block }
@@ -73,7 +73,7 @@ impl<A: Allocator + Copy> Image<A> {
             && self.byte(block as usize, 1) == dir
     }
 
-    /// Byte 0 of entry `k` of a directory that counts: 0 where it is free, else its inode's number + 1.
+    /// Byte 0 of entry `k` of a directory that counts: 0 if it is free, else its inode's number + 1.
     pub fn entry(&self, dir: u8, k: u8) -> u8
         requires dir { dir < 16 }
         requires k { k < 10 }

@@ -4,9 +4,11 @@
 //! of those bytes is defined in the crate `crash_model`, in `specs/Disk.antt` and `specs/Layout.antt`.
 #![tactic(auto)]
 
+mod demands;
 mod format;
 mod image;
 mod layout;
 
+pub use demands::Demands;
 pub use format::ImageFault;
 pub use image::Image;

@@ -1,7 +1,8 @@
 -- What is said of rules in one state of tracing is said in each with the same patches and links.
-use Rattle.std.proofs.Common.{◌≡◌, ℕ, List, Bool, Option, map, refl, subst, sym, ap, ◌∙◌}
+use Rattle.std.proofs.Common.{◌≡◌, ℕ, List, Bool, map, refl, subst, sym, ap, ◌∙◌}
 use Rattle.std.specs.Prelude.{◌↔◌, IsTrue, slice_get, slice_index}
 use Rattle.patch_sets.specs.Sets.{Has}
+use Rattle.crash_model.specs.Checker.{Demands}
 use Rattle.crash_model.specs.Disk.{Disk}
 use Rattle.crash_model.specs.Patches.{deps_of}
 use Rattle.crash_model.specs.Trace.{Emitted, Tracing, IsGraphOf, depends}
@@ -14,7 +15,7 @@ use Rattle.traced_patches.specs.Traced.{TracedPatches}
 pub one_tracing : (base : Disk) (t : TracedPatches) → IsTracingOf t (tracing_of base t)
 one_tracing base t = record { emitted = refl; links = refl; whole = refl }
 
-module _ (kept : Option ℕ) (base : Disk) (t : TracedPatches) where
+module _ (demands : Demands) (base : Disk) (t : TracedPatches) where
   -- the patches by some rules are those of each state
   same_graph : (s other : Tracing) (rules : List Rule) (patches : List Patch) → IsTracingOf t s → IsTracingOf t other
       → IsGraphOf rules base s patches → IsGraphOf rules base other patches
@@ -37,17 +38,17 @@ module _ (kept : Option ℕ) (base : Disk) (t : TracedPatches) where
 
   -- so rules that are enough are enough in each
   pub same_enough : (s other : Tracing) (rules : List Rule) → IsTracingOf t s → IsTracingOf t other
-      → AreEnough kept base s rules → AreEnough kept base other rules
+      → AreEnough demands base s rules → AreEnough demands base other rules
   same_enough s other rules of_s of_other enough =
       (enough.0, same_graph s other rules enough.0 of_s of_other enough.1, enough.2)
 
   pub minimal_in_each : (s other : Tracing) (rules : List Rule) → IsTracingOf t s → IsTracingOf t other → (set : ℕ)
-      → IsMinimalEnough kept base s rules set ↔ IsMinimalEnough kept base other rules set
+      → IsMinimalEnough demands base s rules set ↔ IsMinimalEnough demands base other rules set
   minimal_in_each s other rules of_s of_other set =
       (to s other of_s of_other, to other s of_other of_s)
     where
-      to : (a b : Tracing) → IsTracingOf t a → IsTracingOf t b → IsMinimalEnough kept base a rules set
-          → IsMinimalEnough kept base b rules set
+      to : (a b : Tracing) → IsTracingOf t a → IsTracingOf t b → IsMinimalEnough demands base a rules set
+          → IsMinimalEnough demands base b rules set
       to a b of_a of_b is = record {
         places = is.places;
         enough = same_enough a b (rules_in rules set) of_a of_b is.enough;
@@ -56,12 +57,12 @@ module _ (kept : Option ℕ) (base : Disk) (t : TracedPatches) where
       }
 
   pub needed_in_each : (s other : Tracing) (rules : List Rule) → IsTracingOf t s → IsTracingOf t other → (group : ℕ)
-      → IsNeeded kept base s rules group ↔ IsNeeded kept base other rules group
+      → IsNeeded demands base s rules group ↔ IsNeeded demands base other rules group
   needed_in_each s other rules of_s of_other group =
       (to s other of_s of_other, to other s of_other of_s)
     where
-      to : (a b : Tracing) → IsTracingOf t a → IsTracingOf t b → IsNeeded kept base a rules group
-          → IsNeeded kept base b rules group
+      to : (a b : Tracing) → IsTracingOf t a → IsTracingOf t b → IsNeeded demands base a rules group
+          → IsNeeded demands base b rules group
       to a b of_a of_b is = record {
         places = is.places;
         some = is.some;

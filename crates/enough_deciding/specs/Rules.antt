@@ -1,5 +1,6 @@
 -- What is decided of some rules of a trace's ordering.
-use Rattle.std.specs.Prelude.{◌≡◌, ℕ, List, Option}
+use Rattle.std.specs.Prelude.{◌≡◌, List, Option}
+use Rattle.crash_model.specs.Checker.{Demands}
 use Rattle.crash_model.specs.Disk.{Disk}
 use Rattle.crash_model.specs.Needs.{HasGraphBy}
 use Rattle.crash_model.specs.Summary.{HasFault}
@@ -24,7 +25,7 @@ tracing_of base t = record (trace_start t.whole base) { emitted = t.emitted; lin
 abbrev pub IsGraphBy : List Rule → Disk → TracedPatches → List Patch → Type 0
 IsGraphBy rules base t patches = (s : Tracing) → IsTracingOf t s → IsGraphOf rules base s patches
 
--- the first fault of the patches by these rules, where there is one
-abbrev pub IsFirstBy : Option ℕ → Disk → TracedPatches → List Rule → Option DecidedFault → Type 0
-IsFirstBy kept base t rules found =
-    HasGraphBy rules base (tracing_of base t) (λ patches. IsFirstFault (HasFault kept base patches) found)
+-- the first fault of the patches by these rules, if there is one
+abbrev pub IsFirstBy : Demands → Disk → TracedPatches → List Rule → Option DecidedFault → Type 0
+IsFirstBy demands base t rules found =
+    HasGraphBy rules base (tracing_of base t) (λ patches. IsFirstFault (HasFault demands base patches) found)

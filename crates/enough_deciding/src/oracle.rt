@@ -9,7 +9,7 @@ ghost use Rattle.enough_deciding.specs.Rules.{IsFirstBy, IsGraphBy, IsTracingOf}
 
 use chosen_rules::{all_rules, excluding_rules, rules_in};
 use decision_model::DecidedFault;
-use disk_image::Image;
+use disk_image::{Demands, Image};
 use enough_rules::{EnoughSets, Oracle, enough_sets};
 use fault_deciding::Decider;
 use order_modules::graph_by;
@@ -18,15 +18,14 @@ use patch_sets::ends::difference;
 use std::alloc::{AllocError, Allocator};
 use traced_patches::Traced;
 
-/// The rules of a trace's ordering, some of which may be enough. The patches change blocks of the base.
-///
-/// Where `kept` is given, the checker is strict, and these are the inodes that the script keeps.
+/// The rules of a trace's ordering, some of which may be enough, by what is demanded of the images that a crash leaves.
+/// The patches change blocks of the base.
 #[derive(Drop)]
 pub struct RuleOracle<'a, A: Allocator + Copy> {
     pub alloc: A,
     pub base: &'a Image<A>,
     pub traced: &'a Traced<'a, A>,
-    pub kept: Option<u16>,
+    pub demands: &'a Demands<A>,
     ghost fits: { All (λ patch. patch.block < base.now.blocks) traced.now.patches },
 }
 
@@ -46,20 +45,20 @@ impl<A: Allocator + Copy> RuleOracle<'_, A> {
     /// canonical order. It fails only when out of memory.
     pub fn enough_sets(&self) -> Result<EnoughSets<A>, AllocError>
         ensures enough { IfOk result (λ found. (s : Tracing) → IsTracingOf self.now.traced.now s
-            → AreAllInOrder (IsMinimalEnough self.now.kept self.now.base.now s self.now.traced.now.rules)
+            → AreAllInOrder (IsMinimalEnough self.now.demands.now self.now.base.now s self.now.traced.now.rules)
             found.enough.items) }
         ensures needed { IfOk result (λ found. (s : Tracing) → IsTracingOf self.now.traced.now s
-            → AreAllInOrder (IsNeeded self.now.kept self.now.base.now s self.now.traced.now.rules)
+            → AreAllInOrder (IsNeeded self.now.demands.now self.now.base.now s self.now.traced.now.rules)
             found.needed.items) }
     {
         let found = enough_sets(self.alloc, self)?;
         Ok(found)
     }
 
-    /// The first fault that a crash can leave under the rules of a set, with the first set that has it, or `None` where
+    /// The first fault that a crash can leave under the rules of a set, with the first set that has it, or `None` if
     /// the rules are enough. It fails only when out of memory.
     fn first_fault(&self, set: u128) -> Result<Option<DecidedFault>, AllocError>
-        ensures { IfOk result (IsFirstBy self.now.kept self.now.base.now self.now.traced.now
+        ensures { IfOk result (IsFirstBy self.now.demands.now self.now.base.now self.now.traced.now
             (rules_in self.now.traced.now.rules set)) }
     {
         let graph = self.graph_with(set)?;
@@ -67,7 +66,7 @@ impl<A: Allocator + Copy> RuleOracle<'_, A> {
             alloc: self.alloc,
             base: self.base,
             graph: &graph,
-            kept: self.kept,
+            demands: self.demands,
         };
         let found = decider.first_fault()?;
         Ok(found)
@@ -91,7 +90,8 @@ impl<A: Allocator + Copy> Oracle for RuleOracle<'_, A> {
 
     ghost all = { λ o. all_of o.traced.now.rules };
 
-    ghost is_enough = { λ o. EnoughOf o.kept o.base.now (tracing_of o.base.now o.traced.now) o.traced.now.rules };
+    ghost is_enough = { λ o.
+        EnoughOf o.demands.now o.base.now (tracing_of o.base.now o.traced.now) o.traced.now.rules };
 
     fn blocking(&self, set: u128) -> Result<Option<u128>, AllocError> {
         match self.first_fault(set)? {

@@ -1,11 +1,11 @@
 -- Which rules of an ordering a trace needs, and which sets of them suffice. A set of rules is the set of their places in
 -- the ordering's list.
-use Rattle.std.specs.Prelude.{◌≢◌, ℕ, ◌<◌, List, length, Bool, not, if◌then◌else◌, Option, None, slice_get}
+use Rattle.std.specs.Prelude.{◌≢◌, ℕ, ◌<◌, List, length, Bool, not, if◌then◌else◌, None, slice_get}
 use Rattle.patch_sets.specs.Sets.{Has, has, IsSubset}
 use Rattle.crash_model.specs.Disk.{Disk}
 use Rattle.crash_model.specs.Lists.{some_below}
 use Rattle.crash_model.specs.Needs.{HasGraphBy}
-use Rattle.crash_model.specs.Strict.{IsFailingUnder}
+use Rattle.crash_model.specs.Checker.{Demands, IsFailingUnder}
 use Rattle.crash_model.specs.Trace.{Tracing}
 use Rattle.crash_model.specs.declared.rules.Rule.{Rule}
 
@@ -40,19 +40,20 @@ pub record IsNeededFor (IsEnough : List Rule → Type 0) (rules : List Rule) (gr
   pub minimal : (part : ℕ) → IsSubset part group → part ≢ group → IsEnough (rules_but rules part)
 
 -- these rules are enough: no closed set of the patches by them fails
-abbrev pub AreEnough : Option ℕ → Disk → Tracing → List Rule → Type 0
-AreEnough kept base s rules = HasGraphBy rules base s (λ patches. (set : ℕ) → ¬ (IsFailingUnder kept base patches set))
+abbrev pub AreEnough : Demands → Disk → Tracing → List Rule → Type 0
+AreEnough demands base s rules =
+    HasGraphBy rules base s (λ patches. (set : ℕ) → ¬ (IsFailingUnder demands base patches set))
 
 -- a minimal set of rules that are enough: those of no smaller part are
-pub record IsMinimalEnough (kept : Option ℕ) (base : Disk) (s : Tracing) (rules : List Rule) (set : ℕ) : Type 0 where
+pub record IsMinimalEnough (demands : Demands) (base : Disk) (s : Tracing) (rules : List Rule) (set : ℕ) : Type 0 where
   pub places : ArePlaces rules set
-  pub enough : AreEnough kept base s (rules_in rules set)
-  pub minimal : (part : ℕ) → IsSubset part set → part ≢ set → ¬ (AreEnough kept base s (rules_in rules part))
+  pub enough : AreEnough demands base s (rules_in rules set)
+  pub minimal : (part : ℕ) → IsSubset part set → part ≢ set → ¬ (AreEnough demands base s (rules_in rules part))
 
 -- a minimal group of rules of which one is needed: all rules but the group are not enough, and all but a smaller part of
 -- it are
-pub record IsNeeded (kept : Option ℕ) (base : Disk) (s : Tracing) (rules : List Rule) (group : ℕ) : Type 0 where
+pub record IsNeeded (demands : Demands) (base : Disk) (s : Tracing) (rules : List Rule) (group : ℕ) : Type 0 where
   pub places : ArePlaces rules group
   pub some : group ≢ 0
-  pub needed : ¬ (AreEnough kept base s (rules_but rules group))
-  pub minimal : (part : ℕ) → IsSubset part group → part ≢ group → AreEnough kept base s (rules_but rules part)
+  pub needed : ¬ (AreEnough demands base s (rules_but rules group))
+  pub minimal : (part : ℕ) → IsSubset part group → part ≢ group → AreEnough demands base s (rules_but rules part)

@@ -5,21 +5,20 @@ use Rattle.std.specs.List.{All}
 use Rattle.patch_sets.specs.Sets.{AreAllInOrder}
 use Rattle.crash_model.specs.Answer.{HasGraph, detail_of, ordering_rules}
 use Rattle.crash_model.specs.Disk.{Disk}
-use Rattle.crash_model.specs.Explain.{Explanation, explanation, explanation_text, base_json, trace_json}
+use Rattle.crash_model.specs.Explain.{Explanation, explanation, explanation_text, trace_json}
 use Rattle.crash_model.specs.Lists.{when}
 use Rattle.crash_model.specs.Needs.{HasGraphBy}
 use Rattle.crash_model.specs.Patches.{CountsClosed}
-use Rattle.crash_model.specs.Report.{AreSections, IsLed, fault_text, module_text, line, json_string, json_array}
+use Rattle.crash_model.specs.Report.{Detail, AreSections, IsLed, fault_text, module_text, line, json_string, json_array}
 use Rattle.crash_model.specs.Report.{ids_json, replay_json, writes_json}
 use Rattle.crash_model.specs.Rules.{rule_text}
-use Rattle.crash_model.specs.Strict.{IsToldKept}
+use Rattle.crash_model.specs.Checker.{Demands, AreDemands}
 use Rattle.crash_model.specs.Summary.{HasFault, IsFaultBefore, IsFirst}
 use Rattle.crash_model.specs.Trace.{Tracing}
-use Rattle.crash_model.specs.Whole.{told_without, told_with, rules_json}
+use Rattle.crash_model.specs.Whole.{told_without, told_with, first_json, rules_json}
 use Rattle.crash_model.specs.declared.fault.Fault.{Fault}
 use Rattle.crash_model.specs.declared.patches.Patch.{Patch}
 use Rattle.crash_model.specs.declared.rules.Rule.{Rule}
-use Rattle.crash_model.specs.declared.settings.Detail.{Detail}
 use Rattle.crash_model.specs.declared.settings.Settings.{Settings}
 use Rattle.decision_model.specs.Decision.{ToldDecided, ordering_text, decided_text, decided_json}
 use Rattle.decision_model.specs.declared.decided_fault.DecidedFault.{DecidedFault}
@@ -32,15 +31,15 @@ pub record IsFirstFault (has : Fault → ℕ → Type 0) (f : DecidedFault) : Ty
   pub first : IsFirst (has f.fault) f.first
   pub before : (other : Fault) (set : ℕ) → has other set → other ≢ f.fault → IsFaultBefore f.fault other
 
--- what a decision on the patches tells first
+-- the first thing that a decision on the patches reports
 pub record IsToldFirst (detail : Detail) (base : Disk) (patches : List Patch) (told : ToldDecided) : Type 0 where
-  pub fault : IsFirstFault (HasFault detail.kept base patches) told.decided
+  pub fault : IsFirstFault (HasFault detail.demands base patches) told.decided
   pub section : AreSections detail base patches (told.decided.first ∷ []) (told.first ∷ [])
   pub led : IsLed patches told.first
 
--- the same where there is a fault, and else nothing
+-- the same if there is a fault, otherwise nothing
 abbrev pub IsToldAny : Detail → Disk → List Patch → Option ToldDecided → Type 0
-IsToldAny detail base patches None = (fault : Fault) (set : ℕ) → ¬ (HasFault detail.kept base patches fault set)
+IsToldAny detail base patches None = (fault : Fault) (set : ℕ) → ¬ (HasFault detail.demands base patches fault set)
 IsToldAny detail base patches (Some told) = IsToldFirst detail base patches told
 
 -- what is reported of a group of rules of which one is needed: the group, and the first fault of all rules but these
@@ -53,7 +52,7 @@ abbrev pub IsToldGroup : Detail → List Rule → Disk → Tracing → ToldGroup
 IsToldGroup detail rules base s told =
     HasGraphBy (rules_but rules told.group) base s (λ patches. IsToldFirst detail base patches told.fault)
 
--- how many patches and closed sets there are, and what the patches are where that is asked for; the minimal sets of
+-- how many patches and closed sets there are, and what the patches are if that is asked for; the minimal sets of
 -- rules that are enough, the minimal groups of which one is needed, and the first fault of all rules
 pub record RulesReport : Type 0 where
   pub patches : ℕ
@@ -65,7 +64,7 @@ pub record RulesReport : Type 0 where
 
 -- ---- text; patches are n in all
 
--- the word, and each rule of the set behind a space
+-- the word, then a space and a rule for each rule of the set
 abbrev pub rules_text : List Rule → List ℕ → ℕ → List ℕ
 rules_text rules word set =
     line (word ++ flat_map (λ rule. codes " " ++ rule_text rule) (rules_in rules set))
@@ -98,7 +97,7 @@ group_json rules n told =
     ++ codes ",\"set\":" ++ ids_json n told.fault.first.set
     ++ codes ",\"writes\":" ++ writes_json n told.fault.first.writes ++ codes "}"
 
--- a key with the fault, where there is one
+-- a key with the fault, if there is one
 abbrev pub first_fault_json : ℕ → Option ToldDecided → List ℕ
 first_fault_json n None = []
 first_fault_json n (Some told) = codes ",\"first\":" ++ decided_json n told
@@ -107,7 +106,7 @@ first_fault_json n (Some told) = codes ",\"first\":" ++ decided_json n told
 unfoldable pub json_rules_report : Settings → RulesReport → List ℕ
 json_rules_report settings r =
     let rules = ordering_rules settings in
-    codes "{" ++ base_json r.explanation
+    codes "{" ++ first_json settings r.explanation
     ++ codes "\"closed\":" ++ json_string (decimal r.closed)
     ++ codes ",\"enough\":" ++ json_array (map (set_json rules) r.enough)
     ++ first_fault_json r.patches r.first
@@ -128,18 +127,18 @@ rules_report_bytes settings r = if settings.json then json_rules_report settings
 -- ---- the answer
 
 -- the report on a graph: exactly the minimal sets of rules that are enough, and exactly the minimal groups of which one
--- is needed; `number` is 1 where the whole ordering is not enough, and else 0
-pub record IsEnoughReport (settings : Settings) (kept : Option ℕ) (base : Disk) (last : Tracing) (patches : List Patch)
-    (text : List ℕ) (number : ℕ) : Type 0 where
+-- is needed; `number` is 1 if the whole ordering is not enough, otherwise 0
+pub record IsEnoughReport (settings : Settings) (demands : Demands) (base : Disk) (last : Tracing)
+    (patches : List Patch) (text : List ℕ) (number : ℕ) : Type 0 where
   pub total : ℕ
   pub counted : CountsClosed patches total
   pub enough : List ℕ
-  pub exactly : AreAllInOrder (IsMinimalEnough kept base last (ordering_rules settings)) enough
+  pub exactly : AreAllInOrder (IsMinimalEnough demands base last (ordering_rules settings)) enough
   pub needs : List ToldGroup
-  pub needed : AreAllInOrder (IsNeeded kept base last (ordering_rules settings)) (map (λ t. t.group) needs)
-  pub told : All (IsToldGroup (detail_of settings kept) (ordering_rules settings) base last) needs
+  pub needed : AreAllInOrder (IsNeeded demands base last (ordering_rules settings)) (map (λ t. t.group) needs)
+  pub told : All (IsToldGroup (detail_of settings demands) (ordering_rules settings) base last) needs
   pub first : Option ToldDecided
-  pub any : IsToldAny (detail_of settings kept) base patches first
+  pub any : IsToldAny (detail_of settings demands) base patches first
   pub number_of : number ≡ length (option_to_list first)
   pub whole : text ≡ rules_report_bytes settings (record {
     patches = length patches;
@@ -152,10 +151,10 @@ pub record IsEnoughReport (settings : Settings) (kept : Option ℕ) (base : Disk
 
 -- the report on the rules that a script needs
 pub record IsEnoughAnswer (bytes : List ℕ) (settings : Settings) (text : List ℕ) (number : ℕ) : Type 0 where
-  pub kept : Option ℕ
+  pub demands : Demands
   pub base : Disk
   pub last : Tracing
   pub patches : List Patch
   pub graph : HasGraph bytes settings base last patches
-  pub told : IsToldKept settings.strict base graph.steps kept
-  pub report : IsEnoughReport settings kept base last patches text number
+  pub told : AreDemands settings.strict settings.atomic base graph.steps demands
+  pub report : IsEnoughReport settings demands base last patches text number

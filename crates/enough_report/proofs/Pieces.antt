@@ -6,10 +6,10 @@ use Rattle.std.specs.List.{flat_map}
 use Rattle.std.proofs.lemmas.List.Folds.{flat_map-map}
 use Rattle.std.proofs.lemmas.Simd.{map-map}
 use Rattle.crash_model.specs.Answer.{ordering_rules}
-use Rattle.crash_model.specs.Explain.{base_json, trace_json}
+use Rattle.crash_model.specs.Explain.{trace_json}
 use Rattle.crash_model.specs.Lists.{join_of, when}
 use Rattle.crash_model.specs.Report.{fault_text, ids_json, json_string, line, module_text, replay_json, writes_json}
-use Rattle.crash_model.specs.Whole.{rules_json, told_with, told_without}
+use Rattle.crash_model.specs.Whole.{first_json, rules_json, told_with, told_without}
 use Rattle.crash_model.specs.declared.rules.Rule.{Rule}
 use Rattle.decision_model.specs.Decision.{ToldDecided, decided_text}
 use Rattle.decision_report.specs.Written.{head_lines}
@@ -28,7 +28,7 @@ in_form found json =
     if json then json_rules_report found.settings.now (report_of found)
     else text_rules_report found.settings.now (report_of found)
 
--- a report in one form, where the settings ask for that
+-- a report in one form, if the settings ask for that
 pub as_json : {A : Type 0} (found : EnoughFindings A) → found.settings.now.json ≡ true
     → json_rules_report found.settings.now (report_of found) ≡ rules_report_bytes found.settings.now (report_of found)
 as_json found is = ap (in_form found) (sym is)
@@ -122,7 +122,8 @@ pub json_pieces : {A : Type 0} (found : EnoughFindings A) (rules : List Rule) (n
     → rules ≡ ordering_rules found.settings.now
     → n ≡ length found.traced.now.patches → k ≡ length found.traced.now.patches → m ≡ length found.traced.now.patches
     → empty ≡ [] → one ≡ empty ++ codes "{"
-    → two ≡ one ++ base_json (when found.settings.now.explain (explanation_by found.base.now found.traced.now))
+    → two ≡ one ++ first_json found.settings.now
+    (when found.settings.now.explain (explanation_by found.base.now found.traced.now))
     → three ≡ two ++ (codes "\"closed\":\"" ++ decimal found.closed ++ codes "\",\"enough\":[")
     → four ≡ three ++ set_items rules found.enough.now
     → five ≡ four ++ codes "]"
@@ -141,7 +142,7 @@ json_pieces {A = A} found rules n k m empty one two three four five six seven ei
     let patches = length found.traced.now.patches in
     let all = ordering_rules settings in
     let explained = explanation_by found.base.now found.traced.now in
-    let base = base_json (when settings.explain explained) in
+    let base = first_json settings (when settings.explain explained) in
     let closed = codes "\"closed\":\"" ++ decimal found.closed ++ codes "\",\"enough\":[" in
     let sets = set_items all found.enough.now in
     let fault = first_fault_json patches (option_map told_first found.first.now) in

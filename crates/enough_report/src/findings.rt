@@ -24,7 +24,7 @@ pub struct NeededGroup<A: Allocator> {
 /// What is found of the rules that a script needs: the image that the traced steps began on, their patches, the number
 /// of closed sets, the minimal sets of rules that are enough, and the minimal groups of which one is needed.
 ///
-/// `first` is the first fault that a crash can leave under all rules, where they are not enough.
+/// `first` is the first fault that a crash can leave under all rules, if they are not enough.
 #[derive(Drop)]
 pub struct EnoughFindings<'found, 'steps, 'asked, A: Allocator + Copy> {
     pub base: &'steps Image<A>,

@@ -11,7 +11,7 @@ use chosen_rules::rules_in;
 use crash_model::orderings::Ordering;
 use decision_report::push_decided;
 use json_values::{KnownTexts, push_replay, write_comma};
-use report_json::{write_explained_base, write_from_strict, write_module_key, write_rule_texts};
+use report_json::{write_first_keys, write_from_strict, write_module_key, write_rule_texts};
 use std::alloc::{AllocError, Allocator, Global};
 
 /// A report of the rules that a script needs as JSON: one compact object, its keys in ascending order, and a line feed.
@@ -44,7 +44,7 @@ fn write_findings<A: Allocator + Copy>(
     let (closed, patches) = (found.closed, found.traced.graph().len());
     let mut known = KnownTexts::new(*out.allocator(), patches)?;
     out.push_str("{")?;
-    write_explained_base(out, found.base, found.settings.explain)?;
+    write_first_keys(out, found.settings, found.base)?;
     write!(out, "\"closed\":\"{closed}\",\"enough\":[")?;
     write_sets(out, ordering, found.enough)?;
     out.push_str("]")?;
@@ -82,7 +82,7 @@ fn write_set(out: &mut String, ordering: &Ordering, set: u128) -> Result<(), All
     Ok(())
 }
 
-/// The key of the first fault of all rules with a comma before it, where there is one.
+/// The key of the first fault of all rules with a comma before it, if there is one.
 fn write_first<A: Allocator>(
     out: &mut String,
     known: &mut KnownTexts,

@@ -9,7 +9,7 @@ use crate::json::enough_json;
 use crate::text::enough_text;
 use std::alloc::{AllocError, Allocator, Global};
 
-/// A report of the rules that a script needs as text, or as JSON where the settings ask for that.
+/// A report of the rules that a script needs as text, or as JSON if the settings ask for that.
 ///
 /// JSON takes its memory from `heap`, and all else from `alloc`. It fails only when out of memory.
 pub fn enough_report<A: Allocator + Copy>(

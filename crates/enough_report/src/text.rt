@@ -19,8 +19,7 @@ use std::alloc::{AllocError, Allocator};
 /// enough with a line for each, and for each minimal group of which one is needed its line and those of the crash that
 /// comes without it.
 ///
-/// Where the whole ordering is not enough, the lines of its first fault follow the head. It fails only when out of
-/// memory.
+/// If the whole ordering is not enough, the lines of its first fault follow the head. It fails only when out of memory.
 pub fn enough_text<A: Allocator + Copy>(
     alloc: A,
     found: &EnoughFindings<'_, '_, '_, A>,
@@ -127,7 +126,7 @@ fn write_group<A: Allocator + Copy>(
     write_decided(out, patches, needed.fault.decided, &needed.fault.section)
 }
 
-/// The lines of the first fault of all rules, where there is one.
+/// The lines of the first fault of all rules, if there is one.
 fn write_first<A: Allocator + Copy>(
     out: &mut String<A>,
     patches: usize,

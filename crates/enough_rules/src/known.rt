@@ -6,7 +6,7 @@ use hitting_sets::meets;
 use std::alloc::{AllocError, Allocator};
 use std::test::Fail;
 
-/// Rules are enough where they have one of each group.
+/// Rules are enough if they have one of each group.
 #[derive(Drop)]
 struct Groups<'a> {
     all: u128,

@@ -13,10 +13,10 @@ pub trait Oracle {
     /// The sets of rules that are enough.
     ghost is_enough: { Self → ℕ → Type 0 };
 
-    /// A group of rules of which the set has none and each set that is enough has one, or `None` where the set is
+    /// A group of rules of which the set has none and each set that is enough has one, or `None` if the set is
     /// enough.
     ///
-    /// The group is empty where no set is enough.
+    /// The group is empty if no set is enough.
     ///
     /// # Errors
     ///

@@ -54,7 +54,7 @@ module _ (e : Ended) where
     every = λ w b. absurd (omega (arith, b.before));
   }
 
-  -- a broken entry that stands before another place too
+  -- a broken entry that is before another place too
   before_at : (q k p j w : ℕ) (b : IsBrokenBefore e q k w) → b.shard * 65536 + b.at < p * 65536 + j
       → IsBrokenBefore e p j w
   before_at q k p j w b h =
@@ -65,7 +65,7 @@ module _ (e : Ended) where
 
   module _ (short : AreShort e.rows) where
     module _ (q k : ℕ) (near : q < 13) (inside : k < length (row_of e.rows q)) where
-      -- a broken entry up to place k stands before it or at it
+      -- a broken entry up to place k is before it or at it
       up_to : (w : ℕ) → IsBrokenBefore e q (k + 1) w → (shard at : ℕ) → (shard ≡ q → at ≡ k → ⊥)
           → shard * 65536 + at < q * 65536 + (k + 1) → at < 32768 → shard * 65536 + at < q * 65536 + k
       up_to w b shard at other h small = dite (dec_le (suc (shard * 65536 + at)) (q * 65536 + k))

@@ -1,4 +1,4 @@
--- A worker between two turns, during an expansion and at the end.
+-- A worker between two rounds, during an expansion and at the end.
 use Rattle.std.specs.Prelude.{◌≡◌, ℕ, ◌<◌, List, Result, IfOk, true, slice_index}
 use Rattle.board_rule.specs.Lists.{Has}
 use Rattle.seen_board.specs.Known.{Shown, Known}
@@ -23,12 +23,12 @@ pub record IsFree {S C A : Type 0} (b : Shown S) (s : S) (is_own : S → C → T
   pub own : is_own s worker.scratch
   pub met : AreMet worker.met worker.seat.seen
 
--- so it is between two turns, and has no claim
+-- this holds between two rounds, when it has no claim
 pub record IsReady {S C A : Type 0} (b : Shown S) (s : S) (is_own : S → C → Type 0) (worker : Worker C A) : Type 0 where
   pub free : IsFree b s is_own worker
   pub unclaimed : worker.seat.claims ≡ 0
 
--- where the turn ends as over, the worker's seat knows that more words are reached than the board may have
+-- if the round ends as over, the worker's seat knows that more words are reached than the board may have
 abbrev pub KnowsOver : {C A E : Type 0} → Result Turn E → Worker C A → Type 0
 KnowsOver turn worker = IfOk turn (λ t. t ≡ Over → worker.seat.over ≡ 1)
 

@@ -12,7 +12,7 @@ pub(crate) struct Exploration<'a, S: Space, G, A: Allocator + Copy> {
     pub gate: &'a G,
 }
 
-/// How a turn of a worker ends, where no memory was refused.
+/// How a worker's round ends, if no memory was refused.
 #[derive(Clone, Copy, Debug, PartialEq, Eq, Drop)]
 pub(crate) enum Turn {
     /// The worker goes on.

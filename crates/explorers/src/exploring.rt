@@ -23,7 +23,7 @@ use std::alloc::{AllocError, Allocator};
 use std::sync::Wait;
 use std::thread::Threads;
 
-/// How many words a worker keeps at most of those that it has met: 128 KB, which stay in its processor's cache. In a
+/// The most words that a worker keeps of those that it has met: 128 KB, which stay in its processor's cache. In a
 /// larger table more words are found, but looking for one costs what asking the board does.
 const MOST_MET: usize = 8192;
 
@@ -33,11 +33,11 @@ const MOST_MET: usize = 8192;
 /// without threads: the number of the words that are reached and those of them that are not good, in canonical order,
 /// or that more words than the limit are reached.
 ///
-/// The rows of the board are short first. Where one of them is full, or the limit is passed, the space is explored
-/// once more with rows as long as the limit.
+/// The rows of the board are short at first. If one of them is full, or the limit is passed, the space is explored once
+/// more with rows as long as the limit.
 ///
-/// Worker 1 works on the caller's thread, and each of the others on a thread of its own where one can be made. The
-/// gate gets each claim before the word is expanded.
+/// Worker 1 works on the caller's thread, and each of the others on a thread of its own if one can be made. The gate
+/// gets each claim before the word is expanded.
 pub fn explore<R, A, S, G>(
     rt: &R,
     alloc: A,
@@ -74,8 +74,8 @@ where
     explore_within(rt, alloc, space, room, workers, gate)
 }
 
-/// Explores a space on a board with this room. It answers too many where more words are reached than the limit, or
-/// more of one shard than a row has places.
+/// Explores a space on a board with this room. It answers too many if more words are reached than the limit, or more of
+/// one shard than a row has places.
 fn explore_within<R, A, S, G>(
     rt: &R,
     alloc: A,

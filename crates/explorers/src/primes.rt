@@ -1,4 +1,4 @@
-//! Primes, for what is a number's remainder and is to spread.
+//! Primes, so that remainders spread.
 ghost use Rattle.std.specs.Prelude.{◌≡◌, ℕ, ◌<◌, ◌≤◌, ◌⊎◌, ◌↔◌, IsTrue};
 ghost use Rattle.explorers.specs.Primes.{IsPrime};
 
@@ -18,7 +18,7 @@ pub fn prime_at_least(from: usize, limit: usize) -> usize
     limit
 }
 
-/// Whether a number is a prime. One that is none has a divisor up to its root.
+/// Whether a number is a prime. A number that is not prime has a divisor up to its square root.
 fn is_prime(n: usize) -> bool
     ensures { IsTrue result ↔ IsPrime n }
 {

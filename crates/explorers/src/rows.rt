@@ -17,9 +17,9 @@ const FEW: usize = 64;
 /// The places of a row in the first board for `limit` words.
 ///
 /// A shard has a 13th of the words on average, and each place of each row takes memory. So it is the smallest prime
-/// that is at least a quarter of the limit, which is three times that and leaves the index of a row two thirds empty.
-/// A word's place in the index is its number modulo the places, which spreads where they are a prime. Where the limit
-/// is below 64, or no such prime is below it, it is the limit.
+/// that is at least a quarter of the limit, which is three times that and leaves the index of a row two thirds empty. A
+/// word's place in the index is its number modulo the places, which spreads if they are a prime. If the limit is below
+/// 64, or no such prime is below it, it is the limit.
 pub(crate) fn first_places(limit: usize) -> usize
     requires { 0 < limit }
     ensures some { 0 < result }

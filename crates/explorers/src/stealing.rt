@@ -9,7 +9,7 @@ use state_space::Space;
 use std::alloc::Allocator;
 use std::sync::Wait;
 
-/// Sees the entry of a word. Where the index does not name it, the seat sees the whole row of the word's shard.
+/// Sees the entry of a word. If the index does not name it, the seat sees the whole row of the word's shard.
 pub(crate) fn learn<R: Wait, S: Space, A: Allocator>(
     rt: &R,
     board: &Board<S, A>,

@@ -51,7 +51,7 @@ impl<A: Allocator> Tasks<A> {
         self.own + 1
     }
 
-    /// Puts a task at the back of the worker's own deque, or hands it back where the deque cannot grow.
+    /// Puts a task at the back of the worker's own deque, or hands it back if the deque cannot grow.
     pub fn push(&mut self, task: Task) -> Result<(), Task>
         ensures { MatchResult result
             (λ _. self.new ≡ record self.old { own = with_pushed self.old.own task })

@@ -7,7 +7,7 @@ use Rattle.crash_model.specs.Layout.{pointer_of}
 use Rattle.crash_model.specs.declared.fault.Fault.{Fault}
 use Rattle.fault_candidates.specs.Listed.{IsWithin, HasDangling, HasSlot, HasFaultsOf, HasTwice, HasLow, HasStrict}
 
--- the list with one fault more has it and the others
+-- the list with one more fault has it and the others
 pub pushed_has : (old new : List Fault) (x : Fault) → new ≡ old ++ x ∷ [] → Contains new x
 pushed_has old new x is = subst (λ (xs : List Fault). Contains xs x) (sym is) (Contains-push old x)
 

@@ -5,10 +5,10 @@ use Rattle.crash_model.specs.Disk.{Disk}
 use Rattle.crash_model.specs.Layout.{pointer_of, links_of, target_of, is_data}
 use Rattle.crash_model.specs.Faults.{is_dangling, entries_to}
 use Rattle.crash_model.specs.Replay.{image_after_replay}
-use Rattle.crash_model.specs.Strict.{faults_under}
+use Rattle.crash_model.specs.Checker.{Demands, faults_under}
 use Rattle.crash_model.specs.declared.fault.Fault.{Fault}
 use Rattle.crash_model.specs.declared.fault.Fault.TheVariants.{Dangling, Twice, Unwritten, LowLinks, MarkedFree, Wild}
-use Rattle.crash_model.specs.declared.fault.Fault.TheVariants.{Lost, NoBlock}
+use Rattle.crash_model.specs.declared.fault.Fault.TheVariants.{Lost, NoBlock, HalfDone}
 use Rattle.patch_sets.specs.Sets.{Has}
 use Rattle.known_bytes.specs.Counts.{entries_in}
 use Rattle.known_bytes.specs.Family.{Family, InEach, HasValue}
@@ -86,14 +86,19 @@ abbrev pub HasStrictUnder : Option ℕ → List Fault → Type 0
 HasStrictUnder None faults = Unit {0}
 HasStrictUnder (Some kept) faults = (inode : ℕ) → inode < 16 → HasStrict faults kept inode
 
+-- the fault of whole operations is listed, where an image is to show one of some disks
+abbrev pub HasHalfDone : Option (List Disk) → List Fault → Type 0
+HasHalfDone None faults = Unit {0}
+HasHalfDone (Some disks) faults = Contains faults HalfDone
+
 -- ---- all faults
 
 -- the list has each fault that any disk of the family has after replay
-abbrev pub HasAllFaults : Option ℕ → Family → List Fault → Type 0
-HasAllFaults kept f faults =
-    InEachReplayed f (λ d. (fault : Fault) → Contains (faults_under kept d) fault → Contains faults fault)
+abbrev pub HasAllFaults : Demands → Family → List Fault → Type 0
+HasAllFaults demands f faults =
+    InEachReplayed f (λ d. (fault : Fault) → Contains (faults_under demands d) fault → Contains faults fault)
 
 -- the test of a text finds each fault that any disk of the family has after replay
-abbrev pub AreFoundByText : Option ℕ → Family → Type 0
-AreFoundByText kept f =
-    InEachReplayed f (λ d. (fault : Fault) → Contains (faults_under kept d) fault → has_fault kept d fault ≡ true)
+abbrev pub AreFoundByText : Demands → Family → Type 0
+AreFoundByText demands f =
+    InEachReplayed f (λ d. (fault : Fault) → Contains (faults_under demands d) fault → has_fault demands d fault ≡ true)

@@ -11,7 +11,7 @@ use known_bytes::KnownBytes;
 use patch_sets::set::has;
 use std::alloc::{AllocError, Allocator};
 
-/// Lists each low link count, where there are for each inode no more entries than these.
+/// Lists each low link count, if there are no more entries than these for each inode.
 pub(crate) fn push_low_links<A: Allocator + Copy>(
     faults: &mut Vec<Fault, A>,
     bytes: &KnownBytes<A>,
@@ -27,7 +27,7 @@ pub(crate) fn push_low_links<A: Allocator + Copy>(
     Ok(())
 }
 
-/// Lists each low link count of an inode, where there are no more entries than `most`.
+/// Lists each low link count of an inode, if there are no more entries than `most`.
 fn push_low<A: Allocator + Copy>(
     faults: &mut Vec<Fault, A>,
     bytes: &KnownBytes<A>,
@@ -69,7 +69,7 @@ fn push_above<A: Allocator + Copy>(
     Ok(())
 }
 
-/// Where the checker is strict, lists each inode that is kept as lost, and each inode as a directory without a block.
+/// If the checker is strict, lists each inode that is kept as lost, and each inode as a directory without a block.
 pub(crate) fn push_strict<A: Allocator + Copy>(
     faults: &mut Vec<Fault, A>,
     kept: Option<u16>,

@@ -1,7 +1,7 @@
-//! The numbers that faults can have at all, whatever a crash leaves.
+//! The numbers that faults can have, whatever a crash leaves.
 //!
-//! A fault's text has the value of a pointer, of a link count or of an entry. Here are all values that such a byte has on
-//! any disk of a family after replay, and the faults with these values, so who tries each of them misses no fault.
+//! A fault's text has the value of a pointer, of a link count or of an entry. Here are all values that such a byte has
+//! on any disk of a family after replay, and the faults with these values, so trying each of them misses no fault.
 #![tactic(auto)]
 
 ghost use Rattle.std.specs.Prelude.{◌≡◌, ◌<◌, true};
@@ -42,7 +42,7 @@ pub fn link_counts<A: Allocator + Copy>(bytes: &KnownBytes<A>, inode: u8) -> Byt
     bytes.possible(2 + number / 8, 16 * (number % 8) + 1)
 }
 
-/// The values that the first byte of an entry has on any of the disks after replay, where the directory counts.
+/// The values that the first byte of an entry has on any of the disks after replay, if the directory counts.
 pub fn entries<A: Allocator + Copy>(bytes: &KnownBytes<A>, dir: u8, k: u8) -> ByteSet
     requires dir { dir < 16 }
     requires k { k < 10 }

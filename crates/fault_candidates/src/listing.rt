@@ -1,33 +1,36 @@
 //! All faults that a crash can leave.
 
 ghost use Rattle.std.specs.Prelude.{OnOk, IfOk};
-ghost use Rattle.fault_candidates.specs.Listed.{InEachReplayed, IsWithin, HasTwice, HasAllFaults, AreFoundByText};
+ghost use Rattle.fault_candidates.specs.Listed.{InEachReplayed, IsWithin, HasTwice, HasHalfDone};
+ghost use Rattle.fault_candidates.specs.Listed.{HasAllFaults, AreFoundByText};
 
 use crate::by_entry::push_entries;
 use crate::by_inode::{push_low_links, push_strict};
 use crate::by_slot::push_slots;
 use crash_model::fault::Fault;
+use disk_image::Demands;
 use known_bytes::KnownBytes;
 use std::alloc::{AllocError, Allocator};
 
 /// Each fault that any of the disks has after replay, and perhaps others, in any order and perhaps twice.
 ///
-/// Where `kept` is given, the checker is strict, and these are the inodes that the script keeps. A fault that a disk has
-/// is one that the test of its text finds. It fails only when out of memory.
+/// The faults are those of the checker with what is demanded of a disk. A fault that a disk has is one that the test of
+/// its text finds. It fails only when out of memory.
 pub fn possible_faults<A: Allocator + Copy>(
     alloc: A,
     bytes: &KnownBytes<A>,
-    kept: Option<u16>,
+    demands: &Demands<A>,
 ) -> Result<Vec<Fault, A>, AllocError>
-    ensures all { IfOk result (λ faults. HasAllFaults kept bytes.now faults.items) }
-    ensures found { OnOk result (AreFoundByText kept bytes.now) }
+    ensures all { IfOk result (λ faults. HasAllFaults demands.now bytes.now faults.items) }
+    ensures found { OnOk result (AreFoundByText demands.now bytes.now) }
 {
     let mut faults = Vec::new(alloc);
     let most = push_entries(&mut faults, bytes)?;
     push_twice(&mut faults, bytes)?;
     push_slots(&mut faults, bytes)?;
     push_low_links(&mut faults, bytes, &most)?;
-    push_strict(&mut faults, kept)?;
+    push_strict(&mut faults, demands.kept())?;
+    push_half_done(&mut faults, demands)?;
     Ok(faults)
 }
 
@@ -46,4 +49,21 @@ fn push_twice<A: Allocator + Copy>(
         }
     }
     Ok(())
+}
+
+/// Lists the fault of an image that shows no disk that whole operations leave, where it is to show one.
+fn push_half_done<A: Allocator + Copy>(
+    faults: &mut Vec<Fault, A>,
+    demands: &Demands<A>,
+) -> Result<(), AllocError>
+    ensures kept { OnOk result (IsWithin faults.old.items faults.new.items) }
+    ensures half_done { OnOk result (HasHalfDone demands.now.disks faults.new.items) }
+{
+    match demands.disks() {
+        Some(_) => {
+            faults.push(Fault::HalfDone)?;
+            Ok(())
+        }
+        None => Ok(()),
+    }
 }

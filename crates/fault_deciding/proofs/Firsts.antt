@@ -9,7 +9,7 @@ use Rattle.patch_sets.proofs.Canonical.{before_trans, before_self}
 use Rattle.patch_sets.proofs.Lists.{in_front, in_none}
 use Rattle.crash_model.specs.Patches.{deps_of, image_of}
 use Rattle.crash_model.specs.Replay.{image_after_replay}
-use Rattle.crash_model.specs.Strict.{faults_under, IsFailingUnder}
+use Rattle.crash_model.specs.Checker.{Demands, faults_under, IsFailingUnder}
 use Rattle.crash_model.specs.Summary.{IsFirst}
 use Rattle.crash_model.specs.declared.fault.Fault.{Fault}
 use Rattle.known_bytes.specs.Chains.{Change}
@@ -35,9 +35,9 @@ module _ (P Q : ℕ → Type 0) (to : (s : ℕ) → P s → Q s) (from : (s : �
   first_if_any (Some set) is = same_first set is
 
 -- a closed set in whose image the test finds a fault fails
-pub fails_by_test : (kept : Option ℕ) (c : Change) (fault : Fault) (set : ℕ) → IsClosed (deps_of c.patches) set
-    → LeavesFault kept c fault set → HasFaultOf kept c fault set
-fails_by_test kept c fault set closed leaves = record {
+pub fails_by_test : (demands : Demands) (c : Change) (fault : Fault) (set : ℕ) → IsClosed (deps_of c.patches) set
+    → LeavesFault demands c fault set → HasFaultOf demands c fault set
+fails_by_test demands c fault set closed leaves = record {
   failing = record {
     closed = closed;
     unclean = λ clean. in_none fault (subst (λ (fs : List Fault). Contains fs fault) clean.faultless there);
@@ -45,41 +45,41 @@ fails_by_test kept c fault set closed leaves = record {
   found = there;
 }
   where
-    there : Contains (faults_under kept (image_after_replay (image_of c.base c.patches set))) fault
-    there = all_told kept (image_after_replay (image_of c.base c.patches set)) fault leaves
+    there : Contains (faults_under demands (image_after_replay (image_of c.base c.patches set))) fault
+    there = all_told demands (image_after_replay (image_of c.base c.patches set)) fault leaves
 
-module _ (kept : Option ℕ) (c : Change) (fault : Fault) (deps : List ℕ) (about : deps ≡ deps_of c.patches)
-    (tested : AreFoundByTest kept c) where
+module _ (demands : Demands) (c : Change) (fault : Fault) (deps : List ℕ) (about : deps ≡ deps_of c.patches)
+    (tested : AreFoundByTest demands c) where
   abbrev Leaves : ℕ → Type 0
-  Leaves set = IsClosed deps set × LeavesFault kept c fault set
+  Leaves set = IsClosed deps set × LeavesFault demands c fault set
 
-  to_has : (set : ℕ) → Leaves set → HasFaultOf kept c fault set
-  to_has set is = fails_by_test kept c fault set (subst (λ (ds : List ℕ). IsClosed ds set) about is.0) is.1
+  to_has : (set : ℕ) → Leaves set → HasFaultOf demands c fault set
+  to_has set is = fails_by_test demands c fault set (subst (λ (ds : List ℕ). IsClosed ds set) about is.0) is.1
 
-  from_has : (set : ℕ) → HasFaultOf kept c fault set → Leaves set
+  from_has : (set : ℕ) → HasFaultOf demands c fault set → Leaves set
   from_has set is = (
     subst (λ (ds : List ℕ). IsClosed ds set) (sym about) is.failing.closed,
     tested fault set is,
   )
 
-  pub first_with : (found : Option ℕ) → IsFirstIfAny Leaves found → IsFirstWith (HasFaultOf kept c) fault found
-  first_with found is = first_if_any Leaves (HasFaultOf kept c fault) to_has from_has found is
+  pub first_with : (found : Option ℕ) → IsFirstIfAny Leaves found → IsFirstWith (HasFaultOf demands c) fault found
+  first_with found is = first_if_any Leaves (HasFaultOf demands c fault) to_has from_has found is
 
   pub any_with : (answer : Bool)
-      → IsTrue answer ↔ ((set : ℕ) × IsClosed deps set × LeavesFault kept c fault set)
-      → IsTrue answer ↔ ((set : ℕ) × HasFaultOf kept c fault set)
+      → IsTrue answer ↔ ((set : ℕ) × IsClosed deps set × LeavesFault demands c fault set)
+      → IsTrue answer ↔ ((set : ℕ) × HasFaultOf demands c fault set)
   any_with answer is = (
     λ yes. let some = is.0 yes in (some.0, to_has some.0 (some.1, some.2)),
     λ some. let leaves = from_has some.0 some.1 in is.1 (some.0, leaves.0, leaves.1),
   )
 
 -- a failing set has a fault
-pub some_fault : (kept : Option ℕ) (c : Change) (set : ℕ) → IsFailingUnder kept c.base c.patches set
-    → (fault : Fault) × HasFaultOf kept c fault set
-some_fault kept c set fails = by (faults_under kept (image_after_replay (image_of c.base c.patches set))) refl
+pub some_fault : (demands : Demands) (c : Change) (set : ℕ) → IsFailingUnder demands c.base c.patches set
+    → (fault : Fault) × HasFaultOf demands c fault set
+some_fault demands c set fails = by (faults_under demands (image_after_replay (image_of c.base c.patches set))) refl
   where
-    by : (fs : List Fault) → faults_under kept (image_after_replay (image_of c.base c.patches set)) ≡ fs
-        → (fault : Fault) × HasFaultOf kept c fault set
+    by : (fs : List Fault) → faults_under demands (image_after_replay (image_of c.base c.patches set)) ≡ fs
+        → (fault : Fault) × HasFaultOf demands c fault set
     by [] e = absurd (fails.unclean record { faultless = e })
     by (f ∷ fs) e = (
       f,

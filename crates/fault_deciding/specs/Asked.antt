@@ -1,6 +1,7 @@
 -- Faults that sets have, and the first sets that have them.
 use Rattle.std.specs.Prelude.{◌≡◌, ◌≢◌, ℕ, List, true, Option, MatchOption}
 use Rattle.std.specs.List.{Contains}
+use Rattle.crash_model.specs.Checker.{Demands}
 use Rattle.crash_model.specs.Patches.{image_of}
 use Rattle.crash_model.specs.Replay.{image_after_replay}
 use Rattle.crash_model.specs.Summary.{IsFaultBefore, HasFault, IsFirst}
@@ -10,22 +11,22 @@ use Rattle.known_bytes.specs.Chains.{Change}
 use Rattle.known_bytes.specs.Texts.{has_fault}
 
 -- the test finds the fault in the image that a set leaves, after replay
-abbrev pub LeavesFault : Option ℕ → Change → Fault → ℕ → Type 0
-LeavesFault kept c fault set = has_fault kept (image_after_replay (image_of c.base c.patches set)) fault ≡ true
+abbrev pub LeavesFault : Demands → Change → Fault → ℕ → Type 0
+LeavesFault demands c fault set = has_fault demands (image_after_replay (image_of c.base c.patches set)) fault ≡ true
 
 -- a failing set of the patches has the fault
-abbrev pub HasFaultOf : Option ℕ → Change → Fault → ℕ → Type 0
-HasFaultOf kept c = HasFault kept c.base c.patches
+abbrev pub HasFaultOf : Demands → Change → Fault → ℕ → Type 0
+HasFaultOf demands c = HasFault demands c.base c.patches
 
 -- the test finds each fault that a failing set has
-abbrev pub AreFoundByTest : Option ℕ → Change → Type 0
-AreFoundByTest kept c = (fault : Fault) (set : ℕ) → HasFaultOf kept c fault set → LeavesFault kept c fault set
+abbrev pub AreFoundByTest : Demands → Change → Type 0
+AreFoundByTest demands c = (fault : Fault) (set : ℕ) → HasFaultOf demands c fault set → LeavesFault demands c fault set
 
 -- each fault that a set has is in the list
 abbrev pub AreAllOf : (Fault → ℕ → Type 0) → List Fault → Type 0
 AreAllOf has faults = (fault : Fault) (set : ℕ) → has fault set → Contains faults fault
 
--- the first set that has a fault, or none where none has it
+-- the first set that has a fault, or none if none has it
 abbrev pub IsFirstWith : (Fault → ℕ → Type 0) → Fault → Option ℕ → Type 0
 IsFirstWith has fault first = MatchOption first ((set : ℕ) → ¬ (has fault set)) (IsFirst (has fault))
 

@@ -17,12 +17,12 @@ decided_of decided = decided.fault
 abbrev pub IsTried : (Fault → ℕ → Type 0) → Trial → Type 0
 IsTried has trial = IsFirstWith has trial.fault trial.first
 
--- at each place stand trials of the same fault
+-- the trials at each place are of the same fault
 abbrev pub HaveSameFaults : List Trial → List Trial → Type 0
 HaveSameFaults old new =
     (k : ℕ) (d : Trial) → k < length old → (slice_index_or new k d).fault ≡ (slice_index_or old k d).fault
 
--- no fault in the list is before one that stands earlier
+-- no fault in the list comes before an earlier one in the order of faults
 abbrev pub AreInOrder : {X : Type 0} → (X → Fault) → List X → Type 0
 AreInOrder fault xs = AllPairs (λ a b. ¬ (IsFaultBefore (fault b) (fault a))) xs
 

@@ -2,7 +2,7 @@
 
 ghost use Rattle.std.specs.Prelude.{◌<◌, ◌≤◌, ◌↔◌, ℕ, IfOk, IsTrue};
 ghost use Rattle.std.specs.List.{All};
-ghost use Rattle.crash_model.specs.Strict.{IsFailingUnder};
+ghost use Rattle.crash_model.specs.Checker.{IsFailingUnder};
 ghost use Rattle.crash_model.specs.Summary.{HasFault};
 ghost use Rattle.decision_model.specs.Decided.{AreDecided};
 ghost use Rattle.fault_deciding.specs.Asked.{IsFirstFault};
@@ -13,21 +13,21 @@ use crate::listing::candidates;
 use crate::ordering::{found, sort_faults, sort_trials};
 use crate::sharing::{spread, untried};
 use decision_model::DecidedFault;
-use disk_image::Image;
+use disk_image::{Demands, Image};
 use known_bytes::Chains;
 use patch_graph::Graph;
 use set_families::ClosedSets;
 use std::alloc::{AllocError, Allocator};
 use std::thread::Threads;
 
-/// A graph of patches over a base, of which a crash can leave some, and the inodes that the script keeps, where the
-/// checker is told of them. The patches change blocks of the base.
+/// A graph of patches over a base, of which a crash can leave some, and what is demanded of the image that it leaves.
+/// The patches change blocks of the base.
 #[derive(Drop)]
 pub struct Decider<'a, A: Allocator + Copy> {
     pub alloc: A,
     pub base: &'a Image<A>,
     pub graph: &'a Graph<A>,
-    pub kept: Option<u16>,
+    pub demands: &'a Demands<A>,
     ghost fits: { All (λ patch. patch.block < base.now.blocks) graph.now },
 }
 
@@ -35,8 +35,8 @@ impl<A: Allocator + Copy> Decider<'_, A> {
     /// Each fault that a crash can leave, in the order of faults, with the first set in canonical order whose image has
     /// it after replay.
     ///
-    /// The workers share the faults, and for each number of workers the same is found. One worker starts no thread. It
-    /// fails only when out of memory.
+    /// The workers share the faults, and the result is the same for each number of workers. One worker starts no
+    /// thread. It fails only when out of memory.
     pub fn faults<R: Threads + Sync>(
         &self,
         rt: &R,
@@ -46,16 +46,16 @@ impl<A: Allocator + Copy> Decider<'_, A> {
         A: Send + Sync,
         requires { 1 ≤ workers }
         ensures { IfOk result (λ faults.
-            AreDecided (HasFault self.now.kept self.now.base.now self.now.graph.now) faults.items) }
+            AreDecided (HasFault self.now.demands.now self.now.base.now self.now.graph.now) faults.items) }
     {
         let deps = dependencies(self.graph);
         let sets = ClosedSets::of(&deps);
         let chains = Chains::new(self.alloc, self.base, self.graph)?;
-        let candidates = candidates(self.alloc, &chains, self.kept)?;
+        let candidates = candidates(self.alloc, &chains, self.demands)?;
         let asking = Asking {
             sets: &sets,
             chains: &chains,
-            kept: self.kept,
+            demands: self.demands,
         };
         let mut trials = untried(self.alloc, &candidates)?;
         spread(&mut trials, workers);
@@ -68,16 +68,16 @@ impl<A: Allocator + Copy> Decider<'_, A> {
     /// memory.
     pub fn faults_alone(&self) -> Result<Vec<DecidedFault, A>, AllocError>
         ensures { IfOk result (λ faults.
-            AreDecided (HasFault self.now.kept self.now.base.now self.now.graph.now) faults.items) }
+            AreDecided (HasFault self.now.demands.now self.now.base.now self.now.graph.now) faults.items) }
     {
         let deps = dependencies(self.graph);
         let sets = ClosedSets::of(&deps);
         let chains = Chains::new(self.alloc, self.base, self.graph)?;
-        let candidates = candidates(self.alloc, &chains, self.kept)?;
+        let candidates = candidates(self.alloc, &chains, self.demands)?;
         let asking = Asking {
             sets: &sets,
             chains: &chains,
-            kept: self.kept,
+            demands: self.demands,
         };
         let mut trials = asking.tried(self.alloc, &candidates)?;
         sort_trials(&mut trials);
@@ -87,33 +87,33 @@ impl<A: Allocator + Copy> Decider<'_, A> {
     /// Whether a crash can leave a fault at all. It fails only when out of memory.
     pub fn any_fails(&self) -> Result<bool, AllocError>
         ensures { IfOk result (λ fails. IsTrue fails
-            ↔ ((set : ℕ) × IsFailingUnder self.now.kept self.now.base.now self.now.graph.now set)) }
+            ↔ ((set : ℕ) × IsFailingUnder self.now.demands.now self.now.base.now self.now.graph.now set)) }
     {
         let deps = dependencies(self.graph);
         let sets = ClosedSets::of(&deps);
         let chains = Chains::new(self.alloc, self.base, self.graph)?;
-        let candidates = candidates(self.alloc, &chains, self.kept)?;
+        let candidates = candidates(self.alloc, &chains, self.demands)?;
         let asking = Asking {
             sets: &sets,
             chains: &chains,
-            kept: self.kept,
+            demands: self.demands,
         };
         Ok(asking.any_of(&candidates))
     }
 
-    /// The first in the order of faults that a crash can leave, with the first set that has it, or `None` where a crash
+    /// The first in the order of faults that a crash can leave, with the first set that has it, or `None` if a crash
     /// leaves no fault. It fails only when out of memory.
     pub fn first_fault(&self) -> Result<Option<DecidedFault>, AllocError>
-        ensures { IfOk result (IsFirstFault (HasFault self.now.kept self.now.base.now self.now.graph.now)) }
+        ensures { IfOk result (IsFirstFault (HasFault self.now.demands.now self.now.base.now self.now.graph.now)) }
     {
         let deps = dependencies(self.graph);
         let sets = ClosedSets::of(&deps);
         let chains = Chains::new(self.alloc, self.base, self.graph)?;
-        let mut candidates = candidates(self.alloc, &chains, self.kept)?;
+        let mut candidates = candidates(self.alloc, &chains, self.demands)?;
         let asking = Asking {
             sets: &sets,
             chains: &chains,
-            kept: self.kept,
+            demands: self.demands,
         };
         sort_faults(&mut candidates);
         Ok(asking.first_of(&candidates))

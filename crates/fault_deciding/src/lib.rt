@@ -1,7 +1,7 @@
 //! The faults that a crash can leave, decided without visiting the sets that it can leave.
 //!
-//! Each fault that a crash can leave at all is asked of whole families of sets, until the first set that has it is found
-//! or none is left. So a graph with more sets than can be visited is decided too.
+//! For each fault that a crash can leave at all, whole families of sets are asked, until the first set that has it is
+//! found or none is left. So a graph with more sets than can be visited is decided too.
 #![tactic(auto)]
 
 mod asking;

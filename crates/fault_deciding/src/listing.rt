@@ -4,6 +4,7 @@ ghost use Rattle.std.specs.Prelude.{IfOk, OnOk};
 ghost use Rattle.fault_deciding.specs.Asked.{AreAllOf, AreFoundByTest, HasFaultOf};
 
 use crash_model::fault::Fault;
+use disk_image::Demands;
 use fault_candidates::possible_faults;
 use known_bytes::{Chains, KnownBytes};
 use std::alloc::{AllocError, Allocator};
@@ -12,11 +13,11 @@ use std::alloc::{AllocError, Allocator};
 pub(crate) fn candidates<A: Allocator + Copy>(
     alloc: A,
     chains: &Chains<'_, A>,
-    kept: Option<u16>,
+    demands: &Demands<A>,
 ) -> Result<Vec<Fault, A>, AllocError>
-    ensures all { IfOk result (λ list. AreAllOf (HasFaultOf kept chains.now) list.items) }
-    ensures found { OnOk result (AreFoundByTest kept chains.now) }
+    ensures all { IfOk result (λ list. AreAllOf (HasFaultOf demands.now chains.now) list.items) }
+    ensures found { OnOk result (AreFoundByTest demands.now chains.now) }
 {
     let bytes = KnownBytes::new(chains, 0, 0);
-    possible_faults(alloc, &bytes, kept)
+    possible_faults(alloc, &bytes, demands)
 }

@@ -42,7 +42,7 @@ pub(crate) fn spread<A: Allocator>(trials: &mut Vec<Trial, A>, workers: usize)
     }
 }
 
-/// A number that says little of a fault's place in their order.
+/// A number that says little about a fault's place in the order of faults.
 fn mixed(fault: Fault) -> u32 {
     u32::from_le_bytes(fault.numbers()).wrapping_mul(0x9E37_79B1)
 }
@@ -52,7 +52,7 @@ impl<A: Allocator + Copy> Asking<'_, A> {
     pub(crate) fn tried(&self, alloc: A, candidates: &[Fault]) -> Result<Vec<Trial, A>, AllocError>
         ensures faults { IfOk result (λ trials. map fault_of trials.items ≡ candidates.now) }
         ensures tried { IfOk result (λ trials.
-            All (IsTried (HasFaultOf self.now.kept self.now.chains.now)) trials.items) }
+            All (IsTried (HasFaultOf self.now.demands.now self.now.chains.now)) trials.items) }
     {
         let mut trials = Vec::new(alloc);
         for fault in candidates {
@@ -71,7 +71,7 @@ impl<A: Allocator + Copy + Sync> Asking<'_, A> {
         requires { 0 < workers }
         ensures long { length trials.new ≡ length trials.old }
         ensures same { HaveSameFaults trials.old trials.new }
-        ensures tried { All (IsTried (HasFaultOf self.now.kept self.now.chains.now)) trials.new }
+        ensures tried { All (IsTried (HasFaultOf self.now.demands.now self.now.chains.now)) trials.new }
     {
         thread::for_each_mut(rt, trials, workers, &|_, trial| self.try_one(trial));
     }
@@ -79,7 +79,7 @@ impl<A: Allocator + Copy + Sync> Asking<'_, A> {
     /// Tries a fault.
     fn try_one(&self, trial: &mut Trial)
         ensures same { trial.new.fault ≡ trial.old.fault }
-        ensures tried { IsTried (HasFaultOf self.now.kept self.now.chains.now) trial.new }
+        ensures tried { IsTried (HasFaultOf self.now.demands.now self.now.chains.now) trial.new }
     {
         trial.first = self.first(trial.fault);
     }

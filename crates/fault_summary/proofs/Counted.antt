@@ -8,7 +8,7 @@ use Rattle.patch_sets.proofs.Canonical.{before_trans, before_self}
 use Rattle.patch_sets.proofs.Lists.{in_front, in_none}
 use Rattle.crash_model.specs.Patches.{image_of}
 use Rattle.crash_model.specs.Replay.{image_after_replay}
-use Rattle.crash_model.specs.Strict.{IsCleanUnder}
+use Rattle.crash_model.specs.Checker.{IsCleanUnder}
 use Rattle.fault_summary.specs.Summed.{IsEarlier}
 use Rattle.fault_summary.specs.Prevented.{Compared, IsFirstOut, IsFirstPrevented, FailsAmong, AreCounted, IsCount}
 use Rattle.fault_summary.specs.Prevented.{IsEarlierOf, JoinsCounts}
@@ -17,7 +17,7 @@ use Rattle.fault_summary.proofs.Tallied.{left_apart, right_apart, parts_apart, l
 
 -- the image that a set leaves is clean after replay
 abbrev pub IsWell : Compared → ℕ → Type 0
-IsWell v set = IsCleanUnder v.kept (image_after_replay (image_of v.base v.patches set))
+IsWell v set = IsCleanUnder v.demands (image_after_replay (image_of v.base v.patches set))
 
 module _ (fails allowed : ℕ → Type 0) where
   abbrev Among : List ℕ → ℕ → Type 0

@@ -119,7 +119,7 @@ put_in_order (x ∷ xs) apart = with_rest (put_in_order xs
           },
         )
 
--- as many sets as have a property stand in canonical order
+-- the sets that have a property, in canonical order
 pub all_in_order : (P : ℕ → Type 0) (n : ℕ) → HoldsOf P n → (sets : List ℕ) × AreAllInOrder P sets × (n ≡ length sets)
 all_in_order P n (words, list, count) = told (put_in_order words list.distinct)
   where

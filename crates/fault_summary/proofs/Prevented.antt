@@ -6,7 +6,7 @@ use Rattle.std.proofs.lemmas.List.Elements.{All-contains}
 use Rattle.patch_sets.specs.Closed.{IsClosed}
 use Rattle.set_sweep.specs.Sweeps.{IsAscendingListOf, IsSweep}
 use Rattle.crash_model.specs.Patches.{deps_of}
-use Rattle.crash_model.specs.Strict.{IsFailingUnder}
+use Rattle.crash_model.specs.Checker.{IsFailingUnder}
 use Rattle.fault_summary.specs.Counted.{CountsFailing}
 use Rattle.fault_summary.specs.declared.count.Count.{Count}
 use Rattle.fault_summary.specs.Prevented.{Compared, IsBad, IsAllowed, IsFirstPrevented, FailsAmong, AreCounted, IsCount}
@@ -39,18 +39,18 @@ module _ (v : Compared) (deps : List ℕ) (total : ℕ) (tally : Count) (same : 
   counted : AreCounted (IsBad v) (IsAllowed v) sets tally.failing tally.first
   counted = all.told once (omega (arith, all.counted, short))
 
-  same_sets : (s : ℕ) → FailsAmong (IsBad v) sets s ↔ IsFailingUnder v.kept v.base v.patches s
+  same_sets : (s : ℕ) → FailsAmong (IsBad v) sets s ↔ IsFailingUnder v.demands v.base v.patches s
   same_sets s = (
     λ is. record { closed = All-contains (IsClosed (deps_of v.patches)) sets s closed.each is.0; unclean = is.1 },
     λ is. (closed.every s is.closed, is.unclean),
   )
 
-  pub failing_count : CountsFailing v.kept v.base v.patches tally.failing
+  pub failing_count : CountsFailing v.demands v.base v.patches tally.failing
   failing_count =
-      all_in_order (IsFailingUnder v.kept v.base v.patches) tally.failing
-      (same_numbers (FailsAmong (IsBad v) sets) (IsFailingUnder v.kept v.base v.patches) same_sets tally.failing
+      all_in_order (IsFailingUnder v.demands v.base v.patches) tally.failing
+      (same_numbers (FailsAmong (IsBad v) sets) (IsFailingUnder v.demands v.base v.patches) same_sets tally.failing
       counted.number)
 
-  pub first_prevented : IsFirstPrevented (IsFailingUnder v.kept v.base v.patches) (IsAllowed v) tally.first
-  first_prevented = first_like (FailsAmong (IsBad v) sets) (IsFailingUnder v.kept v.base v.patches) (IsAllowed v)
+  pub first_prevented : IsFirstPrevented (IsFailingUnder v.demands v.base v.patches) (IsAllowed v) tally.first
+  first_prevented = first_like (FailsAmong (IsBad v) sets) (IsFailingUnder v.demands v.base v.patches) (IsAllowed v)
       same_sets tally.first counted.first

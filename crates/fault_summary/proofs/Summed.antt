@@ -1,4 +1,4 @@
--- What rows tell after the rows of other sets are added.
+-- What rows say after the rows of other sets are added.
 use Rattle.std.proofs.Common.{◌≡◌, ◌≢◌, ℕ, zero, suc, ◌+◌, ◌-◌, ◌<◌, ◌^◌, count_ones, ◌⊎◌, ◌↔◌, List, [], ◌∷◌, ◌++◌}
 use Rattle.std.proofs.Common.{length, get_or, map, arith, refl, sym, subst, ap, ◌∙◌, inl, inr, length-append}
 use Rattle.std.specs.List.{All, AllPairs, Contains}

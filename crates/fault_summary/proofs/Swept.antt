@@ -1,6 +1,5 @@
 -- The tally of all sets that a crash can leave.
 use Rattle.std.proofs.Common.{◌≡◌, ◌≢◌, ℕ, ◌<◌, ◌^◌, List, length, arith, subst, IsPermutation}
-use Rattle.std.specs.Prelude.{Option}
 use Rattle.std.specs.List.{AllPairs, Contains}
 use Rattle.std.proofs.lemmas.List.Elements.{All-contains}
 use Rattle.patch_sets.specs.Closed.{IsClosed}
@@ -8,7 +7,7 @@ use Rattle.patch_sets.proofs.Lists.{in_none}
 use Rattle.set_sweep.specs.Sweeps.{IsAscendingListOf}
 use Rattle.crash_model.specs.Disk.{Disk}
 use Rattle.crash_model.specs.Patches.{CountsClosed, deps_of}
-use Rattle.crash_model.specs.Strict.{IsFailingUnder}
+use Rattle.crash_model.specs.Checker.{Demands, IsFailingUnder}
 use Rattle.crash_model.specs.Summary.{IsFaultBefore, HasFault, AreRows}
 use Rattle.crash_model.specs.declared.fault.Fault.{Fault}
 use Rattle.crash_model.specs.declared.fault.FaultRow.{FaultRow}
@@ -29,39 +28,40 @@ module _ (base : Disk) (patches : List Patch) (sets : List ℕ)
   pub closed_count : (total : ℕ) → length sets ≡ total → CountsClosed patches total
   closed_count total counted = (sets, record { distinct = once; each = closed.each; every = closed.every }, counted)
 
-  module _ (kept : Option ℕ) (failing : ℕ) (old : List FaultRow) (short : length sets < 2 ^ 64)
-      (told : IsTally (faults_after kept base patches) sets failing old) where
-    tallied : AreTallied (faults_after kept base patches) sets failing old
+  module _ (demands : Demands) (failing : ℕ) (old : List FaultRow) (short : length sets < 2 ^ 64)
+      (told : IsTally (faults_after demands base patches) sets failing old) where
+    tallied : AreTallied (faults_after demands base patches) sets failing old
     tallied = told once short
 
-    fails : (s : ℕ) → FailsIn (faults_after kept base patches) sets s → IsFailingUnder kept base patches s
+    fails : (s : ℕ) → FailsIn (faults_after demands base patches) sets s → IsFailingUnder demands base patches s
     fails s is = record {
       closed = All-contains (IsClosed (deps_of patches)) sets s closed.each is.0;
       unclean = λ clean. is.1 clean.faultless;
     }
 
-    failing_in : (s : ℕ) → IsFailingUnder kept base patches s → FailsIn (faults_after kept base patches) sets s
+    failing_in : (s : ℕ) → IsFailingUnder demands base patches s → FailsIn (faults_after demands base patches) sets s
     failing_in s is = (closed.every s is.closed, λ none. is.unclean (record { faultless = none }))
 
-    pub failing_sets : CountsFailing kept base patches failing
+    pub failing_sets : CountsFailing demands base patches failing
     failing_sets =
-        all_in_order (IsFailingUnder kept base patches) failing
-        (same_numbers (FailsIn (faults_after kept base patches) sets) (IsFailingUnder kept base patches)
+        all_in_order (IsFailingUnder demands base patches) failing
+        (same_numbers (FailsIn (faults_after demands base patches) sets) (IsFailingUnder demands base patches)
         (λ s. (fails s, failing_in s)) failing tallied.number)
 
-    has : (f : Fault) (s : ℕ) → HasAmong (faults_after kept base patches) sets f s → HasFault kept base patches f s
+    has : (f : Fault) (s : ℕ) → HasAmong (faults_after demands base patches) sets f s
+        → HasFault demands base patches f s
     has f s is = record {
       failing = fails s (is.0, λ none. in_none f (subst (λ (fs : List Fault). Contains fs f) none is.1));
       found = is.1;
     }
 
-    has_among : (f : Fault) (s : ℕ) → HasFault kept base patches f s
-        → HasAmong (faults_after kept base patches) sets f s
+    has_among : (f : Fault) (s : ℕ) → HasFault demands base patches f s
+        → HasAmong (faults_after demands base patches) sets f s
     has_among f s is = (closed.every s is.failing.closed, is.found)
 
     pub swept_rows : (rows : List FaultRow) → IsPermutation old rows
         → (TellsOnce old → AllPairs (λ a b. IsFaultBefore a.fault b.fault) rows)
-        → AreRows (HasFault kept base patches) rows
+        → AreRows (HasFault demands base patches) rows
     swept_rows rows moved up =
-        are_rows (HasFault kept base patches) old rows (same_sums (HasAmong (faults_after kept base patches) sets)
-        (HasFault kept base patches) (λ f s. (has f s, has_among f s)) old tallied.summed) moved up
+        are_rows (HasFault demands base patches) old rows (same_sums (HasAmong (faults_after demands base patches) sets)
+        (HasFault demands base patches) (λ f s. (has f s, has_among f s)) old tallied.summed) moved up

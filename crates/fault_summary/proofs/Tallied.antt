@@ -1,4 +1,4 @@
--- What a tally tells after one set more, and after those of another tally.
+-- What a tally says after one more set, and after those of another tally.
 use Rattle.std.proofs.Common.{◌≡◌, ◌≢◌, ℕ, ◌+◌, ◌<◌, ◌^◌, List, [], ◌∷◌, ◌++◌, length, get_or, arith, refl, sym, subst}
 use Rattle.std.proofs.Common.{ap, ◌∙◌, inl, inr, length-append}
 use Rattle.std.specs.List.{AllPairs, Contains}
@@ -15,7 +15,7 @@ use Rattle.fault_summary.specs.Tallied.{AreTallied, IsTally}
 use Rattle.fault_summary.proofs.Sets.{one_more, more_sets}
 use Rattle.fault_summary.proofs.Summed.{Either, same_numbers, both_numbers, same_sums}
 
--- ---- parts of lists in which no set stands twice
+-- ---- parts of lists in which no set is twice
 
 abbrev Apart : List ℕ → Type 0
 Apart sets = AllPairs (λ a b. a ≢ b) sets

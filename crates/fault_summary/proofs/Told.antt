@@ -1,4 +1,4 @@
--- The faults of a set, told one after another.
+-- The faults of a set, reported one after another.
 use Rattle.std.proofs.Common.{◌≡◌, ◌≢◌, ℕ, ◌+◌, ◌<◌, ◌⊎◌, List, [], ◌∷◌, ◌++◌, length, map, get_or, take, refl, sym}
 use Rattle.std.proofs.Common.{subst, ◌∙◌, inl, inr}
 use Rattle.std.specs.List.{All, Contains}
@@ -32,7 +32,7 @@ last_or_before faults fault f there = elim (Contains-append_cases faults (fault 
   | inr last ↦ elim (front_or_rest fault [] f last) [ inl e ↦ inr (sym e) | inr none ↦ absurd (in_none f none) ]
 ]
 
--- a fault that was not told yet
+-- a fault that was not reported yet
 faults_more : (faults : List Fault) (old mid new : List FaultRow) (set : ℕ) (fault : Fault)
     → AddsFaults old set faults mid → All (λ f. f ≢ fault) faults → AddsRow mid (row_of set fault) new
     → AddsFaults old set (faults ++ fault ∷ []) new
@@ -61,7 +61,7 @@ faults_more faults old mid new set fault adds absent one = record {
       | inr e ↦ subst (Contains (adds.told ++ fault ∷ [])) (sym e) (Contains-push adds.told fault)
     ]
 
--- a fault that was told already
+-- a fault that was reported already
 faults_again : (faults : List Fault) (old mid : List FaultRow) (set : ℕ) (fault : Fault) → AddsFaults old set faults mid
     → Contains faults fault → AddsFaults old set (faults ++ fault ∷ []) mid
 faults_again faults old mid set fault adds there = record {

@@ -7,21 +7,20 @@ use Rattle.patch_sets.specs.Sets.{IsBefore}
 use Rattle.crash_model.specs.Disk.{Disk}
 use Rattle.crash_model.specs.Patches.{deps_of, image_of}
 use Rattle.crash_model.specs.Replay.{image_after_replay}
-use Rattle.crash_model.specs.Strict.{IsCleanUnder}
+use Rattle.crash_model.specs.Checker.{Demands, IsCleanUnder}
 use Rattle.crash_model.specs.declared.patches.Patch.{Patch}
 use Rattle.fault_summary.specs.Summed.{IsEarlier}
 
--- a base and patches over it, the inodes that the script keeps, for a strict checker, and the patches of
--- another graph
+-- a base and patches over it, what is demanded of images, and the patches of another graph
 pub record Compared : Type 0 where
   pub base : Disk
   pub patches : List Patch
-  pub kept : Option ℕ
+  pub demands : Demands
   pub others : List Patch
 
 -- the image that a set leaves is not clean after replay
 abbrev pub IsBad : Compared → ℕ → Type 0
-IsBad v set = ¬ (IsCleanUnder v.kept (image_after_replay (image_of v.base v.patches set)))
+IsBad v set = ¬ (IsCleanUnder v.demands (image_after_replay (image_of v.base v.patches set)))
 
 -- a crash can leave the set under the other graph
 abbrev pub IsAllowed : Compared → ℕ → Type 0

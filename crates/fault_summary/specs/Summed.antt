@@ -1,12 +1,12 @@
 -- Rows that sum up the faults of sets.
-use Rattle.std.specs.Prelude.{◌≡◌, ◌≢◌, ℕ, ◌+◌, ◌<◌, ◌^◌, ◌⊎◌, ◌↔◌, List, [], ◌∷◌, ◌++◌, length, map, Option}
+use Rattle.std.specs.Prelude.{◌≡◌, ◌≢◌, ℕ, ◌+◌, ◌<◌, ◌^◌, ◌⊎◌, ◌↔◌, List, [], ◌∷◌, ◌++◌, length, map}
 use Rattle.std.specs.Prelude.{slice_index_or, slice_set}
 use Rattle.std.specs.List.{All, AllPairs, Contains}
 use Rattle.patch_sets.specs.Sets.{IsBefore}
 use Rattle.crash_model.specs.Disk.{Disk}
 use Rattle.crash_model.specs.Patches.{image_of}
 use Rattle.crash_model.specs.Replay.{image_after_replay}
-use Rattle.crash_model.specs.Strict.{faults_under}
+use Rattle.crash_model.specs.Checker.{Demands, faults_under}
 use Rattle.crash_model.specs.Summary.{IsRow}
 use Rattle.crash_model.specs.declared.fault.Fault.{Fault}
 use Rattle.crash_model.specs.declared.fault.FaultRow.{FaultRow}
@@ -59,7 +59,7 @@ AddsRows old (row ∷ rows) new = (mid : List FaultRow) × AddsRow old row mid �
 abbrev pub row_of : ℕ → Fault → FaultRow
 row_of set fault = record { fault = fault; sets = 1; first = set }
 
--- a set more has the faults of the list, each of which counts once
+-- one more set has the faults of the list, each of which counts once
 pub record AddsFaults (old : List FaultRow) (set : ℕ) (faults : List Fault) (new : List FaultRow) : Type 0 where
   pub told : List Fault
   pub once : AllPairs (λ f g. f ≢ g) told
@@ -70,6 +70,6 @@ pub record AddsFaults (old : List FaultRow) (set : ℕ) (faults : List Fault) (n
 abbrev pub HasAmong : (ℕ → List Fault) → List ℕ → Fault → ℕ → Type 0
 HasAmong faults_of sets fault set = Contains sets set × Contains (faults_of set) fault
 
--- the faults that the image of a set has after replay, by the strict checker with kept inodes, or by the other
-abbrev pub faults_after : Option ℕ → Disk → List Patch → ℕ → List Fault
-faults_after kept base patches set = faults_under kept (image_after_replay (image_of base patches set))
+-- the faults that the image of a set has after replay, with what is demanded of it
+abbrev pub faults_after : Demands → Disk → List Patch → ℕ → List Fault
+faults_after demands base patches set = faults_under demands (image_after_replay (image_of base patches set))

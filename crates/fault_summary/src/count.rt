@@ -3,7 +3,7 @@
 ghost use Rattle.std.specs.Prelude.{◌≡◌, ◌<◌, ◌≤◌, [], ◌∷◌, length, IfOk, IsErrOf};
 ghost use Rattle.patch_sets.specs.Closed.{AreEarlier, IsClosed};
 ghost use Rattle.crash_model.specs.Patches.{CountsClosed, ExceedsLimit, deps_of};
-ghost use Rattle.crash_model.specs.Strict.{IsFailingUnder};
+ghost use Rattle.crash_model.specs.Checker.{IsFailingUnder};
 ghost use Rattle.fault_summary.specs.Counted.{CountsFailing};
 ghost use Rattle.fault_summary.specs.Prevented.{AreCounted, IsAllowed, IsBad, IsEarlierOf};
 ghost use Rattle.fault_summary.specs.Prevented.{IsFirstPrevented, JoinsCounts};
@@ -48,9 +48,9 @@ where
     ensures total { IfOk result (λ found. CountsClosed visitor.now.patches found.total) }
     ensures within { IfOk result (λ found. found.total ≤ limit) }
     ensures failing { IfOk result (λ found.
-        CountsFailing visitor.now.kept visitor.now.base visitor.now.patches found.failing) }
+        CountsFailing visitor.now.demands visitor.now.base visitor.now.patches found.failing) }
     ensures first { IfOk result (λ found.
-        IsFirstPrevented (IsFailingUnder visitor.now.kept visitor.now.base visitor.now.patches)
+        IsFirstPrevented (IsFailingUnder visitor.now.demands visitor.now.base visitor.now.patches)
         (IsClosed (deps_of visitor.now.others)) found.first) }
 
     ensures too_many { IsErrOf result ExploreFault.TooMany → ExceedsLimit visitor.now.patches limit }
@@ -97,7 +97,7 @@ fn earlier_of(set: Option<u128>, other: Option<u128>) -> Option<u128>
 /// Counts the sets that fail of those of a graph that a crash can leave on a base, and finds the first of them that
 /// another graph of the same patches prevents. No list of the sets is kept.
 ///
-/// Contracts see the base, the patches, the kept inodes, and the patches of the other graph.
+/// Contracts see the base, the patches, the demands, and the patches of the other graph.
 #[derive(Drop)]
 pub struct CountVisitor<'a, A: Allocator + Copy> {
     alloc: A,
@@ -113,18 +113,18 @@ impl<'a, A: Allocator + Copy> Model for CountVisitor<'a, A> {
     ghost view = { λ v. record {
       base = v.space.base;
       patches = v.space.patches;
-      kept = v.space.kept;
+      demands = v.space.demands;
       others = v.other.now;
     } };
 }
 
 impl<'a, A: Allocator + Copy> CountVisitor<'a, A> {
-    /// Counts sets of a space, each of which fails where the space does not call it good.
+    /// Counts sets of a space. A set fails if the space does not call it good.
     pub fn new(alloc: A, space: PatchSpace<'a, A>, other: &'a Graph<A>) -> CountVisitor<'a, A>
         ensures { result ≡ record {
           base = space.entry.base;
           patches = space.entry.patches;
-          kept = space.entry.kept;
+          demands = space.entry.demands;
           others = other.now;
         } }
     {
@@ -139,7 +139,7 @@ impl<'a, A: Allocator + Copy> CountVisitor<'a, A> {
     fn count_of(&self, scratch: &mut Scratch<'a, A>, set: u128) -> Result<Count, AllocError>
         requires closed { IsClosed (deps_of self.now.patches) set }
         requires own { scratch.old
-            ≡ record { base = self.now.base; patches = self.now.patches; kept = self.now.kept } }
+            ≡ record { base = self.now.base; patches = self.now.patches; demands = self.now.demands } }
         ensures own { scratch.new ≡ scratch.old }
         ensures counted { IfOk result (λ count.
             AreCounted (IsBad self.now) (IsAllowed self.now) (set ∷ []) count.failing count.first) }
@@ -171,7 +171,7 @@ impl<'a, A: Allocator + Copy> Visitor for CountVisitor<'a, A> {
 
     ghost is_lawful = { λ v. IsClosed (deps_of v.patches) };
 
-    ghost is_own = { λ v scratch. scratch ≡ record { base = v.base; patches = v.patches; kept = v.kept } };
+    ghost is_own = { λ v scratch. scratch ≡ record { base = v.base; patches = v.patches; demands = v.demands } };
 
     ghost tells = { λ v sets tally. IsCount (IsBad v) (IsAllowed v) sets tally.failing tally.first };
 

@@ -10,7 +10,7 @@ ghost use Rattle.fault_summary.specs.Counted.{CountsFailing};
 use crate::summary::Summary;
 use crash_image::Replayer;
 use crash_model::fault::FaultRow;
-use disk_image::Image;
+use disk_image::{Demands, Image};
 use fs_check::{faults_under, is_clean_under};
 use patch_graph::Graph;
 use patch_sets::explored::ExploreFault;
@@ -49,9 +49,9 @@ where
     ensures total { IfOk result (λ found. CountsClosed visitor.now.patches found.total) }
     ensures within { IfOk result (λ found. found.total ≤ limit) }
     ensures failing { IfOk result (λ found.
-        CountsFailing visitor.now.kept visitor.now.base visitor.now.patches found.failing) }
+        CountsFailing visitor.now.demands visitor.now.base visitor.now.patches found.failing) }
     ensures rows { IfOk result (λ found.
-        AreRows (HasFault visitor.now.kept visitor.now.base visitor.now.patches) found.rows.items) }
+        AreRows (HasFault visitor.now.demands visitor.now.base visitor.now.patches) found.rows.items) }
 
     ensures too_many { IsErrOf result ExploreFault.TooMany → ExceedsLimit visitor.now.patches limit }
 {
@@ -71,16 +71,16 @@ pub struct Tally<A: Allocator> {
     pub summary: Summary<A>,
 }
 
-/// Tallies the faults of the sets of a graph that a crash can leave on a base, by the strict checker with these
-/// kept inodes, or by the other. No list of the sets is kept.
+/// Tallies the faults of the sets of a graph that a crash can leave on a base, with what is demanded of their images.
+/// No list of the sets is kept.
 ///
-/// Contracts see the base, the patches and the kept inodes.
+/// Contracts see the base, the patches and the demands.
 #[derive(Drop)]
 pub struct FaultVisitor<'a, A: Allocator + Copy> {
     alloc: A,
     base: &'a Image<A>,
     graph: &'a Graph<A>,
-    kept: Option<u16>,
+    demands: &'a Demands<A>,
 }
 
 impl<'a, A: Allocator + Copy> Model for FaultVisitor<'a, A> {
@@ -88,25 +88,24 @@ impl<'a, A: Allocator + Copy> Model for FaultVisitor<'a, A> {
 
     ghost Value = { Crashes };
 
-    ghost view = { λ v. record { base = v.base.now; patches = v.graph.now; kept = v.kept } };
+    ghost view = { λ v. record { base = v.base.now; patches = v.graph.now; demands = v.demands.now } };
 
     ghost invariant = { λ v. AreOver v.base.now v.graph.now };
 }
 
 impl<'a, A: Allocator + Copy> FaultVisitor<'a, A> {
-    /// Tallies the faults of sets of a graph over a base, with the inodes that the script keeps for a strict checker,
-    /// or with none.
+    /// Tallies the faults of sets of a graph over a base, with what is demanded of their images.
     ///
     /// The patches change blocks of the base, and their undo data are the bytes that they replace there.
     pub fn new(
         alloc: A,
         base: &'a Image<A>,
         graph: &'a Graph<A>,
-        kept: Option<u16>,
+        demands: &'a Demands<A>,
     ) -> FaultVisitor<'a, A>
         requires fits { All (λ patch. patch.block < base.now.blocks) graph.now }
         requires undo { AreUndo base.now graph.now }
-        ensures { result ≡ record { base = base.now; patches = graph.now; kept = kept } }
+        ensures { result ≡ record { base = base.now; patches = graph.now; demands = demands.now } }
     {
         // For the proof: what every image and every graph keeps.
         let _blocks = base.blocks();
@@ -115,7 +114,7 @@ impl<'a, A: Allocator + Copy> FaultVisitor<'a, A> {
             alloc,
             base,
             graph,
-            kept,
+            demands,
         }
     }
 }
@@ -135,7 +134,8 @@ impl<'a, A: Allocator + Copy> Visitor for FaultVisitor<'a, A> {
 
     ghost is_own = { λ v scratch. (scratch.base ≡ v.base) × (scratch.patches ≡ v.patches) };
 
-    ghost tells = { λ v sets tally. IsTally (faults_after v.kept v.base v.patches) sets tally.failing tally.summary };
+    ghost tells = { λ v sets tally.
+        IsTally (faults_after v.demands v.base v.patches) sets tally.failing tally.summary };
 
     fn scratch(&self) -> Result<Replayer<'a, A>, AllocError> {
         Ok(Replayer::new(self.base.try_copy()?, self.base.try_copy()?, self.graph))
@@ -155,10 +155,10 @@ impl<'a, A: Allocator + Copy> Visitor for FaultVisitor<'a, A> {
         set: u128,
     ) -> Result<(), AllocError> {
         scratch.move_to(set);
-        if is_clean_under(scratch.image(), self.kept) {
+        if is_clean_under(scratch.image(), self.demands) {
             return Ok(());
         }
-        let found = faults_under(self.alloc, scratch.image(), self.kept)?;
+        let found = faults_under(self.alloc, scratch.image(), self.demands)?;
         tally.failing = tally.failing.wrapping_add(1);
         tally.summary.add(set, &found)?;
         Ok(())

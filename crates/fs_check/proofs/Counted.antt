@@ -50,7 +50,7 @@ named-all : (d : Disk) (block : ℕ) → count_before 4 (named_at d block) 16 0 
 unfolding count_before each_slot namers
 named-all d block = omega (arith, ap length (some_below-zero (named_at d block 16)))
 
--- a block that two pointers name is told
+-- a block that two pointers name is listed
 pub twice-many : (d : Disk) (block : ℕ) (named : List ℕ) → block < length named → IsTally 4 (named_at d) 16 0 named
     → 1 < get_or named block 0 → twice_at d block ≡ Some (Twice block)
 twice-many d block named within tally many = rw (lt-ltb 1 (length (namers d block))
@@ -61,7 +61,7 @@ pub twice-few : (d : Disk) (block : ℕ) (named : List ℕ) → block < length n
 twice-few d block named within tally few = rw (le-ltb 1 (length (namers d block))
     (rw (← named-all d block, ← tally block within) few)) refl
 
--- where each count is small no block is told
+-- if each count is small, no block is listed
 pub twice-never : (d : Disk) (named : List ℕ) → d.blocks ≤ length named → IsTally 4 (named_at d) 16 0 named
     → ((at : ℕ) → at < d.blocks → get_or named at 0 ≤ 1)
     → some_below d.blocks (twice_at d) ≡ []
@@ -136,7 +136,7 @@ led-never d inode dead = omega (
   ap length (some_below-zero (led_at d inode 16)),
 )
 
--- more entries than links are told of a live inode alone
+-- more entries than links are listed only for a live inode
 pub low_links-many : (d : Disk) (inode links : ℕ) (led : List ℕ) → inode < length led → IsTally 10 (led_at d) 16 0 led
     → links ≡ links_of d inode → links < get_or led inode 0
     → low_links_at d inode ≡ Some (LowLinks inode (get_or led inode 0) links)

@@ -213,7 +213,7 @@ module _ (d : Disk) where
       both-tests (wrong i s) (not (is_data d block)) (is_wild d i s) (at i s) (fault_of d IsWild) (Wild i s block) refl
       (wrong-wild (is_pointer d i s) (is_data d block) (map_of d block == 0) (is_marked d i block)))
 
--- all six lists, one behind another
+-- all six lists, one after another
 pub six_lists : (d : Disk) (none dangling twice unwritten low_links marked_free wild : List Fault) → none ≡ []
     → dangling ≡ none ++ dangling_entries d
     → twice ≡ dangling ++ some_below d.blocks (twice_at d)

@@ -1,3 +1,4 @@
+pub mod ComparedBlocks
 pub mod Counting
 pub mod Passed
 pub mod Slots
@@ -6,3 +7,4 @@ pub mod Halves
 pub mod Found
 pub mod Counted
 pub mod Reaching
+pub mod HalfDone

@@ -30,7 +30,7 @@ module _ (t : Table) where
     few = passed.few;
   }
 
-  -- a row that stands for nothing
+  -- a row that counts for nothing
   pub passed-empty_row : (row : ℕ) (counts : List ℕ) → ((c : ℕ) → t.is_faulty row c ≡ false)
       → ((key c : ℕ) → t.element key row c ≡ None)
       → HavePassed t row 0 counts → HavePassed t (row + 1) 0 counts
@@ -42,7 +42,7 @@ module _ (t : Table) where
     few = passed.few;
   }
 
-  -- a place that stands for nothing
+  -- a place that counts for nothing
   pub passed-empty : (row column : ℕ) (counts : List ℕ) → t.is_faulty row column ≡ false
       → ((key : ℕ) → t.element key row column ≡ None)
       → HavePassed t row column counts → HavePassed t row (column + 1) counts
@@ -54,7 +54,7 @@ module _ (t : Table) where
     few = passed.few;
   }
 
-  -- a place that stands for one key, which may have one more
+  -- a place that counts for one key, which may have one more
   pub passed-one : (row column p v : ℕ) (counts : List ℕ) (x : ℕ × ℕ) → t.is_faulty row column ≡ false
       → t.element p row column ≡ Some x → ((key : ℕ) → key ≢ p → t.element key row column ≡ None)
       → p < t.keys → v ≡ get_or counts p 0 + 1 → v ≤ t.most p
@@ -73,7 +73,7 @@ module _ (t : Table) where
         ];
       }
 
-  -- a place that stands for a key which has its most before it
+  -- a place that counts for a key that has its most before it
   pub too_many : (rows row column p : ℕ) (counts : List ℕ) (x : ℕ × ℕ) → row < rows → column < t.width → p < t.keys
       → t.element p row column ≡ Some x → t.most p ≤ get_or counts p 0 → HavePassed t row column counts
       → t.most p < count_before t.width (t.element p) rows 0

@@ -265,7 +265,7 @@ module _ (d : Disk) where
     ],
   )
 
-  -- the sets that the inodes below a number name, and zeros behind them
+  -- the sets that the inodes below a number name, and zeros after them
   pub record AreNamedBelow (n : ℕ) (named : List ℕ) : Type 0 where
     pub size : length named ≡ 16
     pub before : (e : ℕ) → e < n → IsNamedBy d e (get_or named e 0)

@@ -40,7 +40,7 @@ module _ (d : Disk) (inode slot : ℕ) where
       let block : ℕ = pointer_of d inode slot in
       right-tests (is_pointer d inode slot) (is_data d block) (map_of d block == 0) (is_marked d inode block) right
 
-  -- nor has one that names none, and it stands for no block
+  -- nor has one that names none, and it counts for no block
   clean-empty : is_pointer d inode slot ≡ false → (slots_of d).is_faulty inode slot ≡ false
   clean-empty empty = rw empty refl
 
@@ -61,7 +61,7 @@ right-area : (d : Disk) (inode block : ℕ) → is_right_block d inode block ≡
 right-area d inode block right = (and_parts (is_data d block)
     _ (and_parts (is_data d block && not (map_of d block == 0)) _ right).0).0
 
--- a slot stands for the block that it names
+-- a slot counts for the block that it names
 names-here : (d : Disk) (inode slot block : ℕ) → is_live d inode ≡ true → pointer_of d inode slot ≡ block → block ≢ 0
     → is_right_block d inode block ≡ true → (slots_of d).element block inode slot ≡ Some (inode, slot)
 names-here d inode slot block live points some right =

@@ -56,7 +56,7 @@ entries_of d = record {
   most = links_of d;
 }
 
--- The places before one have no fault of their own, the counts are those of the places among them that stand for each
+-- The places before one have no fault of their own, the counts are those of the places among them that count for each
 -- key, and none is too large.
 pub record HavePassed (t : Table) (row column : ℕ) (counts : List ℕ) : Type 0 where
   pub rows_right : (r : ℕ) → r < row → (c : ℕ) → c < t.width → t.is_faulty r c ≡ false

@@ -77,7 +77,7 @@ pub(crate) fn is_marked<A: Allocator + Copy>(image: &Image<A>, inode: u8, block:
     is_right_mark && image.byte(block as usize, 1) == inode
 }
 
-/// Whether each entry leads to a live inode, and to none more entries than it has links.
+/// Whether each entry leads to a live inode, and no inode has more entries than links.
 fn has_clean_entries<A: Allocator + Copy>(image: &Image<A>) -> bool
     ensures { IsTrue result ↔ HasCleanEntries image.now }
 {
@@ -93,7 +93,7 @@ pub(crate) struct Directories {
     pub inodes: u16,
 }
 
-/// What the directories hold, if each entry leads to a live inode, and to none more entries than it has links.
+/// What the directories hold, if each entry leads to a live inode, and no inode has more entries than links.
 pub(crate) fn clean_directories<A: Allocator + Copy>(image: &Image<A>) -> Option<Directories>
     ensures { MatchOption result (¬ (HasCleanEntries image.now))
         (λ found. HasCleanEntries image.now × AreDirectories image.now found) }

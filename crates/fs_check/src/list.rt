@@ -4,22 +4,23 @@ ghost use Rattle.std.specs.Prelude.{◌≡◌, ℕ, ◌<◌, ◌≤◌, ◌++◌
 ghost use Rattle.std.specs.List.{All, filter_map};
 ghost use Rattle.crash_model.specs.Lists.{some_below};
 ghost use Rattle.crash_model.specs.Faults.{faults};
-ghost use Rattle.crash_model.specs.Strict.{faults_under};
+ghost use Rattle.crash_model.specs.Checker.{faults_keeping, faults_under};
 ghost use Rattle.fs_check.specs.Tally.{IsTally};
 ghost use Rattle.fs_check.specs.References.{named_at, led_at, fault_of, twice_at, low_links_at};
 
+use crate::atomic::push_half_done;
 use crate::clean::is_marked;
 use crate::references::{Pointer, push_dangling, read_pointers};
 use crate::strict::push_strict;
 use arrayvec::ArrayVec;
 use crash_model::fault::Fault;
-use disk_image::Image;
+use disk_image::{Demands, Image};
 use std::alloc::{AllocError, Allocator};
 
 /// The faults of an image: by kind, in the order of [`Fault`]'s variants, and those of one kind by place.
 ///
-/// The image's pointers and entries are read once, and the list alone takes memory. It fails only when out of memory.
-/// An image is clean exactly where the list is empty.
+/// The image's pointers and entries are read once, and only the list takes memory. It fails only when out of memory. An
+/// image is clean exactly if the list is empty.
 pub fn faults<A: Allocator + Copy>(alloc: A, image: &Image<A>) -> Result<Vec<Fault, A>, AllocError>
     ensures { IfOk result (λ found. found.items ≡ faults image.now) }
 {
@@ -28,7 +29,7 @@ pub fn faults<A: Allocator + Copy>(alloc: A, image: &Image<A>) -> Result<Vec<Fau
     Ok(found)
 }
 
-/// Makes of a list the faults of an image.
+/// Replaces the contents of a list by the faults of an image.
 fn list_faults<A: Allocator + Copy>(
     found: &mut Vec<Fault, A>,
     image: &Image<A>,
@@ -49,29 +50,42 @@ fn list_faults<A: Allocator + Copy>(
     Ok(())
 }
 
-/// The faults of an image where a script keeps a set of inodes, or where nothing is asked of that: those of [`faults`],
-/// then the two of what is kept, by inode. It fails only when out of memory.
+/// The faults of an image, with what is demanded of it besides the six: those of [`faults`], then the two of the strict
+/// checker, by inode, then the one of half-done operations. It fails only when out of memory.
 pub fn faults_under<A: Allocator + Copy>(
     alloc: A,
     image: &Image<A>,
-    kept: Option<u16>,
+    demands: &Demands<A>,
 ) -> Result<Vec<Fault, A>, AllocError>
-    ensures { IfOk result (λ found. found.items ≡ faults_under kept image.now) }
+    ensures { IfOk result (λ found. found.items ≡ faults_under demands.now image.now) }
 {
     let mut found = Vec::new(alloc);
-    list_faults_under(&mut found, image, kept)?;
+    list_faults_under(&mut found, image, demands)?;
     Ok(found)
 }
 
-/// Makes of a list what [`faults_under`] gives, in the memory that it has where that is enough.
+/// Replaces the contents of a list by what [`faults_under`] gives, in the memory that the list has if that is enough.
 ///
 /// It fails only when out of memory; then the list has some of the faults.
 pub fn list_faults_under<A: Allocator + Copy>(
     found: &mut Vec<Fault, A>,
     image: &Image<A>,
+    demands: &Demands<A>,
+) -> Result<(), AllocError>
+    ensures { OnOk result (found.new.items ≡ faults_under demands.now image.now) }
+{
+    list_faults_keeping(found, image, demands.kept())?;
+    push_half_done(found, image, demands)?;
+    Ok(())
+}
+
+/// Makes of a list the six faults of an image, and the two where a script keeps a set of inodes.
+fn list_faults_keeping<A: Allocator + Copy>(
+    found: &mut Vec<Fault, A>,
+    image: &Image<A>,
     kept: Option<u16>,
 ) -> Result<(), AllocError>
-    ensures { OnOk result (found.new.items ≡ faults_under kept image.now) }
+    ensures { OnOk result (found.new.items ≡ faults_keeping kept image.now) }
 {
     list_faults(found, image)?;
     if let Some(kept) = kept {
@@ -80,7 +94,7 @@ pub fn list_faults_under<A: Allocator + Copy>(
     Ok(())
 }
 
-/// What is tested of one pointer alone.
+/// The tests of one pointer by itself.
 #[derive(Clone, Copy)]
 enum Test {
     /// Whether it names a block of the data area that is not marked as the inode's.

@@ -2,24 +2,33 @@
 
 ghost use Rattle.std.specs.Prelude.{◌≡◌, ◌<◌, ◌↔◌, ◌++◌, IsTrue, OnOk};
 ghost use Rattle.crash_model.specs.Lists.{some_below};
-ghost use Rattle.crash_model.specs.Strict.{LosesNothing, IsCleanUnder, strict_faults};
+ghost use Rattle.crash_model.specs.Checker.{IsCleanKeeping, IsCleanUnder};
+ghost use Rattle.crash_model.specs.Strict.{LosesNothing, strict_faults};
 ghost use Rattle.fs_check.specs.Passed.{HasCleanEntries};
 ghost use Rattle.fs_check.specs.Strict.{lost_at, bare_at, IsReachOf, IsNamedBy, AreDirectories};
 
+use crate::atomic::shows_some;
 use crate::clean::{Directories, clean_directories, has_clean_pointers, is_clean};
 use crate::list::push_some;
 use crash_model::disk_bytes::DIRECTORY_KIND;
 use crash_model::fault::Fault;
-use disk_image::Image;
+use disk_image::{Demands, Image};
 use patch_sets::ends::{lowest, without};
 use patch_sets::set::{has, is_subset, with};
 use std::alloc::{AllocError, Allocator};
 
-/// Whether an image has no fault, where a script keeps a set of inodes or where nothing is asked of that.
+/// Whether an image has no fault, with what is demanded of it besides the six.
 ///
 /// It takes no memory, and ends at the first fault that it meets.
-pub fn is_clean_under<A: Allocator + Copy>(image: &Image<A>, kept: Option<u16>) -> bool
-    ensures { IsTrue result ↔ IsCleanUnder kept image.now }
+pub fn is_clean_under<A: Allocator + Copy>(image: &Image<A>, demands: &Demands<A>) -> bool
+    ensures { IsTrue result ↔ IsCleanUnder demands.now image.now }
+{
+    is_clean_keeping(image, demands.kept()) && shows_some(image, demands)
+}
+
+/// Whether an image has none of the six faults, and none of the two where a script keeps a set of inodes.
+fn is_clean_keeping<A: Allocator + Copy>(image: &Image<A>, kept: Option<u16>) -> bool
+    ensures { IsTrue result ↔ IsCleanKeeping kept image.now }
 {
     match kept {
         Some(kept) => has_clean_pointers(image) && has_clean_tree(image, kept),
@@ -29,7 +38,7 @@ pub fn is_clean_under<A: Allocator + Copy>(image: &Image<A>, kept: Option<u16>) 
 
 /// Whether the entries have no fault, each inode of a set is reached, and each directory that is reached has a block.
 ///
-/// One pass over the entries serves both: what they lead to is kept from it.
+/// One pass over the entries serves both: it keeps what they lead to.
 fn has_clean_tree<A: Allocator + Copy>(image: &Image<A>, kept: u16) -> bool
     ensures { IsTrue result ↔ (HasCleanEntries image.now × LosesNothing kept image.now) }
 {
@@ -109,7 +118,7 @@ pub(crate) fn push_strict<A: Allocator + Copy>(
     Ok(())
 }
 
-/// An inode as a fault, if it is to be kept and is not reached.
+/// The fault of an inode, if it is kept and not reached.
 fn lost_at<A: Allocator + Copy>(
     image: &Image<A>,
     kept: u16,
@@ -142,7 +151,7 @@ fn push_lost<A: Allocator + Copy>(
     Ok(())
 }
 
-/// An inode as a fault, if it is a directory that is reached and has no block.
+/// The fault of an inode, if it is a directory that is reached and has no block.
 fn bare_at<A: Allocator + Copy>(image: &Image<A>, reached: u128, inode: u8) -> Option<Fault>
     requires inode { inode < 16 }
     requires reached { IsReachOf image.now reached }

@@ -107,7 +107,7 @@ parts_of after t j g targets cs =
       done_place = refl;
     }
 
--- ---- who depends on whom
+-- ---- which patch depends on which
 
 or_right : (a b : Bool) → b ≡ true → (a || b) ≡ true
 or_right true b h = refl

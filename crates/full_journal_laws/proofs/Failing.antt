@@ -3,33 +3,45 @@ use Rattle.std.proofs.Common.{◌≡◌, ℕ, ◌+◌, ◌<◌, List, get_or, sy
 use Rattle.std.specs.Prelude.{Option, Some, None, Bool}
 use Rattle.crash_model.specs.Disk.{Disk, IsDisk}
 use Rattle.crash_model.specs.Sound.{HasZeroJournal}
-use Rattle.crash_model.specs.Patches.{deps_of, image_of}
+use Rattle.crash_model.specs.Patches.{image_of}
 use Rattle.crash_model.specs.Replay.{image_after_replay}
-use Rattle.crash_model.specs.Strict.{IsToldKept, IsCleanUnder, IsFailingUnder}
-use Rattle.patch_sets.specs.Closed.{IsClosed}
+use Rattle.crash_model.specs.Checker.{Demands, AreDemands, IsCleanKeeping, IsCleanUnder, IsFailingUnder}
+use Rattle.crash_model.specs.Atomic.{ShowsSome}
+use Rattle.crash_model.specs.Strict.{IsToldKept}
+use Rattle.crash_model.specs.Trace.{Tracing}
 use Rattle.crash_model.specs.declared.patches.Patch.{Patch}
 use Rattle.crash_model.specs.declared.steps.Step.{Step}
 use Rattle.inode_fs.specs.Inside.{HasSameJournal}
 use Rattle.journal_replay.proofs.Blocks.{block-at}
-use Rattle.full_journal_laws.specs.Full.{IsFullSafe}
+use Rattle.crash_model.proofs.Demanded.{clean_from_parts}
+use Rattle.full_journal_laws.specs.Full.{commits_from, IsRecovered, IsFullSafe}
+use Rattle.full_journal_laws.proofs.Showing.{shows_demanded}
 use Rattle.full_journal_laws.proofs.Kept.{strictly_clean}
 
--- what replay leaves is clean, whatever the checker is told
-safe_is_clean : (strict whole : Bool) (kept : Option ℕ) (base : Disk) (steps : List Step) (patches : List Patch)
-    → IsDisk base → IsToldKept strict base steps kept
-    → IsFullSafe whole base steps patches → (set : ℕ) → IsClosed (deps_of patches) set
-    → IsCleanUnder kept (image_after_replay (image_of base patches set))
-safe_is_clean strict whole None base steps patches disk told safe set closed =
-    record { faultless = (safe.2 set closed).sound.clean.faultless }
-safe_is_clean strict whole (Some kept) base steps patches disk told safe set closed =
-    strictly_clean base steps safe.0 patches set kept disk told.1 (safe.2 set closed)
+module _ (strict : Bool) (base : Disk) (steps : List Step) (s : Tracing) (patches : List Patch) (set : ℕ)
+    (disk : IsDisk base) (recovered : IsRecovered base steps s patches set) where
+  -- none of the eight faults holds of what replay leaves
+  keeps : (kept : Option ℕ) → IsToldKept strict base steps kept
+      → IsCleanKeeping kept (image_after_replay (image_of base patches set))
+  keeps None told = record { faultless = recovered.sound.clean.faultless }
+  keeps (Some kept) told = strictly_clean base steps s patches set kept disk told.1 recovered
+
+  -- what replay leaves is clean, whatever is demanded
+  pub recovered_is_clean : (atomic : Bool) (demands : Demands) → AreDemands strict atomic base steps demands
+      → IsCleanUnder demands (image_after_replay (image_of base patches set))
+  recovered_is_clean atomic demands are =
+      let d : Disk = image_after_replay (image_of base patches set) in
+      clean_from_parts demands d (keeps demands.kept are.kept)
+      (subst (λ (disks : Option (List Disk)). ShowsSome disks d) (sym are.disks)
+      (shows_demanded atomic d base steps (commits_from 0 s.emitted set) recovered.shown))
 
 -- no set fails
-pub none_fails : (strict whole : Bool) (kept : Option ℕ) (base : Disk) (steps : List Step) (patches : List Patch)
-    → IsDisk base → IsToldKept strict base steps kept → IsFullSafe whole base steps patches
-    → (set : ℕ) → ¬ (IsFailingUnder kept base patches set)
-none_fails strict whole kept base steps patches disk told safe set failing =
-    failing.unclean (safe_is_clean strict whole kept base steps patches disk told safe set failing.closed)
+pub none_fails : (strict atomic whole : Bool) (demands : Demands) (base : Disk) (steps : List Step)
+    (patches : List Patch) → IsDisk base → AreDemands strict atomic base steps demands
+    → IsFullSafe whole base steps patches → (set : ℕ) → ¬ (IsFailingUnder demands base patches set)
+none_fails strict atomic whole demands base steps patches disk are safe set failing =
+    failing.unclean (recovered_is_clean strict base steps safe.0 patches set disk (safe.2 set failing.closed) atomic
+    demands are)
 
 -- a journal that stays is as zero as it was
 pub zero-kept : (old new : Disk) → new.journal ≡ old.journal → HasSameJournal old new → HasZeroJournal old

@@ -30,12 +30,16 @@ use Rattle.crash_model.specs.declared.modules.Module.TheVariants.{Full}
 use Rattle.crash_model.specs.declared.steps.Step.{Step}
 use Rattle.full_journal_laws.proofs.Transactions.{IsLogClosed, copy_places, change_places, turn_places, log_places}
 use Rattle.full_journal_laws.proofs.Transactions.{committed_disk, replayed_block}
+use Rattle.crash_model.specs.Atomic.{shows}
+use Rattle.full_journal_laws.proofs.Showing.{sound_shows}
 use Rattle.full_journal_laws.specs.Full.{IsOutside}
 use Rattle.full_journal_laws.proofs.Logs.{log_emitted, IsClosedIn, IsGood, ArePlans}
 use Rattle.journal_replay.proofs.Blocks.{IsShaped, length-block, block-at, shaped-inside}
 use Rattle.journal_replay.proofs.Targets.{bool_is, same_number, found_or_not, header_fits}
 use Rattle.full_journal_laws.proofs.Images.{shaped-image}
 use Rattle.full_journal_laws.proofs.Targets.{equal_test}
+use Rattle.crash_model.specs.Atomic.{shows}
+use Rattle.full_journal_laws.proofs.Showing.{sound_shows}
 use Rattle.full_journal_laws.specs.Full.{ops_of, after_ops, commits_from, IsRecovered}
 use Rattle.full_journal_laws.proofs.Plans.{plan-good}
 use Rattle.full_journal_laws.proofs.Outside.{sound-outside}
@@ -269,7 +273,7 @@ log_commits (o ∷ log) n d t j id set =
     count true x y all rest a e f = omega arith
     count false x y all rest a e f = omega arith
 
--- ---- the operations behind the log
+-- ---- the operations after the log
 
 plans_after : (k : ℕ) (ops : List Op) (plans : List (List Change)) (d : Disk) → ArePlans d ops plans
     → with_all_changes d (take k plans) ≡ after_ops d (take k ops)
@@ -374,5 +378,11 @@ module _ (rules : List Rule) (whole : Bool) (base : Disk) (steps : List Step) (s
   recovered = record {
     same = λ b less out. ap (λ (d : Disk). block_of (image_after_replay d) b) image_is ∙ blocks_are b less out
         ∙ ap (λ (d : Disk). block_of d b) (plans_after k (ops_of steps) (changes_of logged.changes) base logged.plans);
+    shown = ap (λ (d : Disk). shows (image_after_replay d) (after_ops base (take k (ops_of steps)))) image_is
+        ∙ (ap (λ (d : Disk). shows (image_after_replay image) d)
+        (sym (plans_after k (ops_of steps) (changes_of logged.changes) base logged.plans))
+        ∙ sound_shows (image_after_replay image) left left_good.disk left_good.sound
+        (λ b less out. blocks_are b (subst (λ (m : ℕ). b < m) left_good.blocks less)
+        (subst (λ (m : ℕ). IsOutside m b) left_good.journal out)));
     sound = subst (λ (d : Disk). IsSound (image_after_replay d)) (sym image_is) image_sound;
   }

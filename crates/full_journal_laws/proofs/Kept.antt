@@ -16,14 +16,14 @@ use Rattle.crash_model.specs.Patches.{image_of}
 use Rattle.crash_model.specs.Plan.{plan_of, with_plan}
 use Rattle.crash_model.specs.Replay.{image_after_replay}
 use Rattle.crash_model.specs.Strict.{disk_after, stays_live, IsKept, has_entry_to, is_reached, LosesNothing}
-use Rattle.crash_model.specs.Strict.{IsCleanUnder}
+use Rattle.crash_model.specs.Checker.{IsCleanKeeping}
 use Rattle.crash_model.specs.Trace.{Tracing}
 use Rattle.crash_model.specs.declared.patches.Patch.{Patch}
 use Rattle.crash_model.specs.declared.steps.Act.{Act}
 use Rattle.crash_model.specs.declared.steps.Act.TheVariants.{Do, Group, End, Depend}
 use Rattle.crash_model.specs.declared.steps.Step.{Step}
 use Rattle.crash_model.proofs.Clean.{clean_no_fault}
-use Rattle.crash_model.proofs.Losing.{clean_under}
+use Rattle.crash_model.proofs.Losing.{clean_keeping}
 use Rattle.crash_model.proofs.Reached.{reached-root, reached-step, reached-least}
 use Rattle.journal_replay.proofs.Blocks.{block-at}
 use Rattle.full_journal_laws.specs.Full.{ops_at, ops_of, after_ops, commits_from, IsRecovered}
@@ -102,7 +102,7 @@ module _ (d : Disk) (sound : IsSound d) where
 
 -- ---- what stays live
 
--- the same for a step and those behind it
+-- the same for a step and those after it
 module _ (xs : List Step) (i : ℕ)
     (rest : (k : ℕ) (d : Disk) → stays_live d xs i ≡ true → is_live (after_ops d (take k (ops_of xs))) i ≡ true) where
   stays_one : (k : ℕ) (d : Disk) (act : Act) → is_live d i ≡ true → stays_live (disk_after d act) xs i ≡ true
@@ -122,7 +122,7 @@ stays_after k d (x ∷ xs) i is =
     let parts = and_parts (is_live d i) _ is in
     stays_one xs i (λ m e on. stays_after m e xs i on) k d x.act parts.0 parts.1
 
--- ---- inodes stand outside the journal
+-- ---- inodes are outside the journal
 
 kind_in_block : (d : Disk) (i block offset : ℕ) → offset < 128 → 128 * block + offset ≡ 256 + 16 * i
     → kind_of d i ≡ get_or (block_of d block) offset 0
@@ -150,12 +150,12 @@ same_live d e i two three live =
 
 pub strictly_clean : (base : Disk) (steps : List Step) (s : Tracing) (patches : List Patch) (set kept : ℕ) → IsDisk base
     → IsKept base steps kept
-    → IsRecovered base steps s patches set → IsCleanUnder (Some kept) (image_after_replay (image_of base patches set))
+    → IsRecovered base steps s patches set → IsCleanKeeping (Some kept) (image_after_replay (image_of base patches set))
 strictly_clean base steps s patches set kept disk keeps recovered =
     let d : Disk = image_after_replay (image_of base patches set) in
     let k : ℕ = commits_from 0 s.emitted set in
     let left : Disk = after_ops base (take k (ops_of steps)) in
     let two : block_of d 2 ≡ block_of left 2 = recovered.same 2 (omega (arith, disk.least)) (inl (omega arith)) in
     let three : block_of d 3 ≡ block_of left 3 = recovered.same 3 (omega (arith, disk.least)) (inl (omega arith)) in
-    clean_under kept d recovered.sound.clean (sound_loses d recovered.sound kept
+    clean_keeping kept d recovered.sound.clean (sound_loses d recovered.sound kept
     (λ i is. same_live d left i two three (stays_after k base steps i (sym (keeps i) ∙ is))))

@@ -12,3 +12,4 @@ pub mod Outside
 pub mod Final
 pub mod Failing
 pub mod Kept
+pub mod Showing

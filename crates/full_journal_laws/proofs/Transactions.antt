@@ -35,8 +35,8 @@ log_places n d t j (cs ∷ ops) =
 
 -- ---- what a set has of it
 
--- Of a transaction that begins at id, with `copies` copies and `changes` changes. `committed` and `done` tell of the
--- one before it.
+-- Of a transaction that begins at id, with `copies` copies and `changes` changes. `committed` and `done` say whether
+-- the one before it is.
 pub record IsTurnClosed (id copies changes : ℕ) (committed done : Bool) (set : ℕ) : Type 0 where
   pub copied : has set (id + copies) ≡ true → (p : ℕ) → id ≤ p → p < id + copies → has set p ≡ true
   pub chained : has set (id + copies) ≡ true → committed ≡ true

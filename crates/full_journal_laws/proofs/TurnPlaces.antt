@@ -1,4 +1,4 @@
--- Where the patches of a transaction stand.
+-- The places of the patches of a transaction.
 use Rattle.std.proofs.Common.{◌≡◌, ◌≢◌, ℕ, suc, ◌+◌, ◌*◌, ◌<◌, ◌≤◌, ◌⊎◌, inl, inr, List, [], ◌∷◌, ◌++◌, length, take}
 use Rattle.std.proofs.Common.{drop, min, arith, refl, sym, ap, subst}
 use Rattle.std.proofs.lemmas.List.{length-append, length-map, length-take}

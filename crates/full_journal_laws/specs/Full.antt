@@ -4,6 +4,7 @@ use Rattle.std.specs.Prelude.{if◌then◌else◌, Ok}
 use Rattle.patch_sets.specs.Sets.{has}
 use Rattle.patch_sets.specs.Closed.{IsClosed}
 use Rattle.crash_model.specs.Disk.{Disk, block_of}
+use Rattle.crash_model.specs.Atomic.{shows}
 use Rattle.crash_model.specs.Plan.{plan_of, with_plan}
 use Rattle.crash_model.specs.Sound.{IsSound}
 use Rattle.crash_model.specs.Patches.{deps_of, image_of}
@@ -45,11 +46,13 @@ commits_from id [] set = 0
 commits_from id (e ∷ es) set = (if is_commit e.part && has set id then 1 else 0) + commits_from (id + 1) es set
 
 -- what replay makes of the image of a set: outside the journal the base after the first k operations, k being how
--- many commit patches the set has; a sound disk
+-- many commit patches the set has, so that it shows that disk; and it is a sound disk
 pub record IsRecovered (base : Disk) (steps : List Step) (s : Tracing) (patches : List Patch) (set : ℕ) : Type 0 where
   pub same : (block : ℕ) → block < base.blocks → IsOutside base.journal block
       → block_of (image_after_replay (image_of base patches set)) block
       ≡ block_of (after_ops base (take (commits_from 0 s.emitted set) (ops_of steps))) block
+  pub shown : shows (image_after_replay (image_of base patches set))
+      (after_ops base (take (commits_from 0 s.emitted set) (ops_of steps))) ≡ true
   pub sound : IsSound (image_after_replay (image_of base patches set))
 
 -- the patches are those of the steps under the full journal, and replay recovers from every set that a crash can leave

@@ -1,4 +1,4 @@
-//! What a script under the full journal is sure of, as functions that do nothing and promise the law.
+//! What is certain of a script under the full journal, as functions that do nothing and promise the law.
 
 ghost use Rattle.std.specs.Prelude.{◌≡◌, ℕ, List, All, Bool, Ok, Some};
 ghost use Rattle.patch_sets.specs.Closed.{IsClosed};
@@ -6,7 +6,8 @@ ghost use Rattle.crash_model.specs.Disk.{Disk, IsDisk};
 ghost use Rattle.crash_model.specs.Sound.{IsSound, HasZeroJournal};
 ghost use Rattle.crash_model.specs.Patches.{deps_of, image_of};
 ghost use Rattle.crash_model.specs.Replay.{image_after_replay};
-ghost use Rattle.crash_model.specs.Strict.{IsKept, IsCleanUnder};
+ghost use Rattle.crash_model.specs.Checker.{Demands, AreDemands, IsCleanKeeping, IsCleanUnder};
+ghost use Rattle.crash_model.specs.Strict.{IsKept};
 ghost use Rattle.crash_model.specs.Trace.{Tracing, trace_start, trace_from, IsGraphOf};
 ghost use Rattle.crash_model.specs.Rules.{rules_of};
 ghost use Rattle.crash_model.specs.RuleFacts.{AreAmong};
@@ -19,7 +20,7 @@ ghost use Rattle.full_journal_laws.specs.Full.{ops_of, IsRecovered};
 
 /// From a sound disk with a zero journal, and for every set of patches that a crash can leave: replay makes a sound
 /// disk, which outside the journal is the base after the first k operations, k being how many commit patches the set
-/// has. It is so with whatever rules beside those of the journal, and where blocks are written whole.
+/// has. This holds with any rules added to those of the journal, and with blocks that are written whole.
 pub fn replay_recovers_the_committed_operations()
     ensures { (rules : List Rule) → (whole : Bool) → (base : Disk) → (steps : List Step) → (s : Tracing)
         → (patches : List Patch) → (set : ℕ)
@@ -30,8 +31,8 @@ pub fn replay_recovers_the_committed_operations()
         → IsRecovered base steps s patches set }
 {}
 
-/// So nothing fails with a strict checker either: the image after replay has none of
-/// the eight faults, for every script and every set of patches that a crash can leave.
+/// So nothing fails with a strict checker either: the image after replay has none of the eight faults, for every script
+/// and every set of patches that a crash can leave.
 pub fn nothing_that_the_script_keeps_is_lost()
     ensures { (rules : List Rule) → (whole : Bool) → (base : Disk) → (steps : List Step) → (s : Tracing)
         → (patches : List Patch) → (set kept : ℕ)
@@ -39,5 +40,17 @@ pub fn nothing_that_the_script_keeps_is_lost()
         → trace_from Full (trace_start whole base) steps ≡ Ok s → AreAmong (rules_of Full) rules
         → IsGraphOf rules base s patches
         → IsClosed (deps_of patches) set → IsKept base steps kept
-        → IsCleanUnder (Some kept) (image_after_replay (image_of base patches set)) }
+        → IsCleanKeeping (Some kept) (image_after_replay (image_of base patches set)) }
+{}
+
+/// So nothing fails whatever is demanded: the image after replay has none of the nine faults, since it shows the disk
+/// after the operations that are committed.
+pub fn every_demand_is_met()
+    ensures { (rules : List Rule) → (whole strict atomic : Bool) → (base : Disk) → (steps : List Step) → (s : Tracing)
+        → (patches : List Patch) → (set : ℕ) → (demands : Demands)
+        → IsDisk base → IsSound base → HasZeroJournal base → All GivesName (ops_of steps)
+        → trace_from Full (trace_start whole base) steps ≡ Ok s → AreAmong (rules_of Full) rules
+        → IsGraphOf rules base s patches
+        → IsClosed (deps_of patches) set → AreDemands strict atomic base steps demands
+        → IsCleanUnder demands (image_after_replay (image_of base patches set)) }
 {}

@@ -1,4 +1,4 @@
--- The account of a deque: what was taken and what is left is what was pushed, each as often.
+-- The account of a deque: what was taken and what is left are exactly what was pushed. No task is lost or duplicated.
 use Rattle.std.specs.Prelude.{◌≡◌, ℕ, ◌+◌, List, [], ◌∷◌, ◌++◌, All}
 use Rattle.hands.specs.declared.account.Held.{Held}
 
@@ -13,7 +13,8 @@ module _ {T : Type 0} where
   abbrev pub with_taken : Held T → T → Held T
   with_taken held task = account_of held.pushed (held.taken ++ task ∷ []) held.parts
 
-  -- the weights of some tasks in all; two lists with the same weights for every weighing have each task as often
+  -- the weights of some tasks in all; two lists with the same weights for every weighing have the same tasks, each
+  -- equally often
   abbrev pub weigh : (T → ℕ) → List T → ℕ
   weigh h [] = 0
   weigh h (x ∷ xs) = h x + weigh h xs

@@ -11,7 +11,7 @@ module _ {T A : Type 0} where
   weigh_taken weight of e hand = weigh weight (slice_index_or hand.ways of e).holds.taken
 
   -- What the owner and the ways of all hands hold as taken from deque `of` and what is left in it are together what the
-  -- owner holds as pushed, each as often.
+  -- owner holds as pushed: none is lost or duplicated.
   abbrev pub IsLeftIn : List (Known T A) → ℕ → List T → Type 0
   IsLeftIn hands of left =
       (d : Known T A) (e : Way T A) (weight : T → ℕ)

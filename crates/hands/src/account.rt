@@ -11,7 +11,7 @@ pub struct Held<T> {
     pub parts: usize,
 }
 
-/// The rule of a deque: what was taken and what is left are what was pushed, each as often.
+/// The rule of a deque: no task is lost or duplicated. What was taken and what is left are exactly what was pushed.
 pub struct Accounts;
 
 impl<T> Protocol<T, Held<T>> for Accounts {

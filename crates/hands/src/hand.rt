@@ -13,8 +13,8 @@ use std::marker::Model;
 /// A worker's own deque.
 pub(crate) type Deque<T, A> = Worker<T, A, Held<T>, Accounts>;
 
-/// A deque of a worker's own, which it pushes to and pops from at the back, and ways to the deques of all workers,
-/// from which it steals at the front.
+/// A worker's own deque, which it pushes to and pops from at the back, and ways to the deques of all workers, from
+/// which it steals at the front.
 ///
 /// Contracts see which deques they are and what each pass holds as pushed and as taken. A struct that holds a hand
 /// writes its `Drop` out, with `drop(hand)`, since a derived one gets no proof.
@@ -37,7 +37,7 @@ impl<T, A: Allocator> Model for Hand<T, A> {
 }
 
 impl<T: Drop, A: Allocator> Hand<T, A> {
-    /// Puts a task at the back of the worker's own deque, or hands it back where the deque cannot grow.
+    /// Puts a task at the back of the worker's own deque, or hands it back if the deque cannot grow.
     pub fn push(&mut self, task: T) -> Result<(), T>
         ensures same { IsSameHand self.old self.new }
         ensures pushed { MatchResult result
@@ -57,7 +57,7 @@ impl<T: Drop, A: Allocator> Hand<T, A> {
         self.deque.pop_as::<Taken>()
     }
 
-    /// Takes the oldest task of a worker's deque, workers being numbered from 0. None says only that nothing was
+    /// Takes the oldest task of a worker's deque, workers being numbered from 0. `None` says only that nothing was
     /// taken.
     pub fn steal(&mut self, from: usize) -> Option<T>
         requires { from < length self.old.ways }

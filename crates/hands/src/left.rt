@@ -14,7 +14,7 @@ use std::alloc::Allocator;
 /// Workers are numbered from 0.
 ///
 /// The tasks that the hands hold as taken from the deque, and those that are left in it, are together the tasks that
-/// its owner holds as pushed, each as often.
+/// its owner holds as pushed: none is lost or duplicated.
 pub fn tasks_left<T: Drop, A: Allocator>(mut hands: Vec<Hand<T, A>, A>, of: usize) -> usize
     requires together { AreTogether hands.items }
     requires of { of < length hands.items }
@@ -28,7 +28,7 @@ pub fn tasks_left<T: Drop, A: Allocator>(mut hands: Vec<Hand<T, A>, A>, of: usiz
     settled(deque, hands, of)
 }
 
-/// The same, where the owner's own way has come back, and the ways of all other hands come back now.
+/// The same, if the owner's own way has come back, and the ways of all other hands come back now.
 fn settled<T: Drop, A: Allocator>(
     mut deque: Deque<T, A>,
     others: Vec<Hand<T, A>, A>,

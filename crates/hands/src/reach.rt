@@ -28,7 +28,7 @@ impl<T, A: Allocator> Model for Reach<T, A> {
 }
 
 impl<T, A: Allocator> Reach<T, A> {
-    /// The oldest task of the deque, where one was taken.
+    /// The oldest task of the deque, if one was taken.
     pub(crate) fn steal(&mut self) -> Option<T>
         ensures { MatchOption result (self.new ≡ self.old) (λ task.
             self.new ≡ record self.old {
@@ -40,7 +40,7 @@ impl<T, A: Allocator> Reach<T, A> {
 }
 
 impl<T: Drop, A: Allocator> Reach<T, A> {
-    /// The pass alone.
+    /// Only the pass.
     pub(crate) fn into_pass(self) -> Pass<T, Held<T>, A>
         ensures deque { IsPassOf self.home result }
         ensures holds { view result ≡ self.holds }

@@ -23,7 +23,8 @@ pub enum Shape {
     Journaled,
 }
 
-/// The image of a shape, of so many blocks and journal blocks, and of a seed. A sound one begins with these steps.
+/// The image of a shape, with these numbers of blocks and journal blocks, and of a seed. A sound one begins with these
+/// steps.
 pub fn image_of(
     heap: Global,
     first: &[Step],

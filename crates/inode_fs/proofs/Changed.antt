@@ -44,7 +44,7 @@ pub record Made (d : Disk) (changes : List Change) (t : Tables) : Type 0 where
 along : (d : Disk) (changes by : List Change) (t : Tables) → changes ≡ by → Made d by t → Made d changes t
 along d changes by t is m = subst (λ (x : List Change). Made d x t) (sym is) m
 
--- ---- a directory stands where the tables keep its kind and its block
+-- ---- a directory stays if the tables keep its kind and its block
 
 own_mark : (d : Disk) (dir : ℕ) → Sound (tables_of d) → (tables_of d).kind dir ≡ 2
     → (tables_of d).mark ((tables_of d).pointer dir 0) ≡ DirectoryOf dir

@@ -263,7 +263,7 @@ with_bytes-disk d c disk lands = record {
       (omega (arith, disk.whole, lands.block, lands.range)) ∙ disk.whole;
 }
 
--- where changes lie depends on the disk's size alone
+-- where changes lie depends only on the disk's size
 stay : (d : Disk) (c : Change) (cs : List Change) → AllLand d cs
     → AllLand (with_bytes d c.block c.offset c.new.items) cs
 stay d c [] all = tt

@@ -9,3 +9,4 @@ pub mod Means
 pub mod ViewTests
 pub mod Refused
 pub mod StayLive
+pub mod Passing

@@ -1,4 +1,4 @@
--- On a sound disk an operation is refused exactly as the tests said of views tell.
+-- On a sound disk an operation is refused exactly as the tests of views say.
 use Rattle.std.proofs.Common.{◌≡◌, ◌≢◌, ℕ, ◌<◌, ◌⊎◌, ◌↔◌, inl, inr, List, [], ◌∷◌, Bool, true, false, not, eqb, Option}
 use Rattle.std.proofs.Common.{Some, None, Result, Ok, Err, arith, refl, sym, ◌∙◌, ap, subst}
 use Rattle.std.proofs.lemmas.Bool.{eq-eqb, eqb-true}
@@ -25,7 +25,7 @@ use Rattle.inode_fs.proofs.Means.{kind-of, name-of, walks, root-walk_end}
 use Rattle.inode_fs.proofs.ViewTests.{named-by, test-named, test-inode, test-block, test-slot, test-full, test-kind}
 use Rattle.inode_fs.proofs.ViewTests.{test-links, test-entries}
 
--- an answer is a refusal exactly where something holds of the fault
+-- an answer is a refusal exactly if something holds of the fault
 abbrev pub Refuses : {B : Type 0} → Result B FsFault → (FsFault → Type 0) → Type 0
 Refuses r P = (fault : FsFault) → ((r ≡ Err fault) ↔ P fault)
 

@@ -14,7 +14,7 @@ use std::alloc::{AllocError, Allocator};
 /// The inodes that a script keeps, as a set: those that are live in an image and in the image after each of the steps.
 ///
 /// A step on groups changes nothing, nor does a refused operation. It fails only when out of memory.
-pub fn kept<A: Allocator + Copy>(image: &Image<A>, steps: &[Step]) -> Result<u16, AllocError>
+pub(crate) fn kept<A: Allocator + Copy>(image: &Image<A>, steps: &[Step]) -> Result<u16, AllocError>
     ensures { IfOk result (λ kept. IsKept image.now steps.now kept) }
 {
     let mut disk = image.try_copy()?;
@@ -26,8 +26,8 @@ pub fn kept<A: Allocator + Copy>(image: &Image<A>, steps: &[Step]) -> Result<u16
     Ok(kept)
 }
 
-/// Makes of an image the one after a step.
-fn advance<A: Allocator + Copy>(disk: &mut Image<A>, step: &Step)
+/// Turns an image into the one after a step.
+pub(crate) fn advance<A: Allocator + Copy>(disk: &mut Image<A>, step: &Step)
     ensures { disk.new ≡ disk_after disk.old step.now.act }
 {
     if let Act::Do(op) = &step.act {

@@ -7,6 +7,7 @@
 
 mod applying;
 mod changes;
+mod demanding;
 mod keeping;
 mod look;
 mod planning;
@@ -16,5 +17,5 @@ pub use crash_model::names::{Name, Path};
 pub use crash_model::operations::Op;
 pub use crash_model::plans::{Change, Plan, Role};
 pub use crash_model::refusals::FsFault;
-pub use keeping::kept;
+pub use demanding::demands;
 pub use planning::plan;

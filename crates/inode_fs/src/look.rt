@@ -15,7 +15,7 @@ use crash_model::refusals::FsFault;
 use disk_image::Image;
 use std::alloc::Allocator;
 
-/// Whether an entry of a directory that counts is spelled so and leads to a live inode.
+/// Whether an entry of a directory that counts has this name and leads to a live inode.
 fn is_spelled<A: Allocator + Copy>(image: &Image<A>, dir: u8, k: u8, spelled: &[u8]) -> bool
     requires dir { dir < 16 }
     requires k { k < 10 }
@@ -48,8 +48,8 @@ pub fn entry_named<A: Allocator + Copy>(image: &Image<A>, dir: u8, name: &Name) 
     None
 }
 
-/// The directory that a name of a directory leads to; refused with 10 where there is no such name, with 11 where it
-/// leads to something else.
+/// The directory that a name of a directory leads to; refused with 10 if there is no such name, with 11 if it leads to
+/// something else.
 fn enter<A: Allocator + Copy>(image: &Image<A>, dir: u8, name: &Name) -> Result<u8, FsFault>
     requires { dir < 16 }
     ensures value { result ≡ directory_named image.now dir name.now }
@@ -89,7 +89,7 @@ pub struct Entry {
     pub target: u8,
 }
 
-/// The entry of a path's last name; refused as [`walk`] is, and with 10 where the name is absent.
+/// The entry of a path's last name; refused as [`walk`] is, and with 10 if the name is absent.
 pub fn find<A: Allocator + Copy>(image: &Image<A>, path: &Path) -> Result<Entry, FsFault>
     ensures found { MatchResult result
         (λ e. (next : ℕ → ℕ → ℕ → Result (List Change) FsFault) → at_entry image.now path.now next
@@ -117,7 +117,7 @@ pub fn free_inode<A: Allocator + Copy>(image: &Image<A>) -> Option<u8>
     None
 }
 
-/// The lowest block of the data area that the allocation map has as free.
+/// The lowest block of the data area that the allocation map marks as free.
 pub fn free_block<A: Allocator + Copy>(image: &Image<A>) -> Option<u8>
     ensures value { result ≡ free_block image.now }
     ensures within { IfSome result (λ b. b < image.now.blocks) }

@@ -53,7 +53,7 @@ pub fn plan<A: Allocator + Copy>(image: &Image<A>, op: &Op) -> Result<Plan, FsFa
         Means image.now.blocks image.now.journal (view_of image.now)
         (view_of (with_changes image.now plan.items)) op.now) }
 {
-    // Tells the proof that the image has the size of a disk.
+    // For the proof: the image has the size of a disk.
     let _blocks = image.blocks();
     changes_of(image, op)
 }
@@ -255,7 +255,7 @@ fn rmdir<A: Allocator + Copy>(image: &Image<A>, path: &Path) -> Result<Plan, FsF
     Ok(plan)
 }
 
-/// Adds the freeing of the block that a slot of an inode names, where that is a block of the data area.
+/// Adds the freeing of the block that a slot of an inode names, if that is a block of the data area.
 fn add_map_clear<A: Allocator + Copy>(image: &Image<A>, inode: u8, slot: u8, plan: &mut Plan)
     requires inode { inode < 16 }
     requires slot { slot < 4 }

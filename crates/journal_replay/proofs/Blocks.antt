@@ -126,7 +126,7 @@ copy-same n jl d from to s f t =
     block-put_same d to 0 (block_of d from) (omega arith) (shaped-inside n jl d to s t)
     ∙ overwrite-all (block_of d to) (block_of d from) (omega arith)
 
--- a disk's bytes are its blocks, one behind another
+-- a disk's bytes are its blocks, one after another
 joined_from : (n m : ℕ) (xs : List ℕ) (f : ℕ → List ℕ) → length xs ≡ 128 * (n + m)
     → ((b : ℕ) → b < n + m → take 128 (drop (128 * b) xs) ≡ f b) → drop (128 * n) xs ≡ flat_map f (range_with_len n m)
 joined_from n zero xs f long same = drop_all (128 * n) xs (omega arith)

@@ -136,7 +136,7 @@ no_copy row j b a = elim (bool_is (slice_index row 0 == 0xC7)) [
 abbrev header_by : ℕ → ℕ → ℕ → ℕ → List ℕ → Bool
 header_by bl jn j t row = is_header (record { blocks = bl; journal = jn; bytes = [] }) j t row
 
--- a header is so by its bytes and the disk's numbers
+-- whether a block is a header depends on its bytes and the disk's numbers
 pub same_header : (d e : Disk) (j t : ℕ) (row : List ℕ) → e.blocks ≡ d.blocks → e.journal ≡ d.journal
     → is_header e j t row ≡ is_header d j t row
 same_header d e j t row p q = ap (λ (m : ℕ). header_by m e.journal j t row) p

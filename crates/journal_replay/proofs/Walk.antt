@@ -457,3 +457,8 @@ pub replay_keeps_journal : (start d : Disk) (at turn block : ℕ) → IsDisk sta
 replay_keeps_journal start d at turn block i w none from to =
     ap (λ (e : Disk). block_of e block) (walking-end start d at turn w none)
     ∙ disk_after_walk-journal start block i from to
+
+-- the image after replay is a disk
+pub disk-replayed : (d : Disk) → IsDisk d → IsDisk (image_after_replay d)
+disk-replayed d i = subst (λ (e : Disk). IsDisk e) (disk_after_walk-image_after_replay d i)
+    (disk-shaped d (disk_after_walk d.journal d 4 1) i (shaped-disk_after_walk d.journal d 4 1 i))

@@ -16,8 +16,8 @@ use std::marker::Model;
 pub struct Header {
     committed: bool,
     count: usize,
-    /// The eight bytes after the count, of which the first are the targets. All of them are moved at once, which
-    /// takes less than to move those that are meant.
+    /// The eight bytes after the count, of which the first are the targets. All of them are copied at once, which is
+    /// faster than copying only the targets.
     numbers: [u8; 8],
 }
 
@@ -48,7 +48,7 @@ impl Header {
     }
 }
 
-/// The header of transaction `turn` in journal block `at`, where the block's bytes are one.
+/// The header of transaction `turn` in journal block `at`, if the block's bytes are one.
 pub fn header_at<A: Allocator + Copy>(image: &Image<A>, at: usize, turn: usize) -> Option<Header>
     requires { at < image.now.blocks }
     ensures { MatchOption result

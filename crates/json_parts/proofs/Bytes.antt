@@ -21,7 +21,7 @@ use Rattle.crash_model.specs.Report.{Section, ReplayedBlock, fault_text, json_st
 use Rattle.crash_model.specs.Report.{replayed_json, section_json}
 use Rattle.crash_model.specs.declared.fault.Fault.{Fault}
 use Rattle.crash_model.specs.declared.fault.Fault.TheVariants.{Dangling, Twice, Unwritten, LowLinks, MarkedFree, Wild}
-use Rattle.crash_model.specs.declared.fault.Fault.TheVariants.{Lost, NoBlock}
+use Rattle.crash_model.specs.declared.fault.Fault.TheVariants.{Lost, NoBlock, HalfDone}
 use Rattle.json_parts.specs.Written.{IsWritten}
 use Rattle.json_parts.specs.Values.{number_data, ids_data, write_data, writes_data, fault_data, fault_json, faults_data}
 use Rattle.json_parts.specs.Values.{hex_data, replayed_data, replay_data, section_data, section_put, AreReplayedBytes}
@@ -94,6 +94,7 @@ fault_plain (Wild i s b) =
     refl) (decimal_plain b)
 fault_plain (Lost i) = plain-append (codes "7 lost inode: inode ") (decimal i) refl (decimal_plain i)
 fault_plain (NoBlock i) = plain-append (codes "8 directory without a block: inode ") (decimal i) refl (decimal_plain i)
+fault_plain HalfDone = refl
 
 -- ---- hexadecimal
 

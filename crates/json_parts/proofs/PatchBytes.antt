@@ -150,7 +150,7 @@ rules_plain (r ∷ rs) = All-cons IsPlain (rule_text r) (map rule_text rs) (rule
 regroup_4 : {X : Type 0} (a b c d : List X) → a ++ (b ++ (c ++ d)) ≡ a ++ b ++ c ++ d
 regroup_4 a b c d = sym (append_assoc (a ++ b) c d ∙ append_assoc a b (c ++ d))
 
--- a plain text, where it is told, before plain texts
+-- a plain text, if it is there, before plain texts
 told_plain : (told : Bool) (text : List ℕ) (texts : List (List ℕ)) → IsPlain text → All IsPlain texts
     → All IsPlain ((if told then text ∷ [] else []) ++ texts)
 told_plain true text texts plain rest = All-cons IsPlain text texts plain rest
@@ -262,7 +262,7 @@ dependency_no_float w = rw (none_float string (λ _. refl) w.reasons) refl
 pub told_no_float : (t : ToldPatch) → has_float (told_data t) ≡ false
 told_no_float t = rw (none_float dependency_data dependency_no_float t.after) refl
 
--- what is told of the patch of an id, as it was emitted and with its undo
+-- the explanation of an id's patch, as it was emitted and with its undo
 abbrev pub told_of : TracedPatches → ℕ → Emitted → List ℕ → ToldPatch
 told_of t id q undo = record { id = id; emitted = q; undo = undo; after = some_below id (dependency_at t q) }
 

@@ -139,7 +139,7 @@ fn push_some(values: &mut Vec<Value>, value: Option<Value>) -> Result<(), AllocE
     }
 }
 
-/// An earlier patch that a patch depends on, with the reasons; `None` where it does not.
+/// An earlier patch that a patch depends on, with the reasons; `None` if it does not.
 fn dependency_value<A: Allocator + Copy>(
     heap: Global,
     traced: &Traced<'_, A>,

@@ -19,7 +19,7 @@ use report_sections::{ReplayedBlock, Section};
 use serde_json::{Map, Value, json, put};
 use std::alloc::{AllocError, Allocator, Global};
 
-/// A failing set of a graph with `patches` patches, as it was made a section. It fails only when out of memory.
+/// A failing set of a graph with `patches` patches, by its section. It fails only when out of memory.
 pub fn section_value<A: Allocator>(
     heap: Global,
     patches: usize,

@@ -5,7 +5,7 @@ use Rattle.std.proofs.lemmas.List.{map-append, length-map, take_more}
 use Rattle.crash_model.specs.Lists.{join_of}
 use Rattle.json_values.specs.Items.{comma_before}
 
--- a comma stands before it, where it is not the first
+-- a comma comes before it, if it is not the first
 joined_push : (x : List ℕ) (xs : List (List ℕ)) (y : List ℕ)
     → join_of 44 (x ∷ xs ++ y ∷ []) ≡ join_of 44 (x ∷ xs) ++ (44 ∷ y)
 joined_push x [] y = refl

@@ -81,7 +81,7 @@ regroup_first key section comma behind = simp append_assoc
 
 -- ---- the bytes
 
--- the keys behind the first section
+-- the keys after the first section
 abbrev behind_first : ℕ → List ℕ → List ℕ
 behind_first pairs rule = codes "\"pairs\":" ++ (decimal pairs ++ (codes ",\"rule\":" ++ (rule ++ codes "}")))
 
@@ -167,7 +167,7 @@ told_rule_bytes : (patches : ℕ) (t : ToldRule) (first : Option Data) → IsFir
 unfolding told
 told_rule_bytes patches t first is = usage_written patches t.rule t.usage first is
 
--- the members that tell of a rule, put into an empty object
+-- the members for a rule, put into an empty object
 members_are : (rule : Rule) (usage : RuleUsage) (first : Option Data)
     → object (rule_put (record { rule = rule; usage = usage }) first no_members)
     ≡ told_rule_data (record { rule = rule; usage = usage }) first

@@ -96,7 +96,7 @@ object_no_float patches fault sets set writes (Some replay) =
       none_float (write_data patches) (write_no_float patches) writes,
     ) refl
 
--- the members that tell of a fault, put into an empty object
+-- the members for a fault, put into an empty object
 members_are : (patches : ℕ) (row : FaultRow) (set : ℕ) (writes : List BlockWrite) (replay : Option (List ReplayedBlock))
     (found : List Fault)
     → object (fault_put patches row (record { set = set; writes = writes; replay = replay; found = found }) no_members)

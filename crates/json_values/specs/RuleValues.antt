@@ -39,7 +39,7 @@ usage_members rule (Used pairs w) first =
 abbrev pub told_rule_data : ToldRule → Option Data → Data
 told_rule_data t first = object (usage_members (rule_text t.rule) t.usage first)
 
--- members with the first section put among them, where there is one
+-- members with the first section put among them, if there is one
 abbrev pub first_put : Option Data → Members → Members
 first_put None members = members
 first_put (Some first) members = put (codes "first") first members

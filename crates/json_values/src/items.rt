@@ -8,7 +8,7 @@ ghost use Rattle.serde_json.specs.Written.{compact_text, has_float};
 use serde_json::Value;
 use std::alloc::AllocError;
 
-/// A value at this place of an array, with a comma before it where it is not the first. It fails only when out of
+/// A value at this place of an array, with a comma before it if it is not the first. It fails only when out of
 /// memory.
 pub fn write_item(out: &mut String, at: usize, value: &Value) -> Result<(), AllocError>
     requires { has_float (view value.now) ≡ false }
@@ -30,7 +30,7 @@ pub(crate) fn write_value(out: &mut String, value: &Value) -> Result<(), AllocEr
     Ok(())
 }
 
-/// The comma before the item at this place of an array, where it is not the first. It fails only when out of memory.
+/// The comma before the item at this place of an array, if it is not the first. It fails only when out of memory.
 pub fn write_comma(out: &mut String, at: usize) -> Result<(), AllocError>
     ensures { OnOk result (string_bytes out.new ≡ string_bytes out.old ++ comma_before at) }
 {

@@ -119,7 +119,7 @@ impl KnownTexts {
         Ok(())
     }
 
-    /// The object of a block write, where it is kept.
+    /// The object of a block write, if it is kept.
     fn known_write(&self, write: BlockWrite) -> Option<&str>
         ensures { IfSome result (λ text. text.now ≡ write_json self.now write) }
     {
@@ -131,7 +131,7 @@ impl KnownTexts {
         }
     }
 
-    /// The text of a fault, where it is kept.
+    /// The text of a fault, if it is kept.
     fn known_fault(&self, fault: Fault) -> Option<&str>
         ensures { IfSome result (λ text. text.now ≡ fault_json fault) }
     {

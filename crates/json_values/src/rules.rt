@@ -51,8 +51,7 @@ fn text_value(heap: Global, rule: Rule) -> Result<Value, AllocError>
     Ok(Value::String(rule.to_string(heap)?))
 }
 
-/// To how many pairs of patches a rule applies, and how many sets are closed and fail without it where they are
-/// counted.
+/// To how many pairs of patches a rule applies, and how many sets are closed and fail without it, if they are counted.
 fn put_usage<A: Allocator>(
     members: &mut Map<String, Value>,
     heap: Global,

@@ -17,8 +17,8 @@ use report_sections::{ReplayedBlock, Section};
 use std::alloc::{AllocError, Allocator};
 
 impl KnownTexts {
-    /// Adds a failing set, as it was made a section. What it is made of are values of their own: its ids, the blocks
-    /// that replay changes, and each block write and fault that is not known. It fails only when out of memory.
+    /// Adds a failing set, by its section. Its parts are values of their own: its ids, the blocks that replay changes,
+    /// and each block write and fault that is not known. It fails only when out of memory.
     pub fn push_section<A: Allocator>(
         &mut self,
         out: &mut String,
@@ -34,8 +34,8 @@ impl KnownTexts {
         self.push_crash(out, section)
     }
 
-    /// Adds the last keys of an object, which tell of a crash, and the object's end: what replay changes where that is
-    /// told, the ids of the set, and the block writes that lead to it. It fails only when out of memory.
+    /// Adds the last keys of an object, which describe a crash, and the object's end: what replay changes if that is
+    /// explained, the ids of the set, and the block writes that lead to it. It fails only when out of memory.
     pub fn push_crash<A: Allocator>(
         &mut self,
         out: &mut String,
@@ -103,8 +103,8 @@ pub fn push_set(out: &mut String, patches: usize, set: u128) -> Result<(), Alloc
     write_value(out, &value)
 }
 
-/// The key of the blocks that replay changes, and a comma after it, where the section has them. It fails only when out
-/// of memory.
+/// The key of the blocks that replay changes, and a comma after it, if the section has them. It fails only when out of
+/// memory.
 pub fn push_replay<A: Allocator>(
     out: &mut String,
     replay: &Option<Vec<ReplayedBlock, A>>,

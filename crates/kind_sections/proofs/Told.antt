@@ -1,16 +1,15 @@
 -- A kind of fault in the report.
 use Rattle.std.proofs.Common.{◌≡◌, ℕ, ◌<◌, List, [], ◌∷◌, Bool, length, subst, sym, ◌∙◌}
-use Rattle.std.specs.Prelude.{Option, Result, Ok, Err}
+use Rattle.std.specs.Prelude.{Result, Ok, Err}
 use Rattle.std.specs.List.{All}
 use Rattle.std.proofs.lemmas.List.Elements.{All-nil, All-cons, All-head}
 use Rattle.patch_sets.specs.Closed.{IsClosed}
 use Rattle.crash_model.specs.Patches.{deps_of}
-use Rattle.crash_model.specs.Report.{AreSections, IsLed}
-use Rattle.crash_model.specs.Strict.{IsToldKept}
+use Rattle.crash_model.specs.Report.{Detail, AreSections, IsLed}
+use Rattle.crash_model.specs.Checker.{Demands, AreDemands}
 use Rattle.crash_model.specs.Trace.{Tracing, trace_start, trace_from}
 use Rattle.crash_model.specs.declared.patches.Patch.{Patch}
 use Rattle.crash_model.specs.declared.refusals.TraceFault.{TraceFault}
-use Rattle.crash_model.specs.declared.settings.Detail.{Detail}
 use Rattle.crash_model.specs.declared.steps.Step.{Step}
 use Rattle.crash_model.proofs.Leading.{sections_lead}
 use Rattle.report_sections.specs.Sections.{section_of, IsSection}
@@ -42,31 +41,32 @@ module _ (s : Search) (shown : ShownKind) (is : IsShown s shown) where
   pub traced : (made steps : List Step) → made ≡ steps_at s.pool places → steps ≡ made → IsTraced s steps
   traced made steps are same = subst (IsTraced s) (sym (same ∙ are)) is.earliest.among.workload.accepted
 
-  pub patches_of : (made steps others : List Step) (kept : Option ℕ) (patches : List Patch)
+  pub patches_of : (made steps others : List Step) (demands : Demands) (patches : List Patch)
       → made ≡ steps_at s.pool places → steps ≡ made → others ≡ made
-      → HaveGraph s steps patches → IsToldKept s.strict s.base others kept → HasPatches s places kept patches
-  patches_of made steps others kept patches are same also graph told =
+      → HaveGraph s steps patches → AreDemands s.strict s.atomic s.base others demands
+      → HasPatches s places demands patches
+  patches_of made steps others demands patches are same also graph told =
       let at : HaveGraph s (steps_at s.pool places) patches = subst (λ xs. HaveGraph s xs patches) (same ∙ are) graph in
       record {
         last = at.0;
         traced = at.1;
         graph = at.2;
-        told = subst (λ xs. IsToldKept s.strict s.base xs kept) (also ∙ are) told;
+        told = subst (λ xs. AreDemands s.strict s.atomic s.base xs demands) (also ∙ are) told;
       }
 
   -- a crash can leave its first set
-  pub first_closed : (kept : Option ℕ) (patches : List Patch) → HasPatches s places kept patches
+  pub first_closed : (demands : Demands) (patches : List Patch) → HasPatches s places demands patches
       → IsClosed (deps_of patches) shown.first
-  first_closed kept patches has = (is.first kept patches has).among.1.failing.closed
+  first_closed demands patches has = (is.first demands patches has).among.1.failing.closed
 
-  pub kind_told : {A : Type 0} (explain : Bool) (kept : Option ℕ) (patches : List Patch) (steps : List Step)
+  pub kind_told : {A : Type 0} (explain : Bool) (demands : Demands) (patches : List Patch) (steps : List Step)
       (number : ℕ) (section : Section A) → steps ≡ steps_at s.pool places → number ≡ length patches
-      → HasPatches s places kept patches
-      → IsSection (record { explain = explain; kept = kept }) s.base patches shown.first section
+      → HasPatches s places demands patches
+      → IsSection (record { explain = explain; demands = demands }) s.base patches shown.first section
       → IsToldKind s explain (record { shown = shown; steps = steps; patches = number; first = section_of section })
-  kind_told explain kept patches steps number section are same has of_set = record {
+  kind_told explain demands patches steps number section are same has of_set = record {
     steps = are;
-    kept = kept;
+    demands = demands;
     patches = patches;
     traced = has;
     number = same;
@@ -76,11 +76,11 @@ module _ (s : Search) (shown : ShownKind) (is : IsShown s shown) where
   }
     where
       detail : Detail
-      detail = record { explain = explain; kept = kept }
+      detail = record { explain = explain; demands = demands }
 
       told : AreSections detail s.base patches (shown.first ∷ []) (section_of section ∷ [])
       told = is_told detail s.base patches shown.first section of_set
 
       alone : All (IsClosed (deps_of patches)) (shown.first ∷ [])
-      alone = All-cons (IsClosed (deps_of patches)) shown.first [] (first_closed kept patches has)
+      alone = All-cons (IsClosed (deps_of patches)) shown.first [] (first_closed demands patches has)
           (All-nil (IsClosed (deps_of patches)))

@@ -1,4 +1,4 @@
--- A kind of fault as the definition of the report has it.
+-- A kind of fault, in the form of the report's definition.
 use Rattle.std.specs.Prelude.{◌≡◌, List, Ok}
 use Rattle.crash_model.specs.Trace.{Tracing, trace_start, trace_from, IsGraphOf}
 use Rattle.crash_model.specs.declared.patches.Patch.{Patch}

@@ -8,7 +8,6 @@ ghost use Rattle.pool_judging.specs.Judging.{search_by};
 ghost use Rattle.kind_sections.specs.Told.{told_kind, IsTraced, HaveGraph};
 
 use crash_model::refusals::TraceFault;
-use crash_model::settings::Detail;
 use crash_model::steps::Step;
 use order_modules::trace;
 use patch_graph::Graph;
@@ -27,8 +26,8 @@ pub struct KindSection<A: Allocator> {
     pub section: Section<A>,
 }
 
-/// The crash that shows a kind of fault first, with what replay changes where `explain` is set.
-/// It fails only when out of memory.
+/// The crash that shows a kind of fault first, with what replay changes if `explain` is set. It fails only when out of
+/// memory.
 pub fn kind_section<A: Allocator + Copy>(
     judge: &PoolJudge<'_, A>,
     explain: bool,
@@ -39,9 +38,8 @@ pub fn kind_section<A: Allocator + Copy>(
 {
     let steps = judge.steps_at(&shown.places)?;
     let graph = graph_of(judge, &steps)?;
-    let kept = judge.told_kept(&steps)?;
-    let detail = Detail { explain, kept };
-    let mut maker = SectionMaker::new(judge.alloc, judge.base, &graph, detail)?;
+    let demands = judge.demands(&steps)?;
+    let mut maker = SectionMaker::new(judge.alloc, judge.base, &graph, explain, &demands)?;
     let section = maker.section(shown.first)?;
     Ok(KindSection {
         steps,

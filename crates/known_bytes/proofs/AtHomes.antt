@@ -1,18 +1,35 @@
--- What is so at each block where a block may be read.
+-- What holds at each block where a block may be read.
 use Rattle.std.proofs.Common.{◌≡◌, ℕ, ◌<◌, ◌⊎◌, inl, inr, List, arith, refl, sym, subst}
-use Rattle.std.specs.Prelude.{slice_index, Result, Ok, Err}
+use Rattle.std.specs.Prelude.{slice_index, Result, Ok, Err, Bool, true, false, if◌then◌else◌}
 use Rattle.std.proofs.lemmas.Bool.{cases_eq}
 use Rattle.patch_sets.specs.Sets.{Has}
 use Rattle.patch_sets.specs.Ends.{IsWithout}
 use Rattle.patch_sets.proofs.Bits.{none_in_empty}
 use Rattle.crash_model.specs.Disk.{Disk, IsDisk, byte}
 use Rattle.crash_model.specs.Patches.{image_of}
+use Rattle.crash_model.specs.Replay.{image_after_replay}
+use Rattle.journal_replay.proofs.Walk.{disk-replayed}
 use Rattle.known_bytes.specs.Family.{Family, InEach, IsLike, IsUndecided}
 use Rattle.known_bytes.specs.Reading.{Reading, AreHomes, InEachDisk, IsKnown, left}
 
+-- ---- the size of the disks
+
+like_after : (replayed : Bool) (base d : Disk) → IsLike base d
+    → IsLike base (if replayed then image_after_replay d else d)
+like_after true base d like = record {
+  disk = disk-replayed d like.disk;
+  blocks = like.blocks;
+  journal = like.journal;
+}
+like_after false base d like = like
+
+-- each disk that is read is of the size of the base
+pub like_read : (r : Reading) → InEach r.family (IsLike r.family.base) → InEachDisk r (IsLike r.family.base)
+like_read r like set m = like_after r.replayed r.family.base (image_of r.family.base r.family.patches set) (like set m)
+
 -- ---- a walk over the other homes
 
--- each of them is left, or it is so there
+-- each of them is left, or it holds there
 pub record AreSeen (P : ℕ → Type 0) (others rest : ℕ) : Type 0 where
   pub inside : (home : ℕ) → Has rest home → Has others home
   pub seen : (home : ℕ) → Has others home → Has rest home ⊎ P home
@@ -48,7 +65,7 @@ seen_all P others rest none s home is = elim (s.seen home is) [
 module _ (r : Reading) (homes others asks : List ℕ) (are : AreHomes r homes others asks)
     (like : InEach r.family (IsLike r.family.base)) (block offset : ℕ) (below : block < r.family.base.blocks)
     (within : offset < 128) where
-  -- what is so of the byte at each home is so of it
+  -- what holds of the byte at each home holds of it
   pub so_at_homes : (P : ℕ → Type 0) → InEach r.family (λ d. P (byte d (slice_index homes block) offset))
       → ((home : ℕ) → Has (slice_index others block) home → InEach r.family (λ d. P (byte d home offset)))
       → InEachDisk r (λ d. P (byte d block offset))

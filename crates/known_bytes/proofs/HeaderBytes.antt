@@ -47,7 +47,7 @@ only_one : (x v : ℕ) → is_one_of 0 v x ≡ true → x ≢ 0 → x ≡ v
 only_one x v h some = grind (arith, tests)
 
 module _ (d : Disk) (at : ℕ) (disk : IsDisk d) (below : at < d.blocks) where
-  -- the targets are these where each byte there is 0 or the one of these
+  -- the targets are these if each byte there is 0 or the one of these
   pub targets_are : (turn count : ℕ) (ts : List ℕ) → is_header d at turn (block_of d at) ≡ true
       → is_one_of 0 count (byte d at 2) ≡ true → length ts ≡ count
       → ((k : ℕ) → k < count → is_one_of 0 (get_or ts k 0) (byte d at (3 + k)) ≡ true)

@@ -72,7 +72,7 @@ module _ (f : Family) (sets : List ℕ) (chains : AreChains record { base = f.ba
         let same : 0 + q ≡ q = omega arith in
         last q (covers_from q z is) (from_has set q (ap (λ (k : ℕ). has set k) (sym same) ∙ more))))
 
-    -- what is so of the byte under the patches held and of each that an undecided patch puts there is so of all
+    -- what holds of the byte under the patches held and of each that an undecided patch puts there holds of all
     pub so_in_each : (P : ℕ → Type 0)
         → P (byte (image_of f.base f.patches f.held) block offset)
         → ((id : ℕ) (p : Patch) → IsUndecided f id → IsAt f.patches id p → Covers p block offset → P (new_byte p offset))

@@ -17,3 +17,4 @@ pub mod Counted
 pub mod Named
 pub mod ToldFaults
 pub mod Sources
+pub mod ShownDisks

@@ -254,7 +254,7 @@ module _ (d : Disk) (dir inode : ℕ) where
 pub entry_there : (d : Disk) (dir inode : ℕ) → nat_le 1 (entries_in 10 d inode dir) ≡ has_entry_to d dir inode
 entry_there d dir inode = there_below d dir inode 10
 
--- an inode of which it was read that no entry leads to it is none of the first sixteen, or all the others
+-- no entry leads to an inode past the sixteenth
 pub few_live : (r : Reading) (dir inode : ℕ) → ¬ (inode < 16) → InEachDisk r (λ d. names_live dir inode d ≡ false)
 few_live r dir inode high set m =
     let d : Disk = disk_of r (image_of r.family.base r.family.patches set) in

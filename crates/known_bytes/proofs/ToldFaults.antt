@@ -1,7 +1,7 @@
 -- The list of a disk's faults has exactly those that the disk has.
-use Rattle.std.proofs.Common.{◌≡◌, ℕ, zero, suc, ◌+◌, ◌<◌, ◌⊎◌, inl, inr, List, [], ◌++◌, length, Bool}
+use Rattle.std.proofs.Common.{◌≡◌, ℕ, zero, suc, ◌+◌, ◌<◌, ◌⊎◌, inl, inr, List, [], ◌∷◌, ◌++◌, length, Bool}
 use Rattle.std.proofs.Common.{true, false, ◌&&◌, Option, Some, None, arith, tests, refl, sym, ap, subst, ◌∙◌, ◌*◌}
-use Rattle.std.specs.Prelude.{◌==◌, nat_lt, option_to_list}
+use Rattle.std.specs.Prelude.{◌==◌, nat_lt, option_to_list, if◌then◌else◌}
 use Rattle.std.specs.List.{Contains}
 use Rattle.std.proofs.lemmas.Bool.{cases_eq}
 use Rattle.std.proofs.lemmas.List.Elements.{Contains-append_left, Contains-append_right, Contains-append_cases}
@@ -13,13 +13,24 @@ use Rattle.crash_model.specs.Layout.{target_of, links_of, pointer_of, is_data}
 use Rattle.crash_model.specs.Lists.{each_below, some_below, when}
 use Rattle.crash_model.specs.Faults.{each_slot, each_entry, is_dangling, is_twice, is_unwritten, has_low_links, faults}
 use Rattle.crash_model.specs.Faults.{entries_to, is_marked_free, is_wild, namers, names_block}
-use Rattle.crash_model.specs.Strict.{is_lost, lacks_block, strict_faults, faults_under}
+use Rattle.crash_model.specs.Atomic.{is_half_done, atomic_faults}
+use Rattle.crash_model.specs.Checker.{Demands, faults_keeping, faults_showing, faults_under}
+use Rattle.crash_model.specs.Strict.{is_lost, lacks_block, strict_faults}
 use Rattle.crash_model.proofs.EachBelow.{some_below-none, each_below-none}
 use Rattle.crash_model.specs.declared.fault.Fault.{Fault}
 use Rattle.crash_model.specs.declared.fault.Fault.TheVariants.{Dangling, Twice, Unwritten, LowLinks, MarkedFree, Wild}
-use Rattle.crash_model.specs.declared.fault.Fault.TheVariants.{Lost, NoBlock}
-use Rattle.known_bytes.specs.Texts.{has_fault, HasBytes}
+use Rattle.crash_model.specs.declared.fault.Fault.TheVariants.{Lost, NoBlock, HalfDone}
+use Rattle.known_bytes.specs.Texts.{half_done_there, has_fault, HasBytes}
 use Rattle.known_bytes.proofs.FaultTests.{no_names}
+
+-- ---- demands
+
+abbrev demands_of : Option ℕ → Option (List Disk) → Demands
+demands_of kept disks = record { kept = kept; disks = disks }
+
+-- no disk need be shown
+abbrev keeping : Option ℕ → Demands
+keeping kept = demands_of kept None
 
 -- ---- lists made number by number
 
@@ -258,7 +269,7 @@ module _ (d : Disk) where
   ]
 
   -- the list of a kind has each fault of the kind that the disk has
-  six_told : (f : Fault) → has_fault None d f ≡ true → Contains (faults d) f
+  six_told : (f : Fault) → has_fault (keeping None) d f ≡ true → Contains (faults d) f
   six_told (Dangling dir k inode) h =
       let place = left_of (nat_lt dir 16 && nat_lt k 10 && nat_lt inode 255) _ h in
       let is = right_of (nat_lt dir 16 && nat_lt k 10 && nat_lt inode 255) _ h in
@@ -334,28 +345,29 @@ module _ (d : Disk) where
       }
   six_told (Lost inode) h = absurd (cc)
   six_told (NoBlock inode) h = absurd (cc)
+  six_told HalfDone h = absurd (cc)
 
   -- and no other
-  six_all : (f : Fault) → HasSmallTargets d → Contains (faults d) f → has_fault None d f ≡ true
+  six_all : (f : Fault) → HasSmallTargets d → Contains (faults d) f → has_fault (keeping None) d f ≡ true
   six_all f targets h = elim (parts_of f h).one [
     | inl a ↦
         let p = from_entries (λ dir k. when (is_dangling d dir k) (Dangling dir k (target_of d dir k))) f a in
         let is = when_true (is_dangling d p.row p.column) _ f p.is in
         let small : target_of d p.row p.column < 255 = targets p.row p.column p.few p.less is in
-        subst (λ (f : Fault). has_fault None d f ≡ true) (when_value (is_dangling d p.row p.column) _ f p.is)
+        subst (λ (f : Fault). has_fault (keeping None) d f ≡ true) (when_value (is_dangling d p.row p.column) _ f p.is)
         (both (nat_lt p.row 16 && nat_lt p.column 10 && nat_lt (target_of d p.row p.column) 255) _
         (three p.row p.column (target_of d p.row p.column) p.few p.less small)
         (both (is_dangling d p.row p.column) _ is (true_from_eq _ _ refl)))
     | inr r ↦ elim r [
       | inl a ↦
           let p = from_some d.blocks (λ block. when (is_twice d block) (Twice block)) f a in
-          subst (λ (f : Fault). has_fault None d f ≡ true) (when_value (is_twice d p.0) (Twice p.0) f p.2)
+          subst (λ (f : Fault). has_fault (keeping None) d f ≡ true) (when_value (is_twice d p.0) (Twice p.0) f p.2)
           (when_true (is_twice d p.0) (Twice p.0) f p.2)
       | inr r ↦ elim r [
         | inl a ↦
             let p = from_slots (λ inode slot.
             when (is_unwritten d inode slot) (Unwritten inode slot (pointer_of d inode slot))) f a in
-            subst (λ (f : Fault). has_fault None d f ≡ true) (when_value (is_unwritten d p.row p.column) _ f p.is)
+            subst (λ (f : Fault). has_fault (keeping None) d f ≡ true) (when_value (is_unwritten d p.row p.column) _ f p.is)
             (both (nat_lt p.row 16 && nat_lt p.column 4) _
             (both (nat_lt p.row 16) _ (below p.row 16 p.few) (below p.column 4 p.less))
             (both (is_unwritten d p.row p.column) _ (when_true (is_unwritten d p.row p.column) _ f p.is)
@@ -364,7 +376,7 @@ module _ (d : Disk) where
           | inl a ↦
               let p = from_some 16 (λ inode.
               when (has_low_links d inode) (LowLinks inode (length (entries_to d inode)) (links_of d inode))) f a in
-              subst (λ (f : Fault). has_fault None d f ≡ true) (when_value (has_low_links d p.0) _ f p.2)
+              subst (λ (f : Fault). has_fault (keeping None) d f ≡ true) (when_value (has_low_links d p.0) _ f p.2)
               (both (nat_lt p.0 16) _ (below p.0 16 p.1)
               (both (has_low_links d p.0) _ (when_true (has_low_links d p.0) _ f p.2)
               (both (length (entries_to d p.0) == length (entries_to d p.0)) _ (true_from_eq _ _ refl)
@@ -373,7 +385,7 @@ module _ (d : Disk) where
             | inl a ↦
                 let p = from_slots (λ inode slot.
                 when (is_marked_free d inode slot) (MarkedFree inode slot (pointer_of d inode slot))) f a in
-                subst (λ (f : Fault). has_fault None d f ≡ true) (when_value (is_marked_free d p.row p.column) _ f p.is)
+                subst (λ (f : Fault). has_fault (keeping None) d f ≡ true) (when_value (is_marked_free d p.row p.column) _ f p.is)
                 (both (nat_lt p.row 16 && nat_lt p.column 4) _
                 (both (nat_lt p.row 16) _ (below p.row 16 p.few) (below p.column 4 p.less))
                 (both (is_marked_free d p.row p.column) _ (when_true (is_marked_free d p.row p.column) _ f p.is)
@@ -381,7 +393,7 @@ module _ (d : Disk) where
             | inr a ↦
                 let p = from_slots (λ inode slot.
                 when (is_wild d inode slot) (Wild inode slot (pointer_of d inode slot))) f a in
-                subst (λ (f : Fault). has_fault None d f ≡ true) (when_value (is_wild d p.row p.column) _ f p.is)
+                subst (λ (f : Fault). has_fault (keeping None) d f ≡ true) (when_value (is_wild d p.row p.column) _ f p.is)
                 (both (nat_lt p.row 16 && nat_lt p.column 4) _
                 (both (nat_lt p.row 16) _ (below p.row 16 p.few) (below p.column 4 p.less))
                 (both (is_wild d p.row p.column) _ (when_true (is_wild d p.row p.column) _ f p.is)
@@ -421,26 +433,29 @@ bare_listed kept d i less is = Contains-append_right (some_below 16 (λ inode. w
     (to_some 16 i (λ inode. when (lacks_block d inode) (NoBlock inode)) (NoBlock i) less
     (when_is (lacks_block d i) (NoBlock i) (NoBlock i) is refl))
 
-pub all_told : (kept : Option ℕ) (d : Disk) (f : Fault) → has_fault kept d f ≡ true → Contains (faults_under kept d) f
-all_told None d f h = six_told d f h
-all_told (Some kept) d (Dangling dir k inode) h = Contains-append_left (faults d) (strict_faults kept d) _
+keeping_told : (kept : Option ℕ) (d : Disk) (f : Fault) → has_fault (keeping kept) d f ≡ true
+    → Contains (faults_keeping kept d) f
+keeping_told None d f h = six_told d f h
+keeping_told (Some kept) d (Dangling dir k inode) h = Contains-append_left (faults d) (strict_faults kept d) _
     (six_told d (Dangling dir k inode) h)
-all_told (Some kept) d (Twice block) h = Contains-append_left (faults d) (strict_faults kept d) _
+keeping_told (Some kept) d (Twice block) h = Contains-append_left (faults d) (strict_faults kept d) _
     (six_told d (Twice block) h)
-all_told (Some kept) d (Unwritten inode slot block) h = Contains-append_left (faults d) (strict_faults kept d) _
+keeping_told (Some kept) d (Unwritten inode slot block) h = Contains-append_left (faults d) (strict_faults kept d) _
     (six_told d (Unwritten inode slot block) h)
-all_told (Some kept) d (LowLinks inode entries links) h = Contains-append_left (faults d) (strict_faults kept d) _
+keeping_told (Some kept) d (LowLinks inode entries links) h = Contains-append_left (faults d) (strict_faults kept d) _
     (six_told d (LowLinks inode entries links) h)
-all_told (Some kept) d (MarkedFree inode slot block) h = Contains-append_left (faults d) (strict_faults kept d) _
+keeping_told (Some kept) d (MarkedFree inode slot block) h = Contains-append_left (faults d) (strict_faults kept d) _
     (six_told d (MarkedFree inode slot block) h)
-all_told (Some kept) d (Wild inode slot block) h = Contains-append_left (faults d) (strict_faults kept d) _
+keeping_told (Some kept) d (Wild inode slot block) h = Contains-append_left (faults d) (strict_faults kept d) _
     (six_told d (Wild inode slot block) h)
-all_told (Some kept) d (Lost inode) h = Contains-append_right (faults d) (strict_faults kept d) (Lost inode)
+keeping_told (Some kept) d (Lost inode) h = Contains-append_right (faults d) (strict_faults kept d) (Lost inode)
     (lost_listed kept d inode (from_below inode 16 (left_of (nat_lt inode 16) _ h)) (right_of (nat_lt inode 16) _ h))
-all_told (Some kept) d (NoBlock inode) h = Contains-append_right (faults d) (strict_faults kept d) (NoBlock inode)
+keeping_told (Some kept) d (NoBlock inode) h = Contains-append_right (faults d) (strict_faults kept d) (NoBlock inode)
     (bare_listed kept d inode (from_below inode 16 (left_of (nat_lt inode 16) _ h)) (right_of (nat_lt inode 16) _ h))
+keeping_told (Some kept) d HalfDone h = absurd (cc)
 
-with_strict : (kept : ℕ) (d : Disk) (f : Fault) → has_fault None d f ≡ true → has_fault (Some kept) d f ≡ true
+with_strict : (kept : ℕ) (d : Disk) (f : Fault) → has_fault (keeping None) d f ≡ true
+    → has_fault (keeping (Some kept)) d f ≡ true
 with_strict kept d (Dangling dir k inode) h = h
 with_strict kept d (Twice block) h = h
 with_strict kept d (Unwritten inode slot block) h = h
@@ -449,21 +464,96 @@ with_strict kept d (MarkedFree inode slot block) h = h
 with_strict kept d (Wild inode slot block) h = h
 with_strict kept d (Lost inode) h = absurd (cc)
 with_strict kept d (NoBlock inode) h = absurd (cc)
+with_strict kept d HalfDone h = absurd (cc)
 
-pub all_there_of : (kept : Option ℕ) (d : Disk) (f : Fault) → HasSmallTargets d → Contains (faults_under kept d) f
-    → has_fault kept d f ≡ true
-all_there_of None d f targets h = six_all d f targets h
-all_there_of (Some kept) d f targets h = elim (Contains-append_cases (faults d) (strict_faults kept d) f h) [
+keeping_there : (kept : Option ℕ) (d : Disk) (f : Fault) → HasSmallTargets d → Contains (faults_keeping kept d) f
+    → has_fault (keeping kept) d f ≡ true
+keeping_there None d f targets h = six_all d f targets h
+keeping_there (Some kept) d f targets h = elim (Contains-append_cases (faults d) (strict_faults kept d) f h) [
   | inl a ↦ with_strict kept d f (six_all d f targets a)
   | inr b ↦ elim (strict_told kept d f b) [
-    | inl p ↦ subst (λ (f : Fault). has_fault (Some kept) d f ≡ true) (when_value (is_lost d kept p.0) (Lost p.0) f p.2)
+    | inl p ↦ subst (λ (f : Fault). has_fault (keeping (Some kept)) d f ≡ true) (when_value (is_lost d kept p.0) (Lost p.0) f p.2)
         (both (nat_lt p.0 16) _ (below p.0 16 p.1) (when_true (is_lost d kept p.0) (Lost p.0) f p.2))
-    | inr p ↦ subst (λ (f : Fault). has_fault (Some kept) d f ≡ true)
+    | inr p ↦ subst (λ (f : Fault). has_fault (keeping (Some kept)) d f ≡ true)
         (when_value (lacks_block d p.0) (NoBlock p.0) f p.2)
         (both (nat_lt p.0 16) _ (below p.0 16 p.1) (when_true (lacks_block d p.0) (NoBlock p.0) f p.2))
   ]
 ]
 
-pub all_there : (kept : Option ℕ) (d : Disk) (f : Fault) → HasBytes d → Contains (faults_under kept d) f
-    → has_fault kept d f ≡ true
-all_there kept d f bytes h = all_there_of kept d f (small_targets d bytes) h
+-- ---- with that of whole operations
+
+half_listed : (disks : List Disk) (d : Disk) → is_half_done disks d ≡ true → Contains (atomic_faults disks d) HalfDone
+unfolding atomic_faults
+half_listed disks d is = rw is (Contains-push [] HalfDone)
+
+half_only : (disks : List Disk) (d : Disk) (f : Fault) → Contains (atomic_faults disks d) f
+    → (HalfDone ≡ f) × (is_half_done disks d ≡ true)
+unfolding atomic_faults
+half_only disks d f h = of_test (is_half_done disks d) h
+  where
+    of_test : (test : Bool) → Contains (if test then HalfDone ∷ [] else []) f → (HalfDone ≡ f) × (test ≡ true)
+    of_test true h = elim (Contains-push_cases [] HalfDone f h) [
+      | inl none ↦ absurd (let less = none.1 in omega arith)
+      | inr same ↦ (same, refl)
+    ]
+    of_test false none = absurd (let less = none.1 in omega arith)
+
+module _ (kept : Option ℕ) (disks : Option (List Disk)) (d : Disk) where
+  -- a fault that is there is one that would be told with no disk to show, or the one of whole operations
+  without_disks : (f : Fault) → has_fault (demands_of kept disks) d f ≡ true
+      → (has_fault (keeping kept) d f ≡ true) ⊎ ((HalfDone ≡ f) × (half_done_there disks d ≡ true))
+  without_disks (Dangling dir k inode) h = inl h
+  without_disks (Twice block) h = inl h
+  without_disks (Unwritten inode slot block) h = inl h
+  without_disks (LowLinks inode entries links) h = inl h
+  without_disks (MarkedFree inode slot block) h = inl h
+  without_disks (Wild inode slot block) h = inl h
+  without_disks (Lost inode) h = inl h
+  without_disks (NoBlock inode) h = inl h
+  without_disks HalfDone h = inr (refl, h)
+
+  with_disks : (f : Fault) → has_fault (keeping kept) d f ≡ true → has_fault (demands_of kept disks) d f ≡ true
+  with_disks (Dangling dir k inode) h = h
+  with_disks (Twice block) h = h
+  with_disks (Unwritten inode slot block) h = h
+  with_disks (LowLinks inode entries links) h = h
+  with_disks (MarkedFree inode slot block) h = h
+  with_disks (Wild inode slot block) h = h
+  with_disks (Lost inode) h = h
+  with_disks (NoBlock inode) h = h
+  with_disks HalfDone h = absurd (cc)
+
+showing_told : (kept : Option ℕ) (disks : Option (List Disk)) (d : Disk) (f : Fault)
+    → has_fault (demands_of kept disks) d f ≡ true → Contains (faults_showing disks d (faults_keeping kept d)) f
+showing_told kept None d f h = elim (without_disks kept None d f h) [
+  | inl other ↦ keeping_told kept d f other
+  | inr half ↦ absurd (let no = half.1 in cc)
+]
+showing_told kept (Some disks) d f h = elim (without_disks kept (Some disks) d f h) [
+  | inl other ↦ Contains-append_left (faults_keeping kept d) (atomic_faults disks d) f (keeping_told kept d f other)
+  | inr half ↦ Contains-append_right (faults_keeping kept d) (atomic_faults disks d) f
+      (subst (λ (g : Fault). Contains (atomic_faults disks d) g) half.0 (half_listed disks d half.1))
+]
+
+showing_there : (kept : Option ℕ) (disks : Option (List Disk)) (d : Disk) (f : Fault) → HasSmallTargets d
+    → Contains (faults_showing disks d (faults_keeping kept d)) f → has_fault (demands_of kept disks) d f ≡ true
+showing_there kept None d f targets h = with_disks kept None d f (keeping_there kept d f targets h)
+showing_there kept (Some disks) d f targets h =
+    elim (Contains-append_cases (faults_keeping kept d) (atomic_faults disks d) f h) [
+      | inl other ↦ with_disks kept (Some disks) d f (keeping_there kept d f targets other)
+      | inr half ↦
+          let is = half_only disks d f half in
+          subst (λ (g : Fault). has_fault (demands_of kept (Some disks)) d g ≡ true) is.0 is.1
+    ]
+
+-- ---- all
+
+module _ (demands : Demands) (d : Disk) (f : Fault) where
+  pub all_told : has_fault demands d f ≡ true → Contains (faults_under demands d) f
+  all_told h = showing_told demands.kept demands.disks d f h
+
+  pub all_there_of : HasSmallTargets d → Contains (faults_under demands d) f → has_fault demands d f ≡ true
+  all_there_of targets h = showing_there demands.kept demands.disks d f targets h
+
+  pub all_there : HasBytes d → Contains (faults_under demands d) f → has_fault demands d f ≡ true
+  all_there bytes h = all_there_of (small_targets d bytes) h

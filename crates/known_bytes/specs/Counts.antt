@@ -20,7 +20,7 @@ entries_in n d inode dir = length (some_below n (entry_at d inode dir))
 abbrev pub slots_in : ℕ → Disk → ℕ → ℕ → ℕ
 slots_in n d block inode = length (some_below n (slot_at d block inode))
 
--- on each disk there are so many at least and so many at most; where these differ it hangs on an undecided patch
+-- on each disk there are at least and at most this many; where these differ, the number depends on an undecided patch
 pub record AreBounds (r : Reading) (count : Disk → ℕ) (least most ask : ℕ) : Type 0 where
   pub each : InEachDisk r (λ d. (least ≤ count d) × (count d ≤ most))
   pub asked : least < most → IsUndecided r.family ask

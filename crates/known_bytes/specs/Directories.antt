@@ -1,4 +1,4 @@
--- A directory of which it is open whether it counts, but not with which block.
+-- A directory that may or may not count, but whose block is known.
 use Rattle.std.specs.Prelude.{◌≡◌, ℕ, Bool, true, ◌&&◌, ◌==◌, Result}
 use Rattle.crash_model.specs.declared.disk_bytes.TheConstants.{DIRECTORY_KIND, DIRECTORY_MARK}
 use Rattle.crash_model.specs.Disk.{Disk, byte}
@@ -16,7 +16,7 @@ counts_at dir block d =
     (kind_of d dir == DIRECTORY_KIND && pointer_of d dir 0 == block)
     && (byte d block 0 == DIRECTORY_MARK && byte d block 1 == dir)
 
--- of a directory that may count it was found which block it has where it does, and whether it does
+-- of a directory that may count it was found which block it has if it does, and whether it does
 pub record IsFound (r : Reading) (dir block : ℕ) (counted : Result Bool ℕ) : Type 0 where
   pub its : InEachDisk r (IsItsBlock dir block)
   pub known : IsKnown r (counts_at dir block) counted

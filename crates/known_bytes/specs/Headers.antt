@@ -1,4 +1,4 @@
--- Headers of which it is open whether they are there, but not what they are.
+-- Headers that may or may not be there, but whose contents are known.
 use Rattle.std.specs.Prelude.{◌≡◌, ◌≢◌, ℕ, zero, suc, ◌+◌, ◌<◌, ◌≤◌, List, length, slice_index, Bool, true, false, ◌&&◌, ◌==◌}
 use Rattle.std.specs.Prelude.{nat_le, ◌⊎◌, Result, Ok}
 use Rattle.patch_sets.specs.Sets.{Has}

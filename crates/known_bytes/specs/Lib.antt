@@ -6,3 +6,4 @@ pub mod Directories
 pub mod Counts
 pub mod Reached
 pub mod Texts
+pub mod Shown

@@ -1,4 +1,4 @@
--- The inodes that are reached, of which it is open on which disks.
+-- The inodes that are reached, each perhaps on some of the disks only.
 use Rattle.std.specs.Prelude.{◌≡◌, ℕ, ◌<◌, ◌&&◌, List, slice_index, Bool, true, false}
 use Rattle.patch_sets.specs.Sets.{Has}
 use Rattle.crash_model.specs.Disk.{Disk}
@@ -11,7 +11,8 @@ use Rattle.known_bytes.specs.Reading.{Reading, InEachDisk}
 abbrev pub names_live : ℕ → ℕ → Disk → Bool
 names_live dir inode d = is_live d inode && has_entry_to d dir inode
 
--- Each disk reaches the inodes of the first set. The others of the second set hang on undecided patches.
+-- Each disk reaches the inodes of the first set. Whether it reaches the others of the second set depends on undecided
+-- patches.
 pub record IsReach (r : Reading) (sure may : ℕ) (asks : List ℕ) : Type 0 where
   pub sound : (inode : ℕ) → Has sure inode → InEachDisk r (λ d. is_reached d inode ≡ true)
   pub within : (inode : ℕ) → Has sure inode → Has may inode

@@ -18,7 +18,7 @@ abbrev pub InEachDisk : Reading → (Disk → Type 0) → Type 0
 InEachDisk r P = InEach r.family (λ d. P (disk_of r d))
 
 -- For each block the one of the image where it is read, and others where it may be read. Each disk has it at one of
--- these. For each block with others an undecided patch on which it hangs at which.
+-- these. For each block with others, an undecided patch decides at which.
 pub record AreHomes (r : Reading) (homes others asks : List ℕ) : Type 0 where
   pub within : (block home : ℕ) → block < r.family.base.blocks → IsHome homes others block home
       → home < r.family.base.blocks
@@ -26,7 +26,7 @@ pub record AreHomes (r : Reading) (homes others asks : List ℕ) : Type 0 where
       × ((offset : ℕ) → offset < 128 → byte (disk_of r d) block offset ≡ byte d home offset))
   pub asked : (block : ℕ) → block < 128 → slice_index others block ≢ 0 → IsUndecided r.family (slice_index asks block)
 
--- What is read of the disks at once: what each of them has, or an undecided patch on which it hangs.
+-- What is read of the disks at once: what each of them has, or an undecided patch on which it depends.
 abbrev pub IsKnown : {X : Type 0} → Reading → (Disk → X) → Result X ℕ → Type 0
 IsKnown r what (Ok value) = InEachDisk r (λ d. what d ≡ value)
 IsKnown r what (Err id) = IsUndecided r.family id

@@ -1,13 +1,15 @@
--- A disk has a fault of a text. Faults are those of Faults and of Strict.
-use Rattle.std.specs.Prelude.{ℕ, ◌<◌, slice_index, length, Bool, false, ◌&&◌, ◌==◌, nat_lt, Option, Some, None}
+-- A disk has a fault of a text. Faults are those of Faults, of Strict and of Atomic.
+use Rattle.std.specs.Prelude.{ℕ, ◌<◌, List, slice_index, length, Bool, false, ◌&&◌, ◌==◌, nat_lt, Option, Some, None}
 use Rattle.crash_model.specs.Disk.{Disk}
 use Rattle.crash_model.specs.Layout.{target_of, links_of, pointer_of}
 use Rattle.crash_model.specs.Faults.{is_dangling, is_twice, is_unwritten, has_low_links, entries_to, is_marked_free}
 use Rattle.crash_model.specs.Faults.{is_wild}
 use Rattle.crash_model.specs.Strict.{is_lost, lacks_block}
+use Rattle.crash_model.specs.Atomic.{is_half_done}
+use Rattle.crash_model.specs.Checker.{Demands}
 use Rattle.crash_model.specs.declared.fault.Fault.{Fault}
 use Rattle.crash_model.specs.declared.fault.Fault.TheVariants.{Dangling, Twice, Unwritten, LowLinks, MarkedFree, Wild}
-use Rattle.crash_model.specs.declared.fault.Fault.TheVariants.{Lost, NoBlock}
+use Rattle.crash_model.specs.declared.fault.Fault.TheVariants.{Lost, NoBlock, HalfDone}
 
 -- each by its numbers, which are those of an entry, a slot or an inode
 abbrev pub dangling_there : Disk → ℕ → ℕ → ℕ → Bool
@@ -42,16 +44,21 @@ abbrev pub bare_there : Option ℕ → Disk → ℕ → Bool
 bare_there None d inode = false
 bare_there (Some kept) d inode = nat_lt inode 16 && lacks_block d inode
 
--- the disk has the fault, where the script keeps a set of inodes or nothing is asked of that
-abbrev pub has_fault : Option ℕ → Disk → Fault → Bool
-has_fault kept d (Dangling dir k inode) = dangling_there d dir k inode
-has_fault kept d (Twice block) = twice_there d block
-has_fault kept d (Unwritten inode slot block) = unwritten_there d inode slot block
-has_fault kept d (LowLinks inode entries links) = low_there d inode entries links
-has_fault kept d (MarkedFree inode slot block) = marked_free_there d inode slot block
-has_fault kept d (Wild inode slot block) = wild_there d inode slot block
-has_fault kept d (Lost inode) = lost_there kept d inode
-has_fault kept d (NoBlock inode) = bare_there kept d inode
+abbrev pub half_done_there : Option (List Disk) → Disk → Bool
+half_done_there None d = false
+half_done_there (Some disks) d = is_half_done disks d
+
+-- the disk has the fault, with what is demanded of it
+abbrev pub has_fault : Demands → Disk → Fault → Bool
+has_fault demands d (Dangling dir k inode) = dangling_there d dir k inode
+has_fault demands d (Twice block) = twice_there d block
+has_fault demands d (Unwritten inode slot block) = unwritten_there d inode slot block
+has_fault demands d (LowLinks inode entries links) = low_there d inode entries links
+has_fault demands d (MarkedFree inode slot block) = marked_free_there d inode slot block
+has_fault demands d (Wild inode slot block) = wild_there d inode slot block
+has_fault demands d (Lost inode) = lost_there demands.kept d inode
+has_fault demands d (NoBlock inode) = bare_there demands.kept d inode
+has_fault demands d HalfDone = half_done_there demands.disks d
 
 -- all bytes are below 256
 pub record HasBytes (d : Disk) : Type 0 where

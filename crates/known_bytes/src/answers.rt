@@ -1,10 +1,11 @@
-//! Answers put together. An answer is known of all disks of a family, or an undecided patch on which it hangs.
+//! Answers put together. An answer is one that holds for all disks of a family, or an undecided patch on which it
+//! depends.
 
 ghost use Rattle.std.specs.Prelude.{◌≡◌, ◌&&◌, ◌||◌, not, Bool, IsTrue, Ok, false};
 ghost use Rattle.crash_model.specs.Disk.{Disk};
 ghost use Rattle.known_bytes.specs.Reading.{Reading, IsKnown};
 
-/// Whether both hold. That one holds of no disk is enough, though the other is not known.
+/// Whether both hold. If one holds of no disk, that is enough, even if the other is not known.
 ///
 /// The patch of the first is asked before that of the second.
 pub(crate) fn both(first: Result<bool, usize>, second: Result<bool, usize>) -> Result<bool, usize>
@@ -21,7 +22,7 @@ pub(crate) fn both(first: Result<bool, usize>, second: Result<bool, usize>) -> R
     }
 }
 
-/// Whether one holds, or both. That one holds of each disk is enough, though the other is not known.
+/// Whether one holds, or both. If one holds of each disk, that is enough, even if the other is not known.
 pub(crate) fn either(first: Result<bool, usize>, second: Result<bool, usize>) -> Result<bool, usize>
     ensures { (r : Reading) (P Q : Disk → Bool) → IsKnown r P first → IsKnown r Q second
         → IsKnown r (λ d. P d || Q d) result }

@@ -5,8 +5,8 @@ ghost use Rattle.crash_model.specs.Disk.{Disk};
 ghost use Rattle.known_bytes.specs.Reading.{Reading, IsKnown};
 ghost use Rattle.known_bytes.specs.Counts.{AreBounds};
 
-/// The least and the most that there are on any disk of a family. Where these differ, `ask` is an undecided patch on
-/// which the number hangs.
+/// The least and the most that there are on any disk of a family. If these differ, `ask` is an undecided patch on which
+/// the number depends.
 #[derive(Clone, Copy)]
 pub(crate) struct Bounds {
     pub(crate) least: u8,
@@ -28,7 +28,7 @@ impl Bounds {
         }
     }
 
-    /// One more where a test holds.
+    /// One more if a test holds.
     pub(crate) fn with(self, test: Result<bool, usize>) -> Bounds
         requires few { self.most < 255 }
         requires right { self.least ≤ self.most }
@@ -53,7 +53,8 @@ impl Bounds {
         }
     }
 
-    /// Two counts added. Where both are open it hangs on the patch of the second: so fewer families are asked.
+    /// Two counts added. If both are open, the sum depends on the patch of the second, since then fewer families are
+    /// asked.
     pub(crate) fn plus(self, more: Bounds) -> Bounds
         requires few { self.most + more.most ≤ 255 }
         requires right { (self.least ≤ self.most) × (more.least ≤ more.most) }

@@ -5,7 +5,7 @@ ghost use Rattle.known_bytes.specs.Family.{HasValue};
 
 use patch_sets::set::{has, is_subset, with};
 
-/// A set of bytes: those below 128, and those from 128 on, each by what it is more.
+/// A set of bytes: those below 128, and those from 128 on, each less 128.
 #[derive(Clone, Copy, Default)]
 pub struct ByteSet {
     pub low: u128,

@@ -95,7 +95,7 @@ impl<'a, A: Allocator + Copy> KnownBytes<'a, A> {
         }
     }
 
-    /// A byte, where all images have the same; else an undecided patch that puts another there.
+    /// A byte, if all images have the same; otherwise an undecided patch that puts another there.
     pub fn byte(&self, block: usize, offset: usize) -> Result<u8, usize>
         requires block { block < self.now.base.blocks }
         requires offset { offset < 128 }
@@ -108,11 +108,11 @@ impl<'a, A: Allocator + Copy> KnownBytes<'a, A> {
         }
     }
 
-    /// Whether a byte is one of two values, where that is so in all images or in none; else an undecided patch on which
-    /// it hangs.
+    /// Whether a byte is one of two values, if that holds of all images or of none; otherwise an undecided patch on
+    /// which it depends.
     ///
-    /// The byte need not be known. It is that of the patches held, or one that an undecided patch puts there: the answer
-    /// is known where all of these agree on it.
+    /// The byte need not be known. It is that of the patches held, or one that an undecided patch puts there: the
+    /// answer is known if all of these agree on it.
     pub fn byte_is_one_of(
         &self,
         block: usize,
@@ -191,8 +191,8 @@ impl<'a, A: Allocator + Copy> KnownBytes<'a, A> {
         values
     }
 
-    /// The lowest undecided patch that covers a byte and does not put one of the values there, or does, where the others
-    /// are not to be alike.
+    /// The lowest undecided patch that covers a byte and does not put one of the values there; or, if the others are
+    /// not to be alike, one that does.
     fn other(&self, block: usize, offset: usize, values: [u8; 2], alike: bool) -> Option<usize>
         requires block { block < self.now.base.blocks }
         requires offset { offset < 128 }

@@ -16,7 +16,7 @@ use std::marker::Model;
 
 /// A base and a graph of patches over it, with the set of the patches that cover each byte.
 ///
-/// It is made once for a graph, and then tells which patches of a family a byte hangs on. Contracts see the base and
+/// It is made once for a graph, and then says which patches of a family a byte depends on. Contracts see the base and
 /// the patches.
 #[derive(Drop)]
 pub struct Chains<'a, A: Allocator + Copy> {

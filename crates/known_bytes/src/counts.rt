@@ -64,7 +64,7 @@ impl<'a, A: Allocator + Copy> KnownDisk<'a, A> {
         count
     }
 
-    /// How many entries of a directory lead to an inode, where it was looked for.
+    /// How many entries of a directory lead to an inode, once the directory was looked for.
     pub(crate) fn leads_in(&self, dir: u8, found: Option<Directory>, inode: u8) -> Bounds
         requires dir { dir < 16 }
         requires inode { inode < 16 }

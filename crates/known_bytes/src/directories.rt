@@ -10,7 +10,7 @@ use crate::answers::never_holds;
 use crate::disk::KnownDisk;
 use std::alloc::Allocator;
 
-/// A directory that may count: the block that it has where it does, and whether it does.
+/// A directory that may count: the block that it has if it does, and whether it does.
 #[derive(Clone, Copy)]
 pub(crate) struct Directory {
     pub(crate) block: u8,

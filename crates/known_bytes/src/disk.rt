@@ -19,8 +19,8 @@ use std::marker::Model;
 
 /// The disks that the closed sets of a family leave, before replay of the journal or after it.
 ///
-/// What is asked of them has one answer for all, or an undecided patch on which it hangs. Contracts see the family, and
-/// whether its disks are read after replay.
+/// A question about them has one answer for all, or an undecided patch on which the answer depends. Contracts see the
+/// family, and whether its disks are read after replay.
 #[derive(Drop)]
 pub struct KnownDisk<'a, A: Allocator + Copy> {
     bytes: KnownBytes<'a, A>,
@@ -53,7 +53,7 @@ impl<'a, A: Allocator + Copy> KnownDisk<'a, A> {
         }
     }
 
-    /// The disks after replay. No header need be known. An error is an undecided patch on which it hangs what a header is.
+    /// The disks after replay. No header need be known. An error is an undecided patch on which a header depends.
     pub fn replayed(bytes: KnownBytes<'a, A>) -> Result<KnownDisk<'a, A>, usize>
         ensures ok { IfOk result (λ disk. disk ≡ record { family = bytes.entry; replayed = true }) }
         ensures err { IfErr result (IsUndecided bytes.entry) }
@@ -70,13 +70,14 @@ impl<'a, A: Allocator + Copy> KnownDisk<'a, A> {
     pub fn base(&self) -> &Image<A>
         ensures base { result.now ≡ self.now.family.base }
         ensures disk { IsDisk self.now.family.base }
+        ensures alike { InEachDisk self.now (IsLike self.now.family.base) }
         ensures few { length self.now.family.patches < 128 }
     {
         self.bytes.base()
     }
 
-    /// Whether a byte of a block has a value. It may be known where the byte is not, and where it is not known in which
-    /// block of the image it is read: it is where all blocks in which it may be read answer alike.
+    /// Whether a byte of a block has a value. The answer may be known even if the byte is not, or the block of the
+    /// image in which it is read: it is known if all blocks in which it may be read give the same answer.
     pub fn byte_is(&self, block: usize, offset: usize, value: u8) -> Result<bool, usize>
         requires block { block < self.now.family.base.blocks }
         requires offset { offset < 128 }
@@ -177,7 +178,7 @@ impl<'a, A: Allocator + Copy> KnownDisk<'a, A> {
     }
 }
 
-/// The only value but 0 of two, or 0; `None` where they are two.
+/// The only value but 0 of two, or 0; `None` if they are two.
 fn only_one(value: u8, other: u8) -> Option<u8>
     ensures { IfSome result (λ both. (x : ℕ)
         → (is_one_of 0 value x ≡ true → is_one_of 0 both x ≡ true)

@@ -15,8 +15,8 @@ use crash_model::disk_bytes::{DIRECTORY_KIND, DIRECTORY_MARK, FILE_KIND, FILE_MA
 use std::alloc::Allocator;
 
 impl<'a, A: Allocator + Copy> KnownDisk<'a, A> {
-    /// The block that a directory has where it counts, if it may count at all; else an undecided patch that gives it
-    /// another.
+    /// The block that a directory has if it counts, and if it may count at all; otherwise an undecided patch that gives
+    /// it another.
     pub(crate) fn directory_block(&self, dir: u8) -> Result<Option<u8>, usize>
         requires { dir < 16 }
         ensures ok { IfOk result (λ found. MatchOption found (InEachDisk self.now (λ d. counts d dir ≡ false))

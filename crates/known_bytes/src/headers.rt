@@ -1,4 +1,4 @@
-//! Headers of the journal of which it is open whether they are there.
+//! Headers of the journal that may or may not be there.
 
 ghost use Rattle.std.specs.Prelude.{◌≡◌, ◌+◌, ◌<◌, ◌≤◌, length, IfOk, IfErr, IfSome, MatchOption, true};
 ghost use Rattle.std.specs.List.{list_all};
@@ -16,8 +16,8 @@ use disk_image::Image;
 use std::alloc::Allocator;
 
 impl<'a, A: Allocator + Copy> KnownBytes<'a, A> {
-    /// The targets of the header in a journal block, where an image has one there and all that do have the same; else an
-    /// undecided patch that puts others there.
+    /// The targets of the header in a journal block, if an image has one there and all that do have the same; otherwise
+    /// an undecided patch that puts others there.
     pub(crate) fn targets(&self, at: usize) -> Result<Option<ArrayVec<u8, 8>>, usize>
         requires { at < self.now.base.blocks }
         ensures ok { IfOk result (λ found. MatchOption found (HasNoHeader self.now at)
@@ -39,7 +39,7 @@ impl<'a, A: Allocator + Copy> KnownBytes<'a, A> {
         Ok(Some(targets))
     }
 
-    /// Whether there is a header of transaction `turn` in a journal block, where a header there has these targets.
+    /// Whether there is a header of transaction `turn` in a journal block, if a header there has these targets.
     pub(crate) fn has_header(&self, at: usize, turn: u8, targets: &[u8]) -> Result<bool, usize>
         requires block { at < self.now.base.blocks }
         requires few { (1 ≤ length targets.now) × (length targets.now ≤ 8) }
@@ -57,7 +57,7 @@ impl<'a, A: Allocator + Copy> KnownBytes<'a, A> {
         both(number, self.has_targets(at, targets))
     }
 
-    /// Whether a journal block has the number of the targets and the targets behind it.
+    /// Whether a journal block has the number of the targets and the targets after it.
     fn has_targets(&self, at: usize, targets: &[u8]) -> Result<bool, usize>
         requires block { at < self.now.base.blocks }
         requires few { length targets.now ≤ 8 }
@@ -71,7 +71,7 @@ impl<'a, A: Allocator + Copy> KnownBytes<'a, A> {
     }
 }
 
-/// Whether a header in a journal block may have these targets: there is room behind it, they ascend, and a transaction
+/// Whether a header in a journal block may have these targets: there is room after it, they ascend, and a transaction
 /// may change each of them.
 pub(crate) fn may_have<A: Allocator + Copy>(base: &Image<A>, at: usize, targets: &[u8]) -> bool
     requires few { length targets.now ≤ 8 }

@@ -19,14 +19,14 @@ use std::alloc::Allocator;
 pub(crate) struct Homes {
     /// For each block one of them.
     pub(crate) blocks: [u8; 128],
-    /// For each block the others, none where it is known.
+    /// For each block the others; none if it is known.
     pub(crate) others: [u128; 128],
-    /// For each block with others an undecided patch on which it hangs where it is read.
+    /// For each block with others, an undecided patch on which its place depends.
     pub(crate) asks: [u8; 128],
 }
 
 impl Homes {
-    /// Each block is read where it is.
+    /// Each block is read at its own place.
     pub(crate) fn own() -> Homes
         ensures own { (block : ℕ) → block < 128 → slice_index result.blocks block ≡ block }
         ensures settled { (block : ℕ) → slice_index result.others block ≡ 0 }
@@ -38,8 +38,8 @@ impl Homes {
         }
     }
 
-    /// Has the targets of a header read from the blocks from `first` on, where replay copies them. Where that is not
-    /// known, they may be read there too, and it hangs on the patch.
+    /// Has the targets of a header read from the blocks from `first` on, if replay copies them. If that is not known,
+    /// they may be read there too, and the place depends on the patch.
     fn note(&mut self, first: usize, targets: &[u8], copied: Result<bool, usize>)
         requires few { first + length targets.now ≤ 128 }
         requires known { All (λ target. target < 128) targets.now }
@@ -66,12 +66,12 @@ impl Homes {
 }
 
 impl<'a, A: Allocator + Copy> KnownBytes<'a, A> {
-    /// For each block the ones where replay may find it: its last committed copy, copies of which it is not known
-    /// whether they are that, and itself where it may have none.
+    /// For each block the ones where replay may find it: its last committed copy, copies that may or may not be the
+    /// last one, and the block itself if it may have none.
     ///
-    /// It is asked of each header whether it is there; none need be known. Of a block whose home hangs on several
-    /// patches the first of these is told: of its last transaction the commit, then the commits before it, the earliest
-    /// first, and then whether it is done. An error is a patch on which it hangs what a header is.
+    /// Each header is asked whether it is there; none need be known. Of a block whose home depends on several patches
+    /// the first of these is named: of its last transaction the commit, then the commits before it, the earliest first,
+    /// and then whether it is done. An error is a patch on which a header depends.
     pub(crate) fn homes(&self) -> Result<Homes, usize>
         ensures ok { IfOk result (λ homes. AreHomes (record { family = self.now; replayed = true })
             homes.blocks homes.others homes.asks) }
@@ -152,7 +152,7 @@ fn add_homes(others: &mut [u128; 128], first: usize, targets: &[u8])
     }
 }
 
-/// Has each of the blocks hang on a patch.
+/// Notes that the place of each of the blocks depends on a patch.
 fn ask(asks: &mut [u8; 128], blocks: &[u8], id: u8)
     requires { All (λ block. block < 128) blocks.now }
     ensures new { (block : ℕ) → IsAmong blocks.now (length blocks.now) block → slice_index asks.new block ≡ id }

@@ -1,8 +1,8 @@
-//! What is known of a crash image where it is open which of some patches a crash leaves.
+//! What is known of a crash image if it is open which of some patches a crash leaves.
 //!
 //! A family is the closed sets that hold some patches and bar others; a patch that is neither is undecided. A byte of
-//! their images is that of the patches held, or what an undecided patch puts there. What is read here is read of all
-//! images of a family at once, or it is an undecided patch on which it hangs.
+//! their images is that of the patches held, or what an undecided patch puts there. A read here gives what all images
+//! of a family have, or an undecided patch on which that depends.
 #![tactic(auto)]
 
 mod answers;
@@ -19,6 +19,7 @@ mod homes;
 mod laws;
 mod possible;
 mod reach;
+mod shown;
 mod texts;
 
 pub use byte_set::ByteSet;

@@ -30,7 +30,7 @@ impl<'a, A: Allocator + Copy> KnownBytes<'a, A> {
         values
     }
 
-    /// The values, with those of a byte of a journal block where that may have a copy of the block.
+    /// The values, with those of a byte of a journal block if that may have a copy of the block.
     fn with_copy(&self, values: ByteSet, at: usize, block: usize, offset: usize) -> ByteSet
         requires at { (4 ≤ at) × (at < self.now.base.blocks) }
         requires block { block < self.now.base.blocks }
@@ -49,7 +49,7 @@ impl<'a, A: Allocator + Copy> KnownBytes<'a, A> {
         values.union(more)
     }
 
-    /// Whether a journal block may have a copy of a block: one of the eight blocks before it may name that block where a
+    /// Whether a journal block may have a copy of a block: one of the eight blocks before it may name that block as a
     /// header would.
     fn may_copy(&self, at: usize, block: usize) -> bool
         requires at { (4 ≤ at) × (at < self.now.base.blocks) }
@@ -66,7 +66,7 @@ impl<'a, A: Allocator + Copy> KnownBytes<'a, A> {
         false
     }
 
-    /// Whether a journal block may name a block at a place where a header would.
+    /// Whether a journal block may name a block at a place of a header.
     fn may_name(&self, at: usize, place: usize, block: usize) -> bool
         requires at { at < self.now.base.blocks }
         requires place { place < 8 }

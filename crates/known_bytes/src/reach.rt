@@ -25,12 +25,12 @@ pub(crate) struct Reach {
     pub(crate) sure: u128,
     /// The inodes that some disk may reach, these among them.
     pub(crate) may: u128,
-    /// For each inode that some disk may reach but not surely each, an undecided patch on which it hangs.
+    /// For each inode that some disk may reach but not surely each, an undecided patch on which it depends.
     pub(crate) asks: [u8; 16],
 }
 
 impl Reach {
-    /// The root alone.
+    /// Only the root.
     fn root() -> Reach
         ensures sure { result.sure ≡ 1 }
         ensures may { result.may ≡ 1 }
@@ -104,7 +104,7 @@ impl Reach {
         self.may = with(self.may, inode);
     }
 
-    /// Adds an inode that some disk may reach, unless it is there. Whether one does hangs on a patch.
+    /// Adds an inode that some disk may reach, unless it is there. Whether a disk reaches it depends on a patch.
     fn add_open(&mut self, inode: usize, ask: u8)
         requires { inode < 16 }
         ensures reach { (r : Reading) → IsReach r self.old.sure self.old.may self.old.asks
@@ -208,7 +208,7 @@ impl<'a, A: Allocator + Copy> KnownDisk<'a, A> {
         self.reach().of(inode)
     }
 
-    /// Whether an inode of those that are to be kept is not reached.
+    /// Whether one of the kept inodes is not reached.
     pub fn is_lost(&self, kept: u16, inode: u8) -> Result<bool, usize>
         requires { inode < 16 }
         ensures { IsKnown self.now (λ d. is_lost d kept inode) result }

@@ -7,14 +7,15 @@ ghost use Rattle.known_bytes.specs.Reading.{IsKnown};
 
 use crate::disk::KnownDisk;
 use crash_model::fault::Fault;
+use disk_image::Demands;
 use std::alloc::Allocator;
 
 impl<'a, A: Allocator + Copy> KnownDisk<'a, A> {
-    /// Whether the disks have a fault, where all of them or none has it; else an undecided patch on which it hangs.
+    /// Whether the disks have a fault, if all or none of them have it; else an undecided patch on which it depends.
     ///
-    /// Where `kept` is given, the checker is strict, and these are the inodes that the script keeps.
-    pub fn has(&self, fault: Fault, kept: Option<u16>) -> Result<bool, usize>
-        ensures { IsKnown self.now (λ d. has_fault kept d fault) result }
+    /// The faults are those of the checker with what is demanded of a disk.
+    pub fn has(&self, fault: Fault, demands: &Demands<A>) -> Result<bool, usize>
+        ensures { IsKnown self.now (λ d. has_fault demands.now d fault) result }
     {
         match fault {
             Fault::Dangling { dir, entry, inode } => self.has_dangling(dir, entry, inode),
@@ -27,8 +28,9 @@ impl<'a, A: Allocator + Copy> KnownDisk<'a, A> {
             } => self.has_low(inode, entries, links),
             Fault::MarkedFree { inode, slot, block } => self.has_marked_free(inode, slot, block),
             Fault::Wild { inode, slot, block } => self.has_wild(inode, slot, block),
-            Fault::Lost { inode } => self.has_lost(inode, kept),
-            Fault::NoBlock { inode } => self.has_no_block(inode, kept),
+            Fault::Lost { inode } => self.has_lost(inode, demands.kept()),
+            Fault::NoBlock { inode } => self.has_no_block(inode, demands.kept()),
+            Fault::HalfDone => self.is_half_done(demands),
         }
     }
 

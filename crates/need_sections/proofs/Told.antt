@@ -1,9 +1,9 @@
 -- The first workload that fails without a group of rules, and what is told of it.
 use Rattle.std.proofs.Common.{◌≡◌, ℕ, ◌<◌, List, Bool, length, refl, subst, sym, ◌∙◌}
-use Rattle.std.specs.Prelude.{Option, None}
+use Rattle.std.specs.Prelude.{None}
 use Rattle.std.specs.List.{All}
 use Rattle.arrayvec.specs.ArrayVec.{ArrayVec}
-use Rattle.crash_model.specs.Strict.{IsToldKept}
+use Rattle.crash_model.specs.Checker.{Demands, AreDemands}
 use Rattle.crash_model.specs.declared.patches.Patch.{Patch}
 use Rattle.crash_model.specs.declared.steps.Step.{Step}
 use Rattle.enough_deciding.specs.Rules.{IsGraphBy}
@@ -34,40 +34,41 @@ module _ (s : Search) (group : ℕ) (places : List ℕ)
   traced made steps are same = ∣ subst (IsTraced s) (sym (same ∙ are)) first.among.0.0.accepted ∣₁
 
   -- its patches without the group
-  pub patches_of : (made steps others : List Step) (t : TracedPatches) (kept : Option ℕ) (patches : List Patch)
+  pub patches_of : (made steps others : List Step) (t : TracedPatches) (demands : Demands) (patches : List Patch)
       → made ≡ steps_at s.pool places → steps ≡ made → others ≡ made → IsTraceOf s steps t
-      → IsToldKept s.strict s.base others kept → IsGraphBy (rules_but t.rules group) s.base t patches
-      → HasPatches (search_but s group) places kept patches
-  patches_of made steps others t kept patches are same also is told by =
-      patches_but s places steps others t kept (same ∙ are) (also ∙ are) is told group patches by
+      → AreDemands s.strict s.atomic s.base others demands → IsGraphBy (rules_but t.rules group) s.base t patches
+      → HasPatches (search_but s group) places demands patches
+  patches_of made steps others t demands patches are same also is told by =
+      patches_but s places steps others t demands (same ∙ are) (also ∙ are) is told group patches by
 
-  module _ (kept : Option ℕ) (patches : List Patch) (has : HasPatches (search_but s group) places kept patches) where
+  module _ (demands : Demands) (patches : List Patch)
+      (has : HasPatches (search_but s group) places demands patches) where
     -- a set of its patches without the group fails
-    some_fails : SomeFails kept s.base patches
+    some_fails : SomeFails demands s.base patches
     some_fails = by first.among.1
       where
-        by : Fails (search_but s group) places → SomeFails kept s.base patches
-        by (other, those, too, some) = of_each (search_but s group) places other kept those patches too has
+        by : Fails (search_but s group) places → SomeFails demands s.base patches
+        by (other, those, too, some) = of_each (search_but s group) places other demands those patches too has
             (λ k ps. SomeFails k s.base ps) some
 
     -- so there is a first fault
     pub some_told : (explain : Bool)
-        → ¬ (IsToldAny (record { explain = explain; kept = kept }) s.base patches None)
+        → ¬ (IsToldAny (record { explain = explain; demands = demands }) s.base patches None)
     some_told explain none =
-        let fault = some_fault kept (record { base = s.base; patches = patches }) some_fails.0 some_fails.1 in
+        let fault = some_fault demands (record { base = s.base; patches = patches }) some_fails.0 some_fails.1 in
         none fault.0 some_fails.0 fault.1
 
     pub need_told : {A : Type 0} (explain : Bool) (copy : ArrayVec ℕ) (number : ℕ) (fault : FirstFault A)
         → copy.items ≡ places → number ≡ length patches
-        → IsToldFirst (record { explain = explain; kept = kept }) s.base patches (told_first fault)
+        → IsToldFirst (record { explain = explain; demands = demands }) s.base patches (told_first fault)
         → IsToldNeed s explain
         (told_need s.pool (record { group = group; places = copy; patches = number; fault = fault }))
     need_told explain copy number fault same counted is = record {
       earliest = subst (IsFirstSequence (FailsBy s (rules_but s.rules group))) (sym same) first;
       steps = refl;
-      kept = kept;
+      demands = demands;
       patches = patches;
-      traced = subst (λ (ps : List ℕ). HasPatches (search_but s group) ps kept patches) (sym same) has;
+      traced = subst (λ (ps : List ℕ). HasPatches (search_but s group) ps demands patches) (sym same) has;
       number = counted;
       first = is;
     }

@@ -9,7 +9,6 @@ ghost use Rattle.search_rules_report.specs.Findings.{told_need};
 ghost use Rattle.workload_search.specs.Tries.{items_of};
 ghost use Rattle.pool_judging.specs.Judging.{search_by};
 
-use crash_model::settings::Detail;
 use needed_groups::first_fault;
 use pool_rules::{PoolRules, graph_but, traced_of};
 use search_model::Places;
@@ -18,8 +17,8 @@ use std::alloc::{AllocError, Allocator};
 use workload_rules::first_without;
 use workload_search::places::copied;
 
-/// What is told of each group of rules of which the workloads need one, in order. `passing` are the workloads that do not
-/// fail, in order.
+/// What is reported of each group of rules of which the workloads need one, in order. `passing` has the workloads that
+/// do not fail, in order.
 ///
 /// # Errors
 ///
@@ -44,9 +43,9 @@ pub fn needed_workloads<A: Allocator + Copy>(
     Ok(needs)
 }
 
-/// What is told of a group of rules of which the workloads need one: the first workload that fails without the group, and
-/// the first fault that a crash of it leaves then, with what replay changes where `explain` is set. `passing` are the
-/// workloads that do not fail, in order.
+/// What is reported of a group of rules of which the workloads need one: the first workload that fails without the
+/// group, and the first fault that a crash of it leaves then, with what replay changes if `explain` is set. `passing`
+/// has the workloads that do not fail, in order.
 ///
 /// # Errors
 ///
@@ -67,9 +66,8 @@ pub fn needed_workload<A: Allocator + Copy>(
     let steps = judge.steps_at(places)?;
     let traced = traced_of(judge, &steps)?;
     let graph = graph_but(judge, &traced, group)?;
-    let kept = judge.told_kept(&steps)?;
-    let detail = Detail { explain, kept };
-    let Some(fault) = first_fault(judge.alloc, judge.base, &graph, detail)? else {
+    let demands = judge.demands(&steps)?;
+    let Some(fault) = first_fault(judge.alloc, judge.base, &graph, explain, &demands)? else {
         unreachable!();
     };
     Ok(NeededWorkload {

@@ -15,14 +15,13 @@ use Rattle.crash_model.specs.Disk.{Disk}
 use Rattle.crash_model.specs.Needs.{IsFirstNew}
 use Rattle.crash_model.specs.Patches.{Place, places_of, deps_of, image_from}
 use Rattle.crash_model.specs.Replay.{image_after_replay}
-use Rattle.crash_model.specs.Report.{Section}
+use Rattle.crash_model.specs.Report.{Detail, Section}
 use Rattle.crash_model.specs.RuleFacts.{AreAmong}
 use Rattle.crash_model.specs.Rules.{rules_in_first, has_rule}
-use Rattle.crash_model.specs.Strict.{IsCleanUnder, IsFailingUnder}
+use Rattle.crash_model.specs.Checker.{IsCleanUnder, IsFailingUnder}
 use Rattle.crash_model.specs.Trace.{Tracing, IsGraphOf}
 use Rattle.crash_model.specs.declared.patches.Patch.{Patch}
 use Rattle.crash_model.specs.declared.rules.Rule.{Rule}
-use Rattle.crash_model.specs.declared.settings.Detail.{Detail}
 use Rattle.rule_laws.proofs.Closed.{failing_under_more}
 
 -- a list in order has no set twice
@@ -34,28 +33,29 @@ distinct sets ordered i j d lt within same =
 module _ (detail : Detail) (rules : List Rule) (rule : Rule) (base : Disk) (s : Tracing)
     (patches changed : List Patch) (sets : List ℕ) (graph : IsGraphOf rules base s patches)
     (fewer : IsGraphOf (rules_in_first rules (rule ∷ [])) base s changed)
-    (all : AreAllInOrder (IsFailingUnder detail.kept base patches) sets) where
+    (all : AreAllInOrder (IsFailingUnder detail.demands base patches) sets) where
   among : AreAmong (rules_in_first rules (rule ∷ [])) rules
   among = All-filter (λ (other : Rule). not (has_rule (rule ∷ []) other)) (Contains rules) rules
       (All-contains_itself rules)
 
   -- what fails with the rule fails without it
-  fails_without : (set : ℕ) → IsFailingUnder detail.kept base patches set → IsFailingUnder detail.kept base changed set
+  fails_without : (set : ℕ) → IsFailingUnder detail.demands base patches set
+      → IsFailingUnder detail.demands base changed set
   fails_without set = failing_under_more (rules_in_first rules (rule ∷ [])) rules base s changed patches set among fewer
-      graph detail.kept
+      graph detail.demands
 
   -- what fails without the rule fails with it, where a crash can leave it
-  fails_with : (set : ℕ) → IsFailingUnder detail.kept base changed set → IsClosed (deps_of patches) set
-      → IsFailingUnder detail.kept base patches set
+  fails_with : (set : ℕ) → IsFailingUnder detail.demands base changed set → IsClosed (deps_of patches) set
+      → IsFailingUnder detail.demands base patches set
   fails_with set failing closed =
       let same : places_of patches ≡ places_of changed = graph.places ∙ sym fewer.places in
       record {
         closed = closed;
         unclean = λ clean. failing.unclean (subst (λ (ps : List Place).
-            IsCleanUnder detail.kept (image_after_replay (image_from 0 base ps set))) same clean);
+            IsCleanUnder detail.demands (image_after_replay (image_from 0 base ps set))) same clean);
       }
 
-  module _ (new : List ℕ) (exactly : AreAllInOrder (IsFailingUnder detail.kept base changed) new) where
+  module _ (new : List ℕ) (exactly : AreAllInOrder (IsFailingUnder detail.demands base changed) new) where
     each_new : All (Contains new) sets
     each_new k d within = (exactly.exactly (get_or sets k d)).1 (fails_without (get_or sets k d)
         ((all.exactly (get_or sets k d)).0 (Contains-get_or sets k d within)))

@@ -341,7 +341,7 @@ log-emit log labels label patch added is labelled emitted adds waits known undo 
 pub written_blocks : (log : Log) → IsLog log → log.written.blocks ≡ log.base.blocks
 written_blocks log is = ap (λ (d : Disk). d.blocks) is.written ∙ with_places-blocks log.base (places_of log.patches)
 
--- the same by what stands in the fields
+-- the same by what is in the fields
 module _ (base written : Disk) (kind : Module) (rules : List Rule) (whole : Bool)
     (links : List (List ℕ × List ℕ)) (labels : List Label) (label : Label) (patches : List Patch)
     (patch added : Patch) where
@@ -496,7 +496,7 @@ deps_read own shared rules links labels label whole patches block waits shares i
   ],
 )
 
--- two that stand at one place are one
+-- two at one place are one
 pub one_at : (patches : List Patch) (id : ℕ) (a b : Patch) → slice_get patches id ≡ Some a → slice_get patches id
     ≡ Some b
     → a ≡ b

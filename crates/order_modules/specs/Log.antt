@@ -58,7 +58,7 @@ pub record Keeps (old new : Log) : Type 0 where
   pub rules : new.rules ≡ old.rules
   pub whole : new.whole ≡ old.whole
 
--- the log has these patches more, and is else as it was
+-- the log has these further patches, and is otherwise as it was
 pub record Adds (old new : Log) (more : List Emitted) : Type 0 where
   pub base : new.base ≡ old.base
   pub kind : new.kind ≡ old.kind

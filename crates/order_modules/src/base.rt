@@ -14,7 +14,7 @@ use std::alloc::Allocator;
 
 /// Applies the operations of the steps, in order, up to the first refused step.
 ///
-/// A refused operation changes nothing; a step on groups is refused, since groups order traced patches alone. The
+/// A refused operation changes nothing; a step on groups is refused, since groups order only traced patches. The
 /// journal is not touched, and a sound image stays sound. On a sound image each operation makes the disk gain and lose
 /// what it means, and a step is refused exactly as the disk before it requires. It takes no memory.
 pub fn build_base<A: Allocator + Copy>(

@@ -12,7 +12,7 @@ use crash_model::refusals::TraceFault;
 use std::alloc::Allocator;
 
 impl<'a, A: Allocator + Copy> Tracer<'a, A> {
-    /// Opens a group: none may be open, and this one may not have been opened before.
+    /// Opens a group. No group may be open, and this one may not have been opened before.
     pub fn open(&mut self, line: usize, name: &'a GroupName) -> Result<(), TraceFault>
         ensures ok { OnOk result (Moves self.old self.new
             (step_of self.old.log.kind self.old.tracing line (Group name.now))) }

@@ -111,9 +111,9 @@ impl<'a, A: Allocator + Copy> PatchLog<'a, A> {
 
     /// Adds a patch: new bytes from byte `offset` of a block on.
     ///
-    /// It waits for the patches that it overlaps, for those of its block where blocks are written whole, and for those
-    /// that its label says. Its undo data are the bytes before it. It fails only when out of memory, and then the log
-    /// is as it was.
+    /// It waits for the patches that it overlaps, for those of its block if blocks are written whole, and for those
+    /// that follow from its label. Its undo data are the bytes before it. It fails only when out of memory, and then
+    /// the log is as it was.
     pub fn emit(
         &mut self,
         label: Label<'a>,
@@ -185,7 +185,7 @@ fn dependencies(rules: &[Rule], links: &[Link<'_>], labels: &[Label<'_>], later:
     ids
 }
 
-/// The ids of the patches that change a block, where blocks are written whole; else none.
+/// The ids of the patches that change a block, if blocks are written whole; otherwise none.
 fn sharing_block<A: Allocator + Copy>(whole: bool, graph: &Graph<A>, block: u8) -> u128
     ensures { (id : ℕ) → Has result id ↔ SharesAt whole graph.now block id }
 {

@@ -34,11 +34,11 @@ use traced_patches::{Origin, Traced};
 ///
 /// Each operation is planned on the image after those before it. Its patches carry as undo data the bytes that they
 /// replace, in the image after all patches before them. They depend on each earlier patch of an overlapping range, on
-/// the patches of groups by the script's `depend` lines, and on those that a rule of the ordering names; where the
-/// ordering has blocks written whole, on each earlier patch of their block too. A step is refused by the operation
-/// itself, by a full journal, by too many patches (the graph holds 124), or by the rules of groups: a group is opened
-/// once and only while none is open, `depend b a` takes an ended group a and a group b, not a, that has no patch. It
-/// fails when out of memory too.
+/// the patches of groups by the script's `depend` lines, and on those that a rule of the ordering names; if the
+/// ordering writes blocks whole, they also depend on each earlier patch of their block. A step is refused by the
+/// operation itself, by a full journal, by too many patches (the graph holds 124), or by the rules of groups: a group
+/// is opened once and only while none is open, `depend b a` takes an ended group a and a group b, not a, that has no
+/// patch. It also fails when out of memory.
 ///
 /// Under the full journal with all its rules, and with any others put in, from a sound image whose journal is zero,
 /// replay recovers from every crash: whatever closed set of the patches is on disk, replay leaves a sound image that
@@ -70,10 +70,10 @@ pub fn trace<'a, A: Allocator + Copy>(
     Ok(tracer.into_traced())
 }
 
-/// The graph of the steps, over this image, under a module with its own rules, where a block can be written without
-/// some of its changes; or the first refused step.
+/// The graph of the steps, over this image, under a module with its own rules, when a block can be written without some
+/// of its changes; or the first refused step.
 ///
-/// It is that of `trace` under this ordering.
+/// It is the same as that of `trace` under this ordering.
 pub fn trace_under<A: Allocator + Copy>(
     alloc: A,
     image: &Image<A>,

@@ -187,7 +187,7 @@ impl<'a, A: Allocator + Copy> PatchLog<'a, A> {
         )
     }
 
-    /// Adds the changes where they belong, but for file data that went ahead.
+    /// Adds the changes in place, except file data that went ahead.
     pub fn emit_in_place(
         &mut self,
         turn: usize,

@@ -57,7 +57,7 @@ module _ (set others ahead rest : ℕ) (words : (q : ℕ) → Has set q → q < 
   pub is_ahead : (id : ℕ) → Has set id → ComesBefore others id → Has (bit_and set ahead) id
   is_ahead id is before = in_and set ahead id is ((are_ahead id).1 (words id is, before))
 
-  -- what is ahead is none of the others
+  -- what is ahead is not among the others
   pub not_other : (id : ℕ) → Has (bit_and set ahead) id → Has others id → ⊥
   not_other id is other = let again = ((are_ahead id).0 (from_and set ahead id is).1).1 id other in omega (arith, again)
 

@@ -1,4 +1,4 @@
--- The ids that do not stand on an id, for each id, while a graph grows.
+-- The ids that do not depend on an id, for each id, while a graph grows.
 use Rattle.std.proofs.Common.{◌≡◌, ◌≢◌, ℕ, zero, suc, ◌+◌, ◌-◌, ◌*◌, ◌%◌, ◌^◌, ◌<◌, ◌≤◌, List, [], ◌∷◌, ◌++◌, length}
 use Rattle.std.proofs.Common.{get_or, set, replicate, length-set, get_or-set_same, get_or-set_other, arith, refl, sym}
 use Rattle.std.proofs.Common.{subst, ap, ◌∙◌, inl, inr, length-append}
@@ -224,7 +224,7 @@ module _ (deps before after : List ℕ) (own : ℕ) (apart : AreApart deps befor
 
 -- ---- closed sets
 
--- the ids of a closed set do not stand on an id outside
+-- the ids of a closed set do not depend on an id outside
 module _ (deps apart : List ℕ) (are : AreApart deps apart) (earlier : AreEarlier deps) (set p : ℕ)
     (closed : IsClosed deps set) (low : p < length deps) (out : ¬ (Has set p)) where
   inside_below : (n d : ℕ) → d < n → Has set d → Has (slice_index apart p) d

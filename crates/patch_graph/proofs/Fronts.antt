@@ -148,7 +148,7 @@ module _ (deps : List ℕ) (set : ℕ) (earlier : AreEarlier deps) where
             counted = ap (λ n. n + 1) before_lowest ∙ sym (count_one p (is_ready deps set) lowest_passes);
           }
 
-      -- fewer are left without it and the ids that stand on it
+      -- fewer are left without it and the ids that depend on it
       pub lowest_fewer : (apart : List ℕ) → AreApart deps apart → bit_and front (slice_index apart p) < front
       lowest_fewer apart are = fewer_left front (slice_index apart p) p low.inside (are.itself p lowest_known)
 

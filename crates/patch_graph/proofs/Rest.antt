@@ -17,7 +17,7 @@ use Rattle.crash_model.specs.Patches.{homes_of}
 use Rattle.patch_graph.proofs.Ahead.{is_ahead, not_other, rest_begins, ahead_split, rest_less}
 use Rattle.patch_graph.proofs.Fronts.{in_and, from_and}
 
--- The writes carry the set's first ids, and those that are left come behind. The last write is of another block than
+-- The writes carry the set's first ids, and those that are left come after. The last write is of another block than
 -- the first id that is left.
 pub record IsRest (homes : List ℕ) (set left : ℕ) (writes : List BlockWrite) : Type 0 where
   pub in_order : ids_carried homes writes ++ ids_of (length homes) left ≡ ids_of (length homes) set

@@ -61,7 +61,7 @@ pub count_successors : (deps : List ℕ) (set : ℕ) → length (successors_of d
     ≡ length (ids_below (length deps) (is_ready deps set))
 count_successors deps set = length-map (ids_below (length deps) (is_ready deps set)) (with_id set)
 
--- the successor by an id stands at the number of ready ids before it
+-- the successor by an id is at the place that is the number of ready ids before it
 pub successor_at : (deps : List ℕ) (set id k : ℕ) → id < length deps → is_ready deps set id ≡ true
     → k ≡ length (ids_below id (is_ready deps set)) → slice_index (successors_of deps set) k ≡ with_id set id
 successor_at deps set id k inside passes k_is =

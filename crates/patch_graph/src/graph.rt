@@ -29,8 +29,8 @@ pub const MAX_PATCHES: usize = 124;
 /// [`Graph::leading_writes`] cuts a set into parts of this many ids.
 const STRIDE: usize = 8;
 
-/// For how many block writes of a set room is taken at first. An allocator gives a kilobyte at once, and more than
-/// that slowly.
+/// The number of block writes of a set that room is taken for at first. An allocator gives a kilobyte at once, and more
+/// than that slowly.
 const SOME_WRITES: u32 = 32;
 
 /// Some ids of a set whose block writes come first, and the others.
@@ -40,8 +40,8 @@ pub struct Lead {
     pub rest: u128,
 }
 
-/// Patches in the order in which they were added, of which each depends on earlier ones, and on each earlier
-/// one that it overlaps.
+/// Patches in the order in which they were added. Each depends only on earlier ones, and on each earlier one that it
+/// overlaps.
 ///
 /// Contracts see the list of the patches.
 #[derive(Drop)]
@@ -84,8 +84,7 @@ impl<A: Allocator + Copy> Graph<A> {
 
     /// Adds a patch, and each patch that it overlaps to its dependencies.
     ///
-    /// It is refused as one too many exactly where the graph has `MAX_PATCHES`. After an error the graph is as
-    /// it was.
+    /// It is refused as too many exactly if the graph already has `MAX_PATCHES`. After an error the graph is as it was.
     pub fn push(&mut self, mut patch: Patch) -> Result<(), GraphFault>
         requires whole { IsPatch patch }
         requires earlier { (id : ℕ) → Has patch.deps id → id < length self.old }
@@ -106,7 +105,7 @@ impl<A: Allocator + Copy> Graph<A> {
         Ok(())
     }
 
-    /// How many patches there are, and what every graph keeps.
+    /// The number of patches. For the proof it also says what holds of every graph.
     pub fn len(&self) -> usize
         ensures number { result ≡ length self.now }
         ensures kept { IsGraph self.now }
@@ -139,8 +138,8 @@ impl<A: Allocator + Copy> Graph<A> {
             .all(|patch| usize::from(patch.block) < blocks)
     }
 
-    /// Whether a crash can leave exactly the set committed: it has ids of the graph alone, and with each of them
-    /// all its dependencies.
+    /// Whether a crash can leave exactly the set committed: it has only ids of the graph, and with each of them all its
+    /// dependencies.
     pub fn is_closed(&self, set: u128) -> bool
         ensures closed { IsTrue result ↔ IsClosed (deps_of self.now) set }
         ensures crash { IsTrue result ↔ CanLeave (deps_of self.now) (homes_of self.now) set }
@@ -176,7 +175,7 @@ impl<A: Allocator + Copy> Graph<A> {
         count
     }
 
-    /// The set with one ready id more, for the k-th of them, counted from 0 by ascending ids. Of a closed set `next`
+    /// The set with one ready id more, for the k-th of them, counted from 0 by ascending ids. For a closed set `next`
     /// is faster.
     pub fn successor(&self, set: u128, k: u32) -> u128
         requires { k < length (successors_of (deps_of self.now) set) }
@@ -287,8 +286,8 @@ impl<A: Allocator + Copy> Graph<A> {
         Ok(writes)
     }
 
-    /// Some ids that a set begins with, cut where a block write ends, so that the writes to the set are theirs and
-    /// then those of the rest. None where the set has no id.
+    /// Some ids that a set begins with, cut where a block write ends, so that the writes to the set are theirs and then
+    /// those of the rest. `None` if the set has no id.
     ///
     /// Sets of one graph have few such beginnings, and each of them many.
     pub fn leading_writes(&self, set: u128) -> Option<Lead>
@@ -351,7 +350,7 @@ fn is_ready(patch: &Patch, id: usize, set: u128) -> bool
     !has(set, id) && is_subset(patch.deps, set)
 }
 
-/// Whether the set has ids of the patches alone, and with each of them all its dependencies.
+/// Whether the set has only ids of the patches, and with each of them all its dependencies.
 fn is_closed_in(patches: &[Patch], set: u128) -> bool
     requires { length patches.now ≤ MAX_PATCHES }
     ensures { IsTrue result ↔ IsClosed (deps_of patches.now) set }

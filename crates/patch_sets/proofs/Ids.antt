@@ -92,9 +92,9 @@ ids_ascend n pass = AllPairs-filter (λ x y. x < y) pass (range_with_len 0 n) (�
     let at_j : get_or (range_with_len 0 n) j d ≡ 0 + j = get_or-range_with_len 0 n j d far in
     omega (arith, at_i, at_j))
 
--- ---- where an id stands
+-- ---- the place of an id
 
--- fewer stand before an id that passes
+-- fewer come before an id that passes
 pub fewer_before : (n : ℕ) (pass : ℕ → Bool) (id : ℕ) → id < n → pass id ≡ true
     → length (ids_below id pass) < length (ids_below n pass)
 fewer_before zero pass id below is = absurd (omega arith)

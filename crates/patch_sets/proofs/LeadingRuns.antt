@@ -135,7 +135,7 @@ below_ids set less small fits of_none of_some id = elim (eq_or_not set 0) [
 
 -- ---- the run that a set begins with
 
--- the lowest id of the gaps behind a run, 128 where there is none
+-- the lowest id of the gaps after a run, 128 if there is none
 pub record IsEnd (gaps end : ℕ) : Type 0 where
   pub within : end ≤ 128
   pub least : (id : ℕ) → Has gaps id → end ≤ id

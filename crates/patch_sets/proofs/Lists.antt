@@ -24,14 +24,14 @@ pub in_none : {X : Type 0} (z : X) → Contains [] z → ⊥
 in_none z (k, within, is) = omega arith
 
 module _ (R : ℕ → ℕ → Type 0) where
-  -- the first stands before each later one
+  -- the first comes before each later one
   pub front_before : (x : ℕ) (xs : List ℕ) → AllPairs R (x ∷ xs) → (z : ℕ) → Contains xs z → R x z
   front_before x xs up z (k, within, is) = subst (R x) is (up zero (suc k) z (omega arith) (omega arith))
 
   pub rest_ordered : (x : ℕ) (xs : List ℕ) → AllPairs R (x ∷ xs) → AllPairs R xs
   rest_ordered x xs up i j d lt within = up (suc i) (suc j) d (omega arith) (omega arith)
 
-  -- what stands in the first part comes before what stands in the second
+  -- what is in the first part comes before what is in the second
   pub across : (xs ys : List ℕ) → AllPairs R (xs ++ ys) → (a b : ℕ) → Contains xs a → Contains ys b → R a b
   across xs ys up a b (i, inside, is_a) (j, within, is_b) =
       let at_a : get_or (xs ++ ys) i 0 ≡ a = get_or_append_left xs ys 0 i inside

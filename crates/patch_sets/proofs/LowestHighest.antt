@@ -18,7 +18,7 @@ use Rattle.patch_sets.proofs.Bits.{below_from_small}
 not_below : (a b : ℕ) → (b < a → ⊥) → a ≤ b
 not_below a b h = let le : a < suc b = lt_of_not-le (λ high. h (omega arith)) in omega arith
 
--- a number that is not 0 has its lowest 1 behind its trailing zeros
+-- a number that is not 0 has its lowest 1 after its trailing zeros
 pub lowest_id : (set : ℕ) → set ≢ 0 → set < 2 ^ 128 → IsLowest set (count_trailing_zeros 128 set)
 lowest_id set some small =
     let found = bit_at-trailing_zeros w128 set (omega arith) small in record {
@@ -36,7 +36,7 @@ top_bit n j low high = ap (λ q. q % 2) (one (n / 2 ^ j) (n % 2 ^ j) (shr_split 
     one (suc zero) r split less = refl
     one (suc (suc q)) r split less = omega arith
 
--- and its highest behind its leading zeros
+-- and its highest after its leading zeros
 pub highest_id : (set : ℕ) → set ≢ 0 → set < 2 ^ 128 → IsHighest set (127 - count_leading_zeros 128 set)
 highest_id set some small =
     let top = leading_top 128 set (omega arith) small in
@@ -64,7 +64,7 @@ without_id set id known small = record {
     rest_small : bit_and set (bit_not w128 (1 * 2 ^ id % 2 ^ 128)) < 2 ^ 128
     rest_small = let below = and_le_l set (bit_not w128 (1 * 2 ^ id % 2 ^ 128)) in omega (arith, below)
 
--- one less: the lowest 1 is gone, each 0 below it is a 1, and what stands above it stays
+-- one less: the lowest 1 is gone, each 0 below it is a 1, and what is above it stays
 pub record LacksLowest (id n : ℕ) : Type 0 where
   pub gone : bit_at (n - 1) id ≡ 0
   pub below : (q : ℕ) → q < id → bit_at (n - 1) q ≡ 1

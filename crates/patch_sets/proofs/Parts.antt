@@ -15,7 +15,7 @@ use Rattle.patch_sets.proofs.Writes.{AreCut, ids_carried, carried_push, cut_from
 use Rattle.patch_sets.proofs.Writes.{block_of_first}
 
 module _ (homes : List ℕ) where
-  -- writes behind writes, of another block than the last of them
+  -- writes after writes, of another block than the last of them
   cut_append : (ws vs : List BlockWrite) → AreCut homes ws → AreCut homes vs
       → ((front back : List BlockWrite) (last first : BlockWrite) → ws ≡ front ++ last ∷ [] → vs ≡ first ∷ back
       → last.block ≢ first.block) → AreCut homes (ws ++ vs)

@@ -1,4 +1,4 @@
--- The ends of a set, and sets with ids less.
+-- The ends of a set, and sets with fewer ids.
 use Rattle.std.specs.Prelude.{◌≢◌, ℕ, ◌≤◌, ◌↔◌}
 use Rattle.patch_sets.specs.Sets.{Has}
 
@@ -15,6 +15,6 @@ pub record IsWithout (set id rest : ℕ) : Type 0 where
   pub gone : ¬ (Has rest id)
   pub others : (q : ℕ) → q ≢ id → (Has rest q ↔ Has set q)
 
--- the ids of a set that another hasn't
+-- the ids of a set that another does not have
 pub record IsDifference (set other difference : ℕ) : Type 0 where
   pub exactly : (id : ℕ) → (Has difference id ↔ (Has set id × ¬ (Has other id)))

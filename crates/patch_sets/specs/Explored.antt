@@ -1,4 +1,4 @@
--- What exploring a space of words is to find. The space is given by the successors of each word, its initial word and
+-- What exploring a space of words must find. The space is given by the successors of each word, its initial word and
 -- which words are good.
 use Rattle.std.specs.Prelude.{ℕ, ◌≤◌, List}
 use Rattle.state_space.specs.Reach.{IsReached}

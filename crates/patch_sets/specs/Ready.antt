@@ -12,6 +12,6 @@ pub record IsReady (deps : List ℕ) (set id : ℕ) : Type 0 where
 abbrev pub is_ready : List ℕ → ℕ → ℕ → Bool
 is_ready deps set id = not (has set id) && (bit_and (slice_index deps id) set == slice_index deps id)
 
--- the sets that have one ready id more, by ascending ids
+-- the sets that have one more ready id, by ascending ids
 abbrev pub successors_of : List ℕ → ℕ → List ℕ
 successors_of deps set = map (with_id set) (ids_below (length deps) (is_ready deps set))

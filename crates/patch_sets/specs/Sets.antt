@@ -1,4 +1,4 @@
--- A set of ids is a number: id p is in it where bit p of the number is 1.
+-- A set of ids is a number: id p is in it if bit p of the number is 1.
 use Rattle.std.specs.Prelude.{◌≡◌, ℕ, ◌<◌, ◌^◌, ◌⊎◌, ◌↔◌, List, Bool, ◌==◌, filter, count_ones, bit_or}
 use Rattle.std.specs.Int.{bit_at}
 use Rattle.std.specs.List.{range_with_len, AllPairs, Contains}

@@ -1,4 +1,4 @@
-//! The ends of a set, sets with one id less, and what one set has and another hasn't.
+//! The ends of a set, sets with one id less, and what one set has and another does not.
 ghost use Rattle.std.specs.Prelude.{◌≡◌, ◌≢◌, ℕ, ◌<◌, ◌↔◌, MatchOption, IfSome};
 ghost use Rattle.patch_sets.specs.Sets.{Has};
 ghost use Rattle.patch_sets.specs.Ends.{IsLowest, IsHighest, IsWithout, IsDifference};
@@ -25,7 +25,7 @@ pub fn highest(set: u128) -> Option<usize>
     Some(127 - set.leading_zeros() as usize)
 }
 
-/// The set with one id less. It is a smaller number where the set had the id.
+/// The set with one id less. It is a smaller number if the set had the id.
 pub fn without(set: u128, id: usize) -> u128
     requires { id < 128 }
     ensures others { IsWithout set id result }
@@ -34,7 +34,7 @@ pub fn without(set: u128, id: usize) -> u128
     set & !(1 << id)
 }
 
-/// A set without its lowest id. It takes fewer steps than [`without`], of which each hangs on the one before.
+/// A set without its lowest id. It takes fewer steps than [`without`], in which each step depends on the one before.
 pub fn without_lowest(set: u128) -> u128
     requires { set ≢ 0 }
     ensures others { (id : ℕ) → IsLowest set id → IsWithout set id result }
@@ -43,7 +43,7 @@ pub fn without_lowest(set: u128) -> u128
     set & (set - 1)
 }
 
-/// The ids of one set that another hasn't.
+/// The ids of one set that another does not have.
 pub fn difference(set: u128, other: u128) -> u128
     ensures { IsDifference set other result }
 {

@@ -1,4 +1,4 @@
-//! What holds of closed sets, of the disk that writes blocks and of canonical lists, whatever the graph.
+//! What holds of closed sets, of the disk that writes blocks and of canonical lists, for every graph.
 //!
 //! Each function has a law as its contract, and does nothing.
 ghost use Rattle.std.specs.Prelude.{◌≡◌, ℕ, ◌↔◌, List, length};
@@ -11,7 +11,7 @@ ghost use Rattle.patch_sets.specs.Machine.{CanLeave, LeadTo};
 ghost use Rattle.patch_sets.specs.Writes.{AreRuns, events_of};
 ghost use Rattle.patch_sets.specs.declared.write.BlockWrite.{BlockWrite};
 
-/// The empty set is closed, and so is a closed set with a ready id more.
+/// The empty set is closed, and so is a closed set with one more ready id.
 pub fn successors_are_closed(deps: &[u128])
     ensures empty { IsClosed deps.now 0 }
     ensures more { (set after : ℕ) → IsClosed deps.now set → Contains (successors_of deps.now set) after

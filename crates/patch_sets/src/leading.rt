@@ -21,7 +21,7 @@ pub fn below(set: u128, n: usize) -> u128
     if n < 128 { set % (1 << n) } else { set }
 }
 
-/// The ids that come before each id of a set: all where it has none.
+/// The ids that come before each id of a set: all if it has none.
 pub fn below_lowest(set: u128) -> u128
     ensures { (id : ℕ) → Has result id ↔ ((id < 128) × ComesBefore set id) }
 {

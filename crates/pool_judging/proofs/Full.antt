@@ -60,8 +60,8 @@ steps_at_places pool (place ∷ places) all = All-append IsStep (option_to_list 
 
 pub nothing_fails : (s : Search) → IsFullJournal s → IsDisk s.base → IsSound s.base → HasZeroJournal s.base
     → All IsStep s.pool → (places : List ℕ) → ¬ (Fails s places)
-nothing_fails s full disk sound zeros acts places (kept, patches, is, (set, failing)) =
-    none_fails s.strict s.whole kept s.base steps patches disk is.told safe set failing
+nothing_fails s full disk sound zeros acts places (demands, patches, is, (set, failing)) =
+    none_fails s.strict s.atomic s.whole demands s.base steps patches disk is.told safe set failing
   where
     steps : List Step
     steps = steps_at s.pool places

@@ -9,6 +9,7 @@ use Rattle.patch_sets.specs.Sets.{IsBefore}
 use Rattle.state_space.proofs.Counting.{below, same, above, order_of}
 use Rattle.patch_sets.proofs.Canonical.{before_trans}
 use Rattle.patch_sets.proofs.Lists.{in_none, in_front, in_rest, front_or_rest}
+use Rattle.crash_model.specs.Checker.{Demands}
 use Rattle.crash_model.specs.Disk.{Disk}
 use Rattle.crash_model.specs.Summary.{HasFault, IsFirst}
 use Rattle.crash_model.specs.declared.fault.Fault.{Fault}
@@ -116,25 +117,25 @@ listed (d ∷ ds) fault there = elim (front_or_rest d.fault (map (λ f. f.fault)
 ]
 
 -- the least of the first sets of the faults of a kind is the first set with such a fault
-pub least_is_first : (kept : Option ℕ) (base : Disk) (patches : List Patch) (faults : List DecidedFault)
-    (kind : FaultKind) (least : Option ℕ) → AreDecided (HasFault kept base patches) faults
-    → IsLeastOfKind kind faults least → IsFirstOfKind kind kept base patches least
-least_is_first kept base patches faults kind None are none = λ set has.
+pub least_is_first : (demands : Demands) (base : Disk) (patches : List Patch) (faults : List DecidedFault)
+    (kind : FaultKind) (least : Option ℕ) → AreDecided (HasFault demands base patches) faults
+    → IsLeastOfKind kind faults least → IsFirstOfKind kind demands base patches least
+least_is_first demands base patches faults kind None are none = λ set has.
     let there = listed faults has.0 (are.every has.0 set has.1) in
     none there.0 (there.1, ap kind_of there.2 ∙ has.2)
-least_is_first kept base patches faults kind (Some set) are is = record {
+least_is_first demands base patches faults kind (Some set) are is = record {
   among = (
     is.decided.fault,
-    subst (HasFault kept base patches is.decided.fault) is.of_it (first_with is.decided is.among.0).among,
+    subst (HasFault demands base patches is.decided.fault) is.of_it (first_with is.decided is.among.0).among,
     is.among.1,
   );
   first = λ other has.
       let there = listed faults has.0 (are.every has.0 other has.1) in
       let first = first_with there.0 there.1 in
       not_before other there.0.first set
-      (first.first other (subst (λ (f : Fault). HasFault kept base patches f other) (sym there.2) has.1))
+      (first.first other (subst (λ (f : Fault). HasFault demands base patches f other) (sym there.2) has.1))
       (is.least there.0 (there.1, ap kind_of there.2 ∙ has.2));
 }
   where
-    first_with : (d : DecidedFault) → Contains faults d → IsFirst (HasFault kept base patches d.fault) d.first
-    first_with d there = All-contains (λ f. IsFirst (HasFault kept base patches f.fault) f.first) faults d are.each there
+    first_with : (d : DecidedFault) → Contains faults d → IsFirst (HasFault demands base patches d.fault) d.first
+    first_with d there = All-contains (λ f. IsFirst (HasFault demands base patches f.fault) f.first) faults d are.each there

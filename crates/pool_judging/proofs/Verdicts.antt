@@ -1,8 +1,8 @@
 -- What is found of one graph of a sequence holds of each, since a sequence has only one.
 use Rattle.std.proofs.Common.{◌≡◌, ℕ, List, subst}
-use Rattle.std.specs.Prelude.{Option, Some, Bool, Result, Ok, Err, IfOk}
+use Rattle.std.specs.Prelude.{Some, Bool, Result, Ok, Err, IfOk}
 use Rattle.crash_model.specs.Disk.{Disk, IsDisk}
-use Rattle.crash_model.specs.Strict.{IsToldKept}
+use Rattle.crash_model.specs.Checker.{Demands, AreDemands}
 use Rattle.crash_model.specs.Trace.{Tracing, IsGraphOf, trace_start, trace_from}
 use Rattle.crash_model.specs.declared.patches.Patch.{Patch}
 use Rattle.crash_model.specs.declared.refusals.TraceFault.{TraceFault}
@@ -15,7 +15,7 @@ use Rattle.search_model.specs.Workloads.{Search, HasPatches, steps_at, trace_at}
 use Rattle.search_model.specs.declared.refusal.Refusal.{Refusal}
 use Rattle.search_model.specs.declared.verdict.Verdict.{Verdict}
 use Rattle.search_model.specs.declared.verdict.Verdict.TheVariants.{Refused, Passes, Fails}
-use Rattle.worked_example_laws.proofs.Keeping.{one_kept}
+use Rattle.worked_example_laws.proofs.Keeping.{one_demands}
 use Rattle.worked_example_laws.proofs.OneGraph.{graph_one}
 use Rattle.pool_judging.specs.Firsts.{AreFirstOfKinds}
 use Rattle.pool_judging.specs.Judging.{SomeFails, IsVerdictOn, IsNoFailure}
@@ -24,15 +24,15 @@ one_ok : (r : Result Tracing TraceFault) (a b : Tracing) → r ≡ Ok a → r �
 one_ok r a b e f = cc
 
 -- the patches of the steps at some places are those of the sequence
-pub patches_at : (s : Search) (places : List ℕ) (steps : List Step) (kept : Option ℕ) (last : Tracing)
+pub patches_at : (s : Search) (places : List ℕ) (steps : List Step) (demands : Demands) (last : Tracing)
     (patches : List Patch) → steps ≡ steps_at s.pool places
     → trace_from s.ordering (trace_start s.whole s.base) steps ≡ Ok last → IsGraphOf s.rules s.base last patches
-    → IsToldKept s.strict s.base steps kept → HasPatches s places kept patches
-patches_at s places steps kept last patches are run graph told = record {
+    → AreDemands s.strict s.atomic s.base steps demands → HasPatches s places demands patches
+patches_at s places steps demands last patches are run graph told = record {
   last = last;
   traced = subst (λ (xs : List Step). trace_from s.ordering (trace_start s.whole s.base) xs ≡ Ok last) are run;
   graph = graph;
-  told = subst (λ (xs : List Step). IsToldKept s.strict s.base xs kept) are told;
+  told = subst (λ (xs : List Step). AreDemands s.strict s.atomic s.base xs demands) are told;
 }
 
 -- what refuses the steps refuses the sequence
@@ -45,11 +45,11 @@ refusal_at s places steps fault reason are run because = record {
   because = because;
 }
 
--- a sequence has one graph, and one set of kept inodes
-module _ (s : Search) (places : List ℕ) (kept other : Option ℕ) (patches others : List Patch)
-    (is : HasPatches s places kept patches) (also : HasPatches s places other others) where
-  pub same_kept : kept ≡ other
-  same_kept = one_kept s.strict s.base (steps_at s.pool places) kept other is.told also.told
+-- a sequence has one graph, and demands one thing
+module _ (s : Search) (places : List ℕ) (demands other : Demands) (patches others : List Patch)
+    (is : HasPatches s places demands patches) (also : HasPatches s places other others) where
+  pub same_demands : demands ≡ other
+  same_demands = one_demands s.strict s.atomic s.base (steps_at s.pool places) demands other is.told also.told
 
   pub same_patches : patches ≡ others
   same_patches =
@@ -58,21 +58,21 @@ module _ (s : Search) (places : List ℕ) (kept other : Option ℕ) (patches oth
       (subst (λ (t : Tracing). IsGraphOf s.rules s.base t patches) last is.graph) also.graph
 
   -- so what holds of the one holds of the other
-  pub of_each : (P : Option ℕ → List Patch → Type 0) → P kept patches → P other others
-  of_each P holds = subst (P other) same_patches (subst (λ k. P k patches) same_kept holds)
+  pub of_each : (P : Demands → List Patch → Type 0) → P demands patches → P other others
+  of_each P holds = subst (P other) same_patches (subst (λ k. P k patches) same_demands holds)
 
-pub verdict_on : (s : Search) (places : List ℕ) (kept : Option ℕ) (patches : List Patch) (verdict : Verdict)
-    → HasPatches s places kept patches → IsVerdictOn kept s.base patches verdict → IsVerdict s places verdict
-verdict_on s places kept patches (Refused reason) is none = absurd none
-verdict_on s places kept patches Passes is none = (
+pub verdict_on : (s : Search) (places : List ℕ) (demands : Demands) (patches : List Patch) (verdict : Verdict)
+    → HasPatches s places demands patches → IsVerdictOn demands s.base patches verdict → IsVerdict s places verdict
+verdict_on s places demands patches (Refused reason) is none = absurd none
+verdict_on s places demands patches Passes is none = (
   (is.last, is.traced),
-  λ (other, others, also, some). none (of_each s places other kept others patches also is
+  λ (other, others, also, some). none (of_each s places other demands others patches also is
       (λ k ps. SomeFails k s.base ps) some),
 )
-verdict_on s places kept patches (Fails firsts) is (some, are) = (
+verdict_on s places demands patches (Fails firsts) is (some, are) = (
   (is.last, is.traced),
-  (kept, patches, is, some),
-  λ other others also. of_each s places kept other patches others is also
+  (demands, patches, is, some),
+  λ other others also. of_each s places demands other patches others is also
       (λ k ps. AreFirstOfKinds k s.base ps firsts) are,
 )
 
@@ -84,10 +84,10 @@ no_failure_prop (Ok (Fails firsts)) = hlevel
 no_failure_prop (Err e) = hlevel
 
 -- where replay recovers from every crash no set fails
-pub never_fails : (strict whole : Bool) (kept : Option ℕ) (base : Disk) (steps : List Step) (patches : List Patch)
-    (verdict : Verdict) → IsDisk base → IsToldKept strict base steps kept → IsFullSafe whole base steps patches
-    → IsVerdictOn kept base patches verdict → IsNoFailure verdict
-never_fails strict whole kept base steps patches Passes disk told safe is = tt
-never_fails strict whole kept base steps patches (Refused reason) disk told safe is = tt
-never_fails strict whole kept base steps patches (Fails firsts) disk told safe (some, are) =
-    absurd (none_fails strict whole kept base steps patches disk told safe some.0 some.1)
+pub never_fails : (strict atomic whole : Bool) (demands : Demands) (base : Disk) (steps : List Step) (patches : List Patch)
+    (verdict : Verdict) → IsDisk base → AreDemands strict atomic base steps demands → IsFullSafe whole base steps patches
+    → IsVerdictOn demands base patches verdict → IsNoFailure verdict
+never_fails strict atomic whole demands base steps patches Passes disk told safe is = tt
+never_fails strict atomic whole demands base steps patches (Refused reason) disk told safe is = tt
+never_fails strict atomic whole demands base steps patches (Fails firsts) disk told safe (some, are) =
+    absurd (none_fails strict atomic whole demands base steps patches disk told safe some.0 some.1)

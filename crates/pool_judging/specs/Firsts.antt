@@ -2,6 +2,7 @@
 use Rattle.std.specs.Prelude.{◌≡◌, ℕ, ◌-◌, List, Option, None, MatchOption, slice_index_or}
 use Rattle.std.specs.List.{Contains}
 use Rattle.patch_sets.specs.Sets.{IsBefore}
+use Rattle.crash_model.specs.Checker.{Demands}
 use Rattle.crash_model.specs.Disk.{Disk}
 use Rattle.crash_model.specs.declared.patches.Patch.{Patch}
 use Rattle.decision_model.specs.declared.decided_fault.DecidedFault.{DecidedFault}
@@ -25,7 +26,7 @@ abbrev pub IsLeastOfKind : FaultKind → List DecidedFault → Option ℕ → Ty
 IsLeastOfKind kind faults least =
     MatchOption least ((decided : DecidedFault) → ¬ (IsOfKind kind faults decided)) (IsLeast kind faults)
 
--- the first set with a fault of each kind; the kinds stand in the order of their numbers, from 1
-abbrev pub AreFirstOfKinds : Option ℕ → Disk → List Patch → List (Option ℕ) → Type 0
-AreFirstOfKinds kept base patches firsts =
-    (kind : FaultKind) → IsFirstOfKind kind kept base patches (slice_index_or firsts (kind_number kind - 1) None)
+-- the first set with a fault of each kind; the kinds are in the order of their numbers, from 1
+abbrev pub AreFirstOfKinds : Demands → Disk → List Patch → List (Option ℕ) → Type 0
+AreFirstOfKinds demands base patches firsts =
+    (kind : FaultKind) → IsFirstOfKind kind demands base patches (slice_index_or firsts (kind_number kind - 1) None)

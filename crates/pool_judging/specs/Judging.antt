@@ -1,9 +1,9 @@
 -- What a judge of a pool judges.
-use Rattle.std.specs.Prelude.{◌≡◌, ℕ, List, Option}
+use Rattle.std.specs.Prelude.{◌≡◌, ℕ, List}
 use Rattle.crash_model.specs.Disk.{Disk}
 use Rattle.crash_model.specs.RuleFacts.{AreAmong}
 use Rattle.crash_model.specs.Rules.{rules_of}
-use Rattle.crash_model.specs.Strict.{IsFailingUnder}
+use Rattle.crash_model.specs.Checker.{Demands, IsFailingUnder}
 use Rattle.crash_model.specs.declared.modules.Module.TheVariants.{Full}
 use Rattle.crash_model.specs.declared.patches.Patch.{Patch}
 use Rattle.pool_judging.specs.Firsts.{AreFirstOfKinds}
@@ -19,21 +19,22 @@ search_by j = record {
   rules = j.ordering.now.rules.items;
   whole = j.ordering.now.whole_blocks;
   strict = j.strict;
+  atomic = j.atomic;
   base = j.base.now;
   pool = j.pool.now;
   most = j.most;
 }
 
 -- a set of the patches fails
-abbrev pub SomeFails : Option ℕ → Disk → List Patch → Type 0
-SomeFails kept base patches = (set : ℕ) × IsFailingUnder kept base patches set
+abbrev pub SomeFails : Demands → Disk → List Patch → Type 0
+SomeFails demands base patches = (set : ℕ) × IsFailingUnder demands base patches set
 
 -- the verdict on operations with these patches, of which none is refused
-abbrev pub IsVerdictOn : Option ℕ → Disk → List Patch → Verdict → Type 0
-IsVerdictOn kept base patches (Refused reason) = ⊥
-IsVerdictOn kept base patches Passes = ¬ (SomeFails kept base patches)
-IsVerdictOn kept base patches (Fails firsts) =
-    SomeFails kept base patches × AreFirstOfKinds kept base patches firsts
+abbrev pub IsVerdictOn : Demands → Disk → List Patch → Verdict → Type 0
+IsVerdictOn demands base patches (Refused reason) = ⊥
+IsVerdictOn demands base patches Passes = ¬ (SomeFails demands base patches)
+IsVerdictOn demands base patches (Fails firsts) =
+    SomeFails demands base patches × AreFirstOfKinds demands base patches firsts
 
 -- it is not that a set fails
 abbrev pub IsNoFailure : Verdict → Type 0

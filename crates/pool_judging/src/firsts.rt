@@ -2,6 +2,7 @@
 
 ghost use Rattle.std.specs.Prelude.{◌≡◌, ◌⊎◌, ℕ, Option, Some, List, IfSome};
 ghost use Rattle.patch_sets.specs.Sets.{IsBefore};
+ghost use Rattle.crash_model.specs.Checker.{Demands};
 ghost use Rattle.crash_model.specs.Disk.{Disk};
 ghost use Rattle.crash_model.specs.Summary.{HasFault};
 ghost use Rattle.crash_model.specs.declared.patches.Patch.{Patch};
@@ -10,13 +11,13 @@ ghost use Rattle.pool_judging.specs.Firsts.{AreFirstOfKinds, IsLeastOfKind};
 
 use decision_model::DecidedFault;
 use patch_sets::order::is_before;
-use search_model::FaultKind;
+use search_model::{FaultKind, KINDS};
 
 /// The first set, in canonical order, that has a fault of each kind, by the faults that sets have and the first set of
-/// each: that of the kind with number n at place n - 1, and `None` where no set has such a fault.
-pub(crate) fn firsts(faults: &[DecidedFault]) -> [Option<u128>; 8]
-    ensures { (kept : Option ℕ) (base : Disk) (patches : List Patch)
-        → AreDecided (HasFault kept base patches) faults.now → AreFirstOfKinds kept base patches result }
+/// each: that of the kind with number n at place n - 1, and `None` if no set has such a fault.
+pub(crate) fn firsts(faults: &[DecidedFault]) -> [Option<u128>; KINDS]
+    ensures { (demands : Demands) (base : Disk) (patches : List Patch)
+        → AreDecided (HasFault demands base patches) faults.now → AreFirstOfKinds demands base patches result }
 {
     [
         first_of(faults, FaultKind::Dangling),
@@ -27,10 +28,11 @@ pub(crate) fn firsts(faults: &[DecidedFault]) -> [Option<u128>; 8]
         first_of(faults, FaultKind::Wild),
         first_of(faults, FaultKind::Lost),
         first_of(faults, FaultKind::NoBlock),
+        first_of(faults, FaultKind::HalfDone),
     ]
 }
 
-/// The least in canonical order of the sets of the faults of a kind, or `None` where no fault is of the kind.
+/// The least in canonical order of the sets of the faults of a kind, or `None` if no fault is of the kind.
 fn first_of(faults: &[DecidedFault], kind: FaultKind) -> Option<u128>
     ensures { IsLeastOfKind kind faults.now result }
 {
@@ -43,7 +45,7 @@ fn first_of(faults: &[DecidedFault], kind: FaultKind) -> Option<u128>
     least
 }
 
-/// The set, or the least one so far where that is before it in canonical order.
+/// The set, or the least one so far if that is before it in canonical order.
 fn earlier(least: Option<u128>, set: u128) -> u128
     ensures one { (result ≡ set) ⊎ (least ≡ Some result) }
     ensures set { ¬ (IsBefore set result) }

@@ -11,8 +11,8 @@ use std::alloc::Allocator;
 
 /// A pool of operations, whose sequences of up to `most` are judged over a base, under an ordering.
 ///
-/// With `strict` the checker asks of each image, too, that nothing which the operations of the sequence keep is lost.
-/// The base is sound, and its journal is zero.
+/// With `strict` the checker also requires of each image that nothing the operations of the sequence keep is lost; with
+/// `atomic`, that it shows the disk after some number of them. The base is sound, and its journal is zero.
 #[derive(Drop)]
 pub struct PoolJudge<'a, A: Allocator + Copy> {
     pub alloc: A,
@@ -21,6 +21,7 @@ pub struct PoolJudge<'a, A: Allocator + Copy> {
     pub most: usize,
     pub ordering: &'a Ordering,
     pub strict: bool,
+    pub atomic: bool,
     ghost operations: { ∥ All IsOperation pool.now ∥₁ },
     ghost sound: { ∥ IsSound base.now × HasZeroJournal base.now ∥₁ },
 }

@@ -2,7 +2,7 @@
 
 ghost use Rattle.std.specs.Prelude.{◌≡◌, ◌≢◌, ◌<◌, ℕ, Err, IfOk, None, List, length};
 ghost use Rattle.std.specs.List.{All};
-ghost use Rattle.crash_model.specs.Strict.{IsToldKept};
+ghost use Rattle.crash_model.specs.Checker.{AreDemands};
 ghost use Rattle.search_model.specs.Verdict.{IsVerdict};
 ghost use Rattle.search_model.specs.Refused.{refusal_of};
 ghost use Rattle.search_model.specs.Workloads.{Search, IsOperation, steps_at, trace_at};
@@ -13,8 +13,9 @@ use crate::firsts::firsts;
 use crate::judge::PoolJudge;
 use crash_model::refusals::TraceFault;
 use crash_model::steps::Step;
+use disk_image::Demands;
 use fault_deciding::Decider;
-use inode_fs::kept;
+use inode_fs::demands;
 use order_modules::trace;
 use patch_graph::Graph;
 use search_model::{Places, Refusal, Verdict};
@@ -34,16 +35,12 @@ impl<A: Allocator + Copy> PoolJudge<'_, A> {
         Ok(steps)
     }
 
-    /// The inodes that the steps keep, for a strict checker, and `None` for another. It fails only when
-    /// out of memory.
-    pub fn told_kept(&self, steps: &[Step]) -> Result<Option<u16>, AllocError>
-        ensures { IfOk result (IsToldKept self.now.strict self.now.base.now steps.now) }
+    /// What the steps demand of an image that they leave. It fails only when out of memory.
+    pub fn demands(&self, steps: &[Step]) -> Result<Demands<A>, AllocError>
+        ensures { IfOk result (AreDemands self.now.strict self.now.atomic self.now.base.now steps.now) }
     {
-        if !self.strict {
-            return Ok(None);
-        }
-        let kept = kept(self.base, steps)?;
-        Ok(Some(kept))
+        let demands = demands(self.alloc, self.base, steps, self.strict, self.atomic)?;
+        Ok(demands)
     }
 
     /// The verdict on the operations at these places of the pool, one after another. It fails only when out of memory.
@@ -65,28 +62,28 @@ impl<A: Allocator + Copy> PoolJudge<'_, A> {
             → IfOk result (IsVerdict (search_by self.now) places) }
         ensures full { IsFullJournal (search_by self.now) → IfOk result IsNoFailure }
     {
-        // For the proof: what every image keeps.
+        // For the proof: what holds of every image.
         let _blocks = self.base.blocks();
         match trace(self.alloc, self.base, steps, self.ordering) {
             Ok(traced) => {
-                let kept = self.told_kept(steps)?;
-                self.judge_graph(traced.graph(), kept)
+                let demands = self.demands(steps)?;
+                self.judge_graph(traced.graph(), &demands)
             }
             Err(fault) => refused(fault),
         }
     }
 
-    /// The verdict on the operations with these patches, none of which is refused, by a checker that is told what they
-    /// keep. It fails only when out of memory.
-    fn judge_graph(&self, graph: &Graph<A>, kept: Option<u16>) -> Result<Verdict, AllocError>
+    /// The verdict on the operations with these patches, none of which is refused, by what they demand of images. It
+    /// fails only when out of memory.
+    fn judge_graph(&self, graph: &Graph<A>, demands: &Demands<A>) -> Result<Verdict, AllocError>
         requires { All (λ patch. patch.block < self.now.base.now.blocks) graph.now }
-        ensures { IfOk result (IsVerdictOn kept self.now.base.now graph.now) }
+        ensures { IfOk result (IsVerdictOn demands.now self.now.base.now graph.now) }
     {
         let decider = Decider {
             alloc: self.alloc,
             base: self.base,
             graph,
-            kept,
+            demands,
         };
         if !decider.any_fails()? {
             return Ok(Verdict::Passes);

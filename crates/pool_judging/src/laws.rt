@@ -1,4 +1,4 @@
-//! What a search under the full journal is sure of, as a function that does nothing and promises the law.
+//! What is certain of a search under the full journal, as a function that does nothing and promises the law.
 
 ghost use Rattle.std.specs.Prelude.{◌≡◌, ℕ, List};
 ghost use Rattle.std.specs.List.{All};

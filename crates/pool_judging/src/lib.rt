@@ -1,8 +1,8 @@
 //! Sequences of operations of a pool, judged by what a crash can leave of them.
 //!
-//! A search asks of each sequence whether an operation is refused, whether a set that a crash can leave fails, and which
-//! set is the first with a fault of each kind. The faults are decided by families of sets, so a sequence with more crash
-//! states than can be visited is judged too.
+//! For each sequence a search asks whether an operation is refused, whether a set that a crash can leave fails, and
+//! which set is the first with a fault of each kind. The faults are decided by families of sets, so a sequence with
+//! more crash states than can be visited is judged too.
 #![tactic(auto)]
 
 mod copying;

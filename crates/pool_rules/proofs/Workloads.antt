@@ -3,7 +3,7 @@ use Rattle.std.proofs.Common.{◌≡◌, ℕ, ◌<◌, List, length, get_or, inl
 use Rattle.std.specs.Prelude.{◌↔◌, Option, Result, Ok, Err, Bool, IsTrue}
 use Rattle.std.specs.List.{All}
 use Rattle.std.proofs.Math.Logic.{∥∥₁_elim, ∥∥₁_map}
-use Rattle.crash_model.specs.Strict.{IsToldKept}
+use Rattle.crash_model.specs.Checker.{Demands, AreDemands}
 use Rattle.crash_model.specs.Trace.{Tracing, trace_start, trace_from}
 use Rattle.crash_model.specs.declared.patches.Patch.{Patch}
 use Rattle.crash_model.specs.declared.refusals.TraceFault.{TraceFault}
@@ -45,34 +45,34 @@ module _ (s : Search) (places : List ℕ) (passing : ∥ IsPassing s places ∥�
   pub traced : (made steps : List Step) → made ≡ steps_at s.pool places → steps ≡ made → ∥ IsTraced s steps ∥₁
   traced made steps are same = ∥∥₁_map passing (λ is. subst (IsTraced s) (sym (same ∙ are)) is.0.accepted)
 
-module _ (s : Search) (places : List ℕ) (steps others : List Step) (t : TracedPatches) (kept : Option ℕ)
+module _ (s : Search) (places : List ℕ) (steps others : List Step) (t : TracedPatches) (demands : Demands)
     (are : steps ≡ steps_at s.pool places) (also : others ≡ steps_at s.pool places) (is : IsTraceOf s steps t)
-    (told : IsToldKept s.strict s.base others kept) where
+    (told : AreDemands s.strict s.atomic s.base others demands) where
   run_at : trace_at s places ≡ Ok is.last
   run_at = subst (λ (xs : List Step). trace_from s.ordering (trace_start s.whole s.base) xs ≡ Ok is.last) are is.run
 
-  told_at : IsToldKept s.strict s.base (steps_at s.pool places) kept
-  told_at = subst (λ (xs : List Step). IsToldKept s.strict s.base xs kept) also told
+  told_at : AreDemands s.strict s.atomic s.base (steps_at s.pool places) demands
+  told_at = subst (λ (xs : List Step). AreDemands s.strict s.atomic s.base xs demands) also told
 
   abbrev one : Tracing
   one = tracing_of s.base t
 
   pub found_in_trace : (set : ℕ) (found : Option ℕ)
-      → IsFound (all_of t.rules) (EnoughOf kept s.base (tracing_of s.base t) t.rules) set found
+      → IsFound (all_of t.rules) (EnoughOf demands s.base (tracing_of s.base t) t.rules) set found
       → IsFound (all_of s.rules) (IsEnoughAt s places) set found
   found_in_trace set found it =
       let all = all_of s.rules in
-      let by_rules : IsFound all (EnoughOf kept s.base one s.rules) set found =
-      subst (λ (rules : List Rule). IsFound (all_of rules) (EnoughOf kept s.base one rules) set found) is.rules it in
-      found_at s places is.last kept run_at told_at t.patches is.graph all set found
-      (found_alike all (EnoughOf kept s.base one s.rules) (EnoughOf kept s.base is.last s.rules)
-      (λ other. same_enough kept s.base t one is.last (rules_in s.rules other) (one_tracing s.base t) is.of_it)
-      (λ other. same_enough kept s.base t is.last one (rules_in s.rules other) is.of_it (one_tracing s.base t))
+      let by_rules : IsFound all (EnoughOf demands s.base one s.rules) set found =
+      subst (λ (rules : List Rule). IsFound (all_of rules) (EnoughOf demands s.base one rules) set found) is.rules it in
+      found_at s places is.last demands run_at told_at t.patches is.graph all set found
+      (found_alike all (EnoughOf demands s.base one s.rules) (EnoughOf demands s.base is.last s.rules)
+      (λ other. same_enough demands s.base t one is.last (rules_in s.rules other) (one_tracing s.base t) is.of_it)
+      (λ other. same_enough demands s.base t is.last one (rules_in s.rules other) is.of_it (one_tracing s.base t))
       set found by_rules)
 
   -- the patches by all rules but those of a group are those of the workload in the search by these rules
   pub patches_but : (group : ℕ) (patches : List Patch) → IsGraphBy (rules_but t.rules group) s.base t patches
-      → HasPatches (search_with s (rules_but s.rules group)) places kept patches
+      → HasPatches (search_with s (rules_but s.rules group)) places demands patches
   patches_but group patches by = record {
     last = is.last;
     traced = run_at;
@@ -80,13 +80,13 @@ module _ (s : Search) (places : List ℕ) (steps others : List Step) (t : Traced
     told = told_at;
   }
 
-  pub fails_by : (group : ℕ) (fails : Bool) → IsAnswerBy kept s.base t (rules_but t.rules group) fails
+  pub fails_by : (group : ℕ) (fails : Bool) → IsAnswerBy demands s.base t (rules_but t.rules group) fails
       → IsTrue fails ↔ Fails (search_with s (rules_but s.rules group)) places
   fails_by group fails by =
       let rest = search_with s (rules_but s.rules group) in
       let patches = by.patches in
       let has = patches_but group patches by.graph in (
-        λ yes. (kept, patches, has, by.answer.0 yes),
-        λ (other, those, too, some). by.answer.1 (of_each rest places other kept those patches too has
+        λ yes. (demands, patches, has, by.answer.0 yes),
+        λ (other, those, too, some). by.answer.1 (of_each rest places other demands those patches too has
             (λ k ps. SomeFails k s.base ps) some),
       )

@@ -1,5 +1,6 @@
 -- What is traced of steps of a pool.
-use Rattle.std.specs.Prelude.{◌≡◌, ◌↔◌, ℕ, List, Option, Ok, Bool, IsTrue}
+use Rattle.std.specs.Prelude.{◌≡◌, ◌↔◌, List, Ok, Bool, IsTrue}
+use Rattle.crash_model.specs.Checker.{Demands}
 use Rattle.crash_model.specs.Disk.{Disk}
 use Rattle.crash_model.specs.Trace.{Tracing, trace_start, trace_from, IsGraphOf}
 use Rattle.crash_model.specs.declared.patches.Patch.{Patch}
@@ -23,8 +24,8 @@ pub record IsTraceOf (s : Search) (steps : List Step) (t : TracedPatches) : Type
   pub rules : t.rules ≡ s.rules
 
 -- the answer tells whether a set of the patches by these rules fails
-pub record IsAnswerBy (kept : Option ℕ) (base : Disk) (t : TracedPatches) (rules : List Rule)
+pub record IsAnswerBy (demands : Demands) (base : Disk) (t : TracedPatches) (rules : List Rule)
     (fails : Bool) : Type 0 where
   pub patches : List Patch
   pub graph : IsGraphBy rules base t patches
-  pub answer : IsTrue fails ↔ SomeFails kept base patches
+  pub answer : IsTrue fails ↔ SomeFails demands base patches

@@ -20,16 +20,16 @@ impl<A: Allocator + Copy> RuleJudge for PoolRules<'_, A> {
     fn blocking(&self, places: &Places, set: u128) -> Result<Option<u128>, AllocError> {
         let steps = self.judge.steps_at(places)?;
         let traced = traced_of(self.judge, &steps)?;
-        let kept = self.judge.told_kept(&steps)?;
-        let found = blocking_in(self.judge, &traced, kept, set)?;
+        let demands = self.judge.demands(&steps)?;
+        let found = blocking_in(self.judge, &traced, &demands, set)?;
         Ok(found)
     }
 
     fn fails_without(&self, places: &Places, group: u128) -> Result<bool, AllocError> {
         let steps = self.judge.steps_at(places)?;
         let traced = traced_of(self.judge, &steps)?;
-        let told = self.judge.told_kept(&steps)?;
-        let fails = fails_in(self.judge, &traced, told, group)?;
+        let told = self.judge.demands(&steps)?;
+        let fails = fails_in(self.judge, &traced, &told, group)?;
         Ok(fails)
     }
 }

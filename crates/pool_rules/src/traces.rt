@@ -12,6 +12,7 @@ ghost use Rattle.pool_rules.specs.Traces.{IsTraced, IsTraceOf, IsAnswerBy};
 
 use crash_model::refusals::TraceFault;
 use crash_model::steps::Step;
+use disk_image::Demands;
 use enough_deciding::RuleOracle;
 use enough_rules::Oracle;
 use fault_deciding::Decider;
@@ -40,44 +41,45 @@ pub fn traced_of<'a, A: Allocator + Copy>(
 }
 
 /// A group of rules of which the set has none and each set that is enough for the patches has one, or `None` where the
-/// set is enough for them. It fails only when out of memory.
+/// set is enough for them, by what is demanded of images. It fails only when out of memory.
 pub(crate) fn blocking_in<A: Allocator + Copy>(
     judge: &PoolJudge<'_, A>,
     traced: &Traced<'_, A>,
-    kept: Option<u16>,
+    demands: &Demands<A>,
     set: u128,
 ) -> Result<Option<u128>, AllocError>
     requires fits { All (λ patch. patch.block < judge.now.base.now.blocks) traced.now.patches }
     requires within { IsSubset set (all_of traced.now.rules) }
-    ensures { IfOk result (IsFound (all_of traced.now.rules) (EnoughOf kept judge.now.base.now
+    ensures { IfOk result (IsFound (all_of traced.now.rules) (EnoughOf demands.now judge.now.base.now
         (tracing_of judge.now.base.now traced.now) traced.now.rules) set) }
 {
     let oracle = RuleOracle {
         alloc: judge.alloc,
         base: judge.base,
         traced,
-        kept,
+        demands,
     };
     let found = oracle.blocking(set)?;
     Ok(found)
 }
 
-/// Whether a set of the patches by all rules but those of a group fails. It fails only when out of memory.
+/// Whether a set of the patches by all rules but those of a group fails, by what is demanded of images. It fails only
+/// when out of memory.
 pub(crate) fn fails_in<A: Allocator + Copy>(
     judge: &PoolJudge<'_, A>,
     traced: &Traced<'_, A>,
-    kept: Option<u16>,
+    demands: &Demands<A>,
     group: u128,
 ) -> Result<bool, AllocError>
     requires { All (λ patch. patch.block < judge.now.base.now.blocks) traced.now.patches }
-    ensures { IfOk result (IsAnswerBy kept judge.now.base.now traced.now (rules_but traced.now.rules group)) }
+    ensures { IfOk result (IsAnswerBy demands.now judge.now.base.now traced.now (rules_but traced.now.rules group)) }
 {
     let graph = graph_but(judge, traced, group)?;
     let decider = Decider {
         alloc: judge.alloc,
         base: judge.base,
         graph: &graph,
-        kept,
+        demands,
     };
     let fails = decider.any_fails()?;
     Ok(fails)
@@ -93,12 +95,13 @@ pub fn graph_but<A: Allocator + Copy>(
     ensures graph { IfOk result (IsGraphBy (rules_but traced.now.rules group) judge.now.base.now traced.now) }
     ensures fits { IfOk result (λ graph. All (λ patch. patch.block < judge.now.base.now.blocks) graph) }
 {
+    // What is demanded of images changes no patch.
+    let nothing = Demands::none();
     let oracle = RuleOracle {
         alloc: judge.alloc,
         base: judge.base,
         traced,
-        // What a checker is told changes no patch.
-        kept: None,
+        demands: &nothing,
     };
     let graph = oracle.graph_without(group)?;
     Ok(graph)

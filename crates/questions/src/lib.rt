@@ -1,6 +1,6 @@
 //! What a run is asked, and what the answer is.
 //!
-//! `specs/` has the answer to each question, whose definition stands in a crate of its own.
+//! `specs/` has the answer to each question. The definitions of the answers are in crates of their own.
 #![tactic(auto)]
 
 use crash_model::settings::Settings;
@@ -16,8 +16,8 @@ pub enum Question {
     /// Which sets of rules are enough, and of which rules one is needed. No closed set need be visited, so there is no
     /// limit.
     Enough,
-    /// Which workloads fail, out of all of up to so many operations of the pool that the script's lines behind `start`
-    /// are. No closed set need be visited, so there is no limit.
+    /// Which workloads fail, out of all that have at most this number of operations of the pool that the script's lines
+    /// after `start` are. No closed set need be visited, so there is no limit.
     Search(Most),
     /// Which sets of rules are enough for all workloads of such a search together, and of which rules one is needed. A
     /// workload that fails by all rules says nothing of them. No closed set need be visited, so there is no limit.
@@ -26,8 +26,8 @@ pub enum Question {
 
 /// A question, the settings that it is asked under, and the number of threads that answer it, 1 to 16.
 ///
-/// Where no closed set is visited, the answer depends neither on the limit, nor on the explorer, nor on what a report
-/// tells of visited sets.
+/// If no closed set is visited, the answer depends neither on the limit, nor on the explorer, nor on what a report is
+/// about visited sets.
 #[derive(Debug, PartialEq, Eq, Drop)]
 pub struct Request {
     pub question: Question,

@@ -6,15 +6,14 @@ use Rattle.std.proofs.Math.Nat.{suc-mul, zero-mul}
 use Rattle.std.proofs.lemmas.List.{append-nil, length-map, length-drop, map-append}
 use Rattle.crash_model.specs.Disk.{Disk}
 use Rattle.crash_model.specs.Lists.{join_of}
-use Rattle.crash_model.specs.Report.{Section, section_json}
+use Rattle.crash_model.specs.Report.{Detail, Section, section_json}
 use Rattle.crash_model.specs.declared.patches.Patch.{Patch}
-use Rattle.crash_model.specs.declared.settings.Detail.{Detail}
 use Rattle.report_sections.proofs.Joined.{sections_join, before_parts, part_more, all_parts}
 use Rattle.report_sections.proofs.Pushed.{length-sections}
 use Rattle.json_values.specs.Items.{comma_before}
 use Rattle.report_json.specs.JsonReport.{WritesSections}
 
--- a comma stands between two parts
+-- there is a comma between two parts
 joined_behind : (x : List ℕ) (xs : List (List ℕ)) (y : List ℕ) (ys : List (List ℕ))
     → join_of 44 (x ∷ xs ++ y ∷ ys) ≡ join_of 44 (x ∷ xs) ++ (44 ∷ join_of 44 (y ∷ ys))
 joined_behind x [] y ys = refl

@@ -1,4 +1,4 @@
--- Keys that explain, where that is asked for.
+-- Keys that explain, if that is asked for.
 use Rattle.std.proofs.Common.{◌≡◌, ℕ, List, ◌++◌, Bool, true, false, sym, ap, ◌∙◌}
 use Rattle.std.proofs.lemmas.List.{append-nil}
 use Rattle.crash_model.specs.Disk.{Disk}

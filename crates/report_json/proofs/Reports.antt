@@ -3,14 +3,14 @@ use Rattle.std.proofs.Common.{◌≡◌, ℕ, ◌+◌, ◌<◌, List, [], ◌∷
 use Rattle.std.proofs.Common.{decimal, refl, sym, ap, ◌∙◌, arith, append_assoc, length-take}
 use Rattle.std.proofs.lemmas.List.{length-map}
 use Rattle.crash_model.specs.Lists.{when}
-use Rattle.crash_model.specs.Explain.{base_json, trace_json}
+use Rattle.crash_model.specs.Explain.{trace_json}
 use Rattle.crash_model.specs.Disk.{Disk}
-use Rattle.crash_model.specs.Report.{module_text, section_json}
+use Rattle.crash_model.specs.Report.{Detail, module_text, section_json}
 use Rattle.crash_model.specs.Summary.{ToldFault, told_fault_json}
-use Rattle.crash_model.specs.Whole.{Body, told_with, told_without, rules_json, early_json, late_json, json_report}
+use Rattle.crash_model.specs.Whole.{Body, told_with, told_without, first_json, rules_json, early_json, late_json}
+use Rattle.crash_model.specs.Whole.{json_report}
 use Rattle.crash_model.specs.declared.fault.FaultRow.{FaultRow}
 use Rattle.crash_model.specs.declared.patches.Patch.{Patch}
-use Rattle.crash_model.specs.declared.settings.Detail.{Detail}
 use Rattle.report_sections.specs.Bodies.{explanation_by, whole_of}
 use Rattle.report_sections.specs.declared.report.Report.{Report}
 use Rattle.report_sections.specs.declared.section.Section as code
@@ -72,7 +72,7 @@ fault_more detail base patches rows i n d old so_far after text s within number 
 
 -- ---- the report around them
 
--- the keys from the module on, one behind another
+-- the keys from the module on, one after another
 pub keys_from_module : {A : Type 0} (report : Report A) (n : ℕ) (body : Body) (before one two last : List ℕ)
     → n ≡ length report.traced.now.patches
     → one ≡ before ++ module_key report.settings.now.module n
@@ -83,11 +83,12 @@ keys_from_module report n body before one two last number first second third =
     let kind = report.settings.now.module in
     three_pieces before one two last _ _ _ (first ∙ ap (λ (k : ℕ). before ++ module_key kind k) number) second third
 
--- the pieces of the whole, one behind another
+-- the pieces of the whole, one after another
 pub whole_text : {A : Type 0} (report : Report A) (body : Body) (empty one two three four five last : List ℕ)
     → empty ≡ []
     → one ≡ empty ++ codes "{"
-    → two ≡ one ++ base_json (when report.settings.now.explain (explanation_by report.base.now report.traced.now))
+    → two ≡ one ++ first_json report.settings.now
+    (when report.settings.now.explain (explanation_by report.base.now report.traced.now))
     → three ≡ two ++ (codes "\"closed\":" ++ decimal report.closed)
     → four ≡ three ++ early_json (length report.traced.now.patches) report.failing body
     → five ≡ four ++ from_module report body
@@ -97,7 +98,7 @@ unfolding json_report
 whole_text report body empty one two three four five last none first second third fourth fifth sixth =
     let told = when report.settings.now.explain (explanation_by report.base.now report.traced.now) in
     let patches = length report.traced.now.patches in
-    let base = base_json told in
+    let base = first_json report.settings.now told in
     let early = early_json patches report.failing body in
     let rest = from_module report body in
     let start : three ≡ codes "{" ++ base ++ (codes "\"closed\":" ++ decimal report.closed) =

@@ -3,18 +3,17 @@ use Rattle.std.specs.Prelude.{◌≡◌, ℕ, List, [], ◌++◌, length, map, i
 use Rattle.crash_model.specs.Lists.{join_of, when}
 use Rattle.crash_model.specs.Disk.{Disk}
 use Rattle.crash_model.specs.Explain.{Explanation, blocks_of, hex_json, told_patches, told_json, trace_json}
-use Rattle.crash_model.specs.Report.{Section, AreSections, json_array, module_text, section_json}
+use Rattle.crash_model.specs.Report.{Detail, Section, AreSections, json_array, module_text, section_json}
 use Rattle.crash_model.specs.Summary.{ToldFault, told_fault_json}
 use Rattle.crash_model.specs.Needs.{told_rule_json}
 use Rattle.crash_model.specs.Whole as whole
 use Rattle.crash_model.specs.Whole.{early_json, late_json, rules_json, told_with, told_without}
 use Rattle.crash_model.specs.declared.fault.FaultRow.{FaultRow}
 use Rattle.crash_model.specs.declared.patches.Patch.{Patch}
-use Rattle.crash_model.specs.declared.settings.Detail.{Detail}
 use Rattle.crash_model.specs.declared.modules.Module.{Module}
 use Rattle.crash_model.specs.declared.settings.Settings.{Settings}
 use Rattle.traced_patches.specs.Traced.{TracedPatches}
-use Rattle.report_sections.specs.Bodies.{TellsBody, explanation_by}
+use Rattle.report_sections.specs.Bodies.{detail_by, TellsBody, explanation_by}
 use Rattle.report_sections.specs.ToldRules.{told_rule}
 use Rattle.report_sections.specs.declared.report.Report.{Report}
 use Rattle.report_sections.specs.declared.rules.ToldRule.{ToldRule}
@@ -35,7 +34,7 @@ module_key kind patches = codes ",\"module\":\"" ++ module_text kind ++ codes "\
 abbrev pub strict_key : Bool → List ℕ
 strict_key strict = if strict then codes ",\"strict\":true" else []
 
--- that blocks are written whole, told where they are
+-- that blocks are written whole, if they are
 abbrev pub whole_key : Bool → List ℕ
 whole_key whole = if whole then codes ",\"whole_blocks\":true" else []
 
@@ -51,13 +50,13 @@ from_strict settings explanation =
 -- the text has the body's key before `module` appended
 abbrev pub WritesEarly : {A : Type 0} → Report A → List ℕ → List ℕ → Type 0
 WritesEarly report old new =
-    (body : whole.Body) × TellsBody report.detail report.base.now report.traced.now.patches report.body body
+    (body : whole.Body) × TellsBody (detail_by report) report.base.now report.traced.now.patches report.body body
     × (new ≡ old ++ early_json (length report.traced.now.patches) report.failing body)
 
 -- and its key after `patches`
 abbrev pub WritesLate : {A : Type 0} → Report A → List ℕ → List ℕ → Type 0
 WritesLate report old new =
-    (body : whole.Body) → TellsBody report.detail report.base.now report.traced.now.patches report.body body
+    (body : whole.Body) → TellsBody (detail_by report) report.base.now report.traced.now.patches report.body body
     → new ≡ old ++ late_json (length report.traced.now.patches) report.failing body
 
 -- the keys from the module on
@@ -70,7 +69,7 @@ from_module report body =
 -- the text has those appended
 abbrev pub WritesFromModule : {A : Type 0} → Report A → List ℕ → List ℕ → Type 0
 WritesFromModule report old new =
-    (body : whole.Body) → TellsBody report.detail report.base.now report.traced.now.patches report.body body
+    (body : whole.Body) → TellsBody (detail_by report) report.base.now report.traced.now.patches report.body body
     → new ≡ old ++ from_module report body
 
 -- the text has the objects of these sets appended, separated by commas

@@ -6,7 +6,7 @@ ghost use Rattle.crash_model.specs.Explain.{base_json, trace_json};
 ghost use Rattle.crash_model.specs.Lists.{join_of, when};
 ghost use Rattle.crash_model.specs.Report.{json_string, module_text};
 ghost use Rattle.crash_model.specs.Rules.{rule_text};
-ghost use Rattle.crash_model.specs.Whole.{rules_json};
+ghost use Rattle.crash_model.specs.Whole.{atomic_json, first_json, rules_json};
 ghost use Rattle.traced_patches.specs.Traced.{TracedPatches};
 ghost use Rattle.report_sections.specs.Bodies.{explanation_by};
 ghost use Rattle.report_json.specs.JsonReport.{module_key, strict_key, whole_key, from_strict};
@@ -20,10 +20,35 @@ use json_values::write_comma;
 use std::alloc::{AllocError, Allocator};
 use traced_patches::Traced;
 
-/// The key of the base with a comma behind it, where an explanation is asked for. It fails only when out of memory.
+/// The first keys, each with a comma after it: that operations are to be atomic, and the base if an explanation is
+/// asked for. It fails only when out of memory.
 ///
-/// It is the same whatever the patches are.
-pub fn write_explained_base<A: Allocator + Copy>(
+/// They are the same whatever the patches are.
+pub fn write_first_keys<A: Allocator + Copy>(
+    out: &mut String,
+    settings: &Settings,
+    base: &Image<A>,
+) -> Result<(), AllocError>
+    ensures { OnOk result ((traced : TracedPatches) → string_bytes out.new
+        ≡ string_bytes out.old
+        ++ first_json settings.now (when settings.now.explain (explanation_by base.now traced))) }
+{
+    write_atomic_key(out, settings.atomic)?;
+    write_explained_base(out, base, settings.explain)
+}
+
+/// The key of a run whose operations are to be atomic, with a comma behind it. It fails only when out of memory.
+pub fn write_atomic_key(out: &mut String, atomic: bool) -> Result<(), AllocError>
+    ensures { OnOk result (string_bytes out.new ≡ string_bytes out.old ++ atomic_json atomic) }
+{
+    if atomic {
+        out.push_str("\"atomic\":true,")?;
+    }
+    Ok(())
+}
+
+/// The key of the base with a comma behind it, where an explanation is asked for.
+fn write_explained_base<A: Allocator + Copy>(
     out: &mut String,
     base: &Image<A>,
     explain: bool,
@@ -37,7 +62,7 @@ pub fn write_explained_base<A: Allocator + Copy>(
     Ok(())
 }
 
-/// The keys from `strict` on: that the run is strict, the patches where an explanation is asked for, that blocks are
+/// The keys from `strict` on: that the run is strict, the patches if an explanation is asked for, that blocks are
 /// written whole, and the rules that are put in and taken out. It fails only when out of memory.
 ///
 /// They are the same over each base.
@@ -57,7 +82,7 @@ pub fn write_from_strict<A: Allocator + Copy>(
     Ok(())
 }
 
-/// The key of the patches with a comma before it, where an explanation is asked for.
+/// The key of the patches with a comma before it, if an explanation is asked for.
 fn write_explained_trace<A: Allocator + Copy>(
     out: &mut String,
     traced: &Traced<'_, A>,
@@ -103,7 +128,7 @@ pub fn write_strict_key(out: &mut String, strict: bool) -> Result<(), AllocError
     Ok(())
 }
 
-/// The key of a run where blocks are written whole, with a comma before it. It fails only when out of memory.
+/// The key of a run in which blocks are written whole, with a comma before it. It fails only when out of memory.
 pub fn write_whole_key(out: &mut String, whole: bool) -> Result<(), AllocError>
     ensures { OnOk result (string_bytes out.new ≡ string_bytes out.old ++ whole_key whole) }
 {
@@ -113,7 +138,7 @@ pub fn write_whole_key(out: &mut String, whole: bool) -> Result<(), AllocError>
     Ok(())
 }
 
-/// The key with the texts of the rules and a comma before it, where there are any. It fails only when out of memory.
+/// The key with the texts of the rules and a comma before it, if there are any. It fails only when out of memory.
 pub fn write_rule_key(out: &mut String, key: &str, rules: &[Rule]) -> Result<(), AllocError>
     ensures { OnOk result (string_bytes out.new ≡ string_bytes out.old ++ rules_json key.now rules.now) }
 {

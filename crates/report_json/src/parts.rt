@@ -1,7 +1,7 @@
 //! Objects of sets that workers write side by side.
 
 ghost use Rattle.std.specs.Prelude.{◌≡◌, ◌<◌, ◌+◌, ◌/◌, ◌%◌, [], length, min, string_bytes, vec_len, IfOk, OnOk};
-ghost use Rattle.report_sections.specs.Bodies.{AreOnBase, AreClosed};
+ghost use Rattle.report_sections.specs.Bodies.{detail_by, AreOnBase, AreClosed};
 ghost use Rattle.report_sections.specs.Parts.{ArePartTexts};
 ghost use Rattle.report_json.specs.JsonReport.{WritesSections};
 ghost use Rattle.report_json.specs.PartTexts.{AreFullParts};
@@ -31,7 +31,7 @@ where
     A: Allocator + Copy + Send + Sync,
     requires on_base { AreOnBase report.now.base.now report.now.traced.now.patches }
     requires closed { AreClosed report.now.traced.now.patches sets.now }
-    ensures { OnOk result (WritesSections report.now.detail report.now.base.now
+    ensures { OnOk result (WritesSections (detail_by report.now) report.now.base.now
         report.now.traced.now.patches sets.now (string_bytes out.old) (string_bytes out.new)) }
 {
     if workers < 2 || sets.len() < SHARED {
@@ -67,7 +67,7 @@ where
     requires closed { AreClosed report.now.traced.now.patches sets.now }
     ensures len { IfOk result (λ texts. vec_len texts ≡ length sets.now / size + min 1 (length sets.now % size)) }
     ensures each { IfOk result (λ texts.
-        ArePartTexts (λ part text. WritesSections report.now.detail report.now.base.now
+        ArePartTexts (λ part text. WritesSections (detail_by report.now) report.now.base.now
         report.now.traced.now.patches part [] text) sets.now size texts.items) }
     ensures full { IfOk result (λ texts. AreFullParts sets.now size texts.items) }
 {
@@ -94,7 +94,7 @@ fn part_text<A: Allocator + Copy>(
     requires on_base { AreOnBase report.now.base.now report.now.traced.now.patches }
     requires closed { AreClosed report.now.traced.now.patches sets.now }
     ensures { IfOk result (λ text.
-        WritesSections report.now.detail report.now.base.now report.now.traced.now.patches sets.now []
+        WritesSections (detail_by report.now) report.now.base.now report.now.traced.now.patches sets.now []
         (string_bytes text)) }
 {
     let mut text = String::new(heap);

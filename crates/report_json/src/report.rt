@@ -6,14 +6,14 @@ ghost use Rattle.crash_model.specs.Patches.{deps_of};
 ghost use Rattle.crash_model.specs.Report.{section_json};
 ghost use Rattle.crash_model.specs.Summary.{told_fault_json};
 ghost use Rattle.crash_model.specs.Whole.{Body as WholeBody, json_report};
-ghost use Rattle.report_sections.specs.Bodies.{CanTell, TellsBody, AreOnBase, AreClosed, whole_of};
+ghost use Rattle.report_sections.specs.Bodies.{detail_by, CanTell, TellsBody, AreOnBase, AreClosed, whole_of};
 ghost use Rattle.report_sections.specs.Sections.{section_of, IsSection};
 ghost use Rattle.report_sections.specs.declared.section.Section.{Section};
 ghost use Rattle.json_values.specs.Items.{comma_before};
 ghost use Rattle.report_json.specs.JsonReport.{WritesEarly, WritesLate, WritesFromModule};
 ghost use Rattle.report_json.specs.JsonReport.{WritesSections, WritesFaults, WritesRules};
 
-use crate::head::{write_explained_base, write_from_strict, write_module};
+use crate::head::{write_first_keys, write_from_strict, write_module};
 use crate::parts::write_together;
 use crash_model::fault::FaultRow;
 use json_values::{KnownTexts, told_fault_value, told_rule_value, write_comma, write_item};
@@ -39,7 +39,7 @@ where
     A: Allocator + Copy + Send + Sync,
     requires { CanTell report.now }
     ensures { IfOk result (λ text. (body : WholeBody)
-        × TellsBody report.now.detail report.now.base.now report.now.traced.now.patches report.now.body
+        × TellsBody (detail_by report.now) report.now.base.now report.now.traced.now.patches report.now.body
         body
         × (string_bytes text ≡ json_report report.now.settings.now (whole_of report.now body))) }
 {
@@ -62,12 +62,12 @@ where
     requires empty { string_bytes out.old ≡ [] }
     requires told { CanTell report.now }
     ensures { OnOk result ((body : WholeBody)
-        × TellsBody report.now.detail report.now.base.now report.now.traced.now.patches report.now.body
+        × TellsBody (detail_by report.now) report.now.base.now report.now.traced.now.patches report.now.body
         body
         × (string_bytes out.new ≡ json_report report.now.settings.now (whole_of report.now body))) }
 {
     out.push_str("{")?;
-    write_explained_base(out, report.base, report.settings.explain)?;
+    write_first_keys(out, report.settings, report.base)?;
     let closed = report.closed;
     write!(out, "\"closed\":{closed}")?;
     write_early(out, rt, alloc, report, workers)?;
@@ -144,8 +144,8 @@ fn write_late<A: Allocator + Copy>(
     Ok(())
 }
 
-/// The objects of the sets, with a comma between two. What each is made of are values of their own, which are freed
-/// once they are written; the cached texts of block writes and faults serve later sets.
+/// The objects of the sets, with a comma between two. The parts of each are values of their own, which are freed once
+/// they are written; the cached texts of block writes and faults serve later sets.
 pub(crate) fn write_sections<A: Allocator + Copy>(
     out: &mut String,
     alloc: A,
@@ -154,12 +154,18 @@ pub(crate) fn write_sections<A: Allocator + Copy>(
 ) -> Result<(), AllocError>
     requires on_base { AreOnBase report.now.base.now report.now.traced.now.patches }
     requires closed { AreClosed report.now.traced.now.patches sets.now }
-    ensures { OnOk result (WritesSections report.now.detail report.now.base.now
+    ensures { OnOk result (WritesSections (detail_by report.now) report.now.base.now
         report.now.traced.now.patches sets.now (string_bytes out.old) (string_bytes out.new)) }
 {
     let graph = report.traced.graph();
     let mut known = KnownTexts::new(*out.allocator(), graph.len())?;
-    let mut maker = SectionMaker::new(alloc, report.base, graph, report.detail)?;
+    let mut maker = SectionMaker::new(
+        alloc,
+        report.base,
+        graph,
+        report.settings.explain,
+        report.demands,
+    )?;
     write_each_section(out, &mut known, &mut maker, sets)
 }
 
@@ -181,7 +187,7 @@ fn write_each_section<A: Allocator + Copy>(
     Ok(())
 }
 
-/// The object of a set at this place of an array, with a comma before it where it is not the first.
+/// The object of a set at this place of an array, with a comma before it if it is not the first.
 fn write_section<A: Allocator + Copy>(
     out: &mut String,
     at: usize,
@@ -211,11 +217,17 @@ fn write_faults<A: Allocator + Copy>(
 ) -> Result<(), AllocError>
     requires on_base { AreOnBase report.now.base.now report.now.traced.now.patches }
     requires closed { AreClosed report.now.traced.now.patches (map (λ row. row.first) rows.now) }
-    ensures { OnOk result (WritesFaults report.now.detail report.now.base.now
+    ensures { OnOk result (WritesFaults (detail_by report.now) report.now.base.now
         report.now.traced.now.patches rows.now (string_bytes out.old) (string_bytes out.new)) }
 {
     let graph = report.traced.graph();
-    let mut maker = SectionMaker::new(alloc, report.base, graph, report.detail)?;
+    let mut maker = SectionMaker::new(
+        alloc,
+        report.base,
+        graph,
+        report.settings.explain,
+        report.demands,
+    )?;
     write_each_fault(out, &mut maker, graph.len(), rows)
 }
 
@@ -237,7 +249,7 @@ fn write_each_fault<A: Allocator + Copy>(
     Ok(())
 }
 
-/// The object of a fault at this place of an array, with a comma before it where it is not the first.
+/// The object of a fault at this place of an array, with a comma before it if it is not the first.
 fn write_fault<A: Allocator + Copy>(
     out: &mut String,
     at: usize,

@@ -9,7 +9,7 @@ use Rattle.crash_model.specs.declared.fault.FaultRow.{FaultRow}
 use Rattle.crash_model.specs.declared.patches.Patch.{Patch}
 use Rattle.report_sections.specs.Bodies.{AreClosed}
 
--- what stands where there is no row
+-- what there is if there is no row
 abbrev pub no_row : FaultRow
 no_row = record { fault = Dangling 0 0 0; sets = 0; first = 0 }
 

@@ -7,10 +7,9 @@ use Rattle.std.proofs.Math.Seq.{take-add}
 use Rattle.std.proofs.lemmas.List.{map-append, take_all, take_more}
 use Rattle.std.proofs.lemmas.Nat.{div-add-mod'}
 use Rattle.crash_model.specs.Disk.{Disk}
-use Rattle.crash_model.specs.Report.{AreSections}
+use Rattle.crash_model.specs.Report.{Detail, AreSections}
 use Rattle.crash_model.specs.Report as report
 use Rattle.crash_model.specs.declared.patches.Patch.{Patch}
-use Rattle.crash_model.specs.declared.settings.Detail.{Detail}
 use Rattle.report_sections.specs.declared.section.Section.{Section}
 use Rattle.report_sections.specs.Sections.{section_of, IsSection}
 use Rattle.report_sections.proofs.Pushed.{sections_push}
@@ -29,7 +28,7 @@ sections_join detail base patches (x ∷ xs) ys first second (writes, rest, runs
   ap (λ (ss : List report.Section). ss ++ second) whole,
 )
 
--- ---- parts of so many sets
+-- ---- parts of a number of sets
 
 module _ (sets : List ℕ) (size : ℕ) where
   one_more : (n m : ℕ) → m ≡ n + 1 → m * size ≡ n * size + size
@@ -71,9 +70,9 @@ module _ (sets : List ℕ) (size : ℕ) where
       subst P (take_all (count * size) sets (cover count some number))
       (subst (λ (k : ℕ). P (take (k * size) sets)) e holds)
 
--- ---- rows, each told with the section of its first set
+-- ---- rows, each with the section of its first set
 
--- behind the first rows the next is told
+-- after the first rows the next is reported
 pub rows_more : {X T : Type 0} (row_of : T → X) (rows : List X) (i : ℕ) (d : X) (so_far : List T) (one : T)
     → i < length rows → row_of one ≡ get_or rows i d → map row_of so_far ≡ take i rows
     → map row_of (so_far ++ one ∷ []) ≡ take (i + 1) rows

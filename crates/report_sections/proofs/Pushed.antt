@@ -3,10 +3,9 @@ use Rattle.std.proofs.Common.{◌≡◌, ℕ, ◌+◌, ◌<◌, List, [], ◌∷
 use Rattle.std.proofs.Common.{subst}
 use Rattle.std.proofs.lemmas.List.{take_more}
 use Rattle.crash_model.specs.Disk.{Disk}
-use Rattle.crash_model.specs.Report.{AreSections}
+use Rattle.crash_model.specs.Report.{Detail, AreSections}
 use Rattle.crash_model.specs.Report as report
 use Rattle.crash_model.specs.declared.patches.Patch.{Patch}
-use Rattle.crash_model.specs.declared.settings.Detail.{Detail}
 use Rattle.report_sections.specs.declared.section.Section.{Section}
 use Rattle.report_sections.specs.Sections.{section_of, IsSection}
 
@@ -27,7 +26,7 @@ sections_push detail base patches (x ∷ xs) set sections s (writes, rest, runs,
   ap (λ (ss : List report.Section). ss ++ section_of s ∷ []) whole,
 )
 
--- a section is the one that is told of its set alone
+-- a section is the one that is reported of its set by itself
 pub is_told : {A : Type 0} (detail : Detail) (base : Disk) (patches : List Patch) (set : ℕ) (s : Section A)
     → IsSection detail base patches set s → AreSections detail base patches (set ∷ []) (section_of s ∷ [])
 is_told detail base patches set s is = sections_push detail base patches [] set [] s refl is

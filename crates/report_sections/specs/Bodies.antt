@@ -2,15 +2,15 @@
 use Rattle.std.specs.Prelude.{◌≡◌, ℕ, ◌<◌, List, [], length, map}
 use Rattle.std.specs.List.{All}
 use Rattle.patch_sets.specs.Closed.{IsClosed}
+use Rattle.crash_model.specs.Answer.{detail_of}
 use Rattle.crash_model.specs.Disk.{Disk}
 use Rattle.crash_model.specs.Lists.{when}
 use Rattle.crash_model.specs.Patches.{deps_of, AreUndo}
 use Rattle.crash_model.specs.Explain.{Explanation, blocks_of, told_patches}
-use Rattle.crash_model.specs.Report.{Section, AreSections}
+use Rattle.crash_model.specs.Report.{Detail, Section, AreSections}
 use Rattle.crash_model.specs.Summary.{ToldFault}
 use Rattle.crash_model.specs.Whole as whole
 use Rattle.crash_model.specs.declared.patches.Patch.{Patch}
-use Rattle.crash_model.specs.declared.settings.Detail.{Detail}
 use Rattle.traced_patches.specs.Traced.{TracedPatches}
 use Rattle.report_sections.specs.declared.report.Body.{Body}
 use Rattle.report_sections.specs.declared.report.Body.TheVariants.{Sets, Faults, Rules}
@@ -36,6 +36,10 @@ sets_of (Rules rules) = []
 pub record CanTell {A : Type 0} (report : Report A) : Type 0 where
   pub on_base : AreOnBase report.base.now report.traced.now.patches
   pub closed : AreClosed report.traced.now.patches (sets_of report.body)
+
+-- what the report tells of a set
+abbrev pub detail_by : {A : Type 0} → Report A → Detail
+detail_by report = detail_of report.settings.now report.demands.now
 
 -- the body as the definition sees it
 abbrev pub TellsBody : {A : Type 0} → Detail → Disk → List Patch → Body A → whole.Body → Type 0

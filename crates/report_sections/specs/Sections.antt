@@ -5,10 +5,9 @@ use Rattle.crash_model.specs.Disk.{Disk}
 use Rattle.crash_model.specs.Patches.{homes_of, image_of}
 use Rattle.crash_model.specs.Replay.{image_after_replay}
 use Rattle.crash_model.specs.Report as report
-use Rattle.crash_model.specs.Report.{replay_of}
-use Rattle.crash_model.specs.Strict.{faults_under}
+use Rattle.crash_model.specs.Report.{Detail, replay_of}
+use Rattle.crash_model.specs.Checker.{faults_under}
 use Rattle.crash_model.specs.declared.patches.Patch.{Patch}
-use Rattle.crash_model.specs.declared.settings.Detail.{Detail}
 use Rattle.report_sections.specs.Replay.{told_replay}
 use Rattle.report_sections.specs.declared.section.Outcome.{Outcome}
 use Rattle.report_sections.specs.declared.section.Section.{Section}
@@ -22,10 +21,10 @@ pub record IsSection {A : Type 0} (detail : Detail) (base : Disk) (patches : Lis
   pub of_set : s.set ≡ set
   pub runs : AreRuns (homes_of patches) set s.writes.items
   pub replay : told_replay s.replay ≡ replay_of detail.explain (image_of base patches set)
-  pub faults : s.faults.items ≡ faults_under detail.kept (image_after_replay (image_of base patches set))
+  pub faults : s.faults.items ≡ faults_under detail.demands (image_after_replay (image_of base patches set))
 
 -- what replay changes, and the faults of the image after it
 pub record IsOutcome {A : Type 0} (detail : Detail) (base : Disk) (patches : List Patch) (set : ℕ)
     (o : Outcome A) : Type 0 where
   pub replay : told_replay o.replay ≡ replay_of detail.explain (image_of base patches set)
-  pub faults : o.faults.items ≡ faults_under detail.kept (image_after_replay (image_of base patches set))
+  pub faults : o.faults.items ≡ faults_under detail.demands (image_after_replay (image_of base patches set))

@@ -4,8 +4,8 @@ ghost use Rattle.std.specs.Prelude.{◌≡◌};
 
 use crate::rules::ToldRule;
 use crash_model::fault::FaultRow;
-use crash_model::settings::{Detail, Settings};
-use disk_image::Image;
+use crash_model::settings::Settings;
+use disk_image::{Demands, Image};
 use std::alloc::{AllocError, Allocator};
 use traced_patches::Traced;
 
@@ -30,12 +30,13 @@ impl<'a, A: Allocator> Copy for Body<'a, A> {}
 
 /// A report before it is written: the image that the traced steps began on, their patches, and what was found of them.
 ///
-/// `detail` is what it reports of a set; `closed` and `failing` are the numbers of closed and of failing sets.
+/// `demands` is what is demanded of images after replay; `closed` and `failing` are the numbers of closed and of failing
+/// sets.
 pub struct Report<'found, 'steps, 'asked, 'body, A: Allocator + Copy> {
     pub base: &'steps Image<A>,
     pub traced: &'found Traced<'steps, A>,
     pub settings: &'asked Settings,
-    pub detail: Detail,
+    pub demands: &'found Demands<A>,
     pub closed: usize,
     pub failing: usize,
     pub body: Body<'body, A>,

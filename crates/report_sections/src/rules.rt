@@ -4,8 +4,8 @@ use crate::section::Section;
 use crash_model::rules::Rule;
 use std::alloc::Allocator;
 
-/// How many pairs of patches a rule applies to, and what a crash can leave without it: too many closed sets, or so
-/// many, how many of them fail, and the first failing set that the rule prevents.
+/// How many pairs of patches a rule applies to, and what a crash can leave without it: too many closed sets, or how
+/// many there are, how many of them fail, and the first failing set that the rule prevents.
 #[derive(Drop)]
 pub enum RuleUsage<A: Allocator> {
     Unused,

@@ -7,8 +7,7 @@ use crash_model::fault::Fault;
 use patch_sets::write::BlockWrite;
 use std::alloc::Allocator;
 
-/// A set, block writes that lead to it, what replay changes where that is explained, and the faults of its replayed
-/// image.
+/// A set, block writes that lead to it, what replay changes if that is explained, and the faults of its replayed image.
 #[derive(Drop)]
 pub struct Section<A: Allocator> {
     pub set: u128,
@@ -17,7 +16,7 @@ pub struct Section<A: Allocator> {
     pub faults: Vec<Fault, A>,
 }
 
-/// What a crash comes to: what replay changes where that is explained, and the faults of the replayed image.
+/// What follows from a crash: what replay changes if that is explained, and the faults of the replayed image.
 #[derive(Drop)]
 pub struct Outcome<A: Allocator> {
     pub replay: Option<Vec<ReplayedBlock, A>>,

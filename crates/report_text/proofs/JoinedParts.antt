@@ -6,9 +6,8 @@ use Rattle.std.specs.List.{flat_map}
 use Rattle.std.proofs.lemmas.List.{append-nil}
 use Rattle.std.proofs.lemmas.List.Concat.{flat_map-append}
 use Rattle.crash_model.specs.Disk.{Disk}
-use Rattle.crash_model.specs.Report.{Section, section_text}
+use Rattle.crash_model.specs.Report.{Detail, Section, section_text}
 use Rattle.crash_model.specs.declared.patches.Patch.{Patch}
-use Rattle.crash_model.specs.declared.settings.Detail.{Detail}
 use Rattle.report_sections.proofs.Joined.{sections_join, before_parts, part_more, all_parts}
 use Rattle.report_text.specs.TextReport.{WritesSections}
 
@@ -20,7 +19,7 @@ module _ (detail : Detail) (base : Disk) (patches : List Patch) where
   pub sections_none : (text : List ℕ) → WritesSections detail base patches [] text text
   sections_none text = record { sections = []; are = refl; whole = sym (append-nil text) }
 
-  -- sections behind sections
+  -- sections after sections
   pub sections_after : (sets more : List ℕ) (head text after : List ℕ)
       → WritesSections detail base patches sets head text → WritesSections detail base patches more text after
       → WritesSections detail base patches (sets ++ more) head after
@@ -32,7 +31,7 @@ module _ (detail : Detail) (base : Disk) (patches : List Patch) where
         ∙ ap (λ (t : List ℕ). head ++ t) (sym (flat_map-append form first.sections others.sections))));
   }
 
-  -- the same where the others stand in a text of their own
+  -- the same if the others are in a text of their own
   sections_added : (sets : List ℕ) (text part after : List ℕ) → WritesSections detail base patches sets [] part
       → after ≡ text ++ part → WritesSections detail base patches sets text after
   sections_added sets text part after own more = record {

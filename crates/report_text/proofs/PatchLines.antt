@@ -14,7 +14,7 @@ use Rattle.traced_patches.specs.Traced.{TracedPatches, told_at, dependency_at}
 use Rattle.traced_patches.proofs.Told.{told_is, no_dependency, dependency_is}
 use Rattle.report_text.specs.Patches.{patch_line, gap_before}
 
--- what there is of one number more is told
+-- the line of one more number is written
 pub below_told : {X : Type 0} (f : X → List ℕ) (n : ℕ) (at : ℕ → Option X) (before all after : List ℕ)
     → all ≡ before ++ flat_map f (some_below n at) → after ≡ all ++ flat_map f (option_to_list (at n))
     → after ≡ before ++ flat_map f (some_below (n + 1) at)
@@ -39,7 +39,7 @@ patch_told t id q p before first after emitted patch one two =
 
 -- ---- a dependency
 
--- where there is no reason, nothing is told
+-- if there is no reason, nothing is written
 pub none_told : (t : TracedPatches) (q p : Emitted) (earlier n : ℕ) (before : List ℕ)
     → slice_get t.emitted earlier ≡ Some p → depends t.rules t.whole t.links q p ≡ not (n == 0) → n ≡ 0
     → before ≡ before ++ flat_map dependency_text (option_to_list (dependency_at t q earlier))
@@ -47,7 +47,7 @@ none_told t q p earlier n before at some none =
     sym (append-nil before) ∙ ap (λ (o : Option Dependency). before ++ flat_map dependency_text (option_to_list o))
     (sym (no_dependency t q p earlier n at some none))
 
--- where there are some, they are told
+-- if there are some, they are written
 pub some_told : (t : TracedPatches) (q p : Emitted) (earlier n : ℕ) (texts : List (List ℕ))
     (before one two after : List ℕ) → slice_get t.emitted earlier ≡ Some p → depends t.rules t.whole t.links q p ≡ not
     (n == 0)

@@ -9,15 +9,14 @@ use Rattle.crash_model.specs.Disk.{Disk}
 use Rattle.crash_model.specs.Patches.{image_of}
 use Rattle.crash_model.specs.Replay.{image_after_replay}
 use Rattle.crash_model.specs.Report as report
-use Rattle.crash_model.specs.Report.{line, numbers, replay_of, replay_text, section_text, write_text}
-use Rattle.crash_model.specs.Strict.{faults_under}
+use Rattle.crash_model.specs.Report.{Detail, line, numbers, replay_of, replay_text, section_text, write_text}
+use Rattle.crash_model.specs.Checker.{faults_under}
 use Rattle.crash_model.specs.Explain.{explanation_text}
 use Rattle.crash_model.specs.Lists.{when}
 use Rattle.crash_model.specs.Summary.{ToldFault, told_fault_text}
 use Rattle.crash_model.specs.Whole.{Body, head_text, body_text, text_report}
 use Rattle.crash_model.specs.declared.fault.FaultRow.{FaultRow}
 use Rattle.crash_model.specs.declared.patches.Patch.{Patch}
-use Rattle.crash_model.specs.declared.settings.Detail.{Detail}
 use Rattle.report_sections.specs.Bodies.{explanation_by, whole_of}
 use Rattle.report_sections.specs.declared.report.Report.{Report}
 use Rattle.report_sections.specs.declared.section.Section as code
@@ -74,7 +73,7 @@ section_one detail base patches set n o old first second third new number is hea
       set = set;
       writes = runs.writes;
       replay = replay_of detail.explain (image_of base patches set);
-      found = faults_under detail.kept (image_after_replay (image_of base patches set));
+      found = faults_under detail.demands (image_after_replay (image_of base patches set));
     }
 
     told : report.Section

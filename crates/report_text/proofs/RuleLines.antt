@@ -1,4 +1,4 @@
--- What is told of a rule, behind its name.
+-- What is written of a rule, after its name.
 use Rattle.std.proofs.Common.{◌≡◌, ℕ, List, [], ◌++◌, codes, decimal, append_assoc}
 use Rattle.crash_model.specs.Needs.{RuleUsage, Unused, TooMany, Used, first_text, usage_text}
 

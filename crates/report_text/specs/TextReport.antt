@@ -1,11 +1,10 @@
 -- Reports as text.
 use Rattle.std.specs.Prelude.{◌≡◌, ℕ, List, ◌++◌, length, map, flat_map}
 use Rattle.crash_model.specs.Disk.{Disk}
-use Rattle.crash_model.specs.Report.{Section, AreSections, section_text}
+use Rattle.crash_model.specs.Report.{Detail, Section, AreSections, section_text}
 use Rattle.crash_model.specs.Summary.{ToldFault, told_fault_text}
 use Rattle.crash_model.specs.declared.fault.FaultRow.{FaultRow}
 use Rattle.crash_model.specs.declared.patches.Patch.{Patch}
-use Rattle.crash_model.specs.declared.settings.Detail.{Detail}
 
 -- the text has the sections of these sets appended
 pub record WritesSections (detail : Detail) (base : Disk) (patches : List Patch) (sets old new : List ℕ) : Type 0 where

@@ -26,8 +26,9 @@ pub(crate) fn write_head<A: Allocator>(
     )
 }
 
-/// The lines that say by which ordering a run goes, and by which checker: the module, each rule that is taken out or
-/// put in, whether blocks are written whole, and whether the run is strict. It fails only when out of memory.
+/// The lines that say which ordering and which checker a run uses: the module, each rule that is taken out or put in,
+/// whether blocks are written whole, whether the run is strict, and whether operations are to be atomic. It fails only
+/// when out of memory.
 pub fn write_ordering<A: Allocator>(
     out: &mut String<A>,
     settings: &Settings,
@@ -37,17 +38,19 @@ pub fn write_ordering<A: Allocator>(
         ++ rule_lines (codes "without") (told_without settings.now)
         ++ rule_lines (codes "with") (told_with settings.now)
         ++ (if settings.now.whole_blocks then line (codes "whole blocks") else [])
-        ++ (if settings.now.strict then line (codes "strict") else []))) }
+        ++ (if settings.now.strict then line (codes "strict") else [])
+        ++ (if settings.now.atomic then line (codes "atomic") else []))) }
 {
     let name = settings.module.name();
     write!(out, "module {name}\n")?;
     write_rule_lines(out, "without", settings.taken_out().as_slice())?;
     write_rule_lines(out, "with", settings.put_in().as_slice())?;
     write_whole_line(out, settings.whole_blocks)?;
-    write_strict_line(out, settings.strict)
+    write_strict_line(out, settings.strict)?;
+    write_atomic_line(out, settings.atomic)
 }
 
-/// The line of a run where blocks are written whole.
+/// The line of a run in which blocks are written whole.
 fn write_whole_line<A: Allocator>(out: &mut String<A>, whole: bool) -> Result<(), AllocError>
     ensures { OnOk result (string_bytes out.new
         ≡ string_bytes out.old ++ (if whole then line (codes "whole blocks") else [])) }
@@ -65,6 +68,17 @@ fn write_strict_line<A: Allocator>(out: &mut String<A>, strict: bool) -> Result<
 {
     if strict {
         out.push_str("strict\n")?;
+    }
+    Ok(())
+}
+
+/// The line of a run whose operations are to be atomic.
+fn write_atomic_line<A: Allocator>(out: &mut String<A>, atomic: bool) -> Result<(), AllocError>
+    ensures { OnOk result (string_bytes out.new
+        ≡ string_bytes out.old ++ (if atomic then line (codes "atomic") else [])) }
+{
+    if atomic {
+        out.push_str("atomic\n")?;
     }
     Ok(())
 }

@@ -1,7 +1,7 @@
 //! Sections that workers write side by side.
 
 ghost use Rattle.std.specs.Prelude.{◌≡◌, ◌<◌, ◌+◌, ◌/◌, ◌%◌, [], length, min, string_bytes, vec_len, IfOk, OnOk};
-ghost use Rattle.report_sections.specs.Bodies.{AreOnBase, AreClosed};
+ghost use Rattle.report_sections.specs.Bodies.{detail_by, AreOnBase, AreClosed};
 ghost use Rattle.report_sections.specs.Parts.{ArePartTexts};
 ghost use Rattle.report_text.specs.TextReport.{WritesSections};
 
@@ -28,7 +28,7 @@ where
     A: Allocator + Copy + Send + Sync,
     requires on_base { AreOnBase report.now.base.now report.now.traced.now.patches }
     requires closed { AreClosed report.now.traced.now.patches sets.now }
-    ensures { OnOk result (WritesSections report.now.detail report.now.base.now
+    ensures { OnOk result (WritesSections (detail_by report.now) report.now.base.now
         report.now.traced.now.patches sets.now (string_bytes out.old) (string_bytes out.new)) }
 {
     let alloc = *out.allocator();
@@ -62,7 +62,7 @@ where
     requires closed { AreClosed report.now.traced.now.patches sets.now }
     ensures len { IfOk result (λ texts. vec_len texts ≡ length sets.now / size + min 1 (length sets.now % size)) }
     ensures each { IfOk result (λ texts.
-        ArePartTexts (λ part text. WritesSections report.now.detail report.now.base.now
+        ArePartTexts (λ part text. WritesSections (detail_by report.now) report.now.base.now
         report.now.traced.now.patches part [] text) sets.now size texts.items) }
 {
     thread::map_chunks(
@@ -86,7 +86,7 @@ fn part_text<A: Allocator + Copy>(
     requires on_base { AreOnBase report.now.base.now report.now.traced.now.patches }
     requires closed { AreClosed report.now.traced.now.patches sets.now }
     ensures { IfOk result (λ text.
-        WritesSections report.now.detail report.now.base.now report.now.traced.now.patches sets.now []
+        WritesSections (detail_by report.now) report.now.base.now report.now.traced.now.patches sets.now []
         (string_bytes text)) }
 {
     let mut text = String::new(alloc);

@@ -17,7 +17,7 @@ use crash_model::patches::Patch;
 use std::alloc::{AllocError, Allocator};
 use traced_patches::{Label, Reason, Traced};
 
-/// The lines of each patch, where an explanation is asked for. It fails only when out of memory.
+/// The lines of each patch, if an explanation is asked for. It fails only when out of memory.
 ///
 /// They are the same over each base.
 pub fn write_explanation<A: Allocator, B: Allocator + Copy>(
@@ -89,7 +89,7 @@ fn write_label<A: Allocator>(
     Ok(())
 }
 
-/// The line that says why a patch depends on an earlier one, where it does.
+/// The line that says why a patch depends on an earlier one, if it does.
 fn write_dependency<A: Allocator, B: Allocator + Copy>(
     out: &mut String<A>,
     traced: &Traced<'_, B>,
@@ -123,7 +123,7 @@ fn write_reasons<A: Allocator>(out: &mut String<A>, reasons: &[Reason]) -> Resul
     Ok(())
 }
 
-/// A reason at this place of a list, with a comma and a space before it where it is not the first.
+/// A reason at this place of a list, with a comma and a space before it if it is not the first.
 fn write_reason<A: Allocator>(
     out: &mut String<A>,
     at: usize,

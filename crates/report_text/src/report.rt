@@ -5,7 +5,7 @@ ghost use Rattle.patch_sets.specs.Closed.{IsClosed};
 ghost use Rattle.crash_model.specs.Patches.{deps_of};
 ghost use Rattle.crash_model.specs.Summary.{told_fault_text};
 ghost use Rattle.crash_model.specs.Whole.{Body as WholeBody, text_report};
-ghost use Rattle.report_sections.specs.Bodies.{CanTell, TellsBody, AreOnBase, AreClosed, whole_of};
+ghost use Rattle.report_sections.specs.Bodies.{detail_by, CanTell, TellsBody, AreOnBase, AreClosed, whole_of};
 ghost use Rattle.report_sections.specs.Sections.{section_of, IsSection};
 ghost use Rattle.report_sections.specs.declared.section.Section.{Section};
 ghost use Rattle.report_text.specs.TextReport.{WritesSections, WritesFaults};
@@ -23,7 +23,7 @@ use section_maker::SectionMaker;
 use std::alloc::{AllocError, Allocator};
 use std::thread::Threads;
 
-/// A report as text: the lines of the head, for each patch its lines where that is asked for, and the body's lines.
+/// A report as text: the lines of the head, for each patch its lines if that is asked for, and the body's lines.
 ///
 /// The patches change blocks of the base, and a crash can leave each set. Up to `workers` workers write sections
 /// side by side. It fails only when out of memory.
@@ -38,7 +38,7 @@ where
     A: Allocator + Copy + Send + Sync,
     requires { CanTell report.now }
     ensures { IfOk result (λ text. (body : WholeBody)
-        × TellsBody report.now.detail report.now.base.now report.now.traced.now.patches report.now.body
+        × TellsBody (detail_by report.now) report.now.base.now report.now.traced.now.patches report.now.body
         body
         × (string_bytes text ≡ text_report report.now.settings.now (whole_of report.now body))) }
 {
@@ -60,7 +60,7 @@ where
     requires empty { string_bytes out.old ≡ [] }
     requires told { CanTell report.now }
     ensures { OnOk result ((body : WholeBody)
-        × TellsBody report.now.detail report.now.base.now report.now.traced.now.patches report.now.body
+        × TellsBody (detail_by report.now) report.now.base.now report.now.traced.now.patches report.now.body
         body
         × (string_bytes out.new ≡ text_report report.now.settings.now (whole_of report.now body))) }
 {
@@ -84,7 +84,7 @@ pub(crate) fn write_sections<A: Allocator + Copy>(
 ) -> Result<(), AllocError>
     requires on_base { AreOnBase report.now.base.now report.now.traced.now.patches }
     requires closed { AreClosed report.now.traced.now.patches sets.now }
-    ensures { OnOk result (WritesSections report.now.detail report.now.base.now
+    ensures { OnOk result (WritesSections (detail_by report.now) report.now.base.now
         report.now.traced.now.patches sets.now (string_bytes out.old) (string_bytes out.new)) }
 {
     if sets.is_empty() {
@@ -92,7 +92,13 @@ pub(crate) fn write_sections<A: Allocator + Copy>(
     }
     let graph = report.traced.graph();
     let mut lines = LineCache::new(graph);
-    let mut maker = SectionMaker::new(alloc, report.base, graph, report.detail)?;
+    let mut maker = SectionMaker::new(
+        alloc,
+        report.base,
+        graph,
+        report.settings.explain,
+        report.demands,
+    )?;
     let mut outcome = Outcome::new(alloc);
     write_each(out, &mut lines, &mut maker, &mut outcome, sets)
 }
@@ -147,11 +153,17 @@ fn write_faults<A: Allocator + Copy>(
 ) -> Result<(), AllocError>
     requires on_base { AreOnBase report.now.base.now report.now.traced.now.patches }
     requires closed { AreClosed report.now.traced.now.patches (map (λ row. row.first) rows.now) }
-    ensures { OnOk result (WritesFaults report.now.detail report.now.base.now
+    ensures { OnOk result (WritesFaults (detail_by report.now) report.now.base.now
         report.now.traced.now.patches rows.now (string_bytes out.old) (string_bytes out.new)) }
 {
     let graph = report.traced.graph();
-    let mut maker = SectionMaker::new(*out.allocator(), report.base, graph, report.detail)?;
+    let mut maker = SectionMaker::new(
+        *out.allocator(),
+        report.base,
+        graph,
+        report.settings.explain,
+        report.demands,
+    )?;
     for row in rows {
         write_fault(out, &mut maker, graph.len(), row)?;
     }

@@ -24,7 +24,7 @@ pub(crate) fn write_rules<A: Allocator + Copy>(
     Ok(())
 }
 
-/// The line of a rule, and the section of the first failing set that it prevents, where there is one.
+/// The line of a rule, and the section of the first failing set that it prevents, if there is one.
 fn write_rule<A: Allocator + Copy>(
     out: &mut String<A>,
     patches: usize,
@@ -67,7 +67,7 @@ fn write_usage<A: Allocator + Copy>(
     Ok(())
 }
 
-/// The section, where there is one.
+/// The section, if there is one.
 fn write_first<A: Allocator + Copy>(
     out: &mut String<A>,
     patches: usize,

@@ -9,8 +9,8 @@ use report_sections::Section;
 use section_lines::lines::write_crash;
 use std::alloc::{AllocError, Allocator};
 
-/// The lines of a fault: its text, how many failing sets have it, and the crash that leaves the first of them, of
-/// which is the set of the section. The graph has `patches` patches.
+/// The lines of a fault: its text, how many failing sets have it, and the crash that leaves the first of them, which is
+/// the set of the section. The graph has `patches` patches.
 pub(crate) fn write_told_fault<A: Allocator + Copy, B: Allocator>(
     out: &mut String<A>,
     patches: usize,

@@ -1,7 +1,7 @@
 -- The closed and the failing sets under more rules.
 use Rattle.std.proofs.Common.{◌≡◌, ℕ, zero, suc, ◌<◌, List, [], ◌∷◌, length, map, Some, arith, refl, sym, ◌∙◌, ap}
 use Rattle.std.proofs.Common.{true, subst}
-use Rattle.std.specs.Prelude.{Option, slice_get}
+use Rattle.std.specs.Prelude.{slice_get}
 use Rattle.std.proofs.lemmas.List.{length-map}
 use Rattle.patch_sets.specs.Closed.{IsClosed}
 use Rattle.crash_model.specs.Disk.{Disk}
@@ -10,7 +10,7 @@ use Rattle.crash_model.specs.Faults.{IsClean}
 use Rattle.crash_model.specs.Patches.{Place, place, places_of, deps_of, image_from}
 use Rattle.crash_model.specs.Replay.{image_after_replay}
 use Rattle.crash_model.specs.RuleFacts.{AreAmong}
-use Rattle.crash_model.specs.Strict.{IsCleanUnder, IsFailingUnder}
+use Rattle.crash_model.specs.Checker.{Demands, IsCleanUnder, IsFailingUnder}
 use Rattle.crash_model.specs.Trace.{Emitted, Tracing, depends, IsGraphOf}
 use Rattle.crash_model.specs.declared.patches.Patch.{Patch}
 use Rattle.crash_model.specs.declared.rules.Rule.{Rule}
@@ -70,11 +70,12 @@ module _ (some all : List Rule) (base : Disk) (s t : Tracing) (few more : List P
         IsClean (image_after_replay (image_from 0 base ps set))) same_places clean);
   }
 
-  pub failing_under_both : (kept : Option ℕ) → IsFailingUnder kept base more set → IsFailingUnder kept base few set
-  failing_under_both kept failing = record {
+  pub failing_under_both : (demands : Demands) → IsFailingUnder demands base more set
+      → IsFailingUnder demands base few set
+  failing_under_both demands failing = record {
     closed = closed_both failing.closed;
     unclean = λ clean. failing.unclean (subst (λ (ps : List Place).
-        IsCleanUnder kept (image_after_replay (image_from 0 base ps set))) same_places clean);
+        IsCleanUnder demands (image_after_replay (image_from 0 base ps set))) same_places clean);
   }
 
 -- by more rules
@@ -89,5 +90,6 @@ module _ (some all : List Rule) (base : Disk) (s : Tracing) (few more : List Pat
   pub failing_more : IsFailing base more set → IsFailing base few set
   failing_more = failing_both some all base s s few more set refl adds_rules graph wider
 
-  pub failing_under_more : (kept : Option ℕ) → IsFailingUnder kept base more set → IsFailingUnder kept base few set
+  pub failing_under_more : (demands : Demands) → IsFailingUnder demands base more set
+      → IsFailingUnder demands base few set
   failing_under_more = failing_under_both some all base s s few more set refl adds_rules graph wider

@@ -57,7 +57,7 @@ all_at test (y ∷ ys) zero x all is = let same : y ≡ x = cc in let here : tes
     and_left (test y) (list_all test ys) all in cc
 all_at test (y ∷ ys) (suc k) x all is = all_at test ys k x (and_right (test y) (list_all test ys) all) is
 
--- ---- tests of how operations stand
+-- ---- tests of how operations are placed
 
 abbrev scoped : Bool → Bool → Bool → Scope → Bool
 scoped is_same is_next is_before Same = is_same

@@ -7,7 +7,7 @@ use Rattle.crash_model.specs.Disk.{Disk}
 use Rattle.crash_model.specs.Failing.{IsFailing}
 use Rattle.crash_model.specs.Patches.{overlap, deps_of}
 use Rattle.crash_model.specs.Plan.{then_ok, unless, with_found, plan_of, with_changes}
-use Rattle.crash_model.specs.Strict.{IsFailingUnder}
+use Rattle.crash_model.specs.Checker.{Demands, IsFailingUnder}
 use Rattle.crash_model.specs.Trace.{Emitted, Tracing, IsGraphOf, depends, shares_block, groups_depend, applies}
 use Rattle.crash_model.specs.Trace.{trace_from, step, trace_of_plan, is_among, is_same_group, origin_at}
 use Rattle.crash_model.specs.Trace.{patches_by, journal_blocks}
@@ -103,6 +103,7 @@ module _ (rules : List Rule) (base : Disk) (s : Tracing) (few more : List Patch)
   failing_whole = failing_both rules rules base (with_whole false s) (with_whole true s) few more set refl
       (depends_whole rules s.links) graph wider
 
-  pub failing_under_whole : (kept : Option ℕ) → IsFailingUnder kept base more set → IsFailingUnder kept base few set
+  pub failing_under_whole : (demands : Demands) → IsFailingUnder demands base more set
+      → IsFailingUnder demands base few set
   failing_under_whole = failing_under_both rules rules base (with_whole false s) (with_whole true s) few more set refl
       (depends_whole rules s.links) graph wider

@@ -1,4 +1,4 @@
--- A trace, but for whether blocks are written whole.
+-- A trace, except whether blocks are written whole.
 use Rattle.std.specs.Prelude.{Bool, Result, Ok, Err}
 use Rattle.crash_model.specs.Trace.{Tracing}
 use Rattle.crash_model.specs.declared.refusals.TraceFault.{TraceFault}

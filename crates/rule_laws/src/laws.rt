@@ -1,6 +1,6 @@
 //! What lists of rules order, as functions that do nothing and promise the law.
 
-ghost use Rattle.std.specs.Prelude.{◌≡◌, ℕ, List, [], Bool, true, false, Option};
+ghost use Rattle.std.specs.Prelude.{◌≡◌, ℕ, List, [], Bool, true, false};
 ghost use Rattle.std.specs.List.{list_any};
 ghost use Rattle.patch_sets.specs.Closed.{IsClosed};
 ghost use Rattle.crash_model.specs.Disk.{Disk};
@@ -8,7 +8,7 @@ ghost use Rattle.crash_model.specs.Failing.{IsFailing};
 ghost use Rattle.crash_model.specs.Patches.{deps_of};
 ghost use Rattle.crash_model.specs.Rules.{rules_of, rules_under};
 ghost use Rattle.crash_model.specs.RuleFacts.{AreAmong};
-ghost use Rattle.crash_model.specs.Strict.{IsFailingUnder};
+ghost use Rattle.crash_model.specs.Checker.{Demands, IsFailingUnder};
 ghost use Rattle.crash_model.specs.Trace.{Emitted, Tracing, trace_from, IsGraphOf, applies};
 ghost use Rattle.crash_model.specs.declared.patches.Patch.{Patch};
 ghost use Rattle.crash_model.specs.declared.rules.Rule.{Rule};
@@ -17,14 +17,14 @@ ghost use Rattle.crash_model.specs.declared.steps.Step.{Step};
 ghost use Rattle.rule_laws.specs.Tables.{row, are_in};
 ghost use Rattle.rule_laws.specs.Whole.{with_whole, written_whole};
 
-/// The rules of a module make a patch wait for an earlier one exactly where the module's table does.
+/// The rules of a module make a patch wait for an earlier one exactly if the module's table does.
 pub fn the_orderings_are_their_tables()
     ensures { (kind : Module) (q p : Emitted)
         → list_any (λ rule. applies rule q p) (rules_of kind) ≡ are_in (row kind q.part p.part) q.turn p.turn }
 {}
 
-/// More rules never add a crash state: of the same patches, what is closed, or fails, under all of the rules is so
-/// under some of them, whatever inodes the script keeps.
+/// More rules never add a crash state: of the same patches, a set that is closed, or fails, under all of the rules also
+/// does so under some of them, whatever inodes the script keeps.
 pub fn more_rules_never_add_a_crash_state()
     ensures closed { (some all : List Rule) (base : Disk) (s : Tracing) (few more : List Patch) (set : ℕ)
         → AreAmong some all
@@ -33,10 +33,10 @@ pub fn more_rules_never_add_a_crash_state()
     ensures failing { (some all : List Rule) (base : Disk) (s : Tracing) (few more : List Patch) (set : ℕ)
         → AreAmong some all
         → IsGraphOf some base s few → IsGraphOf all base s more → IsFailing base more set → IsFailing base few set }
-    ensures strict { (kept : Option ℕ) (some all : List Rule) (base : Disk) (s : Tracing) (few more : List Patch)
+    ensures strict { (demands : Demands) (some all : List Rule) (base : Disk) (s : Tracing) (few more : List Patch)
         → (set : ℕ) → AreAmong some all
-        → IsGraphOf some base s few → IsGraphOf all base s more → IsFailingUnder kept base more set
-        → IsFailingUnder kept base few set }
+        → IsGraphOf some base s few → IsGraphOf all base s more → IsFailingUnder demands base more set
+        → IsFailingUnder demands base few set }
 {}
 
 /// Whether blocks are written whole changes no step of a trace, and no refusal: the patches are the same.
@@ -45,8 +45,8 @@ pub fn whole_blocks_change_no_patch()
         → trace_from kind (with_whole whole s) steps ≡ written_whole whole (trace_from kind s steps) }
 {}
 
-/// Blocks that are written whole never add a crash state: of the same patches, what is closed, or fails, where blocks
-/// are written whole is so where they are not, whatever a checker is told of the inodes that the script keeps.
+/// Blocks that are written whole never add a crash state: of the same patches, a set that is closed, or fails, if
+/// blocks are written whole also does so if they are not, for either checker.
 pub fn whole_blocks_never_add_a_crash_state()
     ensures closed { (rules : List Rule) (base : Disk) (s : Tracing) (few more : List Patch) (set : ℕ)
         → IsGraphOf rules base (with_whole false s) few → IsGraphOf rules base (with_whole true s) more
@@ -54,14 +54,14 @@ pub fn whole_blocks_never_add_a_crash_state()
     ensures failing { (rules : List Rule) (base : Disk) (s : Tracing) (few more : List Patch) (set : ℕ)
         → IsGraphOf rules base (with_whole false s) few → IsGraphOf rules base (with_whole true s) more
         → IsFailing base more set → IsFailing base few set }
-    ensures strict { (kept : Option ℕ) (rules : List Rule) (base : Disk) (s : Tracing) (few more : List Patch)
+    ensures strict { (demands : Demands) (rules : List Rule) (base : Disk) (s : Tracing) (few more : List Patch)
         → (set : ℕ)
         → IsGraphOf rules base (with_whole false s) few → IsGraphOf rules base (with_whole true s) more
-        → IsFailingUnder kept base more set → IsFailingUnder kept base few set }
+        → IsFailingUnder demands base more set → IsFailingUnder demands base few set }
 {}
 
-/// Where no rule is taken out, each rule of the module is in the ordering, whatever is put in; and where none is put
-/// in either, the ordering has no others.
+/// If no rule is taken out, each rule of the module is in the ordering, whatever is put in. If none is put in either,
+/// the ordering has no others.
 pub fn rules_put_in_leave_those_of_the_module()
     ensures among { (kind : Module) (with : List Rule) → AreAmong (rules_of kind) (rules_under kind [] with) }
     ensures own { (kind : Module) → rules_under kind [] [] ≡ rules_of kind }

@@ -69,7 +69,7 @@ operands_plain (GroupOperand a ∷ os) are =
 
 -- ---- verbs
 
--- the one of these verbs that is spelt so
+-- the one of these verbs with this spelling
 abbrev spelt_so : List Verb → List ℕ → Option Verb
 spelt_so [] word = None
 spelt_so (verb ∷ verbs) word = cond (bytes_eq word (spelling verb)) (Some verb) (spelt_so verbs word)
@@ -92,7 +92,7 @@ spelling_of End = (refl, refl)
 spelling_of Depend = (refl, refl)
 spelling_of Start = (refl, refl)
 
--- no two verbs are spelt alike
+-- no two verbs have one spelling
 pub verb_once : (verb other : Verb) → spelling verb ≡ spelling other → verb ≡ other
 verb_once verb other same = let found = sym (spelling_of verb).0 ∙ (ap verb_of same ∙ (spelling_of other).0) in cc
 

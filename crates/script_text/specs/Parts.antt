@@ -18,7 +18,7 @@ pub record IsPart (bytes : List ℕ) (first : ℕ) (steps : List Step) (n : ℕ)
   pub lines : MatchOption behind (lines_of bytes ≡ before)
       (λ rest. lines_of bytes ≡ before ++ (codes "start" ∷ lines_of rest.now))
 
--- the first refused line, which no start line goes before
+-- the first refused line, before which there is no start line
 pub record IsPartRefused (bytes : List ℕ) (first : ℕ) (fault : ScriptFault) : Type 0 where
   pub before : List (List ℕ)
   pub line : List ℕ

@@ -54,7 +54,7 @@ abbrev pub form : Option Act → List ℕ × List Operand
 form (Some act) = said act
 form None = (codes "start", [])
 
--- how a first word is spelt, and what follows it
+-- the spelling of a first word, and what follows it
 abbrev pub spelling : Verb → List ℕ
 spelling verb = (form (some_act verb)).0
 

@@ -19,9 +19,9 @@ pub struct Script<A: Allocator> {
 
 /// The script that the bytes spell.
 ///
-/// It is refused at its first refused line: one that is not UTF-8, one that has none of the forms or is a second
-/// start line, or one with a word that is not a path in the place of a path, in this order; then if no line is
-/// the start line. Each byte is read a few times, whatever the script.
+/// It is refused at its first refused line: one that is not UTF-8, one that has none of the forms or is a second start
+/// line, or one with a word that is not a path in the place of a path, in this order; then if no line is the start
+/// line. Each byte is read only a few times, whatever the script.
 pub fn read_script<A: Allocator + Copy>(alloc: A, bytes: &[u8]) -> Result<Script<A>, ScriptFault>
     ensures ok { IfOk result (λ script. IsScript bytes.now script.base.items script.traced.items) }
     ensures refused { IfErr result (λ fault. fault ≢ ScriptFault.OutOfMemory → IsScriptRefusal bytes.now fault) }

@@ -25,7 +25,7 @@ pub(crate) enum Verb {
 }
 
 impl Verb {
-    /// The verb that is spelt so, if there is one.
+    /// The verb with this spelling, if there is one.
     pub(crate) fn read(word: &str) -> Option<Verb>
         ensures { MatchOption result (IsNoVerb word.now) (λ verb. word.now ≡ spelling verb) }
     {
@@ -45,7 +45,7 @@ impl Verb {
         }
     }
 
-    /// What a line says of which this is the first word, and these are the others.
+    /// What a line says that has this first word and these others.
     pub(crate) fn line(self, operands: &[&str]) -> Result<Line, LineFault>
         ensures { MatchResult result (SaysWords (spelling self ∷ map (λ word. word.now) operands.now))
             (IsOperandFault (operands_of self) (map (λ word. word.now) operands.now)) }

@@ -5,7 +5,7 @@ ghost use Rattle.crash_model.specs.Script.{AreWords};
 
 use arrayvec::ArrayVec;
 
-/// The words of the text, cut at each space; `None` where there are more than three.
+/// The words of the text, cut at each space; `None` if there are more than three.
 pub(crate) fn words(text: &str) -> Option<ArrayVec<&str, 3>>
     ensures { MatchOption result ((words : List (List ℕ)) → AreWords text.now words
         → 3 < length words) (λ words. AreWords text.now (map (λ word. word.now) words.items)) }

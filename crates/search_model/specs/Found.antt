@@ -1,6 +1,7 @@
 -- What a search finds.
-use Rattle.std.specs.Prelude.{ℕ, ◌≤◌, ◌<◌, List, map, Option}
+use Rattle.std.specs.Prelude.{ℕ, ◌≤◌, ◌<◌, List, map}
 use Rattle.std.specs.List.{All, AllPairs, Contains}
+use Rattle.crash_model.specs.Checker.{Demands}
 use Rattle.crash_model.specs.Summary.{IsFirst}
 use Rattle.crash_model.specs.declared.patches.Patch.{Patch}
 use Rattle.search_model.specs.Kinds.{kind_number}
@@ -14,7 +15,7 @@ use Rattle.search_model.specs.declared.found.RefusedCount.{RefusedCount}
 use Rattle.search_model.specs.declared.found.ShownKind.{ShownKind}
 use Rattle.search_model.specs.declared.refusal.Refusal.{Refusal}
 
--- operations are refused for the reason, so many
+-- how many operations are refused for the reason, at least one
 pub record IsCounted (s : Search) (refused : RefusedCount) : Type 0 where
   pub counted : CountsSequences (IsRefusedFor s refused.reason) refused.count
   pub some : 1 ≤ refused.count
@@ -26,12 +27,12 @@ pub record AreCounted (s : Search) (refused : List RefusedCount) : Type 0 where
   pub every : (reason : Refusal) (places : List ℕ) → IsRefusedFor s reason places
       → Contains (map (λ r. r.reason) refused) reason
 
--- so many workloads show the kind; the first of them, and its first set that has such a fault
+-- how many workloads show the kind, the first of them, and its first set that has such a fault
 pub record IsShown (s : Search) (shown : ShownKind) : Type 0 where
   pub counted : CountsSequences (ShowsKind s shown.kind) shown.workloads
   pub earliest : IsFirstSequence (ShowsKind s shown.kind) shown.places.items
-  pub first : (kept : Option ℕ) (patches : List Patch) → HasPatches s shown.places.items kept patches
-      → IsFirst (HasKind shown.kind kept s.base patches) shown.first
+  pub first : (demands : Demands) (patches : List Patch) → HasPatches s shown.places.items demands patches
+      → IsFirst (HasKind shown.kind demands s.base patches) shown.first
 
 -- each kind that a workload shows is there once, in the order of their numbers
 pub record AreShown (s : Search) (kinds : List ShownKind) : Type 0 where

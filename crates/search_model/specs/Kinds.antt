@@ -14,6 +14,7 @@ kind_of (fault.MarkedFree i s b) = kind.MarkedFree
 kind_of (fault.Wild i s b) = kind.Wild
 kind_of (fault.Lost i) = kind.Lost
 kind_of (fault.NoBlock i) = kind.NoBlock
+kind_of fault.HalfDone = kind.HalfDone
 
 -- the number that a fault's text begins with
 abbrev pub kind_number : FaultKind → ℕ
@@ -25,8 +26,9 @@ kind_number kind.MarkedFree = 5
 kind_number kind.Wild = 6
 kind_number kind.Lost = 7
 kind_number kind.NoBlock = 8
+kind_number kind.HalfDone = 9
 
--- the words behind it
+-- the words after it
 abbrev pub kind_name : FaultKind → List ℕ
 kind_name kind.Dangling = codes "dangling entry"
 kind_name kind.Twice = codes "block used twice"
@@ -36,3 +38,4 @@ kind_name kind.MarkedFree = codes "used block marked free"
 kind_name kind.Wild = codes "wild pointer"
 kind_name kind.Lost = codes "lost inode"
 kind_name kind.NoBlock = codes "directory without a block"
+kind_name kind.HalfDone = codes "half-done operation"

@@ -3,7 +3,7 @@ use Rattle.std.specs.Prelude.{ℕ}
 use Rattle.search_model.specs.declared.most.Most.{Most}
 use Rattle.search_model.specs.declared.most.Most.TheVariants as most
 
--- so many operations
+-- the number of operations
 abbrev pub number_of_most : Most → ℕ
 number_of_most most.One = 1
 number_of_most most.Two = 2

@@ -5,7 +5,7 @@ use Rattle.crash_model.specs.declared.refusals.TraceFault.TheVariants as trace
 use Rattle.search_model.specs.declared.refusal.Refusal.{Refusal}
 use Rattle.search_model.specs.declared.refusal.Refusal.TheVariants as refused
 
--- the refusal without its line; a group's is none of an operation
+-- the refusal without its line; that of a group line is not an operation's
 abbrev pub refusal_of : TraceFault → Option Refusal
 refusal_of (trace.TooManyPatches line) = Some refused.TooManyPatches
 refusal_of (trace.NotFound line) = Some refused.NotFound

@@ -1,15 +1,16 @@
 -- What a search reports: how many workloads there are and how many fail, and for each kind of fault the first workload
 -- that shows it.
 use Rattle.std.specs.Prelude.{◌≡◌, ℕ, List, [], ◌∷◌, ◌++◌, length, map, flat_map, if◌then◌else◌, codes, decimal}
-use Rattle.std.specs.Prelude.{Option, Bool, ◌==◌}
+use Rattle.std.specs.Prelude.{Bool, ◌==◌}
 use Rattle.std.specs.List.{All}
 use Rattle.crash_model.specs.Answer.{HasBase, IsAnswer, Refused, ordering_rules}
+use Rattle.crash_model.specs.Checker.{Demands}
 use Rattle.crash_model.specs.Disk.{Disk}
 use Rattle.crash_model.specs.Lists.{join_of}
 use Rattle.crash_model.specs.Report.{Section, AreSections, IsLed, module_text, line, section_text, fault_text}
 use Rattle.crash_model.specs.Report.{json_string, json_array, ids_json, replay_json, writes_json}
 use Rattle.crash_model.specs.Script.{words_of}
-use Rattle.crash_model.specs.Whole.{told_without, told_with, rules_json}
+use Rattle.crash_model.specs.Whole.{told_without, told_with, atomic_json, rules_json}
 use Rattle.crash_model.specs.declared.patches.Patch.{Patch}
 use Rattle.crash_model.specs.declared.refusals.RunFault.{RunFault}
 use Rattle.crash_model.specs.declared.refusals.RunFault.TheVariants.{GroupFault}
@@ -34,11 +35,11 @@ pub record ToldKind : Type 0 where
 
 pub record IsToldKind (s : Search) (explain : Bool) (told : ToldKind) : Type 0 where
   pub steps : told.steps ≡ steps_at s.pool told.shown.places.items
-  pub kept : Option ℕ
+  pub demands : Demands
   pub patches : List Patch
-  pub traced : HasPatches s told.shown.places.items kept patches
+  pub traced : HasPatches s told.shown.places.items demands patches
   pub number : told.patches ≡ length patches
-  pub section : AreSections (record { explain = explain; kept = kept }) s.base patches (told.shown.first ∷ [])
+  pub section : AreSections (record { explain = explain; demands = demands }) s.base patches (told.shown.first ∷ [])
       (told.first ∷ [])
   pub led : IsLed patches told.first
 
@@ -60,7 +61,7 @@ kind_text t =
     ++ flat_map (λ step. line (codes "step " ++ step_text step)) t.steps
     ++ section_text t.patches t.first
 
--- the lines before the first kind; a pool has so many lines
+-- the lines before the first kind; `pool` is the number of lines of the pool
 unfoldable pub search_text : Settings → ℕ → ℕ → Found → List ℕ
 search_text settings most pool found =
     ordering_text settings
@@ -93,7 +94,7 @@ kind_json t =
 
 unfoldable pub json_search : Settings → ℕ → ℕ → Found → List ToldKind → List ℕ
 json_search settings most pool found kinds =
-    codes "{\"failing\":" ++ decimal found.failing
+    codes "{" ++ atomic_json settings.atomic ++ codes "\"failing\":" ++ decimal found.failing
     ++ codes ",\"kinds\":" ++ json_array (map kind_json kinds)
     ++ codes ",\"module\":" ++ json_string (module_text settings.module)
     ++ codes ",\"pool\":" ++ decimal pool
@@ -120,12 +121,13 @@ search_of settings most base pool = record {
   rules = ordering_rules settings;
   whole = settings.whole_blocks;
   strict = settings.strict;
+  atomic = settings.atomic;
   base = base;
   pool = pool;
   most = most;
 }
 
--- the report, and 1 where a workload fails, else 0
+-- the report, and 1 if a workload fails, otherwise 0
 pub record IsSearchReport (settings : Settings) (most : ℕ) (base : Disk) (pool : List Step) (text : List ℕ)
     (number : ℕ) : Type 0 where
   pub found : Found
@@ -136,7 +138,7 @@ pub record IsSearchReport (settings : Settings) (most : ℕ) (base : Disk) (pool
   pub whole : text ≡ search_bytes settings most (length pool) found told
   pub number_of : number ≡ (if found.failing == 0 then 0 else 1)
 
--- the report on a script whose steps behind the start line are a pool of operations
+-- the report on a script whose steps after the start line are a pool of operations
 pub record IsSearched (bytes : List ℕ) (settings : Settings) (most : ℕ) (text : List ℕ) (number : ℕ) : Type 0 where
   pub base : Disk
   pub pool : List Step

@@ -5,7 +5,7 @@ use Rattle.std.specs.Ordering.{nat_cmp}
 use Rattle.std.specs.Cmp.Lexicographic.{slice_cmp}
 use Rattle.std.specs.declared.cmp.Ordering.TheVariants.{Less}
 
--- fewer places first; of equally many the first place in which two differ decides
+-- fewer places first; if two have equally many, the first place in which they differ decides
 abbrev pub IsSequenceBefore : List ℕ → List ℕ → Type 0
 IsSequenceBefore a b =
     (length a < length b) ⊎ ((length a ≡ length b) × (slice_cmp nat_cmp a b ≡ Less))
@@ -15,7 +15,7 @@ pub record AreAllSequences (P : List ℕ → Type 0) (sequences : List (List ℕ
   pub ordered : AllPairs IsSequenceBefore sequences
   pub exactly : (places : List ℕ) → (Contains sequences places ↔ P places)
 
--- so many sequences have the property
+-- the number of sequences that have the property
 abbrev pub CountsSequences : (List ℕ → Type 0) → ℕ → Type 0
 CountsSequences P number = (sequences : List (List ℕ)) × AreAllSequences P sequences × (number ≡ length sequences)
 

@@ -1,5 +1,6 @@
 -- How a sequence of operations of a pool is judged.
 use Rattle.std.specs.Prelude.{◌≡◌, ℕ, ◌-◌, List, Option, None, Some, Ok, Err, slice_index_or}
+use Rattle.crash_model.specs.Checker.{Demands}
 use Rattle.crash_model.specs.Disk.{Disk}
 use Rattle.crash_model.specs.Summary.{IsFirst}
 use Rattle.crash_model.specs.Trace.{Tracing}
@@ -24,15 +25,15 @@ abbrev pub IsAccepted : Search → List ℕ → Type 0
 IsAccepted s places = (last : Tracing) × (trace_at s places ≡ Ok last)
 
 -- the first set with a fault of the kind, or none where no set has one
-abbrev pub IsFirstOfKind : FaultKind → Option ℕ → Disk → List Patch → Option ℕ → Type 0
-IsFirstOfKind kind kept base patches None = (set : ℕ) → ¬ (HasKind kind kept base patches set)
-IsFirstOfKind kind kept base patches (Some set) = IsFirst (HasKind kind kept base patches) set
+abbrev pub IsFirstOfKind : FaultKind → Demands → Disk → List Patch → Option ℕ → Type 0
+IsFirstOfKind kind demands base patches None = (set : ℕ) → ¬ (HasKind kind demands base patches set)
+IsFirstOfKind kind demands base patches (Some set) = IsFirst (HasKind kind demands base patches) set
 
--- for each kind the first set with a fault of the kind; the kinds stand in the order of their numbers, from 1
+-- for each kind the first set with a fault of the kind; the kinds are in the order of their numbers, from 1
 abbrev pub AreFirsts : Search → List ℕ → List (Option ℕ) → Type 0
 AreFirsts s places firsts =
-    (kept : Option ℕ) (patches : List Patch) → HasPatches s places kept patches → (kind : FaultKind)
-    → IsFirstOfKind kind kept s.base patches (slice_index_or firsts (kind_number kind - 1) None)
+    (demands : Demands) (patches : List Patch) → HasPatches s places demands patches → (kind : FaultKind)
+    → IsFirstOfKind kind demands s.base patches (slice_index_or firsts (kind_number kind - 1) None)
 
 -- the verdict on the sequence of operations at these places
 abbrev pub IsVerdict : Search → List ℕ → Verdict → Type 0

@@ -1,10 +1,10 @@
 -- The workloads of a pool: those that fail, and the operations that are refused. A workload is the sequence of its
 -- operations' places in the pool.
-use Rattle.std.specs.Prelude.{◌≡◌, ◌≢◌, ℕ, ◌<◌, ◌≤◌, ◌⊎◌, List, [], ◌∷◌, ◌++◌, length, flat_map, Bool, Option, Some}
+use Rattle.std.specs.Prelude.{◌≡◌, ◌≢◌, ℕ, ◌<◌, ◌≤◌, ◌⊎◌, List, [], ◌∷◌, ◌++◌, length, flat_map, Bool, Some}
 use Rattle.std.specs.Prelude.{Result, Ok, Err, slice_get, option_to_list}
 use Rattle.std.specs.List.{All}
 use Rattle.crash_model.specs.Disk.{Disk}
-use Rattle.crash_model.specs.Strict.{IsToldKept, IsFailingUnder}
+use Rattle.crash_model.specs.Checker.{Demands, AreDemands, IsFailingUnder}
 use Rattle.crash_model.specs.Summary.{HasFault}
 use Rattle.crash_model.specs.Trace.{Tracing, trace_start, trace_from, IsGraphOf}
 use Rattle.crash_model.specs.declared.fault.Fault.{Fault}
@@ -26,7 +26,9 @@ pub record Search : Type 0 where
   pub rules : List Rule
   -- whether blocks are written whole
   pub whole : Bool
+  -- whether the checker is strict, and whether operations are to be atomic
   pub strict : Bool
+  pub atomic : Bool
   pub base : Disk
   pub pool : List Step
   pub most : ℕ
@@ -43,18 +45,18 @@ steps_at pool places = flat_map (λ place. option_to_list (slice_get pool place)
 abbrev pub trace_at : Search → List ℕ → Result Tracing TraceFault
 trace_at s places = trace_from s.ordering (trace_start s.whole s.base) (steps_at s.pool places)
 
--- the patches of a sequence, and the kept inodes that a strict checker gets
-pub record HasPatches (s : Search) (places : List ℕ) (kept : Option ℕ) (patches : List Patch) : Type 0 where
+-- the patches of a sequence, and what is demanded of their images
+pub record HasPatches (s : Search) (places : List ℕ) (demands : Demands) (patches : List Patch) : Type 0 where
   pub last : Tracing
   pub traced : trace_at s places ≡ Ok last
   pub graph : IsGraphOf s.rules s.base last patches
-  pub told : IsToldKept s.strict s.base (steps_at s.pool places) kept
+  pub told : AreDemands s.strict s.atomic s.base (steps_at s.pool places) demands
 
 -- a closed set of its patches fails
 abbrev pub Fails : Search → List ℕ → Type 0
 Fails s places =
-    (kept : Option ℕ) × (patches : List Patch) × HasPatches s places kept patches
-    × ((set : ℕ) × IsFailingUnder kept s.base patches set)
+    (demands : Demands) × (patches : List Patch) × HasPatches s places demands patches
+    × ((set : ℕ) × IsFailingUnder demands s.base patches set)
 
 -- a workload: some operations of the pool, none of which is refused, and none of whose shorter beginnings fails
 pub record IsWorkload (s : Search) (places : List ℕ) : Type 0 where
@@ -84,14 +86,15 @@ pub record IsRefusedFor (s : Search) (reason : Refusal) (places : List ℕ) : Ty
   pub because : refusal_of fault ≡ Some reason
 
 -- a failing set with a fault of a kind
-abbrev pub HasKind : FaultKind → Option ℕ → Disk → List Patch → ℕ → Type 0
-HasKind kind kept base patches set = (fault : Fault) × HasFault kept base patches fault set × (kind_of fault ≡ kind)
+abbrev pub HasKind : FaultKind → Demands → Disk → List Patch → ℕ → Type 0
+HasKind kind demands base patches set =
+    (fault : Fault) × HasFault demands base patches fault set × (kind_of fault ≡ kind)
 
 -- a workload that has such a set
 pub record ShowsKind (s : Search) (kind : FaultKind) (places : List ℕ) : Type 0 where
   pub workload : IsWorkload s places
-  pub kept : Option ℕ
+  pub demands : Demands
   pub patches : List Patch
-  pub traced : HasPatches s places kept patches
+  pub traced : HasPatches s places demands patches
   pub set : ℕ
-  pub has : HasKind kind kept s.base patches set
+  pub has : HasKind kind demands s.base patches set

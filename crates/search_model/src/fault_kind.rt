@@ -6,7 +6,7 @@ ghost use Rattle.search_model.specs.Kinds.{kind_of, kind_number, kind_name};
 use crash_model::fault::Fault;
 
 /// How many kinds there are.
-pub const KINDS: usize = 8;
+pub const KINDS: usize = 9;
 
 /// The kind of a fault: its statement, without the inodes, slots and blocks for which it fails.
 #[derive(Clone, Copy, Debug, PartialEq, Eq, Default)]
@@ -20,6 +20,7 @@ pub enum FaultKind {
     Wild,
     Lost,
     NoBlock,
+    HalfDone,
 }
 
 impl FaultKind {
@@ -36,10 +37,11 @@ impl FaultKind {
             Fault::Wild { .. } => FaultKind::Wild,
             Fault::Lost { .. } => FaultKind::Lost,
             Fault::NoBlock { .. } => FaultKind::NoBlock,
+            Fault::HalfDone => FaultKind::HalfDone,
         }
     }
 
-    /// The number that the fault's text begins with, from 1 to 8.
+    /// The number that the fault's text begins with, from 1 to 9.
     pub fn number(self) -> usize
         ensures { result ≡ kind_number self }
     {
@@ -52,10 +54,11 @@ impl FaultKind {
             FaultKind::Wild => 6,
             FaultKind::Lost => 7,
             FaultKind::NoBlock => 8,
+            FaultKind::HalfDone => 9,
         }
     }
 
-    /// The words behind that number.
+    /// The words after the number.
     pub fn name(self) -> &'static str
         ensures { result.now ≡ kind_name self }
     {
@@ -68,6 +71,7 @@ impl FaultKind {
             FaultKind::Wild => "wild pointer",
             FaultKind::Lost => "lost inode",
             FaultKind::NoBlock => "directory without a block",
+            FaultKind::HalfDone => "half-done operation",
         }
     }
 }

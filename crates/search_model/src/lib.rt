@@ -1,8 +1,8 @@
 //! Searching for workloads that an ordering does not protect.
 //!
-//! A pool is a list of operations. A workload is a sequence of a few of them, each as often as one likes. The definitions
-//! that contracts cite stand in `specs/`: the workloads of a pool, those that fail, those that are refused, and the report
-//! on them. None of them is code; the crates above are proved to meet them.
+//! A pool is a list of operations. A workload is a sequence of a few of them, with repetitions. The definitions that
+//! contracts cite are in `specs/`: the workloads of a pool, those that fail, those that are refused, and the report on
+//! them. None of them is code; the crates above are proved to meet them.
 #![tactic(auto)]
 
 pub mod fault_kind;

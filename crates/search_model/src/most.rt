@@ -20,7 +20,7 @@ pub enum Most {
 }
 
 impl Most {
-    /// So many operations, or `None` where that is none or more than eight.
+    /// This number of operations, or `None` if it is 0 or more than eight.
     pub fn new(number: usize) -> Option<Most>
         ensures { MatchOption result ((most : Most) → ¬ (number_of_most most ≡ number))
             (λ most. number_of_most most ≡ number) }

@@ -27,7 +27,7 @@ pub enum Refusal {
 }
 
 impl Refusal {
-    /// The refusal of this fault, or `None` where no operation is refused so.
+    /// The refusal of this fault, or `None` if no operation is refused with this fault.
     pub fn of(fault: TraceFault) -> Option<Refusal>
         ensures { result ≡ refusal_of fault }
     {
@@ -68,7 +68,7 @@ impl Refusal {
         }
     }
 
-    /// Its text, which follows the number where a script is refused.
+    /// Its text, which follows the number when a script is refused.
     pub fn text(self) -> &'static str
         ensures { result.now ≡ refusal_text self }
     {

@@ -5,9 +5,9 @@ use crate::refusal::Refusal;
 
 /// How a sequence of operations of a pool is judged.
 ///
-/// `Refused` where one of them is refused. Else `Passes` where no set that a crash can leave fails, or `Fails` with the
+/// `Refused` if one of them is refused. Otherwise `Passes` if no set that a crash can leave fails, or `Fails` with the
 /// first set, in canonical order, that has a fault of each kind: that of the kind with number n at place n - 1, and
-/// `None` where no set has such a fault.
+/// `None` if no set has such a fault.
 #[derive(Clone, Copy, Debug, PartialEq, Eq)]
 pub enum Verdict {
     Refused(Refusal),

@@ -53,7 +53,7 @@ acts_more pool places i d so_far after act within told is more =
         ∙ (map-append act_of (steps_at pool (take i places)) (element (get_or places i d) ++ [])
         ∙ ap (λ (t : List Act). before ++ t) (last (slice_get pool (get_or places i d)))))
 
--- with the operation that is there, and without one where there is none
+-- with the operation that is there, and without one if there is none
 pub one_more : {X : Type 0} (asks : X → Act) (ops after : List X) (op : X) (here : Option X) → here ≡ Some op
     → after ≡ ops ++ op ∷ [] → map asks after ≡ map asks ops ++ option_to_list (option_map asks here)
 one_more {X = X} asks ops after op here is more =

@@ -1,4 +1,4 @@
--- A report in one form, where the settings ask for that.
+-- A report in one form, if the settings ask for that.
 use Rattle.std.proofs.Common.{◌≡◌, ℕ, List, length, Bool, true, false, sym, ap}
 use Rattle.std.specs.Prelude.{if◌then◌else◌}
 use Rattle.search_model.specs.SearchReport.{json_search, search_bytes, text_search}

@@ -4,7 +4,7 @@ use Rattle.std.proofs.lemmas.Simd.{map-map}
 use Rattle.crash_model.specs.Lists.{join_of}
 use Rattle.crash_model.specs.Report.{fault_text, ids_json, json_array, json_string, module_text, replay_json}
 use Rattle.crash_model.specs.Report.{write_json}
-use Rattle.crash_model.specs.Whole.{rules_json, told_with, told_without}
+use Rattle.crash_model.specs.Whole.{atomic_json, rules_json, told_with, told_without}
 use Rattle.crash_model.specs.declared.settings.Settings.{Settings}
 use Rattle.crash_model.specs.declared.steps.Step.{Step}
 use Rattle.report_json.specs.JsonReport.{strict_key, whole_key}
@@ -120,19 +120,24 @@ last_pieces settings most pool found before one two three four after first secon
     regroup before e n f o r p g s k h w i = simp append_assoc
 
 -- the whole object
-pub json_pieces : {A : Type 0} (f : SearchFindings A) (empty one two three four last : List ℕ) → empty ≡ []
-    → one ≡ empty ++ (codes "{\"failing\":" ++ (decimal f.found.now.failing ++ codes ",\"kinds\":["))
+pub json_pieces : {A : Type 0} (f : SearchFindings A) (empty zero half one two three four last : List ℕ)
+    → empty ≡ []
+    → zero ≡ empty ++ codes "{"
+    → half ≡ zero ++ atomic_json f.settings.now.atomic
+    → one ≡ half ++ (codes "\"failing\":" ++ (decimal f.found.now.failing ++ codes ",\"kinds\":["))
     → two ≡ one ++ kind_items f.pool.now f.kinds.now
     → three ≡ two ++ codes "]"
     → four ≡ three ++ (codes ",\"module\":" ++ json_string (module_text f.settings.now.module))
     → last ≡ four ++ last_keys f.settings.now f.most (length f.pool.now) f.found.now
     → last ≡ json_search f.settings.now f.most (length f.pool.now) f.found.now (told_kinds f)
 unfolding json_search
-json_pieces {A = A} f empty one two three four last none first second third fourth fifth =
+json_pieces {A = A} f empty zero half one two three four last none opened atomic_is first second third fourth fifth =
     let settings = f.settings.now in
     let found = f.found.now in
     let pool = length f.pool.now in
-    let head = codes "{\"failing\":" ++ (decimal found.failing ++ codes ",\"kinds\":[") in
+    let atomic = atomic_json settings.atomic in
+    let fails = codes "\"failing\":" ++ (decimal found.failing ++ codes ",\"kinds\":[") in
+    let head = (codes "{" ++ atomic) ++ fails in
     let kinds = join_of 44 (map kind_json (told_kinds f)) in
     let name = codes ",\"module\":" ++ json_string (module_text settings.module) in
     let end = last_keys settings f.most pool found in
@@ -140,16 +145,19 @@ json_pieces {A = A} f empty one two three four last none first second third four
     (third ∙ ap (λ (t : List ℕ). t ++ codes "]")
     (second ∙ (ap (λ (ts : List (List ℕ)). one ++ join_of 44 ts)
     (sym (map-map kind_json (told_kind {A = A} f.pool.now) f.kinds.now))
-    ∙ ap (λ (t : List ℕ). t ++ kinds) (first ∙ ap (λ (t : List ℕ). t ++ head) none)))))
-    ∙ regroup (codes "{\"failing\":") (decimal found.failing) (codes ",\"kinds\":") (codes "[") kinds (codes "]")
+    ∙ ap (λ (t : List ℕ). t ++ kinds) (first ∙ ap (λ (t : List ℕ). t ++ fails)
+    (atomic_is ∙ ap (λ (t : List ℕ). t ++ atomic) (opened ∙ ap (λ (t : List ℕ). t ++ codes "{") none)))))))
+    ∙ regroup (codes "{") atomic (codes "\"failing\":") (decimal found.failing) (codes ",\"kinds\":") (codes "[") kinds
+    (codes "]")
     (codes ",\"module\":") (json_string (module_text settings.module)) (codes ",\"pool\":") (decimal pool)
     (codes ",\"refused\":") (json_array (map refused_json found.refused.items)) (codes ",\"search\":")
     (decimal f.most) (strict_key settings.strict) (whole_key settings.whole_blocks)
     (rules_json (codes "with") (told_with settings)) (rules_json (codes "without") (told_without settings))
     (codes ",\"workloads\":") (decimal found.workloads) (codes "}\n"))
   where
-    regroup : (a b c o k p d m e n f r g s x v y z h w i : List ℕ)
-        → (a ++ (b ++ (c ++ o))) ++ k ++ p ++ (d ++ m)
+    regroup : (j u a b c o k p d m e n f r g s x v y z h w i : List ℕ)
+        → ((j ++ u) ++ (a ++ (b ++ (c ++ o)))) ++ k ++ p ++ (d ++ m)
         ++ (e ++ n ++ f ++ r ++ g ++ s ++ (x ++ v ++ y ++ z) ++ h ++ w ++ i)
-        ≡ a ++ b ++ c ++ (o ++ k ++ p) ++ d ++ m ++ e ++ n ++ f ++ r ++ g ++ s ++ x ++ v ++ y ++ z ++ h ++ w ++ i
-    regroup a b c o k p d m e n f r g s x v y z h w i = simp append_assoc
+        ≡ j ++ u ++ a ++ b ++ c ++ (o ++ k ++ p) ++ d ++ m ++ e ++ n ++ f ++ r ++ g ++ s ++ x ++ v ++ y ++ z ++ h ++ w
+        ++ i
+    regroup j u a b c o k p d m e n f r g s x v y z h w i = simp append_assoc

@@ -16,14 +16,16 @@ use crash_model::operations::Op;
 use crash_model::settings::Settings;
 use crash_model::steps::Step;
 use json_values::{KnownTexts, push_replay, push_set, write_comma};
-use report_json::{write_module_key, write_rule_key, write_strict_key, write_whole_key};
+use report_json::{
+    write_atomic_key, write_module_key, write_rule_key, write_strict_key, write_whole_key,
+};
 use search_model::{Found, RefusedCount};
 use std::alloc::{AllocError, Allocator, Global};
 
 /// A report of a search as JSON: one compact object, its keys in ascending order, and a line feed. The numbers of
 /// workloads can be more than 64 bits hold.
 ///
-/// The pool has operations alone. It fails only when out of memory.
+/// The pool has only operations. It fails only when out of memory.
 pub fn search_json<A: Allocator>(
     heap: Global,
     findings: &SearchFindings<'_, A>,
@@ -48,7 +50,9 @@ fn write_findings<A: Allocator>(
         (length findings.now.pool.now) findings.now.found.now (told_kinds findings.now)) }
 {
     let (pool, failing) = (findings.pool.len(), findings.found.failing);
-    write!(out, "{{\"failing\":{failing},\"kinds\":[")?;
+    out.push_str("{")?;
+    write_atomic_key(out, findings.settings.atomic)?;
+    write!(out, "\"failing\":{failing},\"kinds\":[")?;
     write_kinds(out, findings.pool, findings.kinds)?;
     out.push_str("]")?;
     write_module_key(out, findings.settings.module)?;
@@ -133,8 +137,8 @@ fn write_kinds<A: Allocator>(
     Ok(())
 }
 
-/// The object of a kind of fault. The texts of block writes and faults serve this one, whose workload has patches of
-/// its own.
+/// The object of a kind of fault. The cached texts of block writes and faults serve only this one, whose workload has
+/// patches of its own.
 fn write_kind<A: Allocator>(
     out: &mut String,
     pool: &[Step],

@@ -28,7 +28,7 @@ pub(crate) fn operations_at<'pool, A: Allocator>(
     Ok(ops)
 }
 
-/// The operation at a place of a pool, where the pool has the place.
+/// The operation at a place of a pool, if the pool has the place.
 fn operation_at(pool: &[Step], place: usize) -> Option<&Op>
     requires { All IsOperation pool.now }
     ensures { option_map (λ op. Do op.now) result ≡ option_map (λ step. step.act) (slice_get pool.now place) }

@@ -11,9 +11,9 @@ use crate::json::search_json;
 use crate::text::search_text;
 use std::alloc::{AllocError, Allocator, Global};
 
-/// A report of a search as text, or as JSON where the settings ask for that.
+/// A report of a search as text, or as JSON if the settings ask for that.
 ///
-/// The pool has operations alone. JSON takes its memory from `heap`, and all else from `alloc`. It fails only when out
+/// The pool has only operations. JSON takes its memory from `heap`, and all else from `alloc`. It fails only when out
 /// of memory.
 pub fn search_report<A: Allocator + Copy>(
     heap: Global,

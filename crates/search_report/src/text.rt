@@ -23,7 +23,7 @@ use std::alloc::{AllocError, Allocator};
 /// have, how many workloads there are and how many fail, a line for each reason for which operations are refused, and
 /// the lines of each kind of fault.
 ///
-/// The pool has operations alone. It fails only when out of memory.
+/// The pool has only operations. It fails only when out of memory.
 pub fn search_text<A: Allocator + Copy>(
     alloc: A,
     findings: &SearchFindings<'_, A>,

@@ -1,13 +1,14 @@
 -- What a search reports of the rules that all workloads together need.
 use Rattle.std.specs.Prelude.{◌≡◌, ℕ, List, [], ◌++◌, length, map, flat_map, if◌then◌else◌, codes, decimal}
-use Rattle.std.specs.Prelude.{Option, Bool, ◌==◌}
+use Rattle.std.specs.Prelude.{Bool, ◌==◌}
 use Rattle.std.specs.List.{All}
 use Rattle.patch_sets.specs.Sets.{AreAllInOrder}
 use Rattle.crash_model.specs.Answer.{HasBase, ordering_rules}
+use Rattle.crash_model.specs.Checker.{Demands}
 use Rattle.crash_model.specs.Disk.{Disk}
 use Rattle.crash_model.specs.Report.{fault_text, module_text, line, json_string, json_array, ids_json, replay_json}
 use Rattle.crash_model.specs.Report.{writes_json}
-use Rattle.crash_model.specs.Whole.{told_without, told_with, rules_json}
+use Rattle.crash_model.specs.Whole.{told_without, told_with, atomic_json, rules_json}
 use Rattle.crash_model.specs.declared.patches.Patch.{Patch}
 use Rattle.crash_model.specs.declared.rules.Rule.{Rule}
 use Rattle.crash_model.specs.declared.settings.Settings.{Settings}
@@ -38,11 +39,11 @@ search_but s group = search_with s (rules_but s.rules group)
 pub record IsToldNeed (s : Search) (explain : Bool) (told : ToldNeed) : Type 0 where
   pub earliest : IsFirstSequence (FailsBy s (rules_but s.rules told.group)) told.places
   pub steps : told.steps ≡ steps_at s.pool told.places
-  pub kept : Option ℕ
+  pub demands : Demands
   pub patches : List Patch
-  pub traced : HasPatches (search_but s told.group) told.places kept patches
+  pub traced : HasPatches (search_but s told.group) told.places demands patches
   pub number : told.patches ≡ length patches
-  pub first : IsToldFirst (record { explain = explain; kept = kept }) s.base patches told.fault
+  pub first : IsToldFirst (record { explain = explain; demands = demands }) s.base patches told.fault
 
 -- ---- text
 
@@ -75,7 +76,7 @@ need_json rules told =
 unfoldable pub json_search_rules : Settings → ℕ → ℕ → Found → List ℕ → List ToldNeed → List ℕ
 json_search_rules settings most pool found enough needs =
     let rules = ordering_rules settings in
-    codes "{\"enough\":" ++ json_array (map (set_json rules) enough)
+    codes "{" ++ atomic_json settings.atomic ++ codes "\"enough\":" ++ json_array (map (set_json rules) enough)
     ++ codes ",\"failing\":" ++ decimal found.failing
     ++ codes ",\"module\":" ++ json_string (module_text settings.module)
     ++ codes ",\"needs\":" ++ json_array (map (need_json rules) needs)

@@ -4,7 +4,7 @@ use Rattle.std.proofs.lemmas.Simd.{map-map}
 use Rattle.crash_model.specs.Answer.{ordering_rules}
 use Rattle.crash_model.specs.Lists.{join_of}
 use Rattle.crash_model.specs.Report.{ids_json, json_array, json_string, module_text, write_json}
-use Rattle.crash_model.specs.Whole.{rules_json, told_with, told_without}
+use Rattle.crash_model.specs.Whole.{atomic_json, rules_json, told_with, told_without}
 use Rattle.crash_model.specs.declared.rules.Rule.{Rule}
 use Rattle.crash_model.specs.declared.steps.Step.{Step}
 use Rattle.enough_report.specs.Found.{group_head, set_items, told_first}
@@ -51,8 +51,11 @@ need_pieces rules pool needed n before one two three four five six seven after n
 
 -- the whole object
 pub json_pieces : {A : Type 0} (f : SearchRulesFindings A) (rules : List Rule)
-    (empty one two three four five six seven last : List ℕ) → rules ≡ ordering_rules f.settings.now → empty ≡ []
-    → one ≡ empty ++ codes "{\"enough\":["
+    (empty zero half one two three four five six seven last : List ℕ) → rules ≡ ordering_rules f.settings.now
+    → empty ≡ []
+    → zero ≡ empty ++ codes "{"
+    → half ≡ zero ++ atomic_json f.settings.now.atomic
+    → one ≡ half ++ codes "\"enough\":["
     → two ≡ one ++ set_items rules f.enough.now
     → three ≡ two ++ (codes "],\"failing\":" ++ decimal f.found.now.failing)
     → four ≡ three ++ (codes ",\"module\":" ++ json_string (module_text f.settings.now.module))
@@ -62,28 +65,31 @@ pub json_pieces : {A : Type 0} (f : SearchRulesFindings A) (rules : List Rule)
     → last ≡ seven ++ last_keys f.settings.now f.most (length f.pool.now) f.found.now
     → last ≡ json_search_rules f.settings.now f.most (length f.pool.now) f.found.now f.enough.now (told_needs f)
 unfolding json_search_rules
-json_pieces {A = A} f rules empty one two three four five six seven last same none first second third fourth fifth sixth
-    seventh eighth =
+json_pieces {A = A} f rules empty zero half one two three four five six seven last same none opened atomic_is first
+    second third fourth fifth sixth seventh eighth =
     let settings = f.settings.now in
     let found = f.found.now in
     let pool = length f.pool.now in
     let all = ordering_rules settings in
+    let atomic = atomic_json settings.atomic in
     let sets = set_items all f.enough.now in
     let failing = codes "],\"failing\":" ++ decimal found.failing in
     let name = codes ",\"module\":" ++ json_string (module_text settings.module) in
     let needs = join_of 44 (map (need_json all) (told_needs f)) in
     let end = last_keys settings f.most pool found in
-    let start : four ≡ codes "{\"enough\":[" ++ sets ++ failing ++ name =
+    let start : four ≡ codes "{" ++ atomic ++ codes "\"enough\":[" ++ sets ++ failing ++ name =
     fourth ∙ ap (λ (t : List ℕ). t ++ name) (third ∙ ap (λ (t : List ℕ). t ++ failing) (second
     ∙ (ap (λ (rs : List Rule). one ++ set_items rs f.enough.now) same
-    ∙ ap (λ (t : List ℕ). t ++ sets) (first ∙ ap (λ (t : List ℕ). t ++ codes "{\"enough\":[") none)))) in
+    ∙ ap (λ (t : List ℕ). t ++ sets) (first ∙ ap (λ (t : List ℕ). t ++ codes "\"enough\":[")
+    (atomic_is ∙ ap (λ (t : List ℕ). t ++ atomic) (opened ∙ ap (λ (t : List ℕ). t ++ codes "{") none)))))) in
     let groups : six ≡ five ++ needs =
     sixth ∙ (ap (λ (rs : List Rule). five ++ need_items rs f.pool.now f.needs.now) same
     ∙ ap (λ (ts : List (List ℕ)). five ++ join_of 44 ts)
     (sym (map-map (need_json all) (told_need {A = A} f.pool.now) f.needs.now))) in
     eighth ∙ (ap (λ (t : List ℕ). t ++ end) (seventh ∙ ap (λ (t : List ℕ). t ++ codes "]")
     (groups ∙ ap (λ (t : List ℕ). t ++ needs) (fifth ∙ ap (λ (t : List ℕ). t ++ codes ",\"needs\":[") start)))
-    ∙ regroup (codes "{\"enough\":") (codes "[") sets (codes "]") (codes ",\"failing\":") (decimal found.failing)
+    ∙ regroup (codes "{") atomic (codes "\"enough\":") (codes "[") sets (codes "]") (codes ",\"failing\":")
+    (decimal found.failing)
     (codes ",\"module\":") (json_string (module_text settings.module)) (codes ",\"needs\":") needs
     (codes ",\"pool\":") (decimal pool) (codes ",\"refused\":")
     (json_array (map refused_json found.refused.items)) (codes ",\"search\":") (decimal f.most)
@@ -91,9 +97,9 @@ json_pieces {A = A} f rules empty one two three four five six seven last same no
     (rules_json (codes "without") (told_without settings)) (codes ",\"workloads\":") (decimal found.workloads)
     (codes "}\n"))
   where
-    regroup : (a o s p b c d m e n f g h r j k x v y z l w i : List ℕ)
-        → (a ++ o) ++ s ++ ((p ++ b) ++ c) ++ (d ++ m) ++ (e ++ o) ++ n ++ p
+    regroup : (t u a o s p b c d m e n f g h r j k x v y z l w i : List ℕ)
+        → (t ++ u ++ (a ++ o)) ++ s ++ ((p ++ b) ++ c) ++ (d ++ m) ++ (e ++ o) ++ n ++ p
         ++ (f ++ g ++ h ++ r ++ j ++ k ++ (x ++ v ++ y ++ z) ++ l ++ w ++ i)
-        ≡ a ++ (o ++ s ++ p) ++ b ++ c ++ d ++ m ++ e ++ (o ++ n ++ p) ++ f ++ g ++ h ++ r ++ j ++ k ++ x ++ v ++ y ++ z
-        ++ l ++ w ++ i
-    regroup a o s p b c d m e n f g h r j k x v y z l w i = simp append_assoc
+        ≡ t ++ u ++ a ++ (o ++ s ++ p) ++ b ++ c ++ d ++ m ++ e ++ (o ++ n ++ p) ++ f ++ g ++ h ++ r ++ j ++ k ++ x ++ v
+        ++ y ++ z ++ l ++ w ++ i
+    regroup t u a o s p b c d m e n f g h r j k x v y z l w i = simp append_assoc

@@ -12,7 +12,7 @@ use crash_model::orderings::Ordering;
 use crash_model::steps::Step;
 use enough_report::json::{write_group_head, write_sets};
 use json_values::{KnownTexts, push_set, write_comma};
-use report_json::write_module_key;
+use report_json::{write_atomic_key, write_module_key};
 use search_report::json::{write_last_keys, write_steps};
 use std::alloc::{AllocError, Allocator, Global};
 
@@ -47,7 +47,9 @@ fn write_findings<A: Allocator>(
         (length findings.now.pool.now) findings.now.found.now findings.now.enough.now (told_needs findings.now)) }
 {
     let (pool, failing) = (findings.pool.len(), findings.found.failing);
-    out.push_str("{\"enough\":[")?;
+    out.push_str("{")?;
+    write_atomic_key(out, findings.settings.atomic)?;
+    out.push_str("\"enough\":[")?;
     write_sets(out, ordering, findings.enough)?;
     write!(out, "],\"failing\":{failing}")?;
     write_module_key(out, findings.settings.module)?;

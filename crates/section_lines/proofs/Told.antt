@@ -8,7 +8,7 @@ use Rattle.std.proofs.lemmas.List.Concat.{flat_map-append}
 flat_map-push : {X : Type 0} (f : X → List ℕ) (xs : List X) (x : X) → flat_map f (xs ++ x ∷ []) ≡ flat_map f xs ++ f x
 flat_map-push f xs x = flat_map-append f xs (x ∷ []) ∙ ap (λ (t : List ℕ). flat_map f xs ++ t) (append-nil (f x))
 
--- one item more is told
+-- one more item is written
 pub item_told : {X : Type 0} (f : X → List ℕ) (xs : List X) (i : ℕ) (d : X) (before all after : List ℕ) → i < length xs
     → all ≡ before ++ flat_map f (take i xs) → after ≡ all ++ f (get_or xs i d)
     → after ≡ before ++ flat_map f (take (i + 1) xs)
@@ -18,7 +18,7 @@ item_told f xs i d before all after within told more =
     ∙ ap (λ (t : List ℕ). before ++ t) (sym (ap (flat_map f) (take_more xs i d within)
     ∙ flat_map-push f (take i xs) (get_or xs i d)))))
 
--- one item more is told, as another
+-- one more item is written, as another
 pub mapped_told : {X Y : Type 0} (f : Y → List ℕ) (g : X → Y) (xs : List X) (i : ℕ) (d : X) (before all after : List ℕ)
     → i < length xs → all ≡ before ++ flat_map f (map g (take i xs)) → after ≡ all ++ f (g (get_or xs i d))
     → after ≡ before ++ flat_map f (map g (take (i + 1) xs))

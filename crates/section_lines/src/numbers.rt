@@ -25,7 +25,7 @@ pub(crate) fn numbers_between(from: usize, end: usize) -> &'static str
     &NUMBERS[number_start(from)..number_start(end)]
 }
 
-/// Where the text of a number starts. Those from 10 on have a digit more, and those from 100 on one more again.
+/// Where the text of a number starts. Those from 10 on have one more digit, and those from 100 on two more.
 fn number_start(number: usize) -> usize
     requires { number ≤ 256 }
     ensures { result ≡ number_start number }

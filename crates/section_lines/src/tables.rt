@@ -50,7 +50,7 @@ impl KnownWrites {
         }
     }
 
-    /// The lines of the block writes that lead to the ids, where they are kept.
+    /// The lines of the block writes that lead to the ids, if they are kept.
     pub fn get(&self, ids: u128) -> Option<&str>
         ensures { (patches : List Patch) → AreWriteLines patches self.now.lines
             → IfSome result (λ lines. WritesRuns patches ids [] lines.now) }
@@ -90,7 +90,7 @@ impl KnownFaults {
         }
     }
 
-    /// The line of a fault, where it is kept.
+    /// The line of a fault, if it is kept.
     pub fn get(&self, fault: Fault) -> Option<&str>
         requires { AreFaultLines self.now.lines }
         ensures { IfSome result (λ line. line.now ≡ fault_line fault) }

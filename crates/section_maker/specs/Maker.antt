@@ -1,8 +1,8 @@
 -- What sections are made of.
 use Rattle.std.specs.Prelude.{List}
+use Rattle.crash_model.specs.Report.{Detail}
 use Rattle.crash_model.specs.Disk.{Disk}
 use Rattle.crash_model.specs.declared.patches.Patch.{Patch}
-use Rattle.crash_model.specs.declared.settings.Detail.{Detail}
 
 -- a base and the patches of a graph over it, and what is reported of a set
 pub record Reported : Type 0 where

@@ -7,8 +7,7 @@ ghost use Rattle.report_sections.specs.Bodies.{AreOnBase};
 
 use crate::replayed::changed_by_replay;
 use crash_image::Replayer;
-use crash_model::settings::Detail;
-use disk_image::Image;
+use disk_image::{Demands, Image};
 use fs_check::list_faults_under;
 use patch_graph::Graph;
 use report_sections::{Outcome, Section};
@@ -24,7 +23,8 @@ pub struct SectionMaker<'a, A: Allocator + Copy> {
     alloc: A,
     graph: &'a Graph<A>,
     images: Replayer<'a, A>,
-    detail: Detail,
+    explain: bool,
+    demands: &'a Demands<A>,
 }
 
 impl<'a, A: Allocator + Copy> Model for SectionMaker<'a, A> {
@@ -33,7 +33,14 @@ impl<'a, A: Allocator + Copy> Model for SectionMaker<'a, A> {
 
     ghost Value = { Reported };
 
-    ghost view = { λ s. record { base = s.images.base; patches = s.images.patches; detail = s.detail } };
+    ghost view = { λ s. record {
+      base = s.images.base;
+      patches = s.images.patches;
+      detail = record {
+        explain = s.explain;
+        demands = s.demands.now;
+      };
+    } };
 
     ghost invariant = { λ s. s.images.patches ≡ s.graph.now };
 }
@@ -42,23 +49,32 @@ impl<'a, A: Allocator + Copy> SectionMaker<'a, A> {
     ghost use Rattle.report_sections.specs.Sections.{IsSection, IsOutcome};
 
     /// Makes sections of sets that a crash can leave, whose patches change blocks of the base and hold the bytes that
-    /// they replace there, each as `detail` asks.
+    /// they replace there: with `explain` what replay changes, and the faults by what is demanded of the image then.
     ///
     /// It fails only when out of memory.
     pub fn new(
         alloc: A,
         base: &'a Image<A>,
         graph: &'a Graph<A>,
-        detail: Detail,
+        explain: bool,
+        demands: &'a Demands<A>,
     ) -> Result<SectionMaker<'a, A>, AllocError>
         requires { AreOnBase base.now graph.now }
-        ensures { IfOk result (λ maker. maker ≡ record { base = base.now; patches = graph.now; detail = detail }) }
+        ensures { IfOk result (λ maker. maker ≡ record {
+          base = base.now;
+          patches = graph.now;
+          detail = record {
+            explain = explain;
+            demands = demands.now;
+          };
+        }) }
     {
         Ok(SectionMaker {
             alloc,
             graph,
             images: Replayer::new(base.try_copy()?, base.try_copy()?, graph),
-            detail,
+            explain,
+            demands,
         })
     }
 
@@ -88,7 +104,7 @@ impl<'a, A: Allocator + Copy> SectionMaker<'a, A> {
         ensures kept { self.new ≡ self.old }
     {
         self.images.move_to(set);
-        outcome.replay = changed_by_replay(self.alloc, &self.images, self.detail.explain)?;
-        list_faults_under(&mut outcome.faults, self.images.image(), self.detail.kept)
+        outcome.replay = changed_by_replay(self.alloc, &self.images, self.explain)?;
+        list_faults_under(&mut outcome.faults, self.images.image(), self.demands)
     }
 }

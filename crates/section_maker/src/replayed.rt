@@ -11,8 +11,8 @@ use disk_image::Image;
 use report_sections::ReplayedBlock;
 use std::alloc::{AllocError, Allocator};
 
-/// The blocks that replay changes in the image of a set, ascending, where that is to be explained. It fails only when
-/// out of memory.
+/// The blocks that replay changes in the image of a set, ascending, if that is to be explained. It fails only when out
+/// of memory.
 pub(crate) fn changed_by_replay<A: Allocator + Copy>(
     alloc: A,
     images: &Replayer<'_, A>,

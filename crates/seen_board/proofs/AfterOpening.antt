@@ -61,7 +61,7 @@ waits lives q unclaimed none = let n = get_or (row_of lives q) 0 0 in dite (dec_
     (λ low. dite (ℕ_discrete n 1) (λ e. absurd (omega (arith, unclaimed, ap is_claimed e)))
     (λ ne. omega (arith, low, ne)))
 
--- what a seat was told that has made no call
+-- what a seat knows that has made no call
 pub opening_told : (b : TableId) (limit places start : ℕ) (e : Ended)
     → Accounts start (first_known b limit places start) e → IsOpening start e
 opening_told b limit places start e a = let q = start % 13 in record {

@@ -19,7 +19,7 @@ rest_of_digits word places some =
     ∙ mod-mul word some (omega arith) in
     ap (λ (n : ℕ). n / 13) digits ∙ div-mul-add (word / 13 % places) 13 (word % 13) (mod_below word 13 (omega arith))
 
--- what stands in a probe
+-- what is in a probe
 pub probe_is : (word places left : ℕ) → 0 < places → left ≡ word % (13 * places) → (left % 13 ≡ word % 13)
     × (left / 13 ≡ slot places word 0) × (left / 13 < places)
 probe_is word places left some is =

@@ -85,7 +85,7 @@ module _ (places : ℕ) (words : List ℕ) where
     r.sized,
   )
 
--- a life that is none of the first three is the last
+-- a life other than the first three is the last
 pub life_else : (n : ℕ) → n ≢ 0 → n ≢ 1 → n ≢ 2 → Broken ≡ life_of n
 life_else n a b c = sym (ap {B = Life} (λ x. cond x Waiting (cond (eqb n 1) Claimed (cond (eqb n 2) Clean Broken)))
     (ne_eqb n 0 a) ∙ ap {B = Life} (λ x. cond x Claimed (cond (eqb n 2) Clean Broken)) (ne_eqb n 1 b)

@@ -13,7 +13,7 @@ use Rattle.board_rule.specs.declared.life.Life.{Life}
 use Rattle.board_rule.specs.declared.life.Life.TheVariants.{Waiting, Clean, Broken}
 use Rattle.seen_board.specs.Known.{Known}
 
--- the rows, beside each the lives of its entries, pending and the count
+-- the rows, the lives of the entries of each, pending and the count
 pub record Ended : Type 0 where
   pub rows : List (List ℕ)
   pub lives : List (List ℕ)
@@ -77,7 +77,7 @@ pub record Accounts (origin : ℕ) (s : Known) (e : Ended) : Type 0 where
   pub places : (p : ℕ) → times_among p s.added + cond (p == start_place origin) 1 0 ≡ is_published e.rows p
   pub entries : total length e.rows ≡ length s.added + 1
   pub count : e.count ≡ length s.added + 1
-  -- an entry is claimed exactly where its claim is had or given up, and that by one call
+  -- an entry is claimed exactly if its claim is held or given up, and by one call
   pub claimed : (q k : ℕ) → q < SHARDS → cond (s.place == place_of q k) s.claims 0
       + times_among (place_of q k) s.given_up ≡ is_claimed (slice_index (row_of e.lives q) k)
   -- as many are settled as it has settled, and pending is the number of the others

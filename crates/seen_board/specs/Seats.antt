@@ -1,4 +1,4 @@
--- What private calls ask of a seat of the table, and of a word that is looked for.
+-- What private calls require of a seat of the table, and of a word that is looked up.
 use Rattle.std.specs.Prelude.{◌≡◌, ℕ, ◌%◌, ◌<◌}
 use Rattle.board_rule.specs.declared.shards.TheConstants.{SHARDS}
 use Rattle.atomic_table.specs.declared.shared.Seat.{Seat}

@@ -7,21 +7,21 @@ pub struct Place {
     pub at: u16,
 }
 
-/// Whether a right was had in one try.
+/// Whether a right was taken in one try.
 #[derive(Clone, Copy, Debug, PartialEq, Eq, Drop)]
 pub enum Got {
     Right,
     Busy,
 }
 
-/// What became of a word that was to be put in.
+/// What happened to a word that was to be put in.
 #[derive(Clone, Copy, Debug, PartialEq, Eq, Drop)]
 pub enum Put {
     /// It is an entry now, at this place.
     New(Place),
     /// It was an entry before, at this place.
     Known(Place),
-    /// A right was not had, and the word was not put in.
+    /// A right could not be taken, and the word was not put in.
     Busy,
     /// More words are reached than the board may have, or more of the word's shard than its row has places.
     Over,
@@ -39,7 +39,7 @@ pub(crate) enum Found {
 /// The result of a look under the read right.
 #[derive(Clone, Copy, Debug, PartialEq, Eq, Drop)]
 pub(crate) enum Looked {
-    /// The right was not had.
+    /// The right could not be taken.
     Taken,
     At(u16),
     Absent,

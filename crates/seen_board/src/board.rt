@@ -17,7 +17,7 @@ use std::alloc::{AllocError, Allocator};
 use std::marker::Model;
 use std::snapshot::Snapshot;
 
-/// A board over a space. Seats of many threads step on it through a `&`.
+/// A board over a space. Seats of many threads use it through a `&`.
 #[derive(Drop)]
 pub struct Board<S: Space, A: Allocator> {
     pub(crate) table: Table<(), View, About<S>, Order<S>, A>,
@@ -47,9 +47,9 @@ impl<S: Space, A: Allocator> Model for Board<S, A> {
 }
 
 impl<S: Space, A: Allocator + Copy> Board<S, A> {
-    /// A board that may have `limit` words, with the space's initial word as its one entry, a seat that has seen it
-    /// and has the whole board, and its place. The entry waits, and pending and the count are 1: so closing the board
-    /// with this seat as it is would find them. Opening is the only call that can run out of memory.
+    /// A board that may have `limit` words, with the space's initial word as its one entry, a seat that has seen it and
+    /// has the whole board, and its place. The entry waits, and pending and the count are 1, as closing the board with
+    /// this seat would show. Opening is the only call that can run out of memory.
     ///
     /// Each row has as many places as the limit, since one shard may have all words.
     pub fn open(

@@ -22,7 +22,7 @@ const CLEAN: u64 = 2;
 const BROKEN: u64 = 3;
 
 impl<S: Space, A: Allocator> Board<S, A> {
-    /// Claims an entry that the seat has seen: true exactly where this step found it waiting. Either way the seat
+    /// Claims an entry that the seat has seen: true exactly if this step found it waiting. Either way the seat
     /// learns that it is not waiting any more. An entry whose claim was given up is not claimed again.
     pub fn claim(&self, seat: &mut BoardSeat, place: Place) -> bool
         requires seat { IsOf self.now seat.old }

@@ -10,8 +10,8 @@ use state_space::Space;
 use std::alloc::Allocator;
 
 impl<S: Space, A: Allocator> Board<S, A> {
-    /// Whether pending was read as 0. Then the seat knows that all entries are settled and that no word is on its
-    /// way, and that this stays so; `close` says what follows.
+    /// Whether pending was read as 0. Then the seat knows that all entries are settled, that no word is on its way, and
+    /// that both stay true; `close` says what follows.
     pub fn finished(&self, seat: &mut BoardSeat) -> bool
         requires seat { IsOf self.now seat.old }
         ensures yes { result ≡ true → seat.new ≡ record seat.old { finished = 1 } }
@@ -20,7 +20,7 @@ impl<S: Space, A: Allocator> Board<S, A> {
         self.table.shared.load::<End>(&mut seat.seat, PENDING) == 0
     }
 
-    /// Tells the other seats to stop, which is a hint alone. The seat gives its claim up, and its entry stays claimed
+    /// Tells the other seats to stop, which is only a hint. The seat gives its claim up, and its entry stays claimed
     /// for good.
     pub fn stop(&self, seat: &mut BoardSeat)
         requires seat { IsOf self.now seat.old }
@@ -29,7 +29,7 @@ impl<S: Space, A: Allocator> Board<S, A> {
         self.table.shared.store::<Stop>(&mut seat.seat, STOP, 1);
     }
 
-    /// Whether a stop was read. Nothing rests on it.
+    /// Whether a stop was read. No promise depends on it.
     pub fn stopped(&self, seat: &mut BoardSeat) -> bool
         requires seat { IsOf self.now seat.old }
         ensures { seat.new ≡ seat.old }

@@ -33,7 +33,7 @@ impl<S: Space, A: Allocator> Board<S, A> {
         }
     }
 
-    /// Tells that a full row lacks a word that is reached. The stop is set, and the claim is given up.
+    /// Notes that a full row lacks a word that is reached. The stop is set, and the claim is given up.
     fn overflow(&self, seat: &mut BoardSeat, probe: Probe)
         requires seat { IsOf self.now seat.old }
         requires probe { IsProbe self.now.places probe }
@@ -46,7 +46,7 @@ impl<S: Space, A: Allocator> Board<S, A> {
         self.table.shared.store::<Overflow>(&mut seat.seat, STOP, 1);
     }
 
-    /// Takes the write right and puts a word in, where the part of the row that was seen lacks it.
+    /// Takes the write right and puts a word in, if the part of the row that was seen lacks it.
     fn insert_writing(&self, seat: &mut BoardSeat, probe: Probe) -> Put
         requires seat { IsAtRest self.now seat.old }
         requires probe { IsProbe self.now.places probe }

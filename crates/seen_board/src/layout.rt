@@ -110,7 +110,7 @@ impl Layout {
         if self.places < 8 { self.places } else { 8 }
     }
 
-    /// What is computed once of a word that is looked for.
+    /// What is computed once for a word that is looked up.
     pub fn probe(&self, word: u128) -> Probe
         requires places { (0 < self.now.places) × (self.now.places ≤ 32768) }
         ensures word { result.word ≡ word }
@@ -130,7 +130,7 @@ impl Layout {
         }
     }
 
-    /// The t-th index word of a word, counted from 0. Behind the last word of the index comes word 0.
+    /// The t-th index word of a word, counted from 0. After the last word of the index comes word 0.
     pub fn slot(&self, probe: Probe, t: usize) -> usize
         requires probe { IsProbe self.now.places probe }
         requires range { (t ≤ self.now.places) × (self.now.places ≤ 32768) }

@@ -31,7 +31,7 @@ impl<S: Space, A: Allocator> Board<S, A> {
             .load::<Measure>(seat, self.layout.length(shard)) as u16
     }
 
-    /// Tries for the read right of a shard, beside which other seats may read and none may write.
+    /// Tries for the read right of a shard. While a seat has it, other seats may read and none may write.
     pub fn try_read(&self, seat: &mut BoardSeat, shard: u8) -> Got
         requires seat { IsAtRest self.now seat.old }
         requires shard { shard < SHARDS }
@@ -52,7 +52,7 @@ impl<S: Space, A: Allocator> Board<S, A> {
         Got::Right
     }
 
-    /// Tries for the write right of a shard, beside which no other seat has a right.
+    /// Tries for the write right of a shard. While a seat has it, no other seat has a right.
     pub fn try_write(&self, seat: &mut BoardSeat, shard: u8) -> Got
         requires seat { IsAtRest self.now seat.old }
         requires shard { shard < SHARDS }

@@ -16,7 +16,7 @@ use state_space::Space;
 use std::alloc::Allocator;
 
 impl<S: Space, A: Allocator> Board<S, A> {
-    /// What is computed once of a word that is looked for.
+    /// What is computed once for a word that is looked up.
     pub(crate) fn probe(&self, word: u128) -> Probe
         ensures word { result.word ≡ word }
         ensures probe { IsProbe self.now.places result }
@@ -68,7 +68,7 @@ impl<S: Space, A: Allocator> Board<S, A> {
         None
     }
 
-    /// The place of a word under a right of its shard, where no place below `from` has it.
+    /// The place of a word under a right of its shard, if no place below `from` has it.
     pub(crate) fn look_from(&self, seat: &mut BoardSeat, from: u16, probe: Probe) -> Option<u16>
         requires seat { IsOf self.now seat.old }
         requires probe { IsProbe self.now.places probe }
@@ -89,7 +89,7 @@ impl<S: Space, A: Allocator> Board<S, A> {
         }
     }
 
-    /// The place of a word under a right of its shard, or `None` where the shard lacks it.
+    /// The place of a word under a right of its shard, or `None` if the shard lacks it.
     pub fn look(&self, seat: &mut BoardSeat, word: u128) -> Option<Place>
         requires seat { IsOf self.now seat.old }
         requires right { HasRight seat.old (word % SHARDS) }

@@ -64,8 +64,8 @@ impl<S: Space, A: Allocator> Board<S, A> {
         }
     }
 
-    /// Publishes a word, puts its place into the index, gives the write right up and counts the entry. Whether the
-    /// count is within the limit.
+    /// Publishes a word, puts its place into the index, gives the write right up and counts the entry. The answer is
+    /// whether the count is within the limit.
     fn append(&self, seat: &mut Seat<(), View>, at: usize, probe: Probe) -> bool
         requires seat { SitsAt self.now seat.old }
         requires probe { IsProbe self.now.places probe }

@@ -1,4 +1,4 @@
-//! What can never be: no thread comes to have two seats as one of these calls takes them, which is what each proves.
+//! What can never happen: no thread can have two seats as one of these calls takes them. Each call proves that.
 ghost use Rattle.std.specs.Prelude.{◌≡◌, ◌<◌, length, Contains};
 ghost use Rattle.board_rule.specs.Layout.{writer};
 ghost use Rattle.board_rule.specs.Lists.{row_of};

@@ -204,7 +204,7 @@ impl Join<View> for Both {
     ghost spent = { spent_view };
 }
 
-/// Two seats that cannot be side by side.
+/// Two seats that cannot exist together.
 pub struct Clash;
 
 impl Join<View> for Clash {

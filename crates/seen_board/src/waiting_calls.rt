@@ -1,4 +1,4 @@
-//! The calls that try until the answer is not Busy. That they return is not promised.
+//! The calls that try until the answer is not Busy. They do not promise to return.
 ghost use Rattle.std.specs.Prelude.{◌≢◌, ◌<◌};
 ghost use Rattle.board_rule.specs.Layout.{writer};
 ghost use Rattle.seen_board.specs.Clauses.{IsAtRest, Gains};
@@ -42,7 +42,7 @@ impl<S: Space, A: Allocator> Board<S, A> {
         }
     }
 
-    /// Puts a word in, as `try_insert`, and waits where a right is not had.
+    /// Puts a word in, as `try_insert` does, and waits while a right cannot be taken.
     pub fn insert<R: Wait>(&self, rt: &R, seat: &mut BoardSeat, word: u128) -> Put
         requires seat { IsAtRest self.now seat.old }
         requires successor { IsSuccessor (S.successors self.now.space) seat.old word }

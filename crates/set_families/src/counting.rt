@@ -21,9 +21,9 @@ impl ClosedSets<'_> {
 
     /// The number of members of a family.
     ///
-    /// Where no dependency connects some of the undecided ids with the others, it is the product of two numbers: a
-    /// graph of 60 ids without dependencies has 2^60 closed sets and takes about 120 calls. Else it is the number of
-    /// members with an id and of those without it.
+    /// If no dependency connects some of the undecided ids with the others, it is the product of two numbers: a graph
+    /// of 60 ids without dependencies has 2^60 closed sets and takes about 120 calls. Else it is the number of members
+    /// with an id and of those without it.
     ///
     /// It takes no memory, and calls itself no deeper than the number of undecided ids.
     pub fn count_members(&self, family: Family) -> u128

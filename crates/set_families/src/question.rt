@@ -14,8 +14,8 @@ pub trait Question {
     /// The closed sets that it holds of.
     ghost holds: { Self → ℕ → Type 0 };
 
-    /// Asks of a family. The answer is `true` where the property holds of the least member, so also where it holds of
-    /// each; `false` where it holds of none; and otherwise an undecided id, on which the family is split.
+    /// Asks of a family. The answer is `true` if the property holds of the least member, so also if it holds of each;
+    /// `false` if it holds of none; and otherwise an undecided id, on which the family is split.
     ///
     /// Any undecided id will do. The choice decides how many families are asked, never what is found.
     ///

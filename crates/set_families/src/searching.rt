@@ -11,7 +11,7 @@ use crate::question::Question;
 use patch_sets::order::is_before;
 
 impl ClosedSets<'_> {
-    /// The first closed set in canonical order that a property holds of, or `None` where there is none.
+    /// The first closed set in canonical order that a property holds of, or `None` if there is none.
     ///
     /// It takes no memory, and calls itself no deeper than the number of ids.
     pub fn first<Q: Question>(&self, question: &Q) -> Option<u128>

@@ -152,7 +152,7 @@ module _ {T : Type 0} (tells : List ℕ → T → Type 0) (deps : List ℕ) (fro
       told = so_far.told;
     }
 
--- a sweep tells the number of closed sets
+-- a sweep gives the number of closed sets
 pub sweep_counts : {T : Type 0} (tells : List ℕ → T → Type 0) (deps : List ℕ) (total : ℕ) (tally : T)
     → IsSweep tells deps total tally → HoldsOf (IsClosed deps) total
 sweep_counts tells deps total tally sweep = (sweep.sets, list_of (IsClosed deps) sweep.sets sweep.closed, sweep.counted)

@@ -70,7 +70,7 @@ end_to set p q up ins =
 pub end_none : (set : ℕ) → part_end set 0 ≡ set + 1
 end_none set = omega (arith, shr_split set 0)
 
--- where a walk over the ids that a set lacks stands: it ends once it is at id k or past it
+-- the state of a walk over the ids that a set lacks: it ends once it is at id k or past it
 pub record IsOutside (set k id : ℕ) : Type 0 where
   pub out : ¬ (Has set id)
   pub ones : (q : ℕ) → k ≤ q → q < id → Has set q

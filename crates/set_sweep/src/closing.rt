@@ -18,7 +18,7 @@ pub(crate) fn closures(deps: &[u128]) -> [u128; 128]
     closures
 }
 
-/// The smallest closed set that has an id, where those of the smaller ids are known.
+/// The smallest closed set that has an id, once those of the smaller ids are known.
 fn closure_of(deps: &[u128], closures: &[u128], id: usize) -> u128
     requires few { length deps.now < 127 }
     requires earlier { AreEarlier deps.now }

@@ -6,7 +6,7 @@ ghost use Rattle.set_sweep.specs.Sweeps.{AreClosures, IsRoot, AreCounted, part_e
 
 use crate::closing::{closures, next_out};
 
-/// The number of closed sets of a graph, at most the limit; `None` exactly where they outnumber it.
+/// The number of closed sets of a graph, at most the limit; `None` exactly if they outnumber it.
 ///
 /// It takes no memory.
 pub fn count_closed(deps: &[u128], limit: usize) -> Option<usize>

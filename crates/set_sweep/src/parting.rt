@@ -12,7 +12,7 @@ pub(crate) struct Parts<A: Allocator> {
     pub roots: Vec<u128, A>,
 }
 
-/// Cuts the closed sets into parts, as many as are wanted where there are as many sets. It fails only when out of
+/// Cuts the closed sets into parts, as many as are wanted if there are that many sets. It fails only when out of
 /// memory.
 pub(crate) fn parts_of<A: Allocator + Copy>(
     alloc: A,

@@ -36,8 +36,8 @@ where
     /// Visits each closed set of a graph once.
     ///
     /// For every number of workers and every schedule, an answer other than out of memory is the one that is defined
-    /// without threads: the tally of all closed sets in ascending number, or that they are more than the limit. Where
-    /// they may be more, they are counted before any is visited.
+    /// without threads: the tally of all closed sets in ascending number, or that they are more than the limit. If they
+    /// may be more, they are counted before any is visited.
     pub fn sweep_with<V>(
         &self,
         visitor: &V,

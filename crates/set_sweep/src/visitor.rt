@@ -6,7 +6,7 @@ use std::alloc::AllocError;
 /// Visits sets one after another and keeps a tally of them.
 ///
 /// The sets of one part of a sweep are visited one after another, and the tallies of neighbouring parts are joined. So
-/// a tally that needs no list of its sets takes no more memory where there are more of them.
+/// a tally that needs no list of its sets takes no more memory if there are more of them.
 pub trait Visitor {
     /// What sets are visited in, so that visiting many needs no new memory for each.
     type Scratch: Drop;
@@ -44,11 +44,11 @@ pub trait Visitor {
         ensures told { (sets : List ℕ) → tells self.now sets tally.old
             → OnOk result (tells self.now (sets ++ set ∷ []) tally.new) };
 
-    /// Puts the tally of later sets to the end of a tally. It fails only when out of memory.
+    /// Appends the tally of later sets to a tally. It fails only when out of memory.
     fn join(&self, tally: &mut Self::Tally, later: Self::Tally) -> Result<(), AllocError>
         ensures { (sets others : List ℕ) → tells self.now sets tally.old → tells self.now others later
             → OnOk result (tells self.now (sets ++ others) tally.new) };
 
-    /// How many of its sets a tally keeps. It is for a watch alone, so that nothing is promised of it.
+    /// How many of its sets a tally keeps. It is only for a watch, so nothing is promised about it.
     fn kept(&self, tally: &Self::Tally) -> usize;
 }

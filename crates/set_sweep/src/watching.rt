@@ -39,7 +39,7 @@ pub(crate) struct Untold<C> {
 }
 
 impl<'a, V: Visitor, W: Watch> Watched<'a, V, W> {
-    /// Tells of the sets, if there are enough of them.
+    /// Reports the sets, if there are enough of them.
     fn tell(&self, untold: &mut Untold<V::Scratch>)
         ensures { untold.new.scratch ≡ untold.old.scratch }
     {

@@ -229,7 +229,7 @@ block-makes d role b mark owner disk inside none =
 
 -- ---- entries
 
--- a directory stands in the tables as it did on an earlier disk
+-- a directory is in the tables as it was on an earlier disk
 pub record Stands (d e : Disk) (dir : ℕ) : Type 0 where
   pub below : dir < 16
   pub kind : (tables_of e).kind dir ≡ 2

@@ -151,7 +151,7 @@ tables_after_mkdir t dir k i b name =
     (with_pointer (with_mark (with_used (with_inode t i DIRECTORY_KIND 1) b true) b (DirectoryOf i)) i 0 b)
     dir k (Leads i (name_spelling name))
 
--- ---- sound tables: four groups of facts, each said of the tables that it needs and of no other
+-- ---- sound tables: four groups of facts, each stated for only the tables that it needs
 
 -- 1 where the place leads to the inode
 abbrev pub leads : Place → ℕ → ℕ

@@ -6,7 +6,7 @@ ghost use Rattle.crash_model.specs.Sound.{IsSound};
 ghost use Rattle.crash_model.specs.View.{view_of};
 ghost use Rattle.soundness_laws.specs.Tables.{tables_of, view, Sound, SameView};
 
-/// A disk is sound exactly where its tables are.
+/// A disk is sound exactly if its tables are.
 pub fn sound_disks_have_sound_tables()
     ensures { (d : Disk) → IsDisk d → (IsSound d ↔ Sound (tables_of d)) }
 {}

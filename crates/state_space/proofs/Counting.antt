@@ -8,7 +8,7 @@ use Rattle.std.proofs.lemmas.List.Elements.{Contains-get_or}
 use Rattle.std.proofs.lemmas.List.Edits.{length-remove, get_or-remove_below, get_or-remove_above}
 use Rattle.state_space.specs.Counts.{IsSome, IsListOf, HoldsOf, Outnumbers}
 
--- how two numbers stand
+-- how two numbers compare
 pub data Order (a b : ℕ) : Type 0 where
   below : a < b → Order a b
   same : a ≡ b → Order a b

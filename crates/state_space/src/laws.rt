@@ -4,7 +4,7 @@ ghost use Rattle.state_space.specs.Counts.{HoldsOf, Outnumbers};
 
 use crate::space::Space;
 
-/// There is one number of words that are reached, and where they outnumber a limit it is above the limit.
+/// The number of words that are reached is unique. If they outnumber a limit, it is above the limit.
 pub fn reach_has_one_size<S: Space>(space: &S)
     ensures one { (n m : ℕ) → HoldsOf (IsReached (S.successors space.now) (S.initial space.now)) n
         → HoldsOf (IsReached (S.successors space.now) (S.initial space.now)) m → n ≡ m }

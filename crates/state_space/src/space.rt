@@ -50,8 +50,8 @@ pub trait Space {
         requires { is_lawful self.now word }
         ensures { is_ahead self.now word result 0 };
 
-    /// The next successor of a walk, in the order of the list, or none after the last. So all of them take a step for
-    /// each, where `next` may begin anew with each `k`. What the walk keeps gets smaller.
+    /// The next successor of a walk, in the order of the list, or none after the last. So a walk takes one step for
+    /// each successor, while `next` may begin again with each `k`. What the walk keeps gets smaller.
     fn advance(&self, word: u128, ahead: &mut u128) -> Option<u128>
         requires lawful { is_lawful self.now word }
         requires ahead { (k : ℕ) × is_ahead self.now word ahead.old k }

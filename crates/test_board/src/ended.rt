@@ -5,7 +5,7 @@ ghost use Rattle.std.specs.Prelude.{◌<◌};
 use seen_board::{Contents, Life, Place, SHARDS};
 use std::alloc::Allocator;
 
-/// Whether a shard has its word of the diamond with its verdict, or nothing where it has no word.
+/// Whether a shard has its word of the diamond with its verdict, or nothing if it has no word.
 fn is_settled<A: Allocator>(contents: &Contents<A>, shard: u8) -> bool
     requires { shard < SHARDS }
 {

@@ -15,7 +15,7 @@ pub const START: Place = Place { shard: 0, at: 0 };
 /// The place of the word 1.
 pub const FIRST: Place = Place { shard: 1, at: 0 };
 
-/// Puts in the successor at place `k` of the first entry, which the seat has claimed. Nothing where it has no such
+/// Puts in the successor at place `k` of the first entry, which the seat has claimed. Nothing if it has no such
 /// successor.
 pub fn put_after_start<S: Space, A: Allocator>(
     board: &Board<S, A>,

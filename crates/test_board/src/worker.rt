@@ -12,8 +12,8 @@ use std::alloc::{AllocError, Allocator, Global};
 use std::sync::Wait;
 use std::thread::yield_now;
 
-/// Puts in all successors of the entry that the seat has claimed, and settles it. `false` where more words are
-/// reached than the board's limit.
+/// Puts in all successors of the entry that the seat has claimed, and settles it. `false` if more words are reached
+/// than the board's limit.
 pub fn expand<S: Space, A: Allocator, R: Wait>(
     rt: &R,
     board: &Board<S, A>,
@@ -50,7 +50,7 @@ pub fn expand<S: Space, A: Allocator, R: Wait>(
     Ok(true)
 }
 
-/// Sees each shard once, and expands each entry that it finds waiting. `false` where the board was outgrown.
+/// Sees each shard once, and expands each entry that it finds waiting. `false` if the board was outgrown.
 pub fn visit<S: Space, A: Allocator, R: Wait>(
     rt: &R,
     board: &Board<S, A>,

@@ -186,7 +186,7 @@ fn are_written(alloc: Global, found: &[Fault], texts: &[&str]) -> Result<bool, F
     Ok(are_same)
 }
 
-/// Whether an image has the faults with these texts, and is clean where there are none.
+/// Whether an image has the faults with these texts, and is clean if there are none.
 pub fn has_faults(alloc: Global, image: &Image<Global>, texts: &[&str]) -> Result<bool, Fail> {
     if is_clean(image) != texts.is_empty() {
         return Ok(false);
@@ -224,7 +224,7 @@ fn put_inodes(image: &mut Image<Global>, byte: u8) {
     image.put(3, 0, &bytes);
 }
 
-/// The faults of an image whose inodes have this byte alone, which no operation makes. It is not clean.
+/// The faults of an image whose inodes have only this byte, which no operation makes. It is not clean.
 fn found_in_inodes_of<R: Abort + AllocGlobal>(rt: &R, byte: u8) -> Result<Vec<Fault>, Fail> {
     let mut image = Image::formatted(rt.alloc(), 16, 0)?;
     put_inodes(&mut image, byte);

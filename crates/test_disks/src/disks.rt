@@ -8,7 +8,7 @@ use std::alloc::Global;
 use std::process::Abort;
 use std::test::Fail;
 
-/// Whether a disk of so many blocks is made or not, as its geometry is good or not.
+/// Whether a disk of this number of blocks is made exactly if its geometry is good.
 fn is_made_if(is_good: bool, alloc: Global, blocks: usize, journal: usize) -> bool {
     match Image::formatted(alloc, blocks, journal) {
         Ok(_) => is_good,

@@ -6,7 +6,7 @@ ghost use Rattle.crash_model.specs.Patches.{AreUndo};
 
 use crash_image::{Mover, PatchSpace, build};
 use crash_model::modules::Module;
-use disk_image::Image;
+use disk_image::{Demands, Image};
 use patch_graph::Graph;
 use state_space::Space;
 use std::alloc::{AllocError, Global};
@@ -35,7 +35,8 @@ fn count_failing(rt: &impl Abort, script: &Trace, sets: &[u128]) -> Result<usize
     requires fits { All (λ patch. patch.block < script.now.base.blocks) script.now.graph }
     requires undo { AreUndo script.now.base script.now.graph }
 {
-    let space = PatchSpace::new(&script.base, &script.graph, None);
+    let demands = Demands::none();
+    let space = PatchSpace::new(&script.base, &script.graph, &demands);
     let mut scratch = space.scratch()?;
     let mut failing = 0;
     for set in sets {
@@ -60,7 +61,7 @@ pub fn are_equal(one: &Image<Global>, other: &Image<Global>) -> bool {
     true
 }
 
-/// Moves to one set after another, and compares each image with the one that is built anew.
+/// Moves to one set after another, and compares each image with the one that is built from the base.
 fn moves_along(
     rt: &impl Abort,
     mover: &mut Mover<Global>,
@@ -130,7 +131,8 @@ fn undo_of_every_patch_gives_the_link_count_back(rt: HostRuntime) -> Result<(), 
 fn is_empty_set(base: &Image<Global>, graph: &Graph<Global>) -> Result<bool, AllocError>
     requires none { graph.now ≡ [] }
 {
-    let space = PatchSpace::new(base, graph, None);
+    let demands = Demands::none();
+    let space = PatchSpace::new(base, graph, &demands);
     let mut scratch = space.scratch()?;
     Ok(space.judge(&mut scratch, 0)? && space.start() == 0 && space.degree(0) == 0)
 }

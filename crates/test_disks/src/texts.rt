@@ -8,7 +8,7 @@ use std::fmt::Display;
 use std::process::Abort;
 use std::test::Fail;
 
-/// Each refusal is written as the text beside it.
+/// Each refusal is written as the text next to it.
 fn each_writes<R: Abort + AllocGlobal, F: Display>(
     rt: &R,
     faults: &[(F, &str)],

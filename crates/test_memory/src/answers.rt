@@ -36,7 +36,7 @@ impl Trial {
 /// What a run answers.
 pub type Answer<A> = Result<Outcome<A>, RunFault>;
 
-/// What so many workers answer with memory of this allocator.
+/// What this number of workers answer with memory of this allocator.
 fn answer<R, A>(rt: &R, alloc: A, trial: &Trial, workers: usize) -> Result<Answer<A>, Fail>
 where
     R: AllocGlobal + Threads + Wait + Sync,
@@ -60,7 +60,7 @@ where
     Ok(run(&host, &script, &request, &OpenGate))
 }
 
-/// What a lone worker answers with all memory: a report, or that there are too many sets where the limit is too low.
+/// What a lone worker answers with all memory: a report, or that there are too many sets if the limit is too low.
 pub fn plain_answer<R: Abort + AllocGlobal + Threads + Wait + Sync>(
     rt: &R,
     trial: &Trial,
@@ -82,7 +82,7 @@ pub fn plain_answer<R: Abort + AllocGlobal + Threads + Wait + Sync>(
     Ok(plain)
 }
 
-/// Whether so many workers answer so. Else they are out of memory.
+/// Whether this number of workers give this answer. Else they are out of memory.
 pub fn answers<R: Abort + AllocGlobal + Threads + Wait + Sync>(
     rt: &R,
     memory: &Refusing<Global>,

@@ -14,7 +14,7 @@ use test_support::refusing::Refusing;
 /// A board in the memory of these tests.
 type Trial<'m> = Board<Small<Diamond>, &'m Refusing<Global>>;
 
-/// Explores the whole board with one seat, beside one that is split off before and joined after.
+/// Explores the whole board with one seat, while another that was split off before waits to be joined after.
 fn explore<R: Abort + Wait>(rt: &R, board: &Trial<'_>, mut seat: BoardSeat) -> BoardSeat
     requires { IsIdle board.now seat }
     ensures { IsOf board.now result }

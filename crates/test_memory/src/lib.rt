@@ -1,4 +1,4 @@
-//! Tests of refused memory: a run is out of memory only where a request was refused, whichever it is; a refused call
+//! Tests of refused memory: a run is out of memory only if a request was refused, whichever it is; a refused call
 //! leaves its graph as it was; and the calls that take no memory make no request.
 //!
 //! What a run answers with memory refused is compared with its plain answer, whose bytes are in `cases/`.

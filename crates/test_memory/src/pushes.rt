@@ -39,7 +39,7 @@ fn is_pushed(patch: &Patch, number: u8) -> bool
         && patch.deps == behind
 }
 
-/// The graph has exactly so many of the patches.
+/// The graph has exactly this number of the patches.
 fn expect_patches(rt: &impl Abort, graph: &Pushed<'_>, count: u8)
     requires { count ≤ 124 }
 {
@@ -50,8 +50,8 @@ fn expect_patches(rt: &impl Abort, graph: &Pushed<'_>, count: u8)
     }
 }
 
-/// Pushes a patch with all memory refused, and then with none refused where that was out of memory. Returns whether
-/// it was.
+/// Pushes a patch with all memory refused, and then with none refused if that was out of memory. Returns whether it
+/// was.
 fn push_twice(
     rt: &impl Abort,
     memory: &Refusing<Global>,

@@ -27,7 +27,7 @@ fn refuses_the_second_request(rt: HostRuntime) -> Result<(), Fail> {
     Ok(())
 }
 
-/// A list of so many numbers.
+/// A list of this length.
 fn listed(heap: &Heap, count: u64) -> Result<Vec<u64, &Heap>, AllocError> {
     let mut numbers = Vec::new(heap);
     for number in 0..count {
@@ -36,7 +36,7 @@ fn listed(heap: &Heap, count: u64) -> Result<Vec<u64, &Heap>, AllocError> {
     Ok(numbers)
 }
 
-/// Whether so many numbers were listed.
+/// Whether the list has this length.
 fn has_listed(list: &Result<Vec<u64, &Heap>, AllocError>, count: usize) -> bool {
     match list {
         Ok(numbers) => numbers.len() == count,

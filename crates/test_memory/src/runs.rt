@@ -14,7 +14,7 @@ use test_support::refusing::Refusing;
 /// More requests than any run here makes.
 const MOST: u64 = 20_000;
 
-/// The scripts, with names, that are run in text and in JSON with each request refused alone.
+/// The scripts, with names, that are run in text and in JSON, with one request refused at a time.
 const ALONE: [(&str, &Asked); 5] = [
     ("creates", &CREATE),
     ("uses a block again", &REUSE),
@@ -30,7 +30,7 @@ const TOO_MANY: Trial = Trial {
     too_low: true,
 };
 
-/// Runs while requests are refused: with one worker the run is out of memory exactly where one was, with more only
+/// Runs while requests are refused: with one worker the run is out of memory exactly if one was, with more only
 /// there, and the run after it answers. Returns whether one was refused.
 fn run_refused<R: Abort + AllocGlobal + Threads + Wait + Sync>(
     rt: &R,

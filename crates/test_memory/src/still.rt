@@ -9,9 +9,9 @@ use crash_model::modules::Module;
 use crash_model::names::{GroupName, Path};
 use crash_model::operations::Op;
 use crash_model::steps::Step;
-use disk_image::Image;
+use disk_image::{Demands, Image};
 use fs_check::is_clean;
-use inode_fs::{apply, plan};
+use inode_fs::{apply, demands, plan};
 use journal_replay::replay;
 use order_modules::build_base;
 use patch_graph::Graph;
@@ -29,7 +29,7 @@ type Memory<'m> = &'m Refusing<Global>;
 /// A file is created and written: 24 closed sets, of which 10 fail.
 const WRITE: &[u8] = b"start\ncreate /a\nwrite /a\n";
 
-/// A file gets another name: 12 closed sets, of which 5 fail where the script keeps inodes 0 and 1.
+/// A file gets another name: 12 closed sets, of which 5 fail if the script keeps inodes 0 and 1.
 const RENAME: &[u8] = b"create /a\nstart\nrename /a /b\n";
 
 /// A script without an order.
@@ -62,18 +62,18 @@ fn count_failing<'s, 'm>(
     Ok((closed, failing))
 }
 
-/// How many sets a crash can leave, and how many of them fail by a checker that asks for these kept inodes or for
-/// none. Judging them makes no request.
+/// How many sets a crash can leave, and how many of them fail by what is demanded of their images. Judging them makes
+/// no request.
 fn count_judged(
     rt: &impl Abort,
     memory: Memory<'_>,
     script: &Trace<Memory<'_>>,
-    kept: Option<u16>,
+    demands: &Demands<Memory<'_>>,
 ) -> Result<(u32, u32), Fail>
     requires fits { All (λ patch. patch.block < script.now.base.blocks) script.now.graph }
     requires undo { AreUndo script.now.base script.now.graph }
 {
-    let space = PatchSpace::new(&script.base, &script.graph, kept);
+    let space = PatchSpace::new(&script.base, &script.graph, demands);
     let mut scratch = space.scratch()?;
     memory.gauge().refuse(1, u64::MAX);
     let counts = count_failing(&space, &mut scratch, &script.graph)?;
@@ -85,7 +85,7 @@ fn count_judged(
 fn judging_takes_none(rt: HostRuntime) -> Result<(), Fail> {
     let memory = Refusing::new(rt.alloc());
     let script = traced(&memory, WRITE)?;
-    assert!(rt; count_judged(&rt, &memory, &script, None)? == (24, 10));
+    assert!(rt; count_judged(&rt, &memory, &script, &Demands::none())? == (24, 10));
     Ok(())
 }
 
@@ -93,11 +93,22 @@ fn judging_takes_none(rt: HostRuntime) -> Result<(), Fail> {
 fn judging_strictly_takes_none(rt: HostRuntime) -> Result<(), Fail> {
     let memory = Refusing::new(rt.alloc());
     let script = traced(&memory, RENAME)?;
-    assert!(rt; count_judged(&rt, &memory, &script, Some(3))? == (12, 5));
+    let demands = Demands::new(Some(3), None);
+    assert!(rt; count_judged(&rt, &memory, &script, &demands)? == (12, 5));
     Ok(())
 }
 
-/// Whether the space of the file that is written starts with no patch, from where four sets can be reached.
+#[test]
+fn judging_whole_operations_takes_none(rt: HostRuntime) -> Result<(), Fail> {
+    let memory = Refusing::new(rt.alloc());
+    let script = traced(&memory, RENAME)?;
+    let read = read_script(&memory, RENAME)?;
+    let demands = demands(&memory, &script.base, &read.traced, true, true)?;
+    assert!(rt; count_judged(&rt, &memory, &script, &demands)? == (12, 8));
+    Ok(())
+}
+
+/// Whether the space of the file that is written starts with no patch, and leads to four sets.
 fn starts_with_four(space: &PatchSpace<'_, Memory<'_>>) -> bool {
     let start = space.start();
     start == 0 && space.degree(start) == 4 && space.next(start, 3) == 8
@@ -117,7 +128,8 @@ fn walking_a_graph_takes_none(rt: HostRuntime) -> Result<(), Fail> {
     let memory = Refusing::new(rt.alloc());
     let script = traced(&memory, WRITE)?;
     memory.gauge().refuse(1, u64::MAX);
-    let space = PatchSpace::new(&script.base, &script.graph, None);
+    let demands = Demands::none();
+    let space = PatchSpace::new(&script.base, &script.graph, &demands);
     assert!(rt; starts_with_four(&space) && has_five(&script.graph));
     assert!(rt; Graph::new(&memory).is_empty());
     assert!(rt; memory.gauge().asked() == 0);

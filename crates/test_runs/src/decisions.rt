@@ -8,7 +8,7 @@ use questions::{Question, Request};
 use std::test::Fail;
 use test_support::settings::plain_settings;
 
-/// What is decided of the script that creates a file, where there is no order.
+/// What is decided of the script that creates a file, without an order.
 const DECIDED: &str =
     "module async\npatches 2\nclosed 4\nfault 1 dangling entry: directory 0 entry 0 inode 1\n\
       set 1\nwrite block 4: 1\n";
@@ -18,7 +18,7 @@ const ENOUGH: &str =
     "module soft\npatches 2\nclosed 3\nenough 1\nrules EntrySet:InodeInit\nneeds EntrySet:InodeInit\n\
       fault 1 dangling entry: directory 0 entry 0 inode 1\nset 1\nwrite block 4: 1\n";
 
-/// What there is without an order, where no rule can be enough.
+/// The report without an order, when no rules can be enough.
 const NOT_ENOUGH: &str = "module async\npatches 2\nclosed 4\nenough 0\n\
       fault 1 dangling entry: directory 0 entry 0 inode 1\nset 1\nwrite block 4: 1\n";
 

@@ -20,7 +20,7 @@ use test_support::settings::plain_settings;
 /// A file is created.
 const CREATE: &[u8] = b"start\ncreate /a\n";
 
-/// What is reported of the script that creates a file, where there is no order.
+/// What is reported of the script that creates a file, without an order.
 const REPORT: &str = "module async\npatches 2\nclosed 4\nfailing 1\nset 1\nwrite block 4: 1\n\
       fault 1 dangling entry: directory 0 entry 0 inode 1\n";
 
@@ -74,7 +74,7 @@ struct Narrow<A: Allocator> {
     failures: usize,
 }
 
-/// An empty sink that fails after so many bytes, or when it is to finish.
+/// An empty sink that fails after a number of bytes, or when it is asked to finish.
 fn empty_sink(heap: Global, fails_after: usize, fails_finish: bool) -> Narrow<Global>
     ensures { result.failures ≡ 0 }
 {
@@ -152,7 +152,7 @@ fn a_failed_read_leaves_the_sink_empty(rt: HostRuntime) {
     }
 }
 
-/// A sink that fails once takes these bytes alone.
+/// A sink that fails once takes only these bytes.
 fn expect_unwritten<R: Abort + AllocGlobal + Threads + Wait + Sync>(
     rt: &R,
     fails_after: usize,

@@ -1,4 +1,4 @@
-//! Tests alone: whole runs where they need the inside of the product, as devices that fail, or gates that hold workers.
+//! Tests only: whole runs that need the inside of the product, such as devices that fail, or gates that hold workers.
 //!
 //! Each expected value comes from the specification or from the independent reference program. Whole runs of the built
 //! program are the cases of `cases/`.

@@ -1,4 +1,4 @@
-//! The line that tells on a terminal how far a run is.
+//! The line that shows on a terminal how far a run is.
 
 use crash_text::progress::Progress;
 use explorers::Gate;

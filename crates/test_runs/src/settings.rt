@@ -1,4 +1,4 @@
-//! Words of the command line: who explores, with how many workers, and which question is asked.
+//! Words of the command line: which explorer, how many workers, and which question.
 
 use clap::error::ErrorKind;
 use command_line::settings_of;

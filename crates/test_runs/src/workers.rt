@@ -39,7 +39,7 @@ const REUSE: Told = Told {
     report: "2fa1c2d42390c744f1805eff355652c184ec3e5c",
 };
 
-/// So many workers behind a gate give exactly the report.
+/// This many workers, held by a gate, give exactly the report.
 fn reports<R: Abort + AllocGlobal + Threads + Wait + Sync, G: Gate + Sync>(
     rt: &R,
     told: &Told,

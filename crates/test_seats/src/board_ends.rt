@@ -59,7 +59,7 @@ fn work_in_four<K: Shape + Sync, R: Threads + Wait + Sync>(
     seat
 }
 
-/// Lets seats work in so many threads: one, two or else four.
+/// Lets seats work in a number of threads: one, two or else four.
 fn work_in<K: Shape + Sync, R: Threads + Wait + Sync>(
     rt: &R,
     threads: u8,
@@ -77,7 +77,7 @@ fn work_in<K: Shape + Sync, R: Threads + Wait + Sync>(
     }
 }
 
-/// Seats in so many threads settle all entries, and none has to stop.
+/// Seats in this many threads settle all entries, and none has to stop.
 fn settle_all<R: Threads + Wait + Abort + AllocGlobal + Sync>(
     rt: &R,
     threads: u8,
@@ -178,8 +178,8 @@ fn finished_is_false_amid_an_expansion(rt: HostRuntime) -> Result<(), Fail> {
     Ok(())
 }
 
-/// Ticks the words of a row off, each a bit of a number. Fails where one is no word of the shard, was ticked off
-/// before or is not clean.
+/// Ticks the words of a row off, each a bit of a number. Fails if one is not a word of the shard, was ticked off before
+/// or is not clean.
 fn tick_row(rt: &impl Abort, contents: &Contents<Global>, shard: u8, mut ticked: u128) -> u128
     requires { shard < SHARDS }
 {

@@ -1,4 +1,4 @@
-//! A seat on a board of four words, whose limit is just enough, and a second seat beside it: on the diamond, and on a
+//! A seat on a board of four words, whose limit is just enough, and a second seat with it: on the diamond, and on a
 //! script's own space, whose first word is the empty set and whose word 1 is the set of patch 0.
 
 ghost use Rattle.std.specs.Prelude.{◌≡◌};
@@ -7,6 +7,7 @@ ghost use Rattle.test_board.specs.Worker.{IsIdle};
 
 use crash_image::PatchSpace;
 use crash_model::modules::Module;
+use disk_image::Demands;
 use seen_board::{Board, BoardSeat, Got, Place, Put};
 use state_space::Space;
 use std::alloc::Global;
@@ -16,10 +17,10 @@ use std::test::Fail;
 use test_board::{Diamond, FIRST, START, Small, expand, is_explored, put_after_start};
 use test_support::traces::trace_of;
 
-/// Where the word 2 comes to stand, the set of patch 1.
+/// The place of the word 2, the set of patch 1.
 const SECOND: Place = Place { shard: 2, at: 0 };
 
-/// Where the word 3 comes to stand, the set of both patches.
+/// The place of the word 3, the set of both patches.
 const BOTH: Place = Place { shard: 3, at: 0 };
 
 /// The word 1 is found once it was put in, without a right.
@@ -180,6 +181,7 @@ fn finished_comes_with_the_last_verdict(rt: HostRuntime) -> Result<(), Fail> {
 fn the_end_comes_with_the_last_of_four_entries(rt: HostRuntime) -> Result<(), Fail> {
     let lines = b"start\ncreate /a\n";
     let script = trace_of(rt.alloc(), lines, 16, 0, Module::Async)?;
-    let space = PatchSpace::new(&script.base, &script.graph, None);
+    let demands = Demands::none();
+    let space = PatchSpace::new(&script.base, &script.graph, &demands);
     explores(&rt, &space, &mut space.scratch()?)
 }

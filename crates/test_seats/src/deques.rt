@@ -95,7 +95,7 @@ fn sixteen_workers_steal_from_the_first(rt: HostRuntime) -> Result<(), Fail> {
     Ok(())
 }
 
-/// How many of four hands are made in a heap of this size. None where it is too small.
+/// How many of four hands are made in a heap of this size. `None` if it is too small.
 fn made_in(alloc: Global, size: usize) -> Result<Option<usize>, Fail> {
     let heap = LocalHeap::new(alloc, size)?;
     let made: Result<Vec<Hand<u8, &LocalHeap>, &LocalHeap>, AllocError> = hands(&heap, 4);

@@ -37,7 +37,7 @@ fn in_canonical_order(alloc: Global, first: u128, last: u128) -> Result<Vec<u128
     Ok(words)
 }
 
-/// Whether so many workers find a space of so many words, which is the limit too, with these broken words.
+/// Whether this many workers find a space with exactly as many words as the limit, and these broken words.
 fn is_found<K: Shape + Sync, R: Threads + Wait + AllocGlobal + Sync>(
     rt: &R,
     space: &Small<K>,

@@ -24,7 +24,7 @@ pub fn plain_report<R: Abort + AllocGlobal + Threads + Wait + Sync>(
     Ok(outcome)
 }
 
-/// The report of so many workers, of a board and behind a gate.
+/// The report of a number of workers on a board, held by a gate.
 pub fn report<R: AllocGlobal + Threads + Wait + Sync, G: Gate + Sync>(
     rt: &R,
     asked: &Asked,

@@ -14,7 +14,7 @@ use test_support::gates::{HeldAt, Shuffled, UntilAnother};
 /// How many schedules are tried of each script and number of workers.
 const SEEDS: u64 = 200;
 
-/// So many workers behind each gate give the report of a lone one that nothing holds.
+/// With each gate, this many workers give the report of a single one that nothing holds.
 fn report_the_same<R: Abort + AllocGlobal + Threads + Wait + Sync, G: Gate + Sync>(
     rt: &R,
     asked: &Asked,

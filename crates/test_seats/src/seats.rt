@@ -19,7 +19,7 @@ use test_board::{Diamond, FIRST, Fan, START, Small, put_after_start, put_each};
 /// A board of the diamond.
 pub type DiamondBoard = Board<Small<Diamond>, Global>;
 
-/// Waits for a flag, for a bounded number of turns. `false` where it stays down.
+/// Waits for a flag, for a bounded number of turns. `false` if it stays down.
 pub fn waits_for(flag: &AtomicBool) -> bool {
     for _ in 0..10_000_000u32 {
         if flag.load(SeqCst) {
@@ -53,7 +53,7 @@ fn a_writer_keeps_others_out(rt: HostRuntime) -> Result<(), Fail> {
     Ok(())
 }
 
-/// Reads the shard 0, says so, and keeps the right until the other reader says so too. `false` where that stays out.
+/// Reads the shard 0, says so, and keeps the right until the other reader says so too. `false` if that stays out.
 fn reads_beside_another<R: Wait>(
     rt: &R,
     board: &DiamondBoard,
@@ -123,7 +123,7 @@ fn an_entry_is_found_without_a_right(rt: HostRuntime) -> Result<(), Fail> {
     Ok(())
 }
 
-/// Two seats have seen the first entry alone. One claims it and stops the board, and neither can claim it then.
+/// Two seats have seen only the first entry. One claims it and stops the board, and neither can claim it then.
 fn claim_and_stop(
     rt: &impl Abort,
     board: &DiamondBoard,
@@ -187,7 +187,7 @@ const ALIKE: [u128; 2] = [5, 5 + 13 * 0x1_0000_0000_0000_0000];
 /// Both words, and the first of them once more.
 const ALIKE_AGAIN: [u128; 3] = [ALIKE[0], ALIKE[1], ALIKE[0]];
 
-/// Where the two words come to stand.
+/// The places that the two words get.
 const FIFTH: Place = Place { shard: 5, at: 0 };
 
 const BESIDE: Place = Place { shard: 5, at: 1 };
@@ -214,7 +214,7 @@ fn words_whose_low_halves_are_equal_are_two_entries(rt: HostRuntime) -> Result<(
     Ok(())
 }
 
-/// On a board that may have so many words, so many of them a shard, the words behind the first are answered so.
+/// On a board with this limit of words, and of words in a shard, the words after the first get these answers.
 fn put_on<R: Abort + AllocGlobal>(
     rt: &R,
     limit: usize,

@@ -17,7 +17,7 @@ pub struct Asked {
     pub module: Module,
     pub blocks: usize,
     pub journal: usize,
-    /// Whether the checker asks, too, that nothing which the script keeps is lost.
+    /// Whether the checker also requires that nothing the script keeps is lost.
     pub strict: bool,
     /// The sets that a crash can leave.
     pub closed: usize,
@@ -103,7 +103,7 @@ pub const REUSE: Asked = Asked {
     failing: 36,
 };
 
-/// A directory's block becomes file data behind a metadata journal.
+/// A directory's block becomes file data under a metadata journal.
 pub const JOURNAL: Asked = Asked {
     script: b"mkdir /d\ncreate /d/x\ncreate /f\nstart\nunlink /d/x\nrmdir /d\nwrite /f\n",
     toggles: 0,

@@ -6,7 +6,7 @@ ghost use Rattle.patch_graph.specs.Graph.{IsPatch};
 use arrayvec::ArrayVec;
 use crash_model::patches::Patch;
 
-/// A patch that puts one byte where a zero is.
+/// A patch that replaces a zero by another byte.
 pub fn one_byte(block: u8, offset: u8, byte: u8) -> Patch
     requires { offset < 128 }
     ensures whole { IsPatch result }

@@ -26,7 +26,7 @@ impl Gauge {
         }
     }
 
-    /// Counts anew from 1, and refuses the requests from `first` to `last`. A grown or shrunk block is a request too.
+    /// Counts from 1 again, and refuses the requests from `first` to `last`. A grown or shrunk block is a request too.
     pub fn refuse(&self, first: u64, last: u64) {
         self.first.store(first, SeqCst);
         self.last.store(last, SeqCst);

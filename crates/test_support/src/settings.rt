@@ -1,4 +1,4 @@
-//! Settings that tests change where they ask for something else.
+//! Settings that tests change when they ask for something else.
 
 ghost use Rattle.std.specs.Prelude.{◌≡◌};
 
@@ -6,7 +6,7 @@ use crash_model::modules::Module;
 use crash_model::rule_lists::RuleList;
 use crash_model::settings::{Explorer, ReportBy, Settings};
 
-/// The settings of a command line that names the module alone.
+/// The settings of a command line that names only the module.
 pub fn plain_settings(module: Module) -> Settings
     ensures limit { result.limit ≡ 4096 }
     ensures explorer { result.explorer ≡ Explorer.Auto }
@@ -23,6 +23,7 @@ pub fn plain_settings(module: Module) -> Settings
         explain: false,
         whole_blocks: false,
         strict: false,
+        atomic: false,
         by: ReportBy::BySet,
     }
 }

@@ -1,4 +1,4 @@
-//! Scripts on a disk: the image before the start line, and the graph of the steps behind it.
+//! Scripts on a disk: the image before the start line, and the graph of the steps after it.
 
 ghost use Rattle.std.specs.Prelude.{◌≡◌, ◌<◌, IfOk};
 ghost use Rattle.std.specs.List.{All};
@@ -13,7 +13,7 @@ use script_text::{Script, read_script};
 use std::alloc::Allocator;
 use std::test::Fail;
 
-/// The image before a script's start line, and the graph of the steps behind it.
+/// The image before a script's start line, and the graph of the steps after it.
 #[derive(Drop)]
 pub struct Trace<A: Allocator + Copy> {
     pub base: Image<A>,
@@ -46,7 +46,7 @@ fn graph_of<A: Allocator + Copy>(
     Ok(trace(alloc, base, steps, &ordering)?.into_graph())
 }
 
-/// A script under an ordering, on a disk of so many blocks, some of them the journal's.
+/// A script under an ordering, on a disk of this number of blocks, some of them the journal's.
 pub fn trace_of<A: Allocator + Copy>(
     alloc: A,
     script: &[u8],
@@ -61,7 +61,7 @@ pub fn trace_of<A: Allocator + Copy>(
     traced(alloc, &script, blocks, journal, order)
 }
 
-/// The steps of a script under an ordering, on a disk of so many blocks, some of them the journal's.
+/// The steps of a script under an ordering, on a disk of this number of blocks, some of them the journal's.
 fn traced<A: Allocator + Copy>(
     alloc: A,
     script: &Script<A>,

@@ -27,7 +27,7 @@ emitted_read (x ∷ patches) (l ∷ labels) zero label patch e at_label at_patch
 emitted_read (x ∷ patches) (l ∷ labels) (suc id) label patch e at_label at_patch at =
     emitted_read patches labels id label patch e at_label at_patch at
 
--- an emitted patch stands where the patch of its id does
+-- an emitted patch has the place of its id's patch
 pub emitted_placed : (patches : List Patch) (labels : List Label) (id : ℕ) (patch : Patch) (e : Emitted)
     → slice_get patches id ≡ Some patch → slice_get (emitted_by (places_of patches) labels) id ≡ Some e
     → e.place ≡ place patch.block patch.offset patch.new.items

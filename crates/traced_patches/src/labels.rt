@@ -41,7 +41,7 @@ pub fn waits(rules: &[Rule], links: &[Link<'_>], later: &Label<'_>, earlier: &La
     is_linked(links, later, earlier) || is_ordered(rules, later, earlier)
 }
 
-/// Whether some rule makes a patch wait for an earlier one.
+/// Whether any rule makes a patch wait for an earlier one.
 fn is_ordered(rules: &[Rule], later: &Label<'_>, earlier: &Label<'_>) -> bool
     ensures { result ≡ list_any (λ rule. applies rule (emitted_of later.now) (emitted_of earlier.now)) rules.now }
 {

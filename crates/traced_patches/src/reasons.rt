@@ -51,7 +51,7 @@ impl fmt::Display for Reason {
 }
 
 impl Reasons {
-    /// The reasons one by one, in the order of the report. There is one exactly where the patch depends on
+    /// The reasons one by one, in the order of the report. There is one exactly if the patch depends on
     /// the earlier one.
     pub fn list(&self) -> ArrayVec<Reason, MAX_REASONS>
         ensures texts { (t : TracedPatches) (q p : Emitted) → AreReasons t q p self.now

@@ -85,7 +85,7 @@ impl<'a, A: Allocator + Copy> Traced<'a, A> {
         self.graph.len()
     }
 
-    /// The graph alone.
+    /// Only the graph.
     pub fn into_graph(self) -> Graph<A>
         ensures { result ≡ self.entry.patches }
     {
@@ -143,7 +143,7 @@ impl<'a, A: Allocator + Copy> Traced<'a, A> {
             && self.graph.patch(later).block == self.graph.patch(earlier).block
     }
 
-    /// Why a patch depends on an earlier one; of one that does not there is no reason.
+    /// Why a patch depends on an earlier one. If it does not, there is no reason.
     pub fn reasons(&self, later: usize, earlier: usize) -> Reasons
         requires later { later < length self.now.patches }
         requires earlier { earlier < length self.now.patches }

@@ -43,7 +43,7 @@ path_from (a ∷ b ∷ c ∷ []) = Some (record { through = record { items = a �
 path_from (a ∷ b ∷ c ∷ d ∷ []) = Some (record { through = record { items = a ∷ b ∷ c ∷ [] }; last = d })
 path_from _ = None
 
--- what stands behind the first slash
+-- what follows the first slash
 abbrev pub path_of_pieces : List (List ℕ) → Option Path
 path_of_pieces ([] ∷ names) = if list_all (is_word is_name_byte) names then path_from names else None
 path_of_pieces _ = None

@@ -4,6 +4,7 @@ use Rattle.std.proofs.Common.{subst, ◌∙◌}
 use Rattle.std.specs.Prelude.{◌==◌, Result, Ok, Err}
 use Rattle.std.proofs.lemmas.Bool.{and_parts, leb-true, le-leb, ltb-true}
 use Rattle.patch_sets.proofs.Ids.{eq_from_true}
+use Rattle.crash_model.specs.Report.{Detail}
 use Rattle.crash_model.specs.Answer as answers
 use Rattle.crash_model.specs.Answer.{Refused, Reported, HasBase, HasGraph, IsAnswer, detail_of, ordering_rules}
 use Rattle.crash_model.specs.Disk.{Disk, empty_disk, IsGeometry}
@@ -15,12 +16,12 @@ use Rattle.crash_model.specs.Whole.{Sets, report}
 use Rattle.crash_model.specs.Trace.{trace_start, trace_from, base_from}
 use Rattle.crash_model.specs.declared.refusals.TraceFault.{TraceFault}
 use Rattle.crash_model.specs.declared.refusals.RunFault.TheVariants.{BadGeometry, TooMany}
-use Rattle.crash_model.specs.declared.settings.Detail.{Detail}
 use Rattle.crash_model.specs.declared.settings.Settings.{Settings}
 use Rattle.crash_model.specs.declared.settings.ReportBy.TheVariants.{BySet}
 use Rattle.crash_model.specs.declared.steps.Act.{Act}
 use Rattle.crash_model.proofs.Leading.{failing_closed, closed_are_left, sections_lead}
-use Rattle.worked_example_laws.specs.Computed.{closed_sets, failing_under, kept_of, are_in_order, trace_of, is_accepted}
+use Rattle.worked_example_laws.specs.Computed.{closed_sets, failing_under, demands_of, are_in_order}
+use Rattle.worked_example_laws.specs.Computed.{trace_of, is_accepted}
 use Rattle.worked_example_laws.specs.Computed.{section_of, have_runs}
 use Rattle.worked_example_laws.specs.Examples.{numbered_steps}
 use Rattle.worked_example_laws.specs.Spelled.{are_acts, script, base_or, base_of, has_base, trace_steps, graph}
@@ -28,7 +29,7 @@ use Rattle.worked_example_laws.specs.Spelled.{is_geometry, is_told}
 use Rattle.worked_example_laws.proofs.FailingSets.{accepted_is, counts_closed, all_under, failing_quickly_under}
 use Rattle.worked_example_laws.proofs.FailingSets.{failing_under_are}
 use Rattle.worked_example_laws.proofs.Graphs.{earlier, graph_is}
-use Rattle.worked_example_laws.proofs.Keeping.{is_told_kept}
+use Rattle.worked_example_laws.proofs.Keeping.{are_demands}
 use Rattle.worked_example_laws.proofs.Runs.{sections_if}
 use Rattle.worked_example_laws.proofs.Spelling.{script_is}
 
@@ -47,7 +48,7 @@ based_is : (d : Disk) (r : Result Disk TraceFault) → has_base r ≡ true → r
 based_is d (Err fault) e = cc
 based_is d (Ok base) e = refl
 
--- the disk at the start line, and the graph of the steps behind it
+-- the disk at the start line, and the graph of the steps after it
 module _ (settings : Settings) (before behind : List Act) (read : are_acts before ≡ true)
     (read_too : are_acts behind ≡ true) (geometry : is_geometry settings ≡ true) where
   pub start : has_base (base_from (empty_disk settings.blocks settings.journal) (numbered_steps 1 before)) ≡ true
@@ -86,7 +87,7 @@ refused_base settings before behind fault read read_too geometry is =
     answers.bad_base (numbered_steps 1 before) (trace_steps before behind) fault (script_is before behind read read_too)
     (geometry_if settings geometry) is
 
--- an act behind it is refused
+-- an act after it is refused
 pub refused_trace : (settings : Settings) (before behind : List Act) (fault : TraceFault)
     → are_acts before ≡ true → are_acts behind ≡ true → is_geometry settings ≡ true
     → has_base (base_from (empty_disk settings.blocks settings.journal) (numbered_steps 1 before)) ≡ true
@@ -97,10 +98,10 @@ refused_trace settings before behind fault read read_too geometry whole is =
     answers.bad_trace (base_of settings before) (trace_steps before behind) fault
     (start settings before behind read read_too geometry whole) is
 
--- how much is told of a set
+-- how much is reported of a set
 abbrev pub told_detail : Settings → List Act → List Act → Detail
 told_detail settings before behind = detail_of settings
-    (kept_of settings.strict (base_of settings before) (trace_steps before behind))
+    (demands_of settings.strict settings.atomic (base_of settings before) (trace_steps before behind))
 
 -- the same test as `is_told`, in fewer steps
 abbrev pub is_told_quickly : Settings → List Act → List Act → ℕ → List ℕ → Bool
@@ -112,14 +113,14 @@ is_told_quickly settings before behind closed failing =
     && (is_accepted (trace_from settings.module (trace_start settings.whole_blocks base) (trace_steps before behind))
     && ((length (closed_sets (deps_of patches)) == closed)
     && (are_in_order (length (deps_of patches)) failing
-    (failing_quickly_under (kept_of settings.strict base (trace_steps before behind)) base patches)
+    (failing_quickly_under (demands_of settings.strict settings.atomic base (trace_steps before behind)) base patches)
     && (nat_le closed settings.limit && have_runs patches failing)))))))
 
 quickly_is : (settings : Settings) (before behind : List Act) (closed : ℕ) (failing : List ℕ)
     → is_told_quickly settings before behind closed failing ≡ is_told settings before behind closed failing
 quickly_is settings before behind closed failing =
     let base = base_of settings before in
-    rw (failing_under_are (kept_of settings.strict base (trace_steps before behind)) base
+    rw (failing_under_are (demands_of settings.strict settings.atomic base (trace_steps before behind)) base
     (graph settings before behind)) refl
 
 -- the report, of each failing set
@@ -144,8 +145,8 @@ reported settings before behind closed failing text told_quickly by_set is =
     let base = base_of settings before in
     let steps = trace_steps before behind in
     let last = trace_of settings.module settings.whole_blocks base steps in
-    let kept = kept_of settings.strict base steps in
-    let detail = detail_of settings kept in
+    let demands = demands_of settings.strict settings.atomic base steps in
+    let detail = detail_of settings demands in
     let patches = graph settings before behind in
     let one = and_parts (are_acts before) _ told in
     let two = and_parts (are_acts behind) _ one.1 in
@@ -155,16 +156,16 @@ reported settings before behind closed failing text told_quickly by_set is =
     let five = and_parts (is_accepted (trace_from settings.module (trace_start settings.whole_blocks base) steps)) _
     four.1 in
     let six = and_parts (length (closed_sets (deps_of patches)) == closed) _ five.1 in
-    let seven = and_parts (are_in_order (length (deps_of patches)) failing (failing_under kept base patches))
+    let seven = and_parts (are_in_order (length (deps_of patches)) failing (failing_under demands base patches))
     (nat_le closed settings.limit && have_runs patches failing) six.1 in
     let eight = and_parts (nat_le closed settings.limit) (have_runs patches failing) seven.1 in
     let first = earlier (ordering_rules settings) base last in
-    let exactly = all_under kept base patches failing first seven.0 in
-    let are_closed = failing_closed kept base patches failing exactly in
+    let exactly = all_under demands base patches failing first seven.0 in
+    let are_closed = failing_closed demands base patches failing exactly in
     let sections = sections_if detail base patches failing eight.1 in
-    answers.reported kept base last patches text (length failing)
+    answers.reported demands base last patches text (length failing)
     (has_graph settings before behind one.0 two.0 three.0 four.0 five.0)
-    (is_told_kept settings.strict base steps) (record {
+    (are_demands settings.strict settings.atomic base steps) (record {
       total = closed;
       counted = counts_closed patches closed first (eq_from_true _ _ six.0);
       within = leb-true closed settings.limit eight.0;

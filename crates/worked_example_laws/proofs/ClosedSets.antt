@@ -38,9 +38,9 @@ to_filter test (y ∷ xs) x (suc k, within, is) passes =
     by_test false it = it
     by_test true it = (suc it.0, omega (arith, it.1), it.2)
 
--- ---- lists in which no word stands twice
+-- ---- lists in which no word is twice
 
--- a list of which no word stands twice, by recursion
+-- a list in which no word is twice, by recursion
 abbrev pub AreApart : List ℕ → Type 0
 AreApart [] = Unit {0}
 AreApart (x ∷ xs) = (¬ (Contains xs x)) × AreApart xs

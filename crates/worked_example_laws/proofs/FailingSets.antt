@@ -21,7 +21,8 @@ use Rattle.crash_model.specs.Patches.{deps_of, image_of, CountsClosed}
 use Rattle.crash_model.specs.Replay.{image_after_replay}
 use Rattle.crash_model.specs.Faults.{faults}
 use Rattle.crash_model.specs.Failing.{IsFailing}
-use Rattle.crash_model.specs.Strict.{faults_under, strict_faults, IsFailingUnder}
+use Rattle.crash_model.specs.Checker.{Demands, faults_keeping, faults_showing, faults_under, IsFailingUnder}
+use Rattle.crash_model.specs.Strict.{strict_faults}
 use Rattle.crash_model.specs.declared.fault.Fault.{Fault}
 use Rattle.crash_model.specs.Trace.{Tracing, trace_start, trace_from}
 use Rattle.crash_model.specs.declared.patches.Patch.{Patch}
@@ -29,7 +30,8 @@ use Rattle.crash_model.specs.declared.refusals.TraceFault.{TraceFault}
 use Rattle.crash_model.specs.declared.modules.Module.{Module}
 use Rattle.crash_model.specs.declared.steps.Step.{Step}
 use Rattle.worked_example_laws.proofs.Graphs.{graph_is}
-use Rattle.worked_example_laws.specs.Computed.{closed_sets, is_none_found, fails, failing_sets, fails_under}
+use Rattle.worked_example_laws.specs.Computed.{nothing_more, closed_sets, is_none_found, fails}
+use Rattle.worked_example_laws.specs.Computed.{failing_sets, fails_under}
 use Rattle.worked_example_laws.specs.Computed.{failing_under, ones_below, is_before, is_ordered, is_in, are_in_order}
 use Rattle.worked_example_laws.specs.Computed.{graph_of, HasGraph, ExploresTo, is_accepted, trace_or_start, CountsWith}
 use Rattle.worked_example_laws.proofs.QuickFaults.{replayed, quick_faults, quick_faults_are}
@@ -56,7 +58,7 @@ counts_closed patches n before many =
       many,
     )
 
--- with so many of these ids
+-- with this many of these ids
 counts_with : (patches : List Patch) (ids : List ℕ) (held n : ℕ) → AreEarlier (deps_of patches)
     → length (filter (λ set. length (filter (has set) ids) == held) (closed_sets (deps_of patches))) ≡ n
     → CountsWith patches ids held n
@@ -88,31 +90,31 @@ by_fault : (found : List Fault) → (found ≡ [] → ⊥) → not (is_none_foun
 by_fault [] some = absurd (some refl)
 by_fault (f ∷ found) some = refl
 
-module _ (kept : Option ℕ) (base : Disk) (patches : List Patch) (before : AreEarlier (deps_of patches)) where
-  pub under_at : (set : ℕ) → Contains (failing_under kept base patches) set → IsFailingUnder kept base patches set
+module _ (demands : Demands) (base : Disk) (patches : List Patch) (before : AreEarlier (deps_of patches)) where
+  pub under_at : (set : ℕ) → Contains (failing_under demands base patches) set → IsFailingUnder demands base patches set
   under_at set is =
-      let it = from_filter (fails_under kept base patches) (closed_sets (deps_of patches)) set is in
+      let it = from_filter (fails_under demands base patches) (closed_sets (deps_of patches)) set is in
       record {
         closed = (closed_are_all (deps_of patches) before).each set it.0;
-        unclean = λ clean. none_at_true (faults_under kept (image_after_replay (image_of base patches set))) it.1
+        unclean = λ clean. none_at_true (faults_under demands (image_after_replay (image_of base patches set))) it.1
             clean.faultless;
       }
 
-  pub in_under : (set : ℕ) → IsFailingUnder kept base patches set → Contains (failing_under kept base patches) set
-  in_under set failing = to_filter (fails_under kept base patches) (closed_sets (deps_of patches)) set
+  pub in_under : (set : ℕ) → IsFailingUnder demands base patches set → Contains (failing_under demands base patches) set
+  in_under set failing = to_filter (fails_under demands base patches) (closed_sets (deps_of patches)) set
       ((closed_are_all (deps_of patches) before).every set failing.closed)
-      (by_fault (faults_under kept (image_after_replay (image_of base patches set)))
+      (by_fault (faults_under demands (image_after_replay (image_of base patches set)))
       (λ none. failing.unclean record { faultless = none }))
 
--- the same where nothing is asked of what is kept
+-- the same if nothing more is demanded
 module _ (base : Disk) (patches : List Patch) where
-  pub failing_from_under : (set : ℕ) → IsFailingUnder None base patches set → IsFailing base patches set
+  pub failing_from_under : (set : ℕ) → IsFailingUnder nothing_more base patches set → IsFailing base patches set
   failing_from_under set is = record {
     closed = is.closed;
     unclean = λ clean. is.unclean record { faultless = clean.faultless };
   }
 
-  pub under_from_failing : (set : ℕ) → IsFailing base patches set → IsFailingUnder None base patches set
+  pub under_from_failing : (set : ℕ) → IsFailing base patches set → IsFailingUnder nothing_more base patches set
   under_from_failing set is = record {
     closed = is.closed;
     unclean = λ clean. is.unclean record { faultless = clean.faultless };
@@ -120,10 +122,10 @@ module _ (base : Disk) (patches : List Patch) where
 
 module _ (base : Disk) (patches : List Patch) (before : AreEarlier (deps_of patches)) where
   failing_at : (set : ℕ) → Contains (failing_sets base patches) set → IsFailing base patches set
-  failing_at set is = failing_from_under base patches set (under_at None base patches before set is)
+  failing_at set is = failing_from_under base patches set (under_at nothing_more base patches before set is)
 
   in_failing : (set : ℕ) → IsFailing base patches set → Contains (failing_sets base patches) set
-  in_failing set failing = in_under None base patches before set (under_from_failing base patches set failing)
+  in_failing set failing = in_under nothing_more base patches before set (under_from_failing base patches set failing)
 
   pub counts_failing : (n : ℕ) → length (failing_sets base patches) ≡ n → HoldsOf (IsFailing base patches) n
   counts_failing n many = (
@@ -183,22 +185,22 @@ all_if test (s ∷ sets) e set (suc k, within, is) = all_if test sets (and_parts
     (k, omega arith, is)
 
 -- these sets are all that fail, in canonical order
-pub all_under : (kept : Option ℕ) (base : Disk) (patches : List Patch) (sets : List ℕ) → AreEarlier (deps_of patches)
-    → are_in_order (length (deps_of patches)) sets (failing_under kept base patches) ≡ true
-    → AreAllInOrder (IsFailingUnder kept base patches) sets
-all_under kept base patches sets before e =
-    let found = failing_under kept base patches in
+pub all_under : (demands : Demands) (base : Disk) (patches : List Patch) (sets : List ℕ) → AreEarlier (deps_of patches)
+    → are_in_order (length (deps_of patches)) sets (failing_under demands base patches) ≡ true
+    → AreAllInOrder (IsFailingUnder demands base patches) sets
+all_under demands base patches sets before e =
+    let found = failing_under demands base patches in
     let ordered = and_parts (is_ordered (length (deps_of patches)) sets) _ e in
     let same = and_parts (list_all (is_in found) sets) (list_all (is_in sets) found) ordered.1 in
     let fails_at = λ (set : ℕ) (is : Contains sets set).
-    under_at kept base patches before set (in_if found set (all_if (is_in found) sets same.0 set is)) in
+    under_at demands base patches before set (in_if found set (all_if (is_in found) sets same.0 set is)) in
     record {
       ordered = ordered_from_next sets (next_if (length (deps_of patches)) sets
           (λ set is. small_from_below set (length (deps_of patches)) (fails_at set is).closed.known) ordered.0);
       exactly = λ set. (
         fails_at set,
         λ failing. in_if sets set
-            (all_if (is_in sets) found same.1 set (in_under kept base patches before set failing)),
+            (all_if (is_in sets) found same.1 set (in_under demands base patches before set failing)),
       );
     }
 
@@ -206,7 +208,7 @@ all_failing : (base : Disk) (patches : List Patch) (sets : List ℕ) → AreEarl
     → are_in_order (length (deps_of patches)) sets (failing_sets base patches) ≡ true
     → AreAllInOrder (IsFailing base patches) sets
 all_failing base patches sets before e =
-    let all = all_under None base patches sets before e in
+    let all = all_under nothing_more base patches sets before e in
     record {
       ordered = all.ordered;
       exactly = λ set. (
@@ -268,7 +270,7 @@ counted_if kind base steps closed e =
     (λ patches before is. counts_closed patches closed before is)
     (graph_if kind base steps (λ patches. length (closed_sets (deps_of patches))) closed e)
 
--- so many sets have none of these ids, so many have one, and so on
+-- how many sets have none of these ids, how many have one, and so on
 abbrev pub are_counted_from : ℕ → List ℕ → List ℕ → List ℕ → Bool
 are_counted_from held ids [] sets = true
 are_counted_from held ids (n ∷ counts) sets =
@@ -317,32 +319,39 @@ counts_if kind base steps ids counts total e =
 
 -- ---- which fail
 
-abbrev pub quick_faults_under : Option ℕ → Disk → List Fault
-quick_faults_under None d = quick_faults d
-quick_faults_under (Some kept) d = quick_faults d ++ strict_faults kept d
+abbrev pub quick_faults_keeping : Option ℕ → Disk → List Fault
+quick_faults_keeping None d = quick_faults d
+quick_faults_keeping (Some kept) d = quick_faults d ++ strict_faults kept d
 
-quick_faults_under_are : (kept : Option ℕ) (d : Disk) → quick_faults_under kept d ≡ faults_under kept d
-quick_faults_under_are None d = quick_faults_are d
-quick_faults_under_are (Some kept) d = ap (λ found. found ++ strict_faults kept d) (quick_faults_are d)
+quick_faults_keeping_are : (o : Option ℕ) (d : Disk) → quick_faults_keeping o d ≡ faults_keeping o d
+quick_faults_keeping_are None d = quick_faults_are d
+quick_faults_keeping_are (Some kept) d = ap (λ found. found ++ strict_faults kept d) (quick_faults_are d)
 
-abbrev pub failing_quickly_under : Option ℕ → Disk → List Patch → List ℕ
-failing_quickly_under kept base patches =
-    filter (λ set. not (is_none_found (quick_faults_under kept (replayed (image_of base patches set)))))
+abbrev pub quick_faults_under : Demands → Disk → List Fault
+quick_faults_under demands d = faults_showing demands.disks d (quick_faults_keeping demands.kept d)
+
+quick_faults_under_are : (demands : Demands) (d : Disk) → quick_faults_under demands d ≡ faults_under demands d
+quick_faults_under_are demands d =
+    ap (faults_showing demands.disks d) (quick_faults_keeping_are demands.kept d)
+
+abbrev pub failing_quickly_under : Demands → Disk → List Patch → List ℕ
+failing_quickly_under demands base patches =
+    filter (λ set. not (is_none_found (quick_faults_under demands (replayed (image_of base patches set)))))
     (closed_sets (deps_of patches))
 
-pub failing_under_are : (kept : Option ℕ) (base : Disk) (patches : List Patch)
-    → failing_quickly_under kept base patches ≡ failing_under kept base patches
-failing_under_are kept base patches =
-    filter_agree (λ set. not (is_none_found (quick_faults_under kept (replayed (image_of base patches set)))))
-    (fails_under kept base patches)
-    (λ set. ap (λ found. not (is_none_found found)) (quick_faults_under_are kept
+pub failing_under_are : (demands : Demands) (base : Disk) (patches : List Patch)
+    → failing_quickly_under demands base patches ≡ failing_under demands base patches
+failing_under_are demands base patches =
+    filter_agree (λ set. not (is_none_found (quick_faults_under demands (replayed (image_of base patches set)))))
+    (fails_under demands base patches)
+    (λ set. ap (λ found. not (is_none_found found)) (quick_faults_under_are demands
     (image_after_replay (image_of base patches set)))) (closed_sets (deps_of patches))
 
 abbrev pub failing_quickly : Disk → List Patch → List ℕ
-failing_quickly base patches = failing_quickly_under None base patches
+failing_quickly base patches = failing_quickly_under nothing_more base patches
 
 failing_are : (base : Disk) (patches : List Patch) → failing_quickly base patches ≡ failing_sets base patches
-failing_are base patches = failing_under_are None base patches
+failing_are base patches = failing_under_are nothing_more base patches
 
 pub number_if : (kind : Module) (base : Disk) (steps : List Step) (many : ℕ)
     → at_graph kind base (λ patches. length (failing_quickly base patches)) (trace_from kind
@@ -376,7 +385,7 @@ fails_at_fault base patches before set is_closed f fs is = record {
   unclean = λ clean. let none = clean.faultless in cc;
 }
 
--- so many sets are closed, and these are all that fail, in canonical order
+-- this many sets are closed, and these are all that fail, in canonical order
 abbrev pub are_explored : Disk → ℕ → List ℕ → List Patch → Bool
 are_explored base closed failing patches =
     (length (closed_sets (deps_of patches)) == closed) && are_in_order (length (deps_of patches)) failing

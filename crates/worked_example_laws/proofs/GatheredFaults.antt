@@ -42,7 +42,7 @@ same_or_not f g = by (compare f g)
     by (inr (inl e)) = inl e
     by (inr (inr last)) = inr (λ e. alone g (subst (λ (h : Fault). IsFaultBefore g h) e last))
 
--- each is before all behind it
+-- each is before all after it
 abbrev pub Rise : List Fault → Type 0
 Rise [] = Unit {0}
 Rise (f ∷ fs) = ((z : Fault) → Contains fs z → IsFaultBefore f z) × Rise fs

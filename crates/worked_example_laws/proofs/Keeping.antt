@@ -1,4 +1,4 @@
--- There is what a checker is told of the inodes that a script keeps, and only that.
+-- What a script demands exists, and is unique.
 use Rattle.std.proofs.Common.{◌≡◌, ℕ, ◌<◌, List, [], ◌∷◌, Bool, true, false, ◌==◌, not, nat_lt, refl, sym, ap, ◌∙◌, inl}
 use Rattle.std.proofs.Common.{inr}
 use Rattle.std.specs.Prelude.{Option, Some, None}
@@ -10,7 +10,10 @@ use Rattle.crash_model.specs.Disk.{Disk}
 use Rattle.crash_model.specs.Layout.{kind_of, is_live}
 use Rattle.crash_model.specs.Strict.{disk_after, stays_live, IsKept, IsToldKept}
 use Rattle.crash_model.specs.declared.steps.Step.{Step}
-use Rattle.worked_example_laws.specs.Computed.{set_below, kept_of}
+use Rattle.crash_model.specs.Atomic.{disks_of}
+use Rattle.crash_model.specs.Checker.{Demands, AreDemands}
+use Rattle.crash_model.specs.Lists.{when}
+use Rattle.worked_example_laws.specs.Computed.{set_below, kept_of, shown_of, demands_of}
 use Rattle.worked_example_laws.proofs.Graphs.{from_set_below, to_set_below}
 
 -- an inode's number is below 16
@@ -55,3 +58,23 @@ one_kept strict base steps None None is also = refl
 one_kept strict base steps None (Some other) is also = absurd (false≢true (sym is ∙ also.0))
 one_kept strict base steps (Some kept) None is also = absurd (false≢true (sym also ∙ is.0))
 one_kept strict base steps (Some kept) (Some other) is also = ap Some (kept_one base steps kept other is.1 also.1)
+
+are_shown : (atomic : Bool) (base : Disk) (steps : List Step)
+    → shown_of atomic base steps ≡ when atomic (disks_of base steps)
+are_shown false base steps = refl
+are_shown true base steps = refl
+
+pub are_demands : (strict atomic : Bool) (base : Disk) (steps : List Step)
+    → AreDemands strict atomic base steps (demands_of strict atomic base steps)
+are_demands strict atomic base steps = record {
+  kept = is_told_kept strict base steps;
+  disks = are_shown atomic base steps;
+}
+
+pub one_demands : (strict atomic : Bool) (base : Disk) (steps : List Step) (demands other : Demands)
+    → AreDemands strict atomic base steps demands → AreDemands strict atomic base steps other → demands ≡ other
+one_demands strict atomic base steps demands other is also =
+    let demanding : Option ℕ → Option (List Disk) → Demands = λ kept disks. record { kept = kept; disks = disks } in
+    ap (λ (kept : Option ℕ). demanding kept demands.disks)
+    (one_kept strict base steps demands.kept other.kept is.kept also.kept)
+    ∙ ap (λ (disks : Option (List Disk)). demanding other.kept disks) (is.disks ∙ sym also.disks)

@@ -1,6 +1,6 @@
 -- There is at most one answer.
 use Rattle.std.proofs.Common.{◌≡◌, ℕ, List, length, sym, subst, ap, ◌∙◌, inl, inr}
-use Rattle.std.specs.Prelude.{Option, Result, Ok, Err}
+use Rattle.std.specs.Prelude.{Result, Ok, Err}
 use Rattle.state_space.proofs.Counting.{one_number, not_more}
 use Rattle.patch_sets.specs.Closed.{IsClosed}
 use Rattle.patch_sets.proofs.Canonical.{one_list}
@@ -10,14 +10,14 @@ use Rattle.crash_model.specs.Explain.{explanation}
 use Rattle.crash_model.specs.Lists.{when}
 use Rattle.crash_model.specs.Patches.{deps_of}
 use Rattle.crash_model.specs.Refusals.{run_of_script}
-use Rattle.crash_model.specs.Strict.{IsFailingUnder}
+use Rattle.crash_model.specs.Checker.{Demands, IsFailingUnder}
 use Rattle.crash_model.specs.Trace.{Tracing, trace_start, trace_from, base_from}
 use Rattle.crash_model.specs.Whole.{report}
 use Rattle.crash_model.specs.declared.patches.Patch.{Patch}
 use Rattle.crash_model.specs.declared.refusals.TraceFault.{TraceFault}
 use Rattle.crash_model.specs.declared.settings.Settings.{Settings}
 use Rattle.crash_model.specs.declared.steps.Step.{Step}
-use Rattle.worked_example_laws.proofs.Keeping.{one_kept}
+use Rattle.worked_example_laws.proofs.Keeping.{one_demands}
 use Rattle.worked_example_laws.proofs.OneBody.{body_one}
 use Rattle.worked_example_laws.proofs.OneGraph.{graph_one}
 use Rattle.worked_example_laws.proofs.Stages.{ComesOfGraph, ComesOfTrace, ComesOfBase, ComesOfSteps, ComesOfScript}
@@ -25,17 +25,17 @@ use Rattle.worked_example_laws.proofs.Stages.{stages}
 use Rattle.worked_example_laws.proofs.Scripts.{script_one, refusal_one, read_or_refused}
 
 module _ (settings : Settings) (base : Disk) (last : Tracing) where
-  report_one : (kept : Option ℕ) (patches : List Patch) (text other : List ℕ) (failing more : ℕ)
-      → IsReport settings kept base last patches text failing
-      → IsReport settings kept base last patches other more → Reported text failing ≡ Reported other more
-  report_one kept patches text other failing more is also =
+  report_one : (demands : Demands) (patches : List Patch) (text other : List ℕ) (failing more : ℕ)
+      → IsReport settings demands base last patches text failing
+      → IsReport settings demands base last patches other more → Reported text failing ≡ Reported other more
+  report_one demands patches text other failing more is also =
       let total : is.total ≡ also.total = one_number (IsClosed (deps_of patches)) is.total also.total is.counted
       also.counted in
-      let same : is.sets ≡ also.sets = one_list (IsFailingUnder kept base patches) is.sets also.sets is.exactly
+      let same : is.sets ≡ also.sets = one_list (IsFailingUnder demands base patches) is.sets also.sets is.exactly
       also.exactly in
       let numbers : failing ≡ more = is.number ∙ (ap (λ (some : List ℕ). length some) same ∙ sym also.number) in
-      let bodies : is.body ≡ also.body = body_one settings kept base last patches also.sets is.body also.body
-      (subst (λ some. IsBody settings kept base last patches some is.body) same is.told) also.told in
+      let bodies : is.body ≡ also.body = body_one settings demands base last patches also.sets is.body also.body
+      (subst (λ some. IsBody settings demands base last patches some is.body) same is.told) also.told in
       let texts : text ≡ other = is.whole ∙ ((λ i. report settings (record {
         patches = length patches;
         closed = total i;
@@ -54,9 +54,9 @@ module _ (settings : Settings) (base : Disk) (last : Tracing) where
   graph_answer_one steps patches (Reported text failing) (Refused fault) is also =
       absurd (not_more (IsClosed (deps_of patches)) is.2.total settings.limit is.2.counted is.2.within also.0)
   graph_answer_one steps patches (Reported text failing) (Reported other more) is also =
-      let same : is.0 ≡ also.0 = one_kept settings.strict base steps is.0 also.0 is.1 also.1 in
+      let same : is.0 ≡ also.0 = one_demands settings.strict settings.atomic base steps is.0 also.0 is.1 also.1 in
       report_one also.0 patches text other failing more (subst
-      (λ kept. IsReport settings kept base last patches text failing) same is.2) also.2
+      (λ demands. IsReport settings demands base last patches text failing) same is.2) also.2
 
 module _ (settings : Settings) (base : Disk) (steps : List Step) where
   traced_one : (r : Result Tracing TraceFault) (answer other : Answer) → ComesOfTrace settings base steps r answer

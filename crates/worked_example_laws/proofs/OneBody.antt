@@ -1,4 +1,4 @@
--- What stands behind a report's head is determined.
+-- What follows a report's head is determined.
 use Rattle.std.proofs.Common.{◌≡◌, ◌≢◌, ℕ, zero, suc, ◌≤◌, List, [], ◌∷◌, ◌++◌, length, map, All, arith, refl, sym}
 use Rattle.std.proofs.Common.{subst, ap, ◌∙◌, inl, inr}
 use Rattle.std.specs.Prelude.{◌⊎◌, Option, Some, None}
@@ -17,11 +17,11 @@ use Rattle.patch_sets.proofs.Writes.{one_runs}
 use Rattle.crash_model.specs.Answer.{IsBody, detail_of, ordering_rules}
 use Rattle.crash_model.specs.Disk.{Disk}
 use Rattle.crash_model.specs.Patches.{ExceedsLimit, deps_of, homes_of, image_of}
-use Rattle.crash_model.specs.Strict.{faults_under, IsFailingUnder}
+use Rattle.crash_model.specs.Checker.{Demands, faults_under, IsFailingUnder}
 use Rattle.crash_model.specs.Needs.{Without, RuleUsage, Unused, TooMany, Used, ToldRule, IsFirstNew, IsWithout}
 use Rattle.crash_model.specs.Needs.{IsRuleUsage, AreToldRules}
 use Rattle.crash_model.specs.Replay.{image_after_replay}
-use Rattle.crash_model.specs.Report.{Section, AreSections, replay_of}
+use Rattle.crash_model.specs.Report.{Detail, Section, AreSections, replay_of}
 use Rattle.crash_model.specs.Rules.{rules_in_first}
 use Rattle.crash_model.specs.Summary.{numbers_of, IsFaultBefore, HasFault, IsFirst, IsRow, AreRows, ToldFault}
 use Rattle.crash_model.specs.Summary.{AreToldFaults}
@@ -31,7 +31,6 @@ use Rattle.crash_model.specs.declared.fault.Fault.{Fault}
 use Rattle.crash_model.specs.declared.fault.FaultRow.{FaultRow}
 use Rattle.crash_model.specs.declared.patches.Patch.{Patch}
 use Rattle.crash_model.specs.declared.rules.Rule.{Rule}
-use Rattle.crash_model.specs.declared.settings.Detail.{Detail}
 use Rattle.crash_model.specs.declared.settings.Settings.{Settings}
 use Rattle.crash_model.specs.declared.settings.ReportBy.{ReportBy}
 use Rattle.crash_model.specs.declared.settings.ReportBy.TheVariants.{BySet, ByFault, ByRule}
@@ -51,7 +50,7 @@ sections_one detail base patches (set ∷ some) sections others are are_too =
       set = set;
       writes = writes i;
       replay = replay_of detail.explain (image_of base patches set);
-      found = faults_under detail.kept (image_after_replay (image_of base patches set));
+      found = faults_under detail.demands (image_after_replay (image_of base patches set));
     } ∷ rest i) ∙ sym are_too.4)
 
 -- ---- each fault once
@@ -64,7 +63,7 @@ not_both f g before behind =
     less_or_greater (sym before ∙ (nat_list_cmp_total.antisymm (numbers_of f) (numbers_of g)
     ∙ ap ordering_reverse behind))
 
--- each row's fault comes before those of all rows behind it
+-- each row's fault comes before those of all rows after it
 abbrev Ascend : List FaultRow → Type 0
 Ascend [] = Unit {0}
 Ascend (r ∷ rs) = ((z : FaultRow) → Contains rs z → IsFaultBefore r.fault z.fault) × Ascend rs
@@ -174,7 +173,7 @@ same_told (t ∷ told) (o ∷ others) rows firsts =
 told_faults_one : (detail : Detail) (base : Disk) (patches : List Patch) (told others : List ToldFault)
     → AreToldFaults detail base patches told → AreToldFaults detail base patches others → told ≡ others
 told_faults_one detail base patches told others is also =
-    let rows = rows_one (HasFault detail.kept base patches) (map (λ t. t.row) told) (map (λ t. t.row) others) is.rows
+    let rows = rows_one (HasFault detail.demands base patches) (map (λ t. t.row) told) (map (λ t. t.row) others) is.rows
     also.rows in
     let firsts = subst (λ some. AreSections detail base patches some (map (λ t. t.first) told))
     (same_firsts told others rows) is.firsts in
@@ -219,7 +218,7 @@ module _ (detail : Detail) (base : Disk) (patches changed : List Patch) where
   without_one limit w v is also =
       let closed : w.closed ≡ v.closed = one_number (IsClosed (deps_of changed)) w.closed v.closed is.counted
       also.counted in
-      let same : is.sets ≡ also.sets = one_list (IsFailingUnder detail.kept base changed) is.sets also.sets is.exactly
+      let same : is.sets ≡ also.sets = one_list (IsFailingUnder detail.demands base changed) is.sets also.sets is.exactly
       also.exactly in
       let failing : w.failing ≡ v.failing = is.number ∙ (ap (λ (some : List ℕ). length some) same ∙ sym also.number) in
       let first : w.first ≡ v.first = first_new_one also.sets w.first v.first
@@ -276,20 +275,20 @@ set_or_rule by p q = cc
 fault_or_rule : (by : ReportBy) → by ≡ ByFault → by ≡ ByRule → ⊥
 fault_or_rule by p q = cc
 
-module _ (settings : Settings) (kept : Option ℕ) (base : Disk) (last : Tracing) (patches : List Patch)
+module _ (settings : Settings) (demands : Demands) (base : Disk) (last : Tracing) (patches : List Patch)
     (sets : List ℕ) where
-  pub body_one : (x y : Body) → IsBody settings kept base last patches sets x
-      → IsBody settings kept base last patches sets y → x ≡ y
-  body_one (Sets xs) (Sets ys) is also = ap Sets (sections_one (detail_of settings kept) base patches sets xs ys is.1
+  pub body_one : (x y : Body) → IsBody settings demands base last patches sets x
+      → IsBody settings demands base last patches sets y → x ≡ y
+  body_one (Sets xs) (Sets ys) is also = ap Sets (sections_one (detail_of settings demands) base patches sets xs ys is.1
       also.1)
   body_one (Sets xs) (Faults ys) is also = absurd (set_or_fault settings.by is.0 also.0)
   body_one (Sets xs) (Rules ys) is also = absurd (set_or_rule settings.by is.0 also.0)
   body_one (Faults xs) (Sets ys) is also = absurd (set_or_fault settings.by also.0 is.0)
-  body_one (Faults xs) (Faults ys) is also = ap Faults (told_faults_one (detail_of settings kept) base patches xs ys
+  body_one (Faults xs) (Faults ys) is also = ap Faults (told_faults_one (detail_of settings demands) base patches xs ys
       is.1 also.1)
   body_one (Faults xs) (Rules ys) is also = absurd (fault_or_rule settings.by is.0 also.0)
   body_one (Rules xs) (Sets ys) is also = absurd (set_or_rule settings.by also.0 is.0)
   body_one (Rules xs) (Faults ys) is also = absurd (fault_or_rule settings.by also.0 is.0)
   body_one (Rules xs) (Rules ys) is also =
-      ap Rules (told_rules_one (detail_of settings kept) settings.limit (ordering_rules settings) base last patches
+      ap Rules (told_rules_one (detail_of settings demands) settings.limit (ordering_rules settings) base last patches
       (ordering_rules settings) xs ys is.1 also.1)

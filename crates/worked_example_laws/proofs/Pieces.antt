@@ -105,7 +105,7 @@ pieces_slashed s (x ∷ xs) lacks = rw (true_from_eq s s refl) (ap (λ ps. [] �
     behind x (y ∷ ys) lacks = pieces_first s x (y ++ flat_map (λ word. s ∷ word) ys) lacks.0
         ∙ ap (λ ps. x ∷ ps) (behind y ys lacks.1)
 
--- words with the byte behind each, and one more
+-- words with the byte after each, and one more
 pieces_ended : (s : ℕ) (words : List (List ℕ)) (last : List ℕ) → AreLacking s words → Lacks s last
     → pieces s (flat_map (λ word. word ++ s ∷ []) words ++ last) ≡ words ++ last ∷ []
 pieces_ended s [] last lacks lacks_last = pieces_alone s last lacks_last

@@ -41,7 +41,7 @@ open_lines front last e some = record {
   whole = inr (front, last, some, refl, refl);
 }
 
--- acts before the start line, and with acts behind it
+-- acts before the start line, and with acts after it
 pub acts_accepted : (acts : List Act) → are_acts acts ≡ true → AreAccepted (map line_of acts)
 acts_accepted acts e = record {
   each = each_reads 1 (map line_of acts) (numbered_steps 1 acts) (steps_are 1 acts e);
@@ -135,7 +135,7 @@ pub utf8_refused : (before : List (List ℕ)) (line : List ℕ) (behind : List (
 utf8_refused before line behind accepted plain e = first_refused (λ _ line. ¬ (IsUtf8 line)) before line behind accepted
     plain (not_text line e)
 
--- the last line, with no line feed behind it
+-- the last line, with no line feed after it
 pub last_utf8_refused : (before : List (List ℕ)) (line : List ℕ) → AreAccepted before
     → list_all is_plain (before ++ line ∷ []) ≡ true → line ≢ []
     → is_utf8 line ≡ false → IsScriptRefusal (text_of_lines before ++ line) (BadUtf8 (length before + 1))

@@ -129,7 +129,7 @@ get_contains [] k x e = cc
 get_contains (y ∷ xs) zero x e = (zero, omega arith, (let same : y ≡ x = cc in same))
 get_contains (y ∷ xs) (suc k) x e = let it = get_contains xs k x e in (suc it.0, omega (arith, it.1), it.2)
 
--- the one start line stands behind the base
+-- the one start line comes after the base
 start_place : (n m : ℕ) (before behind : List (List ℕ)) (base traced : List Step) → AreSteps n before base
     → AreSteps m behind traced
     → (i : ℕ) → slice_get (before ++ codes "start" ∷ behind) i ≡ Some (codes "start") → i ≡ length before

@@ -20,7 +20,7 @@ order a b apart = by_count (order_of (count_ones a) (count_ones b)) (order_of a 
     by_count (same e) (same f) = absurd (apart f)
     by_count (same e) (above more) = inr (inr (sym e, more))
 
--- each is before all behind it
+-- each is before all after it
 abbrev pub Ascends : List ℕ → Type 0
 Ascends [] = Unit {0}
 Ascends (x ∷ xs) = ((z : ℕ) → Contains xs z → IsBefore x z) × Ascends xs

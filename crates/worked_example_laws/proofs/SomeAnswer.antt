@@ -20,12 +20,12 @@ use Rattle.crash_model.specs.Script.{IsScript, IsScriptRefusal}
 use Rattle.crash_model.specs.declared.refusals.ScriptFault.{ScriptFault}
 use Rattle.crash_model.specs.declared.steps.Step.{Step}
 use Rattle.crash_model.proofs.Leading.{failing_closed, closed_are_left}
-use Rattle.worked_example_laws.specs.Computed.{closed_sets, graph_of, kept_of}
+use Rattle.worked_example_laws.specs.Computed.{closed_sets, graph_of, demands_of}
 use Rattle.worked_example_laws.specs.Spelled.{is_geometry}
 use Rattle.worked_example_laws.proofs.Answering.{geometry_if, no_geometry}
 use Rattle.worked_example_laws.proofs.FailingSets.{counts_closed}
 use Rattle.worked_example_laws.proofs.Graphs.{graph_is}
-use Rattle.worked_example_laws.proofs.Keeping.{is_told_kept}
+use Rattle.worked_example_laws.proofs.Keeping.{are_demands}
 use Rattle.worked_example_laws.proofs.SomeBody.{some_body, some_failing, not_above}
 use Rattle.worked_example_laws.proofs.SomeReading.{some_reading}
 
@@ -52,10 +52,10 @@ module _ (settings : Settings) (bytes : List ℕ) where
             ),
           )
       by_limit false e =
-          let kept = kept_of settings.strict base has.steps in
-          let failing = some_failing kept base patches before in
-          let closed = failing_closed kept base patches failing.0 failing.1 in
-          let body = some_body settings kept base last patches before failing.0 failing.1 failing.2 in
+          let demands = demands_of settings.strict settings.atomic base has.steps in
+          let failing = some_failing demands base patches before in
+          let closed = failing_closed demands base patches failing.0 failing.1 in
+          let body = some_body settings demands base last patches before failing.0 failing.1 failing.2 in
           let told : Report = record {
             patches = length patches;
             closed = length (closed_sets (deps_of patches));
@@ -64,8 +64,8 @@ module _ (settings : Settings) (bytes : List ℕ) where
             body = body.0;
           } in (
             Reported (report settings told) (length failing.0),
-            reported kept base last patches (report settings told) (length failing.0) has
-                (is_told_kept settings.strict base has.steps) (record {
+            reported demands base last patches (report settings told) (length failing.0) has
+                (are_demands settings.strict settings.atomic base has.steps) (record {
                   total = length (closed_sets (deps_of patches));
                   counted = counts_closed patches (length (closed_sets (deps_of patches))) before refl;
                   within = not_above settings.limit (length (closed_sets (deps_of patches))) e;

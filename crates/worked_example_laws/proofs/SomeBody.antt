@@ -1,4 +1,4 @@
--- There is what stands behind a report's head.
+-- What follows a report's head exists.
 use Rattle.std.proofs.Common.{◌≡◌, ◌≢◌, ℕ, zero, suc, ◌<◌, ◌≤◌, Bool, true, false, nat_lt, List, [], ◌∷◌, length, map}
 use Rattle.std.proofs.Common.{All, arith, refl, sym, subst, ap, inl, inr}
 use Rattle.std.specs.Prelude.{◌⊎◌, Option, Some, None, filter}
@@ -15,11 +15,11 @@ use Rattle.patch_sets.proofs.Lists.{front_or_rest, in_front, in_rest, in_none}
 use Rattle.crash_model.specs.Answer.{IsBody, detail_of, ordering_rules}
 use Rattle.crash_model.specs.Disk.{Disk}
 use Rattle.crash_model.specs.Patches.{ExceedsLimit, deps_of, image_of}
-use Rattle.crash_model.specs.Strict.{faults_under, IsFailingUnder}
+use Rattle.crash_model.specs.Checker.{Demands, faults_under, IsFailingUnder}
 use Rattle.crash_model.specs.Needs.{pairs_of, Without, RuleUsage, Unused, TooMany, Used, ToldRule, IsFirstNew}
 use Rattle.crash_model.specs.Needs.{IsWithout, IsRuleUsage, AreToldRules}
 use Rattle.crash_model.specs.Replay.{image_after_replay}
-use Rattle.crash_model.specs.Report.{Section, AreSections, IsLed, replay_of}
+use Rattle.crash_model.specs.Report.{Detail, Section, AreSections, IsLed, replay_of}
 use Rattle.crash_model.specs.Rules.{rules_in_first}
 use Rattle.crash_model.specs.Summary.{HasFault, IsFirst, IsRow, ToldFault, AreToldFaults}
 use Rattle.crash_model.specs.Trace.{Tracing}
@@ -28,7 +28,6 @@ use Rattle.crash_model.specs.declared.fault.Fault.{Fault}
 use Rattle.crash_model.specs.declared.fault.FaultRow.{FaultRow}
 use Rattle.crash_model.specs.declared.patches.Patch.{Patch}
 use Rattle.crash_model.specs.declared.rules.Rule.{Rule}
-use Rattle.crash_model.specs.declared.settings.Detail.{Detail}
 use Rattle.crash_model.specs.declared.settings.Settings.{Settings}
 use Rattle.crash_model.specs.declared.settings.ReportBy.{ReportBy}
 use Rattle.crash_model.specs.declared.settings.ReportBy.TheVariants.{BySet, ByFault, ByRule}
@@ -47,18 +46,18 @@ use Rattle.worked_example_laws.proofs.GatheredFaults.{all_of, in_all, from_all, 
 pub not_above : (limit n : ℕ) → nat_lt limit n ≡ false → n ≤ limit
 not_above limit n e = grind (arith, nat_tests)
 
-pub some_failing : (kept : Option ℕ) (base : Disk) (patches : List Patch) → AreEarlier (deps_of patches)
-    → (sets : List ℕ) × AreAllInOrder (IsFailingUnder kept base patches) sets × Ascends sets
-some_failing kept base patches before =
-    let ordered = sorted (failing_under kept base patches)
-    (apart_filter (fails_under kept base patches) (closed_sets (deps_of patches))
+pub some_failing : (demands : Demands) (base : Disk) (patches : List Patch) → AreEarlier (deps_of patches)
+    → (sets : List ℕ) × AreAllInOrder (IsFailingUnder demands base patches) sets × Ascends sets
+some_failing demands base patches before =
+    let ordered = sorted (failing_under demands base patches)
+    (apart_filter (fails_under demands base patches) (closed_sets (deps_of patches))
     (closed_are_all (deps_of patches) before).apart) in (
       ordered.0,
       record {
         ordered = ascending_pairs ordered.0 ordered.1.ascends;
         exactly = λ set. (
-          (λ is. under_at kept base patches before set (ordered.1.from set is)),
-          (λ failing. ordered.1.to set (in_under kept base patches before set failing)),
+          (λ is. under_at demands base patches before set (ordered.1.from set is)),
+          (λ failing. ordered.1.to set (in_under demands base patches before set failing)),
         );
       },
       ordered.1.ascends,
@@ -67,24 +66,24 @@ some_failing kept base patches before =
 -- ---- each fault once
 
 module _ (detail : Detail) (base : Disk) (patches : List Patch) (before : AreEarlier (deps_of patches)) (sets : List ℕ)
-    (exactly : AreAllInOrder (IsFailingUnder detail.kept base patches) sets) (up : Ascends sets) where
+    (exactly : AreAllInOrder (IsFailingUnder detail.demands base patches) sets) (up : Ascends sets) where
   abbrev found : ℕ → List Fault
-  found set = faults_under detail.kept (image_after_replay (image_of base patches set))
+  found set = faults_under detail.demands (image_after_replay (image_of base patches set))
 
   abbrev with_fault : Fault → List ℕ
   with_fault f = filter (λ set. has_fault f (found set)) sets
 
-  has_at : (f : Fault) (set : ℕ) → Contains (with_fault f) set → HasFault detail.kept base patches f set
+  has_at : (f : Fault) (set : ℕ) → Contains (with_fault f) set → HasFault detail.demands base patches f set
   has_at f set is =
       let it = from_filter (λ s. has_fault f (found s)) sets set is in
       record { failing = (exactly.exactly set).0 it.0; found = any_from f (found set) it.1 }
 
-  at_has : (f : Fault) (set : ℕ) → HasFault detail.kept base patches f set → Contains (with_fault f) set
+  at_has : (f : Fault) (set : ℕ) → HasFault detail.demands base patches f set → Contains (with_fault f) set
   at_has f set has = to_filter (λ s. has_fault f (found s)) sets set ((exactly.exactly set).1 has.failing)
       (any_to f (found set) has.found)
 
   is_first : (f : Fault) (x : ℕ) (rest : List ℕ) → with_fault f ≡ x ∷ rest
-      → IsFirst (HasFault detail.kept base patches f) x
+      → IsFirst (HasFault detail.demands base patches f) x
   is_first f x rest e = record {
     among = has_at f x (subst (λ (some : List ℕ). Contains some x) (sym e) (in_front x rest));
     first = λ other has behind. not_before other (front_or_rest x rest other
@@ -98,10 +97,10 @@ module _ (detail : Detail) (base : Disk) (patches : List Patch) (before : AreEar
       not_before other (inl same) behind = before_self x (subst (λ (n : ℕ). IsBefore n x) (sym same) behind)
       not_before other (inr more) behind = before_self x (before_trans x other x (up_here.0 other more) behind)
 
-  -- what is told of a fault
+  -- what is reported of a fault
   record Tells (f : Fault) (t : ToldFault) : Type 0 where
     fault : t.row.fault ≡ f
-    row : IsRow (HasFault detail.kept base patches) t.row
+    row : IsRow (HasFault detail.demands base patches) t.row
     closed : IsClosed (deps_of patches) t.row.first
     first : AreSections detail base patches (t.row.first ∷ []) (t.first ∷ [])
 
@@ -113,9 +112,9 @@ module _ (detail : Detail) (base : Disk) (patches : List Patch) (before : AreEar
       let first = is_first f head.0 head.1 head.2 in
       let section = some_section detail base patches head.0 in
       let row : FaultRow = record { fault = f; sets = length (with_fault f); first = head.0 } in
-      let number : HoldsOf (HasFault detail.kept base patches f) (length (with_fault f)) = (
+      let number : HoldsOf (HasFault detail.demands base patches f) (length (with_fault f)) = (
         with_fault f,
-        list_of (HasFault detail.kept base patches f) (with_fault f)
+        list_of (HasFault detail.demands base patches f) (with_fault f)
             (apart_from_ascends (with_fault f) (ascends_filter (λ s. has_fault f (found s)) sets up)) (has_at f)
             (at_has f),
         refl,
@@ -129,10 +128,10 @@ module _ (detail : Detail) (base : Disk) (patches : List Patch) (before : AreEar
         },
       )
 
-  -- what is told of faults, one after another
+  -- what is reported of faults, one after another
   record TellsAll (fs : List Fault) (told : List ToldFault) : Type 0 where
     faults : faults_of (map (λ t. t.row) told) ≡ fs
-    each : All (IsRow (HasFault detail.kept base patches)) (map (λ t. t.row) told)
+    each : All (IsRow (HasFault detail.demands base patches)) (map (λ t. t.row) told)
     firsts : AreSections detail base patches (map (λ t. t.row.first) told) (map (λ t. t.first) told)
     led : All (λ t. IsLed patches t.first) told
 
@@ -142,7 +141,7 @@ module _ (detail : Detail) (base : Disk) (patches : List Patch) (before : AreEar
     [],
     record {
       faults = refl;
-      each = All-nil (IsRow (HasFault detail.kept base patches));
+      each = All-nil (IsRow (HasFault detail.demands base patches));
       firsts = refl;
       led = All-nil (λ t. IsLed patches t.first);
     },
@@ -156,7 +155,7 @@ module _ (detail : Detail) (base : Disk) (patches : List Patch) (before : AreEar
         one.0 ∷ rest.0,
         record {
           faults = front one.1.fault rest.1.faults;
-          each = All-cons (IsRow (HasFault detail.kept base patches)) one.0.row (map (λ t. t.row) rest.0) one.1.row
+          each = All-cons (IsRow (HasFault detail.demands base patches)) one.0.row (map (λ t. t.row) rest.0) one.1.row
               rest.1.each;
           firsts = (
             one.1.first.0,
@@ -183,7 +182,7 @@ module _ (detail : Detail) (base : Disk) (patches : List Patch) (before : AreEar
             set = set;
             writes = one.0;
             replay = replay_of detail.explain (image_of base patches set);
-            found = faults_under detail.kept (image_after_replay (image_of base patches set));
+            found = faults_under detail.demands (image_after_replay (image_of base patches set));
           } ∷ others
       head_is section others one = ap (λ (s : Section). s ∷ others) (heads one.4)
 
@@ -271,8 +270,8 @@ module _ (detail : Detail) (base : Disk) (patches : List Patch) (before : AreEar
     some_without : (limit : ℕ) → nat_lt limit (length (closed_sets (deps_of changed))) ≡ false → (w : Without)
         × IsWithout detail limit base patches changed w
     some_without limit e =
-        let failing = some_failing detail.kept base changed first in
-        let new = first_new failing.0 (failing_closed detail.kept base changed failing.0 failing.1) in (
+        let failing = some_failing detail.demands base changed first in
+        let new = first_new failing.0 (failing_closed detail.demands base changed failing.0 failing.1) in (
           record { closed = length (closed_sets (deps_of changed)); failing = length failing.0; first = new.0 },
           record {
             counted = counts_closed changed (length (closed_sets (deps_of changed))) first refl;
@@ -333,28 +332,29 @@ module _ (detail : Detail) (base : Disk) (patches : List Patch) (before : AreEar
 
 -- ---- the body
 
-module _ (settings : Settings) (kept : Option ℕ) (base : Disk) (last : Tracing) (patches : List Patch)
+module _ (settings : Settings) (demands : Demands) (base : Disk) (last : Tracing) (patches : List Patch)
     (before : AreEarlier (deps_of patches)) where
-  pub some_body : (sets : List ℕ) → AreAllInOrder (IsFailingUnder kept base patches) sets → Ascends sets → (body : Body)
-      × IsBody settings kept base last patches sets body
+  pub some_body : (sets : List ℕ) → AreAllInOrder (IsFailingUnder demands base patches) sets → Ascends sets
+      → (body : Body)
+      × IsBody settings demands base last patches sets body
   some_body sets exactly up = by_kind settings.by refl
     where
       by_kind : (kind : ReportBy) → settings.by ≡ kind → (body : Body)
-          × IsBody settings kept base last patches sets body
+          × IsBody settings demands base last patches sets body
       by_kind BySet e =
-          let sections = some_sections (detail_of settings kept) base patches sets in (
+          let sections = some_sections (detail_of settings demands) base patches sets in (
             Sets sections.0,
             (
               e,
               sections.1,
-              sections_lead base patches before (detail_of settings kept) sets sections.0
-                  (failing_closed kept base patches sets exactly) sections.1,
+              sections_lead base patches before (detail_of settings demands) sets sections.0
+                  (failing_closed demands base patches sets exactly) sections.1,
             ),
           )
       by_kind ByFault e =
-          let told = told_faults (detail_of settings kept) base patches before sets exactly up in
+          let told = told_faults (detail_of settings demands) base patches before sets exactly up in
           (Faults told.0, (e, told.1, told.2))
       by_kind ByRule e =
-          let told = told_rules (detail_of settings kept) base patches before settings.limit (ordering_rules settings)
+          let told = told_rules (detail_of settings demands) base patches before settings.limit (ordering_rules settings)
           last (ordering_rules settings) in
           (Rules told.0, (e, told.1))

@@ -39,7 +39,7 @@ same_bytes xs ys = by_test (bytes_eq xs ys) refl
 
 -- ---- lines
 
--- bytes as lines with a line feed behind each, and what is left
+-- bytes as lines with a line feed after each, and what is left
 record AreCut (bytes : List ℕ) (front : List (List ℕ)) (last : List ℕ) : Type 0 where
   lacks : AreLacking 10 front
   lacks_last : Lacks 10 last
@@ -213,7 +213,7 @@ begins_so (act ∷ acts) first like e = by_test (begins_so acts first like) (byt
         ap (λ (a : Act). (said a).0) found ∙ sym ((bytes_eq-Decides first (said act).0).0 same)
     by_test later false other e = later e
 
--- ---- a line is read, or refused in one of the three ways, wherever it stands
+-- ---- a line is read, or refused in one of the three ways, wherever it is
 
 module _ (line : List ℕ) where
   abbrev Judged : Type 0
@@ -278,7 +278,7 @@ start_or_not (line ∷ lines) = elim (same_bytes line (codes "start")) [
   ]
 ]
 
--- where the start line stands, in lines with one more at the end
+-- where the start line is, in lines with one more at the end
 place_of : (before : List (List ℕ)) (line : List ℕ) (i : ℕ) → slice_get (before ++ line ∷ []) i ≡ Some (codes "start")
     → (slice_get before i ≡ Some (codes "start")) ⊎ ((i ≡ length before) × (line ≡ codes "start"))
 place_of [] line zero e = inr (refl, (let same : line ≡ codes "start" = cc in same))

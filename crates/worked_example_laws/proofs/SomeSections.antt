@@ -9,12 +9,11 @@ use Rattle.patch_sets.specs.declared.write.BlockWrite.{BlockWrite}
 use Rattle.patch_sets.proofs.Bits.{eq_or_not}
 use Rattle.patch_sets.proofs.Writes.{AreCutTo, cut_none, cut_skip, cut_alone, cut_joined, runs_from_cut}
 use Rattle.crash_model.specs.Disk.{Disk}
-use Rattle.crash_model.specs.Strict.{faults_under}
+use Rattle.crash_model.specs.Checker.{faults_under}
 use Rattle.crash_model.specs.Patches.{homes_of, image_of}
 use Rattle.crash_model.specs.Replay.{image_after_replay}
-use Rattle.crash_model.specs.Report.{Section, AreSections, replay_of}
+use Rattle.crash_model.specs.Report.{Detail, Section, AreSections, replay_of}
 use Rattle.crash_model.specs.declared.patches.Patch.{Patch}
-use Rattle.crash_model.specs.declared.settings.Detail.{Detail}
 
 last_of : (ws : List BlockWrite) → (ws ≡ []) ⊎ ((front : List BlockWrite) × (last : BlockWrite)
     × (ws ≡ front ++ last ∷ []))
@@ -104,7 +103,7 @@ some_sections detail base patches (set ∷ some) =
       set = set;
       writes = writes.0;
       replay = replay_of detail.explain (image_of base patches set);
-      found = faults_under detail.kept (image_after_replay (image_of base patches set));
+      found = faults_under detail.demands (image_after_replay (image_of base patches set));
     } in
     (section ∷ rest.0, (writes.0, rest.0, writes.1, rest.1, refl))
 
@@ -116,6 +115,6 @@ some_section detail base patches set =
       set = set;
       writes = writes.0;
       replay = replay_of detail.explain (image_of base patches set);
-      found = faults_under detail.kept (image_after_replay (image_of base patches set));
+      found = faults_under detail.demands (image_after_replay (image_of base patches set));
     } in
     (section, (writes.0, [], writes.1, refl, refl))

@@ -1,13 +1,13 @@
 -- An answer as what comes of the script, its base, its trace and its graph, one after another.
 use Rattle.std.proofs.Common.{◌≡◌, ℕ, List, refl, sym, subst, inl, inr}
-use Rattle.std.specs.Prelude.{◌⊎◌, Option, Result, Ok, Err}
+use Rattle.std.specs.Prelude.{◌⊎◌, Result, Ok, Err}
 use Rattle.crash_model.specs.Answer.{Answer, Refused, Reported, HasBase, HasGraph, IsReport, IsAnswer, ordering_rules}
 use Rattle.crash_model.specs.Answer.{bad_script, bad_geometry, bad_base, bad_trace, too_many, reported}
 use Rattle.crash_model.specs.Disk.{Disk, empty_disk, IsGeometry}
 use Rattle.crash_model.specs.Patches.{ExceedsLimit}
 use Rattle.crash_model.specs.Refusals.{run_of_script, run_of_trace}
 use Rattle.crash_model.specs.Script.{IsScript, IsScriptRefusal}
-use Rattle.crash_model.specs.Strict.{IsToldKept}
+use Rattle.crash_model.specs.Checker.{Demands, AreDemands}
 use Rattle.crash_model.specs.Trace.{Tracing, trace_start, trace_from, base_from, IsGraphOf}
 use Rattle.crash_model.specs.declared.patches.Patch.{Patch}
 use Rattle.crash_model.specs.declared.refusals.RunFault.TheVariants.{BadGeometry, TooMany}
@@ -20,8 +20,8 @@ module _ (settings : Settings) where
   abbrev pub ComesOfGraph : Disk → List Step → Tracing → List Patch → Answer → Type 0
   ComesOfGraph base steps last patches (Refused fault) = ExceedsLimit patches settings.limit × (fault ≡ TooMany)
   ComesOfGraph base steps last patches (Reported text failing) =
-      (kept : Option ℕ) × IsToldKept settings.strict base steps kept
-      × IsReport settings kept base last patches text failing
+      (demands : Demands) × AreDemands settings.strict settings.atomic base steps demands
+      × IsReport settings demands base last patches text failing
 
   abbrev pub ComesOfTrace : Disk → List Step → Result Tracing TraceFault → Answer → Type 0
   ComesOfTrace base steps (Err fault) answer = answer ≡ Refused (run_of_trace fault)
@@ -85,5 +85,5 @@ module _ (settings : Settings) where
       from_base _ base steps _ start (subst (λ r. ComesOfTrace base steps r (Refused (run_of_trace fault))) (sym is)
       refl)
   stages (too_many base last patches has more) = from_graph _ base last patches _ has (more, refl)
-  stages (reported kept base last patches text failing has is_kept report) =
-      from_graph _ base last patches _ has (kept, is_kept, report)
+  stages (reported demands base last patches text failing has are_demanded report) =
+      from_graph _ base last patches _ has (demands, are_demanded, report)

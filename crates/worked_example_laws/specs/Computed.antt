@@ -11,8 +11,10 @@ use Rattle.patch_sets.specs.Closed.{IsClosed}
 use Rattle.crash_model.specs.Failing.{IsFailing}
 use Rattle.crash_model.specs.Patches.{CountsClosed, deps_of, homes_of, image_of}
 use Rattle.patch_sets.specs.declared.write.BlockWrite.{BlockWrite}
-use Rattle.crash_model.specs.Report.{replay_of, Section}
-use Rattle.crash_model.specs.Strict.{faults_under, stays_live}
+use Rattle.crash_model.specs.Report.{Detail, replay_of, Section}
+use Rattle.crash_model.specs.Atomic.{disks_of}
+use Rattle.crash_model.specs.Checker.{Demands, faults_under}
+use Rattle.crash_model.specs.Strict.{stays_live}
 use Rattle.crash_model.specs.Disk.{Disk, byte, with_bytes}
 use Rattle.crash_model.specs.Layout.{kind_of, links_of, pointer_of, map_of, is_live, counts, is_entry}
 use Rattle.crash_model.specs.Faults.{faults}
@@ -21,7 +23,6 @@ use Rattle.crash_model.specs.Rules.{rules_of}
 use Rattle.crash_model.specs.Trace.{Emitted, Tracing, trace_start, trace_from, depends, IsGraphOf}
 use Rattle.crash_model.specs.declared.fault.Fault.{Fault}
 use Rattle.crash_model.specs.declared.patches.Patch.{Patch}
-use Rattle.crash_model.specs.declared.settings.Detail.{Detail}
 use Rattle.crash_model.specs.declared.refusals.TraceFault.{TraceFault}
 use Rattle.crash_model.specs.declared.rules.Rule.{Rule}
 use Rattle.crash_model.specs.declared.modules.Module.{Module}
@@ -80,18 +81,35 @@ fails base patches set = not (is_none_found (faults (image_after_replay (image_o
 abbrev pub failing_sets : Disk → List Patch → List ℕ
 failing_sets base patches = filter (fails base patches) (closed_sets (deps_of patches))
 
--- the same where the script keeps a set of inodes or nothing is asked of that
-abbrev pub fails_under : Option ℕ → Disk → List Patch → ℕ → Bool
-fails_under kept base patches set =
-    not (is_none_found (faults_under kept (image_after_replay (image_of base patches set))))
+-- the same by what is demanded of images
+abbrev pub fails_under : Demands → Disk → List Patch → ℕ → Bool
+fails_under demands base patches set =
+    not (is_none_found (faults_under demands (image_after_replay (image_of base patches set))))
 
-abbrev pub failing_under : Option ℕ → Disk → List Patch → List ℕ
-failing_under kept base patches = filter (fails_under kept base patches) (closed_sets (deps_of patches))
+abbrev pub failing_under : Demands → Disk → List Patch → List ℕ
+failing_under demands base patches = filter (fails_under demands base patches) (closed_sets (deps_of patches))
+
+-- nothing is demanded but that none of the six faults holds
+abbrev pub nothing_more : Demands
+nothing_more = record { kept = None; disks = None }
+
+-- nor any of the two where a script keeps these inodes
+abbrev pub keeping : ℕ → Demands
+keeping kept = record { kept = Some kept; disks = None }
 
 -- the kept inodes that a checker gets
 abbrev pub kept_of : Bool → Disk → List Step → Option ℕ
 kept_of false base steps = None
 kept_of true base steps = Some (set_below 16 (stays_live base steps))
+
+-- the disks that it gets
+abbrev pub shown_of : Bool → Disk → List Step → Option (List Disk)
+shown_of false base steps = None
+shown_of true base steps = Some (disks_of base steps)
+
+-- what a script demands
+abbrev pub demands_of : Bool → Bool → Disk → List Step → Demands
+demands_of strict atomic base steps = record { kept = kept_of strict base steps; disks = shown_of atomic base steps }
 
 -- the number of ids of a set below 2 ^ n
 abbrev pub ones_below : ℕ → ℕ → ℕ
@@ -235,7 +253,7 @@ section_of detail base patches set = record {
   set = set;
   writes = writes_of (homes_of patches) set;
   replay = replay_of detail.explain (image_of base patches set);
-  found = faults_under detail.kept (image_after_replay (image_of base patches set));
+  found = faults_under detail.demands (image_after_replay (image_of base patches set));
 }
 
 abbrev pub have_runs : List Patch → List ℕ → Bool

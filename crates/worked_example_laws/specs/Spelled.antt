@@ -14,7 +14,7 @@ use Rattle.crash_model.specs.declared.settings.Explorer.TheVariants.{Auto}
 use Rattle.crash_model.specs.declared.settings.ReportBy.TheVariants.{BySet}
 use Rattle.crash_model.specs.declared.modules.Module.{Module}
 use Rattle.crash_model.specs.declared.steps.Step.{Step}
-use Rattle.worked_example_laws.specs.Computed.{closed_sets, failing_under, kept_of, are_in_order, graph_of, trace_of}
+use Rattle.worked_example_laws.specs.Computed.{closed_sets, failing_under, demands_of, are_in_order, graph_of, trace_of}
 use Rattle.worked_example_laws.specs.Computed.{is_accepted, have_runs}
 use Rattle.worked_example_laws.specs.Examples.{numbered_steps}
 use Rattle.crash_model.specs.Names.{is_name_byte, is_group_byte}
@@ -96,7 +96,7 @@ is_told settings before behind closed failing =
     && (is_accepted (trace_from settings.module (trace_start settings.whole_blocks base) (trace_steps before behind))
     && ((length (closed_sets (deps_of patches)) == closed)
     && (are_in_order (length (deps_of patches)) failing
-    (failing_under (kept_of settings.strict base (trace_steps before behind)) base patches)
+    (failing_under (demands_of settings.strict settings.atomic base (trace_steps before behind)) base patches)
     && (nat_le closed settings.limit && have_runs patches failing)))))))
 
 -- the settings of a module's own ordering, whose report lists each failing set
@@ -113,10 +113,11 @@ settings_of kind blocks journal limit json = record {
   explain = false;
   whole_blocks = false;
   strict = false;
+  atomic = false;
   by = BySet;
 }
 
--- the same where the checker asks of what the script keeps
+-- the same with the strict checker
 abbrev pub strict_settings_of : Module → ℕ → ℕ → ℕ → Bool → Settings
 strict_settings_of kind blocks journal limit json = record {
   «module» = kind;
@@ -130,5 +131,6 @@ strict_settings_of kind blocks journal limit json = record {
   explain = false;
   whole_blocks = false;
   strict = true;
+  atomic = false;
   by = BySet;
 }

@@ -8,7 +8,7 @@ ghost use Rattle.crash_model.specs.declared.modules.Module.TheVariants.{Async, S
 ghost use Rattle.worked_example_laws.specs.Computed.{set_of};
 ghost use Rattle.worked_example_laws.specs.Spelled.{settings_of, strict_settings_of};
 
-/// Nothing is traced: the empty set is the one closed set, and it does not fail.
+/// Nothing is traced: the empty set is the only closed set, and it does not fail.
 pub fn an_empty_trace_is_reported()
     ensures { IsAnswer (codes "start\n") (settings_of Async 16 0 1 false)
         (Reported (codes "module async\npatches 0\nclosed 1\nfailing 0\n") 0) }
@@ -69,7 +69,7 @@ pub fn a_file_that_loses_its_names_is_reported()
         (Reported (codes "{\"closed\":8,\"failing\":[],\"module\":\"soft\",\"patches\":4}\n") 0) }
 {}
 
-/// An inode that is freed and made anew is not kept.
+/// An inode that is freed and made again is not kept.
 pub fn an_inode_that_is_freed_is_not_kept()
     ensures { IsAnswer (codes "create /a\nstart\nunlink /a\ncreate /b\n") (strict_settings_of Soft 16 0 4096 false)
         (Reported (codes "module soft\nstrict\npatches 4\nclosed 5\nfailing 0\n") 0) }

@@ -7,7 +7,8 @@ ghost use Rattle.crash_model.specs.Disk.{Disk};
 ghost use Rattle.crash_model.specs.Failing.{IsFailing};
 ghost use Rattle.crash_model.specs.Patches.{CountsClosed};
 ghost use Rattle.crash_model.specs.Script.{IsScript, IsScriptRefusal};
-ghost use Rattle.crash_model.specs.Strict.{IsToldKept, IsFailingUnder};
+ghost use Rattle.crash_model.specs.Checker.{Demands, AreDemands, IsFailingUnder};
+ghost use Rattle.crash_model.specs.Strict.{IsToldKept};
 ghost use Rattle.crash_model.specs.Trace.{Tracing, IsGraphOf};
 ghost use Rattle.crash_model.specs.declared.patches.Patch.{Patch};
 ghost use Rattle.crash_model.specs.declared.refusals.ScriptFault.{ScriptFault};
@@ -51,12 +52,20 @@ pub fn what_is_kept_is_determined()
         → IsToldKept strict base steps kept → IsToldKept strict base steps other → kept ≡ other }
 {}
 
+/// What a script demands is determined.
+pub fn what_is_demanded_is_determined()
+    ensures some { (strict atomic : Bool) (base : Disk) (steps : List Step) → (demands : Demands)
+        × AreDemands strict atomic base steps demands }
+    ensures one { (strict atomic : Bool) (base : Disk) (steps : List Step) (demands other : Demands)
+        → AreDemands strict atomic base steps demands → AreDemands strict atomic base steps other → demands ≡ other }
+{}
+
 /// The number of closed sets and the list of those that fail are determined.
 pub fn a_graph_has_one_list_of_failing_sets()
     ensures number { (patches : List Patch) (n m : ℕ) → CountsClosed patches n → CountsClosed patches m → n ≡ m }
     ensures list { (base : Disk) (patches : List Patch) (sets others : List ℕ)
         → AreAllInOrder (IsFailing base patches) sets → AreAllInOrder (IsFailing base patches) others → sets ≡ others }
-    ensures under { (kept : Option ℕ) (base : Disk) (patches : List Patch) (sets others : List ℕ)
-        → AreAllInOrder (IsFailingUnder kept base patches) sets
-        → AreAllInOrder (IsFailingUnder kept base patches) others → sets ≡ others }
+    ensures under { (demands : Demands) (base : Disk) (patches : List Patch) (sets others : List ℕ)
+        → AreAllInOrder (IsFailingUnder demands base patches) sets
+        → AreAllInOrder (IsFailingUnder demands base patches) others → sets ≡ others }
 {}

@@ -64,8 +64,8 @@ pub fn a_crash_leaves_three_transactions_in_629_ways()
     ensures all { HasGraph Meta with_directory reused_directory (λ patches. CountsClosed patches 629) }
 {}
 
-/// Where the third transaction is committed and the first is not done, replay puts the old copy of the directory over
-/// the block that is now file data.
+/// If the third transaction is committed and the first is not done, replay puts the old copy of the directory over the
+/// block that is now file data.
 pub fn a_journal_of_metadata_can_put_an_old_directory_over_file_data()
     ensures failing { HasGraph Meta with_directory reused_directory (λ patches.
         IsFailing with_directory patches (set_of (0 ∷ 1 ∷ 2 ∷ 3 ∷ 6 ∷ 7 ∷ 8 ∷ 9 ∷ 14 ∷ 15 ∷ 16 ∷ 17 ∷ []))) }

@@ -1,4 +1,4 @@
--- What is counted of sequences with one more behind them, by its verdict, and with some more.
+-- What is counted of sequences with one more after them, by its verdict, and with some more.
 use Rattle.std.proofs.Common.{◌≡◌, ℕ, ◌+◌, ◌<◌, List, [], ◌∷◌, ◌++◌, length, Bool, cond, true, false, Option, refl}
 use Rattle.std.proofs.Common.{sym, subst, ap, ◌∙◌, arith, set, eqb-true, eq-eqb}
 use Rattle.std.specs.Prelude.{slice_index, slice_index_or, ◌==◌}

@@ -1,4 +1,4 @@
--- Sequences that are tried, one more or some more behind them.
+-- Sequences that are tried, one more or some more after them.
 use Rattle.std.proofs.Common.{◌≡◌, ℕ, List, [], ◌∷◌, ◌++◌, length, map, Bool, true, false, cond, refl, sym}
 use Rattle.std.proofs.Common.{subst, ap, ap₂, ◌∙◌, arith, append-nil, inl, inr}
 use Rattle.std.specs.Prelude.{if◌then◌else◌, ◌⊎◌}

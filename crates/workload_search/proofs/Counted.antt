@@ -30,7 +30,7 @@ places_of t = t.places
 abbrev pub IsRight : Search → Tried → Type 0
 IsRight s t = IsVerdict s t.places t.verdict
 
--- all sequences that are tried, of those with at most so many operations, in order, with what was said of them
+-- all tried sequences with at most this number of operations, in order, with what was said of them
 pub record AreAllTried (s : Search) (most : ℕ) (tried : List Tried) : Type 0 where
   pub ordered : AllPairs IsSequenceBefore (map places_of tried)
   pub exactly : (places : List ℕ)
@@ -122,7 +122,7 @@ module _ (s : Search) (tried : List Tried) (all : AreAllTried s s.most tried) wh
 
 -- ---- the first that shows a kind
 
--- the element that the first is told of
+-- the element that the first one is about
 pub record IsFirstOf (i : ℕ) (tried : List Tried) (places : List ℕ) (set : ℕ) : Type 0 where
   pub t : Tried
   pub there : Contains tried t
@@ -172,7 +172,7 @@ first_of i (t ∷ ts) places set e = by (first_at i t.verdict) refl (first_of i 
           ];
         }
 
--- a first is told where one is shown
+-- a first one is reported if one is shown
 pub some_first : (i : ℕ) (tried : List Tried) (t : Tried) → Contains tried t → shows_at i t.verdict ≡ true
     → is_some (first_shown i tried) ≡ true
 some_first i [] t there shows = absurd (let within = there.1 in omega arith)

@@ -22,12 +22,12 @@ use Rattle.workload_search.proofs.Order.{before_pushed, before_last}
 use Rattle.workload_search.proofs.Sequences.{IsTriedSequence, tried_workload, workload_tried}
 use Rattle.workload_search.proofs.Verdicts as says
 
--- the sequences are all beginnings of so many operations, in order
+-- the sequences are all beginnings with this number of operations, in order
 pub record AreBeginnings (s : Search) (number : ℕ) (fronts : List (List ℕ)) : Type 0 where
   pub ordered : AllPairs IsSequenceBefore fronts
   pub exactly : (front : List ℕ) → (Contains fronts front ↔ ((length front ≡ number) × IsBeginning s front))
 
--- the sequences are all that are tried with so many operations, in order
+-- the sequences are all that are tried with this number of operations, in order
 pub record AreLevel (s : Search) (number : ℕ) (sequences : List (List ℕ)) : Type 0 where
   pub ordered : AllPairs IsSequenceBefore sequences
   pub exactly : (places : List ℕ)
@@ -88,7 +88,7 @@ extensions_ordered number pool (front ∷ fronts) up long =
     (All-contains (IsSequenceBefore front) fronts later.front (front_all IsSequenceBefore front fronts up)
     later.there))))
 
--- the beginnings with each operation behind them are the next level
+-- the beginnings, each followed by each operation, are the next level
 pub next_level : (s : Search) (number : ℕ) (fronts : List (List ℕ)) → AreBeginnings s number fronts
     → AreLevel s (number + 1) (extensions (length s.pool) fronts)
 next_level s number fronts are = record {

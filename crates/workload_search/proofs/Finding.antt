@@ -4,6 +4,7 @@ use Rattle.std.proofs.Common.{arith}
 use Rattle.std.specs.Prelude.{slice_index, slice_index_or, is_some}
 use Rattle.std.specs.List.{Contains}
 use Rattle.std.proofs.lemmas.List.Elements.{All-weaker, All-contains}
+use Rattle.crash_model.specs.Checker.{Demands}
 use Rattle.crash_model.specs.Summary.{IsFirst}
 use Rattle.crash_model.specs.declared.patches.Patch.{Patch}
 use Rattle.search_model.specs.Found.{AreFound, IsCounted, IsShown}
@@ -34,12 +35,12 @@ blank = record { workloads = 0; first = None }
 
 -- the first set of a verdict on a sequence with patches
 first_set : (s : Search) (places : List ℕ) (v : Verdict) (kind : FaultKind) (set : ℕ) → IsVerdict s places v
-    → first_at (kind_place kind) v ≡ Some set → (kept : Option ℕ) (patches : List Patch)
-    → HasPatches s places kept patches → IsFirst (HasKind kind kept s.base patches) set
-first_set s places (verdict.Refused reason) kind set right e kept patches traced = absurd cc
-first_set s places verdict.Passes kind set right e kept patches traced = absurd cc
-first_set s places (verdict.Fails firsts) kind set right e kept patches traced =
-    subst (IsFirstOfKind kind kept s.base patches) e (right.2 kept patches traced kind)
+    → first_at (kind_place kind) v ≡ Some set → (demands : Demands) (patches : List Patch)
+    → HasPatches s places demands patches → IsFirst (HasKind kind demands s.base patches) set
+first_set s places (verdict.Refused reason) kind set right e demands patches traced = absurd cc
+first_set s places verdict.Passes kind set right e demands patches traced = absurd cc
+first_set s places (verdict.Fails firsts) kind set right e demands patches traced =
+    subst (IsFirstOfKind kind demands s.base patches) e (right.2 demands patches traced kind)
 
 module _ {A : Type 0} (s : Search) (tried : List Tried) (all : AreAllTried s s.most tried) (tally : Tally A)
     (is : IsTally tried tally) where
@@ -86,9 +87,9 @@ module _ {A : Type 0} (s : Search) (tried : List Tried) (all : AreAllTried s s.m
               (subst (ShowsKind s k.kind) (sym at.2) shows))
               (subst (λ (xs : List ℕ). IsSequenceBefore xs k.places.items) (sym at.2) before);
         };
-        first = λ kept patches traced.
-            first_set s first.t.places first.t.verdict k.kind k.first right first.first kept patches
-            (subst (λ (xs : List ℕ). HasPatches s xs kept patches) (sym first.same) traced);
+        first = λ demands patches traced.
+            first_set s first.t.places first.t.verdict k.kind k.first right first.first demands patches
+            (subst (λ (xs : List ℕ). HasPatches s xs demands patches) (sym first.same) traced);
       }
 
   every_kind : (kind : FaultKind) (places : List ℕ) → ShowsKind s kind places

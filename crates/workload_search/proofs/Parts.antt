@@ -39,7 +39,7 @@ extensions_more pool xs i d within =
     ∙ ap (λ (es : List (List ℕ)). extensions pool (map items_of (take i xs)) ++ es)
     (append_none pool (get_or xs i d).items))
 
--- one operation more behind a beginning
+-- one more operation after a beginning
 pub places_more : (sequences : List (List ℕ)) (front : List ℕ) (n : ℕ)
     → (sequences ++ extensions_of n front) ++ (front ++ n ∷ []) ∷ [] ≡ sequences ++ extensions_of (n + 1) front
 places_more sequences front n =
@@ -61,7 +61,7 @@ one_room s keeps pool sequences front n batch is low room = record {
   );
 }
 
--- a beginning with an operation behind it is a sequence of the pool
+-- a beginning followed by an operation is a sequence of the pool
 pub longer_some : (front : List ℕ) (place : ℕ) (longer : List ℕ) → longer ≡ front ++ place ∷ [] → longer ≢ []
 longer_some front place longer whole none =
     let long = ap length (sym whole ∙ none) in omega (arith, length-append front (place ∷ []))
@@ -86,7 +86,7 @@ pub chunk_all : (P : ArrayVec ℕ → Type 0) (xs ys : List (ArrayVec ℕ)) (siz
 chunk_all P xs ys size start chunk all =
     subst (All P) (sym chunk.value) (All-take P size (drop start xs) (All-drop P start xs all))
 
--- ---- parts of so many beginnings
+-- ---- parts of a number of beginnings
 
 module _ (xs : List (ArrayVec ℕ)) (size : ℕ) where
   one_more : (n : ℕ) → (n + 1) * size ≡ n * size + size
@@ -110,19 +110,19 @@ module _ (xs : List (ArrayVec ℕ)) (size : ℕ) where
             one_more (length xs / size),
           )
 
-  -- behind the last part there is nothing
+  -- after the last part there is nothing
   pub after_last : (count : ℕ) → 0 < size → count ≡ length xs / size + min 1 (length xs % size)
       → drop (count * size) xs ≡ []
   after_last count some number = drop_all (count * size) xs (cover count some number)
 
-  -- a part and what is behind it
+  -- a part and what is after it
   pub part_and_rest : (n : ℕ) → slice_chunk xs size n ++ drop ((n + 1) * size) xs ≡ drop (n * size) xs
   part_and_rest n =
       ap (λ (k : ℕ). slice_chunk xs size n ++ drop k xs) (one_more n)
       ∙ (ap (λ (ys : List (ArrayVec ℕ)). slice_chunk xs size n ++ ys) (sym (drop-drop size (n * size) xs))
       ∙ take-append-drop size (drop (n * size) xs))
 
-  -- the extensions of a part and of what is behind it
+  -- the extensions of a part and of what is after it
   pub extensions_behind : (pool n : ℕ) → extensions pool (map items_of (slice_chunk xs size n))
       ++ extensions pool (map items_of (drop ((n + 1) * size) xs))
       ≡ extensions pool (map items_of (drop (n * size) xs))
@@ -173,14 +173,14 @@ rest_long pool xs size n =
     )
 
 module _ {A : Type 0} (s : Search) (keeps : Bool) (pool : ℕ) (xs : List (ArrayVec ℕ)) (size : ℕ) where
-  -- behind the last part nothing is found
+  -- after the last part nothing is found
   pub rest_none : (count : ℕ) (batch : Batch A) → 0 < size → count ≡ length xs / size + min 1 (length xs % size)
       → IsBatch s keeps [] batch → IsBatch s keeps (extensions pool (map items_of (drop (count * size) xs))) batch
   rest_none count batch some number is =
       subst (λ (ys : List (ArrayVec ℕ)). IsBatch s keeps (extensions pool (map items_of ys)) batch)
       (sym (after_last xs size count some number)) is
 
-  -- a part can be counted with what is behind it
+  -- a part can be counted with what is after it
   pub part_room : (n : ℕ) (part rest : Batch A) → length xs * pool < 2 ^ 128
       → IsBatch s keeps (extensions pool (map items_of (slice_chunk xs size n))) part
       → IsBatch s keeps (extensions pool (map items_of (drop ((n + 1) * size) xs))) rest → HaveRoomFor part rest
@@ -202,7 +202,7 @@ module _ {A : Type 0} (s : Search) (keeps : Bool) (pool : ℕ) (xs : List (Array
         );
       }
 
-  -- what is found of a part and of what is behind it
+  -- what is found of a part and of what is after it
   pub rest_more : (n : ℕ) (batch : Batch A)
       → IsBatch s keeps (extensions pool (map items_of (slice_chunk xs size n))
       ++ extensions pool (map items_of (drop ((n + 1) * size) xs))) batch
@@ -216,7 +216,7 @@ module _ {A : Type 0} (s : Search) (keeps : Bool) (pool : ℕ) (xs : List (Array
   rest_at m n batch same is =
       subst (λ (k : ℕ). IsBatch s keeps (extensions pool (map items_of (drop (k * size) xs))) batch) same is
 
-  -- the first part and all that are behind it are all
+  -- the first part and all after it are all
   pub rest_all : (n : ℕ) (batch : Batch A) → n ≡ 0
       → IsBatch s keeps (extensions pool (map items_of (drop (n * size) xs))) batch
       → IsBatch s keeps (extensions pool (map items_of xs)) batch

@@ -16,7 +16,7 @@ use Rattle.workload_search.proofs.Extended.{no_levels, one_level_more, length_ex
 use Rattle.workload_search.proofs.Lists.{in_map, all_from}
 use Rattle.workload_search.proofs.Sequences.{beginning_among}
 
--- all sequences of up to so many operations are tried and counted, and the beginnings for longer ones are there
+-- all sequences of up to this number of operations are tried and counted, and the beginnings for longer ones are there
 pub record IsSearchedTo {A : Type 0} (s : Search) (pool made : ℕ) (tally : Tally A) (beginnings : List (ArrayVec ℕ))
     : Type 0 where
   pub tried : List Tried

@@ -1,4 +1,4 @@
--- Which sequences are tried: each beginning with one operation behind it.
+-- Which sequences are tried: each beginning followed by one operation.
 use Rattle.std.proofs.Common.{◌≡◌, ◌≢◌, ℕ, zero, suc, ◌<◌, ◌≤◌, List, [], ◌∷◌, ◌++◌, length, arith, refl}
 use Rattle.std.proofs.Common.{sym, ap, subst, ◌∙◌, inl, inr, length-append, append_assoc, append-nil}
 use Rattle.std.specs.List.{All}

@@ -1,4 +1,4 @@
--- The reasons and kinds that are told, one after another.
+-- The reasons and kinds that are reported, one after another.
 use Rattle.std.proofs.Common.{◌≡◌, ℕ, ◌+◌, ◌<◌, ◌≤◌, List, [], ◌∷◌, ◌++◌, length, map, Option, Some, None}
 use Rattle.std.proofs.Common.{sym, subst, ap, ◌∙◌, arith, inl, inr}
 use Rattle.std.specs.Prelude.{slice_index, slice_index_or}
@@ -145,7 +145,7 @@ kind_passed kinds i shown are none = record {
   ];
 }
 
-pub all_kinds : (kinds : List KindTally) (i : ℕ) (shown : List ShownKind) → AreToldKindsBelow kinds i shown → 8 ≤ i
+pub all_kinds : (kinds : List KindTally) (i : ℕ) (shown : List ShownKind) → AreToldKindsBelow kinds i shown → 9 ≤ i
     → AreToldKinds kinds shown
 all_kinds kinds i shown are all = record {
   ordered = are.ordered;

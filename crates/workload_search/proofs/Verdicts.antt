@@ -2,6 +2,7 @@
 use Rattle.std.proofs.Common.{◌≡◌, ℕ, ◌<◌, ◌≤◌, List, [], ◌∷◌, length, arith, true, false, Option, Some, None, refl}
 use Rattle.std.proofs.Common.{sym, subst, ap, ◌∙◌, eqb-true, eq-eqb}
 use Rattle.std.specs.Prelude.{slice_index_or, is_some, Result, Err}
+use Rattle.crash_model.specs.Checker.{Demands}
 use Rattle.crash_model.specs.Trace.{Tracing}
 use Rattle.crash_model.specs.declared.refusals.TraceFault.{TraceFault}
 use Rattle.crash_model.specs.declared.patches.Patch.{Patch}
@@ -31,7 +32,7 @@ reasons =
 abbrev kinds : List FaultKind
 kinds =
     kind.Dangling ∷ kind.Twice ∷ kind.Unwritten ∷ kind.LowLinks ∷ kind.MarkedFree ∷ kind.Wild ∷ kind.Lost
-    ∷ kind.NoBlock ∷ []
+    ∷ kind.NoBlock ∷ kind.HalfDone ∷ []
 
 reason_at_place : (a : Refusal) → slice_index_or reasons (reason_place a) refused.JournalFull ≡ a
 reason_at_place refused.TooManyPatches = refl
@@ -47,7 +48,7 @@ reason_at_place refused.FileFull = refl
 reason_at_place refused.LinksFull = refl
 reason_at_place refused.JournalFull = refl
 
-kind_at_place : (a : FaultKind) → slice_index_or kinds (kind_place a) kind.NoBlock ≡ a
+kind_at_place : (a : FaultKind) → slice_index_or kinds (kind_place a) kind.HalfDone ≡ a
 kind_at_place kind.Dangling = refl
 kind_at_place kind.Twice = refl
 kind_at_place kind.Unwritten = refl
@@ -56,13 +57,14 @@ kind_at_place kind.MarkedFree = refl
 kind_at_place kind.Wild = refl
 kind_at_place kind.Lost = refl
 kind_at_place kind.NoBlock = refl
+kind_at_place kind.HalfDone = refl
 
 pub same_place : (a b : Refusal) → reason_place a ≡ reason_place b → a ≡ b
 same_place a b e = sym (reason_at_place a)
     ∙ (ap (λ i. slice_index_or reasons i refused.JournalFull) e ∙ reason_at_place b)
 
 pub same_kind : (a b : FaultKind) → kind_place a ≡ kind_place b → a ≡ b
-same_kind a b e = sym (kind_at_place a) ∙ (ap (λ i. slice_index_or kinds i kind.NoBlock) e ∙ kind_at_place b)
+same_kind a b e = sym (kind_at_place a) ∙ (ap (λ i. slice_index_or kinds i kind.HalfDone) e ∙ kind_at_place b)
 
 pub reason_low : (a : Refusal) → reason_place a < 12
 reason_low refused.TooManyPatches = omega arith
@@ -78,7 +80,7 @@ reason_low refused.FileFull = omega arith
 reason_low refused.LinksFull = omega arith
 reason_low refused.JournalFull = omega arith
 
-pub kind_low : (a : FaultKind) → kind_place a < 8
+pub kind_low : (a : FaultKind) → kind_place a < 9
 kind_low kind.Dangling = omega arith
 kind_low kind.Twice = omega arith
 kind_low kind.Unwritten = omega arith
@@ -87,6 +89,7 @@ kind_low kind.MarkedFree = omega arith
 kind_low kind.Wild = omega arith
 kind_low kind.Lost = omega arith
 kind_low kind.NoBlock = omega arith
+kind_low kind.HalfDone = omega arith
 
 module _ (s : Search) (places : List ℕ) where
   -- ---- accepted
@@ -158,9 +161,9 @@ module _ (s : Search) (places : List ℕ) where
 
   -- ---- kinds
 
-  fails_with : (kind : FaultKind) (kept : Option ℕ) (patches : List Patch) → HasPatches s places kept patches
-      → (set : ℕ) → HasKind kind kept s.base patches set → Fails s places
-  fails_with kind kept patches traced set (fault, has, is) = (kept, patches, traced, (set, has.failing))
+  fails_with : (kind : FaultKind) (demands : Demands) (patches : List Patch) → HasPatches s places demands patches
+      → (set : ℕ) → HasKind kind demands s.base patches set → Fails s places
+  fails_with kind demands patches traced set (fault, has, is) = (demands, patches, traced, (set, has.failing))
 
   -- the verdict has a first set of each kind that is shown
   pub shown : (v : Verdict) (kind : FaultKind) → IsVerdict s places v → IsTriedSequence s places
@@ -177,7 +180,7 @@ module _ (s : Search) (places : List ℕ) where
           let first = subst (IsFirstOfKind kind fails.0 s.base fails.1) is (right.2 fails.0 fails.1 fails.2 kind) in
           record {
             workload = tried_workload s places tried short right.0;
-            kept = fails.0;
+            demands = fails.0;
             patches = fails.1;
             traced = fails.2;
             set = set;
@@ -189,10 +192,10 @@ module _ (s : Search) (places : List ℕ) where
   shown_back (verdict.Refused reason) kind right is =
       absurd (not_both s places right.fault is.traced.last right.refused is.traced.traced)
   shown_back verdict.Passes kind right is =
-      absurd (right.1 (fails_with kind is.kept is.patches is.traced is.set is.has))
+      absurd (right.1 (fails_with kind is.demands is.patches is.traced is.set is.has))
   shown_back (verdict.Fails firsts) kind right is =
-      by (slice_index_or firsts (kind_place kind) None) (right.2 is.kept is.patches is.traced kind)
+      by (slice_index_or firsts (kind_place kind) None) (right.2 is.demands is.patches is.traced kind)
     where
-      by : (first : Option ℕ) → IsFirstOfKind kind is.kept s.base is.patches first → is_some first ≡ true
+      by : (first : Option ℕ) → IsFirstOfKind kind is.demands s.base is.patches first → is_some first ≡ true
       by None none = absurd (none is.set is.has)
       by (Some set) first = refl

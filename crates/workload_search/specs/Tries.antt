@@ -12,7 +12,7 @@ use Rattle.workload_search.specs.declared.batch.Batch.{Batch}
 abbrev pub items_of : ArrayVec ℕ → List ℕ
 items_of places = places.items
 
--- a sequence with each operation of a pool behind it, in order
+-- a sequence followed by each operation of a pool, in order
 abbrev pub extensions_of : ℕ → List ℕ → List (List ℕ)
 extensions_of pool front = map (λ place. front ++ place ∷ []) (range_with_len 0 pool)
 
@@ -29,7 +29,7 @@ pub record IsExtendable (pool : ℕ) (places : ArrayVec ℕ) : Type 0 where
   pub short : length places.items < 8
   pub among : All (λ place. place < pool) places.items
 
--- each of the sequences was tried, in order, and counted; those that pass are kept where they are to be
+-- each of the sequences was tried, in order, and counted; those that pass are kept if they will be made longer
 pub record IsBatch {A : Type 0} (s : Search) (keeps : Bool) (sequences : List (List ℕ)) (batch : Batch A) : Type 0 where
   pub tried : List Tried
   pub are : map (λ t. t.places) tried ≡ sequences
@@ -37,7 +37,7 @@ pub record IsBatch {A : Type 0} (s : Search) (keeps : Bool) (sequences : List (L
   pub tally : IsTally tried batch.tally
   pub passing : map items_of batch.passing.items ≡ (if keeps then passing_of tried else [])
 
--- so many sequences more can be counted
+-- this many more sequences can be counted
 pub record BatchHasRoom {A : Type 0} (s : Search) (keeps : Bool) (more : ℕ) (batch : Batch A) : Type 0 where
   pub sequences : List (List ℕ)
   pub is : IsBatch s keeps sequences batch
@@ -53,7 +53,7 @@ pub record HaveRoomFor {A : Type 0} (batch later : Batch A) : Type 0 where
   pub after : IsBatch s keeps others later
   pub room : length sequences + length others < 2 ^ 128
 
--- each is what is found of the part of that number, of so many beginnings
+-- each is what is found of the part with that number, of this number of beginnings
 abbrev pub ArePartsOf : {A E : Type 0} → Search → Bool → ℕ → List (ArrayVec ℕ) → ℕ → List (Result (Batch A) E) → Type 0
 ArePartsOf {A = A} {E = E} s keeps pool beginnings size parts =
     (n : ℕ) (d : Result (Batch A) E) → n < length parts

@@ -7,7 +7,7 @@ use crate::tally::Tally;
 use search_model::Places;
 use std::alloc::{AllocError, Allocator};
 
-/// What is counted of the sequences, and those of them that pass, in order, where they are to be made longer.
+/// What is counted of the sequences, and those of them that pass, in order, if they will be made longer.
 #[derive(Drop)]
 pub(crate) struct Batch<A: Allocator> {
     pub tally: Tally<A>,
@@ -25,7 +25,7 @@ impl<A: Allocator + Copy> Batch<A> {
         })
     }
 
-    /// Puts later sequences behind these. It fails only when out of memory.
+    /// Puts later sequences after these. It fails only when out of memory.
     pub(crate) fn join(&mut self, mut later: Batch<A>) -> Result<(), AllocError>
         requires { HaveRoomFor self.old later }
         ensures { (s : Search) (keeps : Bool) (sequences others : List (List ℕ)) → IsBatch s keeps sequences self.old

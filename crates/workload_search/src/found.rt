@@ -13,7 +13,7 @@ use std::alloc::Allocator;
 impl<A: Allocator> Tally<A> {
     /// What is found of the sequences that were counted.
     pub(crate) fn found(&self) -> Found
-        requires { length self.now.kinds.items ≡ 8 }
+        requires { length self.now.kinds.items ≡ 9 }
         ensures { IsToldTally self.now result }
     {
         Found {
@@ -43,7 +43,7 @@ fn refused(counts: &[u128; REFUSALS]) -> ArrayVec<RefusedCount, REFUSALS>
 
 /// Each kind that is shown, in the order of their numbers.
 fn shown(kinds: &[KindTally]) -> ArrayVec<ShownKind, KINDS>
-    requires { length kinds.now ≡ 8 }
+    requires { length kinds.now ≡ 9 }
     ensures { AreToldKinds kinds.now result.items }
 {
     let mut shown = ArrayVec::new();
@@ -83,7 +83,7 @@ fn reason_at(place: usize) -> Refusal
 
 /// The kind at a place in the order of their numbers.
 fn kind_at(place: usize) -> FaultKind
-    requires { place < 8 }
+    requires { place < 9 }
     ensures { kind_place result ≡ place }
 {
     match place {
@@ -94,6 +94,7 @@ fn kind_at(place: usize) -> FaultKind
         4 => FaultKind::MarkedFree,
         5 => FaultKind::Wild,
         6 => FaultKind::Lost,
-        _ => FaultKind::NoBlock,
+        7 => FaultKind::NoBlock,
+        _ => FaultKind::HalfDone,
     }
 }

@@ -12,7 +12,7 @@ pub trait Judge {
     /// The search.
     ghost search: { Self → Search };
 
-    /// What becomes of the operations at these places of the pool, one after another.
+    /// The verdict on the operations at these places of the pool, one after another.
     ///
     /// # Errors
     ///

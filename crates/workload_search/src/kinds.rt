@@ -20,7 +20,7 @@ pub(crate) struct KindTally {
 }
 
 impl KindTally {
-    /// Counts a workload that comes behind all others.
+    /// Counts a workload that comes after all others.
     pub(crate) fn add(&mut self, places: &Places, set: u128)
         requires { self.old.workloads + 1 < 2 ^ 128 }
         ensures workloads { self.new.workloads ≡ self.old.workloads + 1 }

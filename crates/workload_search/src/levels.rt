@@ -18,8 +18,8 @@ where
     A: Allocator + Copy + Send + Sync,
     W: Watch + Sync,
 {
-    /// Tries each beginning, in order, with each operation of the pool behind it. Each worker takes as many beginnings
-    /// as the others, and what they find is joined in order. One worker starts no thread.
+    /// Tries each beginning, in order, followed by each operation of the pool. Each worker takes as many beginnings as
+    /// the others, and what they find is joined in order. One worker starts no thread.
     pub(crate) fn try_level<R: Threads + Sync>(
         &self,
         rt: &R,
@@ -40,7 +40,7 @@ where
         self.join_parts(beginnings, size, parts)
     }
 
-    /// Tries each part of so many beginnings, all side by side.
+    /// Tries each part of this number of beginnings, all side by side.
     fn try_parts<R: Threads + Sync>(
         &self,
         rt: &R,

@@ -2,7 +2,7 @@
 //!
 //! Sequences of operations are tried level by level, shorter ones first. Only a sequence that is accepted and does not
 //! fail is made longer, by each operation of the pool. Workers share the sequences of a level, and what they count is
-//! joined in order, so the same is found for each number of workers.
+//! joined in order, so the result is the same for each number of workers.
 #![tactic(auto)]
 
 mod batch;

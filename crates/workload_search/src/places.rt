@@ -14,7 +14,7 @@ pub fn copied(places: &Places) -> Places
     copy
 }
 
-/// The places with one more behind them.
+/// The places, followed by one more.
 pub(crate) fn extended(places: &Places, place: usize) -> Places
     requires { length places.now.items < 8 }
     ensures { result.items ≡ places.now.items ++ place ∷ [] }

@@ -15,8 +15,8 @@ use std::thread::Threads;
 /// What is found of the workloads of up to `most` operations, 1 to 8, of the pool of the judge's search, which has
 /// `pool` operations.
 ///
-/// For each number of workers the same is found. The watch counts each workload, as a visited set, and whether
-/// it fails.
+/// The result is the same for each number of workers. The watch counts each workload, as a visited set, and whether it
+/// fails.
 ///
 /// # Errors
 ///
@@ -56,7 +56,7 @@ where
     Ok(tally.found())
 }
 
-/// The empty sequence alone. It fails only when out of memory.
+/// Only the empty sequence. It fails only when out of memory.
 pub(crate) fn empty_beginning<A: Allocator>(alloc: A) -> Result<Vec<Places, A>, AllocError>
     ensures { IfOk result (λ beginnings. map items_of beginnings.items ≡ [] ∷ []) }
 {

@@ -30,7 +30,7 @@ impl<A: Allocator> Tally<A> {
         })
     }
 
-    /// Counts a sequence that comes behind all others.
+    /// Counts a sequence that comes after all others.
     pub(crate) fn add(&mut self, places: &Places, verdict: &Verdict)
         requires { HasRoom 1 self.old }
         ensures { (tried : List Tried) → IsTally tried self.old

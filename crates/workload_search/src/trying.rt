@@ -12,7 +12,7 @@ use search_model::{Places, Verdict};
 use set_sweep::Watch;
 use std::alloc::{AllocError, Allocator};
 
-/// A judge of sequences over a pool of so many operations. Those that pass are kept where they are to be made longer.
+/// A judge of sequences over a pool of this number of operations. Those that pass are kept if they will be made longer.
 #[derive(Drop)]
 pub(crate) struct Trying<'a, J: Judge, A: Allocator + Copy, W: Watch> {
     pub judge: &'a J,
@@ -24,7 +24,7 @@ pub(crate) struct Trying<'a, J: Judge, A: Allocator + Copy, W: Watch> {
 }
 
 impl<J: Judge, A: Allocator + Copy, W: Watch> Trying<'_, J, A, W> {
-    /// Tries each beginning, in order, with each operation of the pool behind it.
+    /// Tries each beginning, in order, followed by each operation of the pool.
     pub(crate) fn try_beginnings(&self, beginnings: &[Places]) -> Result<Batch<A>, AllocError>
         requires room { length beginnings.now * self.now.pool < 2 ^ 128 }
         requires short { All (IsExtendable self.now.pool) beginnings.now }
@@ -38,7 +38,7 @@ impl<J: Judge, A: Allocator + Copy, W: Watch> Trying<'_, J, A, W> {
         Ok(batch)
     }
 
-    /// Tries a beginning with each operation of the pool behind it, in order.
+    /// Tries a beginning followed by each operation of the pool, in order.
     fn try_places(&self, batch: &mut Batch<A>, beginning: &Places) -> Result<(), AllocError>
         requires room { BatchHasRoom (J.search self.now.judge.now) self.now.keeps self.now.pool batch.old }
         requires short { IsExtendable self.now.pool beginning.now }
@@ -53,7 +53,7 @@ impl<J: Judge, A: Allocator + Copy, W: Watch> Trying<'_, J, A, W> {
         Ok(())
     }
 
-    /// Tries a beginning with one operation behind it.
+    /// Tries a beginning followed by one operation.
     fn try_one(
         &self,
         batch: &mut Batch<A>,
@@ -78,7 +78,7 @@ impl<J: Judge, A: Allocator + Copy, W: Watch> Trying<'_, J, A, W> {
         Ok(())
     }
 
-    /// Tells the watch of a workload, and whether it fails.
+    /// Reports a workload to the watch, and whether it fails.
     fn tell(&self, verdict: &Verdict) {
         match verdict {
             Verdict::Refused(_) => {}

@@ -13,10 +13,10 @@ returns-clause-closed c = λ rules base s bare ruled set without by. (
 )
 
 pub returns-clause-failing : goal.returns-clause-failing
-returns-clause-failing c = λ kept rules base s bare ruled set without by. (
+returns-clause-failing c = λ demands rules base s bare ruled set without by. (
   λ failing. (
-    failing_too rules base s ruled by set [] bare without (λ rule is out. in_none rule is) kept failing,
+    failing_too rules base s ruled by set [] bare without (λ rule is out. in_none rule is) demands failing,
     not_excluded rules base s ruled by set failing.closed,
   ),
-  λ it. failing_too [] base s bare without set rules ruled by it.1 kept it.0,
+  λ it. failing_too [] base s bare without set rules ruled by it.1 demands it.0,
 )

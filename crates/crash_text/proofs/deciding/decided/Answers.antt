@@ -14,12 +14,12 @@ pub decision_report-requires : goal.decision_report-requires
 decision_report-requires g c =
     let script = c.args.script.now in
     let faults = c.in_ok-faults.faults.items in
-    let decided = subst (λ ps. AreDecided (HasFault script.kept script.base.now ps) faults) c.graph.ensures
+    let decided = subst (λ ps. AreDecided (HasFault script.demands script.base.now ps) faults) c.graph.ensures
     c.in_ok-faults.ensures in
     record {
       on_base = c.requires.on_base;
       closed = subst (λ fs. AreClosed script.traced.patches (map (λ f. f.first) fs)) (sym c.deref.ensures.value)
-          (decided_closed script.kept script.base.now script.traced.patches faults decided);
+          (decided_closed script.demands script.base.now script.traced.patches faults decided);
     }
 
 pub returns-clause-reported : goal.returns-clause-reported
@@ -29,21 +29,21 @@ returns-clause-reported g c = λ last is.
     let faults = c.in_ok-faults.faults.items in
     let text = string_bytes c.in_ok-decision_report.field-0 in
     let written = c.in_ok-decision_report.ensures in
-    let decided = subst (λ ps. AreDecided (HasFault script.kept script.base.now ps) faults) c.graph.ensures
+    let decided = subst (λ ps. AreDecided (HasFault script.demands script.base.now ps) faults) c.graph.ensures
     c.in_ok-faults.ensures in
     let counted = subst (λ ps. CountsClosed ps c.closed_number.result) c.graph-2.ensures c.closed_number.ensures in
-    let firsts = subst (λ fs. AreSections (detail_of settings script.kept) script.base.now script.traced.patches
+    let firsts = subst (λ fs. AreSections (detail_of settings script.demands) script.base.now script.traced.patches
     (map (λ f. f.first) fs) (map (λ d. d.first) written.told)) c.deref.ensures.value written.firsts in
     let many : c.len.result ≡ length faults = search rules in
-    subst (λ n. IsDecision settings script.kept script.base.now last script.traced.patches text n) (sym many)
-    (is_decision settings script.kept script.base.now script.traced last c.closed_number.result faults written.told text
+    subst (λ n. IsDecision settings script.demands script.base.now last script.traced.patches text n) (sym many)
+    (is_decision settings script.demands script.base.now script.traced last c.closed_number.result faults written.told text
     is counted decided (written.of_faults ∙ c.deref.ensures.value) firsts written.whole)
 
 pub returns-clause-safe : goal.returns-clause-safe
 returns-clause-safe g c = λ none.
     let script = c.args.script.now in
     let faults = c.in_ok-faults.faults.items in
-    let decided = subst (λ ps. AreDecided (HasFault script.kept script.base.now ps) faults) c.graph.ensures
+    let decided = subst (λ ps. AreDecided (HasFault script.demands script.base.now ps) faults) c.graph.ensures
     c.in_ok-faults.ensures in
     let many : c.len.result ≡ length faults = search rules in
-    many ∙ none_decided script.kept script.base.now script.traced.patches faults none decided
+    many ∙ none_decided script.demands script.base.now script.traced.patches faults none decided

@@ -5,7 +5,7 @@ use Rattle.patch_sets.specs.Closed.{AreEarlier}
 use Rattle.crash_model.specs.Answer.{detail_of}
 use Rattle.crash_model.specs.Lists.{when}
 use Rattle.crash_model.specs.Patches.{CountsClosed, deps_of}
-use Rattle.crash_model.specs.Strict.{IsFailingUnder}
+use Rattle.crash_model.specs.Checker.{IsFailingUnder}
 use Rattle.enough_model.specs.Enough.{AreEnough, rules_but}
 use Rattle.enough_model.specs.EnoughReport.{IsToldAny, rules_report_bytes}
 use Rattle.enough_deciding.specs.Rules.{IsTracingOf, tracing_of}
@@ -22,9 +22,9 @@ needed_groups-requires-clause-needed g c =
     let script = c.args.script.now in
     let base = script.base.now in
     let t = script.traced in
-    subst (λ (groups : List ℕ). All (λ group. ¬ (AreEnough script.kept base (tracing_of base t)
+    subst (λ (groups : List ℕ). All (λ group. ¬ (AreEnough script.demands base (tracing_of base t)
     (rules_but t.rules group))) groups) (sym c.deref.ensures.value)
-    (none_spared script.kept base (tracing_of base t) t.rules c.in_ok-found.found.needed.items
+    (none_spared script.demands base (tracing_of base t) t.rules c.in_ok-found.found.needed.items
     (c.in_ok-found.ensures.needed (tracing_of base t) (one_tracing base t)))
 
 pub returns-clause-reported : goal.returns-clause-reported
@@ -42,7 +42,7 @@ returns-clause-reported g c = λ last is.
     let needs = c.in_ok-needs.ensures in
     let counted = subst (λ ps. CountsClosed ps c.closed_number.result) c.graph-2.ensures c.closed_number.ensures in
     let earlier = subst (λ ps. AreEarlier (deps_of ps)) (sym c.graph.ensures) is.graph.earlier in
-    let any = subst (λ ps. IsToldAny (detail_of settings script.kept) script.base.now ps (option_map told_first first))
+    let any = subst (λ ps. IsToldAny (detail_of settings script.demands) script.base.now ps (option_map told_first first))
     c.graph.ensures (c.in_ok-first.ensures.told earlier) in
     let form : List ℕ → List (NeededGroup g.row.A.Denot) → List ℕ = λ enough groups.
     rules_report_bytes settings (record {
@@ -53,7 +53,7 @@ returns-clause-reported g c = λ last is.
       needs = map told_group groups;
       first = option_map told_first first;
     }) in
-    is_enough_report settings script.kept script.base.now t last c.closed_number.result
+    is_enough_report settings script.demands script.base.now t last c.closed_number.result
     c.in_ok-found.found.enough.items c.in_ok-found.found.needed.items c.in_ok-needs.needs.items first
     (string_bytes c.in_ok-enough_report.field-0) _ is counted (found.enough last of_trace) (found.needed last of_trace)
     (needs.groups ∙ c.deref.ensures.value) (needs.told last of_trace) any
@@ -64,6 +64,6 @@ pub returns-clause-safe : goal.returns-clause-safe
 returns-clause-safe g c = λ none.
     let script = c.args.script.now in
     let first = c.in_ok-first.first in
-    let safe = subst (λ ps. (set : ℕ) → ¬ (IsFailingUnder script.kept script.base.now ps set)) (sym c.graph.ensures)
+    let safe = subst (λ ps. (set : ℕ) → ¬ (IsFailingUnder script.demands script.base.now ps set)) (sym c.graph.ensures)
     none in
     c.from.ensures ∙ (ap from_bool c.is_some.ensures ∙ none_number first (c.in_ok-first.ensures.safe safe))

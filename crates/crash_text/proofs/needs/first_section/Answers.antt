@@ -2,9 +2,8 @@ use Rattle.std.proofs.Common.{ℕ, subst, sym}
 use Rattle.std.specs.Prelude.{Option}
 use Rattle.patch_sets.specs.Closed.{IsClosed}
 use Rattle.crash_model.specs.Answer.{detail_of}
-use Rattle.crash_model.specs.Strict.{IsFailingUnder}
+use Rattle.crash_model.specs.Checker.{IsFailingUnder}
 use Rattle.crash_model.specs.Patches.{deps_of}
-use Rattle.crash_model.specs.declared.settings.Detail.{Detail}
 use Rattle.fault_summary.specs.Prevented.{IsFirstOut, IsFirstPrevented}
 use Rattle.section_maker.specs.Maker.{Reported}
 use Rattle.report_sections.specs.Sections.{IsSection}
@@ -16,8 +15,8 @@ returns-in_default g c = λ sets all.
     let f = c.args.findings.now in
     let changed = c.args.changed.now in
     let patches = f.traced.patches in
-    none_new f.kept f.base.now patches changed sets (subst
-    (λ (o : Option ℕ). IsFirstPrevented (IsFailingUnder f.kept f.base.now changed) (IsClosed (deps_of patches)) o)
+    none_new f.demands f.base.now patches changed sets (subst
+    (λ (o : Option ℕ). IsFirstPrevented (IsFailingUnder f.demands f.base.now changed) (IsClosed (deps_of patches)) o)
     c.in_default.is c.requires.first) all
 
 pub returns : goal.returns
@@ -27,22 +26,21 @@ returns g c = λ sets all.
     let patches = f.traced.patches in
     let set = c.in-Some.set in
     let section = c.in_ok-section.section in
-    let first : IsFirstOut (IsFailingUnder f.kept f.base.now changed) (IsClosed (deps_of patches)) set =
-    subst (λ (o : Option ℕ). IsFirstPrevented (IsFailingUnder f.kept f.base.now changed)
+    let first : IsFirstOut (IsFailingUnder f.demands f.base.now changed) (IsClosed (deps_of patches)) set =
+    subst (λ (o : Option ℕ). IsFirstPrevented (IsFailingUnder f.demands f.base.now changed)
     (IsClosed (deps_of patches)) o) c.in-Some.is c.requires.first in
-    let is : IsSection (detail_of f.settings.now f.kept) f.base.now changed set section =
-    subst (λ (k : Detail). IsSection k f.base.now changed set section) c.detail.ensures
-    (subst (λ (m : Reported). IsSection m.detail m.base m.patches set section) c.in_ok-maker.ensures
-    c.in_ok-section.ensures.told) in
-    some_new (detail_of f.settings.now f.kept) f.base.now patches changed sets set section c.requires.earlier first all
+    let is : IsSection (detail_of f.settings.now f.demands) f.base.now changed set section =
+    subst (λ (m : Reported). IsSection m.detail m.base m.patches set section) c.in_ok-maker.ensures
+    c.in_ok-section.ensures.told in
+    some_new (detail_of f.settings.now f.demands) f.base.now patches changed sets set section c.requires.earlier first all
     is
 
 pub section-requires : goal.section-requires
 section-requires g c =
     let f = c.args.findings.now in
     let changed = c.args.changed.now in
-    let first : IsFirstOut (IsFailingUnder f.kept f.base.now changed) (IsClosed (deps_of f.traced.patches))
-    c.in-Some.set = subst (λ (o : Option ℕ). IsFirstPrevented (IsFailingUnder f.kept f.base.now changed)
+    let first : IsFirstOut (IsFailingUnder f.demands f.base.now changed) (IsClosed (deps_of f.traced.patches))
+    c.in-Some.set = subst (λ (o : Option ℕ). IsFirstPrevented (IsFailingUnder f.demands f.base.now changed)
     (IsClosed (deps_of f.traced.patches)) o) c.in-Some.is c.requires.first in
     record {
       closed = subst (λ (m : Reported). IsClosed (deps_of m.patches) c.in-Some.set) (sym c.in_ok-maker.ensures)

@@ -41,9 +41,9 @@ returns-clause-full g c = λ full none.
     subst (λ (rs : List Rule). AreAmong (rules_of Full) rs) (sym all) (put_in_among Full settings.with.items) in
     let safe = c.in_ok-traced.ensures.full (ordering.«module» ∙ full) among c.requires.sound.0 c.requires.sound.1 in
     let disk : IsDisk base = search rules in
-    c.answer_traced.ensures.safe (none_fails settings.strict c.ordering-ordering.result.whole_blocks c.in_ok-kept.kept
+    c.answer_traced.ensures.safe (none_fails settings.strict settings.atomic c.ordering-ordering.result.whole_blocks c.in_ok-demands.demands
     base c.args.steps.now
-    c.in_ok-traced.traced.patches disk c.in_ok-kept.ensures safe)
+    c.in_ok-traced.traced.patches disk c.in_ok-demands.ensures safe)
 
 pub returns-clause-reported : goal.returns-clause-reported
 returns-clause-reported g c =
@@ -66,8 +66,8 @@ returns-clause-reported g c =
       patches = t.patches;
       run = under.0;
       graph = under.1;
-      kept = c.in_ok-kept.kept;
-      told = c.in_ok-kept.ensures;
+      demands = c.in_ok-demands.demands;
+      told = c.in_ok-demands.ensures;
       report = report ok.0 is;
     })
     c.answer_traced.ensures.reported

@@ -1,6 +1,6 @@
 use Rattle.std.proofs.Common.{subst, ◌∙◌}
 use Rattle.patch_sets.specs.Sets.{AreAllInOrder}
-use Rattle.crash_model.specs.Strict.{IsFailingUnder}
+use Rattle.crash_model.specs.Checker.{IsFailingUnder}
 use Rattle.crash_text.proofs.Safe.{none_listed}
 use Rattle.crash_text.proofs.visiting.visited.Goals as goal
 
@@ -8,7 +8,7 @@ pub returns-clause-safe : goal.returns-clause-safe
 returns-clause-safe g c = λ none.
     let script = c.args.script in
     let found = c.in_ok-found.ensures.found in
-    let exactly = subst (λ ps. AreAllInOrder (IsFailingUnder script.kept script.base.now ps) found.sets) c.graph.ensures
+    let exactly = subst (λ ps. AreAllInOrder (IsFailingUnder script.demands script.base.now ps) found.sets) c.graph.ensures
     found.totals.exactly in
-    found.totals.number ∙ none_listed (IsFailingUnder script.kept script.base.now script.traced.patches) found.sets none
+    found.totals.number ∙ none_listed (IsFailingUnder script.demands script.base.now script.traced.patches) found.sets none
     exactly

@@ -12,7 +12,7 @@ returns g c =
       of_faults = wrote.of_faults;
       firsts = wrote.firsts;
       whole = json_pieces decision c.len.result wrote.told _ _ _ _ _ _ _ _ _ number c.requires.empty
-          c.in_ok-push_str.ensures.bytes (c.in_ok-write_explained_base.ensures decision.traced.now)
+          c.in_ok-push_str.ensures.bytes (c.in_ok-write_first_keys.ensures decision.traced.now)
           c.in_ok-write.ensures.bytes wrote.whole c.in_ok-push_str-2.ensures.bytes c.in_ok-write_module.ensures
           (c.in_ok-write_from_strict.ensures decision.base.now) c.in_ok-push_str-3.ensures.bytes;
     }

@@ -5,6 +5,7 @@ use Rattle.decision_model.specs.declared.decided_fault.DecidedFault.{DecidedFaul
 use Rattle.section_maker.specs.Maker.{Reported}
 use Rattle.report_sections.specs.Sections.{IsSection}
 use Rattle.report_sections.proofs.Firsts.{first_closed}
+use Rattle.decision_report.specs.Written.{detail_by}
 use Rattle.decision_report.proofs.Faults.{no_fault, lines_more}
 use Rattle.decision_report.proofs.text.write_faults.Goals as goal
 
@@ -25,7 +26,7 @@ loop-decided-preserved g c =
     let is = subst (λ (m : Reported). IsSection m.detail m.base m.patches
     (get_or faults c.loop-decided.decided-index no_fault).first wrote.0) c.loop-decided.invariant.of_decision wrote.1 in
     record {
-      told = lines_more decision.detail decision.base.now decision.traced.now.patches faults
+      told = lines_more (detail_by decision) decision.base.now decision.traced.now.patches faults
           c.loop-decided.decided-index no_fault _ _ _ wrote.0 c.loop-decided-test.true is c.len.result number
           c.loop-decided.invariant.told wrote.2;
       of_decision = c.in_ok-write_fault.ensures.maker ∙ c.loop-decided.invariant.of_decision;

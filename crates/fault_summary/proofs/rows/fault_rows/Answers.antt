@@ -22,11 +22,11 @@ loop-set-preserved g c =
     let set = get_or sets c.loop-set.set-index 0 in
     let short : length sets < 2 ^ 64 = omega arith in
     let listed = c.deref.ensures.value ∙ c.in_ok-found.ensures in
-    let found : c.deref.result.now ≡ faults_after c.args.kept base patches set =
-    found_faults c.args.kept base patches set c.rebuild.new.image c.replay.new.image c.deref.result.now
+    let found : c.deref.result.now ≡ faults_after c.args.demands.now base patches set =
+    found_faults c.args.demands.now base patches set c.rebuild.new.image c.replay.new.image c.deref.result.now
     c.rebuild.ensures c.replay.ensures.replayed listed in
     record {
-      summed = next_set (faults_after c.args.kept base patches) sets c.loop-set.set-index c.loop-set.summary
+      summed = next_set (faults_after c.args.demands.now base patches) sets c.loop-set.set-index c.loop-set.summary
           c.add.new.self (each_once sets c.requires.exactly.ordered) short c.loop-set-test.true
           c.loop-set.invariant.summed
           (subst (λ (fs : List Fault). AddsFaults c.loop-set.summary set fs c.add.new.self) found c.in_ok-add.ensures);
@@ -38,7 +38,7 @@ pub returns : goal.returns
 returns g c =
     let base = c.args.base.now in
     let patches = c.args.graph.now in
-    failing_rows c.args.kept base patches c.args.sets.now c.loop-set.summary c.into_rows.result.items c.requires.exactly
-    (subst (λ (ss : List ℕ). AreSummed (HasAmong (faults_after c.args.kept base patches) ss) c.loop-set.summary)
+    failing_rows c.args.demands.now base patches c.args.sets.now c.loop-set.summary c.into_rows.result.items c.requires.exactly
+    (subst (λ (ss : List ℕ). AreSummed (HasAmong (faults_after c.args.demands.now base patches) ss) c.loop-set.summary)
     (take_all c.loop-set.set-index c.args.sets.now c.loop-set-test.false) c.loop-set.invariant.summed)
     c.into_rows.ensures.same c.into_rows.ensures.ordered

@@ -4,6 +4,6 @@ use Rattle.fault_summary.proofs.rows.fault_rows.Given as goal
 
 abbrev pub invariant-loop-set : goal.invariant-loop-set
 invariant-loop-set g l = record {
-  summed : AreSummed (HasAmong (faults_after l.kept l.base l.graph) (take l.set-index l.sets)) l.summary;
+  summed : AreSummed (HasAmong (faults_after l.demands l.base l.graph) (take l.set-index l.sets)) l.summary;
   size : l.image.blocks ≡ l.base.blocks;
 }

@@ -1,27 +1,24 @@
-use Rattle.std.proofs.Common.{sym, ◌∙◌}
+use Rattle.std.proofs.Common.{ℕ, Option, sym, subst, ◌∙◌}
 use Rattle.std.proofs.lemmas.Bool.{false≢true}
-use Rattle.crash_model.proofs.Losing.{clean_under, clean_from_under, loses_from_under}
-use Rattle.fs_check.proofs.Halves.{halves_clean, clean_halves}
+use Rattle.crash_model.specs.Checker.{IsCleanKeeping}
+use Rattle.crash_model.proofs.Demanded.{clean_parts, clean_from_parts}
 use Rattle.fs_check.proofs.strict.is_clean_under.Goals as goal
 
-pub returns-then-has_clean_pointers : goal.returns-then-has_clean_pointers
-returns-then-has_clean_pointers g c =
-    let d = c.args.image.now in
-    let kept = c.in-Some.kept in
-    rw c.in-Some.is (
-      λ is.
-          let both = c.has_clean_tree.ensures.0 is in
-          clean_under kept d (halves_clean d (c.has_clean_pointers.ensures.0 c.if-has_clean_pointers.true, both.0))
-          both.1,
-      λ under. c.has_clean_tree.ensures.1 (
-        (clean_halves d (clean_from_under kept d under)).1,
-        loses_from_under kept d under,
-      ),
+pub returns-then-is_clean_keeping : goal.returns-then-is_clean_keeping
+returns-then-is_clean_keeping g c =
+    let demands = c.args.demands.now in
+    let image = c.args.image.now in
+    let keeping : IsCleanKeeping demands.kept image = subst (λ (k : Option ℕ). IsCleanKeeping k image) c.kept.ensures
+    (c.is_clean_keeping.ensures.0 c.if-is_clean_keeping.true) in (
+      λ is. clean_from_parts demands image keeping (c.shows_some.ensures.0 is),
+      λ under. c.shows_some.ensures.1 (clean_parts demands image under).1,
     )
 
-pub returns-else-has_clean_pointers : goal.returns-else-has_clean_pointers
-returns-else-has_clean_pointers g c = rw c.in-Some.is (
-  λ is. absurd (false≢true (sym c.if-has_clean_pointers.false ∙ is)),
-  λ under. c.has_clean_pointers.ensures.1 (clean_halves c.args.image.now
-      (clean_from_under c.in-Some.kept c.args.image.now under)).0,
-)
+pub returns-else-is_clean_keeping : goal.returns-else-is_clean_keeping
+returns-else-is_clean_keeping g c =
+    let demands = c.args.demands.now in
+    let image = c.args.image.now in (
+      λ is. absurd (false≢true (sym c.if-is_clean_keeping.false ∙ is)),
+      λ under. c.is_clean_keeping.ensures.1 (subst (λ (k : Option ℕ). IsCleanKeeping k image) (sym c.kept.ensures)
+          (clean_parts demands image under).0),
+    )

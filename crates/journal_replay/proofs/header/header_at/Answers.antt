@@ -4,7 +4,7 @@ use Rattle.crash_model.specs.Replay.{count_of, targets_of}
 use Rattle.journal_replay.proofs.Targets.{header_few}
 use Rattle.journal_replay.proofs.header.header_at.Goals as goal
 
--- the targets are the first of the eight bytes behind the count
+-- the targets are the first of the eight bytes after the count
 first_are_targets : (row : List ℕ) (count : ℕ) (numbers : List ℕ) → count_of row ≤ 8 → count ≡ count_of row
     → numbers ≡ take 8 (drop 3 row) → take count numbers ≡ targets_of row
 first_are_targets row count numbers few counted eight = ap (λ (n : ℕ). take n numbers) counted

@@ -22,11 +22,11 @@ section-requires g c =
     let s = search_by c.args.judge.now in
     let shown = c.args.shown.now in
     let has = patches_of s shown c.requires c.in_ok-steps.steps.items c.deref.result.now c.deref-2.result.now
-    c.in_ok-kept.kept c.in_ok-graph.graph c.in_ok-steps.ensures c.deref.ensures.value c.deref-2.ensures.value
-    c.in_ok-graph.ensures.graph c.in_ok-kept.ensures in
+    c.in_ok-demands.demands c.in_ok-graph.graph c.in_ok-steps.ensures c.deref.ensures.value c.deref-2.ensures.value
+    c.in_ok-graph.ensures.graph c.in_ok-demands.ensures in
     record {
       closed = subst (λ (m : Reported). IsClosed (deps_of m.patches) shown.first) (sym c.in_ok-maker.ensures)
-          (first_closed s shown c.requires c.in_ok-kept.kept c.in_ok-graph.graph has);
+          (first_closed s shown c.requires c.in_ok-demands.demands c.in_ok-graph.graph has);
     }
 
 pub returns : goal.returns
@@ -35,9 +35,9 @@ returns g c =
     let shown = c.args.shown.now in
     let section = c.in_ok-section.section in
     let has = patches_of s shown c.requires c.in_ok-steps.steps.items c.deref.result.now c.deref-2.result.now
-    c.in_ok-kept.kept c.in_ok-graph.graph c.in_ok-steps.ensures c.deref.ensures.value c.deref-2.ensures.value
-    c.in_ok-graph.ensures.graph c.in_ok-kept.ensures in
-    kind_told s shown c.requires c.args.explain c.in_ok-kept.kept c.in_ok-graph.graph
+    c.in_ok-demands.demands c.in_ok-graph.graph c.in_ok-steps.ensures c.deref.ensures.value c.deref-2.ensures.value
+    c.in_ok-graph.ensures.graph c.in_ok-demands.ensures in
+    kind_told s shown c.requires c.args.explain c.in_ok-demands.demands c.in_ok-graph.graph
     c.in_ok-steps.steps.items c.len.result section c.in_ok-steps.ensures c.len.ensures.number has
     (subst (λ (m : Reported). IsSection m.detail m.base m.patches shown.first section) c.in_ok-maker.ensures
     c.in_ok-section.ensures.told)

@@ -5,6 +5,7 @@ use Rattle.enough_model.specs.EnoughReport.{IsToldAny}
 use Rattle.enough_deciding.specs.Rules.{tracing_of}
 use Rattle.enough_deciding.proofs.Tracings.{one_tracing}
 use Rattle.enough_report.specs.Found.{told_first}
+use Rattle.needed_groups.specs.Sparing.{detail_with}
 use Rattle.needed_groups.proofs.Without.{enough_where_none}
 use Rattle.needed_groups.proofs.groups.fault_without.Goals as goal
 
@@ -26,10 +27,10 @@ unreachable-requires g c =
     let t = o.traced.now in
     let graph = c.in_ok-graph.graph in
     let earlier = (c.in_ok-graph.ensures.graph (tracing_of base t) (one_tracing base t)).earlier in
-    let none = subst (λ first. IsToldAny c.args.detail base graph (option_map told_first first)) c.in-None.is
+    let none = subst (λ first. IsToldAny (detail_with c.args.explain c.args.oracle.now.demands.now) base graph (option_map told_first first)) c.in-None.is
     (c.in_ok-fault.ensures.told earlier) in
-    c.requires.needed (enough_where_none c.args.detail o.kept base t (rules_but t.rules c.args.group) graph
-    c.requires.kept c.in_ok-graph.ensures.graph none)
+    c.requires (enough_where_none c.args.explain o.demands.now base t (rules_but t.rules c.args.group) graph
+    c.in_ok-graph.ensures.graph none)
 
 pub returns : goal.returns
 returns g c = λ s of_trace.
@@ -39,6 +40,6 @@ returns g c = λ s of_trace.
     let earlier = (c.in_ok-graph.ensures.graph (tracing_of base t) (one_tracing base t)).earlier in (
       graph,
       c.in_ok-graph.ensures.graph s of_trace,
-      subst (λ first. IsToldAny c.args.detail base graph (option_map told_first first)) c.in-Some.is
+      subst (λ first. IsToldAny (detail_with c.args.explain c.args.oracle.now.demands.now) base graph (option_map told_first first)) c.in-Some.is
           (c.in_ok-fault.ensures.told earlier),
     )

@@ -1,10 +1,11 @@
 use Rattle.std.proofs.Common.{refl}
 use Rattle.enough_model.specs.EnoughReport.{IsToldGroup}
+use Rattle.needed_groups.specs.Sparing.{detail_with}
 use Rattle.needed_groups.proofs.Without.{group_more, told_more}
 use Rattle.needed_groups.proofs.groups.needed_groups.Goals as goal
 
-pub fault_without-requires-clause-needed : goal.fault_without-requires-clause-needed
-fault_without-requires-clause-needed g c = c.requires.needed c.loop-group.group-index 0 c.loop-group-test.true
+pub fault_without-requires : goal.fault_without-requires
+fault_without-requires g c = c.requires c.loop-group.group-index 0 c.loop-group-test.true
 
 pub loop-group-preserved : goal.loop-group-preserved
 loop-group-preserved g c =
@@ -13,7 +14,7 @@ loop-group-preserved g c =
     record {
       groups = group_more c.args.groups.now c.loop-group.group-index c.loop-group.needs.items _ _
           c.loop-group-test.true before.groups refl c.in_ok-push.ensures.items;
-      told = λ s of_trace. told_more (IsToldGroup c.args.detail o.traced.now.rules o.base.now s)
+      told = λ s of_trace. told_more (IsToldGroup (detail_with c.args.explain o.demands.now) o.traced.now.rules o.base.now s)
           c.loop-group.needs.items _ _ (before.told s of_trace) (c.in_ok-fault.ensures s of_trace)
           c.in_ok-push.ensures.items;
     }

@@ -7,11 +7,11 @@ use Rattle.pool_judging.proofs.Least.{least_is_first}
 use Rattle.pool_judging.proofs.firsts.firsts.Goals as goal
 
 pub returns : goal.returns
-returns c = λ kept base patches are of_kind.
-    let first = least_is_first kept base patches c.args.faults.now in
-    elim of_kind as (λ k. IsFirstOfKind k kept base patches (slice_index_or (c.first_of.result ∷ c.first_of-2.result
+returns c = λ demands base patches are of_kind.
+    let first = least_is_first demands base patches c.args.faults.now in
+    elim of_kind as (λ k. IsFirstOfKind k demands base patches (slice_index_or (c.first_of.result ∷ c.first_of-2.result
     ∷ c.first_of-3.result ∷ c.first_of-4.result ∷ c.first_of-5.result ∷ c.first_of-6.result ∷ c.first_of-7.result
-    ∷ c.first_of-8.result ∷ [])
+    ∷ c.first_of-8.result ∷ c.first_of-9.result ∷ [])
     (kind_number k - 1) None)) [
       | kind.Dangling ↦ first kind.Dangling c.first_of.result are c.first_of.ensures
       | kind.Twice ↦ first kind.Twice c.first_of-2.result are c.first_of-2.ensures
@@ -21,4 +21,5 @@ returns c = λ kept base patches are of_kind.
       | kind.Wild ↦ first kind.Wild c.first_of-6.result are c.first_of-6.ensures
       | kind.Lost ↦ first kind.Lost c.first_of-7.result are c.first_of-7.ensures
       | kind.NoBlock ↦ first kind.NoBlock c.first_of-8.result are c.first_of-8.ensures
+      | kind.HalfDone ↦ first kind.HalfDone c.first_of-9.result are c.first_of-9.ensures
     ]

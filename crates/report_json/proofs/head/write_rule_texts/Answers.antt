@@ -7,7 +7,7 @@ use Rattle.crash_model.specs.declared.rules.RulePart.TheVariants.{Change}
 use Rattle.json_values.proofs.Commas.{taken_more}
 use Rattle.report_json.proofs.head.write_rule_texts.Goals as goal
 
--- what stands where there is no rule
+-- what is written if there is no rule
 abbrev no_rule : Rule
 no_rule = same_rule (Change InodeInit) (Change InodeInit)
 

@@ -1,6 +1,7 @@
 use Rattle.std.proofs.Common.{◌≡◌, ◌+◌, ◌/◌, ◌<◌, ◌++◌, [], ℕ, List, length, arith, sym, ap, subst, ◌∙◌, string_bytes}
 use Rattle.std.proofs.Common.{vec_len, IfOk, slice_index_or}
 use Rattle.std.specs.Fork.{slice_chunk}
+use Rattle.report_sections.specs.Bodies.{detail_by}
 use Rattle.report_json.specs.JsonReport.{WritesSections}
 use Rattle.report_json.proofs.JoinedParts.{parts_none, parts_more, parts_all}
 use Rattle.report_json.proofs.parts.write_together.Goals as goal
@@ -9,7 +10,7 @@ pub loop-at-init : goal.loop-at-init
 loop-at-init g c =
     let report = c.args.report.now in
     let sets = c.args.sets.now in
-    parts_none report.detail report.base.now report.traced.now.patches sets (length sets / c.args.workers + 1)
+    parts_none (detail_by report) report.base.now report.traced.now.patches sets (length sets / c.args.workers + 1)
     (string_bytes c.args.out.now)
 
 pub loop-at-preserved : goal.loop-at-preserved
@@ -28,9 +29,9 @@ loop-at-preserved g c =
     let each = c.in_ok-texts.ensures.each n item inside in
     let read : item ≡ slice_index_or texts n item = c.text-item.is
     ∙ ap (λ ts. slice_index_or ts n item) c.deref-text-items.ensures.value in
-    let told = subst (λ r. IfOk r (λ text. WritesSections report.detail report.base.now report.traced.now.patches
+    let told = subst (λ r. IfOk r (λ text. WritesSections (detail_by report) report.base.now report.traced.now.patches
     (slice_chunk sets size n) [] (string_bytes text))) (sym read ∙ c.in-Ok.is) each in
-    parts_more report.detail report.base.now report.traced.now.patches sets size n (string_bytes c.args.out.now)
+    parts_more (detail_by report) report.base.now report.traced.now.patches sets size n (string_bytes c.args.out.now)
     (string_bytes c.loop-at.out) (string_bytes c.in-Ok.text) (string_bytes c.push_str.new.self)
     (omega arith) (c.in_ok-texts.ensures.full n item inside) c.loop-at.invariant told
     (c.in_ok-push_str.ensures.bytes ∙ (ap (λ (t : List ℕ). string_bytes c.write_comma.new.out ++ t)
@@ -43,7 +44,7 @@ returns g c =
     let sets = c.args.sets.now in
     let size = length sets / c.args.workers + 1 in
     let same = c.deref-text-items.ensures.len in
-    parts_all report.detail report.base.now report.traced.now.patches sets size (vec_len c.in_ok-texts.texts)
+    parts_all (detail_by report) report.base.now report.traced.now.patches sets size (vec_len c.in_ok-texts.texts)
     c.loop-at.at (string_bytes c.args.out.now) (string_bytes c.loop-at.out)
     (omega arith) c.in_ok-texts.ensures.len (omega (arith, c.loop-at-test.false, same))
     (omega (arith, c.loop-at.auto.at-end, same)) c.loop-at.invariant

@@ -1,6 +1,6 @@
 use Rattle.std.proofs.Common.{map, codes, refl, sym, subst}
 use Rattle.crash_model.specs.Whole as whole
-use Rattle.report_sections.specs.Bodies.{TellsBody}
+use Rattle.report_sections.specs.Bodies.{detail_by, TellsBody}
 use Rattle.report_sections.specs.ToldRules.{told_rule}
 use Rattle.report_sections.proofs.Pieces.{array_pieces}
 use Rattle.report_json.proofs.report.write_early.Goals as goal
@@ -10,7 +10,7 @@ returns-in_ok-push_str-in-Sets-2 g c =
     let report = c.args.report.now in
     let wrote = c.in_ok-write_together-in-Sets.ensures in (
       whole.Sets wrote.sections,
-      subst (λ b. TellsBody report.detail report.base.now report.traced.now.patches b (whole.Sets wrote.sections))
+      subst (λ b. TellsBody (detail_by report) report.base.now report.traced.now.patches b (whole.Sets wrote.sections))
           (sym c.in-Sets.is) (wrote.sections, wrote.are, refl),
       array_pieces _ _ _ _ (codes ",\"failing\":") _ c.in_ok-push_str-in-Sets.ensures.bytes wrote.whole
           c.in_ok-push_str-in-Sets-2.ensures.bytes,
@@ -21,7 +21,7 @@ returns-in_ok-push_str-in-Faults-2 g c =
     let report = c.args.report.now in
     let wrote = c.in_ok-write_faults-in-Faults.ensures in (
       whole.Faults wrote.told,
-      subst (λ b. TellsBody report.detail report.base.now report.traced.now.patches b (whole.Faults wrote.told))
+      subst (λ b. TellsBody (detail_by report) report.base.now report.traced.now.patches b (whole.Faults wrote.told))
           (sym c.in-Faults.is) (wrote.told, wrote.of_rows, wrote.firsts, refl),
       array_pieces _ _ _ _ (codes ",\"faults\":") _ c.in_ok-push_str-in-Faults.ensures.bytes wrote.whole
           c.in_ok-push_str-in-Faults-2.ensures.bytes,
@@ -32,7 +32,7 @@ returns-in_ok-write-in-Rules g c =
     let report = c.args.report.now in
     let told = map told_rule c.in-Rules.field-0.now in (
       whole.Rules told,
-      subst (λ b. TellsBody report.detail report.base.now report.traced.now.patches b (whole.Rules told))
+      subst (λ b. TellsBody (detail_by report) report.base.now report.traced.now.patches b (whole.Rules told))
           (sym c.in-Rules.is) refl,
       c.in_ok-write-in-Rules.ensures.bytes,
     )

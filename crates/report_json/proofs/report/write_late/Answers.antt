@@ -4,7 +4,7 @@ use Rattle.crash_model.specs.Lists.{join_of}
 use Rattle.crash_model.specs.Needs.{told_rule_json}
 use Rattle.crash_model.specs.Whole as whole
 use Rattle.crash_model.specs.Whole.{late_json}
-use Rattle.report_sections.specs.Bodies.{TellsBody}
+use Rattle.report_sections.specs.Bodies.{detail_by, TellsBody}
 use Rattle.report_sections.specs.ToldRules.{told_rule}
 use Rattle.report_sections.proofs.Pieces.{array_pieces}
 use Rattle.report_json.proofs.report.write_late.Goals as goal
@@ -16,7 +16,7 @@ returns-in_ok-push_str-in-Rules-2 g c = λ body tells.
     let rules = c.in-Rules.rules.now in
     let number : c.len.result ≡ length patches = cc in
     let same : body ≡ whole.Rules (map told_rule rules) =
-    subst (λ b. TellsBody report.detail report.base.now patches b body) c.in-Rules.is tells in
+    subst (λ b. TellsBody (detail_by report) report.base.now patches b body) c.in-Rules.is tells in
     let items = c.in_ok-write_rules-in-Rules.ensures
     ∙ (ap (λ (k : ℕ). string_bytes c.push_str.new.self ++ join_of 44
     (map (λ rule. told_rule_json k (told_rule rule)) rules)) number

@@ -3,6 +3,7 @@ use Rattle.patch_sets.specs.Closed.{IsClosed}
 use Rattle.crash_model.specs.Patches.{deps_of}
 use Rattle.crash_model.specs.declared.fault.FaultRow.{FaultRow}
 use Rattle.section_maker.specs.Maker.{Reported}
+use Rattle.report_sections.specs.Bodies.{detail_by}
 use Rattle.report_sections.specs.Sections.{IsSection}
 use Rattle.report_sections.proofs.Firsts.{no_row, first_closed}
 use Rattle.report_text.proofs.Reports.{fault_more}
@@ -25,7 +26,7 @@ loop-row-preserved g c =
     let is = subst (λ (m : Reported). IsSection m.detail m.base m.patches
     (get_or rows c.loop-row.row-index no_row).first wrote.0) c.loop-row.invariant.of_report wrote.1 in
     record {
-      told = fault_more report.detail report.base.now report.traced.now.patches rows c.loop-row.row-index c.len.result
+      told = fault_more (detail_by report) report.base.now report.traced.now.patches rows c.loop-row.row-index c.len.result
           no_row _ _ _ wrote.0 c.loop-row-test.true number c.loop-row.invariant.told is wrote.2;
       of_report = c.in_ok-write_fault.ensures.maker ∙ c.loop-row.invariant.of_report;
     }

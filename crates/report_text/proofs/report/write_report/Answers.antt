@@ -3,7 +3,7 @@ use Rattle.std.specs.List.{flat_map}
 use Rattle.std.proofs.lemmas.List.Folds.{flat_map-map}
 use Rattle.crash_model.specs.Needs.{told_rule_text}
 use Rattle.crash_model.specs.Whole as whole
-use Rattle.report_sections.specs.Bodies.{TellsBody}
+use Rattle.report_sections.specs.Bodies.{detail_by, TellsBody}
 use Rattle.report_sections.specs.ToldRules.{told_rule}
 use Rattle.report_text.proofs.Reports.{whole_text}
 use Rattle.report_text.proofs.report.write_report.Goals as goal
@@ -15,7 +15,7 @@ returns-in_ok-write_together-in-Sets g c =
     let number : c.len-patches.result ≡ length patches = cc in
     let wrote = c.in_ok-write_together-in-Sets.ensures in (
       whole.Sets wrote.sections,
-      subst (λ b. TellsBody report.detail report.base.now patches b (whole.Sets wrote.sections)) (sym c.in-Sets.is)
+      subst (λ b. TellsBody (detail_by report) report.base.now patches b (whole.Sets wrote.sections)) (sym c.in-Sets.is)
           (wrote.sections, wrote.are, refl),
       whole_text report c.len-patches.result (whole.Sets wrote.sections) _ _ _ _ c.requires.empty number
           c.in_ok-write_head.ensures (c.in_ok-write_explanation.ensures report.base.now) wrote.whole,
@@ -28,7 +28,7 @@ returns-in_ok-write_faults-in-Faults g c =
     let number : c.len-patches.result ≡ length patches = cc in
     let wrote = c.in_ok-write_faults-in-Faults.ensures in (
       whole.Faults wrote.told,
-      subst (λ b. TellsBody report.detail report.base.now patches b (whole.Faults wrote.told)) (sym c.in-Faults.is)
+      subst (λ b. TellsBody (detail_by report) report.base.now patches b (whole.Faults wrote.told)) (sym c.in-Faults.is)
           (wrote.told, wrote.of_rows, wrote.firsts, refl),
       whole_text report c.len-patches.result (whole.Faults wrote.told) _ _ _ _ c.requires.empty number
           c.in_ok-write_head.ensures (c.in_ok-write_explanation.ensures report.base.now) wrote.whole,
@@ -43,7 +43,7 @@ returns-in_ok-write_rules-in-Rules g c =
     let told = map told_rule rules in
     let before = string_bytes c.write_explanation.new.out in (
       whole.Rules told,
-      subst (λ b. TellsBody report.detail report.base.now patches b (whole.Rules told)) (sym c.in-Rules.is) refl,
+      subst (λ b. TellsBody (detail_by report) report.base.now patches b (whole.Rules told)) (sym c.in-Rules.is) refl,
       whole_text report c.len-patches.result (whole.Rules told) _ _ _ _ c.requires.empty number
           c.in_ok-write_head.ensures (c.in_ok-write_explanation.ensures report.base.now)
           (c.in_ok-write_rules-in-Rules.ensures ∙ (ap (λ (k : ℕ). before

@@ -8,5 +8,5 @@ pub returns-clause-failing : goal.returns-clause-failing
 returns-clause-failing c = failing_whole
 
 pub returns-clause-strict : goal.returns-clause-strict
-returns-clause-strict c = λ kept rules base s few more set graph wider. failing_under_whole rules base s few more set
-    graph wider kept
+returns-clause-strict c = λ demands rules base s few more set graph wider. failing_under_whole rules base s few more set
+    graph wider demands

@@ -5,7 +5,7 @@ use Rattle.search_model.specs.declared.found.RefusedCount.{RefusedCount}
 use Rattle.search_model.specs.declared.refusal.Refusal.TheVariants.{TooManyPatches}
 use Rattle.search_report.proofs.json.write_refused.Goals as goal
 
--- what stands where there is no reason
+-- what is written if there is no reason
 abbrev no_refusal : RefusedCount
 no_refusal = record { reason = TooManyPatches; count = 0 }
 

@@ -2,7 +2,7 @@ use Rattle.std.proofs.Common.{rules, ◌≡◌, ℕ, List, length, sym, subst}
 use Rattle.std.specs.List.{AllPairs, Contains}
 use Rattle.patch_sets.specs.Closed.{IsClosed}
 use Rattle.patch_sets.specs.Sets.{IsBefore}
-use Rattle.crash_model.specs.Strict.{IsFailingUnder}
+use Rattle.crash_model.specs.Checker.{IsFailingUnder}
 use Rattle.crash_model.specs.Patches.{deps_of}
 use Rattle.fault_summary.specs.Prevented.{IsFirstPrevented}
 use Rattle.fault_summary.proofs.Prevented.{first_like}
@@ -26,7 +26,7 @@ returns-clause-counted g c =
         exactly = c.in_ok-found.ensures.failing;
         number = number;
       };
-      first = first_like (Contains sets) (IsFailingUnder c.args.crashes.now.kept c.args.crashes.now.base.now
+      first = first_like (Contains sets) (IsFailingUnder c.args.crashes.now.demands.now c.args.crashes.now.base.now
           c.args.crashes.now.graph.now) allowed c.in_ok-found.ensures.failing.exactly c.first_prevented.result
           (subst (λ (ss : List ℕ). IsFirstPrevented (Contains ss) allowed c.first_prevented.result)
           c.deref.ensures.value c.first_prevented.ensures);

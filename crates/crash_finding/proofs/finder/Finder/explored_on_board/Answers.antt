@@ -4,7 +4,7 @@ use Rattle.state_space.proofs.Counting.{not_more}
 use Rattle.patch_sets.specs.Sets.{AreAllInOrder}
 use Rattle.patch_sets.specs.Closed.{IsClosed}
 use Rattle.crash_model.specs.Patches.{deps_of, CountsClosed, ExceedsLimit}
-use Rattle.crash_model.specs.Strict.{IsFailingUnder}
+use Rattle.crash_model.specs.Checker.{IsFailingUnder}
 use Rattle.crash_finding.proofs.finder.Finder.explored_on_board.Goals as goal
 
 pub returns-in-Ok-clause-total : goal.returns-in-Ok-clause-total
@@ -14,7 +14,7 @@ returns-in-Ok-clause-total g c =
 
 pub returns-in-Ok-clause-failing : goal.returns-in-Ok-clause-failing
 returns-in-Ok-clause-failing g c =
-    subst (λ s. AreAllInOrder (IsFailingUnder s.kept s.base s.patches) c.in-Ok.found.broken.items) c.new-space.ensures
+    subst (λ s. AreAllInOrder (IsFailingUnder s.demands s.base s.patches) c.in-Ok.found.broken.items) c.new-space.ensures
     (c.exploring_finds_the_failing_sets.ensures.failing c.in-Ok.found.broken.items c.in-Ok.ensures.found.broken)
 
 -- the board is as large as the sets are many, so it is never too small for them

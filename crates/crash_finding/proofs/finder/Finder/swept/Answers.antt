@@ -21,7 +21,7 @@ pub returns-in-Ok-clause-failing : goal.returns-in-Ok-clause-failing
 returns-in-Ok-clause-failing g c =
     let crashes = c.args.crashes.now in
     let sets = c.in-Ok.found.broken.items in
-    all_failing crashes.kept crashes.base.now crashes.graph.now sets
+    all_failing crashes.demands.now crashes.base.now crashes.graph.now sets
     (subst (λ (s : Crashes). AreAllInOrder (λ set. IsClosed (deps_of crashes.graph.now) set × ¬ (IsGood s set)) sets)
     c.new-space.ensures
     (subst (λ (ds : List ℕ). AreAllInOrder (λ set. IsClosed ds set × ¬ (IsGood c.new-space.result set)) sets)

@@ -1,7 +1,5 @@
-use Rattle.std.proofs.Common.{◌≡◌, List, ℕ, ◌++◌, Some, None, Bor, codes, ap, sym, subst, ◌∙◌}
+use Rattle.std.proofs.Common.{Some, None, codes}
 use Rattle.std.proofs.lemmas.Str.Pattern.{split_text_parts}
-use Rattle.crash_model.specs.RuleFacts.{IsNoRulePart}
-use Rattle.crash_model.specs.declared.rules.Scope.{Scope}
 use Rattle.crash_model.proofs.RuleTexts.{needs_colon, needs_later, needs_earlier}
 use Rattle.crash_model.proofs.rules.Rule.read.Goals as goal
 

@@ -17,5 +17,5 @@ returns g c =
     let r = c.report-report.ensures in
     IfOk-weaker c.write_report.result _ _
     (λ text told. tells_of c.report-report.result f.settings.now _ f.base.now f.traced f.found.closed f.found.failing
-    _ _ r.settings r.detail r.base r.traced r.closed r.failing r.body told)
+    _ _ r.settings r.demands r.base r.traced r.closed r.failing r.body told)
     c.write_report.ensures

@@ -12,30 +12,30 @@ pub enough_sets-requires : goal.enough_sets-requires
 enough_sets-requires g c =
     let base = c.args.self.now.base.now in
     let t = c.args.self.now.traced.now in
-    more_are_enough c.args.self.now.kept base (tracing_of base t) t.rules (all_of t.rules) (all_places t.rules)
+    more_are_enough c.args.self.now.demands.now base (tracing_of base t) t.rules (all_of t.rules) (all_places t.rules)
 
 pub returns-clause-enough : goal.returns-clause-enough
 returns-clause-enough g c = λ last of_trace.
-    let kept = c.args.self.now.kept in
+    let demands = c.args.self.now.demands.now in
     let base = c.args.self.now.base.now in
     let t = c.args.self.now.traced.now in
     let s = tracing_of base t in
     let all = all_of t.rules in
     let sets = c.in_ok-found.found.enough.items in
-    in_order_alike (model.IsMinimalEnough kept base s t.rules) (model.IsMinimalEnough kept base last t.rules) sets
-    (minimal_in_each kept base t s last t.rules (one_tracing base t) of_trace)
-    (in_order_alike (IsMinimalEnough all (EnoughOf kept base s t.rules)) (model.IsMinimalEnough kept base s t.rules)
-    sets (minimal_same kept base s t.rules all (all_places t.rules)) c.in_ok-found.ensures.minimal)
+    in_order_alike (model.IsMinimalEnough demands base s t.rules) (model.IsMinimalEnough demands base last t.rules) sets
+    (minimal_in_each demands base t s last t.rules (one_tracing base t) of_trace)
+    (in_order_alike (IsMinimalEnough all (EnoughOf demands base s t.rules)) (model.IsMinimalEnough demands base s t.rules)
+    sets (minimal_same demands base s t.rules all (all_places t.rules)) c.in_ok-found.ensures.minimal)
 
 pub returns-clause-needed : goal.returns-clause-needed
 returns-clause-needed g c = λ last of_trace.
-    let kept = c.args.self.now.kept in
+    let demands = c.args.self.now.demands.now in
     let base = c.args.self.now.base.now in
     let t = c.args.self.now.traced.now in
     let s = tracing_of base t in
     let all = all_of t.rules in
     let groups = c.in_ok-found.found.needed.items in
-    in_order_alike (model.IsNeeded kept base s t.rules) (model.IsNeeded kept base last t.rules) groups
-    (needed_in_each kept base t s last t.rules (one_tracing base t) of_trace)
-    (in_order_alike (IsNeeded all (EnoughOf kept base s t.rules)) (model.IsNeeded kept base s t.rules) groups
-    (needed_same kept base s t.rules all (all_places t.rules)) c.in_ok-found.ensures.needed)
+    in_order_alike (model.IsNeeded demands base s t.rules) (model.IsNeeded demands base last t.rules) groups
+    (needed_in_each demands base t s last t.rules (one_tracing base t) of_trace)
+    (in_order_alike (IsNeeded all (EnoughOf demands base s t.rules)) (model.IsNeeded demands base s t.rules) groups
+    (needed_same demands base s t.rules all (all_places t.rules)) c.in_ok-found.ensures.needed)

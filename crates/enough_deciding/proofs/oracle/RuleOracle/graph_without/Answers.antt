@@ -9,11 +9,11 @@ use Rattle.enough_deciding.proofs.oracle.RuleOracle.graph_without.Goals as goal
 
 pub returns-clause-graph : goal.returns-clause-graph
 returns-clause-graph g c =
-    let kept = c.args.self.now.kept in
+    let demands = c.args.self.now.demands.now in
     let base = c.args.self.now.base.now in
     let t = c.args.self.now.traced.now in
     let all = c.all_rules-all.ensures ∙ ap (λ (rules : List Rule). all_of rules) c.ordering.ensures.rules in
     let apart = subst (λ (set : ℕ). IsDifference set c.args.group c.difference.result) all c.difference.ensures in
-    let same = rest_rules kept base (tracing_of base t) t.rules (all_of t.rules) (all_places t.rules) c.args.group
+    let same = rest_rules demands base (tracing_of base t) t.rules (all_of t.rules) (all_places t.rules) c.args.group
     c.difference.result apart in
     subst (λ (rules : List Rule). IsGraphBy rules base t c.in_ok-graph.graph) same c.in_ok-graph.ensures.graph

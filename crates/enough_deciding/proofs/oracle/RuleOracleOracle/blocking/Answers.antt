@@ -8,22 +8,22 @@ use Rattle.enough_deciding.proofs.oracle.RuleOracleOracle.blocking.Goals as goal
 
 pub returns-in-None : goal.returns-in-None
 returns-in-None g c =
-    let kept = c.args.self.now.kept in
+    let demands = c.args.self.now.demands.now in
     let base = c.args.self.now.base.now in
     let t = c.args.self.now.traced.now in
-    let it = subst (IsFirstBy kept base t (rules_in t.rules c.args.set)) c.in-None.is c.in_ok-first_fault.ensures in (
+    let it = subst (IsFirstBy demands base t (rules_in t.rules c.args.set)) c.in-None.is c.in_ok-first_fault.ensures in (
       it.0,
       it.1,
       λ crash failing.
-          let fault = some_fault kept (record { base = base; patches = it.0 }) crash failing in
+          let fault = some_fault demands (record { base = base; patches = it.0 }) crash failing in
           it.2 fault.0 crash fault.1,
     )
 
 pub returns-in-Some : goal.returns-in-Some
 returns-in-Some g c =
-    let kept = c.args.self.now.kept in
+    let demands = c.args.self.now.demands.now in
     let base = c.args.self.now.base.now in
     let t = c.args.self.now.traced.now in
-    let it = subst (IsFirstBy kept base t (rules_in t.rules c.args.set)) c.in-Some.is c.in_ok-first_fault.ensures in
-    group_found kept base (tracing_of base t) t.rules (all_of t.rules) (all_places t.rules) c.args.set
+    let it = subst (IsFirstBy demands base t (rules_in t.rules c.args.set)) c.in-Some.is c.in_ok-first_fault.ensures in
+    group_found demands base (tracing_of base t) t.rules (all_of t.rules) (all_places t.rules) c.args.set
     c.excluding_rules.result it.0 it.1 c.in-Some.decided.first it.2.first.among.failing c.excluding_rules.ensures

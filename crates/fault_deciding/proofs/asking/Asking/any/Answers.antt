@@ -4,5 +4,5 @@ use Rattle.fault_deciding.proofs.asking.Asking.any.Goals as goal
 pub returns : goal.returns
 returns g c =
     let self = c.args.self.now in
-    any_with self.kept self.chains.now c.args.fault self.sets.now.deps.now self.about self.found c.any.result
+    any_with self.demands.now self.chains.now c.args.fault self.sets.now.deps.now self.about self.found c.any.result
     c.any.ensures

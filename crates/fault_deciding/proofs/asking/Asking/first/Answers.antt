@@ -4,5 +4,5 @@ use Rattle.fault_deciding.proofs.asking.Asking.first.Goals as goal
 pub returns : goal.returns
 returns g c =
     let self = c.args.self.now in
-    first_with self.kept self.chains.now c.args.fault self.sets.now.deps.now self.about self.found c.first.result
+    first_with self.demands.now self.chains.now c.args.fault self.sets.now.deps.now self.about self.found c.first.result
     c.first.ensures

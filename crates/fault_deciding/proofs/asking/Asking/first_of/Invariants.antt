@@ -3,4 +3,4 @@ use Rattle.fault_deciding.proofs.Orders.{NoneBefore}
 use Rattle.fault_deciding.proofs.asking.Asking.first_of.Given as goal
 
 abbrev pub invariant-loop-fault : goal.invariant-loop-fault
-invariant-loop-fault g l = NoneBefore (HasFaultOf l.self.kept l.self.chains.now) l.faults l.fault-index
+invariant-loop-fault g l = NoneBefore (HasFaultOf l.self.demands.now l.self.chains.now) l.faults l.fault-index

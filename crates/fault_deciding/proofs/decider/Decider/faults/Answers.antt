@@ -11,7 +11,7 @@ use Rattle.fault_deciding.proofs.decider.Decider.faults.Goals as goal
 
 pub returns : goal.returns
 returns g c =
-    let kept = c.args.self.now.kept in
+    let demands = c.args.self.now.demands.now in
     let blank : List Trial = c.in_ok-trials.trials.items in
     let mixed : List Trial = c.spread.new.trials.items in
     let tried : List Trial = c.try_all.new.trials in
@@ -19,7 +19,7 @@ returns g c =
     let old : List Trial = c.deref_mut.result.now in
     let long : length tried ≡ length old = c.try_all.ensures.long in
     let same : HaveSameFaults old tried = c.try_all.ensures.same in
-    let each : All (IsTried (HasFaultOf kept c.in_ok-chains.chains)) tried = c.try_all.ensures.tried in
+    let each : All (IsTried (HasFaultOf demands c.in_ok-chains.chains)) tried = c.try_all.ensures.tried in
     let moved : IsPermutation tried sorted = subst (λ (ts : List Trial). IsPermutation ts sorted)
     (put_back tried (drop (length tried) mixed) c.spread.new.trials.len (sym (long ∙ c.deref_mut.ensures.len)))
     c.sort_trials.ensures.same in
@@ -30,7 +30,7 @@ returns g c =
     let as_long : length tried ≡ length mixed = long ∙ ap (λ (ts : List Trial). length ts) value in
     let all_blank : map fault_of blank ≡ c.in_ok-candidates.candidates.items = all ∙ c.deref-2.ensures.value in
     IfOk-weaker c.found.result _ _
-    (λ faults found. subst (λ (ch : Change). AreDecided (HasFaultOf kept ch) faults.items) c.in_ok-chains.ensures
-    (decided (HasFaultOf kept c.in_ok-chains.chains) c.in_ok-candidates.candidates.items blank mixed tried sorted
+    (λ faults found. subst (λ (ch : Change). AreDecided (HasFaultOf demands ch) faults.items) c.in_ok-chains.ensures
+    (decided (HasFaultOf demands c.in_ok-chains.chains) c.in_ok-candidates.candidates.items blank mixed tried sorted
     c.in_ok-candidates.ensures.all all_blank spread as_long mixed_tried each moved faults.items
     (subst (λ (ts : List Trial). AreFound ts faults.items) c.deref-3.ensures.value found))) c.found.ensures

@@ -11,13 +11,13 @@ use Rattle.fault_deciding.proofs.decider.Decider.faults_alone.Goals as goal
 
 pub returns : goal.returns
 returns g c =
-    let kept = c.args.self.now.kept in
+    let demands = c.args.self.now.demands.now in
     let candidates = c.in_ok-candidates.candidates.items in
     let trials = c.in_ok-trials.trials.items in
     let sorted = c.sort_trials.new.trials.items in
     IfOk-weaker c.found.result _ _
-    (λ faults found. subst (λ (ch : Change). AreDecided (HasFaultOf kept ch) faults.items) c.in_ok-chains.ensures
-    (decided (HasFaultOf kept c.in_ok-chains.chains) candidates trials trials trials sorted
+    (λ faults found. subst (λ (ch : Change). AreDecided (HasFaultOf demands ch) faults.items) c.in_ok-chains.ensures
+    (decided (HasFaultOf demands c.in_ok-chains.chains) candidates trials trials trials sorted
     c.in_ok-candidates.ensures.all (c.in_ok-trials.ensures.faults ∙ c.deref-2.ensures.value)
     (IsPermutation-refl trials) refl (λ k d inside. refl) c.in_ok-trials.ensures.tried c.sort_trials.ensures.same
     faults.items (subst (λ (ts : List Trial). AreFound ts faults.items) c.deref-3.ensures.value found)))

@@ -13,5 +13,5 @@ first_of-requires-clause-all g c = λ fault set its.
     c.sort_faults.ensures.same (c.in_ok-candidates.ensures.all fault set its))
 
 pub returns : goal.returns
-returns g c = subst (λ (ch : Change). IsFirstFault (HasFaultOf c.args.self.now.kept ch) c.first_of.result)
+returns g c = subst (λ (ch : Change). IsFirstFault (HasFaultOf c.args.self.now.demands.now ch) c.first_of.result)
     c.in_ok-chains.ensures c.first_of.ensures

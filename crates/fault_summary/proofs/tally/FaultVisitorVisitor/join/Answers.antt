@@ -5,6 +5,6 @@ use Rattle.fault_summary.proofs.tally.FaultVisitorVisitor.join.Goals as goal
 
 pub returns : goal.returns
 returns g c = λ sets others told later.
-    tallies_joined (faults_after c.args.self.now.kept c.args.self.now.base c.args.self.now.patches) sets others
+    tallies_joined (faults_after c.args.self.now.demands c.args.self.now.base c.args.self.now.patches) sets others
     c.args.tally.now.failing c.args.later.failing _ c.args.tally.now.summary c.args.later.summary c.join.new.self
     (λ small. omega (arith, small)) c.in_ok-join.ensures told later

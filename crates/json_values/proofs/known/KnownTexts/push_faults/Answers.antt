@@ -5,7 +5,7 @@ use Rattle.json_parts.specs.Values.{fault_json}
 use Rattle.json_values.proofs.Commas.{taken_more}
 use Rattle.json_values.proofs.known.KnownTexts.push_faults.Goals as goal
 
--- what stands where there is no fault
+-- what is written if there is no fault
 abbrev no_fault : Fault
 no_fault = Dangling 0 0 0
 

@@ -4,7 +4,7 @@ use Rattle.patch_sets.specs.declared.write.BlockWrite.{BlockWrite}
 use Rattle.json_values.proofs.Commas.{taken_more}
 use Rattle.json_values.proofs.known.KnownTexts.push_writes.Goals as goal
 
--- what stands where there is no block write
+-- what is written if there is no block write
 abbrev no_write : BlockWrite
 no_write = record { block = 0; ids = 0 }
 

@@ -11,7 +11,7 @@ returns g c =
     let patches = c.args.graph.now in
     let fails : IsTrue c.in_ok-any_fails.field-0 = search rules in (
       c.in_ok-any_fails.ensures.0 fails,
-      c.firsts.ensures c.args.kept base patches
-          (subst (λ (fs : List DecidedFault). AreDecided (HasFault c.args.kept base patches) fs)
+      c.firsts.ensures c.args.demands.now base patches
+          (subst (λ (fs : List DecidedFault). AreDecided (HasFault c.args.demands.now base patches) fs)
           (sym c.deref.ensures.value) c.in_ok-faults.ensures),
     )

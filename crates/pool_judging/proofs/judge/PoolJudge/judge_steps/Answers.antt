@@ -10,29 +10,29 @@ use Rattle.pool_judging.proofs.Refusals.{operation_refused}
 use Rattle.pool_judging.proofs.Verdicts.{patches_at, verdict_on, never_fails, no_failure_prop}
 use Rattle.pool_judging.proofs.judge.PoolJudge.judge_steps.Goals as goal
 
-pub returns-in_ok-kept-in-Ok-clause-verdict : goal.returns-in_ok-kept-in-Ok-clause-verdict
-returns-in_ok-kept-in-Ok-clause-verdict g c = λ places are.
+pub returns-in_ok-demands-in-Ok-clause-verdict : goal.returns-in_ok-demands-in-Ok-clause-verdict
+returns-in_ok-demands-in-Ok-clause-verdict g c = λ places are.
     let s = search_by c.args.self.now in
     let ok = c.in-Ok.ensures.ok in
     let patches = c.in-Ok.traced.patches in
-    let kept = c.in_ok-kept-in-Ok.kept in
-    let is = patches_at s places c.args.steps.now kept ok.0 patches are ok.1 ok.2 c.in_ok-kept-in-Ok.ensures in
-    IfOk-weaker c.judge_graph.result _ _ (λ verdict on. verdict_on s places kept patches verdict is on)
-    (subst (λ (ps : List Patch). IfOk c.judge_graph.result (IsVerdictOn kept s.base ps)) c.graph.ensures
+    let demands = c.in_ok-demands-in-Ok.demands in
+    let is = patches_at s places c.args.steps.now demands ok.0 patches are ok.1 ok.2 c.in_ok-demands-in-Ok.ensures in
+    IfOk-weaker c.judge_graph.result _ _ (λ verdict on. verdict_on s places demands patches verdict is on)
+    (subst (λ (ps : List Patch). IfOk c.judge_graph.result (IsVerdictOn demands s.base ps)) c.graph.ensures
     c.judge_graph.ensures)
 
-pub returns-in_ok-kept-in-Ok-clause-full : goal.returns-in_ok-kept-in-Ok-clause-full
-returns-in_ok-kept-in-Ok-clause-full g c = λ is.
+pub returns-in_ok-demands-in-Ok-clause-full : goal.returns-in_ok-demands-in-Ok-clause-full
+returns-in_ok-demands-in-Ok-clause-full g c = λ is.
     let j = c.args.self.now in
     let base = j.base.now in
     let patches = c.in-Ok.traced.patches in
-    let kept = c.in_ok-kept-in-Ok.kept in
-    let on = subst (λ (ps : List Patch). IfOk c.judge_graph.result (IsVerdictOn kept base ps)) c.graph.ensures
+    let demands = c.in_ok-demands-in-Ok.demands in
+    let on = subst (λ (ps : List Patch). IfOk c.judge_graph.result (IsVerdictOn demands base ps)) c.graph.ensures
     c.judge_graph.ensures in
     ∥∥₁_elim j.sound (no_failure_prop c.judge_graph.result)
     (λ sound. IfOk-weaker c.judge_graph.result _ _
-    (λ verdict is_on. never_fails j.strict j.ordering.now.whole_blocks kept base c.args.steps.now patches verdict c.blocks-blocks.ensures.disk
-    c.in_ok-kept-in-Ok.ensures (c.in-Ok.ensures.full is.full is.all sound.0 sound.1) is_on) on)
+    (λ verdict is_on. never_fails j.strict j.atomic j.ordering.now.whole_blocks demands base c.args.steps.now patches verdict c.blocks-blocks.ensures.disk
+    c.in_ok-demands-in-Ok.ensures (c.in-Ok.ensures.full is.full is.all sound.0 sound.1) is_on) on)
 
 pub refused-requires : goal.refused-requires
 refused-requires g c =

@@ -21,6 +21,6 @@ blocking_in-requires-clause-within g c =
 pub returns : goal.returns
 returns g c =
     found_in_trace (search_by c.args.self.now.judge.now) c.args.places.now.items c.deref.result.now
-    c.deref-2.result.now c.in_ok-traced.traced c.in_ok-kept.kept (c.deref.ensures.value ∙ c.in_ok-steps.ensures)
-    (c.deref-2.ensures.value ∙ c.in_ok-steps.ensures) c.in_ok-traced.ensures.traced c.in_ok-kept.ensures c.args.set
+    c.deref-2.result.now c.in_ok-traced.traced c.in_ok-demands.demands (c.deref.ensures.value ∙ c.in_ok-steps.ensures)
+    (c.deref-2.ensures.value ∙ c.in_ok-steps.ensures) c.in_ok-traced.ensures.traced c.in_ok-demands.ensures c.args.set
     c.in_ok-found.found c.in_ok-found.ensures

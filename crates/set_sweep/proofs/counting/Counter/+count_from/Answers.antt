@@ -4,7 +4,7 @@ use Rattle.set_sweep.proofs.Lists.{swept_more, swept_rises, too_many}
 use Rattle.set_sweep.proofs.Roots.{child_of, outside_next, end_next, end_outside, end_none, set_small}
 use Rattle.set_sweep.proofs.counting.Counter.+count_from.Goals as goal
 
--- a tally that tells nothing
+-- a tally that reports nothing
 abbrev nothing : List ℕ → Unit {0} → Type 0
 nothing sets tally = Unit {0}
 
