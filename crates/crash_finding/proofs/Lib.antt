@@ -1,3 +1,4 @@
 pub mod Firsts
+pub mod Rooms
 pub mod Safe
 pub mod Swept

@@ -8,11 +8,11 @@ ghost use Rattle.crash_finding.specs.Limits.{SaysTooMany};
 
 use crate::crashes::Crashes;
 use crate::finder::Finder;
-use crash_image::{PatchSpace, exploring_finds_the_failing_sets};
+use crash_image::{PatchSpace, exploring_finds_the_failing_sets, reach_is_the_closed_sets};
 use crash_model::refusals::RunFault;
-use explorers::{ExploreFault, Explored, Gate, explore, prime_at_least};
+use explorers::{ExploreFault, Explored, Gate, Room, SHARDS, explore, prime_at_least};
 use fault_deciding::dependencies::dependencies;
-use set_sweep::count_closed;
+use set_sweep::{count_by_remainder, largest};
 use std::alloc::Allocator;
 use std::sync::Wait;
 use std::thread::Threads;
@@ -28,8 +28,9 @@ where
 {
     /// How many sets a crash can leave, at most the limit, and which of them fail, in canonical order.
     ///
-    /// The sets are counted first, so that the board is no larger than their number asks for: its limit is the smallest
-    /// prime that is at least their number, or else the run's limit. It refuses if they are more than that.
+    /// The sets are counted first, in all and of each shard, so that the board is no larger than their number asks for
+    /// and no row is too short: its limit is the smallest prime that is at least their number, or else the run's limit,
+    /// and its rows hold the sets of the fullest shard. It refuses where they are more than the run's limit.
     pub(crate) fn explored_on_board(
         &self,
         crashes: &Crashes<'_, A>,
@@ -42,12 +43,15 @@ where
     {
         let space = PatchSpace::new(crashes.base, crashes.graph, crashes.demands);
         exploring_finds_the_failing_sets(&space);
+        reach_is_the_closed_sets(&space);
         let (deps, limit) = (dependencies(crashes.graph), self.settings.limit);
-        let Some(sets) = count_closed(&deps, limit) else {
+        let mut counts = [0; SHARDS];
+        let Some(sets) = count_by_remainder(&deps, limit, &mut counts) else {
             return Err(RunFault::TooMany);
         };
         let limit = prime_at_least(sets, limit);
-        match explore(self.rt, self.alloc, &space, limit, self.workers, self.gate) {
+        let room = Room::for_fullest(limit, largest(&counts));
+        match explore(self.rt, self.alloc, &space, room, self.workers, self.gate) {
             Ok(found) => {
                 self.gate.visited(found.total, found.broken.len());
                 Ok(found)

@@ -4,7 +4,7 @@ ghost use Rattle.std.specs.List.{All};
 ghost use Rattle.state_space.specs.Reach.{IsReached};
 ghost use Rattle.board_rule.specs.Lists.{Has};
 ghost use Rattle.board_rule.specs.Rule.{Overfills};
-ghost use Rattle.patch_sets.specs.Explored.{IsExplored, ReachExceeds};
+ghost use Rattle.patch_sets.specs.Explored.{IsExplored};
 ghost use Rattle.explorers.specs.Ready.{IsIdle, IsReady, IsLeft};
 
 use crate::answers::{answer, join_all};
@@ -12,7 +12,7 @@ use crate::exploration::Exploration;
 use crate::gate::Gate;
 use crate::jobs::share;
 use crate::met::Met;
-use crate::rows::{Room, first_places};
+use crate::rows::Room;
 use crate::tasks::{Task, Tasks};
 use crate::worker::{Left, Worker};
 use hands::{Hand, hands};
@@ -27,56 +27,19 @@ use std::thread::Threads;
 /// larger table more words are found, but looking for one costs what asking the board does.
 const MOST_MET: usize = 8192;
 
-/// Explores a space from its initial word, with 1 to 16 workers over one board.
+/// Explores a space from its initial word over one board with this room, by 1 to 16 workers.
 ///
 /// For every number of workers and every schedule, an answer other than out of memory is the one that is defined
 /// without threads: the number of the words that are reached and those of them that are not good, in canonical order,
-/// or that more words than the limit are reached.
+/// or that more words are reached than the limit, or more words of one shard than a row has places.
 ///
-/// The rows of the board are short at first. If one of them is full, or the limit is passed, the space is explored once
-/// more with rows as long as the limit.
+/// So a space that was not counted needs rows as long as the limit ([`Room::for_any`]): then too many says that more
+/// words than the limit are reached. Where the words of the fullest shard were counted, shorter rows hold them all
+/// ([`Room::for_fullest`]). There is one board, so no word is expanded twice.
 ///
 /// Worker 1 works on the caller's thread, and each of the others on a thread of its own if one can be made. The gate
 /// gets each claim before the word is expanded.
 pub fn explore<R, A, S, G>(
-    rt: &R,
-    alloc: A,
-    space: &S,
-    limit: usize,
-    workers: usize,
-    gate: &G,
-) -> Result<Explored<A>, ExploreFault>
-where
-    R: Threads + Wait + Sync,
-    A: Allocator + Copy + Send + Sync,
-    S: Space + Sync,
-    S::Scratch: Send,
-    G: Gate + Sync,
-    requires limit { (0 < limit) × (limit ≤ 32768) }
-    requires workers { (1 ≤ workers) × (workers ≤ 16) }
-    ensures found { IfOk result (IsExplored (S.successors space.now) (S.initial space.now) (S.is_good space.now)
-        limit) }
-    ensures too_many { IsErrOf result ExploreFault.TooMany
-        → ReachExceeds (S.successors space.now) (S.initial space.now) limit }
-{
-    let places = first_places(limit);
-    if places < limit {
-        let room = Room { limit, places };
-        match explore_within(rt, alloc, space, room, workers, gate) {
-            Err(ExploreFault::TooMany) => {}
-            answer => return answer,
-        }
-    }
-    let room = Room {
-        limit,
-        places: limit,
-    };
-    explore_within(rt, alloc, space, room, workers, gate)
-}
-
-/// Explores a space on a board with this room. It answers too many if more words are reached than the limit, or more of
-/// one shard than a row has places.
-fn explore_within<R, A, S, G>(
     rt: &R,
     alloc: A,
     space: &S,

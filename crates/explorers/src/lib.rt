@@ -23,3 +23,5 @@ pub use exploring::explore;
 pub use gate::{Gate, OpenGate};
 pub use patch_sets::explored::{ExploreFault, Explored};
 pub use primes::prime_at_least;
+pub use rows::Room;
+pub use seen_board::SHARDS;

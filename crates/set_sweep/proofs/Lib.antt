@@ -3,3 +3,4 @@ pub mod Needs
 pub mod Parts
 pub mod Picks
 pub mod Roots
+pub mod Shares

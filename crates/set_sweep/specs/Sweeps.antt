@@ -1,8 +1,8 @@
 -- Sweeping over the closed sets of a graph in ascending number.
-use Rattle.std.specs.Prelude.{◌≡◌, ◌↔◌, ℕ, ◌+◌, ◌<◌, ◌≤◌, ◌^◌, ◌*◌, ◌/◌, List, Option, length, slice_index}
+use Rattle.std.specs.Prelude.{◌≡◌, ◌↔◌, ℕ, ◌+◌, ◌<◌, ◌≤◌, ◌^◌, ◌*◌, ◌/◌, ◌%◌, List, Option, length, slice_index}
 use Rattle.std.specs.Prelude.{slice_index_or, IfSome, IsErrOf, Result, count_ones}
 use Rattle.std.specs.List.{All, AllPairs, Contains}
-use Rattle.state_space.specs.Counts.{Outnumbers}
+use Rattle.state_space.specs.Counts.{HoldsOf, Outnumbers}
 use Rattle.patch_sets.specs.Sets.{Has, IsSubset}
 use Rattle.patch_sets.specs.Closed.{IsClosed}
 use Rattle.patch_sets.specs.declared.explored.ExploreFault.{ExploreFault}
@@ -121,3 +121,21 @@ pub record AreRows {Row : Type 0} (items : Row → List ℕ) (sets : List ℕ) (
   pub small : All (λ set. count_ones set < 129) sets
   pub each : (ids : ℕ) (d : Row) → ids < 129
       → IsPickOf (λ set. count_ones set ≡ ids) sets (items (slice_index_or rows ids d))
+
+-- at each place is the number of the closed sets with that remainder by the number of places
+abbrev pub AreCountsByRemainder : List ℕ → List ℕ → Type 0
+AreCountsByRemainder deps counts =
+    (q : ℕ) → q < length counts
+    → HoldsOf (λ set. IsClosed deps set × (set % length counts ≡ q)) (slice_index counts q)
+
+-- the number of those of the sets whose remainder by n is q
+pub record IsShare (n : ℕ) (sets : List ℕ) (q count : ℕ) : Type 0 where
+  pub picked : List ℕ
+  pub pick : IsPickOf (λ set. set % n ≡ q) sets picked
+  pub counted : length picked ≡ count
+  pub within : count ≤ length sets
+
+-- for each remainder by n the number of those of the sets that have it
+pub record AreShares (n : ℕ) (sets counts : List ℕ) : Type 0 where
+  pub long : length counts ≡ n
+  pub each : (q : ℕ) → q < n → IsShare n sets q (slice_index counts q)

@@ -12,6 +12,7 @@ mod failing;
 mod joining;
 mod ordering;
 mod parting;
+mod remainders;
 mod sharing;
 mod sweeping;
 mod together;
@@ -20,6 +21,7 @@ mod watching;
 mod workers;
 
 pub use counting::count_closed;
+pub use remainders::{count_by_remainder, largest};
 pub use together::Swept;
 pub use visitor::Visitor;
 pub use watching::{Unwatched, Watch};

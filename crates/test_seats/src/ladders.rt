@@ -1,8 +1,8 @@
 //! Ladders of words, on which each word leads to the next two.
 
-ghost use Rattle.std.specs.Prelude.{◌≤◌};
+ghost use Rattle.std.specs.Prelude.{◌≡◌, ◌≤◌};
 
-use explorers::{ExploreFault, Gate, OpenGate, explore};
+use explorers::{ExploreFault, Gate, OpenGate, Room, explore};
 use std::alloc::{AllocError, Global};
 use std::process::Abort;
 use std::sync::Wait;
@@ -48,7 +48,7 @@ fn is_found<K: Shape + Sync, R: Threads + Wait + AllocGlobal + Sync>(
     requires total { (1 ≤ total) × (total ≤ 32768) }
     requires workers { (1 ≤ workers) × (workers ≤ 16) }
 {
-    let found = explore(rt, rt.alloc(), space, total, workers, &OpenGate)?;
+    let found = explore(rt, rt.alloc(), space, Room::for_any(total), workers, &OpenGate)?;
     Ok(found.total == total && found.broken.as_slice() == broken)
 }
 
@@ -62,7 +62,7 @@ fn is_refused<K: Shape + Sync, R: Threads + Wait + AllocGlobal + Sync>(
     requires limit { (1 ≤ limit) × (limit ≤ 32768) }
     requires workers { (1 ≤ workers) × (workers ≤ 16) }
 {
-    let refused = explore(rt, rt.alloc(), space, limit, workers, &OpenGate);
+    let refused = explore(rt, rt.alloc(), space, Room::for_any(limit), workers, &OpenGate);
     matches!(&refused, Err(ExploreFault::TooMany))
 }
 
@@ -124,7 +124,7 @@ fn claims_each_once<R: Threads + Wait + Abort + AllocGlobal + Sync>(
     let counter = Counter {
         claims: AtomicU64::new(0),
     };
-    let total = explore(rt, rt.alloc(), ladder, 300, workers, &counter)?.total;
+    let total = explore(rt, rt.alloc(), ladder, Room::for_any(300), workers, &counter)?.total;
     assert!(rt; total == 201 && counter.claims.load(Ordering::SeqCst) == 201);
     Ok(())
 }
@@ -141,6 +141,34 @@ fn each_word_is_claimed_once(rt: HostRuntime) -> Result<(), Fail> {
     Ok(())
 }
 
+/// So many workers find 100 words of one shard, and claim each of them once.
+fn claims_each_of_one_shard_once<R: Threads + Wait + Abort + AllocGlobal + Sync>(
+    rt: &R,
+    room: Room,
+    workers: usize,
+) -> Result<(), Fail>
+    requires room { (room.limit ≡ 100) × (room.places ≡ 100) }
+    requires workers { (1 ≤ workers) × (workers ≤ 16) }
+{
+    let after = words_of_one_shard();
+    let fan = Small(Fan { after: &after });
+    let counter = Counter {
+        claims: AtomicU64::new(0),
+    };
+    let total = explore(rt, rt.alloc(), &fan, room, workers, &counter)?.total;
+    assert!(rt; total == 100 && counter.claims.load(Ordering::SeqCst) == 100);
+    Ok(())
+}
+
+#[test]
+fn each_word_of_one_shard_is_claimed_once(rt: HostRuntime) -> Result<(), Fail> {
+    for workers in [1, 2, 8, 16] {
+        claims_each_of_one_shard_once(&rt, Room::for_any(100), workers)?;
+        claims_each_of_one_shard_once(&rt, Room::for_fullest(100, 100), workers)?;
+    }
+    Ok(())
+}
+
 #[test]
 fn two_workers_meet(rt: HostRuntime) -> Result<(), Fail> {
     let ladder = Small(Ladder {
@@ -148,7 +176,7 @@ fn two_workers_meet(rt: HostRuntime) -> Result<(), Fail> {
         good_to: 3,
     });
     let meeting = Meeting::new(2, 1 << 2);
-    let total = explore(&rt, rt.alloc(), &ladder, 4, 2, &meeting)?.total;
+    let total = explore(&rt, rt.alloc(), &ladder, Room::for_any(4), 2, &meeting)?.total;
     assert!(rt; total == 4 && meeting.was_held());
     Ok(())
 }

@@ -1,8 +1,9 @@
-use Rattle.state_space.specs.Reach.{IsReached}
-use Rattle.explorers.proofs.Overfilling.{overfills_rows}
+use Rattle.std.proofs.Common.{sym, ◌∙◌}
 use Rattle.explorers.proofs.exploring.explore.Goals as goal
 
-pub returns-clause-too_many : goal.returns-clause-too_many
-returns-clause-too_many g c = λ too_many.
-    overfills_rows (IsReached (g.S.Space.successors c.args.space.now) (g.S.Space.initial c.args.space.now)) c.args.limit
-    (c.explore_within-2.ensures.too_many too_many)
+pub work_all-requires-clause-ways : goal.work_all-requires-clause-ways
+work_all-requires-clause-ways g c = λ _ _ k d inside. c.in_ok-hands.ensures.ways k d inside
+    ∙ sym c.in_ok-hands.ensures.count
+
+pub answer-requires-clause-board : goal.answer-requires-clause-board
+answer-requires-clause-board g c = c.in_ok-board.ensures.board
