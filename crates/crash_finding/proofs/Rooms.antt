@@ -21,12 +21,10 @@ module _ (deps counts : List ℕ) (sets : ℕ) (counted : HoldsOf (IsClosed deps
   -- a shard has no more closed sets than there are
   pub shard_within : (q : ℕ) → q < length counts → get_or counts q 0 < sets + 1
   shard_within q near = lt_of_not-le (λ high.
-  let (words, list, is) = shards q near in
-  not_more (IsClosed deps) sets sets counted (omega arith) (
-    words,
-    record { distinct = list.distinct; each = All-weaker (InShard q) (IsClosed deps) (λ w both. both.0) words list.each },
-    omega (arith, high, is),
-  ))
+      let (words, list, is) = shards q near in
+      let each : All (IsClosed deps) words = All-weaker (InShard q) (IsClosed deps) (λ w both. both.0) words list.each in
+      not_more (IsClosed deps) sets sets counted (omega arith)
+      (words, record { distinct = list.distinct; each = each }, omega (arith, high, is)))
 
   -- words that are closed sets do not overfill rows that are as long as each count
   pub not_overfilled : (P : ℕ → Type 0) → ((set : ℕ) → P set → IsClosed deps set) → length counts ≡ 13
@@ -35,11 +33,11 @@ module _ (deps counts : List ℕ) (sets : ℕ) (counted : HoldsOf (IsClosed deps
   not_overfilled P to thirteen limit places enough rows over = elim over [
     | inl all ↦ not_more (IsClosed deps) sets limit counted enough (more_of P (IsClosed deps) to limit all)
     | inr (q, more) ↦
-      let at : (w : ℕ) → w % 13 ≡ q → w % length counts ≡ q = λ w. subst (λ n. w % n ≡ q) (sym thirteen) in
-      let word = get_or more.0 0 0 in
-      let first = more.1.each 0 0 (omega (arith, more.2)) in
-      let near : q < length counts = subst (λ n. n < length counts) (at word first.1)
-          (mod-lt word (omega (arith, thirteen))) in
-      not_more (InShard q) (get_or counts q 0) places (shards q near) (rows q near)
-          (more_of (λ w. P w × (w % 13 ≡ q)) (InShard q) (λ w both. (to w both.0, at w both.1)) places more)
+        let at : (w : ℕ) → w % 13 ≡ q → w % length counts ≡ q = λ w. subst (λ n. w % n ≡ q) (sym thirteen) in
+        let word = get_or more.0 0 0 in
+        let first = more.1.each 0 0 (omega (arith, more.2)) in
+        let near : q < length counts = subst (λ n. n < length counts) (at word first.1)
+        (mod-lt word (omega (arith, thirteen))) in
+        not_more (InShard q) (get_or counts q 0) places (shards q near) (rows q near)
+        (more_of (λ w. P w × (w % 13 ≡ q)) (InShard q) (λ w both. (to w both.0, at w both.1)) places more)
   ]

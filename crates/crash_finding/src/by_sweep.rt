@@ -6,7 +6,7 @@ ghost use Rattle.std.specs.Prelude.{◌≤◌, IfOk, IfErr};
 ghost use Rattle.patch_sets.specs.Closed.{IsClosed};
 ghost use Rattle.patch_sets.specs.Sets.{AreAllInOrder};
 ghost use Rattle.crash_model.specs.Patches.{deps_of, CountsClosed};
-ghost use Rattle.crash_model.specs.Summary.{HasFault, AreRows};
+ghost use Rattle.crash_model.specs.FaultRows.{HasFault, AreRows};
 ghost use Rattle.fault_summary.specs.Counted.{CountsFailing};
 ghost use Rattle.fault_summary.specs.Prevented.{IsFirstPrevented};
 ghost use Rattle.crash_finding.specs.Kept.{Fails};

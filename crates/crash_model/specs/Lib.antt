@@ -19,10 +19,8 @@ pub mod Failing
 pub mod Strict
 pub mod Atomic
 pub mod Checker
-pub mod Report
+pub mod FaultRows
 pub mod Script
-pub mod Explain
-pub mod Summary
-pub mod Needs
-pub mod Whole
-pub mod Answer
+pub mod Texts
+pub mod Reasons
+pub mod RuleUse

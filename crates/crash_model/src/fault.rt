@@ -1,7 +1,7 @@
 //! What a checker can find wrong with an image.
 
 ghost use Rattle.std.specs.Prelude.{◌≡◌};
-ghost use Rattle.crash_model.specs.Summary.{numbers_of};
+ghost use Rattle.crash_model.specs.FaultRows.{numbers_of};
 
 use std::fmt;
 
@@ -34,7 +34,7 @@ pub enum Fault {
 
 impl fmt::Display for Fault {
     ghost use Rattle.std.specs.Prelude.{Some};
-    ghost use Rattle.crash_model.specs.Report.{fault_text};
+    ghost use Rattle.crash_model.specs.Texts.{fault_text};
 
     ghost output = { λ f. Some (fault_text f) };
 

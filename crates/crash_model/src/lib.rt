@@ -1,8 +1,8 @@
 //! The data that crashmap uses: names, operations, changes, patches, steps, faults and refusals.
 //!
 //! The definitions that contracts use are in `specs/`: the disk and its layout, what operations change, the
-//! patches of a script and their dependencies, replay, the checker's faults, the sets that fail, the script, the
-//! report and the answer. None of them is code; the crates above are proved to meet them.
+//! patches of a script and their dependencies, replay, the checker's faults, the sets that fail, and the script. None
+//! of them is code; the crates above are proved to meet them. Reports and answers are in `report_model`.
 #![tactic(auto)]
 
 pub mod disk_bytes;

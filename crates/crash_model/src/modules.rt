@@ -1,7 +1,7 @@
 //! Ordering modules.
 
 ghost use Rattle.std.specs.Prelude.{◌≡◌};
-ghost use Rattle.crash_model.specs.Report.{module_text};
+ghost use Rattle.crash_model.specs.Texts.{module_text};
 
 /// What orders the patches of an operation.
 ///

@@ -1,7 +1,7 @@
 -- What the parts of a run find makes its answer.
 use Rattle.std.proofs.Common.{◌≡◌, ◌≢◌, ℕ, List, Ok, Err, Bool, true, false, refl, subst, sym, inl, inr}
-use Rattle.crash_model.specs.Answer.{Refused, Reported, HasBase, IsAnswer, bad_geometry, bad_base, bad_trace, too_many}
-use Rattle.crash_model.specs.Answer.{reported, bad_script}
+use Rattle.report_model.specs.Answer.{Refused, Reported, HasBase, IsAnswer, bad_geometry, bad_base, bad_trace, too_many}
+use Rattle.report_model.specs.Answer.{reported, bad_script}
 use Rattle.crash_model.specs.Disk.{Disk, IsGeometry, empty_disk}
 use Rattle.crash_model.specs.Refusals.{run_of_script, run_of_trace}
 use Rattle.crash_model.specs.Script.{IsScript, IsScriptRefusal}

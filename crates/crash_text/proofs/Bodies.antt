@@ -7,21 +7,22 @@ use Rattle.std.proofs.lemmas.List.Elements.{All-map}
 use Rattle.patch_sets.specs.Closed.{IsClosed}
 use Rattle.patch_sets.specs.Sets.{AreAllInOrder}
 use Rattle.patch_sets.proofs.Canonical.{one_list}
-use Rattle.crash_model.specs.Answer.{detail_of, ordering_rules, IsBody, IsReport}
+use Rattle.report_model.specs.Answer.{detail_of, ordering_rules, IsBody, IsReport}
 use Rattle.crash_model.specs.Disk.{Disk}
-use Rattle.crash_model.specs.Explain.{Explanation, explanation}
+use Rattle.crash_model.specs.Reasons.{Explanation, explanation}
 use Rattle.crash_model.specs.Checker.{Demands, IsFailingUnder}
-use Rattle.crash_model.specs.Needs.{ToldRule, AreToldRules}
+use Rattle.report_model.specs.Needs.{ToldRule, AreToldRules}
 use Rattle.crash_model.specs.Patches.{deps_of}
-use Rattle.crash_model.specs.Report.{Section, AreSections, IsLed}
-use Rattle.crash_model.specs.Summary.{HasFault, AreRows, ToldFault, AreToldFaults}
+use Rattle.report_model.specs.Report.{Section, AreSections, IsLed}
+use Rattle.crash_model.specs.FaultRows.{HasFault, AreRows}
+use Rattle.report_model.specs.Summary.{ToldFault, AreToldFaults}
 use Rattle.crash_model.specs.Trace.{Tracing}
-use Rattle.crash_model.specs.Whole.{Body, Sets, Faults, Rules, report}
+use Rattle.report_model.specs.Whole.{Body, Sets, Faults, Rules, report}
 use Rattle.crash_model.specs.declared.fault.FaultRow.{FaultRow}
 use Rattle.crash_model.specs.declared.patches.Patch.{Patch}
 use Rattle.crash_model.specs.declared.settings.Settings.{Settings}
 use Rattle.crash_model.specs.declared.settings.ReportBy.TheVariants.{BySet, ByFault, ByRule}
-use Rattle.crash_model.proofs.Leading.{failing_closed, closed_are_left, sections_lead}
+use Rattle.report_model.proofs.Leading.{failing_closed, closed_are_left, sections_lead}
 use Rattle.traced_patches.specs.Traced.{TracedPatches}
 use Rattle.report_sections.specs.Bodies.{AreOnBase, AreClosed, CanTell, detail_by, sets_of, explanation_by}
 use Rattle.report_sections.specs.declared.report.Body as code

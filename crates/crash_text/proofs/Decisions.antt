@@ -5,17 +5,17 @@ use Rattle.std.proofs.lemmas.Simd.{map-map}
 use Rattle.std.proofs.lemmas.List.Elements.{All-map}
 use Rattle.patch_sets.specs.Closed.{IsClosed}
 use Rattle.crash_model.specs.Checker.{Demands}
-use Rattle.crash_model.specs.Answer.{detail_of}
+use Rattle.report_model.specs.Answer.{detail_of}
 use Rattle.crash_model.specs.Disk.{Disk}
-use Rattle.crash_model.specs.Explain.{Explanation}
+use Rattle.crash_model.specs.Reasons.{Explanation}
 use Rattle.crash_model.specs.Lists.{when}
 use Rattle.crash_model.specs.Patches.{deps_of, CountsClosed}
-use Rattle.crash_model.specs.Report.{AreSections, IsLed}
-use Rattle.crash_model.specs.Summary.{HasFault}
+use Rattle.report_model.specs.Report.{AreSections, IsLed}
+use Rattle.crash_model.specs.FaultRows.{HasFault}
 use Rattle.crash_model.specs.Trace.{Tracing}
 use Rattle.crash_model.specs.declared.patches.Patch.{Patch}
 use Rattle.crash_model.specs.declared.settings.Settings.{Settings}
-use Rattle.crash_model.proofs.Leading.{sections_lead}
+use Rattle.report_model.proofs.Leading.{sections_lead}
 use Rattle.decision_model.specs.Decided.{AreDecided}
 use Rattle.decision_model.specs.Decision.{IsDecision, ToldDecided, AreToldDecided, decision_bytes}
 use Rattle.decision_model.specs.declared.decided_fault.DecidedFault.{DecidedFault}

@@ -10,15 +10,16 @@ use Rattle.patch_sets.specs.Closed.{AreEarlier, IsClosed}
 use Rattle.patch_sets.specs.Sets.{Has, IsBefore, AreAllInOrder}
 use Rattle.crash_model.specs.Disk.{Disk}
 use Rattle.crash_model.specs.Checker.{Demands, IsFailingUnder}
-use Rattle.crash_model.specs.Needs.{AreToldRules, IsFirstNew, IsRuleUsage, RuleUsage, Unused, TooMany as PastLimit}
-use Rattle.crash_model.specs.Needs.{Used, ToldRule, pairs_of}
+use Rattle.report_model.specs.Needs.{AreToldRules, IsFirstNew, IsRuleUsage, RuleUsage, Unused, TooMany as PastLimit}
+use Rattle.report_model.specs.Needs.{Used, ToldRule}
+use Rattle.crash_model.specs.RuleUse.{pairs_of}
 use Rattle.crash_model.specs.Patches.{deps_of}
-use Rattle.crash_model.specs.Report.{Detail, AreSections, IsLed}
+use Rattle.report_model.specs.Report.{Detail, AreSections, IsLed}
 use Rattle.crash_model.specs.Rules.{rules_in_first}
 use Rattle.crash_model.specs.Trace.{Tracing, IsGraphOf}
 use Rattle.crash_model.specs.declared.patches.Patch.{Patch}
 use Rattle.crash_model.specs.declared.rules.Rule.{Rule}
-use Rattle.crash_model.proofs.Leading.{failing_closed, sections_lead}
+use Rattle.report_model.proofs.Leading.{failing_closed, sections_lead}
 use Rattle.fault_summary.specs.Prevented.{IsFirstOut, IsFirstPrevented}
 use Rattle.report_sections.specs.Sections.{section_of, IsSection}
 use Rattle.report_sections.specs.ToldRules.{told_rule, usage_of}

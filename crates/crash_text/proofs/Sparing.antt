@@ -5,9 +5,9 @@ use Rattle.std.specs.Prelude.{Some, None, is_some, option_map, option_to_list}
 use Rattle.std.proofs.lemmas.Simd.{map-map}
 use Rattle.patch_sets.specs.Sets.{AreAllInOrder}
 use Rattle.crash_model.specs.Checker.{Demands}
-use Rattle.crash_model.specs.Answer.{detail_of, ordering_rules}
+use Rattle.report_model.specs.Answer.{detail_of, ordering_rules}
 use Rattle.crash_model.specs.Disk.{Disk}
-use Rattle.crash_model.specs.Explain.{Explanation}
+use Rattle.crash_model.specs.Reasons.{Explanation}
 use Rattle.crash_model.specs.Lists.{when}
 use Rattle.crash_model.specs.Patches.{CountsClosed}
 use Rattle.crash_model.specs.Trace.{Tracing}

@@ -1,7 +1,7 @@
 -- What a sink has taken after a script was served.
 use Rattle.std.specs.Prelude.{◌≡◌, ◌≢◌, ℕ, ◌++◌, List, Option, Some, None}
 use Rattle.std.specs.Io.KnownBytes.{Appends}
-use Rattle.crash_model.specs.Answer.{Reported, Refused}
+use Rattle.report_model.specs.Answer.{Reported, Refused}
 use Rattle.crash_model.specs.declared.refusals.RunFault.{RunFault}
 use Rattle.crash_model.specs.declared.refusals.RunFault.TheVariants.{CannotRead, CannotWrite, ScriptTooLong}
 use Rattle.crash_model.specs.declared.refusals.RunFault.TheVariants.{OutOfMemory}

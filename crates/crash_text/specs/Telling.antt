@@ -1,16 +1,16 @@
 -- What the report of a run says.
 use Rattle.std.specs.Prelude.{◌≡◌, ◌≢◌, ◌⊎◌, ℕ, List, Ok, Err, length}
-use Rattle.crash_model.specs.Report.{Detail}
-use Rattle.crash_model.specs.Answer.{ordering_rules, IsReport}
+use Rattle.report_model.specs.Report.{Detail}
+use Rattle.report_model.specs.Answer.{ordering_rules, IsReport}
 use Rattle.crash_model.specs.Disk.{Disk}
-use Rattle.crash_model.specs.Explain.{Explanation}
+use Rattle.crash_model.specs.Reasons.{Explanation}
 use Rattle.crash_model.specs.Patches.{ExceedsLimit}
 use Rattle.crash_model.specs.Lists.{when}
-use Rattle.crash_model.specs.Needs.{IsWithout, RuleUsage, Unused, TooMany as PastLimit, Used}
+use Rattle.report_model.specs.Needs.{IsWithout, RuleUsage, Unused, TooMany as PastLimit, Used}
 use Rattle.crash_model.specs.Refusals.{run_of_trace}
 use Rattle.crash_model.specs.Checker.{Demands, AreDemands, IsFailingUnder}
 use Rattle.crash_model.specs.Trace.{Tracing, trace_start, trace_from, IsGraphOf}
-use Rattle.crash_model.specs.Whole.{Body, Report, report}
+use Rattle.report_model.specs.Whole.{Body, Report, report}
 use Rattle.crash_model.specs.declared.patches.Patch.{Patch}
 use Rattle.crash_model.specs.declared.refusals.RunFault.{RunFault}
 use Rattle.crash_model.specs.declared.refusals.RunFault.TheVariants.{OutOfMemory, TooMany}

@@ -3,9 +3,9 @@
 ghost use Rattle.std.specs.Prelude.{◌≡◌, ℕ, List, map, option_map, string_bytes, IfOk};
 ghost use Rattle.patch_sets.specs.Closed.{AreEarlier, IsClosed};
 ghost use Rattle.patch_sets.specs.Sets.{AreAllInOrder};
-ghost use Rattle.crash_model.specs.Answer.{detail_of, ordering_rules};
+ghost use Rattle.report_model.specs.Answer.{detail_of, ordering_rules};
 ghost use Rattle.crash_model.specs.Checker.{IsFailingUnder};
-ghost use Rattle.crash_model.specs.Needs.{AreToldRules, IsFirstNew, IsRuleUsage};
+ghost use Rattle.report_model.specs.Needs.{AreToldRules, IsFirstNew, IsRuleUsage};
 ghost use Rattle.crash_model.specs.Patches.{deps_of};
 ghost use Rattle.crash_model.specs.Trace.{Tracing};
 ghost use Rattle.crash_model.specs.declared.settings.ReportBy.TheVariants.{ByRule};

@@ -5,7 +5,7 @@ ghost use Rattle.crash_model.specs.Disk.{empty_disk, IsGeometry};
 ghost use Rattle.crash_model.specs.Sound.{IsSound, HasZeroJournal};
 ghost use Rattle.crash_model.specs.Trace.{base_from};
 ghost use Rattle.crash_model.specs.declared.modules.Module.TheVariants.{Full};
-ghost use Rattle.crash_model.specs.Answer.{Reported, Refused};
+ghost use Rattle.report_model.specs.Answer.{Reported, Refused};
 ghost use Rattle.crash_finding.specs.Limits.{IsExplorable};
 ghost use Rattle.questions.specs.Answers.{IsAnswerTo};
 ghost use Rattle.report_sections.specs.Bodies.{AreOnBase};

@@ -2,13 +2,13 @@
 
 ghost use Rattle.std.specs.Prelude.{◌≡◌, map, IfOk, string_bytes};
 ghost use Rattle.patch_sets.specs.Sets.{AreAllInOrder};
-ghost use Rattle.crash_model.specs.Answer.{detail_of, ordering_rules};
+ghost use Rattle.report_model.specs.Answer.{detail_of, ordering_rules};
 ghost use Rattle.crash_model.specs.Checker.{IsFailingUnder};
-ghost use Rattle.crash_model.specs.Needs.{AreToldRules};
-ghost use Rattle.crash_model.specs.Summary.{HasFault, AreRows};
+ghost use Rattle.report_model.specs.Needs.{AreToldRules};
+ghost use Rattle.crash_model.specs.FaultRows.{HasFault, AreRows};
 ghost use Rattle.crash_model.specs.Trace.{Tracing};
 ghost use Rattle.crash_model.specs.declared.settings.ReportBy.TheVariants.{BySet, ByFault, ByRule};
-ghost use Rattle.crash_model.specs.Whole.{Body as WholeBody, report as report_bytes};
+ghost use Rattle.report_model.specs.Whole.{Body as WholeBody, report as report_bytes};
 ghost use Rattle.report_sections.specs.Bodies.{AreClosed, AreOnBase, CanTell, detail_by, TellsBody, sets_of, whole_of};
 ghost use Rattle.report_sections.specs.ToldRules.{told_rule};
 ghost use Rattle.crash_text.specs.Telling.{AreFindings, IsReportOf, IsTraceOf, Tells};

@@ -1,17 +1,19 @@
 -- What a decision reports: how many closed sets there are, and each fault that one of them has.
 use Rattle.std.specs.Prelude.{◌≡◌, ℕ, List, [], ◌++◌, length, map, flat_map, if◌then◌else◌, Option, codes, decimal}
 use Rattle.std.specs.List.{All}
-use Rattle.crash_model.specs.Answer.{HasGraph, detail_of, ordering_rules}
+use Rattle.report_model.specs.Answer.{HasGraph, detail_of, ordering_rules}
 use Rattle.crash_model.specs.Disk.{Disk}
-use Rattle.crash_model.specs.Explain.{Explanation, explanation, explanation_text, trace_json}
+use Rattle.crash_model.specs.Reasons.{Explanation, explanation}
+use Rattle.report_model.specs.Explain.{explanation_text, trace_json}
 use Rattle.crash_model.specs.Lists.{when}
 use Rattle.crash_model.specs.Patches.{CountsClosed}
-use Rattle.crash_model.specs.Report.{Detail, Section, AreSections, IsLed, fault_text, module_text, line, crash_text}
-use Rattle.crash_model.specs.Report.{json_string, json_array, ids_json, replay_json, writes_json}
+use Rattle.report_model.specs.Report.{Detail, Section, AreSections, IsLed, line, crash_text}
+use Rattle.crash_model.specs.Texts.{fault_text, module_text}
+use Rattle.report_model.specs.Report.{json_string, json_array, ids_json, replay_json, writes_json}
 use Rattle.crash_model.specs.Checker.{Demands, AreDemands}
-use Rattle.crash_model.specs.Summary.{HasFault}
+use Rattle.crash_model.specs.FaultRows.{HasFault}
 use Rattle.crash_model.specs.Trace.{Tracing}
-use Rattle.crash_model.specs.Whole.{told_without, told_with, rule_lines, first_json, rules_json}
+use Rattle.report_model.specs.Whole.{told_without, told_with, rule_lines, first_json, rules_json}
 use Rattle.crash_model.specs.declared.patches.Patch.{Patch}
 use Rattle.crash_model.specs.declared.settings.Settings.{Settings}
 use Rattle.decision_model.specs.Decided.{AreDecided}

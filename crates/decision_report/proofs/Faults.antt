@@ -3,7 +3,7 @@ use Rattle.std.proofs.Common.{◌≡◌, ℕ, ◌+◌, ◌<◌, List, [], ◌∷
 use Rattle.std.proofs.Common.{arith, length-take}
 use Rattle.std.specs.List.{flat_map}
 use Rattle.std.proofs.lemmas.List.{length-map}
-use Rattle.crash_model.specs.Report.{Detail}
+use Rattle.report_model.specs.Report.{Detail}
 use Rattle.crash_model.specs.Disk.{Disk}
 use Rattle.crash_model.specs.declared.fault.Fault.TheVariants.{Dangling}
 use Rattle.crash_model.specs.declared.patches.Patch.{Patch}

@@ -4,10 +4,11 @@ use Rattle.std.proofs.Common.{append_assoc}
 use Rattle.std.specs.Prelude.{if◌then◌else◌}
 use Rattle.std.specs.List.{flat_map}
 use Rattle.crash_model.specs.Disk.{Disk}
-use Rattle.crash_model.specs.Explain.{trace_json, explanation_text}
+use Rattle.report_model.specs.Explain.{trace_json, explanation_text}
 use Rattle.crash_model.specs.Lists.{when}
-use Rattle.crash_model.specs.Report.{Section, fault_text, ids_json, json_string, module_text, replay_json, writes_json}
-use Rattle.crash_model.specs.Whole.{first_json, rules_json, told_with, told_without}
+use Rattle.report_model.specs.Report.{Section, ids_json, json_string, replay_json, writes_json}
+use Rattle.crash_model.specs.Texts.{fault_text, module_text}
+use Rattle.report_model.specs.Whole.{first_json, rules_json, told_with, told_without}
 use Rattle.crash_model.specs.declared.settings.Settings.{Settings}
 use Rattle.decision_model.specs.Decision.{ToldDecided, decided_text, decided_json, text_decision, json_decision}
 use Rattle.decision_model.specs.Decision.{decision_bytes, ordering_text}

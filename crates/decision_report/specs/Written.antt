@@ -1,10 +1,10 @@
 -- What is written of a decision.
 use Rattle.std.specs.Prelude.{◌≡◌, ℕ, List, ◌++◌, length, map, codes, decimal}
-use Rattle.crash_model.specs.Answer.{detail_of}
+use Rattle.report_model.specs.Answer.{detail_of}
 use Rattle.crash_model.specs.Disk.{Disk}
-use Rattle.crash_model.specs.Explain.{explanation_text}
+use Rattle.report_model.specs.Explain.{explanation_text}
 use Rattle.crash_model.specs.Lists.{join_of, when}
-use Rattle.crash_model.specs.Report.{Detail, AreSections, line}
+use Rattle.report_model.specs.Report.{Detail, AreSections, line}
 use Rattle.crash_model.specs.declared.patches.Patch.{Patch}
 use Rattle.crash_model.specs.declared.settings.Settings.{Settings}
 use Rattle.decision_model.specs.Decision as model

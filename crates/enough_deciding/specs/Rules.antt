@@ -2,8 +2,8 @@
 use Rattle.std.specs.Prelude.{◌≡◌, List, Option}
 use Rattle.crash_model.specs.Checker.{Demands}
 use Rattle.crash_model.specs.Disk.{Disk}
-use Rattle.crash_model.specs.Needs.{HasGraphBy}
-use Rattle.crash_model.specs.Summary.{HasFault}
+use Rattle.crash_model.specs.RuleUse.{HasGraphBy}
+use Rattle.crash_model.specs.FaultRows.{HasFault}
 use Rattle.crash_model.specs.Trace.{Tracing, IsGraphOf, trace_start}
 use Rattle.crash_model.specs.declared.patches.Patch.{Patch}
 use Rattle.crash_model.specs.declared.rules.Rule.{Rule}

@@ -4,7 +4,7 @@ use Rattle.std.specs.Prelude.{◌≢◌, ℕ, ◌<◌, List, length, Bool, not, 
 use Rattle.patch_sets.specs.Sets.{Has, has, IsSubset}
 use Rattle.crash_model.specs.Disk.{Disk}
 use Rattle.crash_model.specs.Lists.{some_below}
-use Rattle.crash_model.specs.Needs.{HasGraphBy}
+use Rattle.crash_model.specs.RuleUse.{HasGraphBy}
 use Rattle.crash_model.specs.Checker.{Demands, IsFailingUnder}
 use Rattle.crash_model.specs.Trace.{Tracing}
 use Rattle.crash_model.specs.declared.rules.Rule.{Rule}

@@ -3,19 +3,21 @@ use Rattle.std.specs.Prelude.{◌≡◌, ◌≢◌, ℕ, List, [], ◌∷◌, �
 use Rattle.std.specs.Prelude.{codes, decimal, option_to_list}
 use Rattle.std.specs.List.{All}
 use Rattle.patch_sets.specs.Sets.{AreAllInOrder}
-use Rattle.crash_model.specs.Answer.{HasGraph, detail_of, ordering_rules}
+use Rattle.report_model.specs.Answer.{HasGraph, detail_of, ordering_rules}
 use Rattle.crash_model.specs.Disk.{Disk}
-use Rattle.crash_model.specs.Explain.{Explanation, explanation, explanation_text, trace_json}
+use Rattle.crash_model.specs.Reasons.{Explanation, explanation}
+use Rattle.report_model.specs.Explain.{explanation_text, trace_json}
 use Rattle.crash_model.specs.Lists.{when}
-use Rattle.crash_model.specs.Needs.{HasGraphBy}
+use Rattle.crash_model.specs.RuleUse.{HasGraphBy}
 use Rattle.crash_model.specs.Patches.{CountsClosed}
-use Rattle.crash_model.specs.Report.{Detail, AreSections, IsLed, fault_text, module_text, line, json_string, json_array}
-use Rattle.crash_model.specs.Report.{ids_json, replay_json, writes_json}
+use Rattle.report_model.specs.Report.{Detail, AreSections, IsLed, line, json_string, json_array}
+use Rattle.crash_model.specs.Texts.{fault_text, module_text}
+use Rattle.report_model.specs.Report.{ids_json, replay_json, writes_json}
 use Rattle.crash_model.specs.Rules.{rule_text}
 use Rattle.crash_model.specs.Checker.{Demands, AreDemands}
-use Rattle.crash_model.specs.Summary.{HasFault, IsFaultBefore, IsFirst}
+use Rattle.crash_model.specs.FaultRows.{HasFault, IsFaultBefore, IsFirst}
 use Rattle.crash_model.specs.Trace.{Tracing}
-use Rattle.crash_model.specs.Whole.{told_without, told_with, first_json, rules_json}
+use Rattle.report_model.specs.Whole.{told_without, told_with, first_json, rules_json}
 use Rattle.crash_model.specs.declared.fault.Fault.{Fault}
 use Rattle.crash_model.specs.declared.patches.Patch.{Patch}
 use Rattle.crash_model.specs.declared.rules.Rule.{Rule}

@@ -5,11 +5,12 @@ use Rattle.std.specs.Prelude.{if◌then◌else◌, option_map, option_to_list}
 use Rattle.std.specs.List.{flat_map}
 use Rattle.std.proofs.lemmas.List.Folds.{flat_map-map}
 use Rattle.std.proofs.lemmas.Simd.{map-map}
-use Rattle.crash_model.specs.Answer.{ordering_rules}
-use Rattle.crash_model.specs.Explain.{trace_json}
+use Rattle.report_model.specs.Answer.{ordering_rules}
+use Rattle.report_model.specs.Explain.{trace_json}
 use Rattle.crash_model.specs.Lists.{join_of, when}
-use Rattle.crash_model.specs.Report.{fault_text, ids_json, json_string, line, module_text, replay_json, writes_json}
-use Rattle.crash_model.specs.Whole.{first_json, rules_json, told_with, told_without}
+use Rattle.crash_model.specs.Texts.{fault_text, module_text}
+use Rattle.report_model.specs.Report.{ids_json, json_string, line, replay_json, writes_json}
+use Rattle.report_model.specs.Whole.{first_json, rules_json, told_with, told_without}
 use Rattle.crash_model.specs.declared.rules.Rule.{Rule}
 use Rattle.decision_model.specs.Decision.{ToldDecided, decided_text}
 use Rattle.decision_report.specs.Written.{head_lines}

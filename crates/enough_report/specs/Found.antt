@@ -1,7 +1,8 @@
 -- What is found of the rules that a script needs, as the definition of the report sees it.
 use Rattle.std.specs.Prelude.{ℕ, List, ◌++◌, codes, length, map, flat_map, option_map}
 use Rattle.crash_model.specs.Lists.{join_of, when}
-use Rattle.crash_model.specs.Report.{fault_text, json_string, replay_json}
+use Rattle.crash_model.specs.Texts.{fault_text}
+use Rattle.report_model.specs.Report.{json_string, replay_json}
 use Rattle.crash_model.specs.declared.rules.Rule.{Rule}
 use Rattle.decision_model.specs.Decision.{ToldDecided}
 use Rattle.enough_model.specs.EnoughReport.{RulesReport, ToldGroup, set_json, group_json, group_text}

@@ -2,7 +2,7 @@
 
 ghost use Rattle.std.specs.Prelude.{◌≡◌, ◌++◌, [], option_map};
 ghost use Rattle.std.specs.Prelude.{string_bytes, IfOk, OnOk};
-ghost use Rattle.crash_model.specs.Answer.{ordering_rules};
+ghost use Rattle.report_model.specs.Answer.{ordering_rules};
 ghost use Rattle.enough_model.specs.EnoughReport.{first_fault_json, group_json, json_rules_report, set_json};
 ghost use Rattle.enough_report.specs.Found.{group_head, group_items, report_of, set_items, told_first, told_group};
 

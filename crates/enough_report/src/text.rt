@@ -2,7 +2,7 @@
 
 ghost use Rattle.std.specs.Prelude.{◌≡◌, ◌++◌, codes, decimal, flat_map, length, option_map, option_to_list};
 ghost use Rattle.std.specs.Prelude.{string_bytes, IfOk, OnOk};
-ghost use Rattle.crash_model.specs.Report.{line};
+ghost use Rattle.report_model.specs.Report.{line};
 ghost use Rattle.crash_model.specs.Rules.{rule_text};
 ghost use Rattle.decision_model.specs.Decision.{decided_text};
 ghost use Rattle.enough_model.specs.EnoughReport.{rules_text, group_text, text_rules_report};

@@ -4,7 +4,7 @@ ghost use Rattle.std.specs.Prelude.{◌<◌, IfOk};
 ghost use Rattle.std.specs.List.{All};
 ghost use Rattle.patch_sets.specs.Sets.{AreAllInOrder};
 ghost use Rattle.crash_model.specs.Checker.{IsFailingUnder};
-ghost use Rattle.crash_model.specs.Summary.{HasFault, AreRows};
+ghost use Rattle.crash_model.specs.FaultRows.{HasFault, AreRows};
 
 use crate::summary::Summary;
 use crash_image::rebuild;

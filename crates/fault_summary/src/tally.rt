@@ -4,7 +4,7 @@ ghost use Rattle.std.specs.Prelude.{◌≡◌, ◌<◌, ◌≤◌, length, IfOk,
 ghost use Rattle.std.specs.List.{All};
 ghost use Rattle.patch_sets.specs.Closed.{AreEarlier};
 ghost use Rattle.crash_model.specs.Patches.{CountsClosed, ExceedsLimit, AreUndo, deps_of};
-ghost use Rattle.crash_model.specs.Summary.{HasFault, AreRows};
+ghost use Rattle.crash_model.specs.FaultRows.{HasFault, AreRows};
 ghost use Rattle.fault_summary.specs.Counted.{CountsFailing};
 
 use crate::summary::Summary;

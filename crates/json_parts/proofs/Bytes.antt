@@ -17,8 +17,9 @@ use Rattle.serde_json.specs.Data.{Data, string, array, object, no_members}
 use Rattle.serde_json.specs.View.{items_of}
 use Rattle.serde_json.specs.Written.{compact_text, items_text, has_float, items_have_float}
 use Rattle.crash_model.specs.Lists.{join_of}
-use Rattle.crash_model.specs.Report.{Section, ReplayedBlock, fault_text, json_string, json_array, ids_json, write_json}
-use Rattle.crash_model.specs.Report.{replayed_json, section_json}
+use Rattle.report_model.specs.Report.{Section, ReplayedBlock, json_string, json_array, ids_json, write_json}
+use Rattle.crash_model.specs.Texts.{fault_text}
+use Rattle.report_model.specs.Report.{replayed_json, section_json}
 use Rattle.crash_model.specs.declared.fault.Fault.{Fault}
 use Rattle.crash_model.specs.declared.fault.Fault.TheVariants.{Dangling, Twice, Unwritten, LowLinks, MarkedFree, Wild}
 use Rattle.crash_model.specs.declared.fault.Fault.TheVariants.{Lost, NoBlock, HalfDone}

@@ -12,10 +12,12 @@ use Rattle.serde_json.specs.View.{view}
 use Rattle.serde_json.specs.Written.{compact_text, has_float}
 use Rattle.serde_json.specs.Data.{Data, string}
 use Rattle.serde_json.specs.declared.value.Value.{Value}
-use Rattle.crash_model.specs.Explain.{Dependency, ToldPatch, told_json, dependency_json, op_text, reasons}
+use Rattle.crash_model.specs.Reasons.{Dependency, ToldPatch, reasons}
+use Rattle.report_model.specs.Explain.{told_json, dependency_json}
+use Rattle.crash_model.specs.Texts.{op_text}
 use Rattle.crash_model.specs.Lists.{some_below, when}
 use Rattle.crash_model.specs.Names.{is_name_byte, IsName}
-use Rattle.crash_model.specs.Report.{json_string, json_array}
+use Rattle.report_model.specs.Report.{json_string, json_array}
 use Rattle.crash_model.specs.Rules.{role_text, part_text, rule_part_text, scope_text, rule_text}
 use Rattle.crash_model.specs.Script.{IsPath, IsAct, path_text}
 use Rattle.crash_model.specs.Trace.{Emitted, depends}

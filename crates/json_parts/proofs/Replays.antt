@@ -6,7 +6,7 @@ use Rattle.std.proofs.lemmas.List.{map-append, take_more, take_all}
 use Rattle.std.proofs.lemmas.List.Elements.{All-push}
 use Rattle.hex.specs.Hex.{IsBytes}
 use Rattle.serde_json.specs.Data.{Data}
-use Rattle.crash_model.specs.Report as report
+use Rattle.report_model.specs.Report as report
 use Rattle.report_sections.specs.Replay.{told_block}
 use Rattle.report_sections.specs.declared.replayed.ReplayedBlock as code
 use Rattle.json_parts.specs.Values.{replayed_data}

@@ -3,7 +3,8 @@ use Rattle.std.specs.Prelude.{ℕ, List, map, codes}
 use Rattle.hex.specs.Hex.{IsBytes}
 use Rattle.serde_json.specs.Data.{Data, Members, string, array, object, member, no_members, put}
 use Rattle.serde_json.specs.View.{items_of}
-use Rattle.crash_model.specs.Explain.{Dependency, ToldPatch, op_text}
+use Rattle.crash_model.specs.Reasons.{Dependency, ToldPatch}
+use Rattle.crash_model.specs.Texts.{op_text}
 use Rattle.crash_model.specs.Patches.{Place}
 use Rattle.crash_model.specs.Rules.{part_text}
 use Rattle.crash_model.specs.Script.{IsAct}

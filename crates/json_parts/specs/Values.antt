@@ -6,7 +6,8 @@ use Rattle.patch_sets.specs.Sets.{ids_of}
 use Rattle.patch_sets.specs.declared.write.BlockWrite.{BlockWrite}
 use Rattle.serde_json.specs.Data.{Data, Members, number, unsigned, string, array, object, member, no_members, put}
 use Rattle.serde_json.specs.View.{items_of}
-use Rattle.crash_model.specs.Report.{Section, ReplayedBlock, fault_text, json_string}
+use Rattle.report_model.specs.Report.{Section, ReplayedBlock, json_string}
+use Rattle.crash_model.specs.Texts.{fault_text}
 use Rattle.crash_model.specs.declared.fault.Fault.{Fault}
 
 abbrev pub number_data : ℕ → Data

@@ -2,7 +2,7 @@
 
 ghost use Rattle.std.specs.Prelude.{◌≡◌, map, IfOk, OnOk};
 ghost use Rattle.std.specs.List.{All};
-ghost use Rattle.crash_model.specs.Report.{section_json};
+ghost use Rattle.report_model.specs.Report.{section_json};
 ghost use Rattle.hex.specs.Hex.{IsBytes};
 ghost use Rattle.serde_json.specs.View.{view, members_view};
 ghost use Rattle.report_sections.specs.Replay.{told_block, told_replay};

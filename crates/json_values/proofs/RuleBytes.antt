@@ -5,8 +5,8 @@ use Rattle.std.specs.Prelude.{Option, Some, None}
 use Rattle.json.specs.Print.{escape_byte}
 use Rattle.serde_json.specs.Data.{Data, string, object, no_members}
 use Rattle.serde_json.specs.Written.{compact_text}
-use Rattle.crash_model.specs.Needs.{RuleUsage, Unused, TooMany, Used, ToldRule, told_rule_json}
-use Rattle.crash_model.specs.Report.{Section, json_string, section_json}
+use Rattle.report_model.specs.Needs.{RuleUsage, Unused, TooMany, Used, ToldRule, told_rule_json}
+use Rattle.report_model.specs.Report.{Section, json_string, section_json}
 use Rattle.crash_model.specs.Rules.{role_text, rule_part_text, scope_text, rule_text}
 use Rattle.crash_model.specs.declared.plans.Role.{Role}
 use Rattle.crash_model.specs.declared.plans.Role.TheVariants.{InodeInit, EntrySet, EntryClear, MapSet, MapClear}

@@ -1,7 +1,7 @@
 -- What is written of a section, a part at a time.
 use Rattle.std.proofs.Common.{◌≡◌, ℕ, List, ◌++◌, map, codes, ap, ◌∙◌, append_assoc}
 use Rattle.crash_model.specs.Lists.{join_of}
-use Rattle.crash_model.specs.Report.{Section, ids_json, replay_json, section_json, write_json, writes_json}
+use Rattle.report_model.specs.Report.{Section, ids_json, replay_json, section_json, write_json, writes_json}
 use Rattle.json_parts.specs.Values.{fault_json}
 use Rattle.json_values.specs.Items.{crash_json, leading_json}
 

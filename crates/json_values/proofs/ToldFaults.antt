@@ -7,9 +7,10 @@ use Rattle.patch_sets.specs.declared.write.BlockWrite.{BlockWrite}
 use Rattle.json.specs.Print.{escape_byte}
 use Rattle.serde_json.specs.Data.{Data, object, no_members}
 use Rattle.serde_json.specs.Written.{compact_text, has_float}
-use Rattle.crash_model.specs.Report.{Section, ReplayedBlock, fault_text, json_string, json_array, ids_json, write_json}
-use Rattle.crash_model.specs.Report.{writes_json, replayed_json, replay_json}
-use Rattle.crash_model.specs.Summary.{told_fault_json}
+use Rattle.report_model.specs.Report.{Section, ReplayedBlock, json_string, json_array, ids_json, write_json}
+use Rattle.crash_model.specs.Texts.{fault_text}
+use Rattle.report_model.specs.Report.{writes_json, replayed_json, replay_json}
+use Rattle.report_model.specs.Summary.{told_fault_json}
 use Rattle.crash_model.specs.declared.fault.Fault.{Fault}
 use Rattle.crash_model.specs.declared.fault.FaultRow.{FaultRow}
 use Rattle.json_parts.specs.Written.{IsWritten}

@@ -1,6 +1,6 @@
 -- The items of an array, one at a time, and the last keys of an object.
 use Rattle.std.specs.Prelude.{ℕ, zero, suc, List, [], ◌++◌, codes}
-use Rattle.crash_model.specs.Report.{Section, ids_json, replay_json, writes_json}
+use Rattle.report_model.specs.Report.{Section, ids_json, replay_json, writes_json}
 
 -- the comma before the item at a place
 abbrev pub comma_before : ℕ → List ℕ

@@ -1,7 +1,7 @@
 -- Texts of block writes and of faults that are kept.
 use Rattle.std.specs.Prelude.{◌≡◌, ℕ, List, length, Option, IfSome, string_bytes}
 use Rattle.std.specs.List.{All}
-use Rattle.crash_model.specs.Report.{write_json}
+use Rattle.report_model.specs.Report.{write_json}
 use Rattle.json_parts.specs.Values.{fault_json}
 use Rattle.json_values.specs.declared.known.KnownWrite.{KnownWrite}
 use Rattle.json_values.specs.declared.known.KnownFault.{KnownFault}

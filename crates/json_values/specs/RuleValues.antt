@@ -1,8 +1,8 @@
 -- The JSON values of the entries of rules. Keys are in ascending order.
 use Rattle.std.specs.Prelude.{ℕ, List, true, Option, Some, None, codes}
 use Rattle.serde_json.specs.Data.{Data, Members, boolean, string, object, member, no_members, put}
-use Rattle.crash_model.specs.Needs.{RuleUsage, Unused, TooMany, Used, ToldRule}
-use Rattle.crash_model.specs.Report.{Section, section_json}
+use Rattle.report_model.specs.Needs.{RuleUsage, Unused, TooMany, Used, ToldRule}
+use Rattle.report_model.specs.Report.{Section, section_json}
 use Rattle.crash_model.specs.Rules.{rule_text}
 use Rattle.json_parts.specs.Written.{IsWritten}
 use Rattle.json_parts.specs.Values.{number_data}

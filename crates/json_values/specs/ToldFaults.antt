@@ -2,7 +2,7 @@
 use Rattle.std.specs.Prelude.{ℕ, List, codes, Option}
 use Rattle.patch_sets.specs.declared.write.BlockWrite.{BlockWrite}
 use Rattle.serde_json.specs.Data.{Data, Members, object, member, no_members, put}
-use Rattle.crash_model.specs.Report.{Section, ReplayedBlock}
+use Rattle.report_model.specs.Report.{Section, ReplayedBlock}
 use Rattle.crash_model.specs.declared.fault.Fault.{Fault}
 use Rattle.crash_model.specs.declared.fault.FaultRow.{FaultRow}
 use Rattle.json_parts.specs.Values.{number_data, ids_data, writes_data, fault_data, with_replay, set_put}

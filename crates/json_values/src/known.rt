@@ -3,7 +3,7 @@
 
 ghost use Rattle.std.specs.Prelude.{◌≡◌, ◌++◌, ℕ, length, string_bytes, IfOk, IfSome, None, OnOk};
 ghost use Rattle.std.specs.List.{All};
-ghost use Rattle.crash_model.specs.Report.{write_json};
+ghost use Rattle.report_model.specs.Report.{write_json};
 ghost use Rattle.json_parts.specs.Values.{fault_json};
 
 use crash_model::fault::Fault;

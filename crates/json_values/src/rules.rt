@@ -1,7 +1,7 @@
 //! JSON values of the entries of rules.
 
 ghost use Rattle.std.specs.Prelude.{◌≡◌, Option, option_map, IfOk, OnOk};
-ghost use Rattle.crash_model.specs.Needs.{told_rule_json};
+ghost use Rattle.report_model.specs.Needs.{told_rule_json};
 ghost use Rattle.crash_model.specs.Rules.{rule_text};
 ghost use Rattle.json_parts.specs.Written.{IsWritten};
 ghost use Rattle.json_values.specs.RuleValues.{first_section, IsFirst, first_put, usage_put, rule_put};

@@ -2,7 +2,7 @@
 
 ghost use Rattle.std.specs.Prelude.{◌≡◌, ◌++◌, map, string_bytes, OnOk};
 ghost use Rattle.crash_model.specs.Lists.{join_of};
-ghost use Rattle.crash_model.specs.Report.{ids_json, replay_json, section_json, write_json};
+ghost use Rattle.report_model.specs.Report.{ids_json, replay_json, section_json, write_json};
 ghost use Rattle.json_parts.specs.Values.{fault_json};
 ghost use Rattle.json_values.specs.Items.{crash_json, leading_json};
 ghost use Rattle.report_sections.specs.Replay.{told_replay};

@@ -1,7 +1,7 @@
 //! JSON values of the entries of faults.
 
 ghost use Rattle.std.specs.Prelude.{◌≡◌, IfOk, OnOk};
-ghost use Rattle.crash_model.specs.Summary.{told_fault_json};
+ghost use Rattle.report_model.specs.Summary.{told_fault_json};
 ghost use Rattle.json_parts.specs.Written.{IsWritten};
 ghost use Rattle.json_values.specs.ToldFaults.{fault_put};
 ghost use Rattle.json_parts.specs.Values.{AreReplayedBytes};

@@ -8,13 +8,13 @@ use Rattle.patch_sets.specs.Closed.{AreEarlier, IsClosed}
 use Rattle.patch_sets.specs.Sets.{AreAllInOrder}
 use Rattle.crash_model.specs.Disk.{Disk}
 use Rattle.crash_model.specs.Patches.{deps_of}
-use Rattle.crash_model.specs.Report.{Detail, AreSections, IsLed}
+use Rattle.report_model.specs.Report.{Detail, AreSections, IsLed}
 use Rattle.crash_model.specs.Checker.{Demands, IsFailingUnder}
-use Rattle.crash_model.specs.Summary.{HasFault}
+use Rattle.crash_model.specs.FaultRows.{HasFault}
 use Rattle.crash_model.specs.Trace.{Tracing}
 use Rattle.crash_model.specs.declared.patches.Patch.{Patch}
 use Rattle.crash_model.specs.declared.rules.Rule.{Rule}
-use Rattle.crash_model.proofs.Leading.{sections_lead}
+use Rattle.report_model.proofs.Leading.{sections_lead}
 use Rattle.decision_model.specs.declared.decided_fault.DecidedFault.{DecidedFault}
 use Rattle.fault_deciding.specs.Asked.{IsFirstDecided}
 use Rattle.fault_deciding.proofs.Firsts.{some_fault}

@@ -1,7 +1,7 @@
 -- Rules that an ordering cannot do without, and what is told of them.
 use Rattle.std.specs.Prelude.{ℕ, Bool}
 use Rattle.crash_model.specs.Checker.{Demands}
-use Rattle.crash_model.specs.Report.{Detail}
+use Rattle.report_model.specs.Report.{Detail}
 use Rattle.enough_model.specs.Enough.{AreEnough, rules_but}
 use Rattle.enough_deciding.specs.Rules.{tracing_of}
 use Rattle.enough_deciding.specs.declared.oracle.RuleOracle.{RuleOracle}

@@ -12,10 +12,10 @@ use Rattle.patch_sets.specs.Closed.{IsClosed}
 use Rattle.patch_sets.specs.Sets.{IsBefore, AreAllInOrder}
 use Rattle.patch_sets.proofs.Canonical.{before_self}
 use Rattle.crash_model.specs.Disk.{Disk}
-use Rattle.crash_model.specs.Needs.{IsFirstNew}
+use Rattle.report_model.specs.Needs.{IsFirstNew}
 use Rattle.crash_model.specs.Patches.{Place, places_of, deps_of, image_from}
 use Rattle.crash_model.specs.Replay.{image_after_replay}
-use Rattle.crash_model.specs.Report.{Detail, Section}
+use Rattle.report_model.specs.Report.{Detail, Section}
 use Rattle.crash_model.specs.RuleFacts.{AreAmong}
 use Rattle.crash_model.specs.Rules.{rules_in_first, has_rule}
 use Rattle.crash_model.specs.Checker.{IsCleanUnder, IsFailingUnder}

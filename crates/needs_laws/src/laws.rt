@@ -3,8 +3,8 @@
 ghost use Rattle.std.specs.Prelude.{ℕ, ◌<◌, ◌↔◌, List, length, IsSome};
 ghost use Rattle.patch_sets.specs.Sets.{AreAllInOrder};
 ghost use Rattle.crash_model.specs.Disk.{Disk};
-ghost use Rattle.crash_model.specs.Needs.{IsRuleUsage, Used, Without};
-ghost use Rattle.crash_model.specs.Report.{Detail};
+ghost use Rattle.report_model.specs.Needs.{IsRuleUsage, Used, Without};
+ghost use Rattle.report_model.specs.Report.{Detail};
 ghost use Rattle.crash_model.specs.Checker.{IsFailingUnder};
 ghost use Rattle.crash_model.specs.Trace.{Tracing, IsGraphOf};
 ghost use Rattle.crash_model.specs.declared.patches.Patch.{Patch};

@@ -1,6 +1,6 @@
 -- The answer to a question, from a script's bytes and the settings. No worker and no order of discovery is in it.
 use Rattle.std.specs.Prelude.{◌≢◌, ℕ, List}
-use Rattle.crash_model.specs.Answer.{Answer, Refused, Reported, IsAnswer}
+use Rattle.report_model.specs.Answer.{Answer, Refused, Reported, IsAnswer}
 use Rattle.crash_model.specs.declared.refusals.RunFault.{RunFault}
 use Rattle.crash_model.specs.declared.refusals.RunFault.TheVariants.{TooMany}
 use Rattle.crash_model.specs.declared.settings.Settings.{Settings}

@@ -6,7 +6,7 @@ use Rattle.std.proofs.Math.Nat.{suc-mul, zero-mul}
 use Rattle.std.proofs.lemmas.List.{append-nil, length-map, length-drop, map-append}
 use Rattle.crash_model.specs.Disk.{Disk}
 use Rattle.crash_model.specs.Lists.{join_of}
-use Rattle.crash_model.specs.Report.{Detail, Section, section_json}
+use Rattle.report_model.specs.Report.{Detail, Section, section_json}
 use Rattle.crash_model.specs.declared.patches.Patch.{Patch}
 use Rattle.report_sections.proofs.Joined.{sections_join, before_parts, part_more, all_parts}
 use Rattle.report_sections.proofs.Pushed.{length-sections}

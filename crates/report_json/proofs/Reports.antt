@@ -3,12 +3,13 @@ use Rattle.std.proofs.Common.{◌≡◌, ℕ, ◌+◌, ◌<◌, List, [], ◌∷
 use Rattle.std.proofs.Common.{decimal, refl, sym, ap, ◌∙◌, arith, append_assoc, length-take}
 use Rattle.std.proofs.lemmas.List.{length-map}
 use Rattle.crash_model.specs.Lists.{when}
-use Rattle.crash_model.specs.Explain.{trace_json}
+use Rattle.report_model.specs.Explain.{trace_json}
 use Rattle.crash_model.specs.Disk.{Disk}
-use Rattle.crash_model.specs.Report.{Detail, module_text, section_json}
-use Rattle.crash_model.specs.Summary.{ToldFault, told_fault_json}
-use Rattle.crash_model.specs.Whole.{Body, told_with, told_without, first_json, rules_json, early_json, late_json}
-use Rattle.crash_model.specs.Whole.{json_report}
+use Rattle.report_model.specs.Report.{Detail, section_json}
+use Rattle.crash_model.specs.Texts.{module_text}
+use Rattle.report_model.specs.Summary.{ToldFault, told_fault_json}
+use Rattle.report_model.specs.Whole.{Body, told_with, told_without, first_json, rules_json, early_json, late_json}
+use Rattle.report_model.specs.Whole.{json_report}
 use Rattle.crash_model.specs.declared.fault.FaultRow.{FaultRow}
 use Rattle.crash_model.specs.declared.patches.Patch.{Patch}
 use Rattle.report_sections.specs.Bodies.{explanation_by, whole_of}

@@ -2,12 +2,14 @@
 use Rattle.std.specs.Prelude.{◌≡◌, ℕ, List, [], ◌++◌, length, map, if◌then◌else◌, Bool, codes, decimal}
 use Rattle.crash_model.specs.Lists.{join_of, when}
 use Rattle.crash_model.specs.Disk.{Disk}
-use Rattle.crash_model.specs.Explain.{Explanation, blocks_of, hex_json, told_patches, told_json, trace_json}
-use Rattle.crash_model.specs.Report.{Detail, Section, AreSections, json_array, module_text, section_json}
-use Rattle.crash_model.specs.Summary.{ToldFault, told_fault_json}
-use Rattle.crash_model.specs.Needs.{told_rule_json}
-use Rattle.crash_model.specs.Whole as whole
-use Rattle.crash_model.specs.Whole.{early_json, late_json, rules_json, told_with, told_without}
+use Rattle.crash_model.specs.Reasons.{Explanation, blocks_of, told_patches}
+use Rattle.report_model.specs.Explain.{hex_json, told_json, trace_json}
+use Rattle.report_model.specs.Report.{Detail, Section, AreSections, json_array, section_json}
+use Rattle.crash_model.specs.Texts.{module_text}
+use Rattle.report_model.specs.Summary.{ToldFault, told_fault_json}
+use Rattle.report_model.specs.Needs.{told_rule_json}
+use Rattle.report_model.specs.Whole as whole
+use Rattle.report_model.specs.Whole.{early_json, late_json, rules_json, told_with, told_without}
 use Rattle.crash_model.specs.declared.fault.FaultRow.{FaultRow}
 use Rattle.crash_model.specs.declared.patches.Patch.{Patch}
 use Rattle.crash_model.specs.declared.modules.Module.{Module}

@@ -2,11 +2,12 @@
 
 ghost use Rattle.std.specs.Prelude.{◌≡◌, ◌++◌, codes, map, string_bytes, OnOk};
 ghost use Rattle.crash_model.specs.Disk.{Disk};
-ghost use Rattle.crash_model.specs.Explain.{base_json, trace_json};
+ghost use Rattle.report_model.specs.Explain.{base_json, trace_json};
 ghost use Rattle.crash_model.specs.Lists.{join_of, when};
-ghost use Rattle.crash_model.specs.Report.{json_string, module_text};
+ghost use Rattle.report_model.specs.Report.{json_string};
+ghost use Rattle.crash_model.specs.Texts.{module_text};
 ghost use Rattle.crash_model.specs.Rules.{rule_text};
-ghost use Rattle.crash_model.specs.Whole.{atomic_json, first_json, rules_json};
+ghost use Rattle.report_model.specs.Whole.{atomic_json, first_json, rules_json};
 ghost use Rattle.traced_patches.specs.Traced.{TracedPatches};
 ghost use Rattle.report_sections.specs.Bodies.{explanation_by};
 ghost use Rattle.report_json.specs.JsonReport.{module_key, strict_key, whole_key, from_strict};

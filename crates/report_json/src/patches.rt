@@ -1,7 +1,8 @@
 //! JSON of the base and of the patches of a trace.
 
 ghost use Rattle.std.specs.Prelude.{◌≡◌, ◌++◌, length, map, string_bytes, OnOk};
-ghost use Rattle.crash_model.specs.Explain.{told_json, hex_json, blocks_of};
+ghost use Rattle.report_model.specs.Explain.{told_json, hex_json};
+ghost use Rattle.crash_model.specs.Reasons.{blocks_of};
 ghost use Rattle.crash_model.specs.Lists.{join_of, some_below};
 ghost use Rattle.traced_patches.specs.Traced.{told_at};
 ghost use Rattle.report_json.specs.JsonReport.{base_key, trace_key};

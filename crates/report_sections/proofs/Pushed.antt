@@ -3,8 +3,8 @@ use Rattle.std.proofs.Common.{◌≡◌, ℕ, ◌+◌, ◌<◌, List, [], ◌∷
 use Rattle.std.proofs.Common.{subst}
 use Rattle.std.proofs.lemmas.List.{take_more}
 use Rattle.crash_model.specs.Disk.{Disk}
-use Rattle.crash_model.specs.Report.{Detail, AreSections}
-use Rattle.crash_model.specs.Report as report
+use Rattle.report_model.specs.Report.{Detail, AreSections}
+use Rattle.report_model.specs.Report as report
 use Rattle.crash_model.specs.declared.patches.Patch.{Patch}
 use Rattle.report_sections.specs.declared.section.Section.{Section}
 use Rattle.report_sections.specs.Sections.{section_of, IsSection}

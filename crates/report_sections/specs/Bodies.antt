@@ -2,14 +2,14 @@
 use Rattle.std.specs.Prelude.{◌≡◌, ℕ, ◌<◌, List, [], length, map}
 use Rattle.std.specs.List.{All}
 use Rattle.patch_sets.specs.Closed.{IsClosed}
-use Rattle.crash_model.specs.Answer.{detail_of}
+use Rattle.report_model.specs.Answer.{detail_of}
 use Rattle.crash_model.specs.Disk.{Disk}
 use Rattle.crash_model.specs.Lists.{when}
 use Rattle.crash_model.specs.Patches.{deps_of, AreUndo}
-use Rattle.crash_model.specs.Explain.{Explanation, blocks_of, told_patches}
-use Rattle.crash_model.specs.Report.{Detail, Section, AreSections}
-use Rattle.crash_model.specs.Summary.{ToldFault}
-use Rattle.crash_model.specs.Whole as whole
+use Rattle.crash_model.specs.Reasons.{Explanation, blocks_of, told_patches}
+use Rattle.report_model.specs.Report.{Detail, Section, AreSections}
+use Rattle.report_model.specs.Summary.{ToldFault}
+use Rattle.report_model.specs.Whole as whole
 use Rattle.crash_model.specs.declared.patches.Patch.{Patch}
 use Rattle.traced_patches.specs.Traced.{TracedPatches}
 use Rattle.report_sections.specs.declared.report.Body.{Body}

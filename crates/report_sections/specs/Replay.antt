@@ -1,6 +1,6 @@
 -- What is reported of replay.
 use Rattle.std.specs.Prelude.{List, map, Option, option_map, Vec}
-use Rattle.crash_model.specs.Report as report
+use Rattle.report_model.specs.Report as report
 use Rattle.report_sections.specs.declared.replayed.ReplayedBlock.{ReplayedBlock}
 
 -- a block as the report's definition sees it

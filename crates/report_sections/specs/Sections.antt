@@ -4,8 +4,8 @@ use Rattle.patch_sets.specs.Writes.{AreRuns}
 use Rattle.crash_model.specs.Disk.{Disk}
 use Rattle.crash_model.specs.Patches.{homes_of, image_of}
 use Rattle.crash_model.specs.Replay.{image_after_replay}
-use Rattle.crash_model.specs.Report as report
-use Rattle.crash_model.specs.Report.{Detail, replay_of}
+use Rattle.report_model.specs.Report as report
+use Rattle.report_model.specs.Report.{Detail, replay_of}
 use Rattle.crash_model.specs.Checker.{faults_under}
 use Rattle.crash_model.specs.declared.patches.Patch.{Patch}
 use Rattle.report_sections.specs.Replay.{told_replay}

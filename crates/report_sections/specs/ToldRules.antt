@@ -1,6 +1,6 @@
 -- The entry of a rule, as in the definition of the report.
 use Rattle.std.specs.Prelude.{option_map}
-use Rattle.crash_model.specs.Needs as needs
+use Rattle.report_model.specs.Needs as needs
 use Rattle.report_sections.specs.Sections.{section_of}
 use Rattle.report_sections.specs.declared.rules.RuleUsage.{RuleUsage}
 use Rattle.report_sections.specs.declared.rules.RuleUsage.TheVariants.{Unused, TooMany, Used}

@@ -6,7 +6,7 @@ use Rattle.std.specs.List.{flat_map}
 use Rattle.std.proofs.lemmas.List.{append-nil}
 use Rattle.std.proofs.lemmas.List.Concat.{flat_map-append}
 use Rattle.crash_model.specs.Disk.{Disk}
-use Rattle.crash_model.specs.Report.{Detail, Section, section_text}
+use Rattle.report_model.specs.Report.{Detail, Section, section_text}
 use Rattle.crash_model.specs.declared.patches.Patch.{Patch}
 use Rattle.report_sections.proofs.Joined.{sections_join, before_parts, part_more, all_parts}
 use Rattle.report_text.specs.TextReport.{WritesSections}

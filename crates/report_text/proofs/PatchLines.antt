@@ -5,7 +5,8 @@ use Rattle.std.specs.Prelude.{slice_get, option_to_list, not, ◌==◌}
 use Rattle.std.specs.List.{flat_map}
 use Rattle.std.proofs.lemmas.List.{append-nil, length-map, map-append, take_more}
 use Rattle.std.proofs.lemmas.List.Concat.{flat_map-append}
-use Rattle.crash_model.specs.Explain.{Dependency, ToldPatch, told_text, dependency_text, reasons, list_text}
+use Rattle.crash_model.specs.Reasons.{Dependency, ToldPatch, reasons}
+use Rattle.report_model.specs.Explain.{told_text, dependency_text, list_text}
 use Rattle.crash_model.specs.Lists.{some_below}
 use Rattle.crash_model.proofs.EachBelow.{some_below-step}
 use Rattle.crash_model.specs.Trace.{Emitted, depends}

@@ -8,13 +8,13 @@ use Rattle.patch_sets.specs.Sets.{ids_of}
 use Rattle.crash_model.specs.Disk.{Disk}
 use Rattle.crash_model.specs.Patches.{image_of}
 use Rattle.crash_model.specs.Replay.{image_after_replay}
-use Rattle.crash_model.specs.Report as report
-use Rattle.crash_model.specs.Report.{Detail, line, numbers, replay_of, replay_text, section_text, write_text}
+use Rattle.report_model.specs.Report as report
+use Rattle.report_model.specs.Report.{Detail, line, numbers, replay_of, replay_text, section_text, write_text}
 use Rattle.crash_model.specs.Checker.{faults_under}
-use Rattle.crash_model.specs.Explain.{explanation_text}
+use Rattle.report_model.specs.Explain.{explanation_text}
 use Rattle.crash_model.specs.Lists.{when}
-use Rattle.crash_model.specs.Summary.{ToldFault, told_fault_text}
-use Rattle.crash_model.specs.Whole.{Body, head_text, body_text, text_report}
+use Rattle.report_model.specs.Summary.{ToldFault, told_fault_text}
+use Rattle.report_model.specs.Whole.{Body, head_text, body_text, text_report}
 use Rattle.crash_model.specs.declared.fault.FaultRow.{FaultRow}
 use Rattle.crash_model.specs.declared.patches.Patch.{Patch}
 use Rattle.report_sections.specs.Bodies.{explanation_by, whole_of}

@@ -1,6 +1,6 @@
 -- What is written of a rule, after its name.
 use Rattle.std.proofs.Common.{◌≡◌, ℕ, List, [], ◌++◌, codes, decimal, append_assoc}
-use Rattle.crash_model.specs.Needs.{RuleUsage, Unused, TooMany, Used, first_text, usage_text}
+use Rattle.report_model.specs.Needs.{RuleUsage, Unused, TooMany, Used, first_text, usage_text}
 
 pub usage_named : (n : ℕ) (rule : List ℕ) (usage : RuleUsage) → usage_text n rule usage ≡ rule ++ usage_text n [] usage
 usage_named n rule Unused = two rule (codes " pairs 0") (codes "\n")

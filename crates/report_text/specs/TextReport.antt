@@ -1,8 +1,8 @@
 -- Reports as text.
 use Rattle.std.specs.Prelude.{◌≡◌, ℕ, List, ◌++◌, length, map, flat_map}
 use Rattle.crash_model.specs.Disk.{Disk}
-use Rattle.crash_model.specs.Report.{Detail, Section, AreSections, section_text}
-use Rattle.crash_model.specs.Summary.{ToldFault, told_fault_text}
+use Rattle.report_model.specs.Report.{Detail, Section, AreSections, section_text}
+use Rattle.report_model.specs.Summary.{ToldFault, told_fault_text}
 use Rattle.crash_model.specs.declared.fault.FaultRow.{FaultRow}
 use Rattle.crash_model.specs.declared.patches.Patch.{Patch}
 

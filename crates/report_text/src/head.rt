@@ -1,8 +1,9 @@
 //! The head of a report.
 
 ghost use Rattle.std.specs.Prelude.{◌≡◌, ◌++◌, [], if◌then◌else◌, codes, string_bytes, OnOk};
-ghost use Rattle.crash_model.specs.Report.{line, module_text};
-ghost use Rattle.crash_model.specs.Whole.{head_text, rule_lines, told_with, told_without};
+ghost use Rattle.report_model.specs.Report.{line};
+ghost use Rattle.crash_model.specs.Texts.{module_text};
+ghost use Rattle.report_model.specs.Whole.{head_text, rule_lines, told_with, told_without};
 
 use crash_model::rules::Rule;
 use crash_model::settings::Settings;

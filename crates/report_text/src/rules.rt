@@ -1,7 +1,7 @@
 //! The entries of the rules of an ordering.
 
 ghost use Rattle.std.specs.Prelude.{◌≡◌, ◌++◌, [], flat_map, option_map, string_bytes, OnOk};
-ghost use Rattle.crash_model.specs.Needs.{first_text, usage_text, told_rule_text};
+ghost use Rattle.report_model.specs.Needs.{first_text, usage_text, told_rule_text};
 ghost use Rattle.report_sections.specs.Sections.{section_of};
 ghost use Rattle.report_sections.specs.ToldRules.{usage_of, told_rule};
 

@@ -1,7 +1,7 @@
 //! The lines of a summary.
 
 ghost use Rattle.std.specs.Prelude.{◌≡◌, ◌++◌, string_bytes, OnOk};
-ghost use Rattle.crash_model.specs.Summary.{told_fault_text};
+ghost use Rattle.report_model.specs.Summary.{told_fault_text};
 ghost use Rattle.report_sections.specs.Sections.{section_of};
 
 use crash_model::fault::FaultRow;

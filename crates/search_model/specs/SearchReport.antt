@@ -3,14 +3,15 @@
 use Rattle.std.specs.Prelude.{◌≡◌, ℕ, List, [], ◌∷◌, ◌++◌, length, map, flat_map, if◌then◌else◌, codes, decimal}
 use Rattle.std.specs.Prelude.{Bool, ◌==◌}
 use Rattle.std.specs.List.{All}
-use Rattle.crash_model.specs.Answer.{HasBase, IsAnswer, Refused, ordering_rules}
+use Rattle.report_model.specs.Answer.{HasBase, IsAnswer, Refused, ordering_rules}
 use Rattle.crash_model.specs.Checker.{Demands}
 use Rattle.crash_model.specs.Disk.{Disk}
 use Rattle.crash_model.specs.Lists.{join_of}
-use Rattle.crash_model.specs.Report.{Section, AreSections, IsLed, module_text, line, section_text, fault_text}
-use Rattle.crash_model.specs.Report.{json_string, json_array, ids_json, replay_json, writes_json}
+use Rattle.report_model.specs.Report.{Section, AreSections, IsLed, line, section_text}
+use Rattle.crash_model.specs.Texts.{module_text, fault_text}
+use Rattle.report_model.specs.Report.{json_string, json_array, ids_json, replay_json, writes_json}
 use Rattle.crash_model.specs.Script.{words_of}
-use Rattle.crash_model.specs.Whole.{told_without, told_with, atomic_json, rules_json}
+use Rattle.report_model.specs.Whole.{told_without, told_with, atomic_json, rules_json}
 use Rattle.crash_model.specs.declared.patches.Patch.{Patch}
 use Rattle.crash_model.specs.declared.refusals.RunFault.{RunFault}
 use Rattle.crash_model.specs.declared.refusals.RunFault.TheVariants.{GroupFault}

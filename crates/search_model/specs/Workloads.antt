@@ -5,7 +5,7 @@ use Rattle.std.specs.Prelude.{Result, Ok, Err, slice_get, option_to_list}
 use Rattle.std.specs.List.{All}
 use Rattle.crash_model.specs.Disk.{Disk}
 use Rattle.crash_model.specs.Checker.{Demands, AreDemands, IsFailingUnder}
-use Rattle.crash_model.specs.Summary.{HasFault}
+use Rattle.crash_model.specs.FaultRows.{HasFault}
 use Rattle.crash_model.specs.Trace.{Tracing, trace_start, trace_from, IsGraphOf}
 use Rattle.crash_model.specs.declared.fault.Fault.{Fault}
 use Rattle.crash_model.specs.declared.modules.Module.{Module}

@@ -2,9 +2,10 @@
 use Rattle.std.proofs.Common.{◌≡◌, ℕ, List, [], ◌++◌, length, map, codes, decimal, sym, ap, ◌∙◌, append_assoc}
 use Rattle.std.proofs.lemmas.Simd.{map-map}
 use Rattle.crash_model.specs.Lists.{join_of}
-use Rattle.crash_model.specs.Report.{fault_text, ids_json, json_array, json_string, module_text, replay_json}
-use Rattle.crash_model.specs.Report.{write_json}
-use Rattle.crash_model.specs.Whole.{atomic_json, rules_json, told_with, told_without}
+use Rattle.crash_model.specs.Texts.{fault_text, module_text}
+use Rattle.report_model.specs.Report.{ids_json, json_array, json_string, replay_json}
+use Rattle.report_model.specs.Report.{write_json}
+use Rattle.report_model.specs.Whole.{atomic_json, rules_json, told_with, told_without}
 use Rattle.crash_model.specs.declared.settings.Settings.{Settings}
 use Rattle.crash_model.specs.declared.steps.Step.{Step}
 use Rattle.report_json.specs.JsonReport.{strict_key, whole_key}

@@ -2,7 +2,7 @@
 use Rattle.std.proofs.Common.{◌≡◌, ℕ, List, [], ◌++◌, length, codes, decimal, sym, ap, ◌∙◌, append_assoc}
 use Rattle.std.specs.List.{flat_map}
 use Rattle.std.proofs.lemmas.List.Folds.{flat_map-map}
-use Rattle.crash_model.specs.Report.{line, section_text}
+use Rattle.report_model.specs.Report.{line, section_text}
 use Rattle.crash_model.specs.declared.settings.Settings.{Settings}
 use Rattle.decision_model.specs.Decision.{ordering_text}
 use Rattle.search_model.specs.Kinds.{kind_number, kind_name}

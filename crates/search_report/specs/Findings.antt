@@ -1,8 +1,9 @@
 -- What a search finds, as the definition of the report sees it.
 use Rattle.std.specs.Prelude.{ℕ, List, [], ◌++◌, map, flat_map, if◌then◌else◌, codes, decimal}
 use Rattle.crash_model.specs.Lists.{join_of}
-use Rattle.crash_model.specs.Report.{fault_text, json_array, json_string, replay_json}
-use Rattle.crash_model.specs.Whole.{told_with, told_without, rules_json}
+use Rattle.crash_model.specs.Texts.{fault_text}
+use Rattle.report_model.specs.Report.{json_array, json_string, replay_json}
+use Rattle.report_model.specs.Whole.{told_with, told_without, rules_json}
 use Rattle.crash_model.specs.declared.settings.Settings.{Settings}
 use Rattle.crash_model.specs.declared.steps.Act.{Act}
 use Rattle.crash_model.specs.declared.steps.Step.{Step}

@@ -3,8 +3,8 @@
 ghost use Rattle.std.specs.Prelude.{◌≡◌, ◌++◌, [], length, map, string_bytes, IfOk, OnOk};
 ghost use Rattle.std.specs.List.{All};
 ghost use Rattle.crash_model.specs.Lists.{join_of};
-ghost use Rattle.crash_model.specs.Explain.{op_text};
-ghost use Rattle.crash_model.specs.Report.{json_string};
+ghost use Rattle.crash_model.specs.Texts.{op_text};
+ghost use Rattle.report_model.specs.Report.{json_string};
 ghost use Rattle.search_model.specs.SearchReport.{json_search, kind_json, refused_json, step_text};
 ghost use Rattle.search_model.specs.Workloads.{IsOperation, steps_at};
 ghost use Rattle.search_report.specs.Findings.{kind_head, kind_items, last_keys, ordering_keys, told_kind};

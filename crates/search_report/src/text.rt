@@ -2,8 +2,8 @@
 
 ghost use Rattle.std.specs.Prelude.{◌≡◌, ◌++◌, codes, flat_map, length, string_bytes, IfOk, OnOk};
 ghost use Rattle.std.specs.List.{All};
-ghost use Rattle.crash_model.specs.Explain.{op_text};
-ghost use Rattle.crash_model.specs.Report.{line};
+ghost use Rattle.crash_model.specs.Texts.{op_text};
+ghost use Rattle.report_model.specs.Report.{line};
 ghost use Rattle.search_model.specs.SearchReport.{kind_text, refused_text, search_text as head_text, step_text};
 ghost use Rattle.search_model.specs.SearchReport.{text_search};
 ghost use Rattle.search_model.specs.Workloads.{IsOperation, steps_at};

@@ -3,12 +3,13 @@ use Rattle.std.specs.Prelude.{◌≡◌, ℕ, List, [], ◌++◌, length, map, f
 use Rattle.std.specs.Prelude.{Bool, ◌==◌}
 use Rattle.std.specs.List.{All}
 use Rattle.patch_sets.specs.Sets.{AreAllInOrder}
-use Rattle.crash_model.specs.Answer.{HasBase, ordering_rules}
+use Rattle.report_model.specs.Answer.{HasBase, ordering_rules}
 use Rattle.crash_model.specs.Checker.{Demands}
 use Rattle.crash_model.specs.Disk.{Disk}
-use Rattle.crash_model.specs.Report.{fault_text, module_text, line, json_string, json_array, ids_json, replay_json}
-use Rattle.crash_model.specs.Report.{writes_json}
-use Rattle.crash_model.specs.Whole.{told_without, told_with, atomic_json, rules_json}
+use Rattle.crash_model.specs.Texts.{fault_text, module_text}
+use Rattle.report_model.specs.Report.{line, json_string, json_array, ids_json, replay_json}
+use Rattle.report_model.specs.Report.{writes_json}
+use Rattle.report_model.specs.Whole.{told_without, told_with, atomic_json, rules_json}
 use Rattle.crash_model.specs.declared.patches.Patch.{Patch}
 use Rattle.crash_model.specs.declared.rules.Rule.{Rule}
 use Rattle.crash_model.specs.declared.settings.Settings.{Settings}

@@ -1,10 +1,11 @@
 -- A report as JSON, written piece by piece.
 use Rattle.std.proofs.Common.{◌≡◌, ℕ, List, [], ◌++◌, length, map, codes, decimal, sym, ap, ◌∙◌, append_assoc}
 use Rattle.std.proofs.lemmas.Simd.{map-map}
-use Rattle.crash_model.specs.Answer.{ordering_rules}
+use Rattle.report_model.specs.Answer.{ordering_rules}
 use Rattle.crash_model.specs.Lists.{join_of}
-use Rattle.crash_model.specs.Report.{ids_json, json_array, json_string, module_text, write_json}
-use Rattle.crash_model.specs.Whole.{atomic_json, rules_json, told_with, told_without}
+use Rattle.report_model.specs.Report.{ids_json, json_array, json_string, write_json}
+use Rattle.crash_model.specs.Texts.{module_text}
+use Rattle.report_model.specs.Whole.{atomic_json, rules_json, told_with, told_without}
 use Rattle.crash_model.specs.declared.rules.Rule.{Rule}
 use Rattle.crash_model.specs.declared.steps.Step.{Step}
 use Rattle.enough_report.specs.Found.{group_head, set_items, told_first}

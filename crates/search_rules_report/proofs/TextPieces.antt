@@ -2,8 +2,8 @@
 use Rattle.std.proofs.Common.{◌≡◌, ℕ, List, [], ◌++◌, length, codes, decimal, sym, ap, ◌∙◌, append_assoc}
 use Rattle.std.specs.List.{flat_map}
 use Rattle.std.proofs.lemmas.List.Folds.{flat_map-map}
-use Rattle.crash_model.specs.Answer.{ordering_rules}
-use Rattle.crash_model.specs.Report.{line}
+use Rattle.report_model.specs.Answer.{ordering_rules}
+use Rattle.report_model.specs.Report.{line}
 use Rattle.crash_model.specs.declared.rules.Rule.{Rule}
 use Rattle.decision_model.specs.Decision.{decided_text}
 use Rattle.enough_model.specs.EnoughReport.{rules_text}

@@ -3,7 +3,7 @@ use Rattle.std.proofs.Common.{◌≡◌, ℕ, ◌+◌, ◌-◌, List, [], ◌++�
 use Rattle.std.specs.List.{range_with_len}
 use Rattle.std.proofs.lemmas.List.{append-nil}
 use Rattle.std.proofs.lemmas.List.Concat.{flat_map-append}
-use Rattle.crash_model.specs.Report.{numbers}
+use Rattle.report_model.specs.Report.{numbers}
 use Rattle.section_lines.specs.Numbers.{numbers_text}
 
 -- a run of one

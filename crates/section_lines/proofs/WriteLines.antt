@@ -8,7 +8,7 @@ use Rattle.patch_sets.proofs.Bits.{none_in_empty}
 use Rattle.patch_sets.proofs.Stepped.{ids_none}
 use Rattle.patch_sets.proofs.Writes.{runs_from_cut}
 use Rattle.crash_model.specs.Patches.{homes_of}
-use Rattle.crash_model.specs.Report.{write_text}
+use Rattle.report_model.specs.Report.{write_text}
 use Rattle.crash_model.specs.declared.patches.Patch.{Patch}
 use Rattle.patch_graph.specs.Leads.{IsLead}
 use Rattle.patch_graph.specs.declared.graph.Lead.{Lead}

@@ -1,6 +1,7 @@
 -- Lines that were written before.
 use Rattle.std.specs.Prelude.{◌≡◌, ℕ, [], ◌++◌, List, length, codes, Option, Some, slice_get}
-use Rattle.crash_model.specs.Report.{line, fault_text}
+use Rattle.report_model.specs.Report.{line}
+use Rattle.crash_model.specs.Texts.{fault_text}
 use Rattle.crash_model.specs.declared.fault.Fault.{Fault}
 use Rattle.crash_model.specs.declared.patches.Patch.{Patch}
 use Rattle.section_lines.specs.Runs.{WritesRuns}

@@ -1,7 +1,7 @@
 -- The texts of numbers.
 use Rattle.std.specs.Prelude.{ℕ, ◌+◌, ◌-◌, ◌*◌, List}
 use Rattle.std.specs.List.{range_with_len}
-use Rattle.crash_model.specs.Report.{numbers}
+use Rattle.report_model.specs.Report.{numbers}
 
 -- where the text of a number starts, after those of the numbers before it
 abbrev pub number_start : ℕ → ℕ

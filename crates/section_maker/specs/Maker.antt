@@ -1,6 +1,6 @@
 -- What sections are made of.
 use Rattle.std.specs.Prelude.{List}
-use Rattle.crash_model.specs.Report.{Detail}
+use Rattle.report_model.specs.Report.{Detail}
 use Rattle.crash_model.specs.Disk.{Disk}
 use Rattle.crash_model.specs.declared.patches.Patch.{Patch}
 

@@ -30,33 +30,33 @@ shares_none n counts long zeros = record {
 -- a set more is counted at its remainder m
 module _ (n : ℕ) (sets counts : List ℕ) (x m : ℕ) (is : x % n ≡ m) (near : m < n) (so_far : AreShares n sets counts)
   where
-  one_more : IsShare n (sets ++ x ∷ []) m (get_or counts m 0 + 1)
-  one_more = let share = so_far.each m near in record {
-    picked = share.picked ++ x ∷ [];
-    pick = pick_more (λ set. set % n ≡ m) sets share.picked x share.pick is;
-    counted = omega (arith, share.counted, length-append share.picked (x ∷ []));
-    within = omega (arith, share.within, length-append sets (x ∷ []));
-  }
+    one_more : IsShare n (sets ++ x ∷ []) m (get_or counts m 0 + 1)
+    one_more = let share = so_far.each m near in record {
+      picked = share.picked ++ x ∷ [];
+      pick = pick_more (λ set. set % n ≡ m) sets share.picked x share.pick is;
+      counted = omega (arith, share.counted, length-append share.picked (x ∷ []));
+      within = omega (arith, share.within, length-append sets (x ∷ []));
+    }
 
-  no_more : (q : ℕ) → q < n → ¬ (q ≡ m) → IsShare n (sets ++ x ∷ []) q (get_or counts q 0)
-  no_more q lt ne = let share = so_far.each q lt in record {
-    picked = share.picked;
-    pick = pick_same (λ set. set % n ≡ q) sets share.picked x share.pick (λ e. ne (sym e ∙ is));
-    counted = share.counted;
-    within = omega (arith, share.within, length-append sets (x ∷ []));
-  }
+    no_more : (q : ℕ) → q < n → ¬ (q ≡ m) → IsShare n (sets ++ x ∷ []) q (get_or counts q 0)
+    no_more q lt ne = let share = so_far.each q lt in record {
+      picked = share.picked;
+      pick = pick_same (λ set. set % n ≡ q) sets share.picked x share.pick (λ e. ne (sym e ∙ is));
+      counted = share.counted;
+      within = omega (arith, share.within, length-append sets (x ∷ []));
+    }
 
-  pub shares_more : (count : ℕ) → count ≡ get_or counts m 0 + 1 → AreShares n (sets ++ x ∷ []) (set counts m count)
-  shares_more count more = record {
-    long = length-set counts m count ∙ so_far.long;
-    each = λ q lt. elim (eq_or_not q m) [
-      | inl e ↦ subst (λ k. IsShare n (sets ++ x ∷ []) k (get_or (set counts m count) k 0)) (sym e)
-          (subst (IsShare n (sets ++ x ∷ []) m)
-          (sym (get_or-set_same counts m count 0 (omega (arith, near, so_far.long)) ∙ more)) one_more)
-      | inr ne ↦ subst (IsShare n (sets ++ x ∷ []) q) (sym (get_or-set_other counts m q count 0 ne))
-          (no_more q lt ne)
-    ];
-  }
+    pub shares_more : (count : ℕ) → count ≡ get_or counts m 0 + 1 → AreShares n (sets ++ x ∷ []) (set counts m count)
+    shares_more count more = record {
+      long = length-set counts m count ∙ so_far.long;
+      each = λ q lt. elim (eq_or_not q m) [
+        | inl e ↦ subst (λ k. IsShare n (sets ++ x ∷ []) k (get_or (set counts m count) k 0)) (sym e)
+            (subst (IsShare n (sets ++ x ∷ []) m)
+            (sym (get_or-set_same counts m count 0 (omega (arith, near, so_far.long)) ∙ more)) one_more)
+        | inr ne ↦ subst (IsShare n (sets ++ x ∷ []) q) (sym (get_or-set_other counts m q count 0 ne))
+            (no_more q lt ne)
+      ];
+    }
 
 -- no count is above the number of the sets
 pub share_within : (n : ℕ) (deps : List ℕ) (to count : ℕ) (counts : List ℕ) (q : ℕ) → q < n

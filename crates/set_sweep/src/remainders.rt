@@ -46,13 +46,7 @@ struct RemainderCounter<'a> {
 impl RemainderCounter<'_> {
     /// Counts on over the closed sets that agree with a set from id `k` on, of which it is the least, in ascending
     /// number.
-    fn count_from(
-        &self,
-        k: usize,
-        set: u128,
-        count: usize,
-        counts: &mut [usize],
-    ) -> Option<usize>
+    fn count_from(&self, k: usize, set: u128, count: usize, counts: &mut [usize]) -> Option<usize>
         requires known { k ≤ length self.now.deps.now }
         requires root { IsRoot self.now.deps.now k set }
         requires within { count ≤ self.now.limit }

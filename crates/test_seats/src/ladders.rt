@@ -48,7 +48,14 @@ fn is_found<K: Shape + Sync, R: Threads + Wait + AllocGlobal + Sync>(
     requires total { (1 ≤ total) × (total ≤ 32768) }
     requires workers { (1 ≤ workers) × (workers ≤ 16) }
 {
-    let found = explore(rt, rt.alloc(), space, Room::for_any(total), workers, &OpenGate)?;
+    let found = explore(
+        rt,
+        rt.alloc(),
+        space,
+        Room::for_any(total),
+        workers,
+        &OpenGate,
+    )?;
     Ok(found.total == total && found.broken.as_slice() == broken)
 }
 
@@ -62,7 +69,14 @@ fn is_refused<K: Shape + Sync, R: Threads + Wait + AllocGlobal + Sync>(
     requires limit { (1 ≤ limit) × (limit ≤ 32768) }
     requires workers { (1 ≤ workers) × (workers ≤ 16) }
 {
-    let refused = explore(rt, rt.alloc(), space, Room::for_any(limit), workers, &OpenGate);
+    let refused = explore(
+        rt,
+        rt.alloc(),
+        space,
+        Room::for_any(limit),
+        workers,
+        &OpenGate,
+    );
     matches!(&refused, Err(ExploreFault::TooMany))
 }
 
@@ -124,7 +138,15 @@ fn claims_each_once<R: Threads + Wait + Abort + AllocGlobal + Sync>(
     let counter = Counter {
         claims: AtomicU64::new(0),
     };
-    let total = explore(rt, rt.alloc(), ladder, Room::for_any(300), workers, &counter)?.total;
+    let total = explore(
+        rt,
+        rt.alloc(),
+        ladder,
+        Room::for_any(300),
+        workers,
+        &counter,
+    )?
+    .total;
     assert!(rt; total == 201 && counter.claims.load(Ordering::SeqCst) == 201);
     Ok(())
 }

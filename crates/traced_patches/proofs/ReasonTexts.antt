@@ -4,7 +4,7 @@ use Rattle.std.proofs.Common.{arith}
 use Rattle.std.specs.Prelude.{filter, cond, if◌then◌else◌, not, ◌==◌, ◌||◌}
 use Rattle.std.specs.List.{list_any}
 use Rattle.std.proofs.lemmas.Bool.Decides.{nat_tests}
-use Rattle.crash_model.specs.Explain.{reasons}
+use Rattle.crash_model.specs.Reasons.{reasons}
 use Rattle.crash_model.specs.Rules.{rule_text}
 use Rattle.crash_model.specs.Trace.{Emitted, applies, depends}
 use Rattle.crash_model.specs.declared.rules.Rule as rules

@@ -2,7 +2,7 @@
 use Rattle.std.proofs.Common.{◌≡◌, ℕ, zero, suc, ◌+◌, ◌<◌, List, [], ◌∷◌, length, map, drop, get_or, Bool, true, false}
 use Rattle.std.proofs.Common.{cond, arith, refl, sym, ◌∙◌, ap, add-one}
 use Rattle.std.specs.List.{filter}
-use Rattle.crash_model.specs.Needs.{pairs_of}
+use Rattle.crash_model.specs.RuleUse.{pairs_of}
 use Rattle.crash_model.specs.Patches.{Place}
 use Rattle.crash_model.specs.Trace.{Emitted, applies}
 use Rattle.crash_model.specs.declared.rules.Rule.{Rule}

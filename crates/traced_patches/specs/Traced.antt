@@ -1,6 +1,6 @@
 -- The patches of a trace, with what each of them is.
 use Rattle.std.specs.Prelude.{◌≡◌, ℕ, List, Bool, Option}
-use Rattle.crash_model.specs.Explain.{Dependency, ToldPatch, dependency, told_patch}
+use Rattle.crash_model.specs.Reasons.{Dependency, ToldPatch, dependency, told_patch}
 use Rattle.crash_model.specs.Patches.{overlap}
 use Rattle.crash_model.specs.Trace.{Emitted, shares_block, groups_depend, rules_between}
 use Rattle.crash_model.specs.declared.patches.Patch.{Patch}

@@ -1,7 +1,7 @@
 //! Which pairs of patches a rule applies to.
 
 ghost use Rattle.std.specs.Prelude.{◌≡◌, ◌≤◌, length, map, filter};
-ghost use Rattle.crash_model.specs.Needs.{pairs_of};
+ghost use Rattle.crash_model.specs.RuleUse.{pairs_of};
 ghost use Rattle.crash_model.specs.Trace.{applies};
 ghost use Rattle.traced_patches.specs.Labels.{emitted_of};
 

@@ -1,7 +1,7 @@
 //! Why a patch depends on an earlier one.
 
 ghost use Rattle.std.specs.Prelude.{◌≡◌, ◌==◌, not, map, length};
-ghost use Rattle.crash_model.specs.Explain.{reasons};
+ghost use Rattle.crash_model.specs.Reasons.{reasons};
 ghost use Rattle.crash_model.specs.Trace.{Emitted, depends};
 ghost use Rattle.traced_patches.specs.Traced.{TracedPatches, AreReasons};
 ghost use Rattle.traced_patches.specs.Reasons.{reason_text};

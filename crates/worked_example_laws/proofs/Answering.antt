@@ -4,22 +4,22 @@ use Rattle.std.proofs.Common.{subst, ◌∙◌}
 use Rattle.std.specs.Prelude.{◌==◌, Result, Ok, Err}
 use Rattle.std.proofs.lemmas.Bool.{and_parts, leb-true, le-leb, ltb-true}
 use Rattle.patch_sets.proofs.Ids.{eq_from_true}
-use Rattle.crash_model.specs.Report.{Detail}
-use Rattle.crash_model.specs.Answer as answers
-use Rattle.crash_model.specs.Answer.{Refused, Reported, HasBase, HasGraph, IsAnswer, detail_of, ordering_rules}
+use Rattle.report_model.specs.Report.{Detail}
+use Rattle.report_model.specs.Answer as answers
+use Rattle.report_model.specs.Answer.{Refused, Reported, HasBase, HasGraph, IsAnswer, detail_of, ordering_rules}
 use Rattle.crash_model.specs.Disk.{Disk, empty_disk, IsGeometry}
 use Rattle.crash_model.specs.Patches.{deps_of}
 use Rattle.crash_model.specs.Refusals.{run_of_trace}
-use Rattle.crash_model.specs.Explain.{explanation}
+use Rattle.crash_model.specs.Reasons.{explanation}
 use Rattle.crash_model.specs.Lists.{when}
-use Rattle.crash_model.specs.Whole.{Sets, report}
+use Rattle.report_model.specs.Whole.{Sets, report}
 use Rattle.crash_model.specs.Trace.{trace_start, trace_from, base_from}
 use Rattle.crash_model.specs.declared.refusals.TraceFault.{TraceFault}
 use Rattle.crash_model.specs.declared.refusals.RunFault.TheVariants.{BadGeometry, TooMany}
 use Rattle.crash_model.specs.declared.settings.Settings.{Settings}
 use Rattle.crash_model.specs.declared.settings.ReportBy.TheVariants.{BySet}
 use Rattle.crash_model.specs.declared.steps.Act.{Act}
-use Rattle.crash_model.proofs.Leading.{failing_closed, closed_are_left, sections_lead}
+use Rattle.report_model.proofs.Leading.{failing_closed, closed_are_left, sections_lead}
 use Rattle.worked_example_laws.specs.Computed.{closed_sets, failing_under, demands_of, are_in_order}
 use Rattle.worked_example_laws.specs.Computed.{trace_of, is_accepted}
 use Rattle.worked_example_laws.specs.Computed.{section_of, have_runs}

@@ -4,15 +4,15 @@ use Rattle.std.specs.Prelude.{Result, Ok, Err}
 use Rattle.state_space.proofs.Counting.{one_number, not_more}
 use Rattle.patch_sets.specs.Closed.{IsClosed}
 use Rattle.patch_sets.proofs.Canonical.{one_list}
-use Rattle.crash_model.specs.Answer.{Answer, Refused, Reported, IsReport, IsBody, IsAnswer, ordering_rules}
+use Rattle.report_model.specs.Answer.{Answer, Refused, Reported, IsReport, IsBody, IsAnswer, ordering_rules}
 use Rattle.crash_model.specs.Disk.{Disk, empty_disk}
-use Rattle.crash_model.specs.Explain.{explanation}
+use Rattle.crash_model.specs.Reasons.{explanation}
 use Rattle.crash_model.specs.Lists.{when}
 use Rattle.crash_model.specs.Patches.{deps_of}
 use Rattle.crash_model.specs.Refusals.{run_of_script}
 use Rattle.crash_model.specs.Checker.{Demands, IsFailingUnder}
 use Rattle.crash_model.specs.Trace.{Tracing, trace_start, trace_from, base_from}
-use Rattle.crash_model.specs.Whole.{report}
+use Rattle.report_model.specs.Whole.{report}
 use Rattle.crash_model.specs.declared.patches.Patch.{Patch}
 use Rattle.crash_model.specs.declared.refusals.TraceFault.{TraceFault}
 use Rattle.crash_model.specs.declared.settings.Settings.{Settings}

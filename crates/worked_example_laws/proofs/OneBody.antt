@@ -14,19 +14,20 @@ use Rattle.patch_sets.proofs.Bits.{eq_or_not}
 use Rattle.patch_sets.proofs.Canonical.{one_list}
 use Rattle.patch_sets.proofs.Lists.{front_or_rest, in_front, in_rest, in_none}
 use Rattle.patch_sets.proofs.Writes.{one_runs}
-use Rattle.crash_model.specs.Answer.{IsBody, detail_of, ordering_rules}
+use Rattle.report_model.specs.Answer.{IsBody, detail_of, ordering_rules}
 use Rattle.crash_model.specs.Disk.{Disk}
 use Rattle.crash_model.specs.Patches.{ExceedsLimit, deps_of, homes_of, image_of}
 use Rattle.crash_model.specs.Checker.{Demands, faults_under, IsFailingUnder}
-use Rattle.crash_model.specs.Needs.{Without, RuleUsage, Unused, TooMany, Used, ToldRule, IsFirstNew, IsWithout}
-use Rattle.crash_model.specs.Needs.{IsRuleUsage, AreToldRules}
+use Rattle.report_model.specs.Needs.{Without, RuleUsage, Unused, TooMany, Used, ToldRule, IsFirstNew, IsWithout}
+use Rattle.report_model.specs.Needs.{IsRuleUsage, AreToldRules}
 use Rattle.crash_model.specs.Replay.{image_after_replay}
-use Rattle.crash_model.specs.Report.{Detail, Section, AreSections, replay_of}
+use Rattle.report_model.specs.Report.{Detail, Section, AreSections, replay_of}
 use Rattle.crash_model.specs.Rules.{rules_in_first}
-use Rattle.crash_model.specs.Summary.{numbers_of, IsFaultBefore, HasFault, IsFirst, IsRow, AreRows, ToldFault}
-use Rattle.crash_model.specs.Summary.{AreToldFaults}
+use Rattle.crash_model.specs.FaultRows.{numbers_of, IsFaultBefore, HasFault, IsFirst, IsRow, AreRows}
+use Rattle.report_model.specs.Summary.{ToldFault}
+use Rattle.report_model.specs.Summary.{AreToldFaults}
 use Rattle.crash_model.specs.Trace.{Tracing}
-use Rattle.crash_model.specs.Whole.{Body, Sets, Faults, Rules}
+use Rattle.report_model.specs.Whole.{Body, Sets, Faults, Rules}
 use Rattle.crash_model.specs.declared.fault.Fault.{Fault}
 use Rattle.crash_model.specs.declared.fault.FaultRow.{FaultRow}
 use Rattle.crash_model.specs.declared.patches.Patch.{Patch}

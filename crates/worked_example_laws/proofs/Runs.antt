@@ -12,7 +12,7 @@ use Rattle.patch_sets.proofs.Ids.{eq_from_true, ne_from_false, to_ids_of}
 use Rattle.patch_sets.proofs.Writes.{IsOwn, IsOther, AreCut, runs_from_cut}
 use Rattle.crash_model.specs.Disk.{Disk}
 use Rattle.crash_model.specs.Patches.{homes_of}
-use Rattle.crash_model.specs.Report.{Detail, AreSections}
+use Rattle.report_model.specs.Report.{Detail, AreSections}
 use Rattle.crash_model.specs.declared.patches.Patch.{Patch}
 use Rattle.worked_example_laws.specs.Computed.{is_own, is_other, are_cut, are_runs, writes_of, section_of, have_runs}
 use Rattle.worked_example_laws.proofs.FailingSets.{all_if}

@@ -3,15 +3,16 @@ use Rattle.std.proofs.Common.{◌≡◌, ℕ, ◌<◌, List, length, Bool, true,
 use Rattle.std.specs.Prelude.{◌⊎◌, Result, Ok, Err}
 use Rattle.std.proofs.lemmas.Bool.{ltb-true}
 use Rattle.patch_sets.specs.Closed.{AreEarlier}
-use Rattle.crash_model.specs.Answer.{Answer, Refused, Reported, HasBase, HasGraph, IsAnswer, ordering_rules, bad_script}
-use Rattle.crash_model.specs.Answer.{bad_geometry, bad_base, bad_trace, too_many, reported}
+use Rattle.report_model.specs.Answer.{Answer, Refused, Reported, HasBase, HasGraph, IsAnswer, ordering_rules}
+use Rattle.report_model.specs.Answer.{bad_script}
+use Rattle.report_model.specs.Answer.{bad_geometry, bad_base, bad_trace, too_many, reported}
 use Rattle.crash_model.specs.Disk.{Disk, empty_disk, IsGeometry}
-use Rattle.crash_model.specs.Explain.{explanation}
+use Rattle.crash_model.specs.Reasons.{explanation}
 use Rattle.crash_model.specs.Lists.{when}
 use Rattle.crash_model.specs.Patches.{deps_of}
 use Rattle.crash_model.specs.Refusals.{run_of_trace, run_of_script}
 use Rattle.crash_model.specs.Trace.{Tracing, trace_start, trace_from, base_from}
-use Rattle.crash_model.specs.Whole.{Report, report}
+use Rattle.report_model.specs.Whole.{Report, report}
 use Rattle.crash_model.specs.declared.patches.Patch.{Patch}
 use Rattle.crash_model.specs.declared.refusals.TraceFault.{TraceFault}
 use Rattle.crash_model.specs.declared.refusals.RunFault.TheVariants.{BadGeometry, TooMany}
@@ -19,7 +20,7 @@ use Rattle.crash_model.specs.declared.settings.Settings.{Settings}
 use Rattle.crash_model.specs.Script.{IsScript, IsScriptRefusal}
 use Rattle.crash_model.specs.declared.refusals.ScriptFault.{ScriptFault}
 use Rattle.crash_model.specs.declared.steps.Step.{Step}
-use Rattle.crash_model.proofs.Leading.{failing_closed, closed_are_left}
+use Rattle.report_model.proofs.Leading.{failing_closed, closed_are_left}
 use Rattle.worked_example_laws.specs.Computed.{closed_sets, graph_of, demands_of}
 use Rattle.worked_example_laws.specs.Spelled.{is_geometry}
 use Rattle.worked_example_laws.proofs.Answering.{geometry_if, no_geometry}

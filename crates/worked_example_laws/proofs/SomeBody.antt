@@ -12,18 +12,20 @@ use Rattle.patch_sets.specs.Sets.{IsBefore, AreAllInOrder}
 use Rattle.patch_sets.proofs.Bits.{eq_or_not}
 use Rattle.patch_sets.proofs.Canonical.{before_trans, before_self}
 use Rattle.patch_sets.proofs.Lists.{front_or_rest, in_front, in_rest, in_none}
-use Rattle.crash_model.specs.Answer.{IsBody, detail_of, ordering_rules}
+use Rattle.report_model.specs.Answer.{IsBody, detail_of, ordering_rules}
 use Rattle.crash_model.specs.Disk.{Disk}
 use Rattle.crash_model.specs.Patches.{ExceedsLimit, deps_of, image_of}
 use Rattle.crash_model.specs.Checker.{Demands, faults_under, IsFailingUnder}
-use Rattle.crash_model.specs.Needs.{pairs_of, Without, RuleUsage, Unused, TooMany, Used, ToldRule, IsFirstNew}
-use Rattle.crash_model.specs.Needs.{IsWithout, IsRuleUsage, AreToldRules}
+use Rattle.crash_model.specs.RuleUse.{pairs_of}
+use Rattle.report_model.specs.Needs.{Without, RuleUsage, Unused, TooMany, Used, ToldRule, IsFirstNew}
+use Rattle.report_model.specs.Needs.{IsWithout, IsRuleUsage, AreToldRules}
 use Rattle.crash_model.specs.Replay.{image_after_replay}
-use Rattle.crash_model.specs.Report.{Detail, Section, AreSections, IsLed, replay_of}
+use Rattle.report_model.specs.Report.{Detail, Section, AreSections, IsLed, replay_of}
 use Rattle.crash_model.specs.Rules.{rules_in_first}
-use Rattle.crash_model.specs.Summary.{HasFault, IsFirst, IsRow, ToldFault, AreToldFaults}
+use Rattle.crash_model.specs.FaultRows.{HasFault, IsFirst, IsRow}
+use Rattle.report_model.specs.Summary.{ToldFault, AreToldFaults}
 use Rattle.crash_model.specs.Trace.{Tracing}
-use Rattle.crash_model.specs.Whole.{Body, Sets, Faults, Rules}
+use Rattle.report_model.specs.Whole.{Body, Sets, Faults, Rules}
 use Rattle.crash_model.specs.declared.fault.Fault.{Fault}
 use Rattle.crash_model.specs.declared.fault.FaultRow.{FaultRow}
 use Rattle.crash_model.specs.declared.patches.Patch.{Patch}
@@ -31,7 +33,7 @@ use Rattle.crash_model.specs.declared.rules.Rule.{Rule}
 use Rattle.crash_model.specs.declared.settings.Settings.{Settings}
 use Rattle.crash_model.specs.declared.settings.ReportBy.{ReportBy}
 use Rattle.crash_model.specs.declared.settings.ReportBy.TheVariants.{BySet, ByFault, ByRule}
-use Rattle.crash_model.proofs.Leading.{failing_closed, sections_lead}
+use Rattle.report_model.proofs.Leading.{failing_closed, sections_lead}
 use Rattle.worked_example_laws.specs.Computed.{closed_sets, failing_under, fails_under, graph_of}
 use Rattle.worked_example_laws.proofs.ClosedSets.{closed_are_all, apart_filter, from_filter, to_filter}
 use Rattle.worked_example_laws.proofs.FailingSets.{counts_closed, under_at, in_under, list_of}

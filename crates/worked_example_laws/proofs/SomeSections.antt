@@ -12,7 +12,7 @@ use Rattle.crash_model.specs.Disk.{Disk}
 use Rattle.crash_model.specs.Checker.{faults_under}
 use Rattle.crash_model.specs.Patches.{homes_of, image_of}
 use Rattle.crash_model.specs.Replay.{image_after_replay}
-use Rattle.crash_model.specs.Report.{Detail, Section, AreSections, replay_of}
+use Rattle.report_model.specs.Report.{Detail, Section, AreSections, replay_of}
 use Rattle.crash_model.specs.declared.patches.Patch.{Patch}
 
 last_of : (ws : List BlockWrite) → (ws ≡ []) ⊎ ((front : List BlockWrite) × (last : BlockWrite)

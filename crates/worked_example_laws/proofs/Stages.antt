@@ -1,8 +1,8 @@
 -- An answer as what comes of the script, its base, its trace and its graph, one after another.
 use Rattle.std.proofs.Common.{◌≡◌, ℕ, List, refl, sym, subst, inl, inr}
 use Rattle.std.specs.Prelude.{◌⊎◌, Result, Ok, Err}
-use Rattle.crash_model.specs.Answer.{Answer, Refused, Reported, HasBase, HasGraph, IsReport, IsAnswer, ordering_rules}
-use Rattle.crash_model.specs.Answer.{bad_script, bad_geometry, bad_base, bad_trace, too_many, reported}
+use Rattle.report_model.specs.Answer.{Answer, Refused, Reported, HasBase, HasGraph, IsReport, IsAnswer, ordering_rules}
+use Rattle.report_model.specs.Answer.{bad_script, bad_geometry, bad_base, bad_trace, too_many, reported}
 use Rattle.crash_model.specs.Disk.{Disk, empty_disk, IsGeometry}
 use Rattle.crash_model.specs.Patches.{ExceedsLimit}
 use Rattle.crash_model.specs.Refusals.{run_of_script, run_of_trace}

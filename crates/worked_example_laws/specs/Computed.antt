@@ -11,7 +11,7 @@ use Rattle.patch_sets.specs.Closed.{IsClosed}
 use Rattle.crash_model.specs.Failing.{IsFailing}
 use Rattle.crash_model.specs.Patches.{CountsClosed, deps_of, homes_of, image_of}
 use Rattle.patch_sets.specs.declared.write.BlockWrite.{BlockWrite}
-use Rattle.crash_model.specs.Report.{Detail, replay_of, Section}
+use Rattle.report_model.specs.Report.{Detail, replay_of, Section}
 use Rattle.crash_model.specs.Atomic.{disks_of}
 use Rattle.crash_model.specs.Checker.{Demands, faults_under}
 use Rattle.crash_model.specs.Strict.{stays_live}

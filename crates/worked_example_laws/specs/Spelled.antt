@@ -2,7 +2,7 @@
 use Rattle.std.specs.Prelude.{ℕ, ◌+◌, List, [], ◌∷◌, ◌++◌, length, map, codes, Bool, true, false, not, ◌&&◌, ◌==◌}
 use Rattle.std.specs.Prelude.{nat_lt, nat_le, Result, Ok, Err}
 use Rattle.std.specs.List.{list_all, list_any}
-use Rattle.crash_model.specs.Answer.{ordering_rules}
+use Rattle.report_model.specs.Answer.{ordering_rules}
 use Rattle.crash_model.specs.Disk.{Disk, empty_disk}
 use Rattle.crash_model.specs.Lists.{join_of}
 use Rattle.crash_model.specs.Patches.{deps_of}

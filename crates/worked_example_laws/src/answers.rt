@@ -2,7 +2,7 @@
 
 ghost use Rattle.std.specs.Prelude.{◌≡◌, [], ◌∷◌, ◌++◌, true, false, codes};
 ghost use Rattle.patch_sets.specs.Writes.{AreRuns};
-ghost use Rattle.crash_model.specs.Answer.{Refused, Reported, IsAnswer};
+ghost use Rattle.report_model.specs.Answer.{Refused, Reported, IsAnswer};
 ghost use Rattle.crash_model.specs.declared.refusals.RunFault.TheVariants as run;
 ghost use Rattle.crash_model.specs.declared.modules.Module.TheVariants.{Async, Soft, Meta, Full};
 ghost use Rattle.worked_example_laws.specs.Computed.{set_of};

@@ -2,7 +2,7 @@
 
 ghost use Rattle.std.specs.Prelude.{◌≡◌, ◌⊎◌, ℕ, List, Option, Bool};
 ghost use Rattle.patch_sets.specs.Sets.{AreAllInOrder};
-ghost use Rattle.crash_model.specs.Answer.{Answer, IsAnswer};
+ghost use Rattle.report_model.specs.Answer.{Answer, IsAnswer};
 ghost use Rattle.crash_model.specs.Disk.{Disk};
 ghost use Rattle.crash_model.specs.Failing.{IsFailing};
 ghost use Rattle.crash_model.specs.Patches.{CountsClosed};

@@ -1,8 +1,8 @@
 use Rattle.std.proofs.Common.{string_bytes, ◌≡◌, length, map, rules, sym, subst, ◌∙◌}
-use Rattle.crash_model.specs.Answer.{detail_of}
+use Rattle.report_model.specs.Answer.{detail_of}
 use Rattle.crash_model.specs.Patches.{CountsClosed}
-use Rattle.crash_model.specs.Report.{AreSections}
-use Rattle.crash_model.specs.Summary.{HasFault}
+use Rattle.report_model.specs.Report.{AreSections}
+use Rattle.crash_model.specs.FaultRows.{HasFault}
 use Rattle.decision_model.specs.Decided.{AreDecided}
 use Rattle.decision_model.specs.Decision.{IsDecision}
 use Rattle.report_sections.specs.Bodies.{AreClosed}

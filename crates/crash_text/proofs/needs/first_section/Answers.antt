@@ -1,7 +1,7 @@
 use Rattle.std.proofs.Common.{ℕ, subst, sym}
 use Rattle.std.specs.Prelude.{Option}
 use Rattle.patch_sets.specs.Closed.{IsClosed}
-use Rattle.crash_model.specs.Answer.{detail_of}
+use Rattle.report_model.specs.Answer.{detail_of}
 use Rattle.crash_model.specs.Checker.{IsFailingUnder}
 use Rattle.crash_model.specs.Patches.{deps_of}
 use Rattle.fault_summary.specs.Prevented.{IsFirstOut, IsFirstPrevented}

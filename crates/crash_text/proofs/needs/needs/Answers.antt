@@ -1,7 +1,7 @@
 use Rattle.std.proofs.Common.{◌≡◌, List, map, take, sym, subst, ◌∙◌}
 use Rattle.std.proofs.lemmas.List.{take_all}
-use Rattle.crash_model.specs.Answer.{detail_of}
-use Rattle.crash_model.specs.Needs.{AreToldRules}
+use Rattle.report_model.specs.Answer.{detail_of}
+use Rattle.report_model.specs.Needs.{AreToldRules}
 use Rattle.crash_model.specs.declared.rules.Rule.{Rule}
 use Rattle.report_sections.specs.ToldRules.{told_rule}
 use Rattle.crash_text.proofs.Needing.{rule_more}

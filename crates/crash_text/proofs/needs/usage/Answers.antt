@@ -1,7 +1,7 @@
 use Rattle.std.proofs.Common.{◌≤◌, List, refl, sym, ap, ◌∙◌, arith}
 use Rattle.std.proofs.lemmas.Result.{IfOk-weaker}
-use Rattle.crash_model.specs.Answer.{detail_of}
-use Rattle.crash_model.specs.Needs.{pairs_of}
+use Rattle.report_model.specs.Answer.{detail_of}
+use Rattle.crash_model.specs.RuleUse.{pairs_of}
 use Rattle.crash_model.specs.Trace.{Emitted, Tracing, trace_start}
 use Rattle.report_sections.specs.ToldRules.{usage_of}
 use Rattle.crash_text.proofs.Needing.{usage_of_pairs}

@@ -1,6 +1,6 @@
 use Rattle.std.proofs.Common.{rules, ◌≡◌, List, [], Bool, Ok, inr, sym, subst, ap, ◌∙◌}
 use Rattle.std.proofs.lemmas.Result.{IfErr-weaker, IfOk-weaker}
-use Rattle.crash_model.specs.Answer.{ordering_rules}
+use Rattle.report_model.specs.Answer.{ordering_rules}
 use Rattle.crash_model.specs.Disk.{Disk, IsDisk}
 use Rattle.crash_model.specs.Rules.{rules_of, rules_under}
 use Rattle.crash_model.specs.RuleFacts.{AreAmong}

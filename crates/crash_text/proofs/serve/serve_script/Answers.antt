@@ -1,7 +1,7 @@
 use Rattle.std.proofs.Common.{rules, ◌≡◌, Some, Err, IfErr, refl, subst, sym, ◌∙◌}
 use Rattle.std.specs.Prelude.{string_bytes}
 use Rattle.std.specs.Io.KnownBytes.{Appends}
-use Rattle.crash_model.specs.Answer.{Reported}
+use Rattle.report_model.specs.Answer.{Reported}
 use Rattle.crash_model.specs.declared.refusals.RunFault.TheVariants.{CannotRead, CannotWrite, ScriptTooLong}
 use Rattle.questions.specs.Answers.{IsAnswerTo}
 use Rattle.crash_text.specs.Served.{IsRefusedBy}

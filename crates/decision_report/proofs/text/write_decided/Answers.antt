@@ -1,5 +1,6 @@
 use Rattle.std.proofs.Common.{List, ℕ, ◌++◌, codes, string_bytes, append_assoc, ap, ◌∙◌}
-use Rattle.crash_model.specs.Report.{line, crash_text, fault_text}
+use Rattle.report_model.specs.Report.{line, crash_text}
+use Rattle.crash_model.specs.Texts.{fault_text}
 use Rattle.report_sections.specs.Sections.{section_of}
 use Rattle.decision_report.proofs.text.write_decided.Goals as goal
 

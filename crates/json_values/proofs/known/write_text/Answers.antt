@@ -2,7 +2,7 @@ use Rattle.std.proofs.Common.{◌≡◌, false, string_bytes, ap, ◌∙◌}
 use Rattle.std.proofs.lemmas.Result.{IfOk-weaker}
 use Rattle.serde_json.specs.View.{view}
 use Rattle.serde_json.specs.Written.{compact_text, has_float}
-use Rattle.crash_model.specs.Report.{write_json}
+use Rattle.report_model.specs.Report.{write_json}
 use Rattle.json_parts.proofs.Bytes.{write_bytes, write_no_float}
 use Rattle.json_values.proofs.known.write_text.Goals as goal
 

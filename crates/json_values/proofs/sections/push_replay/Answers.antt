@@ -1,5 +1,5 @@
 use Rattle.std.proofs.Common.{◌≡◌, ◌++◌, List, ℕ, Some, codes, map, string_bytes, sym, ap, ◌∙◌}
-use Rattle.crash_model.specs.Report.{json_array, replay_json, replayed_json}
+use Rattle.report_model.specs.Report.{json_array, replay_json, replayed_json}
 use Rattle.report_sections.specs.Replay.{told_block, told_replay}
 use Rattle.serde_json.specs.Written.{compact_text, has_float}
 use Rattle.json_parts.proofs.Bytes.{replay_bytes, replay_no_float}

@@ -1,5 +1,5 @@
 use Rattle.std.proofs.Common.{◌≡◌, ◌++◌, codes, string_bytes, ap, ◌∙◌}
-use Rattle.crash_model.specs.Whole.{rules_json, told_with, told_without}
+use Rattle.report_model.specs.Whole.{rules_json, told_with, told_without}
 use Rattle.report_sections.proofs.Pieces.{five_pieces}
 use Rattle.report_json.proofs.head.write_from_strict.Goals as goal
 

@@ -1,5 +1,5 @@
 use Rattle.std.proofs.Common.{List, ℕ, ◌++◌, get_or, string_bytes, refl, ap, ◌∙◌}
-use Rattle.crash_model.specs.Report.{json_string}
+use Rattle.report_model.specs.Report.{json_string}
 use Rattle.crash_model.specs.Rules.{rule_text, same_rule}
 use Rattle.crash_model.specs.declared.plans.Role.TheVariants.{InodeInit}
 use Rattle.crash_model.specs.declared.rules.Rule.{Rule}

@@ -1,6 +1,6 @@
 use Rattle.std.proofs.Common.{◌≡◌, ◌++◌, map, string_bytes, take}
 use Rattle.crash_model.specs.Lists.{join_of}
-use Rattle.crash_model.specs.Report.{json_string}
+use Rattle.report_model.specs.Report.{json_string}
 use Rattle.crash_model.specs.Rules.{rule_text}
 use Rattle.report_json.proofs.head.write_rule_texts.Given as goal
 

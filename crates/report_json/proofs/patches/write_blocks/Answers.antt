@@ -3,7 +3,7 @@ use Rattle.std.specs.List.{range_with_len}
 use Rattle.std.proofs.lemmas.List.{length-map, map-append}
 use Rattle.std.proofs.lemmas.List.FromFn.{map-range_with_len_more, length-map-range_with_len}
 use Rattle.crash_model.specs.Disk.{block_of}
-use Rattle.crash_model.specs.Explain.{hex_json}
+use Rattle.report_model.specs.Explain.{hex_json}
 use Rattle.crash_model.specs.Lists.{join_of}
 use Rattle.serde_json.specs.Written.{compact_text, has_float}
 use Rattle.json_values.specs.Items.{comma_before}

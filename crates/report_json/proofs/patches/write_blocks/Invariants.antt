@@ -1,7 +1,7 @@
 use Rattle.std.proofs.Common.{◌≡◌, ◌++◌, map, string_bytes}
 use Rattle.std.specs.List.{range_with_len}
 use Rattle.crash_model.specs.Disk.{block_of}
-use Rattle.crash_model.specs.Explain.{hex_json}
+use Rattle.report_model.specs.Explain.{hex_json}
 use Rattle.crash_model.specs.Lists.{join_of}
 use Rattle.report_json.proofs.patches.write_blocks.Given as goal
 

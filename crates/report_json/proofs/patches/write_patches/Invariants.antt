@@ -1,5 +1,5 @@
 use Rattle.std.proofs.Common.{string_bytes}
-use Rattle.crash_model.specs.Explain.{told_json}
+use Rattle.report_model.specs.Explain.{told_json}
 use Rattle.traced_patches.specs.Traced.{told_at}
 use Rattle.report_json.proofs.Below.{TellsBelow}
 use Rattle.report_json.proofs.patches.write_patches.Given as goal

@@ -1,5 +1,5 @@
 use Rattle.std.proofs.Common.{map, codes, refl, sym, subst}
-use Rattle.crash_model.specs.Whole as whole
+use Rattle.report_model.specs.Whole as whole
 use Rattle.report_sections.specs.Bodies.{detail_by, TellsBody}
 use Rattle.report_sections.specs.ToldRules.{told_rule}
 use Rattle.report_sections.proofs.Pieces.{array_pieces}

@@ -1,9 +1,9 @@
 use Rattle.std.proofs.Common.{◌≡◌, ◌++◌, ℕ, length, map, codes, string_bytes, sym, subst, ap, ◌∙◌}
 use Rattle.std.proofs.lemmas.Simd.{map-map}
 use Rattle.crash_model.specs.Lists.{join_of}
-use Rattle.crash_model.specs.Needs.{told_rule_json}
-use Rattle.crash_model.specs.Whole as whole
-use Rattle.crash_model.specs.Whole.{late_json}
+use Rattle.report_model.specs.Needs.{told_rule_json}
+use Rattle.report_model.specs.Whole as whole
+use Rattle.report_model.specs.Whole.{late_json}
 use Rattle.report_sections.specs.Bodies.{detail_by, TellsBody}
 use Rattle.report_sections.specs.ToldRules.{told_rule}
 use Rattle.report_sections.proofs.Pieces.{array_pieces}

@@ -1,7 +1,7 @@
 use Rattle.std.proofs.Common.{◌++◌, map, string_bytes, ap, ◌∙◌}
 use Rattle.std.proofs.lemmas.List.{take_all}
 use Rattle.crash_model.specs.Lists.{join_of}
-use Rattle.crash_model.specs.Needs.{told_rule_json}
+use Rattle.report_model.specs.Needs.{told_rule_json}
 use Rattle.report_sections.specs.ToldRules.{told_rule}
 use Rattle.serde_json.specs.Written.{compact_text}
 use Rattle.serde_json.specs.View.{view}

@@ -1,6 +1,6 @@
 use Rattle.std.proofs.Common.{◌≡◌, ◌++◌, map, string_bytes, take}
 use Rattle.crash_model.specs.Lists.{join_of}
-use Rattle.crash_model.specs.Needs.{told_rule_json}
+use Rattle.report_model.specs.Needs.{told_rule_json}
 use Rattle.report_sections.specs.ToldRules.{told_rule}
 use Rattle.report_json.proofs.report.write_rules.Given as goal
 

@@ -2,7 +2,7 @@ use Rattle.std.proofs.Common.{◌≡◌, ◌++◌, ℕ, List, Some, arith, strin
 use Rattle.std.specs.Prelude.{slice_get}
 use Rattle.std.specs.List.{flat_map}
 use Rattle.std.proofs.lemmas.List.{append-nil}
-use Rattle.crash_model.specs.Explain.{dependency_text}
+use Rattle.report_model.specs.Explain.{dependency_text}
 use Rattle.crash_model.specs.Lists.{some_below}
 use Rattle.crash_model.proofs.EachBelow.{some_below-zero}
 use Rattle.crash_model.specs.Patches.{place}

@@ -1,7 +1,7 @@
 use Rattle.std.proofs.Common.{◌≡◌, ◌++◌, Some, string_bytes}
 use Rattle.std.specs.Prelude.{slice_get}
 use Rattle.std.specs.List.{flat_map}
-use Rattle.crash_model.specs.Explain.{dependency_text}
+use Rattle.report_model.specs.Explain.{dependency_text}
 use Rattle.crash_model.specs.Lists.{some_below}
 use Rattle.crash_model.specs.Trace.{Emitted}
 use Rattle.traced_patches.specs.Traced.{dependency_at}

@@ -1,6 +1,6 @@
 use Rattle.std.proofs.Common.{string_bytes, refl}
 use Rattle.std.proofs.lemmas.List.{append-nil}
-use Rattle.crash_model.specs.Explain.{told_text}
+use Rattle.report_model.specs.Explain.{told_text}
 use Rattle.crash_model.proofs.EachBelow.{some_below-zero}
 use Rattle.traced_patches.specs.Traced.{told_at}
 use Rattle.report_text.proofs.PatchLines.{below_told}

@@ -1,6 +1,6 @@
 use Rattle.std.proofs.Common.{◌≡◌, ◌++◌, string_bytes}
 use Rattle.std.specs.List.{flat_map}
-use Rattle.crash_model.specs.Explain.{told_text}
+use Rattle.report_model.specs.Explain.{told_text}
 use Rattle.crash_model.specs.Lists.{some_below}
 use Rattle.traced_patches.specs.Traced.{told_at}
 use Rattle.report_text.proofs.patches.write_patches.Given as goal

@@ -1,5 +1,5 @@
 use Rattle.std.proofs.Common.{◌≡◌, ◌++◌, map, string_bytes, take}
-use Rattle.crash_model.specs.Explain.{list_text}
+use Rattle.report_model.specs.Explain.{list_text}
 use Rattle.traced_patches.specs.Reasons.{reason_text}
 use Rattle.report_text.proofs.patches.write_reasons.Given as goal
 

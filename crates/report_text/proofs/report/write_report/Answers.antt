@@ -1,8 +1,8 @@
 use Rattle.std.proofs.Common.{◌≡◌, ◌++◌, List, ℕ, length, map, string_bytes, refl, sym, subst, ap, ◌∙◌}
 use Rattle.std.specs.List.{flat_map}
 use Rattle.std.proofs.lemmas.List.Folds.{flat_map-map}
-use Rattle.crash_model.specs.Needs.{told_rule_text}
-use Rattle.crash_model.specs.Whole as whole
+use Rattle.report_model.specs.Needs.{told_rule_text}
+use Rattle.report_model.specs.Whole as whole
 use Rattle.report_sections.specs.Bodies.{detail_by, TellsBody}
 use Rattle.report_sections.specs.ToldRules.{told_rule}
 use Rattle.report_text.proofs.Reports.{whole_text}

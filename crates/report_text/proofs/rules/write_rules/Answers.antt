@@ -1,5 +1,5 @@
 use Rattle.std.proofs.Common.{List, ℕ, ◌++◌, string_bytes, ap, ◌∙◌}
-use Rattle.crash_model.specs.Needs.{told_rule_text}
+use Rattle.report_model.specs.Needs.{told_rule_text}
 use Rattle.report_sections.specs.ToldRules.{told_rule}
 use Rattle.report_sections.specs.declared.rules.ToldRule.{ToldRule}
 use Rattle.section_lines.proofs.Told.{item_told}

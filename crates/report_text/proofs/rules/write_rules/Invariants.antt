@@ -1,6 +1,6 @@
 use Rattle.std.proofs.Common.{◌≡◌, ◌++◌, string_bytes, take}
 use Rattle.std.specs.List.{flat_map}
-use Rattle.crash_model.specs.Needs.{told_rule_text}
+use Rattle.report_model.specs.Needs.{told_rule_text}
 use Rattle.report_sections.specs.ToldRules.{told_rule}
 use Rattle.report_text.proofs.rules.write_rules.Given as goal
 

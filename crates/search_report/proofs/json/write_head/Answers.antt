@@ -1,6 +1,7 @@
 use Rattle.std.proofs.Common.{◌++◌, List, map, string_bytes, ap, ◌∙◌}
 use Rattle.crash_model.specs.Lists.{join_of}
-use Rattle.crash_model.specs.Report.{fault_text, json_string}
+use Rattle.crash_model.specs.Texts.{fault_text}
+use Rattle.report_model.specs.Report.{json_string}
 use Rattle.crash_model.specs.declared.fault.Fault.{Fault}
 use Rattle.search_report.proofs.JsonPieces.{kind_head_pieces}
 use Rattle.search_report.proofs.json.write_head.Goals as goal

@@ -1,7 +1,7 @@
 use Rattle.std.proofs.Common.{◌≡◌, ◌++◌, map, string_bytes, take}
-use Rattle.crash_model.specs.Explain.{op_text}
+use Rattle.crash_model.specs.Texts.{op_text}
 use Rattle.crash_model.specs.Lists.{join_of}
-use Rattle.crash_model.specs.Report.{json_string}
+use Rattle.report_model.specs.Report.{json_string}
 use Rattle.search_report.proofs.json.write_operations.Given as goal
 
 abbrev pub invariant-loop-at : goal.invariant-loop-at

@@ -1,5 +1,5 @@
 use Rattle.std.proofs.Common.{◌≡◌, ◌++◌, codes, string_bytes, ap, ◌∙◌}
-use Rattle.crash_model.specs.Whole.{rules_json, told_with, told_without}
+use Rattle.report_model.specs.Whole.{rules_json, told_with, told_without}
 use Rattle.report_sections.proofs.Pieces.{four_pieces}
 use Rattle.search_report.proofs.json.write_ordering_keys.Goals as goal
 

@@ -1,6 +1,6 @@
 use Rattle.std.proofs.Common.{◌++◌, List, ℕ, codes, string_bytes, ap, ◌∙◌}
 use Rattle.std.specs.List.{flat_map}
-use Rattle.crash_model.specs.Report.{line}
+use Rattle.report_model.specs.Report.{line}
 use Rattle.search_model.specs.SearchReport.{step_text}
 use Rattle.search_model.specs.Workloads.{steps_at}
 use Rattle.search_report.specs.Findings.{told_kind}

@@ -1,7 +1,7 @@
 use Rattle.std.proofs.Common.{◌≡◌, ◌++◌, codes, string_bytes, take}
 use Rattle.std.specs.List.{flat_map}
-use Rattle.crash_model.specs.Explain.{op_text}
-use Rattle.crash_model.specs.Report.{line}
+use Rattle.crash_model.specs.Texts.{op_text}
+use Rattle.report_model.specs.Report.{line}
 use Rattle.search_report.proofs.text.write_operations.Given as goal
 
 abbrev pub invariant-loop-op : goal.invariant-loop-op

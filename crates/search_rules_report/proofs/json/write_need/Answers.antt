@@ -1,6 +1,6 @@
 use Rattle.std.proofs.Common.{◌++◌, List, ℕ, map, string_bytes, ap, ◌∙◌}
 use Rattle.crash_model.specs.Lists.{join_of}
-use Rattle.crash_model.specs.Report.{json_string, write_json}
+use Rattle.report_model.specs.Report.{json_string, write_json}
 use Rattle.patch_sets.specs.declared.write.BlockWrite.{BlockWrite}
 use Rattle.search_model.specs.SearchReport.{step_text}
 use Rattle.search_model.specs.Workloads.{steps_at}

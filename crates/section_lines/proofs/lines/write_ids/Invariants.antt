@@ -1,7 +1,7 @@
 use Rattle.std.proofs.Common.{◌≡◌, ◌++◌, string_bytes}
 use Rattle.patch_sets.specs.Sets.{ids_of}
 use Rattle.patch_sets.specs.Iter.{most_ids}
-use Rattle.crash_model.specs.Report.{numbers}
+use Rattle.report_model.specs.Report.{numbers}
 use Rattle.section_lines.proofs.lines.write_ids.Given as goal
 
 -- with the ids that are left the text is whole

@@ -1,5 +1,5 @@
 use Rattle.std.proofs.Common.{string_bytes}
-use Rattle.crash_model.specs.Report.{write_text}
+use Rattle.report_model.specs.Report.{write_text}
 use Rattle.section_lines.proofs.Told.{item_told}
 use Rattle.section_lines.proofs.lines.write_writes.Goals as goal
 

@@ -1,6 +1,6 @@
 use Rattle.std.proofs.Common.{◌≡◌, ◌++◌, string_bytes, take}
 use Rattle.std.specs.List.{flat_map}
-use Rattle.crash_model.specs.Report.{write_text}
+use Rattle.report_model.specs.Report.{write_text}
 use Rattle.section_lines.proofs.lines.write_writes.Given as goal
 
 abbrev pub invariant-loop-write : goal.invariant-loop-write

@@ -9,7 +9,7 @@ use Rattle.std.proofs.lemmas.List.FromFn.{get_or-map-range_with_len}
 use Rattle.std.proofs.lemmas.Str.Ascii.{IsAscii-cons, IsAscii-nil}
 use Rattle.std.specs.List.{list_all, range_with_len}
 use Rattle.itoa.proofs.Decimal.{pair, decimal_two, decimal_pair}
-use Rattle.crash_model.specs.Report.{numbers}
+use Rattle.report_model.specs.Report.{numbers}
 use Rattle.section_lines.specs.Numbers.{number_start}
 use Rattle.section_lines.specs.declared.numbers.TheConstants.{NUMBERS}
 use Rattle.section_lines.proofs.numbers.numbers_between.Goals as goal

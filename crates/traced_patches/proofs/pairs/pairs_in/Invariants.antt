@@ -1,5 +1,5 @@
 use Rattle.std.proofs.Common.{◌≡◌, ◌+◌, ◌*◌, ◌≤◌, drop, map}
-use Rattle.crash_model.specs.Needs.{pairs_of}
+use Rattle.crash_model.specs.RuleUse.{pairs_of}
 use Rattle.traced_patches.specs.Labels.{emitted_of}
 use Rattle.traced_patches.proofs.pairs.pairs_in.Given as goal
 

@@ -5,8 +5,8 @@ use Rattle.crash_model.specs.Plan.{plan_of}
 use Rattle.crash_model.specs.Faults.{each_slot, each_entry, namers, entries_to, faults}
 use Rattle.std.proofs.Common.{[]}
 use Rattle.std.specs.Fmt.{digits}
-use Rattle.crash_model.specs.Report.{fault_text}
-use Rattle.crash_model.specs.Whole.{text_report, json_report}
+use Rattle.crash_model.specs.Texts.{fault_text}
+use Rattle.report_model.specs.Whole.{text_report, json_report}
 use Rattle.crash_model.specs.declared.modules.Module.TheVariants.{Async}
 use Rattle.worked_example_laws.specs.Spelled.{settings_of}
 use Rattle.std.proofs.Common.{false}

@@ -6,8 +6,8 @@ use Rattle.crash_model.specs.Faults.{each_slot, each_entry, namers, entries_to, 
 use Rattle.std.proofs.Common.{[], ◌∷◌}
 use Rattle.std.specs.Prelude.{codes}
 use Rattle.std.specs.Fmt.{digits}
-use Rattle.crash_model.specs.Report.{fault_text}
-use Rattle.crash_model.specs.Whole.{text_report, json_report}
+use Rattle.crash_model.specs.Texts.{fault_text}
+use Rattle.report_model.specs.Whole.{text_report, json_report}
 use Rattle.crash_model.specs.declared.operations.Op.TheVariants.{Create, Write}
 use Rattle.crash_model.specs.declared.steps.Act.TheVariants.{Do}
 use Rattle.crash_model.specs.declared.modules.Module.TheVariants.{Async}

@@ -4,8 +4,8 @@ use Rattle.crash_model.specs.Lists.{each_below, some_below, first_below}
 use Rattle.crash_model.specs.Plan.{plan_of}
 use Rattle.crash_model.specs.Faults.{each_slot, each_entry, namers, entries_to, faults}
 use Rattle.std.specs.Fmt.{digits}
-use Rattle.crash_model.specs.Report.{fault_text}
-use Rattle.crash_model.specs.Whole.{text_report, json_report}
+use Rattle.crash_model.specs.Texts.{fault_text}
+use Rattle.report_model.specs.Whole.{text_report, json_report}
 use Rattle.worked_example_laws.proofs.Runs.{runs_if}
 use Rattle.worked_example_laws.proofs.answers.writes_are_cut_where_the_block_changes.Goals as goal
 

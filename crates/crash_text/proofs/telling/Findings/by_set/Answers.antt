@@ -1,6 +1,6 @@
 use Rattle.std.proofs.Common.{string_bytes}
 use Rattle.std.proofs.lemmas.Result.{IfOk-weaker}
-use Rattle.crash_model.proofs.Leading.{failing_closed}
+use Rattle.report_model.proofs.Leading.{failing_closed}
 use Rattle.crash_text.proofs.Bodies.{by_set}
 use Rattle.crash_text.proofs.telling.Findings.by_set.Goals as goal
 

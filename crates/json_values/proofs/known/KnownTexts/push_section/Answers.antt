@@ -1,7 +1,7 @@
 use Rattle.std.proofs.Common.{◌≡◌, ◌++◌, ℕ, List, map, string_bytes, ap, ◌∙◌}
 use Rattle.std.proofs.lemmas.Result.{on_ok_weaker}
 use Rattle.crash_model.specs.Lists.{join_of}
-use Rattle.crash_model.specs.Report.{section_json}
+use Rattle.report_model.specs.Report.{section_json}
 use Rattle.crash_model.specs.declared.fault.Fault.{Fault}
 use Rattle.report_sections.specs.Sections.{section_of}
 use Rattle.json_parts.specs.Values.{fault_json}

@@ -3,7 +3,7 @@ use Rattle.std.specs.List.{flat_map}
 use Rattle.patch_sets.specs.Writes.{AreRuns}
 use Rattle.patch_sets.specs.declared.write.BlockWrite.{BlockWrite}
 use Rattle.crash_model.specs.Patches.{homes_of}
-use Rattle.crash_model.specs.Report.{write_text}
+use Rattle.report_model.specs.Report.{write_text}
 use Rattle.crash_model.specs.declared.patches.Patch.{Patch}
 use Rattle.section_lines.proofs.cache.LineCache.lines_to.Goals as goal
 

@@ -1,6 +1,6 @@
 use Rattle.std.proofs.Common.{◌≡◌, List, length, map, arith, ap, ◌∙◌}
 use Rattle.std.proofs.lemmas.List.{length-map}
-use Rattle.crash_model.specs.Needs.{pairs_of}
+use Rattle.crash_model.specs.RuleUse.{pairs_of}
 use Rattle.crash_model.specs.Patches.{place, places_of}
 use Rattle.crash_model.specs.declared.patches.Patch.{Patch}
 use Rattle.traced_patches.specs.Labels.{emitted_of}

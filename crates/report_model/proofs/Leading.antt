@@ -9,7 +9,7 @@ use Rattle.patch_sets.proofs.Runs.{closed_left, runs_lead}
 use Rattle.crash_model.specs.Disk.{Disk}
 use Rattle.crash_model.specs.Checker.{Demands, IsFailingUnder}
 use Rattle.crash_model.specs.Patches.{deps_of, homes_of}
-use Rattle.crash_model.specs.Report.{Detail, Section, AreSections, IsLed}
+use Rattle.report_model.specs.Report.{Detail, Section, AreSections, IsLed}
 use Rattle.crash_model.specs.declared.patches.Patch.{Patch}
 
 pub failing_closed : (demands : Demands) (base : Disk) (patches : List Patch) (sets : List ℕ)

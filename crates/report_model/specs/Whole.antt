@@ -1,10 +1,12 @@
 -- A whole report, as text and as JSON.
 use Rattle.std.specs.Prelude.{ℕ, List, [], ◌∷◌, ◌++◌, map, flat_map, Bool, if◌then◌else◌, Option, codes, decimal}
 use Rattle.crash_model.specs.Rules.{rule_text, rules_taken_out, rules_put_in}
-use Rattle.crash_model.specs.Report.{Section, module_text, line, section_text, json_string, json_array, section_json}
-use Rattle.crash_model.specs.Explain.{Explanation, explanation_text, base_json, trace_json}
-use Rattle.crash_model.specs.Summary.{ToldFault, told_fault_text, told_fault_json}
-use Rattle.crash_model.specs.Needs.{ToldRule, told_rule_text, told_rule_json}
+use Rattle.report_model.specs.Report.{Section, line, section_text, json_string, json_array, section_json}
+use Rattle.crash_model.specs.Texts.{module_text}
+use Rattle.crash_model.specs.Reasons.{Explanation, explanation}
+use Rattle.report_model.specs.Explain.{explanation_text, base_json, trace_json}
+use Rattle.report_model.specs.Summary.{ToldFault, told_fault_text, told_fault_json}
+use Rattle.report_model.specs.Needs.{ToldRule, told_rule_text, told_rule_json}
 use Rattle.crash_model.specs.declared.rules.Rule.{Rule}
 use Rattle.crash_model.specs.declared.settings.Settings.{Settings}
 

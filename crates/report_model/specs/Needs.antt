@@ -1,16 +1,18 @@
 -- Which rules of an ordering a script needs: what a crash can leave without each of them.
-use Rattle.std.specs.Prelude.{◌≡◌, ℕ, ◌+◌, ◌≤◌, List, [], ◌∷◌, ◌++◌, length, filter, Option, Some, None, codes, decimal}
+use Rattle.std.specs.Prelude.{◌≡◌, ℕ, ◌+◌, ◌≤◌, List, [], ◌∷◌, ◌++◌, length, Option, Some, None, codes, decimal}
 use Rattle.std.specs.List.{All}
 use Rattle.patch_sets.specs.Closed.{IsClosed}
 use Rattle.patch_sets.specs.Sets.{AreAllInOrder}
 use Rattle.crash_model.specs.Disk.{Disk}
 use Rattle.crash_model.specs.Patches.{deps_of, CountsClosed, ExceedsLimit}
 use Rattle.crash_model.specs.Rules.{rules_in_first, rule_text}
-use Rattle.crash_model.specs.Trace.{Emitted, Tracing, IsGraphOf, applies}
+use Rattle.crash_model.specs.Trace.{Tracing}
 use Rattle.crash_model.specs.Checker.{IsFailingUnder}
-use Rattle.crash_model.specs.Report.{Detail, Section, AreSections, IsLed, line, section_text, json_string, section_json}
+use Rattle.report_model.specs.Report.{Detail, Section, AreSections, IsLed, line, section_text, json_string}
+use Rattle.report_model.specs.Report.{section_json}
 use Rattle.crash_model.specs.declared.patches.Patch.{Patch}
 use Rattle.crash_model.specs.declared.rules.Rule.{Rule}
+use Rattle.crash_model.specs.RuleUse.{pairs_of, HasGraphBy}
 
 -- how many closed and failing sets there are without a rule, and the section of the first failing set that the rule
 -- prevents
@@ -30,11 +32,6 @@ pub record ToldRule : Type 0 where
   pub rule : Rule
   pub usage : RuleUsage
 
--- how many pairs of patches a rule applies to
-abbrev pub pairs_of : Rule → List Emitted → ℕ
-pairs_of rule [] = 0
-pairs_of rule (p ∷ later) = length (filter (λ q. applies rule q p) later) + pairs_of rule later
-
 -- the section of the first of these sets that is not closed under `patches`, if there is one; `changed` are the patches
 -- without the rule
 abbrev pub IsFirstNew : Detail → Disk → List Patch → List Patch → List ℕ → Option Section → Type 0
@@ -53,10 +50,6 @@ pub record IsWithout (detail : Detail) (limit : ℕ) (base : Disk) (patches chan
   pub exactly : AreAllInOrder (IsFailingUnder detail.demands base changed) sets
   pub number : w.failing ≡ length sets
   pub first : IsFirstNew detail base patches changed sets w.first
-
--- the patches of the trace by other rules
-abbrev pub HasGraphBy : List Rule → Disk → Tracing → (List Patch → Type 0) → Type 0
-HasGraphBy rules base s P = (changed : List Patch) × IsGraphOf rules base s changed × P changed
 
 -- a rule's usage by a trace whose patches by all rules are `patches`
 abbrev pub IsRuleUsage : Detail → ℕ → List Rule → Disk → Tracing → List Patch → Rule → RuleUsage → Type 0

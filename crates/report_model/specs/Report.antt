@@ -12,11 +12,8 @@ use Rattle.crash_model.specs.Patches.{deps_of, homes_of, image_of}
 use Rattle.crash_model.specs.Replay.{image_after_replay}
 use Rattle.crash_model.specs.Checker.{Demands, faults_under}
 use Rattle.crash_model.specs.declared.fault.Fault.{Fault}
-use Rattle.crash_model.specs.declared.fault.Fault.TheVariants.{Dangling, Twice, Unwritten, LowLinks, MarkedFree, Wild}
-use Rattle.crash_model.specs.declared.fault.Fault.TheVariants.{Lost, NoBlock, HalfDone}
 use Rattle.crash_model.specs.declared.patches.Patch.{Patch}
-use Rattle.crash_model.specs.declared.modules.Module.{Module}
-use Rattle.crash_model.specs.declared.modules.Module.TheVariants.{Async, Soft, Meta, Full}
+use Rattle.crash_model.specs.Texts.{fault_text}
 
 -- ---- the section of a set
 
@@ -66,28 +63,6 @@ abbrev pub IsLed : List Patch → Section → Type 0
 IsLed patches s = LeadTo (deps_of patches) (homes_of patches) (events_of s.writes) s.set
 
 -- ---- words that text and JSON share
-
-unfoldable pub fault_text : Fault → List ℕ
-fault_text (Dangling d k i) =
-    codes "1 dangling entry: directory " ++ decimal d ++ codes " entry " ++ decimal k ++ codes " inode " ++ decimal i
-fault_text (Twice b) = codes "2 block used twice: block " ++ decimal b
-fault_text (Unwritten i s b) =
-    codes "3 unwritten pointer: inode " ++ decimal i ++ codes " slot " ++ decimal s ++ codes " block " ++ decimal b
-fault_text (LowLinks i e l) =
-    codes "4 low link count: inode " ++ decimal i ++ codes " entries " ++ decimal e ++ codes " links " ++ decimal l
-fault_text (MarkedFree i s b) =
-    codes "5 used block marked free: inode " ++ decimal i ++ codes " slot " ++ decimal s ++ codes " block " ++ decimal b
-fault_text (Wild i s b) =
-    codes "6 wild pointer: inode " ++ decimal i ++ codes " slot " ++ decimal s ++ codes " block " ++ decimal b
-fault_text (Lost i) = codes "7 lost inode: inode " ++ decimal i
-fault_text (NoBlock i) = codes "8 directory without a block: inode " ++ decimal i
-fault_text HalfDone = codes "9 half-done operation"
-
-abbrev pub module_text : Module → List ℕ
-module_text Async = codes "async"
-module_text Soft = codes "soft"
-module_text Meta = codes "meta"
-module_text Full = codes "full"
 
 -- ---- text
 

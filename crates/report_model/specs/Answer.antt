@@ -9,11 +9,11 @@ use Rattle.crash_model.specs.Rules.{rules_under}
 use Rattle.crash_model.specs.Trace.{Tracing, trace_start, trace_from, base_from, IsGraphOf}
 use Rattle.crash_model.specs.Checker.{Demands, AreDemands, IsFailingUnder}
 use Rattle.crash_model.specs.Lists.{when}
-use Rattle.crash_model.specs.Report.{Detail, AreSections, IsLed}
-use Rattle.crash_model.specs.Explain.{explanation}
-use Rattle.crash_model.specs.Summary.{AreToldFaults}
-use Rattle.crash_model.specs.Needs.{AreToldRules}
-use Rattle.crash_model.specs.Whole.{Body, Sets, Faults, Rules, report}
+use Rattle.report_model.specs.Report.{Detail, AreSections, IsLed}
+use Rattle.crash_model.specs.Reasons.{explanation}
+use Rattle.report_model.specs.Summary.{AreToldFaults}
+use Rattle.report_model.specs.Needs.{AreToldRules}
+use Rattle.report_model.specs.Whole.{Body, Sets, Faults, Rules, report}
 use Rattle.crash_model.specs.Script.{IsScript, IsScriptRefusal}
 use Rattle.crash_model.specs.declared.patches.Patch.{Patch}
 use Rattle.crash_model.specs.declared.rules.Rule.{Rule}

@@ -1,0 +1,6 @@
+pub mod Report
+pub mod Explain
+pub mod Summary
+pub mod Needs
+pub mod Whole
+pub mod Answer

@@ -1,0 +1,34 @@
+-- A summary of the sets that fail: each fault once, with the number of the sets that have it and the first of them.
+use Rattle.std.specs.Prelude.{ℕ, List, ◌++◌, map, codes, decimal}
+use Rattle.crash_model.specs.Disk.{Disk}
+use Rattle.report_model.specs.Report.{Detail, Section, AreSections, line, crash_text, json_string, ids_json}
+use Rattle.report_model.specs.Report.{replay_json, writes_json}
+use Rattle.crash_model.specs.Texts.{fault_text}
+use Rattle.crash_model.specs.declared.fault.FaultRow.{FaultRow}
+use Rattle.crash_model.specs.declared.patches.Patch.{Patch}
+use Rattle.crash_model.specs.FaultRows.{HasFault, AreRows}
+
+-- the entry of a fault: its row, and the section of the first set
+pub record ToldFault : Type 0 where
+  pub row : FaultRow
+  pub first : Section
+
+-- these are the entries of each fault once, for a base and patches
+pub record AreToldFaults (detail : Detail) (base : Disk) (patches : List Patch) (told : List ToldFault) : Type 0 where
+  pub rows : AreRows (HasFault detail.demands base patches) (map (λ t. t.row) told)
+  pub firsts : AreSections detail base patches (map (λ t. t.row.first) told) (map (λ t. t.first) told)
+
+-- patches are n in all
+abbrev pub told_fault_text : ℕ → ToldFault → List ℕ
+told_fault_text n t =
+    line (codes "fault " ++ fault_text t.row.fault)
+    ++ line (codes "sets " ++ decimal t.row.sets)
+    ++ crash_text n t.first
+
+abbrev pub told_fault_json : ℕ → ToldFault → List ℕ
+told_fault_json n t =
+    codes "{\"fault\":" ++ json_string (fault_text t.row.fault) ++ codes ","
+    ++ replay_json t.first.replay
+    ++ codes "\"set\":" ++ ids_json n t.first.set
+    ++ codes ",\"sets\":" ++ decimal t.row.sets
+    ++ codes ",\"writes\":" ++ writes_json n t.first.writes ++ codes "}"
