@@ -38,7 +38,7 @@ impl fmt::Display for Fault {
 
     ghost output = { λ f. Some (fault_text f) };
 
-    #[tactic(auto, unfolding(crate::specs::Report::fault_text))]
+    #[tactic(auto, unfolding(crate::specs::Texts::fault_text))]
     fn fmt<W: fmt::Write>(&self, f: &mut fmt::Formatter<W>) -> fmt::Result {
         match *self {
             Fault::Dangling { dir, entry, inode } => write!(
