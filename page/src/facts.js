@@ -1,6 +1,7 @@
 // What is said of the disk that is looked at: its faults, which set this is, and what is known of it.
 import { rulesWords } from "./enough.js";
-import { meaningsOf } from "./faults.js";
+import { isHalfDone, meaningsOf } from "./faults.js";
+import { halvesWords } from "./halves.js";
 import { pickedWords } from "./pick.js";
 import { copyWords } from "./steps.js";
 import { element, view } from "./view.js";
@@ -12,9 +13,16 @@ export function drawFacts(choice, states) {
   return [choice.rules ? said("needed", rulesWords(choice)) : null,
     ...choice.faults.map(text => said("fault", `Fault ${text}`)),
     ...meaningsOf(choice.faults).map(words => said("meaning", words)),
+    ...halvesOf(choice).map(words => said("half", words)),
     choice.faults.length || choice.isPicked ? said("which", setWords(choice)) : null,
     choice.isPicked ? said("picked", pickedWords(view.report, choice)) : null,
     choice.isWhole && view.report.trace.length ? said("walk", walkWords(states)) : null];
+}
+
+/** Where an operation is half done: which one. */
+function halvesOf(choice) {
+  const words = isHalfDone(choice.faults) && halvesWords(view.report, view.after ?? view.crash);
+  return words ? [words] : [];
 }
 
 /** What a crash at this step of the run without a crash would leave. */

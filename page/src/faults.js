@@ -94,6 +94,9 @@ const FAULT_MEANINGS = {
 /** The number that a fault's text begins with. */
 const numberOf = text => Number(/^\d+/.exec(text)?.[0]);
 
+/** Whether one of these texts says that an operation is half done. */
+export const isHalfDone = faults => faults.some(text => numberOf(text) === 9);
+
 /** A sentence for each kind of fault among these texts. */
 export function meaningsOf(faults) {
   const numbers = [...new Set(faults.map(numberOf))].filter(number => number in FAULT_MEANINGS);

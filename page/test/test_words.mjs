@@ -64,6 +64,8 @@ async function testHeadOfAReport() {
   check("a checker of whole operations is named", (await browser.ask(HEAD)).about[2], "Checker strict, atomic");
   check("in the title as well", (await shown()).title, "half.json: 3 of 5 sets fail under soft, strict, atomic, "
     + "16 blocks, no journal, data from block 4 - crashmap");
+  check("the operation that is half done is named", (await shown()).halves[0],
+    "Half done: line 3 rename /a /b.");
 }
 
 /* --- faults and rules --- */
