@@ -1,0 +1,146 @@
+"""How many lines of definitions one must read for a question, counted from the sources.
+
+`docs/DEFINITIONS.md` prints these numbers, and `test_definitions.py` compares.
+"""
+
+import re
+
+from program import ROOT
+
+CRATES = ROOT / "crates"
+
+# The files in the order in which they are read, in the groups of DEFINITIONS.md.
+GROUPS = {
+    1: ["patch_sets/Sets", "patch_sets/Closed", "patch_sets/Machine", "patch_sets/Writes", "state_space/Counts"],
+    2: ["crash_model/Lists", "crash_model/Disk", "crash_model/Layout", "crash_model/Plan"],
+    3: ["crash_model/Patches", "crash_model/Rules", "crash_model/Refusals", "crash_model/Trace"],
+    4: ["crash_model/Replay", "crash_model/Faults", "crash_model/Strict", "crash_model/Atomic", "crash_model/Checker",
+        "crash_model/FaultRows"],
+    5: ["crash_model/Names", "crash_model/Script", "crash_model/Texts", "crash_model/Reasons", "crash_model/RuleUse",
+        "report_model/Report", "report_model/Explain", "report_model/Summary", "report_model/Needs",
+        "report_model/Whole"],
+    6: ["report_model/Answer"],
+    7: ["decision_model/Decided", "decision_model/Decision"],
+    8: ["enough_model/Enough", "enough_model/EnoughReport"],
+    9: ["search_model/" + name for name in
+        ("Kinds", "Most", "Refused", "Sequences", "Workloads", "Found", "SearchReport")],
+    10: ["search_rules_model/EnoughFor", "search_rules_model/SearchRulesReport"],
+    11: ["questions/Answers"],
+}
+
+# What each question needs besides a plain run, as places: a file, a file and the names of its definitions, or a file
+# and a pattern that its lines have, written `/pattern/`; `FILE after TITLE` is what follows that heading.
+ROWS = {
+    "--json": ["report_model/Report after JSON",
+               "report_model/Whole rules_json atomic_json first_json early_json late_json json_report"],
+    "why a script is refused": [
+        "crash_model/Refusals", "crash_model/Script AreWords IsPathWord Fits HasPaths HasForm",
+        "crash_model/Script after refusals", "report_model/Answer /bad_|too_many|Refused|IsScriptRefusal|≡ Err/"],
+    "--without": [
+        "crash_model/Rules role_text rule_part_text scope_text rule_text",
+        "crash_model/Rules after a module's rules with some taken out and some put in",
+        "report_model/Whole told_without told_with rule_lines rules_json",
+        "report_model/Whole /rule_lines|rules_json/"],
+    "--whole-blocks": ["crash_model/Trace shares_block", "crash_model/Trace /pub whole|  whole = whole/",
+                       "report_model/Whole /whole_blocks/"],
+    "--strict": ["crash_model/Strict", "crash_model/Checker /pub kept|Some kept/", "crash_model/Texts /Lost|NoBlock/",
+                 "report_model/Whole /strict/"],
+    "--atomic": ["crash_model/Atomic", "crash_model/Strict disk_after", "crash_model/Checker /pub disks|Some disks/",
+                 "crash_model/Texts /HalfDone/", "report_model/Whole atomic_json", "report_model/Whole /atomic/"],
+    "--explain": ["crash_model/Reasons", "crash_model/Texts op_text", "crash_model/Rules part_text",
+                  "crash_model/Trace rules_between", "report_model/Explain", "report_model/Whole /pub explanation|trace_json/",
+                  "report_model/Report ReplayedBlock changed_blocks replay_of replayed_text replay_text replayed_json "
+                  "replay_json"],
+    "--summary": ["crash_model/FaultRows", "report_model/Summary", "report_model/Whole /Faults/",
+                  "report_model/Answer /Faults|ByFault|ToldFaults|IsLed patches t.first/"],
+    "--needs": ["crash_model/RuleUse", "report_model/Needs", "crash_model/Rules is_same_rule has_rule rules_in_first",
+                "report_model/Whole /Rules/",
+                "report_model/Answer /\\(Rules|ByRule|AreToldRules|\\(ordering_rules settings\\) told/"],
+    "--decide": ["group 7", "group 11", "crash_model/FaultRows numbers_of IsFaultBefore IsFirst"],
+    "--enough": ["group 7", "group 8", "group 11", "crash_model/FaultRows numbers_of IsFaultBefore IsFirst",
+                 "crash_model/RuleUse HasGraphBy", "patch_sets/Sets IsSubset"],
+    "--search": ["group 9", "group 11", "decision_model/Decision ordering_text",
+                 "crash_model/FaultRows HasFault IsFirst"],
+    "--search --enough": ["group 10"],
+}
+
+# What these files hold for other contracts alone; no answer needs it.
+NO_ANSWER = ["patch_sets/Sets with_id", "crash_model/Disk IsDisk", "crash_model/Faults IsClean",
+             "crash_model/Checker IsCleanKeeping"]
+
+IMPORT = re.compile(r"\s*use ")
+DEFINITION = re.compile(r"(?:(?:abbrev|unfoldable) )?pub (?:(?:record|data) )?([A-Za-z_0-9]+)")
+
+
+def is_code(line):
+    return bool(line.strip()) and not line.strip().startswith("--") and not IMPORT.match(line)
+
+
+class File:
+    """A file of definitions: its lines, each with its number, the definition that it is in, and its headings."""
+
+    def __init__(self, name):
+        crate, _, stem = name.partition("/")
+        self.text = (CRATES / crate / "specs" / f"{stem}.antt").read_text().splitlines()
+        self.code = [k for k, line in enumerate(self.text) if is_code(line)]
+        self.owner, self.start, owner = {}, {}, None
+        for k in self.code:
+            found = DEFINITION.match(self.text[k])
+            owner = found.group(1) if found else owner
+            self.owner[k] = owner
+        for k, line in enumerate(self.text):
+            if line.startswith("-- ---- "):
+                self.start[re.split(r"[:;]", line[8:])[0].strip()] = k
+
+    def after(self, title):
+        begin = self.start[title]
+        end = min((k for k in self.start.values() if k > begin), default=len(self.text))
+        return {k for k in self.code if begin < k < end}
+
+    def of(self, names):
+        missing = set(names) - set(self.owner.values())
+        assert not missing, missing
+        return {k for k in self.code if self.owner[k] in names}
+
+    def like(self, pattern):
+        return {k for k in self.code if re.search(pattern, self.text[k])}
+
+
+def files():
+    return [name for group in GROUPS.values() for name in group]
+
+
+def lines_of(place):
+    """The lines of a place, as pairs of a file and a number."""
+    if place.startswith("group "):
+        return {pair for name in GROUPS[int(place[6:])] for pair in lines_of(name)}
+    name, _, rest = place.partition(" ")
+    file = File(name)
+    if not rest:
+        found = set(file.code)
+    elif rest.startswith("after "):
+        found = file.after(rest[6:])
+    elif rest.startswith("/"):
+        found = file.like(rest[1:-1])
+    else:
+        found = file.of(rest.split())
+    return {(name, k) for k in found}
+
+
+def row(question):
+    return {pair for place in ROWS[question] for pair in lines_of(place)}
+
+
+def plain_run():
+    """Groups 1 to 6 without what the rows name, and without what no answer needs."""
+    plain = {pair for group in range(1, 7) for name in GROUPS[group] for pair in lines_of(name)}
+    named = [*ROWS.values(), NO_ANSWER]
+    return plain - {pair for places in named for place in places for pair in lines_of(place)}
+
+
+if __name__ == "__main__":
+    every = [File(name) for name in files()]
+    print(len(every), "files,", sum(len(one.text) for one in every), "lines,", sum(len(one.code) for one in every),
+          "of them code; a plain run", len(plain_run()))
+    for question in ROWS:
+        print(question, len(row(question)))
