@@ -1,5 +1,5 @@
 -- Rows that hold the sets of the fullest shard do not overfill.
-use Rattle.std.proofs.Common.{◌≡◌, ℕ, ◌+◌, ◌<◌, ◌≤◌, ◌%◌, List, length, get_or, arith, inl, inr, sym, subst}
+use Rattle.std.proofs.Common.{◌≡◌, ℕ, ◌+◌, ◌<◌, ◌≤◌, ◌%◌, List, length, get_or, All, arith, inl, inr, sym, subst}
 use Rattle.std.proofs.Math.Nat.{lt_of_not-le, mod-lt}
 use Rattle.std.proofs.lemmas.List.Elements.{All-weaker}
 use Rattle.state_space.specs.Counts.{HoldsOf, Outnumbers}

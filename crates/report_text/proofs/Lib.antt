@@ -1,4 +1,5 @@
 pub mod PatchLines
+pub mod HeadLines
 pub mod JoinedParts
 pub mod Reports
 pub mod RuleLines

@@ -1,6 +1,6 @@
 //! The head of a report.
 
-ghost use Rattle.std.specs.Prelude.{◌≡◌, ◌++◌, [], if◌then◌else◌, codes, string_bytes, OnOk};
+ghost use Rattle.std.specs.Prelude.{◌≡◌, ◌++◌, [], if◌then◌else◌, codes, decimal, string_bytes, OnOk};
 ghost use Rattle.report_model.specs.Report.{line};
 ghost use Rattle.crash_model.specs.Texts.{module_text};
 ghost use Rattle.report_model.specs.Whole.{head_text, rule_lines, told_with, told_without};
@@ -21,6 +21,20 @@ pub(crate) fn write_head<A: Allocator>(
         ≡ string_bytes out.old ++ head_text settings.now patches closed failing) }
 {
     write_ordering(out, settings)?;
+    write_numbers(out, patches, closed, failing)
+}
+
+/// The lines of the numbers of patches, closed sets and failing sets.
+fn write_numbers<A: Allocator>(
+    out: &mut String<A>,
+    patches: usize,
+    closed: usize,
+    failing: usize,
+) -> Result<(), AllocError>
+    ensures { OnOk result (string_bytes out.new ≡ string_bytes out.old
+        ++ (line (codes "patches " ++ decimal patches) ++ line (codes "closed " ++ decimal closed)
+        ++ line (codes "failing " ++ decimal failing))) }
+{
     write!(
         out,
         "patches {patches}\nclosed {closed}\nfailing {failing}\n"

@@ -1,6 +1,4 @@
 use Rattle.std.proofs.Common.{◌≡◌, rules, arith, subst, sym, ◌∙◌}
-use Rattle.std.specs.Prelude.{◌↔◌}
-use Rattle.state_space.specs.Reach.{IsReached}
 use Rattle.patch_sets.specs.Sets.{AreAllInOrder}
 use Rattle.patch_sets.specs.Closed.{IsClosed}
 use Rattle.crash_model.specs.Patches.{deps_of, CountsClosed}
@@ -36,8 +34,8 @@ returns-in-Err-TooMany-clause-too_many g c =
     c.deref.ensures.0 ∙ c.dependencies-deps.ensures.exact in
     absurd (not_overfilled deps counts c.in-Some.sets c.in-Some.ensures.number.0 c.in-Some.ensures.counts _
     (λ set reached. subst (λ deps. IsClosed deps set) (sym same)
-    ((subst (λ s. IsReached _ _ set ↔ IsClosed (deps_of s.patches) set) c.new-space.ensures
-    (c.reach_is_the_closed_sets.ensures set)).0 reached))
+    (subst (λ s. IsClosed (deps_of s.patches) set) c.new-space.ensures
+    ((c.reach_is_the_closed_sets.ensures set).0 reached)))
     c.count_by_remainder.ensures.long room.limit room.places
     (omega (arith, c.prime_at_least-limit.ensures.enough, c.for_fullest-room.ensures.limit))
     (λ q near. omega (arith, c.largest.ensures.each q near, c.for_fullest-room.ensures.enough))

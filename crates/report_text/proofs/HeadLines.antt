@@ -1,0 +1,11 @@
+-- The lines of a report's head: those of its ordering and its checker, and those of its numbers.
+use Rattle.std.proofs.Common.{◌≡◌, ℕ, List, ◌++◌, append_assoc, ap, ◌∙◌}
+
+regroup : (old m w v b s a p c f : List ℕ)
+    → (old ++ (m ++ w ++ v ++ b ++ s ++ a)) ++ (p ++ c ++ f) ≡ old ++ (m ++ w ++ v ++ b ++ s ++ a ++ p ++ c ++ f)
+regroup old m w v b s a p c f = simp append_assoc
+
+pub head_of : (old before all m w v b s a p c f : List ℕ) → before ≡ old ++ (m ++ w ++ v ++ b ++ s ++ a)
+    → all ≡ before ++ (p ++ c ++ f) → all ≡ old ++ (m ++ w ++ v ++ b ++ s ++ a ++ p ++ c ++ f)
+head_of old before all m w v b s a p c f first rest =
+    rest ∙ (ap (λ (t : List ℕ). t ++ (p ++ c ++ f)) first ∙ regroup old m w v b s a p c f)
