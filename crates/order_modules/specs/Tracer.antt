@@ -7,6 +7,10 @@ use Rattle.crash_model.specs.declared.refusals.TraceFault.{TraceFault}
 use Rattle.crash_model.specs.declared.refusals.TraceFault.TheVariants.{OutOfMemory}
 use Rattle.crash_model.specs.declared.modules.Module.{Module}
 use Rattle.crash_model.specs.declared.modules.Module.TheVariants.{Async, Soft, Meta, Full}
+use Rattle.crash_model.specs.declared.operations.Op.{Op}
+use Rattle.crash_model.specs.declared.steps.Act.TheVariants.{Do}
+use Rattle.crash_model.specs.declared.steps.Step.{Step}
+use Rattle.inode_fs.specs.Inside.{GivesName}
 use Rattle.order_modules.specs.Log.{Log}
 
 abbrev pub names_by : List (Bor (List ℕ)) → List (List ℕ)
@@ -24,6 +28,10 @@ IsJournaled Async = ⊥
 IsJournaled Soft = ⊥
 IsJournaled Meta = Unit {0}
 IsJournaled Full = Unit {0}
+
+-- what a step does, if it is an operation, gives a name
+abbrev pub GivesNames : Step → Type 0
+GivesNames step = (op : Op) → step.act ≡ Do op → GivesName op
 
 pub record Trace : Type 0 where
   pub log : Log
