@@ -10,8 +10,9 @@ use Rattle.crash_model.specs.Trace.{Tracing, trace_start, step, trace_from}
 use Rattle.crash_model.specs.declared.refusals.TraceFault.{TraceFault}
 use Rattle.crash_model.specs.declared.rules.Rule.{Rule}
 use Rattle.crash_model.specs.declared.modules.Module.{Module}
+use Rattle.crash_model.specs.declared.steps.Act.{Act}
 use Rattle.crash_model.specs.declared.steps.Step.{Step}
-use Rattle.order_modules.specs.Tracer.{GivesNames, Trace, Moves}
+use Rattle.order_modules.specs.Tracer.{GivesNameIfAny, GivesNames, Trace, Moves}
 
 then_then : (kind : Module) (ys : List Step) (r : Result Tracing TraceFault) (f g : Tracing → Result Tracing TraceFault)
     → ((next : Tracing) → f next ≡ then_ok (g next) (λ end. trace_from kind end ys))
@@ -52,7 +53,7 @@ module _ (kind : Module) (rules : List Rule) (whole : Bool) (base : Disk) (steps
   same_step : step t.log.kind t.tracing x.line x.act ≡ step kind t.tracing x.line x.act
   same_step = ap (λ (k : Module). step k t.tracing x.line x.act) is.same_kind
 
-  pub step_taken : (next : Trace) → Moves t next (step t.log.kind t.tracing x.line x.act) → GivesNames x
+  pub step_taken : (next : Trace) → Moves t next (step t.log.kind t.tracing x.line x.act) → GivesNameIfAny x.act
       → IsTraced kind rules whole base steps (i + 1) next
   step_taken next moves named = record {
     same_base = moves.base ∙ is.same_base;
@@ -64,7 +65,7 @@ module _ (kind : Module) (rules : List Rule) (whole : Bool) (base : Disk) (steps
         ∙ ap (λ (r : Result Tracing TraceFault). then_ok r (λ next. trace_from kind next []))
         (sym same_step ∙ moves.answered);
     names = subst (λ (xs : List Step). All GivesNames xs) (sym with_next)
-        (All-append GivesNames (take i steps) (x ∷ []) is.names (All-cons GivesNames x [] named (All-nil GivesNames)));
+        (All-append GivesNames (take i steps) (x ∷ []) is.names (All-cons GivesNames x [] (λ op is. subst (λ (act : Act). GivesNameIfAny act) is named) (All-nil GivesNames)));
   }
 
   pub step_refused : (e : TraceFault) → step t.log.kind t.tracing x.line x.act ≡ Err e

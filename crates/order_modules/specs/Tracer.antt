@@ -8,6 +8,7 @@ use Rattle.crash_model.specs.declared.refusals.TraceFault.TheVariants.{OutOfMemo
 use Rattle.crash_model.specs.declared.modules.Module.{Module}
 use Rattle.crash_model.specs.declared.modules.Module.TheVariants.{Async, Soft, Meta, Full}
 use Rattle.crash_model.specs.declared.operations.Op.{Op}
+use Rattle.crash_model.specs.declared.steps.Act.{Act}
 use Rattle.crash_model.specs.declared.steps.Act.TheVariants.{Do}
 use Rattle.crash_model.specs.declared.steps.Step.{Step}
 use Rattle.inode_fs.specs.Inside.{GivesName}
@@ -29,7 +30,12 @@ IsJournaled Soft = ⊥
 IsJournaled Meta = Unit {0}
 IsJournaled Full = Unit {0}
 
--- what a step does, if it is an operation, gives a name
+-- what an act does, if it is an operation, gives a name
+abbrev pub GivesNameIfAny : Act → Type 0
+GivesNameIfAny (Do op) = GivesName op
+GivesNameIfAny _ = Unit {0}
+
+-- the same of a step, in the words of `full_journal_laws`
 abbrev pub GivesNames : Step → Type 0
 GivesNames step = (op : Op) → step.act ≡ Do op → GivesName op
 

@@ -2,7 +2,7 @@
 
 ghost use Rattle.std.specs.Prelude.{◌<◌, ◌^◌, OnOk};
 ghost use Rattle.crash_model.specs.Trace.{step as step_of};
-ghost use Rattle.order_modules.specs.Tracer.{GivesNames, Moves, RefusesAs};
+ghost use Rattle.order_modules.specs.Tracer.{GivesNameIfAny, Moves, RefusesAs};
 
 use crate::tracer::Tracer;
 use crash_model::refusals::TraceFault;
@@ -15,7 +15,7 @@ impl<'a, A: Allocator + Copy> Tracer<'a, A> {
         requires { self.old.tracing.turn < 2 ^ 63 }
         ensures ok { OnOk result (Moves self.old self.new
             (step_of self.old.log.kind self.old.tracing step.now.line step.now.act)) }
-        ensures names { OnOk result (GivesNames step.now) }
+        ensures names { OnOk result (GivesNameIfAny step.now.act) }
         ensures refused { RefusesAs result (step_of self.old.log.kind self.old.tracing step.now.line step.now.act) }
     {
         match &step.act {
