@@ -65,7 +65,9 @@ module _ (kind : Module) (rules : List Rule) (whole : Bool) (base : Disk) (steps
         ∙ ap (λ (r : Result Tracing TraceFault). then_ok r (λ next. trace_from kind next []))
         (sym same_step ∙ moves.answered);
     names = subst (λ (xs : List Step). All GivesNames xs) (sym with_next)
-        (All-append GivesNames (take i steps) (x ∷ []) is.names (All-cons GivesNames x [] (λ op is. subst (λ (act : Act). GivesNameIfAny act) is named) (All-nil GivesNames)));
+        (All-append GivesNames (take i steps) (x ∷ []) is.names
+        (All-cons GivesNames x [] (λ op same. subst (λ (act : Act). GivesNameIfAny act) same named)
+        (All-nil GivesNames)));
   }
 
   pub step_refused : (e : TraceFault) → step t.log.kind t.tracing x.line x.act ≡ Err e
