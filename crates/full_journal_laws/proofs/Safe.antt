@@ -1,5 +1,5 @@
 -- What is traced under the full journal is safe.
-use Rattle.std.proofs.Common.{◌≡◌, ℕ, List, [], ◌∷◌, Bool, Ok, refl, subst}
+use Rattle.std.proofs.Common.{◌≡◌, List, [], ◌∷◌, Bool, Ok, refl, subst}
 use Rattle.std.specs.Prelude.{All}
 use Rattle.std.proofs.lemmas.List.Elements.{All-nil, All-head, All-tail, All-cons, All-append}
 use Rattle.crash_model.specs.Disk.{Disk, IsDisk}
