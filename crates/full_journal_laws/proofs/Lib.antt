@@ -10,6 +10,7 @@ pub mod Plans
 pub mod Traces
 pub mod Outside
 pub mod Final
+pub mod Safe
 pub mod Failing
 pub mod Kept
 pub mod Showing

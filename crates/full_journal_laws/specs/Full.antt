@@ -18,6 +18,7 @@ use Rattle.crash_model.specs.declared.steps.Act.{Act}
 use Rattle.crash_model.specs.declared.steps.Act.TheVariants.{Do}
 use Rattle.crash_model.specs.declared.modules.Module.TheVariants.{Full}
 use Rattle.crash_model.specs.declared.steps.Step.{Step}
+use Rattle.inode_fs.specs.Inside.{GivesName}
 
 -- the operations of steps, in order
 abbrev pub ops_at : Act → List Op
@@ -26,6 +27,10 @@ ops_at _ = []
 
 abbrev pub ops_of : List Step → List Op
 ops_of steps = flat_map (λ x. ops_at x.act) steps
+
+-- what a step does, if it is an operation, gives a name
+abbrev pub GivesNames : Step → Type 0
+GivesNames step = (op : Op) → step.act ≡ Do op → GivesName op
 
 -- the disk after operations; a refused one changes nothing
 abbrev pub after_ops : Disk → List Op → Disk

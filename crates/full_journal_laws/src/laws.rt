@@ -13,10 +13,11 @@ ghost use Rattle.crash_model.specs.Rules.{rules_of};
 ghost use Rattle.crash_model.specs.RuleFacts.{AreAmong};
 ghost use Rattle.crash_model.specs.declared.patches.Patch.{Patch};
 ghost use Rattle.crash_model.specs.declared.rules.Rule.{Rule};
+ghost use Rattle.crash_model.specs.declared.modules.Module.{Module};
 ghost use Rattle.crash_model.specs.declared.modules.Module.TheVariants.{Full};
 ghost use Rattle.crash_model.specs.declared.steps.Step.{Step};
 ghost use Rattle.inode_fs.specs.Inside.{GivesName};
-ghost use Rattle.full_journal_laws.specs.Full.{ops_of, IsRecovered};
+ghost use Rattle.full_journal_laws.specs.Full.{ops_of, GivesNames, IsRecovered, IsFullSafe};
 
 /// From a sound disk with a zero journal, and for every set of patches that a crash can leave: replay makes a sound
 /// disk, which outside the journal is the base after the first k operations, k being how many commit patches the set
@@ -29,6 +30,17 @@ pub fn replay_recovers_the_committed_operations()
         → IsGraphOf rules base s patches
         → IsClosed (deps_of patches) set
         → IsRecovered base steps s patches set }
+{}
+
+/// So the patches that `trace` of `order_modules` makes are safe under the full journal with all its rules. The premises
+/// are what `trace` is given, and what it promises of its names, of the trace and of the graph.
+pub fn what_is_traced_is_safe()
+    ensures { (by : Module) → (rules : List Rule) → (whole : Bool) → (base : Disk) → (steps : List Step)
+        → (s : Tracing) → (patches : List Patch)
+        → by ≡ Full → AreAmong (rules_of Full) rules → IsDisk base → IsSound base → HasZeroJournal base
+        → All GivesNames steps
+        → trace_from by (trace_start whole base) steps ≡ Ok s → IsGraphOf rules base s patches
+        → IsFullSafe whole base steps patches }
 {}
 
 /// So nothing fails with a strict checker either: the image after replay has none of the eight faults, for every script

@@ -1,21 +1,18 @@
 -- The steps of a script, one after another.
-use Rattle.std.proofs.Common.{◌≡◌, ℕ, ◌+◌, ◌<◌, ◌≤◌, List, [], ◌∷◌, ◌++◌, length, take, drop, get_or, append-nil}
+use Rattle.std.proofs.Common.{◌≡◌, ℕ, ◌+◌, ◌<◌, ◌≤◌, List, [], ◌∷◌, ◌++◌, length, take, drop, get_or}
 use Rattle.std.proofs.Common.{Bool, append_assoc, refl, sym, ◌∙◌, ap, subst, arith}
 use Rattle.std.specs.Prelude.{All, Result, Ok, Err}
 use Rattle.std.proofs.lemmas.List.{take_more, take-append-drop, take_all}
-use Rattle.std.proofs.lemmas.List.Elements.{All-nil, All-append}
-use Rattle.std.proofs.lemmas.Grind.{flat_map-append}
+use Rattle.std.proofs.lemmas.List.Elements.{All-nil, All-cons, All-append}
 use Rattle.crash_model.specs.Disk.{Disk}
 use Rattle.crash_model.specs.Plan.{then_ok}
 use Rattle.crash_model.specs.Trace.{Tracing, trace_start, step, trace_from}
 use Rattle.crash_model.specs.declared.refusals.TraceFault.{TraceFault}
 use Rattle.crash_model.specs.declared.rules.Rule.{Rule}
 use Rattle.crash_model.specs.declared.modules.Module.{Module}
+use Rattle.crash_model.specs.declared.steps.Act.{Act}
 use Rattle.crash_model.specs.declared.steps.Step.{Step}
-use Rattle.crash_model.specs.declared.operations.Op.{Op}
-use Rattle.inode_fs.specs.Inside.{GivesName}
-use Rattle.full_journal_laws.specs.Full.{ops_at, ops_of}
-use Rattle.order_modules.specs.Tracer.{Trace, Moves}
+use Rattle.order_modules.specs.Tracer.{GivesNameIfAny, GivesNames, Trace, Moves}
 
 then_then : (kind : Module) (ys : List Step) (r : Result Tracing TraceFault) (f g : Tracing → Result Tracing TraceFault)
     → ((next : Tracing) → f next ≡ then_ok (g next) (λ end. trace_from kind end ys))
@@ -39,7 +36,7 @@ pub record IsTraced (kind : Module) (rules : List Rule) (whole : Bool) (base : D
   pub same_whole : t.log.whole ≡ whole
   pub turns : t.tracing.turn ≤ i + 1
   pub so_far : trace_from kind (trace_start whole base) (take i steps) ≡ Ok t.tracing
-  pub names : All GivesName (ops_of (take i steps))
+  pub names : All GivesNames (take i steps)
 
 module _ (kind : Module) (rules : List Rule) (whole : Bool) (base : Disk) (steps : List Step) (i : ℕ) (t : Trace)
     (x : Step) (inside : i < length steps) (read : x ≡ get_or steps i x)
@@ -56,7 +53,7 @@ module _ (kind : Module) (rules : List Rule) (whole : Bool) (base : Disk) (steps
   same_step : step t.log.kind t.tracing x.line x.act ≡ step kind t.tracing x.line x.act
   same_step = ap (λ (k : Module). step k t.tracing x.line x.act) is.same_kind
 
-  pub step_taken : (next : Trace) → Moves t next (step t.log.kind t.tracing x.line x.act) → All GivesName (ops_at x.act)
+  pub step_taken : (next : Trace) → Moves t next (step t.log.kind t.tracing x.line x.act) → GivesNameIfAny x.act
       → IsTraced kind rules whole base steps (i + 1) next
   step_taken next moves named = record {
     same_base = moves.base ∙ is.same_base;
@@ -67,11 +64,10 @@ module _ (kind : Module) (rules : List Rule) (whole : Bool) (base : Disk) (steps
     so_far = ap (λ (xs : List Step). trace_from kind (trace_start whole base) xs) with_next ∙ after_step []
         ∙ ap (λ (r : Result Tracing TraceFault). then_ok r (λ next. trace_from kind next []))
         (sym same_step ∙ moves.answered);
-    names = subst (λ (xs : List Step). All GivesName (ops_of xs)) (sym with_next)
-        (subst (λ (ops : List Op). All GivesName ops) (sym (flat_map-append (λ (y : Step). ops_at y.act) (take i steps)
-        (x ∷ [])))
-        (All-append GivesName (ops_of (take i steps)) (ops_of (x ∷ [])) is.names
-        (subst (λ (ops : List Op). All GivesName ops) (sym (append-nil (ops_at x.act))) named)));
+    names = subst (λ (xs : List Step). All GivesNames xs) (sym with_next)
+        (All-append GivesNames (take i steps) (x ∷ []) is.names
+        (All-cons GivesNames x [] (λ op same. subst (λ (act : Act). GivesNameIfAny act) same named)
+        (All-nil GivesNames)));
   }
 
   pub step_refused : (e : TraceFault) → step t.log.kind t.tracing x.line x.act ≡ Err e
@@ -94,7 +90,7 @@ traced_start kind rules whole base steps t began same_base same_kind same_rules 
   same_whole = same_whole;
   turns = omega (arith, ap (λ (s : Tracing). s.turn) began);
   so_far = ap (λ (s : Tracing). Ok s) (sym began);
-  names = All-nil GivesName;
+  names = All-nil GivesNames;
 }
 
 pub traced_end : (kind : Module) (rules : List Rule) (whole : Bool) (base : Disk) (steps : List Step) (i : ℕ)
@@ -105,6 +101,6 @@ traced_end kind rules whole base steps i t past is = ap (λ (xs : List Step). tr
     (sym (take_all i steps past)) ∙ is.so_far
 
 pub traced_names : (kind : Module) (rules : List Rule) (whole : Bool) (base : Disk) (steps : List Step) (i : ℕ)
-    (t : Trace) → length steps ≤ i → IsTraced kind rules whole base steps i t → All GivesName (ops_of steps)
-traced_names kind rules whole base steps i t past is = subst (λ (xs : List Step). All GivesName (ops_of xs))
+    (t : Trace) → length steps ≤ i → IsTraced kind rules whole base steps i t → All GivesNames steps
+traced_names kind rules whole base steps i t past is = subst (λ (xs : List Step). All GivesNames xs)
     (take_all i steps past) is.names

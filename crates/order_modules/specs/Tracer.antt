@@ -7,6 +7,11 @@ use Rattle.crash_model.specs.declared.refusals.TraceFault.{TraceFault}
 use Rattle.crash_model.specs.declared.refusals.TraceFault.TheVariants.{OutOfMemory}
 use Rattle.crash_model.specs.declared.modules.Module.{Module}
 use Rattle.crash_model.specs.declared.modules.Module.TheVariants.{Async, Soft, Meta, Full}
+use Rattle.crash_model.specs.declared.operations.Op.{Op}
+use Rattle.crash_model.specs.declared.steps.Act.{Act}
+use Rattle.crash_model.specs.declared.steps.Act.TheVariants.{Do}
+use Rattle.crash_model.specs.declared.steps.Step.{Step}
+use Rattle.inode_fs.specs.Inside.{GivesName}
 use Rattle.order_modules.specs.Log.{Log}
 
 abbrev pub names_by : List (Bor (List ℕ)) → List (List ℕ)
@@ -24,6 +29,15 @@ IsJournaled Async = ⊥
 IsJournaled Soft = ⊥
 IsJournaled Meta = Unit {0}
 IsJournaled Full = Unit {0}
+
+-- what an act does, if it is an operation, gives a name
+abbrev pub GivesNameIfAny : Act → Type 0
+GivesNameIfAny (Do op) = GivesName op
+GivesNameIfAny _ = Unit {0}
+
+-- the same of a step, in the words of `full_journal_laws`
+abbrev pub GivesNames : Step → Type 0
+GivesNames step = (op : Op) → step.act ≡ Do op → GivesName op
 
 pub record Trace : Type 0 where
   pub log : Log

@@ -1,10 +1,8 @@
 //! The step that each act of a script is.
 
-ghost use Rattle.std.specs.Prelude.{◌<◌, ◌^◌, All, OnOk};
+ghost use Rattle.std.specs.Prelude.{◌<◌, ◌^◌, OnOk};
 ghost use Rattle.crash_model.specs.Trace.{step as step_of};
-ghost use Rattle.inode_fs.specs.Inside.{GivesName};
-ghost use Rattle.full_journal_laws.specs.Full.{ops_at};
-ghost use Rattle.order_modules.specs.Tracer.{Moves, RefusesAs};
+ghost use Rattle.order_modules.specs.Tracer.{GivesNameIfAny, Moves, RefusesAs};
 
 use crate::tracer::Tracer;
 use crash_model::refusals::TraceFault;
@@ -17,7 +15,7 @@ impl<'a, A: Allocator + Copy> Tracer<'a, A> {
         requires { self.old.tracing.turn < 2 ^ 63 }
         ensures ok { OnOk result (Moves self.old self.new
             (step_of self.old.log.kind self.old.tracing step.now.line step.now.act)) }
-        ensures names { OnOk result (All GivesName (ops_at step.now.act)) }
+        ensures names { OnOk result (GivesNameIfAny step.now.act) }
         ensures refused { RefusesAs result (step_of self.old.log.kind self.old.tracing step.now.line step.now.act) }
     {
         match &step.act {

@@ -1,16 +1,11 @@
 //! The trace of a script: its operations, in order, turned into patches.
 
-ghost use Rattle.std.specs.Prelude.{◌≡◌, ◌<◌, ◌^◌, false, Ok, IfOk, OnOk, All};
+ghost use Rattle.std.specs.Prelude.{◌≡◌, ◌<◌, ◌^◌, Ok, IfOk, OnOk, All};
 ghost use Rattle.crash_model.specs.Trace.{Tracing, trace_start, trace_of_plan, trace_from, IsGraphOf};
 ghost use Rattle.crash_model.specs.Disk.{IsDisk};
 ghost use Rattle.crash_model.specs.Plan.{plan_of};
-ghost use Rattle.crash_model.specs.Rules.{rules_of};
-ghost use Rattle.crash_model.specs.RuleFacts.{AreAmong};
-ghost use Rattle.crash_model.specs.Sound.{IsSound, HasZeroJournal};
-ghost use Rattle.crash_model.specs.declared.modules.Module.TheVariants.{Full};
 ghost use Rattle.inode_fs.specs.Inside.{LiesInside, GivesName};
-ghost use Rattle.full_journal_laws.specs.Full.{ops_of, IsFullSafe};
-ghost use Rattle.order_modules.specs.Tracer.{Moves, RefusesAs, IsOrdered, IsJournaled};
+ghost use Rattle.order_modules.specs.Tracer.{GivesNames, Moves, RefusesAs, IsOrdered, IsJournaled};
 ghost use Rattle.order_modules.specs.Transactions.{targets_of};
 
 use crate::log::PatchLog;
@@ -25,7 +20,6 @@ use crash_model::refusals::TraceFault;
 use crash_model::steps::Step;
 use disk_image::Image;
 use inode_fs::{apply, plan};
-use patch_graph::Graph;
 use std::alloc::{AllocError, Allocator};
 use std::marker::Model;
 use traced_patches::{Origin, Traced};
@@ -41,8 +35,7 @@ use traced_patches::{Origin, Traced};
 /// patch. It also fails when out of memory.
 ///
 /// Under the full journal with all its rules, and with any others put in, from a sound image whose journal is zero,
-/// replay recovers from every crash: whatever closed set of the patches is on disk, replay leaves a sound image that
-/// is, outside the journal, the image after the first k operations, k being how many of their commits are in the set.
+/// replay recovers from every crash: `what_is_traced_is_safe` of `full_journal_laws`.
 pub fn trace<'a, A: Allocator + Copy>(
     alloc: A,
     image: &'a Image<A>,
@@ -58,40 +51,13 @@ pub fn trace<'a, A: Allocator + Copy>(
     ensures refused { RefusesAs result
         (trace_from ordering.now.«module» (trace_start ordering.now.whole_blocks image.now) steps.now) }
     ensures fits { IfOk result (λ t. All (λ patch. patch.block < image.now.blocks) t.patches) }
-    ensures names { IfOk result (λ _. All GivesName (ops_of steps.now)) }
-    ensures full { ordering.now.«module» ≡ Full → AreAmong (rules_of Full) ordering.now.rules.items → IsSound image.now
-        → HasZeroJournal image.now
-        → IfOk result (λ t. IsFullSafe ordering.now.whole_blocks image.now steps.now t.patches) }
+    ensures names { IfOk result (λ _. All GivesNames steps.now) }
 {
     let mut tracer = Tracer::new(alloc, image, ordering)?;
     for step in steps {
         tracer.step(step)?;
     }
     Ok(tracer.into_traced())
-}
-
-/// The graph of the steps, over this image, under a module with its own rules, when a block can be written without some
-/// of its changes; or the first refused step.
-///
-/// It is the same as that of `trace` under this ordering.
-pub fn trace_under<A: Allocator + Copy>(
-    alloc: A,
-    image: &Image<A>,
-    steps: &[Step],
-    module: Module,
-) -> Result<Graph<A>, TraceFault>
-    ensures ok { IfOk result (λ graph. (s : Tracing)
-        × (trace_from «module» (trace_start false image.now) steps.now ≡ Ok s)
-        × IsGraphOf (rules_of «module») image.now s graph) }
-    ensures refused { RefusesAs result (trace_from «module» (trace_start false image.now) steps.now) }
-    ensures fits { IfOk result (λ graph. All (λ patch. patch.block < image.now.blocks) graph) }
-    ensures names { IfOk result (λ _. All GivesName (ops_of steps.now)) }
-    ensures full { «module» ≡ Full → IsSound image.now → HasZeroJournal image.now
-        → IfOk result (λ graph. IsFullSafe false image.now steps.now graph) }
-{
-    let ordering = Ordering::of(module);
-    let traced = trace(alloc, image, steps, &ordering)?;
-    Ok(traced.into_graph())
 }
 
 /// A trace under way.

@@ -13,6 +13,7 @@ use Rattle.crash_model.specs.declared.modules.Module.{Module}
 use Rattle.crash_model.specs.declared.modules.Module.TheVariants.{Full}
 use Rattle.crash_model.proofs.PutIn.{put_in_among}
 use Rattle.full_journal_laws.proofs.Failing.{none_fails}
+use Rattle.full_journal_laws.proofs.Safe.{traced_is_safe}
 use Rattle.crash_text.specs.Telling.{IsTraceOf}
 use Rattle.crash_text.proofs.run.answer_steps.Goals as goal
 
@@ -39,8 +40,11 @@ returns-clause-full g c = λ full none.
     ∙ ap (λ (rs : List Rule). rules_under Full rs settings.with.items) none) in
     let among : AreAmong (rules_of Full) c.ordering-ordering.result.rules.items =
     subst (λ (rs : List Rule). AreAmong (rules_of Full) rs) (sym all) (put_in_among Full settings.with.items) in
-    let safe = c.in_ok-traced.ensures.full (ordering.«module» ∙ full) among c.requires.sound.0 c.requires.sound.1 in
     let disk : IsDisk base = search rules in
+    let traced = c.in_ok-traced.ensures in
+    let safe = traced_is_safe c.ordering-ordering.result.«module» c.ordering-ordering.result.rules.items
+    c.ordering-ordering.result.whole_blocks base c.args.steps.now traced.ok.0 c.in_ok-traced.traced.patches
+    (ordering.«module» ∙ full) among disk c.requires.sound.0 c.requires.sound.1 traced.names traced.ok.1 traced.ok.2 in
     c.answer_traced.ensures.safe (none_fails settings.strict settings.atomic c.ordering-ordering.result.whole_blocks c.in_ok-demands.demands
     base c.args.steps.now
     c.in_ok-traced.traced.patches disk c.in_ok-demands.ensures safe)

@@ -5,6 +5,7 @@ use Rattle.std.proofs.Math.Logic.{∥∥₁_elim}
 use Rattle.crash_model.specs.Trace.{trace_start, trace_from}
 use Rattle.crash_model.specs.declared.patches.Patch.{Patch}
 use Rattle.crash_model.specs.declared.steps.Step.{Step}
+use Rattle.full_journal_laws.proofs.Safe.{traced_is_safe}
 use Rattle.pool_judging.specs.Judging.{search_by, IsVerdictOn}
 use Rattle.pool_judging.proofs.Refusals.{operation_refused}
 use Rattle.pool_judging.proofs.Verdicts.{patches_at, verdict_on, never_fails, no_failure_prop}
@@ -30,9 +31,13 @@ returns-in_ok-demands-in-Ok-clause-full g c = λ is.
     let on = subst (λ (ps : List Patch). IfOk c.judge_graph.result (IsVerdictOn demands base ps)) c.graph.ensures
     c.judge_graph.ensures in
     ∥∥₁_elim j.sound (no_failure_prop c.judge_graph.result)
-    (λ sound. IfOk-weaker c.judge_graph.result _ _
+    (λ sound. let traced = c.in-Ok.ensures in
+    let safe = traced_is_safe j.ordering.now.«module» j.ordering.now.rules.items j.ordering.now.whole_blocks base
+    c.args.steps.now traced.ok.0 patches is.full is.all c.blocks-blocks.ensures.disk sound.0 sound.1 traced.names
+    traced.ok.1 traced.ok.2 in
+    IfOk-weaker c.judge_graph.result _ _
     (λ verdict is_on. never_fails j.strict j.atomic j.ordering.now.whole_blocks demands base c.args.steps.now patches verdict c.blocks-blocks.ensures.disk
-    c.in_ok-demands-in-Ok.ensures (c.in-Ok.ensures.full is.full is.all sound.0 sound.1) is_on) on)
+    c.in_ok-demands-in-Ok.ensures safe is_on) on)
 
 pub refused-requires : goal.refused-requires
 refused-requires g c =
