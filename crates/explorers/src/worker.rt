@@ -71,7 +71,8 @@ impl<'a, R: Wait, S: Space, G: Gate, A: Allocator + Copy> Job for ThreadJob<'a, 
 
     ghost use Rattle.explorers.specs.Ready.{IsReady, IsLeft};
 
-    ghost is_ready = { λ job worker. IsReady job.exploration.now.board.now job.exploration.now.space.now S.is_own worker };
+    ghost is_ready = { λ job worker.
+        IsReady job.exploration.now.board.now job.exploration.now.space.now S.is_own worker };
 
     ghost is_left = { λ job left. IsLeft job.exploration.now.board.now left };
 
