@@ -1,5 +1,6 @@
 //! The options as `clap` knows them, and its help.
 
+use crate::numbers::{BLOCKS, JOURNAL, LIMIT, Numbers, WORKERS};
 use clap::{Arg, ArgAction, Command, value_parser};
 use std::alloc::{AllocError, Global};
 
@@ -29,8 +30,8 @@ enum Takes {
     Itself,
     /// A rule. The option may be used several times.
     Rule,
-    /// A number from the first to the second, else the default.
-    Number(&'static str, i64, i64, &'static str),
+    /// One of these numbers, else the usual one.
+    Number(&'static str, Numbers),
     /// A number from the first to the second, and the option goes with none of the others.
     NumberWithout(&'static str, i64, i64, &'static [&'static str]),
     /// One of the words, else the default.
@@ -91,12 +92,12 @@ static HEADS: [Head; 5] = [
             },
             Entry {
                 name: "blocks",
-                takes: Takes::Number("N", 16, 128, "16"),
+                takes: Takes::Number("N", BLOCKS),
                 help: "Blocks of the disk, 16 to 128",
             },
             Entry {
                 name: "journal",
-                takes: Takes::Number("JL", 0, 122, "0"),
+                takes: Takes::Number("JL", JOURNAL),
                 help: "Blocks of the journal, 0 to N - 6",
             },
         ],
@@ -157,7 +158,7 @@ static HEADS: [Head; 5] = [
         entries: &[
             Entry {
                 name: "limit",
-                takes: Takes::Number("L", 1, 1_000_000_000, "4096"),
+                takes: Takes::Number("L", LIMIT),
                 help: "Most closed sets to explore, 1 to 1000000000",
             },
             Entry {
@@ -168,7 +169,7 @@ static HEADS: [Head; 5] = [
             },
             Entry {
                 name: "workers",
-                takes: Takes::Number("W", 1, 16, "1"),
+                takes: Takes::Number("W", WORKERS),
                 help: "Threads that explore or decide, 1 to 16",
             },
             Entry {
@@ -270,9 +271,10 @@ fn taking<'a>(arg: Arg<'a>, takes: &'static Takes) -> Result<Arg<'a>, AllocError
         Takes::Nothing | Takes::Itself => Ok(arg),
         Takes::NothingWithout(others) => arg.conflicts_with_all(others),
         Takes::Rule => Ok(arg.value_name("RULE")),
-        Takes::Number(symbol, from, until, default) => {
-            let among = value_parser!(usize).range(*from..=*until);
-            Ok(set(arg, symbol, default).value_parser(among))
+        Takes::Number(symbol, numbers) => {
+            let (least, most) = (i64::from(numbers.least), i64::from(numbers.most));
+            let among = value_parser!(usize).range(least..=most);
+            Ok(set(arg, symbol, numbers.shown).value_parser(among))
         }
         Takes::NumberWithout(symbol, from, until, others) => {
             let among = value_parser!(usize).range(*from..=*until);

@@ -10,12 +10,14 @@ mod arguments;
 mod faults;
 mod given_by;
 mod given_rules;
+mod numbers;
 mod rule_words;
 mod values;
 
 use crate::arguments::command;
 use crate::faults::WordFault;
 use crate::given_rules::{check_with, check_without, given_rules};
+use crate::numbers::{BLOCKS, JOURNAL, WORKERS};
 use crate::rule_words::rules_page;
 use crate::values::{explorer_of, limit_under, module_of, number_of, question_of, report_by};
 use clap::error::ErrorKind;
@@ -112,8 +114,8 @@ fn call_of<'a>(
         module,
         without,
         with,
-        blocks: number_of(matches, "blocks", 16, 128),
-        journal: number_of(matches, "journal", 0, 122),
+        blocks: number_of(matches, "blocks", BLOCKS),
+        journal: number_of(matches, "journal", JOURNAL),
         limit: limit_under(matches, explorer)?,
         explorer,
         json: matches.get_flag("json"),
@@ -128,7 +130,7 @@ fn call_of<'a>(
         request: Request {
             question: question_of(matches),
             settings,
-            workers: number_of(matches, "workers", 1, 16),
+            workers: number_of(matches, "workers", WORKERS),
         },
     })
 }

@@ -4,6 +4,7 @@ ghost use Rattle.std.specs.Prelude.{◌≡◌, ◌≤◌, IfOk};
 ghost use Rattle.command_line.specs.Ranges.{IsLimitUnder};
 
 use crate::faults::{Value, WordFault};
+use crate::numbers::{LIMIT, Numbers};
 use crate::rule_words::Why;
 use clap::ArgMatches;
 use crash_model::modules::Module;
@@ -14,18 +15,16 @@ use search_model::Most;
 /// The most sets that the board holds.
 const MAX_BOARD: usize = 32_768;
 
-/// The most closed sets that a run can be asked to explore.
-const MAX_LIMIT: usize = 1_000_000_000;
-
-/// The number given, which the parser has kept in its range.
-pub(crate) fn number_of(matches: &ArgMatches<'_>, name: &str, from: usize, until: usize) -> usize
-    requires { from ≤ until }
-    ensures low { from ≤ result }
-    ensures high { result ≤ until }
+/// The number given, which the parser has kept among those that the option takes.
+pub(crate) fn number_of(matches: &ArgMatches<'_>, name: &str, numbers: Numbers) -> usize
+    requires { (numbers.least ≤ numbers.usual) × (numbers.usual ≤ numbers.most) }
+    ensures low { numbers.least ≤ result }
+    ensures high { result ≤ numbers.most }
 {
+    let (least, most) = (numbers.least as usize, numbers.most as usize);
     match matches.get_one::<usize>(name) {
-        Some(n) if from <= n && n <= until => n,
-        _ => from,
+        Some(n) if least <= n && n <= most => n,
+        _ => numbers.usual as usize,
     }
 }
 
@@ -36,7 +35,7 @@ pub(crate) fn limit_under<'a>(
 ) -> Result<usize, WordFault<'a>>
     ensures { IfOk result (IsLimitUnder explorer) }
 {
-    let limit = number_of(matches, "limit", 1, MAX_LIMIT);
+    let limit = number_of(matches, "limit", LIMIT);
     if explorer == Explorer::Board && limit > MAX_BOARD {
         return Err(WordFault {
             option: "limit",

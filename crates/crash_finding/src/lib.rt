@@ -17,3 +17,4 @@ mod watching;
 pub use crashes::Crashes;
 pub use finder::Finder;
 pub use finding::{Found, Kept};
+pub use watching::GateWatch;

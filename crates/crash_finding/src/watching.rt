@@ -1,11 +1,11 @@
-//! A gate as the watch of a sweep.
+//! A gate as a watch.
 
 use explorers::Gate;
 use set_sweep::Watch;
 
-/// Passes the progress of a sweep on to a gate.
+/// Passes the progress of a sweep, or of a search for workloads, on to a gate.
 #[derive(Drop)]
-pub(crate) struct GateWatch<'a, G: Gate> {
+pub struct GateWatch<'a, G: Gate> {
     pub gate: &'a G,
 }
 

@@ -12,6 +12,7 @@ ghost use Rattle.crash_text.specs.Searching.{IsNoPool, IsSearchOf, IsReportBy, A
 
 use crate::host::Host;
 use crate::run::Outcome;
+use crash_finding::GateWatch;
 use crash_model::refusals::RunFault;
 use crash_model::settings::Settings;
 use crash_model::steps::{Act, Step};
@@ -22,7 +23,7 @@ use pool_judging::PoolJudge;
 use questions::Request;
 use search_model::{Found, Most, ShownKind};
 use search_report::{KindCrash, SearchFindings, search_report};
-use set_sweep::{Watch, Workers};
+use set_sweep::Workers;
 use std::alloc::{AllocError, Allocator};
 use std::sync::Wait;
 use std::thread::Threads;
@@ -34,18 +35,6 @@ pub(crate) struct Pool<'script, A: Allocator + Copy> {
     pub base: &'script Image<A>,
     pub steps: &'script [Step],
     pub most: Most,
-}
-
-/// Reports to a gate how many workloads were judged, as visited sets.
-#[derive(Drop)]
-pub(crate) struct WorkloadWatch<'a, G: Gate> {
-    pub gate: &'a G,
-}
-
-impl<'a, G: Gate> Watch for WorkloadWatch<'a, G> {
-    fn visited(&self, workloads: usize, failing: usize) {
-        self.gate.visited(workloads, failing);
-    }
 }
 
 /// Judges each workload of the pool, and reports. The first step that is no operation is refused.
@@ -103,7 +92,7 @@ where
     requires most { (1 ≤ judge.now.most) × (judge.now.most ≤ 8) }
     ensures { IfOk result (AreFound (search_by judge.now)) }
 {
-    let watch = WorkloadWatch { gate };
+    let watch = GateWatch { gate };
     let workers = Workers {
         rt,
         alloc: judge.alloc,

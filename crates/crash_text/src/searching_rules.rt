@@ -18,7 +18,8 @@ ghost use Rattle.crash_text.specs.SearchingRules.{IsRuleSearchOf, IsRuleReportBy
 
 use crate::host::Host;
 use crate::run::Outcome;
-use crate::searching::{Pool, WorkloadWatch, check_operations};
+use crate::searching::{Pool, check_operations};
+use crash_finding::GateWatch;
 use crash_model::refusals::RunFault;
 use enough_rules::EnoughSets;
 use explorers::Gate;
@@ -94,7 +95,7 @@ where
     ensures passing { IfOk result (λ searched.
         AreAllPassing (search_by judge.now) (map items_of searched.passing.items)) }
 {
-    let watch = WorkloadWatch { gate };
+    let watch = GateWatch { gate };
     let workers = Workers {
         rt,
         alloc: judge.alloc,

@@ -10,11 +10,10 @@ ghost use Rattle.explorers.specs.Ready.{IsIdle, IsReady, IsLeft};
 use crate::answers::{answer, join_all};
 use crate::exploration::Exploration;
 use crate::gate::Gate;
-use crate::jobs::share;
 use crate::met::Met;
 use crate::rows::Room;
 use crate::tasks::{Task, Tasks};
-use crate::worker::{Left, Worker};
+use crate::worker::{Left, ThreadJob, Worker};
 use hands::{Hand, hands};
 use patch_sets::explored::{ExploreFault, Explored};
 use seen_board::{Board, BoardSeat, Place};
@@ -22,6 +21,7 @@ use state_space::Space;
 use std::alloc::{AllocError, Allocator};
 use std::sync::Wait;
 use std::thread::Threads;
+use thread_jobs::run_on_threads;
 
 /// The most words that a worker keeps of those that it has met: 128 KB, which stay in its processor's cache. In a
 /// larger table more words are found, but looking for one costs what asking the board does.
@@ -100,7 +100,7 @@ where
         &mut seat,
         hands,
     )?;
-    let left = share(rt, exploration, workers)?;
+    let left = run_on_threads(rt, &ThreadJob { rt, exploration }, workers)?;
     let before = Left {
         seat,
         is_over: false,

@@ -10,7 +10,6 @@ mod expanding;
 mod exploration;
 mod exploring;
 mod gate;
-mod jobs;
 mod met;
 mod primes;
 mod rows;

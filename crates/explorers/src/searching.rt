@@ -43,7 +43,7 @@ impl<S: Space, G: Gate, A: Allocator + Copy> Exploration<'_, S, G, A> {
         ensures ready { IsReady self.now.board.now self.now.space.now S.is_own mine.new }
         ensures over { KnowsOver result mine.new }
     {
-        let count = count_of(rt, self.board, &mut mine.seat, shard);
+        let count = see_shard(rt, self.board, &mut mine.seat, shard);
         for at in mine.tried[shard as usize]..count {
             mine.tried[shard as usize] = at + 1;
             if let Turn::Over = self.visit(rt, mine, Place { shard, at })? {
@@ -54,8 +54,8 @@ impl<S: Space, G: Gate, A: Allocator + Copy> Exploration<'_, S, G, A> {
     }
 }
 
-/// The number of a shard's entries, which the seat then has seen.
-pub(crate) fn count_of<R: Wait, S: Space, A: Allocator>(
+/// Sees each entry that a shard has, and says how many they are.
+pub(crate) fn see_shard<R: Wait, S: Space, A: Allocator>(
     rt: &R,
     board: &Board<S, A>,
     seat: &mut BoardSeat,

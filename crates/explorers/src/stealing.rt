@@ -3,7 +3,7 @@ ghost use Rattle.std.specs.Prelude.{◌≡◌};
 ghost use Rattle.seen_board.specs.Clauses.{SeesOn};
 ghost use Rattle.explorers.specs.Ready.{IsIdle};
 
-use crate::searching::count_of;
+use crate::searching::see_shard;
 use seen_board::{Board, BoardSeat, shard_of};
 use state_space::Space;
 use std::alloc::Allocator;
@@ -21,6 +21,6 @@ pub(crate) fn learn<R: Wait, S: Space, A: Allocator>(
     ensures sees { SeesOn seat.old.seen seat.new.seen }
 {
     if board.find(seat, word).is_none() {
-        count_of(rt, board, seat, shard_of(word));
+        see_shard(rt, board, seat, shard_of(word));
     }
 }

@@ -4,7 +4,6 @@ ghost use Rattle.explorers.specs.Ready.{IsReady, KnowsOver};
 
 use crate::exploration::{Exploration, Turn};
 use crate::gate::Gate;
-use crate::jobs::Job;
 use crate::met::Met;
 use crate::stealing::learn;
 use crate::tasks::Tasks;
@@ -13,6 +12,7 @@ use state_space::Space;
 use std::alloc::{AllocError, Allocator};
 use std::sync::Wait;
 use std::thread::yield_now;
+use thread_jobs::Job;
 
 /// After this many rounds in a row with all deques empty, a worker searches the rows.
 const EMPTY_ROUNDS: u8 = 64;
@@ -57,21 +57,31 @@ pub(crate) struct Left {
     pub is_over: bool,
 }
 
-impl<'a, S: Space, G: Gate, A: Allocator + Copy> Job for Exploration<'a, S, G, A> {
+/// An exploration as a job for threads, whose workers wait by `rt`.
+#[derive(Drop)]
+pub(crate) struct ThreadJob<'a, R, S: Space, G, A: Allocator + Copy> {
+    pub rt: &'a R,
+    pub exploration: &'a Exploration<'a, S, G, A>,
+}
+
+impl<'a, R: Wait, S: Space, G: Gate, A: Allocator + Copy> Job for ThreadJob<'a, R, S, G, A> {
     type Worker = Worker<S::Scratch, A>;
+
+    type Left = Left;
 
     ghost use Rattle.explorers.specs.Ready.{IsReady, IsLeft};
 
-    ghost is_ready = { λ e worker. IsReady e.board.now e.space.now S.is_own worker };
+    ghost is_ready = { λ job worker.
+        IsReady job.exploration.now.board.now job.exploration.now.space.now S.is_own worker };
 
-    ghost is_left = { λ e left. IsLeft e.board.now left };
+    ghost is_left = { λ job left. IsLeft job.exploration.now.board.now left };
 
     /// Works until the board is finished, a stop was read, more words than the limit are reached or memory was
     /// refused.
-    fn work<R: Wait>(&self, rt: &R, mut worker: Worker<S::Scratch, A>) -> Left {
+    fn work(&self, mut worker: Worker<S::Scratch, A>) -> Left {
         let mut is_over = false;
-        for _ in rt.forever() {
-            match self.turn(rt, &mut worker) {
+        for _ in self.rt.forever() {
+            match self.exploration.turn(self.rt, &mut worker) {
                 Ok(Turn::Within) => {}
                 Ok(Turn::Over) => {
                     is_over = true;

@@ -9,9 +9,10 @@ ghost use Rattle.json_parts.specs.Values.{fault_json};
 use crash_model::fault::Fault;
 use json_parts::values::{fault_value, write_value};
 use patch_sets::write::BlockWrite;
-use report_sections::places::{FAULT_PLACES, place_of_fault, place_of_ids};
+use report_sections::places::{FAULT_PLACES, place_of_fault};
 use std::alloc::{AllocError, Global};
 use std::marker::Model;
+use word_places::place_of_word;
 
 /// How many texts of block writes are kept. The ids of a block write determine its block.
 const WRITE_PLACES: usize = 4096;
@@ -123,7 +124,7 @@ impl KnownTexts {
     fn known_write(&self, write: BlockWrite) -> Option<&str>
         ensures { IfSome result (λ text. text.now ≡ write_json self.now write) }
     {
-        let known = self.writes[place_of_ids(write.ids, WRITE_PLACES)].as_ref()?;
+        let known = self.writes[place_of_word(write.ids, WRITE_PLACES)].as_ref()?;
         if known.write == write {
             Some(known.text.as_str())
         } else {
@@ -148,7 +149,7 @@ impl KnownTexts {
         requires { string_bytes text ≡ write_json self.old write }
         ensures { self.new ≡ self.old }
     {
-        let place = place_of_ids(write.ids, WRITE_PLACES);
+        let place = place_of_word(write.ids, WRITE_PLACES);
         self.writes[place] = Some(KnownWrite { write, text });
     }
 

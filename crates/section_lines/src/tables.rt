@@ -7,7 +7,8 @@ ghost use Rattle.section_lines.specs.Runs.{WritesRuns};
 
 use arrayvec::ArrayString;
 use crash_model::fault::Fault;
-use report_sections::places::{FAULT_PLACES, place_of_fault, place_of_ids};
+use report_sections::places::{FAULT_PLACES, place_of_fault};
+use word_places::place_of_word;
 
 /// How many texts of block writes are kept.
 const WRITE_PLACES: usize = 1024;
@@ -55,7 +56,7 @@ impl KnownWrites {
         ensures { (patches : List Patch) → AreWriteLines patches self.now.lines
             → IfSome result (λ lines. WritesRuns patches ids [] lines.now) }
     {
-        match &self.lines[place_of_ids(ids, WRITE_PLACES)] {
+        match &self.lines[place_of_word(ids, WRITE_PLACES)] {
             Some(known) if known.ids == ids => Some(known.text.as_str()),
             _ => None,
         }
@@ -67,7 +68,7 @@ impl KnownWrites {
             → WritesRuns patches ids [] lines.now → AreWriteLines patches self.new.lines }
     {
         if let Ok(text) = ArrayString::from(lines) {
-            self.lines[place_of_ids(ids, WRITE_PLACES)] = Some(WriteLines { ids, text });
+            self.lines[place_of_word(ids, WRITE_PLACES)] = Some(WriteLines { ids, text });
         }
     }
 }

@@ -1,7 +1,7 @@
 -- Sets that agree from an id on, and what comes after them.
 use Rattle.std.proofs.Common.{◌≡◌, ◌≢◌, ℕ, zero, suc, ◌+◌, ◌-◌, ◌*◌, ◌/◌, ◌%◌, ◌^◌, ◌<◌, ◌≤◌, List, length, arith, sym}
 use Rattle.std.proofs.Common.{subst, ap, ◌∙◌, inl, inr}
-use Rattle.std.specs.Prelude.{Option, None, Some, MatchOption, bit_and, bit_or, slice_index}
+use Rattle.std.specs.Prelude.{bit_and, bit_or, slice_index}
 use Rattle.std.specs.Int.{bit_at, w128}
 use Rattle.std.specs.Int.{trailing_ones}
 use Rattle.std.proofs.lemmas.Nat.{pow_pos, pow-add, shr-shr, shr_le, shr_split, le-div, or_shr, or_disjoint, and_le_r}
@@ -12,9 +12,7 @@ use Rattle.patch_sets.specs.Sets.{Has, IsSubset}
 use Rattle.patch_sets.specs.Closed.{IsClosed}
 use Rattle.patch_sets.proofs.Bits.{and_from_subset, in_or_cases, in_or_left, in_or_right, small_from_below}
 use Rattle.patch_sets.proofs.Bits.{none_in_empty}
-use Rattle.state_space.specs.Counts.{HoldsOf, Outnumbers}
-use Rattle.set_sweep.specs.Sweeps.{IsClosure, AreClosures, IsNextOut, IsRoot, AreCounted, part_end}
-use Rattle.set_sweep.proofs.Lists.{all_swept, sweep_counts}
+use Rattle.set_sweep.specs.Sweeps.{IsClosure, AreClosures, IsNextOut, IsRoot, part_end}
 
 -- ---- the next id outside
 
@@ -201,15 +199,3 @@ closed_within deps w closed =
     let none : 0 / 2 ^ n ≡ 0 = div-eq_of_lt (pow_pos n) in
     let whole : part_end 0 n ≡ (0 + 1) * 2 ^ n = ap (λ q. (q + 1) * 2 ^ n) none in
     omega (arith, whole, small)
-
--- what was counted from the empty set on is all closed sets
-pub counted_all : (deps : List ℕ) (limit : ℕ) (answer : Option ℕ)
-    → MatchOption answer (Outnumbers (IsClosed deps) limit)
-    (λ count. AreCounted deps 0 (part_end 0 (length deps)) count × (count ≤ limit))
-    → MatchOption answer (Outnumbers (IsClosed deps) limit) (λ count. HoldsOf (IsClosed deps) count × (count ≤ limit))
-counted_all deps limit None over = over
-counted_all deps limit (Some count) is =
-    let nothing : List ℕ → Unit {0} → Type 0 = λ sets tally. Unit {0} in
-    let whole = all_swept {T = Unit {0}} nothing deps 0 (part_end 0 (length deps)) count (tt {0}) is.0
-    (λ w closed. (omega arith, closed_within deps w closed)) in
-    (sweep_counts {T = Unit {0}} nothing deps count (tt {0}) whole, is.1)

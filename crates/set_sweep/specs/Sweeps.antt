@@ -82,10 +82,6 @@ pub record AreSwept {T : Type 0} (tells : List ℕ → T → Type 0) (deps : Lis
   pub counted : length sets ≡ count
   pub told : tells sets tally
 
--- the number of those closed sets
-abbrev pub AreCounted : List ℕ → ℕ → ℕ → ℕ → Type 0
-AreCounted deps from to count = AreSwept {T = Unit {0}} (λ sets tally. Unit {0}) deps from to count (tt {0})
-
 -- Sets that cut the closed sets below a number into parts: a part has those that agree with its root from id `low` on.
 pub record AreParts (deps : List ℕ) (low to : ℕ) (roots : List ℕ) : Type 0 where
   pub each : All (IsRoot deps low) roots

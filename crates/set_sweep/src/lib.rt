@@ -7,20 +7,17 @@
 #![tactic(auto)]
 
 mod closing;
-mod counting;
 mod failing;
 mod joining;
 mod ordering;
 mod parting;
 mod remainders;
-mod sharing;
 mod sweeping;
 mod together;
 mod visitor;
 mod watching;
 mod workers;
 
-pub use counting::count_closed;
 pub use remainders::{count_by_remainder, largest};
 pub use together::Swept;
 pub use visitor::Visitor;

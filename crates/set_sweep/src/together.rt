@@ -7,7 +7,6 @@ ghost use Rattle.set_sweep.specs.Sweeps.{EachClosed, SaysTooMany, AreAllParts, I
 use crate::closing::closures;
 use crate::joining::join_parts;
 use crate::parting::{Parts, parts_of};
-use crate::sharing::{Job, share};
 use crate::sweeping::{Part, Sweeper};
 use crate::visitor::Visitor;
 use crate::watching::{Counting, Watch, Watched};
@@ -16,6 +15,7 @@ use patch_sets::explored::ExploreFault;
 use std::alloc::{AllocError, Allocator};
 use std::sync::atomic::{AtomicUsize, Ordering};
 use std::thread::Threads;
+use thread_jobs::{Job, run_on_threads};
 
 /// How many parts there are for each worker: enough that all are busy to the end.
 const PARTS: usize = 64;
@@ -130,7 +130,7 @@ where
             seen: &seen,
             alloc: self.alloc,
         };
-        let lefts = share(self.rt, &sweeping, scratches)?;
+        let lefts = run_on_threads(self.rt, &sweeping, scratches)?;
         sweeping.join_lefts(lefts)
     }
 }

@@ -8,9 +8,9 @@ pub loop-at-init : goal.loop-at-init
 loop-at-init g c =
     let free = c.requires.ready.free in
     record {
-      ready = ready_on _ _ _ c.args.mine.now.seat.seen _ free.explored free.own free.met c.count_of-count.ensures.idle
-          c.count_of-count.ensures.sees;
-      seen = c.count_of-count.ensures.seen;
+      ready = ready_on _ _ _ c.args.mine.now.seat.seen _ free.explored free.own free.met c.see_shard-count.ensures.idle
+          c.see_shard-count.ensures.sees;
+      seen = c.see_shard-count.ensures.seen;
     }
 
 pub loop-at-preserved : goal.loop-at-preserved

@@ -1,9 +1,9 @@
 use Rattle.std.specs.Prelude.{◌≡◌, false}
 use Rattle.explorers.specs.Ready.{IsReady}
-use Rattle.explorers.proofs.worker.ExplorationJob.work.Given as goal
+use Rattle.explorers.proofs.worker.ThreadJobJob.work.Given as goal
 
 abbrev pub invariant-loop : goal.invariant-loop
 invariant-loop g l = record {
-  ready : IsReady l.self.board.now l.self.space.now g.S.Space.is_own l.worker;
+  ready : IsReady l.self.exploration.now.board.now l.self.exploration.now.space.now g.S.Space.is_own l.worker;
   within : l.is_over ≡ false;
 }
