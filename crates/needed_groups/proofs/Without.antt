@@ -1,7 +1,7 @@
 -- Groups of rules that are needed, each with the first fault without it.
 use Rattle.std.proofs.Common.{◌≡◌, ℕ, ◌+◌, ◌<◌, List, [], ◌∷◌, ◌++◌, length, map, All, get_or, take, sym}
 use Rattle.std.proofs.Common.{subst, ap, ap₂, ◌∙◌}
-use Rattle.std.specs.Prelude.{None}
+use Rattle.std.specs.Prelude.{Bool, None}
 use Rattle.std.proofs.lemmas.List.{map_push, take_more}
 use Rattle.std.proofs.lemmas.List.Elements.{All-nil, All-cons, All-head, All-push, Contains-get_or}
 use Rattle.patch_sets.specs.Closed.{AreEarlier, IsClosed}

@@ -27,7 +27,8 @@ unreachable-requires g c =
     let t = o.traced.now in
     let graph = c.in_ok-graph.graph in
     let earlier = (c.in_ok-graph.ensures.graph (tracing_of base t) (one_tracing base t)).earlier in
-    let none = subst (λ first. IsToldAny (detail_with c.args.explain c.args.oracle.now.demands.now) base graph (option_map told_first first)) c.in-None.is
+    let detail = detail_with c.args.explain o.demands.now in
+    let none = subst (λ first. IsToldAny detail base graph (option_map told_first first)) c.in-None.is
     (c.in_ok-fault.ensures.told earlier) in
     c.requires (enough_where_none c.args.explain o.demands.now base t (rules_but t.rules c.args.group) graph
     c.in_ok-graph.ensures.graph none)
@@ -37,9 +38,10 @@ returns g c = λ s of_trace.
     let base = c.args.oracle.now.base.now in
     let t = c.args.oracle.now.traced.now in
     let graph = c.in_ok-graph.graph in
+    let detail = detail_with c.args.explain c.args.oracle.now.demands.now in
     let earlier = (c.in_ok-graph.ensures.graph (tracing_of base t) (one_tracing base t)).earlier in (
       graph,
       c.in_ok-graph.ensures.graph s of_trace,
-      subst (λ first. IsToldAny (detail_with c.args.explain c.args.oracle.now.demands.now) base graph (option_map told_first first)) c.in-Some.is
+      subst (λ first. IsToldAny detail base graph (option_map told_first first)) c.in-Some.is
           (c.in_ok-fault.ensures.told earlier),
     )

@@ -14,7 +14,9 @@ loop-group-preserved g c =
     record {
       groups = group_more c.args.groups.now c.loop-group.group-index c.loop-group.needs.items _ _
           c.loop-group-test.true before.groups refl c.in_ok-push.ensures.items;
-      told = λ s of_trace. told_more (IsToldGroup (detail_with c.args.explain o.demands.now) o.traced.now.rules o.base.now s)
+      told = λ s of_trace.
+          let detail = detail_with c.args.explain o.demands.now in
+          told_more (IsToldGroup detail o.traced.now.rules o.base.now s)
           c.loop-group.needs.items _ _ (before.told s of_trace) (c.in_ok-fault.ensures s of_trace)
           c.in_ok-push.ensures.items;
     }

@@ -3,11 +3,13 @@ use Rattle.crash_model.specs.Trace.{Tracing}
 use Rattle.enough_model.specs.EnoughReport.{IsToldGroup}
 use Rattle.enough_deciding.specs.Rules.{IsTracingOf}
 use Rattle.enough_report.specs.Found.{told_group}
+use Rattle.needed_groups.specs.Sparing.{detail_with}
 use Rattle.needed_groups.proofs.groups.needed_groups.Given as goal
 
 abbrev pub invariant-loop-group : goal.invariant-loop-group
 invariant-loop-group g l = record {
   groups : map (λ needed. needed.group) l.needs.items ≡ take l.group-index l.groups;
   told : (s : Tracing) → IsTracingOf l.oracle.traced.now s
-      → All (IsToldGroup l.detail l.oracle.traced.now.rules l.oracle.base.now s) (map told_group l.needs.items);
+      → All (IsToldGroup (detail_with l.explain l.oracle.demands.now) l.oracle.traced.now.rules l.oracle.base.now s)
+      (map told_group l.needs.items);
 }
