@@ -34,12 +34,43 @@ rename /d/a /a\nend\ndepend X A\ngroup B\ncreate /n\nend\ndepend X A\ngroup C\nr
 depend X C\ngroup D\nrename /d/c /c\nend\ndepend X D\ngroup E\nrename /d/e /e\nend\ndepend X E\n\
 group F\nrename /d/f /f\nend\ndepend X F\ngroup G\nmkdir /m\nend\n";
 
-/// How the reports of the two begin, as the reference prints them.
-const HEAD_OF_FEW: &str =
-    "module soft\nwithout EntrySet:InodeInit\npatches 27\nclosed 100\nfailing 24\n";
+/// Which of the two scripts is swept.
+#[derive(Clone, Copy)]
+enum Sets {
+    Few,
+    Many,
+}
 
-const HEAD_OF_MANY: &str =
-    "module soft\nwithout EntrySet:InodeInit\npatches 27\nclosed 100000\nfailing 25000\n";
+impl Sets {
+    fn script(self) -> &'static [u8] {
+        match self {
+            Sets::Few => FEW,
+            Sets::Many => MANY,
+        }
+    }
+
+    /// How its report begins, as the reference prints it.
+    fn head(self) -> &'static str {
+        match self {
+            Sets::Few => {
+                "module soft\nwithout EntrySet:InodeInit\npatches 27\nclosed 100\nfailing 24\n"
+            }
+            Sets::Many => {
+                "module soft\nwithout EntrySet:InodeInit\npatches 27\nclosed 100000\nfailing 25000\n"
+            }
+        }
+    }
+
+    /// A limit that is too low if a rule that orders renames is taken out, and high enough for each other rule.
+    fn limit(self) -> usize
+        ensures { (1 ≤ result) × (result ≤ 200000) }
+    {
+        match self {
+            Sets::Few => 130,
+            Sets::Many => 200_000,
+        }
+    }
+}
 
 /// What the second script may ask for beyond the first. A list of its failing sets would ask for 400,000 bytes.
 const MORE_REQUESTS: u64 = 16;
@@ -53,27 +84,26 @@ const TAKEN_OUT: Rule = Rule {
     scope: Scope::Same,
 };
 
-/// A sweep under soft updates without one rule. The limit is high enough also where a report by rule takes out another.
-fn settings(by: ReportBy) -> Settings
-    ensures limit { result.limit ≡ 4000000 }
+/// A sweep under soft updates without one rule.
+fn settings(by: ReportBy, limit: usize) -> Settings
+    ensures limit { result.limit ≡ limit }
     ensures explorer { result.explorer ≡ Explorer.Sweep }
 {
     let mut without = RuleList::new();
     without.push(TAKEN_OUT);
     let mut settings = plain_settings(Module::Soft);
     settings.without = without;
-    settings.limit = 4_000_000;
+    settings.limit = limit;
     settings.explorer = Explorer::Sweep;
     settings.by = by;
     settings
 }
 
-/// Runs a script in memory that is counted. Its report begins with this head.
+/// Runs a script in memory that is counted.
 fn run_counted<R: Abort + AllocGlobal + Threads + Wait + Sync>(
     rt: &R,
     memory: &Refusing<Global>,
-    script: &[u8],
-    head: &str,
+    sets: Sets,
     by: ReportBy,
     workers: usize,
 ) -> Result<(), Fail>
@@ -81,7 +111,7 @@ fn run_counted<R: Abort + AllocGlobal + Threads + Wait + Sync>(
 {
     let request = Request {
         question: Question::Visit,
-        settings: settings(by),
+        settings: settings(by, sets.limit()),
         workers,
     };
     let host = Host {
@@ -90,8 +120,8 @@ fn run_counted<R: Abort + AllocGlobal + Threads + Wait + Sync>(
         alloc: memory,
         gives_hints: false,
     };
-    let outcome = run(&host, script, &request, &OpenGate)?;
-    assert!(rt; outcome.text.as_str().starts_with(head));
+    let outcome = run(&host, sets.script(), &request, &OpenGate)?;
+    assert!(rt; outcome.text.as_str().starts_with(sets.head()));
     Ok(())
 }
 
@@ -104,9 +134,9 @@ fn asks_no_more<R: Abort + AllocGlobal + Threads + Wait + Sync>(
     requires { (1 ≤ workers) × (workers ≤ 16) }
 {
     let few = Refusing::new(rt.alloc());
-    run_counted(rt, &few, FEW, HEAD_OF_FEW, by, workers)?;
+    run_counted(rt, &few, Sets::Few, by, workers)?;
     let many = Refusing::new(rt.alloc());
-    run_counted(rt, &many, MANY, HEAD_OF_MANY, by, workers)?;
+    run_counted(rt, &many, Sets::Many, by, workers)?;
     let (few_requests, few_bytes) = (few.gauge().asked(), few.gauge().bytes());
     let (requests, bytes) = (many.gauge().asked(), many.gauge().bytes());
     assert!(rt;
