@@ -1,4 +1,4 @@
-//! The allocator of these tests refuses exactly the requests that its gauge names.
+//! The allocator of these tests refuses exactly the requests that its gauge names, and counts them and their bytes.
 
 use std::alloc::{AllocError, Global};
 use std::test::Fail;
@@ -22,6 +22,7 @@ fn refuses_the_second_request(rt: HostRuntime) -> Result<(), Fail> {
     let third = Box::new(&heap, 3u8)?;
     assert!(rt; *first == 1 && *third == 3);
     assert!(rt; heap.gauge().asked() == 3 && heap.gauge().refused() == 1);
+    assert!(rt; heap.gauge().bytes() == 3);
     heap.gauge().refuse(1, u64::MAX);
     assert!(rt; refuses_a_box(&heap));
     Ok(())

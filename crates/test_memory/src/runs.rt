@@ -3,6 +3,7 @@
 ghost use Rattle.std.specs.Prelude.{◌≤◌};
 
 use crate::answers::{Answer, Trial, answers, plain_answer};
+use crash_model::modules::Module;
 use std::alloc::Global;
 use std::process::Abort;
 use std::sync::Wait;
@@ -14,11 +15,24 @@ use test_support::refusing::Refusing;
 /// More requests than any run here makes.
 const MOST: u64 = 20_000;
 
+/// A name comes and goes under soft updates, half as many patches as a graph can have.
+const FEWER_LINKS: Asked = Asked {
+    script: b"create /a\nstart\n",
+    toggles: 31,
+    module: Module::Soft,
+    blocks: 16,
+    journal: 0,
+    strict: false,
+    closed: 63,
+    failing: 0,
+};
+
 /// The scripts, with names, that are run in text and in JSON, with one request refused at a time.
-const ALONE: [(&str, &Asked); 5] = [
+const ALONE: [(&str, &Asked); 6] = [
     ("creates", &CREATE),
     ("uses a block again", &REUSE),
     ("links to and fro", &SOFT_LINKS),
+    ("links to and fro half as often", &FEWER_LINKS),
     ("behind a journal", &JOURNAL),
     ("before a strict checker", &RENAMED),
 ];

@@ -1,15 +1,15 @@
 -- `refuses` at a call: what it is handed, and what a caller has of it. Assumes `Logic`.
-use Rattle.std.proofs.Common.{◌≡◌, ℕ, List, [], ◌∷◌, refl, ap, Bool}
+use Rattle.std.proofs.Common.{◌≡◌, ℕ, List, [], ◌∷◌, refl, ap, Bool, w64, ◌^◌, ◌<◌}
 use seplogic.Ra.Ura.{Ura}
-use mir.Val.{Val, vbool, vptr}
+use mir.Val.{Val, vbool, vint, vptr}
 use base.Logic.{SProp, ent, ex, sep, guard, id⊢}
 use base.Fml.{Lft, Share, ftrue, fsep, flft}
 use prog.Memory.{Memory}
 use prog.Routine.{Routine}
 use types.Logic.{Logic, sem}
 use contract.Monad.{Fun}
-use types.Kit.{‵, ◌⊛◌, some, later, ◌$◌, ◌∵◌, !, qed, move, keep, use1, split, join, pick, fjoin, feq_i, feq_l, check}
-use types.Kit.{show, await, updating, now as at_once, done}
+use types.Kit.{‵, ◌⊛◌, some, later, ◌$◌, ◌∵◌, !, qed, move, keep, use1, split, join, pick, fjoin, feq_i, flt_i, feq_l}
+use types.Kit.{check, show, await, updating, now as at_once, done}
 use denote.RattleType.{RattleType}
 use denote.Memory.{hidden_shr}
 use denote.Builtin.{bool}
@@ -26,26 +26,35 @@ module _ {M : Type 1} {𝓤 : Ura M} (𝓛 : Logic 𝓤) (at_mem : Memory → SP
   abbrev pub Ask : Contract 𝓤
   Ask = triple_of 𝓛 RE.signature (RE.spec 𝓛 at_mem run)
 
-  abbrev pub at_ask : Lft → Share → ℕ × ℕ → Meter.Denot → Ask.Ghost
-  at_ask κ q c m = (((κ, tt), (q, tt), tt, (record { ref_ptr = c; now = m }, tt), (vptr c.0 c.1 ∷ [], tt)), tt)
+  abbrev pub at_ask : Lft → Share → ℕ × ℕ → Meter.Denot → ℕ → Ask.Ghost
+  at_ask κ q c m n = (
+    (
+      (κ, tt),
+      (q, tt),
+      tt,
+      (record { ref_ptr = c; now = m }, (n, tt)),
+      (vptr c.0 c.1 ∷ [], (vint w64 n ∷ [], tt)),
+    ),
+    tt,
+  )
 
 module _ {M : Type 1} {𝓤 : Ura M} (𝓛 : Logic 𝓤) (at_mem : Memory → SProp 𝓤) (run : Routine → Fun 𝓤) (κ : Lft)
-    (q : Share) (c : ℕ × ℕ) (m : Meter.Denot) where
+    (q : Share) (c : ℕ × ℕ) (m : Meter.Denot) (n : ℕ) where
   open 𝓛 use {H, A}
 
-  pub Ask-goes : ent 𝓤 (sep 𝓤 (sem 𝓛 (hidden_shr Meter κ m c.0 c.1)) (A.lft κ q))
-      ((Ask 𝓛 at_mem run).pre (at_ask 𝓛 at_mem run κ q c m))
-  Ask-goes =
-      qed 𝓛 (‵ (hidden_shr Meter κ m c.0 c.1) ∷ ‵ (flft κ q) ∷ []) ∵ feq_i ! (List Val) (vptr c.0 c.1 ∷ [])
-      (vptr c.0 c.1 ∷ []) refl $ fjoin ! $
-      nothing ! $ move ! (1 ∷ []) $ fjoin ! $ nothing ! $ move ! (2 ∷ []) $ join ! $ join ! $ nothing ! $ move !
-      (1 ∷ []) $ done !
+  pub Ask-goes : n < 2 ^ 64 → ent 𝓤 (sep 𝓤 (sem 𝓛 (hidden_shr Meter κ m c.0 c.1)) (A.lft κ q))
+      ((Ask 𝓛 at_mem run).pre (at_ask 𝓛 at_mem run κ q c m n))
+  Ask-goes fits =
+      qed 𝓛 (‵ (hidden_shr Meter κ m c.0 c.1) ∷ ‵ (flft κ q) ∷ []) ∵
+      nothing ! $ flt_i ! n (2 ^ 64) fits $ feq_i ! (List Val) (vint w64 n ∷ []) (vint w64 n ∷ []) refl $ fjoin ! $
+      fjoin ! $ move ! (1 ∷ []) $ feq_i ! (List Val) (vptr c.0 c.1 ∷ []) (vptr c.0 c.1 ∷ []) refl $ fjoin ! $
+      fjoin ! $ nothing ! $ move ! (2 ∷ []) $ join ! $ join ! $ nothing ! $ move ! (1 ∷ []) $ done !
 
-  pub Ask-gives : (v : Val) → ent 𝓤 ((Ask 𝓛 at_mem run).post (at_ask 𝓛 at_mem run κ q c m) v)
+  pub Ask-gives : (v : Val) → ent 𝓤 ((Ask 𝓛 at_mem run).post (at_ask 𝓛 at_mem run κ q c m n) v)
       (H.⇛ (ex 𝓤 (λ (r : Bool). guard 𝓤 (v ≡ vbool r) (A.lft κ q))))
   Ask-gives v =
-      qed 𝓛 (types.Kit.raw ((Ask 𝓛 at_mem run).post (at_ask 𝓛 at_mem run κ q c m) v) ∷ []) ∵ updating ! $
+      qed 𝓛 (types.Kit.raw ((Ask 𝓛 at_mem run).post (at_ask 𝓛 at_mem run κ q c m n) v) ∷ []) ∵ updating ! $
       use1 𝓛 (later (some (λ (r : Bool). ((‵ (flft κ q) ⊛ ‵ ftrue) ⊛ ‵ (bool.own_val r (v ∷ []))) ⊛ some
-      (λ (ws : Unit {0} × Unit {0}). ‵ (fsep ftrue ftrue) ⊛ ‵ ftrue)))) (id⊢ 𝓤 _) $ await ! tt $ pick ! (λ r.
-      split ! $ split ! $ move ! (1 ∷ []) $ feq_l ! (λ e. split ! $ at_once ! $ show !
+      (λ (ws : Unit {0} × (Unit {0} × Unit {0})). ‵ (fsep ftrue (fsep ftrue ftrue)) ⊛ ‵ ftrue)))) (id⊢ 𝓤 _) $
+      await ! tt $ pick ! (λ r. split ! $ split ! $ move ! (1 ∷ []) $ feq_l ! (λ e. split ! $ at_once ! $ show !
       (λ (r : Bool). guard 𝓤 (v ≡ vbool r) (A.lft κ q)) r $ check ! (ap only e) $ keep ! (0 ∷ []) $ done !))

@@ -1,16 +1,17 @@
-//! An allocator for tests that counts requests for memory and refuses some of them.
+//! An allocator for tests that counts requests for memory and their bytes, and refuses some of them.
 //!
 //! Many threads may share one: a `&Refusing<Global>` is an allocator that is `Copy`, `Send` and `Sync`. That it gives
-//! blocks only of the allocator inside, and gives them back to that one, is proved; which requests it refuses is not,
-//! and tests show it.
+//! blocks only of the allocator inside, and gives them back to that one, is proved; which requests it refuses, and what
+//! it counts, is not, and tests show it.
 use std::alloc::{AllocError, Allocator};
 use std::sync::atomic::AtomicU64;
 use std::sync::atomic::Ordering::SeqCst;
 
-/// Counts requests, and says which are refused. At first none is.
+/// Counts requests and their bytes, and says which are refused. At first none is.
 #[derive(Drop)]
 pub struct Gauge {
     asked: AtomicU64,
+    bytes: AtomicU64,
     refused: AtomicU64,
     first: AtomicU64,
     last: AtomicU64,
@@ -20,17 +21,20 @@ impl Gauge {
     fn new() -> Gauge {
         Gauge {
             asked: AtomicU64::new(0),
+            bytes: AtomicU64::new(0),
             refused: AtomicU64::new(0),
             first: AtomicU64::new(1),
             last: AtomicU64::new(0),
         }
     }
 
-    /// Counts from 1 again, and refuses the requests from `first` to `last`. A grown or shrunk block is a request too.
+    /// Counts anew, and refuses the requests from `first` to `last`, of which 1 is the next. A grown or shrunk block is a
+    /// request too, for all its bytes.
     pub fn refuse(&self, first: u64, last: u64) {
         self.first.store(first, SeqCst);
         self.last.store(last, SeqCst);
         self.asked.store(0, SeqCst);
+        self.bytes.store(0, SeqCst);
         self.refused.store(0, SeqCst);
     }
 
@@ -39,14 +43,20 @@ impl Gauge {
         self.asked.load(SeqCst)
     }
 
+    /// How many bytes they asked for in all, also those that were refused.
+    pub fn bytes(&self) -> u64 {
+        self.bytes.load(SeqCst)
+    }
+
     /// How many of them were refused.
     pub fn refused(&self) -> u64 {
         self.refused.load(SeqCst)
     }
 }
 
-/// Whether the request that is made now is refused.
-fn refuses(gauge: &Gauge) -> bool {
+/// Whether the request that is made now, for so many bytes, is refused.
+fn refuses(gauge: &Gauge, size: usize) -> bool {
+    gauge.bytes.fetch_add(size as u64, SeqCst);
     let number = gauge.asked.fetch_add(1, SeqCst).wrapping_add(1);
     let refused = gauge.first.load(SeqCst) <= number && number <= gauge.last.load(SeqCst);
     if refused {
@@ -86,7 +96,7 @@ unsafe impl<B: Allocator> Allocator for Refusing<B> {
     ghost dealloc_token = { λ heap ty ptr. B.dealloc_token heap.inner ty ptr };
 
     fn allocate(&self, size: usize, align: usize) -> Result<*mut u8, AllocError> {
-        if refuses(&self.gauge) {
+        if refuses(&self.gauge, size) {
             return Err(AllocError);
         }
         self.inner.allocate(size, align)

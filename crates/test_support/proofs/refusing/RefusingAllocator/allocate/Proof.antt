@@ -110,10 +110,12 @@ module _ (Z : Al) {M : Type 1} {𝓤 : Ura M} (𝓛 : Logic 𝓤) (at_mem : Memo
         ((tt, tt), ((tt, record { fits = fn }), ((tt, record { fits = fa }), tt))) $
         let En : Env 𝓤 H = env (here Z).locals l in
         sets ! (addr ! (through ! refl (fld ! refl (stop !)))) refl (tt, tt) $
-        use2 𝓛 (raw ((Ask 𝓛 at_mem run).pre (at_ask 𝓛 at_mem run κ₁ q₁ c m))) (Ask-goes 𝓛 at_mem run κ₁ q₁ c m) $
-        calls_at ! (fm_of 𝓤 H 𝓛.laws 𝓣) (Ask 𝓛 at_mem run) kn (at_ask 𝓛 at_mem run κ₁ q₁ c m)
-        (and_then ! (get ! refl) (no_more !)) (λ u.
-        use1 𝓛 (later (some (λ (r : Bool). given (u ≡ vbool r) (‵ (flft κ₁ q₁))))) (Ask-gives 𝓛 at_mem run κ₁ q₁ c m u)
+        use2 𝓛 (raw ((Ask 𝓛 at_mem run).pre (at_ask 𝓛 at_mem run κ₁ q₁ c m n)))
+        (Ask-goes 𝓛 at_mem run κ₁ q₁ c m n fn) $
+        calls_at ! (fm_of 𝓤 H 𝓛.laws 𝓣) (Ask 𝓛 at_mem run) kn (at_ask 𝓛 at_mem run κ₁ q₁ c m n)
+        (and_then ! (get ! refl) (and_then ! (get ! refl) (no_more !))) (λ u.
+        use1 𝓛 (later (some (λ (r : Bool). given (u ≡ vbool r) (‵ (flft κ₁ q₁)))))
+        (Ask-gives 𝓛 at_mem run κ₁ q₁ c m n u)
         $ await ! tt $ pick ! (λ refused. learn ! (λ eu. lands_as ! eu refl (tt, tt) $
         first ! $ branches ! (get ! refl)
         (λ t. sets ! (agg ! (no_more !)) refl (tt, tt) $
