@@ -33,6 +33,16 @@ search_under settings most base pool ordering whole rules = record {
   most = most;
 }
 
+-- two searches under the same ordering are one
+pub same_search : (settings : Settings) (base : Disk) (pool : List Step) (m n : ℕ) (a b : Module) (v w : Bool)
+    (qs rs : List Rule) → m ≡ n → a ≡ b → v ≡ w → qs ≡ rs
+    → search_under settings m base pool a v qs ≡ search_under settings n base pool b w rs
+same_search settings base pool m n a b v w qs rs most ordering whole rules =
+    ap (λ (k : ℕ). search_under settings k base pool a v qs) most
+    ∙ (ap (λ (o : Module). search_under settings n base pool o v qs) ordering
+    ∙ (ap (λ (x : Bool). search_under settings n base pool b x qs) whole
+    ∙ ap (λ (ls : List Rule). search_under settings n base pool b w ls) rules))
+
 -- the number of a search is 1 where a workload fails
 pub number_of_failing : (none : Bool) → from_bool (not none) ≡ (if none then 0 else 1)
 number_of_failing true = refl

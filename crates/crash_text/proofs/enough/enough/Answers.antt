@@ -17,8 +17,8 @@ use Rattle.needed_groups.proofs.Without.{none_spared}
 use Rattle.crash_text.proofs.Sparing.{is_enough_report, number_of, none_number}
 use Rattle.crash_text.proofs.enough.enough.Goals as goal
 
-pub needed_groups-requires-clause-needed : goal.needed_groups-requires-clause-needed
-needed_groups-requires-clause-needed g c =
+pub needed_groups-requires : goal.needed_groups-requires
+needed_groups-requires g c =
     let script = c.args.script.now in
     let base = script.base.now in
     let t = script.traced in
