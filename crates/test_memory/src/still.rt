@@ -64,11 +64,11 @@ fn count_failing<'s, 'm>(
 
 /// How many sets a crash can leave, and how many of them fail by what is demanded of their images. Judging them makes
 /// no request.
-fn count_judged(
+fn count_judged<'m>(
     rt: &impl Abort,
     memory: Memory<'_>,
-    script: &Trace<Memory<'_>>,
-    demands: &Demands<Memory<'_>>,
+    script: &Trace<Memory<'m>>,
+    demands: &Demands<Memory<'m>>,
 ) -> Result<(u32, u32), Fail>
     requires fits { All (λ patch. patch.block < script.now.base.blocks) script.now.graph }
     requires undo { AreUndo script.now.base script.now.graph }
