@@ -1,6 +1,5 @@
 //! Tests of refused memory: a run is out of memory only if a request was refused, whichever it is; a refused call
-//! leaves its graph as it was; the calls that take no memory make no request; and a sweep that keeps no list of sets
-//! asks for no more where there are more of them.
+//! leaves its graph as it was; and the calls that take no memory make no request.
 //!
 //! What a run answers with memory refused is compared with its plain answer, whose bytes are in `cases/`.
 #![tactic(auto)]
@@ -9,8 +8,6 @@
 mod answers;
 #[cfg(test)]
 mod boards;
-#[cfg(test)]
-mod growth;
 #[cfg(test)]
 mod pushes;
 #[cfg(test)]
