@@ -1,4 +1,4 @@
--- What is told of groups of rules of which one is needed.
+-- What a report says about groups of rules of which one is needed.
 use Rattle.std.proofs.Common.{◌≡◌, ℕ, List, [], ◌∷◌, map, get_or, refl, ap}
 use Rattle.std.proofs.lemmas.List.Elements.{Contains-get_or}
 use Rattle.std.specs.Prelude.{All}
@@ -7,7 +7,7 @@ use Rattle.crash_model.specs.declared.steps.Step.{Step}
 use Rattle.search_rules_report.specs.Findings.{told_need}
 use Rattle.search_rules_report.specs.declared.findings.NeededWorkload.{NeededWorkload}
 
--- the groups that are told are those of the workloads
+-- the groups in the report are those of the workloads
 pub told_groups : {A : Type 0} (pool : List Step) (needs : List (NeededWorkload A))
     → map (λ told. told.group) (map (told_need pool) needs) ≡ map (λ needed. needed.group) needs
 told_groups pool [] = refl

@@ -14,7 +14,7 @@ use Rattle.traced_patches.specs.Traced.{TracedPatches}
 use Rattle.report_sections.specs.Bodies.{AreOnBase, AreClosed, explanation_by}
 use Rattle.decision_report.specs.declared.decision.Decision.{Decision}
 
--- what the decision tells of a set
+-- what the decision says about a set
 abbrev pub detail_by : {A : Type 0} → Decision A → Detail
 detail_by decision = detail_of decision.settings.now decision.demands.now
 

@@ -26,7 +26,7 @@ group_more {A = A} groups i needs after needed within so_far is more =
     ap (map group) more ∙ (map_push group needs needed
     ∙ (ap₂ (λ (gs : List ℕ) (g : ℕ). gs ++ g ∷ []) so_far is ∙ sym (take_more groups i 0 within)))
 
--- and what is told of it
+-- and what the report says about it
 pub told_more : {A : Type 0} (P : ToldNeed → Type 0) (pool : List Step) (needs after : List (NeededWorkload A))
     (needed : NeededWorkload A) → All P (map (told_need pool) needs) → P (told_need pool needed)
     → after ≡ needs ++ needed ∷ [] → All P (map (told_need pool) after)

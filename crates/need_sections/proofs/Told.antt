@@ -1,4 +1,4 @@
--- The first workload that fails without a group of rules, and what is told of it.
+-- The first workload that fails without a group of rules, and what the report says about it.
 use Rattle.std.proofs.Common.{◌≡◌, ℕ, ◌<◌, List, Bool, length, refl, subst, sym, ◌∙◌}
 use Rattle.std.specs.Prelude.{None}
 use Rattle.std.specs.List.{All}

@@ -1,4 +1,4 @@
--- Rules that an ordering cannot do without, and what is told of them.
+-- Rules that an ordering cannot do without, and what a report says about them.
 use Rattle.std.specs.Prelude.{ℕ, Bool}
 use Rattle.crash_model.specs.Checker.{Demands}
 use Rattle.report_model.specs.Report.{Detail}
@@ -6,7 +6,7 @@ use Rattle.enough_model.specs.Enough.{AreEnough, rules_but}
 use Rattle.enough_deciding.specs.Rules.{tracing_of}
 use Rattle.enough_deciding.specs.declared.oracle.RuleOracle.{RuleOracle}
 
--- what is told of a set where replay is to be explained or not, by what is demanded of its image
+-- what a report says about a set: whether it explains replay, and what is demanded of the image
 abbrev pub detail_with : Bool → Demands → Detail
 detail_with explain demands = record { explain = explain; demands = demands }
 

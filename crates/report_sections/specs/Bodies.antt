@@ -37,7 +37,7 @@ pub record CanTell {A : Type 0} (report : Report A) : Type 0 where
   pub on_base : AreOnBase report.base.now report.traced.now.patches
   pub closed : AreClosed report.traced.now.patches (sets_of report.body)
 
--- what the report tells of a set
+-- what the report says about a set
 abbrev pub detail_by : {A : Type 0} → Report A → Detail
 detail_by report = detail_of report.settings.now report.demands.now
 

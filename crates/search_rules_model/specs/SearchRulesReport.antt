@@ -24,7 +24,7 @@ use Rattle.search_model.specs.Workloads.{Search, IsOperation, HasPatches, steps_
 use Rattle.search_model.specs.declared.found.Found.{Found}
 use Rattle.search_rules_model.specs.EnoughFor.{FailsBy, IsMinimalInSearch, IsNeededInSearch, search_with}
 
--- what is told of a group of rules of which one is needed: the group; of the first workload that fails without it the
+-- the entry of a group of rules of which one is needed: the group; of the first workload that fails without it the
 -- places, the steps and how many patches it has; and the first fault that a crash of it leaves then
 pub record ToldNeed : Type 0 where
   pub group : ℕ

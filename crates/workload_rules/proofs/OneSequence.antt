@@ -37,7 +37,7 @@ fails_by_fewer s few many places among (demands, patches, is, (set, failing)) =
 
 module _ (s : Search) (places : List ℕ) (last : Tracing) (demands : Demands) (traced : trace_at s places ≡ Ok last)
     (told : AreDemands s.strict s.atomic s.base (steps_at s.pool places) demands) where
-  -- a sequence has one graph, and what a checker is told of it is one
+  -- a sequence has one graph, and demands of its images that are determined
   pub enough_at : (rules : List Rule) → AreEnough demands s.base last rules → ¬ (Fails (search_with s rules) places)
   enough_at rules enough (other, others, is, (set, failing)) =
       let same : is.last ≡ last = one_ok (trace_at s places) is.last last is.traced traced in

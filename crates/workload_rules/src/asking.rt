@@ -12,8 +12,8 @@ use crate::judge::RuleJudge;
 use search_model::Places;
 use std::alloc::AllocError;
 
-/// What a judge tells of the first workload for which the set is not enough, or `None` where it is enough for each. Of
-/// the workloads those are asked that part number `part` gets, where they are dealt out to so many parts in turn.
+/// What a judge says about the first workload for which the set is not enough, or `None` if it is enough for each. The
+/// workloads are dealt out to the parts in turn, and the judge is asked only about those of part number `part`.
 ///
 /// # Errors
 ///

@@ -1,6 +1,6 @@
 //! Which rules of an ordering all workloads of a search need, asked of the workloads that do not fail.
 //!
-//! A judge tells of one workload whether rules are enough for it. What it tells of one after another says which sets of
+//! A judge says whether rules are enough for one workload. What it says about one after another shows which sets of
 //! rules are enough for all of them together, and which groups are needed.
 #![tactic(auto)]
 
