@@ -8,12 +8,9 @@ use crate::numbers::{LIMIT, Numbers};
 use crate::rule_words::Why;
 use clap::ArgMatches;
 use crash_model::modules::Module;
-use crash_model::settings::{Explorer, ReportBy};
+use crash_model::settings::{Explorer, MAX_BOARD, ReportBy};
 use questions::Question;
 use search_model::Most;
-
-/// The most sets that the board holds.
-const MAX_BOARD: usize = 32_768;
 
 /// The number given, which the parser has kept among those that the option takes.
 pub(crate) fn number_of(matches: &ArgMatches<'_>, name: &str, numbers: Numbers) -> usize

@@ -1,5 +1,6 @@
 -- How many sets can be explored, and by whom.
 use Rattle.std.specs.Prelude.{◌≡◌, ◌≢◌, ℕ, ◌≤◌, List}
+use Rattle.crash_model.specs.declared.settings.TheConstants.{MAX_BOARD, MAX_LIMIT}
 use Rattle.crash_model.specs.Patches.{ExceedsLimit}
 use Rattle.crash_model.specs.declared.patches.Patch.{Patch}
 use Rattle.crash_model.specs.declared.refusals.RunFault.{RunFault}
@@ -10,7 +11,7 @@ use Rattle.crash_model.specs.declared.settings.Settings.{Settings}
 -- the limit is one that the explorer can reach: the board holds at most 32,768 sets
 abbrev pub IsExplorable : Settings → Type 0
 IsExplorable settings =
-    (1 ≤ settings.limit) × (settings.limit ≤ 1000000000) × (settings.explorer ≡ Board → settings.limit ≤ 32768)
+    (1 ≤ settings.limit) × (settings.limit ≤ MAX_LIMIT) × (settings.explorer ≡ Board → settings.limit ≤ MAX_BOARD)
 
 -- unless it is out of memory, the one reason to refuse is that a crash can leave more sets than the limit
 abbrev pub SaysTooMany : List Patch → ℕ → RunFault → Type 0

@@ -15,10 +15,9 @@ ghost use Rattle.crash_finding.specs.Limits.{SaysTooMany};
 
 use crate::crashes::Crashes;
 use crate::finder::Finder;
-use crate::on_board::MAX_BOARD;
 use crash_model::fault::FaultRow;
 use crash_model::refusals::RunFault;
-use crash_model::settings::{Explorer, ReportBy};
+use crash_model::settings::{Explorer, MAX_BOARD, ReportBy};
 use explorers::{Explored, Gate};
 use fault_summary::{FailingCount, fault_rows};
 use patch_graph::Graph;
@@ -151,7 +150,7 @@ where
 
     /// Whether the sweep explores. Otherwise a board can hold as many sets as the limit allows.
     fn sweeps(&self) -> bool
-        ensures { (¬ (IsTrue result)) → self.now.settings.now.limit ≤ 32768 }
+        ensures { (¬ (IsTrue result)) → self.now.settings.now.limit ≤ MAX_BOARD }
     {
         match self.settings.explorer {
             Explorer::Auto => self.settings.limit > MAX_BOARD,

@@ -10,15 +10,13 @@ use crate::crashes::Crashes;
 use crate::finder::Finder;
 use crash_image::{PatchSpace, exploring_finds_the_failing_sets, reach_is_the_closed_sets};
 use crash_model::refusals::RunFault;
+use crash_model::settings::MAX_BOARD;
 use explorers::{ExploreFault, Explored, Gate, Room, SHARDS, explore, prime_at_least};
 use fault_deciding::dependencies::dependencies;
 use set_sweep::{count_by_remainder, largest};
 use std::alloc::Allocator;
 use std::sync::Wait;
 use std::thread::Threads;
-
-/// How many sets a board can hold.
-pub(crate) const MAX_BOARD: usize = 32_768;
 
 impl<R, A, G> Finder<'_, R, A, G>
 where
@@ -35,7 +33,7 @@ where
         &self,
         crashes: &Crashes<'_, A>,
     ) -> Result<Explored<A>, RunFault>
-        requires small { self.now.settings.now.limit ≤ 32768 }
+        requires small { self.now.settings.now.limit ≤ MAX_BOARD }
         ensures total { IfOk result (λ found. CountsClosed crashes.now.graph.now found.total) }
         ensures within { IfOk result (λ found. found.total ≤ self.now.settings.now.limit) }
         ensures failing { IfOk result (λ found. AreAllInOrder (Fails crashes.now) found.broken.items) }

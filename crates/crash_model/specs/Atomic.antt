@@ -2,6 +2,7 @@
 use Rattle.std.specs.Prelude.{◌≡◌, ℕ, List, [], ◌∷◌, ◌++◌, Bool, false, ◌&&◌, ◌||◌, ◌==◌, not, nat_le, bytes_eq}
 use Rattle.std.specs.Prelude.{if◌then◌else◌, Option, Some, None}
 use Rattle.std.specs.List.{range_with_len, list_any, list_all}
+use Rattle.crash_model.specs.declared.disk_bytes.TheConstants.{INODES, SLOTS}
 use Rattle.crash_model.specs.Disk.{Disk, block_of}
 use Rattle.crash_model.specs.Layout.{pointer_of, is_pointer}
 use Rattle.crash_model.specs.Strict.{disk_after}
@@ -34,7 +35,7 @@ disks_of base steps = disks_from [] base steps
 abbrev pub is_pointed_to : Disk → ℕ → Bool
 is_pointed_to d block =
     list_any (λ inode. list_any (λ slot. is_pointer d inode slot && pointer_of d inode slot == block)
-    (range_with_len 0 4)) (range_with_len 0 16)
+    (range_with_len 0 SLOTS)) (range_with_len 0 INODES)
 
 -- a block that is compared: the map, the inodes, and what live inodes point to
 abbrev pub is_compared : Disk → ℕ → Bool

@@ -1,6 +1,7 @@
 -- The six faults of an image, and their order.
 use Rattle.std.specs.Prelude.{◌≡◌, ℕ, List, [], ◌++◌, length, Bool, ◌&&◌, ◌||◌, ◌==◌, not, nat_lt, Option}
-use Rattle.crash_model.specs.declared.disk_bytes.TheConstants.{FILE_KIND, DIRECTORY_KIND, FILE_MARK, DIRECTORY_MARK}
+use Rattle.crash_model.specs.declared.disk_bytes.TheConstants.{INODES, SLOTS, ENTRIES, FILE_KIND, DIRECTORY_KIND}
+use Rattle.crash_model.specs.declared.disk_bytes.TheConstants.{FILE_MARK, DIRECTORY_MARK}
 use Rattle.crash_model.specs.Disk.{Disk, byte}
 use Rattle.crash_model.specs.Layout.{kind_of, links_of, pointer_of, map_of, is_live, is_data, is_entry, target_of}
 use Rattle.crash_model.specs.Layout.{is_pointer}
@@ -10,11 +11,11 @@ use Rattle.crash_model.specs.declared.fault.Fault.TheVariants.{Dangling, Twice, 
 
 -- what a test finds for each slot, by inode and slot
 unfoldable pub each_slot : {X : Type 0} → (ℕ → ℕ → Option X) → List X
-each_slot at = each_below 16 (λ inode. some_below 4 (at inode))
+each_slot at = each_below INODES (λ inode. some_below SLOTS (at inode))
 
 -- what a test finds for each entry, by directory and place
 unfoldable pub each_entry : {X : Type 0} → (ℕ → ℕ → Option X) → List X
-each_entry at = each_below 16 (λ dir. some_below 10 (at dir))
+each_entry at = each_below INODES (λ dir. some_below ENTRIES (at dir))
 
 -- 1: an entry whose target is no live inode
 abbrev pub is_dangling : Disk → ℕ → ℕ → Bool
@@ -72,7 +73,7 @@ faults d =
     each_entry (λ dir k. when (is_dangling d dir k) (Dangling dir k (target_of d dir k)))
     ++ some_below d.blocks (λ block. when (is_twice d block) (Twice block))
     ++ each_slot (λ inode slot. when (is_unwritten d inode slot) (Unwritten inode slot (pointer_of d inode slot)))
-    ++ some_below 16 (λ inode.
+    ++ some_below INODES (λ inode.
     when (has_low_links d inode) (LowLinks inode (length (entries_to d inode)) (links_of d inode)))
     ++ each_slot (λ inode slot. when (is_marked_free d inode slot) (MarkedFree inode slot (pointer_of d inode slot)))
     ++ each_slot (λ inode slot. when (is_wild d inode slot) (Wild inode slot (pointer_of d inode slot)))

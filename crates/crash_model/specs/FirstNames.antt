@@ -1,10 +1,11 @@
 -- How names and paths are read: by their length, and name by name. No answer of a run depends on these.
 use Rattle.std.specs.Prelude.{◌≡◌, ℕ, ◌≤◌, ◌<◌, List, [], ◌∷◌, ◌++◌, length}
+use Rattle.crash_model.specs.declared.disk_bytes.TheConstants.{LONGEST_NAME}
 use Rattle.crash_model.specs.Names.{IsName}
 
 -- 1 to 10 bytes
 abbrev pub IsShort : List ℕ → Type 0
-IsShort word = (0 < length word) × (length word ≤ 10)
+IsShort word = (0 < length word) × (length word ≤ LONGEST_NAME)
 
 abbrev pub IsNothingOrSlash : List ℕ → Type 0
 IsNothingOrSlash [] = Unit {0}

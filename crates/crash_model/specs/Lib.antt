@@ -2,6 +2,7 @@ pub mod Lists
 pub mod Names
 pub mod FirstNames
 pub mod Refusals
+pub mod ExploreRefusals
 pub mod RefusalLine
 pub mod Disk
 pub mod Layout

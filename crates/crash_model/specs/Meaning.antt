@@ -1,5 +1,6 @@
 -- What each operation means for a disk's view, and when it is refused.
 use Rattle.std.specs.Prelude.{◌≡◌, ◌≢◌, ℕ, ◌+◌, ◌<◌, ◌≤◌, ◌⊎◌, ◌↔◌, List, [], ◌∷◌}
+use Rattle.crash_model.specs.declared.disk_bytes.TheConstants.{JOURNAL_AT, INODES, SLOTS, MOST_LINKS, ENTRIES}
 use Rattle.crash_model.specs.declared.disk_bytes.TheConstants.{FILE_KIND, DIRECTORY_KIND}
 use Rattle.crash_model.specs.View.{View}
 use Rattle.crash_model.specs.declared.names.Path.{Path}
@@ -52,13 +53,13 @@ abbrev pub IsInode : View → ℕ → Type 0
 IsInode v i = (kind : ℕ) × (links : ℕ) × v.inode i kind links
 
 abbrev pub IsFreeInode : View → ℕ → Type 0
-IsFreeInode v i = (i < 16) × (¬ (IsInode v i))
+IsFreeInode v i = (i < INODES) × (¬ (IsInode v i))
 
 abbrev pub IsFreeBlock : ℕ → ℕ → View → ℕ → Type 0
-IsFreeBlock blocks journal v b = (4 + journal ≤ b) × (b < blocks) × (¬ (v.used b))
+IsFreeBlock blocks journal v b = (JOURNAL_AT + journal ≤ b) × (b < blocks) × (¬ (v.used b))
 
 abbrev pub IsFreeSlot : View → ℕ → ℕ → Type 0
-IsFreeSlot v i s = (s < 4) × ((b : ℕ) → ¬ (v.pointer i s b))
+IsFreeSlot v i s = (s < SLOTS) × ((b : ℕ) → ¬ (v.pointer i s b))
 
 -- ---- what each operation gains and loses
 
@@ -175,10 +176,10 @@ test fails fault = record { fails = fails; fault = fault }
 -- ten different names
 abbrev pub IsFull : View → ℕ → Type 0
 IsFull v dir =
-    (name : ℕ → List ℕ) × ((k : ℕ) → k < 10 → LeadsTo v dir (name k)) × ((j k : ℕ) → j < k → k < 10 → name j ≢ name k)
+    (name : ℕ → List ℕ) × ((k : ℕ) → k < ENTRIES → LeadsTo v dir (name k)) × ((j k : ℕ) → j < k → k < ENTRIES → name j ≢ name k)
 
 abbrev pub NoInodeLeft : View → Type 0
-NoInodeLeft v = (i : ℕ) → i < 16 → IsInode v i
+NoInodeLeft v = (i : ℕ) → i < INODES → IsInode v i
 
 abbrev pub NoBlockLeft : ℕ → ℕ → View → Type 0
 NoBlockLeft blocks journal v = (b : ℕ) → ¬ (IsFreeBlock blocks journal v b)
@@ -196,7 +197,7 @@ AtName v path Then fault =
 abbrev pub Relinks : View → Path → Path → FsFault → Type 0
 Relinks v old new = AtName v old (λ _ i. AtPath v new (λ dir. RefusedBy
     (test (LeadsTo v dir new.last) Exists ∷ test (¬ (IsKind v i FILE_KIND)) NotAFile ∷ test (IsFull v dir) DirectoryFull
-    ∷ test (v.inode i FILE_KIND 8) LinksFull ∷ [])))
+    ∷ test (v.inode i FILE_KIND MOST_LINKS) LinksFull ∷ [])))
 
 abbrev pub IsRefused : ℕ → ℕ → View → Op → FsFault → Type 0
 IsRefused blocks journal v (Create path) = AtPath v path (λ dir. RefusedBy

@@ -1,6 +1,7 @@
 -- Names of directory entries and of groups.
 use Rattle.std.specs.Prelude.{ℕ, ◌≤◌, ◌<◌, List, length, Bool, ◌&&◌, ◌||◌, nat_le, IsTrue}
 use Rattle.std.specs.List.{list_all}
+use Rattle.crash_model.specs.declared.disk_bytes.TheConstants.{LONGEST_NAME}
 
 -- a to z, or 0 to 9
 abbrev pub is_name_byte : ℕ → Bool
@@ -13,7 +14,7 @@ is_group_byte c = is_name_byte c || (nat_le 65 c && nat_le c 90)
 -- 1 to 10 bytes that pass
 pub record IsWord (passes : ℕ → Bool) (word : List ℕ) : Type 0 where
   pub some : 0 < length word
-  pub few : length word ≤ 10
+  pub few : length word ≤ LONGEST_NAME
   pub plain : IsTrue (list_all passes word)
 
 abbrev pub IsName : List ℕ → Type 0

@@ -1,6 +1,7 @@
 -- Patches, and the disk that a set of them leaves.
 use Rattle.std.specs.Prelude.{◌≡◌, ℕ, ◌+◌, ◌*◌, List, [], ◌∷◌, length, map, slice_range, Bool, ◌&&◌, ◌==◌, nat_lt}
 use Rattle.std.specs.Prelude.{if◌then◌else◌}
+use Rattle.crash_model.specs.declared.disk_bytes.TheConstants.{BLOCK_SIZE}
 use Rattle.state_space.specs.Counts.{HoldsOf, Outnumbers}
 use Rattle.patch_sets.specs.Sets.{has}
 use Rattle.patch_sets.specs.Closed.{IsClosed}
@@ -53,5 +54,5 @@ image_of base patches set = image_from 0 base (places_of patches) set
 abbrev pub AreUndo : Disk → List Patch → Type 0
 AreUndo d [] = Unit {0}
 AreUndo d (p ∷ ps) =
-    (p.undo.items ≡ slice_range d.bytes (128 * p.block + p.offset) (128 * p.block + p.offset + length p.new.items))
+    (p.undo.items ≡ slice_range d.bytes (BLOCK_SIZE * p.block + p.offset) (BLOCK_SIZE * p.block + p.offset + length p.new.items))
     × AreUndo (with_bytes d p.block p.offset p.new.items) ps

@@ -2,12 +2,13 @@
 use Rattle.std.specs.Prelude.{ℕ, ◌+◌, ◌-◌, ◌*◌, ◌/◌, ◌%◌, List, [], ◌∷◌, ◌++◌, length, replicate, Bool, ◌&&◌, ◌==◌, not}
 use Rattle.std.specs.Prelude.{nat_le, nat_lt, if◌then◌else◌, Option, Some, None, is_some, option_to_list, Result, Ok}
 use Rattle.std.specs.Prelude.{Err, bytes_eq}
-use Rattle.crash_model.specs.declared.disk_bytes.TheConstants.{FREE_KIND, FILE_KIND, DIRECTORY_KIND, FILE_MARK}
-use Rattle.crash_model.specs.declared.disk_bytes.TheConstants.{DIRECTORY_MARK}
+use Rattle.crash_model.specs.declared.disk_bytes.TheConstants.{INODES, INODE_SIZE, POINTERS_FROM, SLOTS, MOST_LINKS}
+use Rattle.crash_model.specs.declared.disk_bytes.TheConstants.{ENTRIES, ENTRY_SIZE, LONGEST_NAME, FREE_KIND}
+use Rattle.crash_model.specs.declared.disk_bytes.TheConstants.{FILE_KIND, DIRECTORY_KIND, FILE_MARK, DIRECTORY_MARK}
 use Rattle.crash_model.specs.Lists.{first_below, some_below, when}
 use Rattle.crash_model.specs.Disk.{Disk, with_bytes}
 use Rattle.crash_model.specs.Layout.{kind_of, links_of, pointer_of, map_of, is_live, is_data, counts, entry_of}
-use Rattle.crash_model.specs.Layout.{is_entry, target_of, spelling_of, entry_offset}
+use Rattle.crash_model.specs.Layout.{is_entry, target_of, spelling_of, inode_block, inode_offset, entry_offset}
 use Rattle.crash_model.specs.declared.operations.Op.{Op}
 use Rattle.crash_model.specs.declared.names.Path.{Path}
 use Rattle.crash_model.specs.declared.operations.Op.TheVariants.{Create, Write, Link, Unlink, Rename, Mkdir, Rmdir}
@@ -40,7 +41,7 @@ with_found (Some x) fault answer = answer x
 
 -- an entry's bytes 1 to 11 for a name
 abbrev pub name_spelling : List ℕ → List ℕ
-name_spelling name = length name ∷ name ++ replicate (10 - length name) 0
+name_spelling name = length name ∷ name ++ replicate (LONGEST_NAME - length name) 0
 
 -- entry k has the name, and its target is live
 abbrev pub is_named : Disk → ℕ → List ℕ → ℕ → Bool
@@ -49,7 +50,7 @@ is_named d dir name k =
 
 -- the lowest entry of this name, in a directory that counts, whose target is live
 abbrev pub entry_named : Disk → ℕ → List ℕ → Option ℕ
-entry_named d dir name = first_below 10 (is_named d dir name)
+entry_named d dir name = first_below ENTRIES (is_named d dir name)
 
 -- the directory that a name leads to
 abbrev pub directory_named : Disk → ℕ → List ℕ → Result ℕ FsFault
@@ -78,7 +79,7 @@ abbrev pub is_free_inode : Disk → ℕ → Bool
 is_free_inode d i = kind_of d i == FREE_KIND
 
 abbrev pub free_inode : Disk → Option ℕ
-free_inode d = first_below 16 (is_free_inode d)
+free_inode d = first_below INODES (is_free_inode d)
 
 abbrev pub is_free_block : Disk → ℕ → Bool
 is_free_block d b = is_data d b && map_of d b == 0
@@ -90,13 +91,13 @@ abbrev pub is_free_entry : Disk → ℕ → ℕ → Bool
 is_free_entry d dir k = counts d dir && entry_of d dir k == 0
 
 abbrev pub free_entry : Disk → ℕ → Option ℕ
-free_entry d dir = first_below 10 (is_free_entry d dir)
+free_entry d dir = first_below ENTRIES (is_free_entry d dir)
 
 abbrev pub is_free_slot : Disk → ℕ → ℕ → Bool
 is_free_slot d inode s = pointer_of d inode s == 0
 
 abbrev pub free_slot : Disk → ℕ → Option ℕ
-free_slot d inode = first_below 4 (is_free_slot d inode)
+free_slot d inode = first_below SLOTS (is_free_slot d inode)
 
 -- ---- the changes
 
@@ -105,25 +106,25 @@ change role block offset new = record { block = block; offset = offset; new = re
 
 -- from a byte of an inode on
 abbrev pub at_inode : Role → ℕ → ℕ → List ℕ → Change
-at_inode role inode from new = change role (2 + inode / 8) (16 * (inode % 8) + from) new
+at_inode role inode from new = change role (inode_block inode) (inode_offset inode + from) new
 
 abbrev pub inode_init : ℕ → ℕ → Change
 inode_init inode kind = at_inode InodeInit inode 0 (kind ∷ 1 ∷ replicate 14 0)
 
 abbrev pub inode_free : ℕ → Change
-inode_free inode = at_inode InodeFree inode 0 (replicate 16 0)
+inode_free inode = at_inode InodeFree inode 0 (replicate INODE_SIZE 0)
 
 abbrev pub link_count : Role → ℕ → ℕ → Change
 link_count role inode links = at_inode role inode 1 (links ∷ [])
 
 abbrev pub pointer_set : ℕ → ℕ → ℕ → Change
-pointer_set inode slot block = at_inode Ptr inode (4 + slot) (block ∷ [])
+pointer_set inode slot block = at_inode Ptr inode (POINTERS_FROM + slot) (block ∷ [])
 
 abbrev pub entry_set : Disk → ℕ → ℕ → ℕ → List ℕ → Change
 entry_set d dir k inode name = change EntrySet (pointer_of d dir 0) (entry_offset k) ((inode + 1) ∷ name_spelling name)
 
 abbrev pub entry_clear : Disk → ℕ → ℕ → Change
-entry_clear d dir k = change EntryClear (pointer_of d dir 0) (entry_offset k) (replicate 12 0)
+entry_clear d dir k = change EntryClear (pointer_of d dir 0) (entry_offset k) (replicate ENTRY_SIZE 0)
 
 abbrev pub map_set : ℕ → Change
 map_set block = change MapSet 1 block (1 ∷ [])
@@ -139,12 +140,12 @@ abbrev pub map_clear_at : Disk → ℕ → ℕ → Option Change
 map_clear_at d inode slot = let block = pointer_of d inode slot in when (is_data d block) (map_clear block)
 
 abbrev pub map_clears : Disk → ℕ → List Change
-map_clears d inode = some_below 4 (map_clear_at d inode)
+map_clears d inode = some_below SLOTS (map_clear_at d inode)
 
 -- ---- the operations
 
 abbrev pub has_entries : Disk → ℕ → Bool
-has_entries d dir = is_some (first_below 10 (is_entry d dir))
+has_entries d dir = is_some (first_below ENTRIES (is_entry d dir))
 
 -- one more name for a file, and then more changes, made of the old directory and entry and of the file
 abbrev pub relink_plan : Disk → Path → Path → (ℕ → ℕ → ℕ → List Change) → Result (List Change) FsFault
@@ -153,7 +154,7 @@ relink_plan d old new more =
     unless (is_some (entry_named d dir name)) Exists
     (unless (not (kind_of d target == FILE_KIND)) NotAFile
     (with_found (free_entry d dir) DirectoryFull (λ k.
-    unless (nat_le 8 (links_of d target)) LinksFull
+    unless (nat_le MOST_LINKS (links_of d target)) LinksFull
     (Ok (link_count LinkUp target (links_of d target + 1) ∷ entry_set d dir k target name
     ∷ more old_dir old_k target)))))))
 

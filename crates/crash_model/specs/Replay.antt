@@ -2,7 +2,7 @@
 use Rattle.std.specs.Prelude.{ℕ, zero, suc, ◌+◌, List, [], ◌∷◌, flat_map, take, drop, slice_index, Bool, true, ◌&&◌}
 use Rattle.std.specs.Prelude.{◌||◌, ◌==◌, nat_le, nat_lt, if◌then◌else◌, Option, None, unwrap_or, option_map, position}
 use Rattle.std.specs.List.{range_with_len, list_all}
-use Rattle.crash_model.specs.declared.disk_bytes.TheConstants.{COMMITTED_MARK, DONE_MARK}
+use Rattle.crash_model.specs.declared.disk_bytes.TheConstants.{JOURNAL_AT, MOST_TARGETS, COMMITTED_MARK, DONE_MARK}
 use Rattle.crash_model.specs.Disk.{Disk, block_of}
 use Rattle.crash_model.specs.Layout.{is_data}
 
@@ -25,9 +25,9 @@ is_ascending (x ∷ y ∷ ys) = nat_lt x y && is_ascending (y ∷ ys)
 -- the bytes of block j make it a header for transaction t
 abbrev pub is_header : Disk → ℕ → ℕ → List ℕ → Bool
 is_header d j t row =
-    nat_lt j (4 + d.journal) && (slice_index row 0 == COMMITTED_MARK || slice_index row 0 == DONE_MARK)
+    nat_lt j (JOURNAL_AT + d.journal) && (slice_index row 0 == COMMITTED_MARK || slice_index row 0 == DONE_MARK)
     && slice_index row 1 == t
-    && nat_le 1 (count_of row) && nat_le (count_of row) 8 && nat_le (j + count_of row) (3 + d.journal)
+    && nat_le 1 (count_of row) && nat_le (count_of row) MOST_TARGETS && nat_le (j + count_of row) (3 + d.journal)
     && is_ascending (targets_of row) && list_all (is_target d) (targets_of row)
 
 -- The headers from block j and transaction t on, each after the copies of the one before: the longest such list,
@@ -38,7 +38,7 @@ headers_from (suc most) d j t =
     if is_header d j t (block_of d j) then j ∷ headers_from most d (j + 1 + count_of (block_of d j)) (t + 1) else []
 
 abbrev pub headers : Disk → List ℕ
-headers d = headers_from d.journal d 4 1
+headers d = headers_from d.journal d JOURNAL_AT 1
 
 -- where the header at block j, of these bytes, has a committed copy of a block
 abbrev pub copy_in : List ℕ → ℕ → ℕ → Option ℕ

@@ -2,7 +2,7 @@
 use Rattle.std.specs.Prelude.{◌≡◌, ℕ, zero, suc, ◌<◌, List, [], ◌∷◌, ◌++◌, Bool, true, false, ◌&&◌, ◌||◌, ◌==◌, not}
 use Rattle.std.specs.Prelude.{Option, Some, None}
 use Rattle.std.specs.List.{range_with_len, list_any}
-use Rattle.crash_model.specs.declared.disk_bytes.TheConstants.{DIRECTORY_KIND}
+use Rattle.crash_model.specs.declared.disk_bytes.TheConstants.{INODES, ENTRIES, DIRECTORY_KIND}
 use Rattle.patch_sets.specs.Sets.{has, ids_below}
 use Rattle.crash_model.specs.Disk.{Disk}
 use Rattle.crash_model.specs.Layout.{kind_of, pointer_of, is_live}
@@ -43,18 +43,18 @@ is_in inodes inode = list_any (λ i. inode == i) inodes
 
 -- an entry of a directory leads to an inode
 abbrev pub has_entry_to : Disk → ℕ → ℕ → Bool
-has_entry_to d dir inode = list_any (λ k. leads_to d dir k inode) (range_with_len 0 10)
+has_entry_to d dir inode = list_any (λ k. leads_to d dir k inode) (range_with_len 0 ENTRIES)
 
 -- the inodes to which entries lead from inode 0, a directory, in at most n steps, each to a live inode
 unfoldable pub reach_in : Disk → ℕ → List ℕ
-reach_in d zero = ids_below 16 (λ inode. inode == 0 && kind_of d 0 == DIRECTORY_KIND)
+reach_in d zero = ids_below INODES (λ inode. inode == 0 && kind_of d 0 == DIRECTORY_KIND)
 reach_in d (suc n) =
     let before = reach_in d n in
-    ids_below 16 (λ inode. is_in before inode || (is_live d inode && list_any (λ dir. has_entry_to d dir inode) before))
+    ids_below INODES (λ inode. is_in before inode || (is_live d inode && list_any (λ dir. has_entry_to d dir inode) before))
 
 -- each of the 16 inodes that is reached is reached in at most 16 steps
 unfoldable pub is_reached : Disk → ℕ → Bool
-is_reached d inode = is_in (reach_in d 16) inode
+is_reached d inode = is_in (reach_in d INODES) inode
 
 -- ---- the faults
 
@@ -69,10 +69,10 @@ lacks_block d inode = is_reached d inode && kind_of d inode == DIRECTORY_KIND &&
 -- the two by inode
 unfoldable pub strict_faults : ℕ → Disk → List Fault
 strict_faults kept d =
-    some_below 16 (λ inode. when (is_lost d kept inode) (Lost inode))
-    ++ some_below 16 (λ inode. when (lacks_block d inode) (NoBlock inode))
+    some_below INODES (λ inode. when (is_lost d kept inode) (Lost inode))
+    ++ some_below INODES (λ inode. when (lacks_block d inode) (NoBlock inode))
 
 -- neither holds of any inode
 pub record LosesNothing (kept : ℕ) (d : Disk) : Type 0 where
-  pub no_lost : (inode : ℕ) → inode < 16 → is_lost d kept inode ≡ false
-  pub no_bare : (inode : ℕ) → inode < 16 → lacks_block d inode ≡ false
+  pub no_lost : (inode : ℕ) → inode < INODES → is_lost d kept inode ≡ false
+  pub no_bare : (inode : ℕ) → inode < INODES → lacks_block d inode ≡ false

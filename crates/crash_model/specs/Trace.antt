@@ -3,7 +3,8 @@ use Rattle.std.specs.Prelude.{◌≡◌, ℕ, ◌+◌, ◌<◌, List, [], ◌∷
 use Rattle.std.specs.Prelude.{◌==◌, not, nat_lt, Option, Some, None, is_some, Result, Ok, Err, bytes_eq}
 use Rattle.std.specs.Prelude.{◌↔◌, slice_get, slice_index, IsTrue}
 use Rattle.std.specs.List.{range_with_len, list_any}
-use Rattle.crash_model.specs.declared.disk_bytes.TheConstants.{COMMITTED_MARK, DONE_MARK}
+use Rattle.crash_model.specs.declared.patches.TheConstants.{MAX_PATCHES}
+use Rattle.crash_model.specs.declared.disk_bytes.TheConstants.{JOURNAL_AT, COMMITTED_MARK, DONE_MARK}
 use Rattle.patch_sets.specs.Sets.{Has}
 use Rattle.patch_sets.specs.Closed.{AreEarlier}
 use Rattle.crash_model.specs.Disk.{Disk, block_of}
@@ -139,7 +140,7 @@ trace_start whole base = record {
   disk = base;
   emitted = [];
   turn = 1;
-  journal = 4;
+  journal = JOURNAL_AT;
   whole = whole;
   current = None;
   opened = [];
@@ -165,8 +166,8 @@ trace_of_plan kind line op s (Ok changes) =
     let after = with_changes s.disk changes in
     let more = patches_by kind after s.turn s.journal (origin_at line op s.current) changes in
     let next = s.journal + journal_blocks kind s.disk.blocks changes in
-    unless (nat_lt (4 + s.disk.journal) next) (no.JournalFull line)
-    (unless (nat_lt 124 (length s.emitted + length more)) (no.TooManyPatches line)
+    unless (nat_lt (JOURNAL_AT + s.disk.journal) next) (no.JournalFull line)
+    (unless (nat_lt MAX_PATCHES (length s.emitted + length more)) (no.TooManyPatches line)
     (Ok (record s { disk = after; emitted = s.emitted ++ more; turn = s.turn + 1; journal = next })))
 
 abbrev pub is_among : List ℕ → List (List ℕ) → Bool

@@ -1,5 +1,6 @@
 -- What a disk holds, without positions and bytes: four sets.
 use Rattle.std.specs.Prelude.{◌≡◌, ◌≢◌, ℕ, ◌<◌, List, IsTrue}
+use Rattle.crash_model.specs.declared.disk_bytes.TheConstants.{INODES, SLOTS, ENTRIES}
 use Rattle.crash_model.specs.Disk.{Disk}
 use Rattle.crash_model.specs.Layout.{kind_of, links_of, pointer_of, map_of, is_live, is_data, is_entry, target_of}
 use Rattle.crash_model.specs.Layout.{spelling_of, is_pointer}
@@ -8,7 +9,7 @@ use Rattle.crash_model.specs.Plan.{name_spelling}
 -- a name of a directory leads to an inode
 pub record HasName (d : Disk) (dir : ℕ) (name : List ℕ) (inode : ℕ) : Type 0 where
   pub place : ℕ
-  pub within : (dir < 16) × (place < 10)
+  pub within : (dir < INODES) × (place < ENTRIES)
   pub used : IsTrue (is_entry d dir place)
   pub spelt : spelling_of d dir place ≡ name_spelling name
   pub target : target_of d dir place ≡ inode
@@ -21,7 +22,7 @@ pub record HasInode (d : Disk) (inode kind links : ℕ) : Type 0 where
 
 -- a slot of a live inode names a block
 pub record HasPointer (d : Disk) (inode slot block : ℕ) : Type 0 where
-  pub within : slot < 4
+  pub within : slot < SLOTS
   pub used : IsTrue (is_pointer d inode slot)
   pub block_is : pointer_of d inode slot ≡ block
 

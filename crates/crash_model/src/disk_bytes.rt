@@ -1,4 +1,76 @@
-//! Bytes of a disk that have a meaning of their own, which definitions cite, too.
+//! The numbers of the disk's format: its sizes, where things are on it, and bytes with a meaning of their own.
+//!
+//! Definitions cite them, too.
+
+/// Bytes of a block.
+pub const BLOCK_SIZE: usize = 128;
+
+/// Blocks of the smallest disk.
+pub const LEAST_BLOCKS: usize = 16;
+
+/// Blocks of the largest disk.
+pub const MOST_BLOCKS: usize = 128;
+
+/// The fewest blocks that a disk has besides its journal's: the superblock, the map, two of inodes, the root directory's
+/// block, and one to spare.
+pub const OTHER_BLOCKS: usize = 6;
+
+/// Where the allocation map begins on the disk: it is block 1.
+pub const MAP_AT: usize = BLOCK_SIZE;
+
+/// The first of the two blocks of inodes.
+pub const INODE_BLOCK: u8 = 2;
+
+/// The first block of the journal; the data area begins there if there is none.
+pub const JOURNAL_AT: usize = 4;
+
+/// How many inodes a disk has.
+pub const INODES: u8 = 16;
+
+/// How many inodes a block has.
+pub const INODES_IN_BLOCK: u8 = 8;
+
+/// Bytes of an inode.
+pub const INODE_SIZE: usize = 16;
+
+/// Where the kind of inode 0 is on the disk. Its link count is in the next byte.
+pub const KINDS_AT: usize = 2 * BLOCK_SIZE;
+
+/// Where the link count of inode 0 is on the disk.
+pub const LINKS_AT: usize = KINDS_AT + 1;
+
+/// Where the first pointer of inode 0 is on the disk.
+pub const POINTERS_AT: usize = KINDS_AT + 4;
+
+/// Where an inode's first pointer is among its bytes.
+pub const POINTERS_FROM: u8 = 4;
+
+/// How many pointers an inode has.
+pub const SLOTS: u8 = 4;
+
+/// The most names that a file has.
+pub const MOST_LINKS: u8 = 8;
+
+/// How many entries a directory has.
+pub const ENTRIES: u8 = 10;
+
+/// Where entry 0 begins in a directory's block.
+pub const ENTRIES_FROM: u8 = 8;
+
+/// Bytes of an entry.
+pub const ENTRY_SIZE: u8 = 12;
+
+/// The most bytes of a name.
+pub const LONGEST_NAME: usize = 10;
+
+/// Bytes of a name in an entry: its length, and the name with zeros after it.
+pub const SPELLING_SIZE: usize = LONGEST_NAME + 1;
+
+/// The most changes that an operation makes.
+pub const MOST_CHANGES: usize = 8;
+
+/// The most blocks that the header of a transaction names.
+pub const MOST_TARGETS: usize = 8;
 
 /// Byte 0 of an inode that is in no use: its kind.
 pub const FREE_KIND: u8 = 0;

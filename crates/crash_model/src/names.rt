@@ -7,6 +7,7 @@ ghost use Rattle.crash_model.specs.Names.{IsName, IsGroupName, is_name_byte, is_
 ghost use Rattle.crash_model.specs.FirstNames.{IsShort, BeginsWith, HasFirstName};
 ghost use Rattle.crash_model.specs.Plan.{name_spelling};
 
+use crate::disk_bytes::LONGEST_NAME;
 use arrayvec::ArrayVec;
 use std::marker::Model;
 use std::{fmt, mem, str};
@@ -14,7 +15,7 @@ use std::{fmt, mem, str};
 /// A name in a directory: 1 to 10 characters of a to z and 0 to 9.
 #[derive(Drop)]
 pub struct Name {
-    bytes: ArrayVec<u8, 10>,
+    bytes: ArrayVec<u8, LONGEST_NAME>,
 }
 
 impl Model for Name {
@@ -70,7 +71,7 @@ impl Name {
         for c in self.bytes.as_slice() {
             out.push(*c);
         }
-        for _i in self.bytes.len()..10 {
+        for _i in self.bytes.len()..LONGEST_NAME {
             out.push(0);
         }
         out
@@ -153,7 +154,7 @@ fn first_slash(text: &[u8]) -> usize
 }
 
 /// The bytes, if they are 1 to 10.
-fn word(bytes: &[u8]) -> Option<ArrayVec<u8, 10>>
+fn word(bytes: &[u8]) -> Option<ArrayVec<u8, LONGEST_NAME>>
     ensures { MatchOption result (¬ (IsShort bytes.now)) (λ word. (word.items ≡ bytes.now) × IsShort bytes.now) }
 {
     let mut word = ArrayVec::new();
@@ -182,7 +183,7 @@ fn are_group_bytes(bytes: &[u8]) -> bool
 /// The name of a patch group: 1 to 10 letters and digits.
 #[derive(Drop)]
 pub struct GroupName {
-    bytes: ArrayVec<u8, 10>,
+    bytes: ArrayVec<u8, LONGEST_NAME>,
 }
 
 impl Model for GroupName {

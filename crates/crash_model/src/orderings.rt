@@ -8,7 +8,7 @@ use crate::plans::Role::{
     EntryClear, EntrySet, InitDir, InitFile, InodeFree, InodeInit, LinkDown, LinkUp, MapClear,
     MapSet, Ptr,
 };
-use crate::rule_lists::{RuleList, rules_in_both, rules_in_first};
+use crate::rule_lists::{MAX_GIVEN, RuleList, rules_in_both, rules_in_first};
 use crate::rules::Rule;
 use crate::rules::RulePart::{Change, Commit, Copy, Done, FileData, InPlace};
 use crate::rules::Scope::{Previous, Same};
@@ -20,7 +20,7 @@ use arrayvec::ArrayVec;
 /// pointer for its block, a block for its mark in the map. Nothing is used again while something points to it: an
 /// inode is freed after its entry, a block after its inode. The last pointer to something stays until a new one is
 /// there: an old entry waits for the new one, and link counts are never too low.
-static SOFT: [Rule; 12] = [
+static SOFT: [Rule; MAX_OWN] = [
     Rule {
         later: Change(EntrySet),
         earlier: Change(InodeInit),
@@ -129,7 +129,7 @@ impl Module {
     /// The rules of the module, in the order in which reports name them.
     pub fn rules(self) -> &'static [Rule]
         ensures rules { result.now ≡ rules_of self }
-        ensures few { length result.now ≤ 12 }
+        ensures few { length result.now ≤ MAX_OWN }
     {
         match self {
             Module::Async => &[],
@@ -148,24 +148,27 @@ impl Module {
     /// The module's rules that stay, in the module's order.
     pub fn kept_rules(self, without: &[Rule]) -> RuleList
         ensures rules { result.items ≡ kept_rules self without.now }
-        ensures few { length result.items ≤ 12 }
+        ensures few { length result.items ≤ MAX_OWN }
     {
         rules_in_first(self.rules(), without)
     }
 
     /// The rules of `with` that the module's list has not kept, in their order.
     pub fn put_in(self, without: &[Rule], with: &[Rule]) -> RuleList
-        requires { length with.now ≤ 16 }
+        requires { length with.now ≤ MAX_GIVEN }
         ensures rules { result.items ≡ rules_put_in self without.now with.now }
-        ensures few { length result.items ≤ 16 }
+        ensures few { length result.items ≤ MAX_GIVEN }
     {
         let kept = self.kept_rules(without);
         rules_in_first(with, kept.as_slice())
     }
 }
 
-/// How many rules an ordering can have: those of a module, and as many as a user puts in.
-pub const MAX_RULES: usize = 28;
+/// The most rules that a module has.
+pub const MAX_OWN: usize = 12;
+
+/// The most rules that an ordering has: those of a module, and as many as a user puts in.
+pub const MAX_RULES: usize = MAX_OWN + MAX_GIVEN;
 
 /// An ordering: the module that turns operations into patches, and the rules that order these. If blocks are written
 /// whole, a patch also depends on each earlier one of its block.
@@ -197,7 +200,7 @@ impl Ordering {
     /// A rule of `without` that the module's list does not have changes nothing, and a rule of `with` that the list has
     /// kept is not put in again.
     pub fn under(module: Module, without: &[Rule], with: &[Rule]) -> Ordering
-        requires { length with.now ≤ 16 }
+        requires { length with.now ≤ MAX_GIVEN }
         ensures module { result.«module» ≡ «module» }
         ensures rules { result.rules.items ≡ rules_under «module» without.now with.now }
         ensures parts { result.whole_blocks ≡ false }
@@ -215,7 +218,7 @@ impl Ordering {
 
 /// Adds some rules, in their order.
 fn push_rules(rules: &mut ArrayVec<Rule, MAX_RULES>, more: &[Rule])
-    requires { length rules.old.items + length more.now ≤ 28 }
+    requires { length rules.old.items + length more.now ≤ MAX_RULES }
     ensures { rules.new.items ≡ rules.old.items ++ more.now }
 {
     for rule in more {

@@ -1,6 +1,10 @@
 //! Patches.
 
+use crate::disk_bytes::BLOCK_SIZE;
 use arrayvec::ArrayVec;
+
+/// The most patches that a script makes.
+pub const MAX_PATCHES: usize = 124;
 
 /// A change to bytes of one block, with the patches that it depends on (Frost et al., SOSP 2007).
 ///
@@ -10,7 +14,7 @@ use arrayvec::ArrayVec;
 pub struct Patch {
     pub block: u8,
     pub offset: u8,
-    pub new: ArrayVec<u8, 128>,
-    pub undo: ArrayVec<u8, 128>,
+    pub new: ArrayVec<u8, BLOCK_SIZE>,
+    pub undo: ArrayVec<u8, BLOCK_SIZE>,
     pub deps: u128,
 }

@@ -3,6 +3,7 @@
 ghost use Rattle.std.specs.Prelude.{◌≡◌};
 ghost use Rattle.crash_model.specs.Rules.{role_text};
 
+use crate::disk_bytes::{BLOCK_SIZE, MOST_CHANGES};
 use arrayvec::ArrayVec;
 
 /// What a change is for.
@@ -52,9 +53,9 @@ impl Role {
 pub struct Change {
     pub block: u8,
     pub offset: u8,
-    pub new: ArrayVec<u8, 128>,
+    pub new: ArrayVec<u8, BLOCK_SIZE>,
     pub role: Role,
 }
 
 /// The changes of an operation, in the order in which they are emitted.
-pub type Plan = ArrayVec<Change, 8>;
+pub type Plan = ArrayVec<Change, MOST_CHANGES>;

@@ -1,12 +1,13 @@
 //! Refusals. Each has a number, a name and a text; its `Display` writes the number, a space and the text.
 //!
-//! Numbers and texts are in `RunFault`. The fault of a single layer is displayed as the run's refusal that it
-//! becomes.
+//! Numbers and texts are in `RunFault`, but for two that the explorers have, too: these are `ExploreFault`'s. The fault
+//! of a single layer is displayed as the run's refusal that it becomes.
 
 ghost use Rattle.std.specs.Prelude.{◌≡◌, ℕ, Some, None};
 ghost use Rattle.crash_model.specs.RefusalLine.{line_of};
 ghost use Rattle.crash_model.specs.Refusals.{trace_fault};
 
+use patch_sets::explored::ExploreFault;
 use std::alloc::{AllocError, AllocFailed};
 use std::fmt;
 use thiserror::Error;
@@ -153,7 +154,7 @@ impl RunFault {
             RunFault::LinksFull { .. } => "19 too many links",
             RunFault::JournalFull { .. } => "20 journal full",
             RunFault::GroupFault { .. } => "21 group fault",
-            RunFault::TooMany => "30 too many closed sets",
+            RunFault::TooMany => ExploreFault::TooMany.text(),
             RunFault::BadUtf8 { .. } => "40 not UTF-8",
             RunFault::BadLine { .. } => "41 bad line",
             RunFault::BadPath { .. } => "42 bad path",
@@ -161,7 +162,7 @@ impl RunFault {
             RunFault::CannotRead => "50 cannot read the script",
             RunFault::CannotWrite => "51 cannot write the report",
             RunFault::ScriptTooLong => "52 script too long",
-            RunFault::OutOfMemory => "99 out of memory",
+            RunFault::OutOfMemory => ExploreFault::OutOfMemory.text(),
         }
     }
 
@@ -202,6 +203,20 @@ impl fmt::Debug for RunFault {
 impl fmt::Display for RunFault {
     fn fmt<W: fmt::Write>(&self, f: &mut fmt::Formatter<W>) -> fmt::Result {
         f.write_str(self.text())
+    }
+}
+
+impl From<ExploreFault> for RunFault {
+    ghost use Rattle.std.specs.Prelude.{◌≡◌};
+    ghost use Rattle.crash_model.specs.ExploreRefusals.{run_of_explore};
+
+    ghost from_gives = { λ fault run_fault. run_fault ≡ run_of_explore fault };
+
+    fn from(fault: ExploreFault) -> RunFault {
+        match fault {
+            ExploreFault::TooMany => RunFault::TooMany,
+            ExploreFault::OutOfMemory => RunFault::OutOfMemory,
+        }
     }
 }
 

@@ -21,7 +21,7 @@ pub fn has_rule(rules: &[Rule], rule: Rule) -> bool
 
 /// The rules that the others have too.
 pub(crate) fn rules_in_both(rules: &[Rule], others: &[Rule]) -> RuleList
-    requires { length rules.now ≤ 16 }
+    requires { length rules.now ≤ MAX_GIVEN }
     ensures { result.items ≡ rules_in_both rules.now others.now }
 {
     let mut both = ArrayVec::new();
@@ -35,7 +35,7 @@ pub(crate) fn rules_in_both(rules: &[Rule], others: &[Rule]) -> RuleList
 
 /// The rules that the others do not have.
 pub(crate) fn rules_in_first(rules: &[Rule], others: &[Rule]) -> RuleList
-    requires { length rules.now ≤ 16 }
+    requires { length rules.now ≤ MAX_GIVEN }
     ensures rules { result.items ≡ rules_in_first rules.now others.now }
     ensures few { length result.items ≤ length rules.now }
 {

@@ -7,6 +7,12 @@ use crate::modules::Module;
 use crate::orderings::Ordering;
 use crate::rule_lists::RuleList;
 
+/// The most sets that the board holds.
+pub const MAX_BOARD: usize = state_space::MAX_BOARD;
+
+/// The most closed sets that a run can be asked to explore.
+pub const MAX_LIMIT: usize = 1_000_000_000;
+
 /// Who explores: the board that workers share, which holds up to 32,768 sets, or the sweep, which keeps no table.
 ///
 /// `Auto` is the board if the limit is at most 32,768, else the sweep.

@@ -5,17 +5,30 @@ ghost use Rattle.crash_model.specs.Disk.{with_bytes, empty_disk, IsGeometry};
 ghost use Rattle.crash_model.specs.Sound.{IsSound, HasZeroJournal};
 
 use crate::image::Image;
-use crash_model::disk_bytes::{DIRECTORY_KIND, DIRECTORY_MARK};
+use crash_model::disk_bytes::{
+    BLOCK_SIZE, DIRECTORY_KIND, DIRECTORY_MARK, INODE_BLOCK, JOURNAL_AT, LEAST_BLOCKS, MOST_BLOCKS,
+    OTHER_BLOCKS,
+};
+use crash_model::refusals::RunFault;
 use std::alloc::{AllocError, Allocator};
+use std::fmt;
 use thiserror::Error;
 
 /// Why no image is made.
 #[derive(Clone, Copy, Debug, PartialEq, Eq, Error)]
 pub enum ImageFault {
-    #[error("1 bad geometry")]
     BadGeometry,
-    #[error("99 out of memory")]
     OutOfMemory,
+}
+
+impl fmt::Display for ImageFault {
+    fn fmt<W: fmt::Write>(&self, f: &mut fmt::Formatter<W>) -> fmt::Result {
+        let refusal = match *self {
+            ImageFault::BadGeometry => RunFault::BadGeometry,
+            ImageFault::OutOfMemory => RunFault::OutOfMemory,
+        };
+        write!(f, "{refusal}")
+    }
 }
 
 impl From<AllocError> for ImageFault {
@@ -41,10 +54,10 @@ impl<A: Allocator + Copy> Image<A> {
         ensures sound { IfOk result (λ image. IsSound image × HasZeroJournal image) }
         ensures bad { IsErrOf result ImageFault.BadGeometry ↔ ¬ (IsGeometry blocks journal) }
     {
-        if blocks < 16 || blocks > 128 || journal > blocks - 6 {
+        if blocks < LEAST_BLOCKS || blocks > MOST_BLOCKS || journal > blocks - OTHER_BLOCKS {
             return Err(ImageFault::BadGeometry);
         }
-        let bytes = Vec::from_elem(alloc, 0u8, 128 * blocks)?;
+        let bytes = Vec::from_elem(alloc, 0u8, BLOCK_SIZE * blocks)?;
         let mut image = Image {
             blocks,
             journal,
@@ -52,18 +65,22 @@ impl<A: Allocator + Copy> Image<A> {
         };
         image.put(0, 0, &[0x53, blocks as u8, journal as u8]);
         image.mark_used(5 + journal);
-        image.put(2, 0, &[DIRECTORY_KIND, 1, 0, 0, 4 + journal as u8]);
-        image.put(4 + journal, 0, &[DIRECTORY_MARK, 0]);
+        image.put(
+            INODE_BLOCK as usize,
+            0,
+            &[DIRECTORY_KIND, 1, 0, 0, (JOURNAL_AT + journal) as u8],
+        );
+        image.put(JOURNAL_AT + journal, 0, &[DIRECTORY_MARK, 0]);
         Ok(image)
     }
 
     /// Marks the blocks below `count` as in use.
     fn mark_used(&mut self, count: usize)
-        requires { count ≤ 128 }
+        requires { count ≤ MOST_BLOCKS }
         ensures { self.new ≡ with_bytes self.old 1 0 (replicate count 1) }
     {
         let _blocks = self.blocks;
-        let ones = [1; 128];
+        let ones = [1; MOST_BLOCKS];
         self.put(1, 0, &ones[..count]);
     }
 }

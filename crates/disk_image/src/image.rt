@@ -4,11 +4,9 @@ ghost use Rattle.std.specs.Prelude.{◌≡◌, ℕ, ◌+◌, ◌*◌, ◌<◌, �
 ghost use Rattle.crash_model.specs.Disk.{Disk, IsDisk, byte, block_of, overwrite, with_bytes};
 ghost use Rattle.crash_model.specs.Atomic.{is_same_disk};
 
+use crash_model::disk_bytes::{BLOCK_SIZE, LEAST_BLOCKS, MOST_BLOCKS, OTHER_BLOCKS};
 use std::alloc::{AllocError, Allocator};
 use std::marker::Model;
-
-/// The bytes of a block.
-const BLOCK_SIZE: usize = 128;
 
 /// A disk in memory: 16 to 128 blocks of 128 bytes, of which the journal leaves at least six.
 #[derive(Drop)]
@@ -30,7 +28,7 @@ impl<A: Allocator + Copy> Image<A> {
     /// The number of blocks.
     pub fn blocks(&self) -> usize
         ensures value { result ≡ self.now.blocks }
-        ensures range { (16 ≤ result) × (result ≤ 128) }
+        ensures range { (LEAST_BLOCKS ≤ result) × (result ≤ MOST_BLOCKS) }
         ensures disk { IsDisk self.now }
     {
         self.blocks
@@ -39,7 +37,7 @@ impl<A: Allocator + Copy> Image<A> {
     /// The number of journal blocks, which begin at block 4.
     pub fn journal(&self) -> usize
         ensures value { result ≡ self.now.journal }
-        ensures range { result + 6 ≤ self.now.blocks }
+        ensures range { result + OTHER_BLOCKS ≤ self.now.blocks }
         ensures disk { IsDisk self.now }
     {
         self.journal
@@ -48,7 +46,7 @@ impl<A: Allocator + Copy> Image<A> {
     /// One byte of a block.
     pub fn byte(&self, block: usize, offset: usize) -> u8
         requires block { block < self.now.blocks }
-        requires offset { offset < 128 }
+        requires offset { offset < BLOCK_SIZE }
         ensures { result ≡ byte self.now block offset }
     {
         self.bytes[BLOCK_SIZE * block + offset]
@@ -58,7 +56,7 @@ impl<A: Allocator + Copy> Image<A> {
     pub fn block(&self, block: usize) -> &[u8]
         requires { block < self.now.blocks }
         ensures bytes { result.now ≡ block_of self.now block }
-        ensures size { length result.now ≡ 128 }
+        ensures size { length result.now ≡ BLOCK_SIZE }
     {
         &self.bytes[BLOCK_SIZE * block..BLOCK_SIZE * block + BLOCK_SIZE]
     }
@@ -66,7 +64,7 @@ impl<A: Allocator + Copy> Image<A> {
     /// Replaces a range of bytes inside one block.
     pub fn put(&mut self, block: usize, offset: usize, bytes: &[u8])
         requires block { block < self.old.blocks }
-        requires inside { offset + length bytes.now ≤ 128 }
+        requires inside { offset + length bytes.now ≤ BLOCK_SIZE }
         ensures { self.new ≡ with_bytes self.old block offset bytes.now }
     {
         write_over(
@@ -136,9 +134,9 @@ fn write_over(into: &mut [u8], at: usize, bytes: &[u8])
 /// Copies the 128 bytes from `from` on over those from `to` on.
 #[tactic(auto, using(crate::proofs::Copies::copied))]
 fn copy_over(bytes: &mut [u8], from: usize, to: usize)
-    requires from { from + 128 ≤ length bytes.old }
-    requires to { to + 128 ≤ length bytes.old }
-    ensures { bytes.new ≡ overwrite bytes.old to (take 128 (drop from bytes.old)) }
+    requires from { from + BLOCK_SIZE ≤ length bytes.old }
+    requires to { to + BLOCK_SIZE ≤ length bytes.old }
+    ensures { bytes.new ≡ overwrite bytes.old to (take BLOCK_SIZE (drop from bytes.old)) }
 {
     bytes.copy_within(from..from + BLOCK_SIZE, to);
 }

@@ -12,3 +12,4 @@ mod layout;
 pub use demands::Demands;
 pub use format::ImageFault;
 pub use image::Image;
+pub use layout::{entry_offset, inode_place};

@@ -1,5 +1,6 @@
 -- The entries of a closed board, shard by shard.
 use Rattle.std.specs.Prelude.{◌≡◌, ℕ, ◌+◌, ◌*◌, ◌<◌, ◌≤◌, List, length, slice_index}
+use Rattle.state_space.specs.declared.limits.TheConstants.{MAX_BOARD}
 use Rattle.board_rule.specs.declared.shards.TheConstants.{SHARDS}
 use Rattle.board_rule.specs.Lists.{row_of}
 use Rattle.board_rule.specs.declared.life.Life.TheVariants.{Broken}
@@ -22,4 +23,4 @@ AreDistinct rows =
     → slice_index (row_of rows p) j ≡ slice_index (row_of rows q) k → (p ≡ q) × (j ≡ k)
 
 abbrev pub AreShort : List (List ℕ) → Type 0
-AreShort rows = (q : ℕ) → q < SHARDS → length (row_of rows q) ≤ 32768
+AreShort rows = (q : ℕ) → q < SHARDS → length (row_of rows q) ≤ MAX_BOARD

@@ -11,7 +11,7 @@ use crate::rows::Room;
 use crate::worker::Left;
 use patch_sets::explored::{ExploreFault, Explored};
 use seen_board::Board;
-use state_space::Space;
+use state_space::{MAX_BOARD, Space};
 use std::alloc::Allocator;
 
 /// What two workers leave, as one.
@@ -61,7 +61,7 @@ pub(crate) fn answer<S: Space, A: Allocator + Copy>(
     left: Left,
 ) -> Result<Explored<A>, ExploreFault>
     requires board { (board.limit ≡ room.limit) × (board.places ≡ room.places) × (board.space ≡ space.now) }
-    requires small { room.places ≤ 32768 }
+    requires small { room.places ≤ MAX_BOARD }
     requires left { IsLeft board left }
     ensures found { IfOk result (IsExplored (S.successors space.now) (S.initial space.now) (S.is_good space.now)
         room.limit) }

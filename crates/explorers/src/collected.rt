@@ -11,7 +11,7 @@ use crate::rows::Room;
 use patch_sets::explored::{ExploreFault, Explored};
 use patch_sets::order::in_order;
 use seen_board::{Contents, Life, Place, SHARDS};
-use state_space::Space;
+use state_space::{MAX_BOARD, Space};
 use std::alloc::{AllocError, Allocator};
 
 /// How many words are reached and which of them are not good, from a finished board.
@@ -21,7 +21,7 @@ pub(crate) fn collect<S: Space, A: Allocator + Copy>(
     room: Room,
     contents: &Contents<A>,
 ) -> Result<Explored<A>, ExploreFault>
-    requires small { room.places ≤ 32768 }
+    requires small { room.places ≤ MAX_BOARD }
     requires entries { Entries (S.successors _space.now) (S.initial _space.now) room.places contents.now.rows }
     requires settled { AreSettled (S.successors _space.now) (S.is_good _space.now) contents.now }
     requires done { IsDone (S.successors _space.now) (S.initial _space.now) contents.now }

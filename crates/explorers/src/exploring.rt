@@ -17,7 +17,7 @@ use crate::worker::{Left, ThreadJob, Worker};
 use hands::{Hand, hands};
 use patch_sets::explored::{ExploreFault, Explored};
 use seen_board::{Board, BoardSeat, Place};
-use state_space::Space;
+use state_space::{MAX_BOARD, Space};
 use std::alloc::{AllocError, Allocator};
 use std::sync::Wait;
 use std::thread::Threads;
@@ -54,7 +54,7 @@ where
     S::Scratch: Send,
     G: Gate + Sync,
     requires positive { (0 < room.limit) × (0 < room.places) }
-    requires small { (room.limit ≤ 32768) × (room.places ≤ 32768) }
+    requires small { (room.limit ≤ MAX_BOARD) × (room.places ≤ MAX_BOARD) }
     requires workers { (1 ≤ workers) × (workers ≤ 16) }
     ensures found { IfOk result (IsExplored (S.successors space.now) (S.initial space.now) (S.is_good space.now)
         room.limit) }

@@ -2,6 +2,7 @@
 ghost use Rattle.std.specs.Prelude.{◌≡◌, ◌⊎◌, ℕ, ◌<◌, ◌≤◌, true, length, IfOk};
 ghost use Rattle.std.specs.List.{All, Contains};
 
+use state_space::MAX_BOARD;
 use std::alloc::{AllocError, Allocator};
 use std::marker::Model;
 use word_places::place_of_word;
@@ -22,13 +23,13 @@ impl<A: Allocator> Model for Met<A> {
 
     ghost view = { λ m. m.words.items };
 
-    ghost invariant = { λ m. (0 < length m.words.items) × (length m.words.items ≤ 32768) };
+    ghost invariant = { λ m. (0 < length m.words.items) × (length m.words.items ≤ MAX_BOARD) };
 }
 
 impl<A: Allocator> Met<A> {
     /// A table with `places` places, each with a word that the worker has met. It fails only when out of memory.
     pub fn new(alloc: A, word: u128, places: usize) -> Result<Met<A>, AllocError>
-        requires places { (0 < places) × (places ≤ 32768) }
+        requires places { (0 < places) × (places ≤ MAX_BOARD) }
         ensures { IfOk result (All (λ met. met ≡ word)) }
     {
         Ok(Met {

@@ -1,6 +1,7 @@
 -- Lists that have the faults which the disks of a family can have after replay.
 use Rattle.std.specs.Prelude.{◌≡◌, ◌≢◌, ℕ, ◌+◌, ◌<◌, ◌≤◌, List, length, slice_index, true, false, Option, Some, None}
 use Rattle.std.specs.List.{Contains}
+use Rattle.crash_model.specs.declared.disk_bytes.TheConstants.{INODES}
 use Rattle.crash_model.specs.Disk.{Disk}
 use Rattle.crash_model.specs.Layout.{pointer_of, links_of, target_of, is_data}
 use Rattle.crash_model.specs.Faults.{is_dangling, entries_to}
@@ -38,15 +39,15 @@ pub record CountsOne (low high inode old new : ℕ) : Type 0 where
 -- for each inode as many more are counted as lead to it of the first n entries of a directory
 abbrev pub AreCounted : ℕ → ℕ → List ℕ → List ℕ → Disk → Type 0
 AreCounted n dir old new d =
-    (inode : ℕ) → inode < 16 → slice_index old inode + entries_in n d inode dir ≤ slice_index new inode
+    (inode : ℕ) → inode < INODES → slice_index old inode + entries_in n d inode dir ≤ slice_index new inode
 
 -- each of 16 counts is at most a number
 abbrev pub AreAtMost : ℕ → List ℕ → Type 0
-AreAtMost most counts = (inode : ℕ) → inode < 16 → slice_index counts inode ≤ most
+AreAtMost most counts = (inode : ℕ) → inode < INODES → slice_index counts inode ≤ most
 
 -- for each inode at most as many entries lead to it as are counted
 abbrev pub AreMost : List ℕ → Disk → Type 0
-AreMost most d = (inode : ℕ) → inode < 16 → length (entries_to d inode) ≤ slice_index most inode
+AreMost most d = (inode : ℕ) → inode < INODES → length (entries_to d inode) ≤ slice_index most inode
 
 -- ---- slots
 
@@ -84,7 +85,7 @@ pub record HasStrict (faults : List Fault) (kept inode : ℕ) : Type 0 where
 -- for each inode, where a checker is strict
 abbrev pub HasStrictUnder : Option ℕ → List Fault → Type 0
 HasStrictUnder None faults = Unit {0}
-HasStrictUnder (Some kept) faults = (inode : ℕ) → inode < 16 → HasStrict faults kept inode
+HasStrictUnder (Some kept) faults = (inode : ℕ) → inode < INODES → HasStrict faults kept inode
 
 -- the fault of whole operations is listed, where an image is to show one of some disks
 abbrev pub HasHalfDone : Option (List Disk) → List Fault → Type 0

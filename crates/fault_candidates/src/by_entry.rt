@@ -7,6 +7,7 @@ ghost use Rattle.known_bytes.specs.Family.{HasValue};
 ghost use Rattle.fault_candidates.specs.Listed.{InEachReplayed, IsWithin, HasDangling, CountsOne, AreCounted, AreAtMost, AreMost};
 
 use crate::entries;
+use crash_model::disk_bytes::{ENTRIES, INODES};
 use crash_model::fault::Fault;
 use known_bytes::{ByteSet, KnownBytes};
 use std::alloc::{AllocError, Allocator};
@@ -18,12 +19,12 @@ pub(crate) fn push_entries<A: Allocator + Copy>(
     bytes: &KnownBytes<A>,
 ) -> Result<[u8; 16], AllocError>
     ensures kept { OnOk result (IsWithin faults.old.items faults.new.items) }
-    ensures dangling { OnOk result (InEachReplayed bytes.now (λ d. (dir k : ℕ) → dir < 16 → k < 10
+    ensures dangling { OnOk result (InEachReplayed bytes.now (λ d. (dir k : ℕ) → dir < INODES → k < ENTRIES
         → HasDangling faults.new.items dir k d)) }
     ensures most { IfOk result (λ most. InEachReplayed bytes.now (AreMost most)) }
 {
     let mut most = [0; 16];
-    for dir in 0..16u8 {
+    for dir in 0..INODES {
         push_directory(faults, &mut most, bytes, dir)?;
     }
     Ok(most)
@@ -36,15 +37,15 @@ fn push_directory<A: Allocator + Copy>(
     bytes: &KnownBytes<A>,
     dir: u8,
 ) -> Result<(), AllocError>
-    requires dir { dir < 16 }
+    requires dir { dir < INODES }
     requires few { AreAtMost (10 * dir) most.old }
     ensures kept { OnOk result (IsWithin faults.old.items faults.new.items) }
-    ensures dangling { OnOk result (InEachReplayed bytes.now (λ d. (k : ℕ) → k < 10
+    ensures dangling { OnOk result (InEachReplayed bytes.now (λ d. (k : ℕ) → k < ENTRIES
         → HasDangling faults.new.items dir k d)) }
-    ensures counted { OnOk result (InEachReplayed bytes.now (AreCounted 10 dir most.old most.new)) }
+    ensures counted { OnOk result (InEachReplayed bytes.now (AreCounted ENTRIES dir most.old most.new)) }
     ensures few { OnOk result (AreAtMost (10 * dir + 10) most.new) }
 {
-    for k in 0..10u8 {
+    for k in 0..ENTRIES {
         let values = entries(bytes, dir, k);
         push_dangling(faults, dir, k, values)?;
         count_named(most, values);
@@ -78,10 +79,10 @@ fn push_dangling<A: Allocator + Copy>(
 /// Counts an entry for each inode that it names with one of the values.
 fn count_named(most: &mut [u8; 16], values: ByteSet)
     requires { AreAtMost 254 most.old }
-    ensures { (inode : ℕ) → inode < 16
+    ensures { (inode : ℕ) → inode < INODES
         → CountsOne values.low values.high inode (slice_index most.old inode) (slice_index most.new inode) }
 {
-    for inode in 0..16u8 {
+    for inode in 0..INODES {
         if values.has(inode + 1) {
             most[usize::from(inode)] += 1;
         }

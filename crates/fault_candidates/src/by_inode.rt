@@ -6,6 +6,7 @@ ghost use Rattle.crash_model.specs.declared.fault.Fault.TheVariants.{LowLinks};
 ghost use Rattle.fault_candidates.specs.Listed.{InEachReplayed, IsWithin, HasLow, HasStrict, HasStrictUnder};
 
 use crate::link_counts;
+use crash_model::disk_bytes::INODES;
 use crash_model::fault::Fault;
 use known_bytes::KnownBytes;
 use patch_sets::set::has;
@@ -18,10 +19,10 @@ pub(crate) fn push_low_links<A: Allocator + Copy>(
     most: &[u8; 16],
 ) -> Result<(), AllocError>
     ensures kept { OnOk result (IsWithin faults.old.items faults.new.items) }
-    ensures low { OnOk result (InEachReplayed bytes.now (λ d. (inode : ℕ) → inode < 16
+    ensures low { OnOk result (InEachReplayed bytes.now (λ d. (inode : ℕ) → inode < INODES
         → HasLow faults.new.items inode (slice_index most.now inode) d)) }
 {
-    for inode in 0..16u8 {
+    for inode in 0..INODES {
         push_low(faults, bytes, inode, most[usize::from(inode)])?;
     }
     Ok(())
@@ -34,7 +35,7 @@ fn push_low<A: Allocator + Copy>(
     inode: u8,
     most: u8,
 ) -> Result<(), AllocError>
-    requires { inode < 16 }
+    requires { inode < INODES }
     ensures kept { OnOk result (IsWithin faults.old.items faults.new.items) }
     ensures low { OnOk result (InEachReplayed bytes.now (HasLow faults.new.items inode most)) }
 {
@@ -80,7 +81,7 @@ pub(crate) fn push_strict<A: Allocator + Copy>(
     let Some(kept) = kept else {
         return Ok(());
     };
-    for inode in 0..16u8 {
+    for inode in 0..INODES {
         push_kept(faults, kept, inode)?;
     }
     Ok(())
@@ -92,7 +93,7 @@ fn push_kept<A: Allocator + Copy>(
     kept: u16,
     inode: u8,
 ) -> Result<(), AllocError>
-    requires { inode < 16 }
+    requires { inode < INODES }
     ensures kept { OnOk result (IsWithin faults.old.items faults.new.items) }
     ensures strict { OnOk result (HasStrict faults.new.items kept inode) }
 {

@@ -6,6 +6,7 @@ ghost use Rattle.crash_model.specs.declared.fault.Fault.TheVariants.{Wild};
 ghost use Rattle.fault_candidates.specs.Listed.{InEachReplayed, IsWithin, HasTame, HasFaultsOf};
 
 use crate::pointers;
+use crash_model::disk_bytes::{INODES, SLOTS};
 use crash_model::fault::Fault;
 use known_bytes::KnownBytes;
 use std::alloc::{AllocError, Allocator};
@@ -16,10 +17,10 @@ pub(crate) fn push_slots<A: Allocator + Copy>(
     bytes: &KnownBytes<A>,
 ) -> Result<(), AllocError>
     ensures kept { OnOk result (IsWithin faults.old.items faults.new.items) }
-    ensures slots { OnOk result (InEachReplayed bytes.now (λ d. (inode slot : ℕ) → inode < 16 → slot < 4
+    ensures slots { OnOk result (InEachReplayed bytes.now (λ d. (inode slot : ℕ) → inode < INODES → slot < SLOTS
         → HasFaultsOf faults.new.items inode slot d)) }
 {
-    for inode in 0..16u8 {
+    for inode in 0..INODES {
         push_inode(faults, bytes, inode)?;
     }
     Ok(())
@@ -31,12 +32,12 @@ fn push_inode<A: Allocator + Copy>(
     bytes: &KnownBytes<A>,
     inode: u8,
 ) -> Result<(), AllocError>
-    requires { inode < 16 }
+    requires { inode < INODES }
     ensures kept { OnOk result (IsWithin faults.old.items faults.new.items) }
-    ensures slots { OnOk result (InEachReplayed bytes.now (λ d. (slot : ℕ) → slot < 4
+    ensures slots { OnOk result (InEachReplayed bytes.now (λ d. (slot : ℕ) → slot < SLOTS
         → HasFaultsOf faults.new.items inode slot d)) }
 {
-    for slot in 0..4u8 {
+    for slot in 0..SLOTS {
         push_slot(faults, bytes, inode, slot)?;
     }
     Ok(())
@@ -49,8 +50,8 @@ fn push_slot<A: Allocator + Copy>(
     inode: u8,
     slot: u8,
 ) -> Result<(), AllocError>
-    requires inode { inode < 16 }
-    requires slot { slot < 4 }
+    requires inode { inode < INODES }
+    requires slot { slot < SLOTS }
     ensures kept { OnOk result (IsWithin faults.old.items faults.new.items) }
     ensures slot { OnOk result (InEachReplayed bytes.now (HasFaultsOf faults.new.items inode slot)) }
 {

@@ -14,38 +14,40 @@ mod by_inode;
 mod by_slot;
 mod listing;
 
+use crash_model::disk_bytes::{ENTRIES, INODES, POINTERS_FROM, SLOTS};
+use disk_image::{entry_offset, inode_place};
 use known_bytes::{ByteSet, KnownBytes};
 pub use listing::possible_faults;
 use std::alloc::Allocator;
 
 /// The values that a slot of an inode has on any of the disks after replay.
 pub fn pointers<A: Allocator + Copy>(bytes: &KnownBytes<A>, inode: u8, slot: u8) -> ByteSet
-    requires inode { inode < 16 }
-    requires slot { slot < 4 }
+    requires inode { inode < INODES }
+    requires slot { slot < SLOTS }
     ensures { InEach bytes.now
         (λ d. HasValue result.low result.high (pointer_of (image_after_replay d) inode slot)) }
 {
     // For the proof: how many blocks every image has at least.
     let _blocks = bytes.base().blocks();
-    let number = usize::from(inode);
-    bytes.possible(2 + number / 8, 16 * (number % 8) + 4 + usize::from(slot))
+    let (block, from) = inode_place(inode);
+    bytes.possible(usize::from(block), usize::from(from + POINTERS_FROM + slot))
 }
 
 /// The link counts that an inode has on any of the disks after replay.
 pub fn link_counts<A: Allocator + Copy>(bytes: &KnownBytes<A>, inode: u8) -> ByteSet
-    requires { inode < 16 }
+    requires { inode < INODES }
     ensures { InEach bytes.now (λ d. HasValue result.low result.high (links_of (image_after_replay d) inode)) }
 {
     // For the proof: how many blocks every image has at least.
     let _blocks = bytes.base().blocks();
-    let number = usize::from(inode);
-    bytes.possible(2 + number / 8, 16 * (number % 8) + 1)
+    let (block, from) = inode_place(inode);
+    bytes.possible(usize::from(block), usize::from(from) + 1)
 }
 
 /// The values that the first byte of an entry has on any of the disks after replay, if the directory counts.
 pub fn entries<A: Allocator + Copy>(bytes: &KnownBytes<A>, dir: u8, k: u8) -> ByteSet
-    requires dir { dir < 16 }
-    requires k { k < 10 }
+    requires dir { dir < INODES }
+    requires k { k < ENTRIES }
     ensures { InEach bytes.now (λ d. counts (image_after_replay d) dir ≡ true
         → HasValue result.low result.high (entry_of (image_after_replay d) dir k)) }
 {
@@ -54,7 +56,7 @@ pub fn entries<A: Allocator + Copy>(bytes: &KnownBytes<A>, dir: u8, k: u8) -> By
     let mut values = ByteSet::default();
     for block in 0..end {
         if bytes.base().is_data(block) && blocks.has(block) {
-            values = values.union(bytes.possible(usize::from(block), 8 + 12 * usize::from(k)));
+            values = values.union(bytes.possible(usize::from(block), usize::from(entry_offset(k))));
         }
     }
     values

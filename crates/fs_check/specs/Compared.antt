@@ -1,5 +1,6 @@
 -- The blocks of a disk that are compared, as a set, found inode by inode.
 use Rattle.std.specs.Prelude.{◌≡◌, ℕ, ◌<◌, ◌≤◌, ◌⊎◌, ◌↔◌, true}
+use Rattle.crash_model.specs.declared.disk_bytes.TheConstants.{SLOTS}
 use Rattle.patch_sets.specs.Sets.{Has}
 use Rattle.crash_model.specs.Disk.{Disk}
 use Rattle.crash_model.specs.Layout.{pointer_of, is_pointer}
@@ -31,6 +32,6 @@ pub record AreWithSlots (d : Disk) (inode n old new : ℕ) : Type 0 where
 -- the map, the inodes, and the blocks of the first n inodes
 pub record AreFound (d : Disk) (n set : ℕ) : Type 0 where
   pub only : (block : ℕ) → Has set block
-      → ((1 ≤ block) × (block ≤ 3)) ⊎ ((inode : ℕ) × (inode < n) × IsInSlot d inode 4 block)
+      → ((1 ≤ block) × (block ≤ 3)) ⊎ ((inode : ℕ) × (inode < n) × IsInSlot d inode SLOTS block)
   pub low : (block : ℕ) → 1 ≤ block → block ≤ 3 → Has set block
-  pub slots : (inode : ℕ) → inode < n → (slot : ℕ) → slot < 4 → HasSlot d inode slot set
+  pub slots : (inode : ℕ) → inode < n → (slot : ℕ) → slot < SLOTS → HasSlot d inode slot set

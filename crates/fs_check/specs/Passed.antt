@@ -1,5 +1,6 @@
 -- What the checker knows of the pointers and the entries that it has passed.
 use Rattle.std.specs.Prelude.{◌≡◌, ℕ, ◌<◌, ◌≤◌, List, length, slice_index, Bool, false, ◌&&◌, ◌||◌, ◌==◌, not, Option}
+use Rattle.crash_model.specs.declared.disk_bytes.TheConstants.{MOST_BLOCKS, INODES, SLOTS, ENTRIES}
 use Rattle.crash_model.specs.Disk.{Disk, byte}
 use Rattle.crash_model.specs.Layout.{kind_of, links_of, map_of, is_data}
 use Rattle.crash_model.specs.Lists.{when}
@@ -10,14 +11,14 @@ use Rattle.fs_check.specs.Tally.{IsTally}
 -- no fault of a pointer holds
 pub record HasCleanPointers (d : Disk) : Type 0 where
   pub no_twice : (block : ℕ) → block < d.blocks → is_twice d block ≡ false
-  pub no_unwritten : (inode : ℕ) → inode < 16 → (slot : ℕ) → slot < 4 → is_unwritten d inode slot ≡ false
-  pub no_marked_free : (inode : ℕ) → inode < 16 → (slot : ℕ) → slot < 4 → is_marked_free d inode slot ≡ false
-  pub no_wild : (inode : ℕ) → inode < 16 → (slot : ℕ) → slot < 4 → is_wild d inode slot ≡ false
+  pub no_unwritten : (inode : ℕ) → inode < INODES → (slot : ℕ) → slot < SLOTS → is_unwritten d inode slot ≡ false
+  pub no_marked_free : (inode : ℕ) → inode < INODES → (slot : ℕ) → slot < SLOTS → is_marked_free d inode slot ≡ false
+  pub no_wild : (inode : ℕ) → inode < INODES → (slot : ℕ) → slot < SLOTS → is_wild d inode slot ≡ false
 
 -- no fault of an entry holds
 pub record HasCleanEntries (d : Disk) : Type 0 where
-  pub no_dangling : (dir : ℕ) → dir < 16 → (k : ℕ) → k < 10 → is_dangling d dir k ≡ false
-  pub no_low_links : (inode : ℕ) → inode < 16 → has_low_links d inode ≡ false
+  pub no_dangling : (dir : ℕ) → dir < INODES → (k : ℕ) → k < ENTRIES → is_dangling d dir k ≡ false
+  pub no_low_links : (inode : ℕ) → inode < INODES → has_low_links d inode ≡ false
 
 -- a block is marked as an inode's
 abbrev pub is_marked : Disk → ℕ → ℕ → Bool
@@ -39,8 +40,8 @@ pub record Table : Type 0 where
 -- the slots by inode, which count for the blocks that they name
 abbrev pub slots_of : Disk → Table
 slots_of d = record {
-  width = 4;
-  keys = 128;
+  width = SLOTS;
+  keys = MOST_BLOCKS;
   element = λ block inode slot. when (names_block d inode slot block) (inode, slot);
   is_faulty = λ inode slot. is_unwritten d inode slot || is_marked_free d inode slot || is_wild d inode slot;
   most = λ block. 1;
@@ -49,8 +50,8 @@ slots_of d = record {
 -- the entries by directory, which count for the inodes that they lead to
 abbrev pub entries_of : Disk → Table
 entries_of d = record {
-  width = 10;
-  keys = 16;
+  width = ENTRIES;
+  keys = INODES;
   element = λ inode dir k. when (leads_to d dir k inode) (dir, k);
   is_faulty = is_dangling d;
   most = links_of d;

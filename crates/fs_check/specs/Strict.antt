@@ -1,6 +1,6 @@
 -- What an image has lost, inode by inode, and what is read of its directories.
 use Rattle.std.specs.Prelude.{◌≡◌, ℕ, ◌<◌, ◌↔◌, ◌&&◌, slice_index, Option}
-use Rattle.crash_model.specs.declared.disk_bytes.TheConstants.{DIRECTORY_KIND}
+use Rattle.crash_model.specs.declared.disk_bytes.TheConstants.{INODES, DIRECTORY_KIND}
 use Rattle.patch_sets.specs.Sets.{Has, has}
 use Rattle.crash_model.specs.Disk.{Disk}
 use Rattle.crash_model.specs.Layout.{kind_of, is_live}
@@ -27,5 +27,5 @@ IsNamedBy d dir named = (inode : ℕ) → has named inode ≡ (is_live d inode &
 
 -- that set of each inode, and the set of the directories
 pub record AreDirectories (d : Disk) (found : Directories) : Type 0 where
-  pub named : (dir : ℕ) → dir < 16 → IsNamedBy d dir (slice_index found.named dir)
-  pub inodes : (inode : ℕ) → (Has found.inodes inode ↔ ((inode < 16) × (kind_of d inode ≡ DIRECTORY_KIND)))
+  pub named : (dir : ℕ) → dir < INODES → IsNamedBy d dir (slice_index found.named dir)
+  pub inodes : (inode : ℕ) → (Has found.inodes inode ↔ ((inode < INODES) × (kind_of d inode ≡ DIRECTORY_KIND)))

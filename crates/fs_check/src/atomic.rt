@@ -9,6 +9,7 @@ ghost use Rattle.crash_model.specs.Disk.{block_of};
 ghost use Rattle.crash_model.specs.Layout.{is_live};
 ghost use Rattle.fs_check.specs.Compared.{AreCompared, AreFound, AreWithSlots};
 
+use crash_model::disk_bytes::{INODES, SLOTS};
 use crash_model::fault::Fault;
 use disk_image::{Demands, Image};
 use patch_sets::set::{has, with};
@@ -102,7 +103,7 @@ pub fn compared_blocks<A: Allocator + Copy>(disk: &Image<A>) -> u128
 {
     let _blocks = disk.blocks();
     let mut compared = with(with(with(0, 1), 2), 3);
-    for inode in 0..16u8 {
+    for inode in 0..INODES {
         compared = with_inode(disk, inode, compared);
     }
     compared
@@ -110,14 +111,14 @@ pub fn compared_blocks<A: Allocator + Copy>(disk: &Image<A>) -> u128
 
 /// The set with the blocks that an inode points to, if it is live.
 fn with_inode<A: Allocator + Copy>(disk: &Image<A>, inode: u8, blocks: u128) -> u128
-    requires { inode < 16 }
+    requires { inode < INODES }
     ensures { AreFound disk.now inode blocks → AreFound disk.now (inode + 1) result }
 {
     if !disk.is_live(inode) {
         return blocks;
     }
     let mut all = blocks;
-    for slot in 0..4u8 {
+    for slot in 0..SLOTS {
         all = with_slot(disk, inode, slot, all);
     }
     all
@@ -125,8 +126,8 @@ fn with_inode<A: Allocator + Copy>(disk: &Image<A>, inode: u8, blocks: u128) -> 
 
 /// The set with the block that a slot of a live inode names, if it is one of the disk.
 fn with_slot<A: Allocator + Copy>(disk: &Image<A>, inode: u8, slot: u8, blocks: u128) -> u128
-    requires inode { inode < 16 }
-    requires slot { slot < 4 }
+    requires inode { inode < INODES }
+    requires slot { slot < SLOTS }
     requires live { IsTrue (is_live disk.now inode) }
     ensures { (old : ℕ) → AreWithSlots disk.now inode slot old blocks
         → AreWithSlots disk.now inode (slot + 1) old result }

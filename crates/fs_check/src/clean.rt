@@ -8,7 +8,9 @@ ghost use Rattle.fs_check.specs.Passed.{HasCleanPointers, HasCleanEntries, HaveP
 ghost use Rattle.fs_check.specs.Passed.{is_right_block};
 ghost use Rattle.fs_check.specs.Strict.{IsNamedBy, AreDirectories};
 
-use crash_model::disk_bytes::{DIRECTORY_KIND, DIRECTORY_MARK, FILE_KIND, FILE_MARK};
+use crash_model::disk_bytes::{
+    DIRECTORY_KIND, DIRECTORY_MARK, ENTRIES, FILE_KIND, FILE_MARK, INODES, SLOTS,
+};
 use disk_image::Image;
 use std::alloc::Allocator;
 
@@ -25,7 +27,7 @@ pub(crate) fn has_clean_pointers<A: Allocator + Copy>(image: &Image<A>) -> bool
 {
     let _at_most_128 = image.blocks();
     let mut named = [0; 128];
-    for inode in 0..16u8 {
+    for inode in 0..INODES {
         if image.is_live(inode) && !has_clean_slots(image, inode, &mut named) {
             return false;
         }
@@ -35,13 +37,13 @@ pub(crate) fn has_clean_pointers<A: Allocator + Copy>(image: &Image<A>) -> bool
 
 /// The same of one inode's pointers. `named` counts the pointers passed that name each block.
 fn has_clean_slots<A: Allocator + Copy>(image: &Image<A>, inode: u8, named: &mut [u8; 128]) -> bool
-    requires inode { inode < 16 }
+    requires inode { inode < INODES }
     requires live { IsTrue (is_live image.now inode) }
     requires passed { HavePassed (slots_of image.now) inode 0 named.old }
     ensures { MatchBool result (HavePassed (slots_of image.now) (inode + 1) 0 named.new)
         (¬ (HasCleanPointers image.now)) }
 {
-    for slot in 0..4u8 {
+    for slot in 0..SLOTS {
         let block = image.pointer(inode, slot);
         if block != 0 {
             if !is_right_block(image, inode, block) || named[block as usize] != 0 {
@@ -55,7 +57,7 @@ fn has_clean_slots<A: Allocator + Copy>(image: &Image<A>, inode: u8, named: &mut
 
 /// Whether a block is one of the data area, in use, and marked as an inode's.
 pub(crate) fn is_right_block<A: Allocator + Copy>(image: &Image<A>, inode: u8, block: u8) -> bool
-    requires { inode < 16 }
+    requires { inode < INODES }
     ensures value { result ≡ is_right_block image.now inode block }
     ensures within { IsTrue result → block < 128 }
 {
@@ -64,7 +66,7 @@ pub(crate) fn is_right_block<A: Allocator + Copy>(image: &Image<A>, inode: u8, b
 
 /// Whether a block's first two bytes are the mark of an inode's kind and the inode's number.
 pub(crate) fn is_marked<A: Allocator + Copy>(image: &Image<A>, inode: u8, block: u8) -> bool
-    requires inode { inode < 16 }
+    requires inode { inode < INODES }
     requires block { block < image.now.blocks }
     ensures { result ≡ is_marked image.now inode block }
 {
@@ -101,7 +103,7 @@ pub(crate) fn clean_directories<A: Allocator + Copy>(image: &Image<A>) -> Option
     let mut entries = [0; 16];
     let mut named = [0; 16];
     let mut inodes = 0;
-    for dir in 0..16u8 {
+    for dir in 0..INODES {
         if image.kind(dir) == DIRECTORY_KIND {
             inodes = with_inode(inodes, dir);
             if image.counts(dir) {
@@ -119,14 +121,14 @@ fn clean_directory<A: Allocator + Copy>(
     dir: u8,
     entries: &mut [u8; 16],
 ) -> Option<u16>
-    requires dir { dir < 16 }
+    requires dir { dir < INODES }
     requires counts { IsTrue (counts image.now dir) }
     requires passed { HavePassed (entries_of image.now) dir 0 entries.old }
     ensures { MatchOption result (¬ (HasCleanEntries image.now)) (λ named. IsNamedBy image.now dir named
         × HavePassed (entries_of image.now) (dir + 1) 0 entries.new) }
 {
     let mut named = 0;
-    for k in 0..10u8 {
+    for k in 0..ENTRIES {
         let entry = image.entry(dir, k);
         if entry != 0 {
             let inode = entry - 1;
@@ -142,7 +144,7 @@ fn clean_directory<A: Allocator + Copy>(
 
 /// The set with one more inode.
 fn with_inode(set: u16, inode: u8) -> u16
-    requires { inode < 16 }
+    requires { inode < INODES }
     ensures { result ≡ with_id set inode }
 {
     set | 1 << inode

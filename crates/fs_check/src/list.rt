@@ -13,6 +13,7 @@ use crate::clean::is_marked;
 use crate::references::{Pointer, push_dangling, read_pointers};
 use crate::strict::push_strict;
 use arrayvec::ArrayVec;
+use crash_model::disk_bytes::{ENTRIES, INODES, SLOTS};
 use crash_model::fault::Fault;
 use disk_image::{Demands, Image};
 use std::alloc::{AllocError, Allocator};
@@ -107,7 +108,7 @@ enum Test {
 
 /// The fault that a test finds of a pointer.
 fn fault_of<A: Allocator + Copy>(image: &Image<A>, test: Test, pointer: Pointer) -> Option<Fault>
-    requires { pointer.inode < 16 }
+    requires { pointer.inode < INODES }
     ensures { result ≡ fault_of image.now test pointer }
 {
     let Pointer { inode, slot, block } = pointer;
@@ -144,7 +145,7 @@ fn push_wrong<A: Allocator + Copy>(
     test: Test,
     pointers: &[Pointer],
 ) -> Result<(), AllocError>
-    requires { All (λ pointer. pointer.inode < 16) pointers.now }
+    requires { All (λ pointer. pointer.inode < INODES) pointers.now }
     ensures { OnOk result (found.new.items ≡ found.old.items ++ filter_map (fault_of image.now test) pointers.now) }
 {
     for pointer in pointers {
@@ -160,7 +161,7 @@ fn push_twice<A: Allocator + Copy>(
     image: &Image<A>,
     named: &[u8; 128],
 ) -> Result<(), AllocError>
-    requires { IsTally 4 (named_at image.now) 16 0 named.now }
+    requires { IsTally SLOTS (named_at image.now) INODES 0 named.now }
     ensures { OnOk result (found.new.items ≡ found.old.items ++ some_below image.now.blocks (twice_at image.now)) }
 {
     let blocks = image.blocks() as u8;
@@ -195,10 +196,10 @@ fn push_low_links<A: Allocator + Copy>(
     image: &Image<A>,
     led: &[u8; 16],
 ) -> Result<(), AllocError>
-    requires { IsTally 10 (led_at image.now) 16 0 led.now }
-    ensures { OnOk result (found.new.items ≡ found.old.items ++ some_below 16 (low_links_at image.now)) }
+    requires { IsTally ENTRIES (led_at image.now) INODES 0 led.now }
+    ensures { OnOk result (found.new.items ≡ found.old.items ++ some_below INODES (low_links_at image.now)) }
 {
-    for inode in 0..16u8 {
+    for inode in 0..INODES {
         let entries = led[inode as usize];
         let links = image.links(inode);
         if links < entries {

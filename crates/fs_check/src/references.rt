@@ -9,6 +9,7 @@ ghost use Rattle.fs_check.specs.References.{wrong_at, wrong_pointers, named_at, 
 
 use crate::clean::is_right_block;
 use arrayvec::ArrayVec;
+use crash_model::disk_bytes::{ENTRIES, INODES, SLOTS};
 use crash_model::fault::Fault;
 use disk_image::Image;
 use std::alloc::{AllocError, Allocator};
@@ -32,9 +33,9 @@ pub(crate) fn read_pointers<A: Allocator + Copy>(
     requires none { wrong.old.items ≡ [] }
     requires zero { named.old ≡ replicate 128 0 }
     ensures wrong { wrong.new.items ≡ wrong_pointers image.now }
-    ensures named { IsTally 4 (named_at image.now) 16 0 named.new }
+    ensures named { IsTally SLOTS (named_at image.now) INODES 0 named.new }
 {
-    for inode in 0..16u8 {
+    for inode in 0..INODES {
         if image.is_live(inode) {
             read_slots(image, inode, wrong, named);
         }
@@ -48,15 +49,15 @@ fn read_slots<A: Allocator + Copy>(
     wrong: &mut ArrayVec<Pointer, 64>,
     named: &mut [u8; 128],
 )
-    requires inode { inode < 16 }
+    requires inode { inode < INODES }
     requires live { IsTrue (is_live image.now inode) }
     requires room { array_vec_len wrong.old ≤ 4 * inode }
-    requires named { IsTally 4 (named_at image.now) inode 0 named.old }
-    ensures wrong { wrong.new.items ≡ wrong.old.items ++ some_below 4 (wrong_at image.now inode) }
+    requires named { IsTally SLOTS (named_at image.now) inode 0 named.old }
+    ensures wrong { wrong.new.items ≡ wrong.old.items ++ some_below SLOTS (wrong_at image.now inode) }
     ensures room { array_vec_len wrong.new ≤ 4 * (inode + 1) }
-    ensures named { IsTally 4 (named_at image.now) (inode + 1) 0 named.new }
+    ensures named { IsTally SLOTS (named_at image.now) (inode + 1) 0 named.new }
 {
-    for slot in 0..4u8 {
+    for slot in 0..SLOTS {
         let block = image.pointer(inode, slot);
         if block != 0 {
             let pointer = Pointer { inode, slot, block };
@@ -70,13 +71,13 @@ fn read_slots<A: Allocator + Copy>(
 
 /// Counts one more pointer.
 fn count_pointer<A: Allocator + Copy>(image: &Image<A>, pointer: Pointer, named: &mut [u8; 128])
-    requires inode { pointer.inode < 16 }
+    requires inode { pointer.inode < INODES }
     requires live { IsTrue (is_live image.now pointer.inode) }
-    requires slot { pointer.slot < 4 }
+    requires slot { pointer.slot < SLOTS }
     requires some { pointer.block ≢ 0 }
     requires block { pointer_of image.now pointer.inode pointer.slot ≡ pointer.block }
-    requires named { IsTally 4 (named_at image.now) pointer.inode pointer.slot named.old }
-    ensures { IsTally 4 (named_at image.now) pointer.inode (pointer.slot + 1) named.new }
+    requires named { IsTally SLOTS (named_at image.now) pointer.inode pointer.slot named.old }
+    ensures { IsTally SLOTS (named_at image.now) pointer.inode (pointer.slot + 1) named.new }
 {
     if image.is_data(pointer.block) {
         named[pointer.block as usize] += 1;
@@ -90,10 +91,10 @@ pub(crate) fn push_dangling<A: Allocator + Copy>(
     image: &Image<A>,
 ) -> Result<[u8; 16], AllocError>
     ensures found { OnOk result (found.new.items ≡ found.old.items ++ dangling_entries image.now) }
-    ensures led { IfOk result (IsTally 10 (led_at image.now) 16 0) }
+    ensures led { IfOk result (IsTally ENTRIES (led_at image.now) INODES 0) }
 {
     let mut led = [0; 16];
-    for dir in 0..16u8 {
+    for dir in 0..INODES {
         if image.counts(dir) {
             push_dangling_of(found, image, dir, &mut led)?;
         }
@@ -108,14 +109,14 @@ fn push_dangling_of<A: Allocator + Copy>(
     dir: u8,
     led: &mut [u8; 16],
 ) -> Result<(), AllocError>
-    requires dir { dir < 16 }
+    requires dir { dir < INODES }
     requires counts { IsTrue (counts image.now dir) }
-    requires led { IsTally 10 (led_at image.now) dir 0 led.old }
-    ensures found { OnOk result (found.new.items ≡ found.old.items ++ some_below 10 (dangling_at image.now dir)) }
-    ensures led { OnOk result (IsTally 10 (led_at image.now) (dir + 1) 0 led.new) }
+    requires led { IsTally ENTRIES (led_at image.now) dir 0 led.old }
+    ensures found { OnOk result (found.new.items ≡ found.old.items ++ some_below ENTRIES (dangling_at image.now dir)) }
+    ensures led { OnOk result (IsTally ENTRIES (led_at image.now) (dir + 1) 0 led.new) }
 {
     let block = image.pointer(dir, 0);
-    for k in 0..10u8 {
+    for k in 0..ENTRIES {
         let entry = image.byte(block as usize, 8 + 12 * k as usize);
         if entry != 0 {
             let inode = entry - 1;

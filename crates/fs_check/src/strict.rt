@@ -10,7 +10,7 @@ ghost use Rattle.fs_check.specs.Strict.{lost_at, bare_at, IsReachOf, IsNamedBy, 
 use crate::atomic::shows_some;
 use crate::clean::{Directories, clean_directories, has_clean_pointers, is_clean};
 use crate::list::push_some;
-use crash_model::disk_bytes::DIRECTORY_KIND;
+use crash_model::disk_bytes::{DIRECTORY_KIND, ENTRIES, INODES};
 use crash_model::fault::Fault;
 use disk_image::{Demands, Image};
 use patch_sets::ends::{lowest, without};
@@ -88,14 +88,14 @@ pub(crate) fn reached<A: Allocator + Copy>(image: &Image<A>) -> u128
 
 /// The live inodes to which an inode's entries lead, as a set.
 fn named_by<A: Allocator + Copy>(image: &Image<A>, dir: u8) -> u128
-    requires { dir < 16 }
+    requires { dir < INODES }
     ensures { IsNamedBy image.now dir result }
 {
     if !image.counts(dir) {
         return 0;
     }
     let mut named = 0;
-    for k in 0..10u8 {
+    for k in 0..ENTRIES {
         let entry = image.entry(dir, k);
         if entry != 0 && image.is_live(entry - 1) {
             named = with(named, usize::from(entry - 1));
@@ -125,7 +125,7 @@ fn lost_at<A: Allocator + Copy>(
     reached: u128,
     inode: u8,
 ) -> Option<Fault>
-    requires inode { inode < 16 }
+    requires inode { inode < INODES }
     requires reached { IsReachOf image.now reached }
     ensures { result ≡ lost_at kept image.now inode }
 {
@@ -143,9 +143,9 @@ fn push_lost<A: Allocator + Copy>(
     reached: u128,
 ) -> Result<(), AllocError>
     requires { IsReachOf image.now reached }
-    ensures { OnOk result (found.new.items ≡ found.old.items ++ some_below 16 (lost_at kept image.now)) }
+    ensures { OnOk result (found.new.items ≡ found.old.items ++ some_below INODES (lost_at kept image.now)) }
 {
-    for inode in 0..16u8 {
+    for inode in 0..INODES {
         push_some(found, lost_at(image, kept, reached, inode))?;
     }
     Ok(())
@@ -153,7 +153,7 @@ fn push_lost<A: Allocator + Copy>(
 
 /// The fault of an inode, if it is a directory that is reached and has no block.
 fn bare_at<A: Allocator + Copy>(image: &Image<A>, reached: u128, inode: u8) -> Option<Fault>
-    requires inode { inode < 16 }
+    requires inode { inode < INODES }
     requires reached { IsReachOf image.now reached }
     ensures { result ≡ bare_at image.now inode }
 {
@@ -171,9 +171,9 @@ fn push_bare<A: Allocator + Copy>(
     reached: u128,
 ) -> Result<(), AllocError>
     requires { IsReachOf image.now reached }
-    ensures { OnOk result (found.new.items ≡ found.old.items ++ some_below 16 (bare_at image.now)) }
+    ensures { OnOk result (found.new.items ≡ found.old.items ++ some_below INODES (bare_at image.now)) }
 {
-    for inode in 0..16u8 {
+    for inode in 0..INODES {
         push_some(found, bare_at(image, reached, inode))?;
     }
     Ok(())

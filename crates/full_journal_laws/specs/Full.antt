@@ -1,6 +1,7 @@
 -- The promise of the full journal.
 use Rattle.std.specs.Prelude.{◌≡◌, ℕ, ◌+◌, ◌<◌, ◌≤◌, ◌⊎◌, List, [], ◌∷◌, flat_map, take, Bool, true, false, ◌&&◌}
 use Rattle.std.specs.Prelude.{if◌then◌else◌, Ok}
+use Rattle.crash_model.specs.declared.disk_bytes.TheConstants.{JOURNAL_AT}
 use Rattle.patch_sets.specs.Sets.{has}
 use Rattle.patch_sets.specs.Closed.{IsClosed}
 use Rattle.crash_model.specs.Disk.{Disk, block_of}
@@ -39,7 +40,7 @@ after_ops d (op ∷ ops) = after_ops (with_plan d (plan_of d op)) ops
 
 -- a block outside of a journal of jl blocks
 abbrev pub IsOutside : ℕ → ℕ → Type 0
-IsOutside jl block = (block < 4) ⊎ (4 + jl ≤ block)
+IsOutside jl block = (block < 4) ⊎ (JOURNAL_AT + jl ≤ block)
 
 abbrev pub is_commit : Part → Bool
 is_commit Commit = true

@@ -5,6 +5,7 @@ ghost use Rattle.crash_model.specs.Disk.{empty_disk};
 ghost use Rattle.crash_model.specs.Trace.{base_from};
 ghost use Rattle.hints.specs.Enough.{FitsOn, IsEnough};
 
+use crash_model::disk_bytes::MOST_BLOCKS;
 use crash_model::refusals::RunFault;
 use crash_model::settings::Settings;
 use disk_image::{Image, ImageFault};
@@ -12,9 +13,6 @@ use fault_deciding::closed_number;
 use order_modules::{build_base, trace};
 use script_text::Script;
 use std::alloc::{AllocError, Allocator};
-
-/// The most blocks of a disk.
-pub(crate) const MOST_BLOCKS: usize = 128;
 
 /// The size of a disk: all its blocks, and those of its journal.
 #[derive(Clone, Copy, Debug, PartialEq, Eq)]

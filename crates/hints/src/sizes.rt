@@ -3,24 +3,19 @@
 ghost use Rattle.std.specs.Prelude.{IfSome};
 ghost use Rattle.hints.specs.Enough.{IsEnough, enough_in};
 
-use crate::room::{
-    DiskSize, Enough, MOST_BLOCKS, closed_sets, disk_of, enough_blocks, enough_journal,
-};
+use crate::room::{DiskSize, Enough, closed_sets, disk_of, enough_blocks, enough_journal};
+use crash_model::disk_bytes::{MOST_BLOCKS, OTHER_BLOCKS};
 use crash_model::refusals::RunFault;
-use crash_model::settings::{Explorer, ReportBy, Settings};
+use crash_model::settings::{Explorer, MAX_BOARD, MAX_LIMIT, ReportBy, Settings};
 use script_text::Script;
 use std::alloc::Allocator;
 use std::fmt;
 
-/// The blocks of a disk that are neither the journal's nor files': the superblock, the map, two of inodes, the root's
-/// block, and one to spare.
-const OTHER_BLOCKS: usize = 6;
-
 /// The most closed sets that the board holds.
-const MOST_ON_BOARD: u128 = 32_768;
+const MOST_ON_BOARD: u128 = MAX_BOARD as u128;
 
 /// The largest number that `--limit` takes.
-const LARGEST_LIMIT: u128 = 1_000_000_000;
+const LARGEST_LIMIT: u128 = MAX_LIMIT as u128;
 
 /// What does not fit.
 #[derive(Clone, Copy, Debug, PartialEq, Eq)]

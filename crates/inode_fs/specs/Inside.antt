@@ -1,5 +1,6 @@
 -- Where changes lie.
 use Rattle.std.specs.Prelude.{◌≡◌, ℕ, ◌+◌, ◌<◌, ◌≤◌, length}
+use Rattle.crash_model.specs.declared.disk_bytes.TheConstants.{BLOCK_SIZE, JOURNAL_AT}
 use Rattle.crash_model.specs.Disk.{Disk, block_of}
 use Rattle.crash_model.specs.Names.{IsName}
 use Rattle.crash_model.specs.declared.plans.Change.{Change}
@@ -10,11 +11,11 @@ use Rattle.crash_model.specs.declared.operations.Op.TheVariants.{Create, Write, 
 pub record LiesInside (blocks : ℕ) (c : Change) : Type 0 where
   pub block : c.block < blocks
   pub some : 0 < length c.new.items
-  pub range : c.offset + length c.new.items ≤ 128
+  pub range : c.offset + length c.new.items ≤ BLOCK_SIZE
 
 -- the journal's blocks are the same
 abbrev pub HasSameJournal : Disk → Disk → Type 0
-HasSameJournal old new = (block : ℕ) → 4 ≤ block → block < 4 + old.journal → block_of new block ≡ block_of old block
+HasSameJournal old new = (block : ℕ) → JOURNAL_AT ≤ block → block < JOURNAL_AT + old.journal → block_of new block ≡ block_of old block
 
 -- the name that an operation gives is a name
 abbrev pub GivesName : Op → Type 0

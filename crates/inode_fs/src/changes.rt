@@ -6,13 +6,16 @@ ghost use Rattle.crash_model.specs.Plan.{at_inode, inode_init, inode_free, link_
 ghost use Rattle.crash_model.specs.Plan.{entry_clear, map_set, map_clear, init_block};
 
 use arrayvec::ArrayVec;
+use crash_model::disk_bytes::{
+    BLOCK_SIZE, ENTRIES, ENTRY_SIZE, INODE_SIZE, INODES, POINTERS_FROM, SLOTS,
+};
 use crash_model::names::Name;
 use crash_model::plans::{Change, Role};
-use disk_image::Image;
+use disk_image::{Image, entry_offset, inode_place};
 use std::alloc::Allocator;
 
-fn add_all(bytes: &mut ArrayVec<u8, 128>, more: &[u8])
-    requires { length bytes.old.items + length more.now ≤ 128 }
+fn add_all(bytes: &mut ArrayVec<u8, BLOCK_SIZE>, more: &[u8])
+    requires { length bytes.old.items + length more.now ≤ BLOCK_SIZE }
     ensures { bytes.new.items ≡ bytes.old.items ++ more.now }
 {
     for x in more {
@@ -20,8 +23,8 @@ fn add_all(bytes: &mut ArrayVec<u8, 128>, more: &[u8])
     }
 }
 
-fn add_zeros(bytes: &mut ArrayVec<u8, 128>, count: usize)
-    requires { length bytes.old.items + count ≤ 128 }
+fn add_zeros(bytes: &mut ArrayVec<u8, BLOCK_SIZE>, count: usize)
+    requires { length bytes.old.items + count ≤ BLOCK_SIZE }
     ensures { bytes.new.items ≡ bytes.old.items ++ replicate count 0 }
 {
     for _i in 0..count {
@@ -30,8 +33,8 @@ fn add_zeros(bytes: &mut ArrayVec<u8, 128>, count: usize)
 }
 
 /// The bytes, followed by `zeros` zeros.
-fn with_zeros(bytes: &[u8], zeros: usize) -> ArrayVec<u8, 128>
-    requires { length bytes.now + zeros ≤ 128 }
+fn with_zeros(bytes: &[u8], zeros: usize) -> ArrayVec<u8, BLOCK_SIZE>
+    requires { length bytes.now + zeros ≤ BLOCK_SIZE }
     ensures { result.items ≡ bytes.now ++ replicate zeros 0 }
 {
     let mut all = ArrayVec::new();
@@ -40,15 +43,16 @@ fn with_zeros(bytes: &[u8], zeros: usize) -> ArrayVec<u8, 128>
     all
 }
 
-/// New bytes of an inode, from byte `from` on. Inodes 0 to 7 are in block 2, 8 to 15 in block 3, 16 bytes each.
-fn at_inode(role: Role, inode: u8, from: u8, new: ArrayVec<u8, 128>) -> Change
-    requires inode { inode < 16 }
-    requires from { from < 16 }
+/// New bytes of an inode, from its byte `from` on.
+fn at_inode(role: Role, inode: u8, from: u8, new: ArrayVec<u8, BLOCK_SIZE>) -> Change
+    requires inode { inode < INODES }
+    requires from { from < INODE_SIZE }
     ensures { result ≡ at_inode role inode from new.items }
 {
+    let (block, offset) = inode_place(inode);
     Change {
-        block: 2 + inode / 8,
-        offset: 16 * (inode % 8) + from,
+        block,
+        offset: offset + from,
         new,
         role,
     }
@@ -56,23 +60,28 @@ fn at_inode(role: Role, inode: u8, from: u8, new: ArrayVec<u8, 128>) -> Change
 
 /// A new inode of a kind, with one link and no block.
 pub fn inode_init(inode: u8, kind: u8) -> Change
-    requires { inode < 16 }
+    requires { inode < INODES }
     ensures { result ≡ inode_init inode kind }
 {
-    at_inode(Role::InodeInit, inode, 0, with_zeros(&[kind, 1], 14))
+    at_inode(
+        Role::InodeInit,
+        inode,
+        0,
+        with_zeros(&[kind, 1], INODE_SIZE - 2),
+    )
 }
 
 /// An inode that is free again.
 pub fn inode_free(inode: u8) -> Change
-    requires { inode < 16 }
+    requires { inode < INODES }
     ensures { result ≡ inode_free inode }
 {
-    at_inode(Role::InodeFree, inode, 0, with_zeros(&[], 16))
+    at_inode(Role::InodeFree, inode, 0, with_zeros(&[], INODE_SIZE))
 }
 
 /// Another link count, for the role `LinkUp` or `LinkDown`.
 pub fn link_count(role: Role, inode: u8, links: u8) -> Change
-    requires { inode < 16 }
+    requires { inode < INODES }
     ensures { result ≡ link_count role inode links }
 {
     at_inode(role, inode, 1, with_zeros(&[links], 0))
@@ -80,11 +89,16 @@ pub fn link_count(role: Role, inode: u8, links: u8) -> Change
 
 /// A slot of an inode that names a block.
 pub fn pointer_set(inode: u8, slot: u8, block: u8) -> Change
-    requires inode { inode < 16 }
-    requires slot { slot < 4 }
+    requires inode { inode < INODES }
+    requires slot { slot < SLOTS }
     ensures { result ≡ pointer_set inode slot block }
 {
-    at_inode(Role::Ptr, inode, 4 + slot, with_zeros(&[block], 0))
+    at_inode(
+        Role::Ptr,
+        inode,
+        POINTERS_FROM + slot,
+        with_zeros(&[block], 0),
+    )
 }
 
 /// Entry `k` of a directory with a name that leads to an inode.
@@ -95,9 +109,9 @@ pub fn entry_set<A: Allocator + Copy>(
     inode: u8,
     name: &Name,
 ) -> Change
-    requires dir { dir < 16 }
-    requires k { k < 10 }
-    requires inode { inode < 16 }
+    requires dir { dir < INODES }
+    requires k { k < ENTRIES }
+    requires inode { inode < INODES }
     ensures change { result ≡ entry_set image.now dir k inode name.now }
     ensures name { IsName name.now }
 {
@@ -105,7 +119,7 @@ pub fn entry_set<A: Allocator + Copy>(
     add_all(&mut new, name.spelled().as_slice());
     Change {
         block: image.pointer(dir, 0),
-        offset: 8 + 12 * k,
+        offset: entry_offset(k),
         new,
         role: Role::EntrySet,
     }
@@ -113,14 +127,14 @@ pub fn entry_set<A: Allocator + Copy>(
 
 /// Entry `k` of a directory, free again.
 pub fn entry_clear<A: Allocator + Copy>(image: &Image<A>, dir: u8, k: u8) -> Change
-    requires dir { dir < 16 }
-    requires k { k < 10 }
+    requires dir { dir < INODES }
+    requires k { k < ENTRIES }
     ensures { result ≡ entry_clear image.now dir k }
 {
     Change {
         block: image.pointer(dir, 0),
-        offset: 8 + 12 * k,
-        new: with_zeros(&[], 12),
+        offset: entry_offset(k),
+        new: with_zeros(&[], ENTRY_SIZE as usize),
         role: Role::EntryClear,
     }
 }
@@ -156,7 +170,7 @@ pub fn init_block(role: Role, block: u8, mark: u8, inode: u8) -> Change
     Change {
         block,
         offset: 0,
-        new: with_zeros(&[mark, inode], 126),
+        new: with_zeros(&[mark, inode], BLOCK_SIZE - 2),
         role,
     }
 }

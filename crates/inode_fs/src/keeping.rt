@@ -7,6 +7,7 @@ ghost use Rattle.crash_model.specs.Strict.{disk_after, IsKept};
 
 use crate::applying::apply;
 use crate::planning::plan;
+use crash_model::disk_bytes::INODES;
 use crash_model::steps::{Act, Step};
 use disk_image::Image;
 use std::alloc::{AllocError, Allocator};
@@ -42,7 +43,7 @@ fn live_inodes<A: Allocator + Copy>(image: &Image<A>) -> u16
     ensures { (inode : ℕ) → has result inode ≡ is_live image.now inode }
 {
     let mut live = 0;
-    for inode in 0..16u8 {
+    for inode in 0..INODES {
         if image.is_live(inode) {
             live = with_inode(live, inode);
         }
@@ -52,7 +53,7 @@ fn live_inodes<A: Allocator + Copy>(image: &Image<A>) -> u16
 
 /// The set with one more inode.
 fn with_inode(set: u16, inode: u8) -> u16
-    requires { inode < 16 }
+    requires { inode < INODES }
     ensures { result ≡ with_id set inode }
 {
     set | 1 << inode

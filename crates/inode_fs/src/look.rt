@@ -9,7 +9,7 @@ ghost use Rattle.crash_model.specs.Plan.{free_block, free_slot, has_entries};
 ghost use Rattle.crash_model.specs.declared.plans.Change.{Change};
 ghost use Rattle.crash_model.specs.declared.refusals.FsFault.{FsFault};
 
-use crash_model::disk_bytes::{DIRECTORY_KIND, FREE_KIND};
+use crash_model::disk_bytes::{DIRECTORY_KIND, ENTRIES, FREE_KIND, INODES, SLOTS};
 use crash_model::names::{Name, Path};
 use crash_model::refusals::FsFault;
 use disk_image::Image;
@@ -17,8 +17,8 @@ use std::alloc::Allocator;
 
 /// Whether an entry of a directory that counts has this name and leads to a live inode.
 fn is_spelled<A: Allocator + Copy>(image: &Image<A>, dir: u8, k: u8, spelled: &[u8]) -> bool
-    requires dir { dir < 16 }
-    requires k { k < 10 }
+    requires dir { dir < INODES }
+    requires k { k < ENTRIES }
     ensures { result
         ≡ (is_entry image.now dir k && is_live image.now (target_of image.now dir k) && bytes_eq
         (spelling_of image.now dir k) spelled.now) }
@@ -34,13 +34,13 @@ fn is_spelled<A: Allocator + Copy>(image: &Image<A>, dir: u8, k: u8, spelled: &[
 ///
 /// A directory whose block is not marked as its own has no entries.
 pub fn entry_named<A: Allocator + Copy>(image: &Image<A>, dir: u8, name: &Name) -> Option<u8>
-    requires { dir < 16 }
+    requires { dir < INODES }
     ensures value { result ≡ entry_named image.now dir name.now }
-    ensures within { IfSome result (λ k. k < 10) }
+    ensures within { IfSome result (λ k. k < ENTRIES) }
     ensures holds { IfSome result (λ k. IsTrue (is_named image.now dir name.now k)) }
 {
     let spelled = name.spelled();
-    for k in 0..10u8 {
+    for k in 0..ENTRIES {
         if is_spelled(image, dir, k, spelled.as_slice()) {
             return Some(k);
         }
@@ -51,9 +51,9 @@ pub fn entry_named<A: Allocator + Copy>(image: &Image<A>, dir: u8, name: &Name) 
 /// The directory that a name of a directory leads to; refused with 10 if there is no such name, with 11 if it leads to
 /// something else.
 fn enter<A: Allocator + Copy>(image: &Image<A>, dir: u8, name: &Name) -> Result<u8, FsFault>
-    requires { dir < 16 }
+    requires { dir < INODES }
     ensures value { result ≡ directory_named image.now dir name.now }
-    ensures within { IfOk result (λ child. child < 16) }
+    ensures within { IfOk result (λ child. child < INODES) }
 {
     match entry_named(image, dir, name) {
         None => Err(FsFault::NotFound),
@@ -72,7 +72,7 @@ fn enter<A: Allocator + Copy>(image: &Image<A>, dir: u8, name: &Name) -> Result<
 /// fails decides the refusal, 10 or 11.
 pub fn walk<A: Allocator + Copy>(image: &Image<A>, path: &Path) -> Result<u8, FsFault>
     ensures value { result ≡ walk_end image.now 0 path.now.through.items }
-    ensures within { IfOk result (λ dir. dir < 16) }
+    ensures within { IfOk result (λ dir. dir < INODES) }
 {
     let mut dir = 0;
     for name in path.through.as_slice() {
@@ -96,7 +96,7 @@ pub fn find<A: Allocator + Copy>(image: &Image<A>, path: &Path) -> Result<Entry,
         ≡ next e.dir e.place e.target)
         (λ fault. (next : ℕ → ℕ → ℕ → Result (List Change) FsFault) → at_entry image.now path.now next ≡ Err fault) }
     ensures target { IfOk result (λ e. e.target ≡ target_of image.now e.dir e.place) }
-    ensures within { IfOk result (λ e. (e.dir < 16) × (e.place < 10) × (e.target < 16)) }
+    ensures within { IfOk result (λ e. (e.dir < INODES) × (e.place < ENTRIES) × (e.target < INODES)) }
 {
     let dir = walk(image, path)?;
     let place = entry_named(image, dir, &path.last).ok_or(FsFault::NotFound)?;
@@ -107,9 +107,9 @@ pub fn find<A: Allocator + Copy>(image: &Image<A>, path: &Path) -> Result<Entry,
 /// The lowest inode of kind 0.
 pub fn free_inode<A: Allocator + Copy>(image: &Image<A>) -> Option<u8>
     ensures value { result ≡ free_inode image.now }
-    ensures within { IfSome result (λ i. i < 16) }
+    ensures within { IfSome result (λ i. i < INODES) }
 {
-    for i in 0..16u8 {
+    for i in 0..INODES {
         if image.kind(i) == FREE_KIND {
             return Some(i);
         }
@@ -132,11 +132,11 @@ pub fn free_block<A: Allocator + Copy>(image: &Image<A>) -> Option<u8>
 
 /// The lowest slot of an inode that names no block.
 pub fn free_slot<A: Allocator + Copy>(image: &Image<A>, inode: u8) -> Option<u8>
-    requires { inode < 16 }
+    requires { inode < INODES }
     ensures value { result ≡ free_slot image.now inode }
-    ensures within { IfSome result (λ s. s < 4) }
+    ensures within { IfSome result (λ s. s < SLOTS) }
 {
-    for s in 0..4u8 {
+    for s in 0..SLOTS {
         if image.pointer(inode, s) == 0 {
             return Some(s);
         }
@@ -146,13 +146,13 @@ pub fn free_slot<A: Allocator + Copy>(image: &Image<A>, inode: u8) -> Option<u8>
 
 /// Whether an entry of a directory is in use.
 pub fn has_entries<A: Allocator + Copy>(image: &Image<A>, dir: u8) -> bool
-    requires { dir < 16 }
+    requires { dir < INODES }
     ensures { result ≡ has_entries image.now dir }
 {
     if !image.counts(dir) {
         return false;
     }
-    for k in 0..10u8 {
+    for k in 0..ENTRIES {
         if image.entry(dir, k) != 0 {
             return true;
         }

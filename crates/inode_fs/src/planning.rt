@@ -22,7 +22,10 @@ use crate::changes::{
 };
 use crate::look::{Entry, entry_named, find, free_block, free_inode, free_slot, has_entries, walk};
 use arrayvec::ArrayVec;
-use crash_model::disk_bytes::{DIRECTORY_KIND, DIRECTORY_MARK, FILE_KIND, FILE_MARK};
+use crash_model::disk_bytes::{
+    DIRECTORY_KIND, DIRECTORY_MARK, ENTRIES, FILE_KIND, FILE_MARK, INODES, MOST_CHANGES,
+    MOST_LINKS, SLOTS,
+};
 use crash_model::names::Path;
 use crash_model::operations::Op;
 use crash_model::plans::{Plan, Role};
@@ -41,7 +44,7 @@ use std::alloc::Allocator;
 pub fn plan<A: Allocator + Copy>(image: &Image<A>, op: &Op) -> Result<Plan, FsFault>
     ensures changes { MatchResult result (λ plan. plan_of image.now op.now ≡ Ok plan.items) (λ fault.
         plan_of image.now op.now ≡ Err fault) }
-    ensures count { IfOk result (λ plan. (1 ≤ length plan.items) × (length plan.items ≤ 8)) }
+    ensures count { IfOk result (λ plan. (1 ≤ length plan.items) × (length plan.items ≤ MOST_CHANGES)) }
     ensures inside { IfOk result (λ plan. All (LiesInside image.now.blocks) plan.items) }
     ensures journal { IfOk result (λ plan. HasSameJournal image.now (with_changes image.now plan.items)) }
     ensures name { IfOk result (λ _. GivesName op.now) }
@@ -134,10 +137,10 @@ fn further_name<A: Allocator + Copy>(
         ∷ entry_set image.now r.dir r.place r.old.target new.now.last
         ∷ more r.old.dir r.old.place r.old.target))
         (λ fault. (more : ℕ → ℕ → ℕ → List Change) → relink_plan image.now old.now new.now more ≡ Err fault) }
-    ensures links { IfOk result (λ r. (r.links ≡ links_of image.now r.old.target) × (r.links < 8)) }
+    ensures links { IfOk result (λ r. (r.links ≡ links_of image.now r.old.target) × (r.links < MOST_LINKS)) }
     ensures place { IfOk result (λ r. free_entry image.now r.dir ≡ Some r.place) }
-    ensures within { IfOk result (λ r. (r.old.dir < 16) × (r.old.place < 10) × (r.old.target < 16) × (r.dir < 16)
-        × (r.place < 10)) }
+    ensures within { IfOk result (λ r. (r.old.dir < INODES) × (r.old.place < ENTRIES) × (r.old.target < INODES) × (r.dir < INODES)
+        × (r.place < ENTRIES)) }
 {
     let old = find(image, old)?;
     let dir = walk(image, new)?;
@@ -149,7 +152,7 @@ fn further_name<A: Allocator + Copy>(
     }
     let place = image.free_entry(dir).ok_or(FsFault::DirectoryFull)?;
     let links = image.links(old.target);
-    if links >= 8 {
+    if links >= MOST_LINKS {
         return Err(FsFault::LinksFull);
     }
     Ok(FurtherName {
@@ -257,9 +260,9 @@ fn rmdir<A: Allocator + Copy>(image: &Image<A>, path: &Path) -> Result<Plan, FsF
 
 /// Adds the freeing of the block that a slot of an inode names, if that is a block of the data area.
 fn add_map_clear<A: Allocator + Copy>(image: &Image<A>, inode: u8, slot: u8, plan: &mut Plan)
-    requires inode { inode < 16 }
-    requires slot { slot < 4 }
-    requires room { length plan.old.items < 8 }
+    requires inode { inode < INODES }
+    requires slot { slot < SLOTS }
+    requires room { length plan.old.items < MOST_CHANGES }
     ensures { plan.new.items ≡ plan.old.items ++ option_to_list (map_clear_at image.now inode slot) }
 {
     let block = image.pointer(inode, slot);
@@ -271,11 +274,11 @@ fn add_map_clear<A: Allocator + Copy>(image: &Image<A>, inode: u8, slot: u8, pla
 /// Adds the freeing of all blocks of an inode, by ascending slot.
 #[tactic(auto, using(crash_model::proofs::EachBelow::each_below_steps, std::proofs::lemmas::Grind::common_steps))]
 fn add_map_clears<A: Allocator + Copy>(image: &Image<A>, inode: u8, plan: &mut Plan)
-    requires inode { inode < 16 }
-    requires room { length plan.old.items + 4 ≤ 8 }
+    requires inode { inode < INODES }
+    requires room { length plan.old.items + SLOTS ≤ MOST_CHANGES }
     ensures { plan.new.items ≡ plan.old.items ++ map_clears image.now inode }
 {
-    for slot in 0..4u8 {
+    for slot in 0..SLOTS {
         add_map_clear(image, inode, slot, plan);
     }
 }

@@ -6,7 +6,7 @@ ghost use Rattle.crash_model.specs.Disk.{block_of};
 ghost use Rattle.crash_model.specs.Replay.{is_ascending, is_header, is_target};
 ghost use Rattle.journal_replay.specs.Header.{IsHeaderAt};
 
-use crash_model::disk_bytes::{COMMITTED_MARK, DONE_MARK};
+use crash_model::disk_bytes::{BLOCK_SIZE, COMMITTED_MARK, DONE_MARK, JOURNAL_AT, MOST_TARGETS};
 use disk_image::Image;
 use std::alloc::Allocator;
 use std::marker::Model;
@@ -18,7 +18,7 @@ pub struct Header {
     count: usize,
     /// The eight bytes after the count, of which the first are the targets. All of them are copied at once, which is
     /// faster than copying only the targets.
-    numbers: [u8; 8],
+    numbers: [u8; MOST_TARGETS],
 }
 
 impl Model for Header {
@@ -29,7 +29,7 @@ impl Model for Header {
 
     ghost view = { λ h. record { committed = h.committed; targets = take h.count h.numbers } };
 
-    ghost invariant = { λ h. h.count ≤ 8 };
+    ghost invariant = { λ h. h.count ≤ MOST_TARGETS };
 }
 
 impl Header {
@@ -59,8 +59,8 @@ pub fn header_at<A: Allocator + Copy>(image: &Image<A>, at: usize, turn: usize) 
     if !is_header(image, row, at, turn) {
         return None;
     }
-    let mut numbers = [0; 8];
-    numbers.copy_from_slice(&row[3..11]);
+    let mut numbers = [0; MOST_TARGETS];
+    numbers.copy_from_slice(&row[3..3 + MOST_TARGETS]);
     Some(Header {
         committed: row[0] == COMMITTED_MARK,
         count: usize::from(row[2]),
@@ -70,16 +70,16 @@ pub fn header_at<A: Allocator + Copy>(image: &Image<A>, at: usize, turn: usize) 
 
 /// Whether a block's bytes make it the header of transaction `turn` in journal block `at`.
 fn is_header<A: Allocator + Copy>(image: &Image<A>, row: &[u8], at: usize, turn: usize) -> bool
-    requires block { length row.now ≡ 128 }
+    requires block { length row.now ≡ BLOCK_SIZE }
     requires inside { at < image.now.blocks }
     ensures { result ≡ is_header image.now at turn row.now }
 {
     let count = usize::from(row[2]);
-    at < 4 + image.journal()
+    at < JOURNAL_AT + image.journal()
         && (row[0] == COMMITTED_MARK || row[0] == DONE_MARK)
         && usize::from(row[1]) == turn
         && 1 <= count
-        && count <= 8
+        && count <= MOST_TARGETS
         && at + count <= 3 + image.journal()
         && is_ascending(&row[3..3 + count])
         && are_targets(image, &row[3..3 + count])

@@ -9,6 +9,7 @@ ghost use Rattle.journal_replay.specs.Changed.{DifferAtMost};
 ghost use Rattle.journal_replay.specs.Walk.{with_copies};
 
 use crate::header::header_at;
+use crash_model::disk_bytes::{JOURNAL_AT, MOST_BLOCKS};
 use disk_image::Image;
 use patch_sets::set::with;
 use std::alloc::Allocator;
@@ -19,11 +20,11 @@ use std::alloc::Allocator;
 /// the blocks that it wrote, as a set of patches has ids: all others are as they were.
 pub fn replay<A: Allocator + Copy>(image: &mut Image<A>) -> u128
     ensures replayed { image.new ≡ image_after_replay image.old }
-    ensures journal { (block : ℕ) → 4 ≤ block → block < 4 + image.old.journal
+    ensures journal { (block : ℕ) → JOURNAL_AT ≤ block → block < JOURNAL_AT + image.old.journal
         → block_of image.new block ≡ block_of image.old block }
     ensures others { DifferAtMost result image.old image.new }
 {
-    let mut at = 4;
+    let mut at = JOURNAL_AT;
     let mut turn = 1;
     let mut written = 0;
     let _journal = image.journal();
@@ -54,7 +55,7 @@ fn with_all(set: u128, blocks: &[u8]) -> u128
 
 /// Copies the blocks from `first` on over the targets, in order.
 fn copy_blocks<A: Allocator + Copy>(image: &mut Image<A>, first: usize, targets: &[u8])
-    requires few { image.old.blocks ≤ 128 }
+    requires few { image.old.blocks ≤ MOST_BLOCKS }
     requires from { first + length targets.now ≤ image.old.blocks }
     requires to { All (λ target. target < image.old.blocks) targets.now }
     ensures { image.new ≡ with_copies image.old first targets.now }

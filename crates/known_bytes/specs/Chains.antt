@@ -1,6 +1,7 @@
 -- The patches that cover each byte of a disk.
 use Rattle.std.specs.Prelude.{◌≡◌, ℕ, ◌+◌, ◌*◌, ◌<◌, ◌≤◌, ◌↔◌, ◌⊎◌, List, length, slice_index}
 use Rattle.std.specs.List.{All}
+use Rattle.crash_model.specs.declared.disk_bytes.TheConstants.{BLOCK_SIZE}
 use Rattle.patch_sets.specs.Sets.{Has}
 use Rattle.patch_graph.specs.Graph.{IsGraph}
 use Rattle.crash_model.specs.Disk.{Disk, IsDisk}
@@ -18,9 +19,9 @@ pub record AreChains (change : Change) (sets : List ℕ) : Type 0 where
   pub disk : IsDisk change.base
   pub graph : IsGraph change.patches
   pub fits : All (λ p. p.block < change.base.blocks) change.patches
-  pub long : length sets ≡ 128 * change.base.blocks
-  pub exactly : (block offset id : ℕ) → block < change.base.blocks → offset < 128
-      → (Has (slice_index sets (128 * block + offset)) id ↔ CoversAt change.patches id block offset)
+  pub long : length sets ≡ BLOCK_SIZE * change.base.blocks
+  pub exactly : (block offset id : ℕ) → block < change.base.blocks → offset < BLOCK_SIZE
+      → (Has (slice_index sets (BLOCK_SIZE * block + offset)) id ↔ CoversAt change.patches id block offset)
 
 -- there are such sets
 pub record HasChains (change : Change) : Type 0 where

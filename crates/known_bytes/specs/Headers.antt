@@ -3,6 +3,7 @@ use Rattle.std.specs.Prelude.{◌≡◌, ◌≢◌, ℕ, zero, suc, ◌+◌, ◌
 use Rattle.std.specs.Prelude.{nat_le, ◌⊎◌, Result, Ok}
 use Rattle.patch_sets.specs.Sets.{Has}
 use Rattle.std.specs.List.{list_all}
+use Rattle.crash_model.specs.declared.disk_bytes.TheConstants.{JOURNAL_AT}
 use Rattle.crash_model.specs.Disk.{Disk, byte, block_of}
 use Rattle.crash_model.specs.Replay.{is_header, is_target, is_ascending, targets_of}
 use Rattle.known_bytes.specs.Family.{Family, InEach}
@@ -64,7 +65,7 @@ pub record AreAdded (old new : List ℕ) (first : ℕ) (targets : List ℕ) (n :
 pub record IsCopyOf (d : Disk) (block at : ℕ) : Type 0 where
   pub header : ℕ
   pub place : ℕ
-  pub from : 4 ≤ header
+  pub from : JOURNAL_AT ≤ header
   pub few : place < 8
   pub behind : at ≡ header + 1 + place
   pub names : byte d header (3 + place) ≡ block

@@ -1,5 +1,6 @@
 -- The inodes that are reached, each perhaps on some of the disks only.
 use Rattle.std.specs.Prelude.{◌≡◌, ℕ, ◌<◌, ◌&&◌, List, slice_index, Bool, true, false}
+use Rattle.crash_model.specs.declared.disk_bytes.TheConstants.{INODES}
 use Rattle.patch_sets.specs.Sets.{Has}
 use Rattle.crash_model.specs.Disk.{Disk}
 use Rattle.crash_model.specs.Layout.{is_live}
@@ -16,7 +17,7 @@ names_live dir inode d = is_live d inode && has_entry_to d dir inode
 pub record IsReach (r : Reading) (sure may : ℕ) (asks : List ℕ) : Type 0 where
   pub sound : (inode : ℕ) → Has sure inode → InEachDisk r (λ d. is_reached d inode ≡ true)
   pub within : (inode : ℕ) → Has sure inode → Has may inode
-  pub few : (inode : ℕ) → Has may inode → inode < 16
+  pub few : (inode : ℕ) → Has may inode → inode < INODES
   pub asked : (inode : ℕ) → Has may inode → ¬ (Has sure inode) → IsUndecided r.family (slice_index asks inode)
 
 -- no disk reaches an inode outside the set

@@ -1,5 +1,6 @@
 -- The images of a family as they are left or after replay of the journal.
 use Rattle.std.specs.Prelude.{◌≡◌, ◌≢◌, ℕ, ◌<◌, List, slice_index, Bool, false, if◌then◌else◌, Result, Ok, Err}
+use Rattle.crash_model.specs.declared.disk_bytes.TheConstants.{BLOCK_SIZE}
 use Rattle.crash_model.specs.Disk.{Disk, byte}
 use Rattle.crash_model.specs.Replay.{image_after_replay}
 use Rattle.known_bytes.specs.Family.{Family, InEach, IsUndecided}
@@ -23,7 +24,7 @@ pub record AreHomes (r : Reading) (homes others asks : List ℕ) : Type 0 where
   pub within : (block home : ℕ) → block < r.family.base.blocks → IsHome homes others block home
       → home < r.family.base.blocks
   pub among : InEach r.family (λ d. (block : ℕ) → block < d.blocks → (home : ℕ) × IsHome homes others block home
-      × ((offset : ℕ) → offset < 128 → byte (disk_of r d) block offset ≡ byte d home offset))
+      × ((offset : ℕ) → offset < BLOCK_SIZE → byte (disk_of r d) block offset ≡ byte d home offset))
   pub asked : (block : ℕ) → block < 128 → slice_index others block ≢ 0 → IsUndecided r.family (slice_index asks block)
 
 -- What is read of the disks at once: what each of them has, or an undecided patch on which it depends.

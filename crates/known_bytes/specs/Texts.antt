@@ -1,5 +1,6 @@
 -- A disk has a fault of a text. Faults are those of Faults, of Strict and of Atomic.
 use Rattle.std.specs.Prelude.{ℕ, ◌<◌, List, slice_index, length, Bool, false, ◌&&◌, ◌==◌, nat_lt, Option, Some, None}
+use Rattle.crash_model.specs.declared.disk_bytes.TheConstants.{INODES, SLOTS, ENTRIES}
 use Rattle.crash_model.specs.Disk.{Disk}
 use Rattle.crash_model.specs.Layout.{target_of, links_of, pointer_of}
 use Rattle.crash_model.specs.Faults.{is_dangling, is_twice, is_unwritten, has_low_links, entries_to, is_marked_free}
@@ -14,35 +15,35 @@ use Rattle.crash_model.specs.declared.fault.Fault.TheVariants.{Lost, NoBlock, Ha
 -- each by its numbers, which are those of an entry, a slot or an inode
 abbrev pub dangling_there : Disk → ℕ → ℕ → ℕ → Bool
 dangling_there d dir k inode =
-    (nat_lt dir 16 && nat_lt k 10 && nat_lt inode 255) && (is_dangling d dir k && target_of d dir k == inode)
+    (nat_lt dir INODES && nat_lt k ENTRIES && nat_lt inode 255) && (is_dangling d dir k && target_of d dir k == inode)
 
 abbrev pub twice_there : Disk → ℕ → Bool
 twice_there d block = is_twice d block
 
 abbrev pub unwritten_there : Disk → ℕ → ℕ → ℕ → Bool
 unwritten_there d inode slot block =
-    (nat_lt inode 16 && nat_lt slot 4) && (is_unwritten d inode slot && pointer_of d inode slot == block)
+    (nat_lt inode INODES && nat_lt slot SLOTS) && (is_unwritten d inode slot && pointer_of d inode slot == block)
 
 abbrev pub low_there : Disk → ℕ → ℕ → ℕ → Bool
 low_there d inode entries links =
-    nat_lt inode 16
+    nat_lt inode INODES
     && (has_low_links d inode && (length (entries_to d inode) == entries && links_of d inode == links))
 
 abbrev pub marked_free_there : Disk → ℕ → ℕ → ℕ → Bool
 marked_free_there d inode slot block =
-    (nat_lt inode 16 && nat_lt slot 4) && (is_marked_free d inode slot && pointer_of d inode slot == block)
+    (nat_lt inode INODES && nat_lt slot SLOTS) && (is_marked_free d inode slot && pointer_of d inode slot == block)
 
 abbrev pub wild_there : Disk → ℕ → ℕ → ℕ → Bool
 wild_there d inode slot block =
-    (nat_lt inode 16 && nat_lt slot 4) && (is_wild d inode slot && pointer_of d inode slot == block)
+    (nat_lt inode INODES && nat_lt slot SLOTS) && (is_wild d inode slot && pointer_of d inode slot == block)
 
 abbrev pub lost_there : Option ℕ → Disk → ℕ → Bool
 lost_there None d inode = false
-lost_there (Some kept) d inode = nat_lt inode 16 && is_lost d kept inode
+lost_there (Some kept) d inode = nat_lt inode INODES && is_lost d kept inode
 
 abbrev pub bare_there : Option ℕ → Disk → ℕ → Bool
 bare_there None d inode = false
-bare_there (Some kept) d inode = nat_lt inode 16 && lacks_block d inode
+bare_there (Some kept) d inode = nat_lt inode INODES && lacks_block d inode
 
 abbrev pub half_done_there : Option (List Disk) → Disk → Bool
 half_done_there None d = false

@@ -11,6 +11,7 @@ ghost use Rattle.known_bytes.specs.Reading.{IsKnown, left};
 
 use crate::byte_set::ByteSet;
 use crate::chains::Chains;
+use crash_model::disk_bytes::BLOCK_SIZE;
 use crash_model::patches::Patch;
 use disk_image::Image;
 use patch_graph::Graph;
@@ -86,7 +87,7 @@ impl<'a, A: Allocator + Copy> KnownBytes<'a, A> {
     /// The byte of the image of the patches held.
     fn held_byte(&self, block: usize, offset: usize) -> u8
         requires block { block < self.now.base.blocks }
-        requires offset { offset < 128 }
+        requires offset { offset < BLOCK_SIZE }
         ensures { result ≡ byte (image_of self.now.base self.now.patches self.now.held) block offset }
     {
         match highest(self.held & self.chains.at(block, offset)) {
@@ -98,7 +99,7 @@ impl<'a, A: Allocator + Copy> KnownBytes<'a, A> {
     /// A byte, if all images have the same; otherwise an undecided patch that puts another there.
     pub fn byte(&self, block: usize, offset: usize) -> Result<u8, usize>
         requires block { block < self.now.base.blocks }
-        requires offset { offset < 128 }
+        requires offset { offset < BLOCK_SIZE }
         ensures { IsKnown (left self.now) (λ d. byte d block offset) result }
     {
         let value = self.held_byte(block, offset);
@@ -120,7 +121,7 @@ impl<'a, A: Allocator + Copy> KnownBytes<'a, A> {
         values: [u8; 2],
     ) -> Result<bool, usize>
         requires block { block < self.now.base.blocks }
-        requires offset { offset < 128 }
+        requires offset { offset < BLOCK_SIZE }
         ensures { IsKnown (left self.now)
             (λ d. is_one_of (slice_index values 0) (slice_index values 1) (byte d block offset)) result }
     {
@@ -135,7 +136,7 @@ impl<'a, A: Allocator + Copy> KnownBytes<'a, A> {
     /// Whether a byte has a value, in the same way.
     pub fn byte_is(&self, block: usize, offset: usize, value: u8) -> Result<bool, usize>
         requires block { block < self.now.base.blocks }
-        requires offset { offset < 128 }
+        requires offset { offset < BLOCK_SIZE }
         ensures { IsKnown (left self.now) (λ d. byte d block offset == value) result }
     {
         self.byte_is_one_of(block, offset, [value, value])
@@ -144,7 +145,7 @@ impl<'a, A: Allocator + Copy> KnownBytes<'a, A> {
     /// The only value but 0 that a byte has in any image, or 0; else an undecided patch that puts another there.
     pub fn only(&self, block: usize, offset: usize) -> Result<u8, usize>
         requires block { block < self.now.base.blocks }
-        requires offset { offset < 128 }
+        requires offset { offset < BLOCK_SIZE }
         ensures ok { IfOk result (λ value. InEach self.now (λ d. is_one_of 0 value (byte d block offset) ≡ true)) }
         ensures err { IfErr result (IsUndecided self.now) }
     {
@@ -163,7 +164,7 @@ impl<'a, A: Allocator + Copy> KnownBytes<'a, A> {
     /// A value but 0 that an undecided patch puts at a byte, or 0.
     fn later(&self, block: usize, offset: usize) -> u8
         requires block { block < self.now.base.blocks }
-        requires offset { offset < 128 }
+        requires offset { offset < BLOCK_SIZE }
     {
         let mut left = self.undecided & self.chains.at(block, offset);
         while let Some(id) = lowest(left) {
@@ -179,7 +180,7 @@ impl<'a, A: Allocator + Copy> KnownBytes<'a, A> {
     /// The values that a byte has in any image, and no more than the patches put there.
     pub fn values(&self, block: usize, offset: usize) -> ByteSet
         requires block { block < self.now.base.blocks }
-        requires offset { offset < 128 }
+        requires offset { offset < BLOCK_SIZE }
         ensures { InEach self.now (λ d. HasValue result.low result.high (byte d block offset)) }
     {
         let mut values = ByteSet::default().with(self.held_byte(block, offset));
@@ -195,7 +196,7 @@ impl<'a, A: Allocator + Copy> KnownBytes<'a, A> {
     /// not to be alike, one that does.
     fn other(&self, block: usize, offset: usize, values: [u8; 2], alike: bool) -> Option<usize>
         requires block { block < self.now.base.blocks }
-        requires offset { offset < 128 }
+        requires offset { offset < BLOCK_SIZE }
         ensures { MatchOption result
             (is_one_of (slice_index values 0) (slice_index values 1)
             (byte (image_of self.now.base self.now.patches self.now.held) block offset) ≡ alike

@@ -7,6 +7,7 @@ ghost use Rattle.patch_graph.specs.Graph.{IsPatch};
 ghost use Rattle.known_bytes.specs.Chains.{AddsFrom, HasChains};
 ghost use Rattle.known_bytes.specs.Family.{CoversAt};
 
+use crash_model::disk_bytes::BLOCK_SIZE;
 use crash_model::patches::Patch;
 use disk_image::Image;
 use patch_graph::Graph;
@@ -46,7 +47,7 @@ impl<'a, A: Allocator + Copy> Chains<'a, A> {
         requires { All (λ patch. patch.block < base.now.blocks) graph.now }
         ensures { IfOk result (λ chains. chains ≡ record { base = base.now; patches = graph.now }) }
     {
-        let mut sets = Vec::from_elem(alloc, 0u128, 128 * base.blocks())?;
+        let mut sets = Vec::from_elem(alloc, 0u128, BLOCK_SIZE * base.blocks())?;
         for id in 0..graph.len() {
             mark(&mut sets, id, graph.patch(id));
         }
@@ -71,12 +72,12 @@ impl<'a, A: Allocator + Copy> Chains<'a, A> {
     /// The patches that cover a byte.
     pub(crate) fn at(&self, block: usize, offset: usize) -> u128
         requires block { block < self.now.base.blocks }
-        requires offset { offset < 128 }
+        requires offset { offset < BLOCK_SIZE }
         ensures { (id : ℕ) → Has result id ↔ CoversAt self.now.patches id block offset }
     {
         // For the proof: how many blocks every image has at most.
         let _blocks = self.base.blocks();
-        self.sets[128 * block + offset]
+        self.sets[BLOCK_SIZE * block + offset]
     }
 }
 
@@ -84,10 +85,10 @@ impl<'a, A: Allocator + Copy> Chains<'a, A> {
 fn mark(sets: &mut [u128], id: usize, patch: &Patch)
     requires id { id < 128 }
     requires patch { IsPatch patch.now }
-    requires fits { 128 * patch.now.block + 128 ≤ length sets.old }
-    ensures { AddsFrom id (128 * patch.now.block + patch.now.offset) (length patch.now.new.items) sets.old sets.new }
+    requires fits { BLOCK_SIZE * patch.now.block + 128 ≤ length sets.old }
+    ensures { AddsFrom id (BLOCK_SIZE * patch.now.block + patch.now.offset) (length patch.now.new.items) sets.old sets.new }
 {
-    let from = 128 * usize::from(patch.block) + usize::from(patch.offset);
+    let from = BLOCK_SIZE * usize::from(patch.block) + usize::from(patch.offset);
     for place in from..from + patch.new.len() {
         sets[place] = with(sets[place], id);
     }

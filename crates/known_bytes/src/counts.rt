@@ -12,17 +12,19 @@ use crate::answers::both;
 use crate::bounds::Bounds;
 use crate::directories::Directory;
 use crate::disk::KnownDisk;
+use crash_model::disk_bytes::{ENTRIES, INODES, SLOTS};
+use disk_image::entry_offset;
 use std::alloc::Allocator;
 
 impl<'a, A: Allocator + Copy> KnownDisk<'a, A> {
     /// How many slots of an inode name a block.
     fn named_in(&self, inode: u8, block: u8) -> Bounds
-        requires { inode < 16 }
-        ensures count { AreBounds self.now (λ d. slots_in 4 d block inode) result.least result.most result.ask }
-        ensures few { (result.least ≤ result.most) × (result.most ≤ 4) }
+        requires { inode < INODES }
+        ensures count { AreBounds self.now (λ d. slots_in SLOTS d block inode) result.least result.most result.ask }
+        ensures few { (result.least ≤ result.most) × (result.most ≤ SLOTS) }
     {
         let mut count = Bounds::none();
-        for slot in 0..4u8 {
+        for slot in 0..SLOTS {
             count = count.with(self.names(inode, slot, block));
         }
         count
@@ -33,7 +35,7 @@ impl<'a, A: Allocator + Copy> KnownDisk<'a, A> {
         ensures { AreBounds self.now (λ d. length (namers d block)) result.least result.most result.ask }
     {
         let mut count = Bounds::none();
-        for inode in 0..16u8 {
+        for inode in 0..INODES {
             count = count.plus(self.named_in(inode, block));
         }
         count
@@ -48,17 +50,17 @@ impl<'a, A: Allocator + Copy> KnownDisk<'a, A> {
 
     /// How many entries of a directory that may count lead to an inode.
     fn leads_from(&self, dir: u8, directory: Directory, inode: u8) -> Bounds
-        requires dir { dir < 16 }
-        requires inode { inode < 16 }
+        requires dir { dir < INODES }
+        requires inode { inode < INODES }
         requires block { directory.block < self.now.family.base.blocks }
         requires found { IsFound self.now dir directory.block directory.counts }
-        ensures count { AreBounds self.now (λ d. entries_in 10 d inode dir) result.least result.most result.ask }
-        ensures few { (result.least ≤ result.most) × (result.most ≤ 10) }
+        ensures count { AreBounds self.now (λ d. entries_in ENTRIES d inode dir) result.least result.most result.ask }
+        ensures few { (result.least ≤ result.most) × (result.most ≤ ENTRIES) }
     {
         let block = usize::from(directory.block);
         let mut count = Bounds::none();
-        for k in 0..10u8 {
-            let names = self.byte_is(block, 8 + 12 * usize::from(k), inode + 1);
+        for k in 0..ENTRIES {
+            let names = self.byte_is(block, usize::from(entry_offset(k)), inode + 1);
             count = count.with(both(directory.counts, names));
         }
         count
@@ -66,13 +68,13 @@ impl<'a, A: Allocator + Copy> KnownDisk<'a, A> {
 
     /// How many entries of a directory lead to an inode, once the directory was looked for.
     pub(crate) fn leads_in(&self, dir: u8, found: Option<Directory>, inode: u8) -> Bounds
-        requires dir { dir < 16 }
-        requires inode { inode < 16 }
+        requires dir { dir < INODES }
+        requires inode { inode < INODES }
         requires found { MatchOption found (InEachDisk self.now (λ d. counts d dir ≡ false))
             (λ it. IsFound self.now dir it.block it.counts) }
         requires within { IfSome found (λ it. it.block < self.now.family.base.blocks) }
-        ensures count { AreBounds self.now (λ d. entries_in 10 d inode dir) result.least result.most result.ask }
-        ensures few { (result.least ≤ result.most) × (result.most ≤ 10) }
+        ensures count { AreBounds self.now (λ d. entries_in ENTRIES d inode dir) result.least result.most result.ask }
+        ensures few { (result.least ≤ result.most) × (result.most ≤ ENTRIES) }
     {
         match found {
             None => Bounds::none(),
@@ -82,13 +84,13 @@ impl<'a, A: Allocator + Copy> KnownDisk<'a, A> {
 
     /// How many entries lead to an inode.
     fn entries_to(&self, inode: u8) -> Result<Bounds, usize>
-        requires { inode < 16 }
+        requires { inode < INODES }
         ensures ok { IfOk result (λ count. AreBounds self.now (λ d. length (entries_to d inode)) count.least count.most
             count.ask) }
         ensures err { IfErr result (IsUndecided self.now.family) }
     {
         let mut count = Bounds::none();
-        for dir in 0..16u8 {
+        for dir in 0..INODES {
             let found = self.directory(dir)?;
             count = count.plus(self.leads_in(dir, found, inode));
         }
@@ -97,7 +99,7 @@ impl<'a, A: Allocator + Copy> KnownDisk<'a, A> {
 
     /// Whether exactly `entries` entries lead to an inode.
     fn entries_are(&self, inode: u8, entries: u8) -> Result<bool, usize>
-        requires { inode < 16 }
+        requires { inode < INODES }
         ensures { IsKnown self.now (λ d. length (entries_to d inode) == entries) result }
     {
         let count = self.entries_to(inode)?;
@@ -106,7 +108,7 @@ impl<'a, A: Allocator + Copy> KnownDisk<'a, A> {
 
     /// Whether an inode in use has a link count of `links`, exactly `entries` entries lead to it, and these are more.
     pub fn has_low_links(&self, inode: u8, entries: u8, links: u8) -> Result<bool, usize>
-        requires { inode < 16 }
+        requires { inode < INODES }
         ensures { IsKnown self.now (λ d. has_low_links d inode && (length (entries_to d inode) == entries
             && links_of d inode == links)) result }
     {

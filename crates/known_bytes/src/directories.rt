@@ -8,6 +8,7 @@ ghost use Rattle.known_bytes.specs.Reading.{InEachDisk};
 
 use crate::answers::never_holds;
 use crate::disk::KnownDisk;
+use crash_model::disk_bytes::INODES;
 use std::alloc::Allocator;
 
 /// A directory that may count: the block that it has if it does, and whether it does.
@@ -20,7 +21,7 @@ pub(crate) struct Directory {
 impl<'a, A: Allocator + Copy> KnownDisk<'a, A> {
     /// A directory, if it may count; else an undecided patch that gives it another block.
     pub(crate) fn directory(&self, dir: u8) -> Result<Option<Directory>, usize>
-        requires { dir < 16 }
+        requires { dir < INODES }
         ensures ok { IfOk result (λ found. MatchOption found (InEachDisk self.now (λ d. counts d dir ≡ false))
             (λ it. IsFound self.now dir it.block it.counts)) }
         ensures within { IfOk result (λ found. IfSome found (λ it. it.block < self.now.family.base.blocks)) }

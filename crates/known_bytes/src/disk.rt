@@ -11,8 +11,10 @@ use crate::answers::{are_alike, both, negation};
 use crate::byte_set::ByteSet;
 use crate::bytes::KnownBytes;
 use crate::homes::Homes;
-use crash_model::disk_bytes::{DIRECTORY_KIND, DIRECTORY_MARK, FREE_KIND};
-use disk_image::Image;
+use crash_model::disk_bytes::{
+    BLOCK_SIZE, FREE_KIND, INODE_SIZE, INODES, KINDS_AT, POINTERS_FROM, SLOTS,
+};
+use disk_image::{Image, inode_place};
 use patch_sets::ends::{lowest, without_lowest};
 use std::alloc::Allocator;
 use std::marker::Model;
@@ -80,7 +82,7 @@ impl<'a, A: Allocator + Copy> KnownDisk<'a, A> {
     /// image in which it is read: it is known if all blocks in which it may be read give the same answer.
     pub fn byte_is(&self, block: usize, offset: usize, value: u8) -> Result<bool, usize>
         requires block { block < self.now.family.base.blocks }
-        requires offset { offset < 128 }
+        requires offset { offset < BLOCK_SIZE }
         ensures { IsKnown self.now (λ d. byte d block offset == value) result }
     {
         // For the proof: how many blocks every image has at most.
@@ -101,7 +103,7 @@ impl<'a, A: Allocator + Copy> KnownDisk<'a, A> {
     /// The only value but 0 that a byte of a block has on any disk, or 0.
     pub(crate) fn only(&self, block: usize, offset: usize) -> Result<u8, usize>
         requires block { block < self.now.family.base.blocks }
-        requires offset { offset < 128 }
+        requires offset { offset < BLOCK_SIZE }
         ensures ok { IfOk result (λ value. InEachDisk self.now (λ d. is_one_of 0 value (byte d block offset) ≡ true)) }
         ensures err { IfErr result (IsUndecided self.now.family) }
     {
@@ -132,19 +134,19 @@ impl<'a, A: Allocator + Copy> KnownDisk<'a, A> {
 
     /// Whether a byte of an inode has a value.
     fn inode_byte_is(&self, inode: u8, at: usize, value: u8) -> Result<bool, usize>
-        requires inode { inode < 16 }
-        requires at { at < 16 }
-        ensures { IsKnown self.now (λ d. slice_index d.bytes (256 + 16 * inode + at) == value) result }
+        requires inode { inode < INODES }
+        requires at { at < INODE_SIZE }
+        ensures { IsKnown self.now (λ d. slice_index d.bytes (KINDS_AT + INODE_SIZE * inode + at) == value) result }
     {
         // For the proof: how many blocks every image has at least.
         let _blocks = self.bytes.base().blocks();
-        let number = usize::from(inode);
-        self.byte_is(2 + number / 8, 16 * (number % 8) + at, value)
+        let (block, from) = inode_place(inode);
+        self.byte_is(usize::from(block), usize::from(from) + at, value)
     }
 
     /// Whether an inode is of a kind.
     pub fn kind_is(&self, inode: u8, kind: u8) -> Result<bool, usize>
-        requires { inode < 16 }
+        requires { inode < INODES }
         ensures { IsKnown self.now (λ d. kind_of d inode == kind) result }
     {
         self.inode_byte_is(inode, 0, kind)
@@ -152,7 +154,7 @@ impl<'a, A: Allocator + Copy> KnownDisk<'a, A> {
 
     /// Whether an inode's link count is `links`.
     pub fn links_are(&self, inode: u8, links: u8) -> Result<bool, usize>
-        requires { inode < 16 }
+        requires { inode < INODES }
         ensures { IsKnown self.now (λ d. links_of d inode == links) result }
     {
         self.inode_byte_is(inode, 1, links)
@@ -160,18 +162,18 @@ impl<'a, A: Allocator + Copy> KnownDisk<'a, A> {
 
     /// Whether a slot of an inode has a value.
     pub fn pointer_is(&self, inode: u8, slot: u8, block: u8) -> Result<bool, usize>
-        requires inode { inode < 16 }
-        requires slot { slot < 4 }
+        requires inode { inode < INODES }
+        requires slot { slot < SLOTS }
         ensures { IsKnown self.now (λ d. pointer_of d inode slot == block) result }
     {
-        self.inode_byte_is(inode, 4 + usize::from(slot), block)
+        self.inode_byte_is(inode, usize::from(POINTERS_FROM + slot), block)
     }
 
     /// Whether a number is that of an inode in use.
     pub fn is_live(&self, inode: u8) -> Result<bool, usize>
         ensures { IsKnown self.now (λ d. is_live d inode) result }
     {
-        if inode >= 16 {
+        if inode >= INODES {
             return Ok(false);
         }
         negation(self.kind_is(inode, FREE_KIND))

@@ -11,14 +11,17 @@ ghost use Rattle.known_bytes.specs.Directories.{IsItsBlock, counts_at};
 
 use crate::answers::{both, either, negation, never_holds};
 use crate::disk::KnownDisk;
-use crash_model::disk_bytes::{DIRECTORY_KIND, DIRECTORY_MARK, FILE_KIND, FILE_MARK};
+use crash_model::disk_bytes::{
+    DIRECTORY_KIND, DIRECTORY_MARK, ENTRIES, FILE_KIND, FILE_MARK, INODES, POINTERS_FROM, SLOTS,
+};
+use disk_image::{entry_offset, inode_place};
 use std::alloc::Allocator;
 
 impl<'a, A: Allocator + Copy> KnownDisk<'a, A> {
     /// The block that a directory has if it counts, and if it may count at all; otherwise an undecided patch that gives
     /// it another.
     pub(crate) fn directory_block(&self, dir: u8) -> Result<Option<u8>, usize>
-        requires { dir < 16 }
+        requires { dir < INODES }
         ensures ok { IfOk result (λ found. MatchOption found (InEachDisk self.now (λ d. counts d dir ≡ false))
             (λ block. InEachDisk self.now (IsItsBlock dir block))) }
         ensures within { IfOk result (λ found. IfSome found (λ block. block < self.now.family.base.blocks)) }
@@ -29,8 +32,8 @@ impl<'a, A: Allocator + Copy> KnownDisk<'a, A> {
         if never_holds(self.kind_is(dir, DIRECTORY_KIND)) {
             return Ok(None);
         }
-        let number = usize::from(dir);
-        let block = self.only(2 + number / 8, 16 * (number % 8) + 4)?;
+        let (inodes, from) = inode_place(dir);
+        let block = self.only(usize::from(inodes), usize::from(from + POINTERS_FROM))?;
         if self.is_data(block) {
             Ok(Some(block))
         } else {
@@ -40,7 +43,7 @@ impl<'a, A: Allocator + Copy> KnownDisk<'a, A> {
 
     /// Whether a directory counts with a block of the data area.
     pub(crate) fn counts_at(&self, dir: u8, block: u8) -> Result<bool, usize>
-        requires dir { dir < 16 }
+        requires dir { dir < INODES }
         requires block { block < self.now.family.base.blocks }
         ensures { IsKnown self.now (λ d. counts_at dir block d) result }
     {
@@ -58,23 +61,23 @@ impl<'a, A: Allocator + Copy> KnownDisk<'a, A> {
 
     /// Whether an entry names an inode that is not live.
     pub fn dangles(&self, dir: u8, k: u8, inode: u8) -> Result<bool, usize>
-        requires dir { dir < 16 }
-        requires k { k < 10 }
+        requires dir { dir < INODES }
+        requires k { k < ENTRIES }
         requires inode { inode < 255 }
         ensures { IsKnown self.now (λ d. is_dangling d dir k && target_of d dir k == inode) result }
     {
         let Some(block) = self.directory_block(dir)? else {
             return Ok(false);
         };
-        let names = self.byte_is(usize::from(block), 8 + 12 * usize::from(k), inode + 1);
+        let names = self.byte_is(usize::from(block), usize::from(entry_offset(k)), inode + 1);
         let is_free = negation(self.is_live(inode));
         both(self.counts_at(dir, block), both(names, is_free))
     }
 
     /// Whether a slot of a live inode has a value.
     fn points_to(&self, inode: u8, slot: u8, block: u8) -> Result<bool, usize>
-        requires inode { inode < 16 }
-        requires slot { slot < 4 }
+        requires inode { inode < INODES }
+        requires slot { slot < SLOTS }
         ensures { IsKnown self.now (λ d. pointer_of d inode slot == block && is_live d inode) result }
     {
         both(self.pointer_is(inode, slot, block), self.is_live(inode))
@@ -82,8 +85,8 @@ impl<'a, A: Allocator + Copy> KnownDisk<'a, A> {
 
     /// Whether a slot names a block of the data area.
     pub fn names(&self, inode: u8, slot: u8, block: u8) -> Result<bool, usize>
-        requires inode { inode < 16 }
-        requires slot { slot < 4 }
+        requires inode { inode < INODES }
+        requires slot { slot < SLOTS }
         ensures { IsKnown self.now (λ d. names_block d inode slot block) result }
     {
         // For the proof: where the data area begins.
@@ -96,8 +99,8 @@ impl<'a, A: Allocator + Copy> KnownDisk<'a, A> {
 
     /// Whether a slot names this block outside the data area.
     pub fn is_wild(&self, inode: u8, slot: u8, block: u8) -> Result<bool, usize>
-        requires inode { inode < 16 }
-        requires slot { slot < 4 }
+        requires inode { inode < INODES }
+        requires slot { slot < SLOTS }
         ensures { IsKnown self.now (λ d. is_wild d inode slot && pointer_of d inode slot == block) result }
     {
         if block == 0 {
@@ -111,7 +114,7 @@ impl<'a, A: Allocator + Copy> KnownDisk<'a, A> {
 
     /// Whether a block's first two bytes are the mark of an inode's kind and the inode's number.
     fn is_marked(&self, inode: u8, block: u8) -> Result<bool, usize>
-        requires inode { inode < 16 }
+        requires inode { inode < INODES }
         requires block { block < self.now.family.base.blocks }
         ensures { IsKnown self.now (λ d. is_marked d inode block) result }
     {
@@ -129,8 +132,8 @@ impl<'a, A: Allocator + Copy> KnownDisk<'a, A> {
 
     /// Whether a slot names this block, and the block is not marked as the inode's.
     pub fn is_unwritten(&self, inode: u8, slot: u8, block: u8) -> Result<bool, usize>
-        requires inode { inode < 16 }
-        requires slot { slot < 4 }
+        requires inode { inode < INODES }
+        requires slot { slot < SLOTS }
         ensures { IsKnown self.now (λ d. is_unwritten d inode slot && pointer_of d inode slot == block) result }
     {
         if !self.is_data(block) {
@@ -142,8 +145,8 @@ impl<'a, A: Allocator + Copy> KnownDisk<'a, A> {
 
     /// Whether a slot names this block, and the allocation map has the block as free.
     pub fn is_marked_free(&self, inode: u8, slot: u8, block: u8) -> Result<bool, usize>
-        requires inode { inode < 16 }
-        requires slot { slot < 4 }
+        requires inode { inode < INODES }
+        requires slot { slot < SLOTS }
         ensures { IsKnown self.now (λ d. is_marked_free d inode slot && pointer_of d inode slot == block) result }
     {
         // For the proof: how many blocks every image has at most.

@@ -10,7 +10,7 @@ ghost use Rattle.known_bytes.specs.Headers.{AreSet, AreAdded, AreNoted, IsAmong}
 use crate::answers::both;
 use crate::bytes::KnownBytes;
 use crate::headers::may_have;
-use crash_model::disk_bytes::COMMITTED_MARK;
+use crash_model::disk_bytes::{COMMITTED_MARK, JOURNAL_AT};
 use patch_sets::set::with;
 use std::alloc::Allocator;
 
@@ -77,7 +77,7 @@ impl<'a, A: Allocator + Copy> KnownBytes<'a, A> {
             homes.blocks homes.others homes.asks) }
         ensures err { IfErr result (IsUndecided self.now) }
     {
-        let end = 4 + self.base().journal();
+        let end = JOURNAL_AT + self.base().journal();
         let mut homes = Homes::own();
         let mut at = 4;
         let mut turn = 1;

@@ -8,6 +8,7 @@ ghost use Rattle.known_bytes.specs.Headers.{IsCopyOf};
 
 use crate::byte_set::ByteSet;
 use crate::bytes::KnownBytes;
+use crash_model::disk_bytes::{BLOCK_SIZE, JOURNAL_AT};
 use std::alloc::Allocator;
 
 impl<'a, A: Allocator + Copy> KnownBytes<'a, A> {
@@ -17,12 +18,12 @@ impl<'a, A: Allocator + Copy> KnownBytes<'a, A> {
     /// have values too that no disk has there.
     pub fn possible(&self, block: usize, offset: usize) -> ByteSet
         requires block { block < self.now.base.blocks }
-        requires offset { offset < 128 }
+        requires offset { offset < BLOCK_SIZE }
         ensures left { InEach self.now (λ d. HasValue result.low result.high (byte d block offset)) }
         ensures replayed { InEach self.now
             (λ d. HasValue result.low result.high (byte (image_after_replay d) block offset)) }
     {
-        let end = 4 + self.base().journal();
+        let end = JOURNAL_AT + self.base().journal();
         let mut values = self.values(block, offset);
         for at in 4..end {
             values = self.with_copy(values, at, block, offset);
@@ -32,9 +33,9 @@ impl<'a, A: Allocator + Copy> KnownBytes<'a, A> {
 
     /// The values, with those of a byte of a journal block if that may have a copy of the block.
     fn with_copy(&self, values: ByteSet, at: usize, block: usize, offset: usize) -> ByteSet
-        requires at { (4 ≤ at) × (at < self.now.base.blocks) }
+        requires at { (JOURNAL_AT ≤ at) × (at < self.now.base.blocks) }
         requires block { block < self.now.base.blocks }
-        requires offset { offset < 128 }
+        requires offset { offset < BLOCK_SIZE }
         ensures grown { (value : ℕ) → HasValue values.low values.high value → HasValue result.low result.high value }
         ensures copied { InEach self.now
             (λ d. IsCopyOf d block at → HasValue result.low result.high (byte d at offset)) }
@@ -52,7 +53,7 @@ impl<'a, A: Allocator + Copy> KnownBytes<'a, A> {
     /// Whether a journal block may have a copy of a block: one of the eight blocks before it may name that block as a
     /// header would.
     fn may_copy(&self, at: usize, block: usize) -> bool
-        requires at { (4 ≤ at) × (at < self.now.base.blocks) }
+        requires at { (JOURNAL_AT ≤ at) × (at < self.now.base.blocks) }
         requires block { block < self.now.base.blocks }
         ensures { (¬ (IsTrue result)) → InEach self.now (λ d. ¬ (IsCopyOf d block at)) }
     {

@@ -13,7 +13,7 @@ ghost use Rattle.known_bytes.specs.Reading.{Reading, InEachDisk, IsKnown};
 use crate::answers::{both, negation, never_holds};
 use crate::directories::Directory;
 use crate::disk::KnownDisk;
-use crash_model::disk_bytes::DIRECTORY_KIND;
+use crash_model::disk_bytes::INODES;
 use patch_sets::ends::{lowest, without};
 use patch_sets::set::{has, with};
 use std::alloc::Allocator;
@@ -58,7 +58,7 @@ impl Reach {
 
     /// Whether nothing that a directory's entries say of an inode would change what is known of it.
     fn is_settled(&self, dir: usize, inode: usize) -> bool
-        requires { (dir < 16) × (inode < 16) }
+        requires { (dir < INODES) × (inode < INODES) }
         ensures { IsTrue result → Has self.now.may inode }
     {
         has(self.may, inode) && (has(self.sure, inode) || !has(self.sure, dir))
@@ -66,8 +66,8 @@ impl Reach {
 
     /// Adds an inode to which an entry of a directory leads on each disk, on none, or as a patch decides.
     fn add(&mut self, dir: usize, inode: usize, named: Result<bool, usize>)
-        requires dir { (dir < 16) × Has self.old.may dir }
-        requires inode { inode < 16 }
+        requires dir { (dir < INODES) × Has self.old.may dir }
+        requires inode { inode < INODES }
         requires patch { IfErr named (λ id. id < 128) }
         ensures reach { (r : Reading) → IsReach r self.old.sure self.old.may self.old.asks
             → IsKnown r (names_live dir inode) named → IsReach r self.new.sure self.new.may self.new.asks }
@@ -93,7 +93,7 @@ impl Reach {
 
     /// Adds an inode that each disk reaches.
     fn add_sure(&mut self, inode: usize)
-        requires { inode < 16 }
+        requires { inode < INODES }
         ensures reach { (r : Reading) → IsReach r self.old.sure self.old.may self.old.asks
             → InEachDisk r (λ d. is_reached d inode ≡ true)
             → IsReach r self.new.sure self.new.may self.new.asks }
@@ -106,7 +106,7 @@ impl Reach {
 
     /// Adds an inode that some disk may reach, unless it is there. Whether a disk reaches it depends on a patch.
     fn add_open(&mut self, inode: usize, ask: u8)
-        requires { inode < 16 }
+        requires { inode < INODES }
         ensures reach { (r : Reading) → IsReach r self.old.sure self.old.may self.old.asks
             → IsUndecided r.family ask → IsReach r self.new.sure self.new.may self.new.asks }
         ensures grown { (id : ℕ) → Has self.old.may id → Has self.new.may id }
@@ -120,7 +120,7 @@ impl Reach {
 
     /// Whether an inode is reached.
     fn of(&self, inode: u8) -> Result<bool, usize>
-        requires { inode < 16 }
+        requires { inode < INODES }
         ensures { (r : Reading) → IsReach r self.now.sure self.now.may self.now.asks → ReachesNoOther r self.now.may
             → IsKnown r (λ d. is_reached d inode) result }
     {
@@ -143,8 +143,8 @@ impl<'a, A: Allocator + Copy> KnownDisk<'a, A> {
         found: Result<Option<Directory>, usize>,
         inode: u8,
     ) -> Result<bool, usize>
-        requires dir { dir < 16 }
-        requires inode { inode < 16 }
+        requires dir { dir < INODES }
+        requires inode { inode < INODES }
         requires ok { IfOk found (λ it. MatchOption it (InEachDisk self.now (λ d. counts d dir ≡ false))
             (λ it. IsFound self.now dir it.block it.counts)) }
         requires within { IfOk found (λ it. IfSome it (λ it. it.block < self.now.family.base.blocks)) }
@@ -164,7 +164,7 @@ impl<'a, A: Allocator + Copy> KnownDisk<'a, A> {
 
     /// Adds the inodes to which the entries of a directory lead.
     fn read(&self, reach: &mut Reach, dir: u8)
-        requires dir { (dir < 16) × Has reach.old.may dir }
+        requires dir { (dir < INODES) × Has reach.old.may dir }
         requires reach { IsReach self.now reach.old.sure reach.old.may reach.old.asks }
         ensures reach { IsReach self.now reach.new.sure reach.new.may reach.new.asks }
         ensures grown { (id : ℕ) → Has reach.old.may id → Has reach.new.may id }
@@ -173,7 +173,7 @@ impl<'a, A: Allocator + Copy> KnownDisk<'a, A> {
         // For the proof: how many patches every graph has at most.
         let _base = self.base();
         let found = self.directory(dir);
-        for inode in 0..16u8 {
+        for inode in 0..INODES {
             if !reach.is_settled(usize::from(dir), usize::from(inode)) {
                 let named = self.names_live(dir, found, inode);
                 reach.add(usize::from(dir), usize::from(inode), named);
@@ -198,7 +198,7 @@ impl<'a, A: Allocator + Copy> KnownDisk<'a, A> {
 
     /// Whether an inode is reached.
     fn is_reached(&self, inode: u8) -> Result<bool, usize>
-        requires { inode < 16 }
+        requires { inode < INODES }
         ensures { IsKnown self.now (λ d. is_reached d inode) result }
     {
         let is_root = self.kind_is(0, DIRECTORY_KIND)?;
@@ -210,7 +210,7 @@ impl<'a, A: Allocator + Copy> KnownDisk<'a, A> {
 
     /// Whether one of the kept inodes is not reached.
     pub fn is_lost(&self, kept: u16, inode: u8) -> Result<bool, usize>
-        requires { inode < 16 }
+        requires { inode < INODES }
         ensures { IsKnown self.now (λ d. is_lost d kept inode) result }
     {
         if !has(u128::from(kept), usize::from(inode)) {
@@ -221,7 +221,7 @@ impl<'a, A: Allocator + Copy> KnownDisk<'a, A> {
 
     /// Whether an inode is a directory and has no block.
     fn is_bare(&self, inode: u8) -> Result<bool, usize>
-        requires { inode < 16 }
+        requires { inode < INODES }
         ensures { IsKnown self.now (λ d. kind_of d inode == DIRECTORY_KIND && pointer_of d inode 0 == 0) result }
     {
         both(
@@ -232,7 +232,7 @@ impl<'a, A: Allocator + Copy> KnownDisk<'a, A> {
 
     /// Whether an inode is a directory that is reached and has no block.
     pub fn lacks_block(&self, inode: u8) -> Result<bool, usize>
-        requires { inode < 16 }
+        requires { inode < INODES }
         ensures { IsKnown self.now (λ d. lacks_block d inode) result }
     {
         let is_bare = self.is_bare(inode)?;

@@ -6,6 +6,7 @@ ghost use Rattle.known_bytes.specs.Texts.{lost_there, bare_there};
 ghost use Rattle.known_bytes.specs.Reading.{IsKnown};
 
 use crate::disk::KnownDisk;
+use crash_model::disk_bytes::{ENTRIES, INODES, SLOTS};
 use crash_model::fault::Fault;
 use disk_image::Demands;
 use std::alloc::Allocator;
@@ -37,7 +38,7 @@ impl<'a, A: Allocator + Copy> KnownDisk<'a, A> {
     fn has_dangling(&self, dir: u8, entry: u8, inode: u8) -> Result<bool, usize>
         ensures { IsKnown self.now (λ d. dangling_there d dir entry inode) result }
     {
-        if dir < 16 && entry < 10 && inode < 255 {
+        if dir < INODES && entry < ENTRIES && inode < 255 {
             self.dangles(dir, entry, inode)
         } else {
             Ok(false)
@@ -53,7 +54,7 @@ impl<'a, A: Allocator + Copy> KnownDisk<'a, A> {
     fn has_unwritten(&self, inode: u8, slot: u8, block: u8) -> Result<bool, usize>
         ensures { IsKnown self.now (λ d. unwritten_there d inode slot block) result }
     {
-        if inode < 16 && slot < 4 {
+        if inode < INODES && slot < SLOTS {
             self.is_unwritten(inode, slot, block)
         } else {
             Ok(false)
@@ -63,7 +64,7 @@ impl<'a, A: Allocator + Copy> KnownDisk<'a, A> {
     fn has_low(&self, inode: u8, entries: u8, links: u8) -> Result<bool, usize>
         ensures { IsKnown self.now (λ d. low_there d inode entries links) result }
     {
-        if inode < 16 {
+        if inode < INODES {
             self.has_low_links(inode, entries, links)
         } else {
             Ok(false)
@@ -73,7 +74,7 @@ impl<'a, A: Allocator + Copy> KnownDisk<'a, A> {
     fn has_marked_free(&self, inode: u8, slot: u8, block: u8) -> Result<bool, usize>
         ensures { IsKnown self.now (λ d. marked_free_there d inode slot block) result }
     {
-        if inode < 16 && slot < 4 {
+        if inode < INODES && slot < SLOTS {
             self.is_marked_free(inode, slot, block)
         } else {
             Ok(false)
@@ -83,7 +84,7 @@ impl<'a, A: Allocator + Copy> KnownDisk<'a, A> {
     fn has_wild(&self, inode: u8, slot: u8, block: u8) -> Result<bool, usize>
         ensures { IsKnown self.now (λ d. wild_there d inode slot block) result }
     {
-        if inode < 16 && slot < 4 {
+        if inode < INODES && slot < SLOTS {
             self.is_wild(inode, slot, block)
         } else {
             Ok(false)
@@ -96,7 +97,7 @@ impl<'a, A: Allocator + Copy> KnownDisk<'a, A> {
         match kept {
             None => Ok(false),
             Some(kept) => {
-                if inode < 16 {
+                if inode < INODES {
                     self.is_lost(kept, inode)
                 } else {
                     Ok(false)
@@ -111,7 +112,7 @@ impl<'a, A: Allocator + Copy> KnownDisk<'a, A> {
         match kept {
             None => Ok(false),
             Some(_) => {
-                if inode < 16 {
+                if inode < INODES {
                     self.lacks_block(inode)
                 } else {
                     Ok(false)

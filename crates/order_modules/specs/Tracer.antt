@@ -1,6 +1,7 @@
 -- A trace under way.
 use Rattle.std.specs.Prelude.{◌≡◌, ◌≢◌, ℕ, ◌+◌, ◌≤◌, List, map, Option, Result, Ok, Err, IfErr}
 use Rattle.std.specs.Borrow.{Bor}
+use Rattle.crash_model.specs.declared.disk_bytes.TheConstants.{JOURNAL_AT}
 use Rattle.crash_model.specs.Disk.{Disk, IsDisk}
 use Rattle.crash_model.specs.Trace.{Tracing}
 use Rattle.crash_model.specs.declared.refusals.TraceFault.{TraceFault}
@@ -63,8 +64,8 @@ trace_of log disk turn next current opened ended = record {
 pub record IsTrace (t : Trace) : Type 0 where
   pub disk : IsDisk t.tracing.disk
   pub blocks : t.tracing.disk.blocks ≡ t.log.base.blocks
-  pub from : 4 ≤ t.tracing.journal
-  pub to : t.tracing.journal ≤ 4 + t.tracing.disk.journal
+  pub from : JOURNAL_AT ≤ t.tracing.journal
+  pub to : t.tracing.journal ≤ JOURNAL_AT + t.tracing.disk.journal
   -- each transaction has taken a journal block at least
   pub counted : IsJournaled t.log.kind → t.tracing.turn + 3 ≤ t.tracing.journal
 

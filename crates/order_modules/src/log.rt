@@ -10,6 +10,7 @@ ghost use Rattle.traced_patches.specs.Labels.{emitted_at, group_by, links_by};
 ghost use Rattle.order_modules.specs.Log.{Adds, IsLog, Keeps, WaitsAt, SharesAt};
 
 use arrayvec::ArrayVec;
+use crash_model::disk_bytes::BLOCK_SIZE;
 use crash_model::modules::Module;
 use crash_model::names::GroupName;
 use crash_model::orderings::Ordering;
@@ -84,7 +85,7 @@ impl<'a, A: Allocator + Copy> PatchLog<'a, A> {
     /// Whether `count` further patches fit the graph.
     pub fn has_room(&self, count: usize) -> bool
         requires { count ≤ 1000 }
-        ensures { IsTrue result ↔ (length self.now.emitted + count ≤ 124) }
+        ensures { IsTrue result ↔ (length self.now.emitted + count ≤ MAX_PATCHES) }
     {
         self.graph.len() + count <= MAX_PATCHES
     }
@@ -123,8 +124,8 @@ impl<'a, A: Allocator + Copy> PatchLog<'a, A> {
     ) -> Result<(), AllocError>
         requires block { block < self.old.base.blocks }
         requires some { 0 < length bytes.now }
-        requires inside { offset + length bytes.now ≤ 128 }
-        requires room { length self.old.emitted < 124 }
+        requires inside { offset + length bytes.now ≤ BLOCK_SIZE }
+        requires room { length self.old.emitted < MAX_PATCHES }
         ensures ok { OnOk result (Adds self.old self.new
             (emitted_at (place block offset bytes.now) label.entry ∷ [])) }
         ensures err { OnErr result (self.new ≡ self.old) }
@@ -173,7 +174,7 @@ impl<'a, A: Allocator + Copy> PatchLog<'a, A> {
 
 /// The ids of the labels that a later one has to wait for.
 fn dependencies(rules: &[Rule], links: &[Link<'_>], labels: &[Label<'_>], later: &Label<'_>) -> u128
-    requires { length labels.now ≤ 124 }
+    requires { length labels.now ≤ MAX_PATCHES }
     ensures { (id : ℕ) → Has result id ↔ WaitsAt rules.now (links_by links.now) labels.now later.now id }
 {
     let mut ids = 0;
@@ -215,8 +216,8 @@ fn has_label_in(labels: &[Label<'_>], name: &GroupName) -> bool
 }
 
 /// The bytes of a range of a block.
-fn bytes_of(bytes: &[u8]) -> ArrayVec<u8, 128>
-    requires { length bytes.now ≤ 128 }
+fn bytes_of(bytes: &[u8]) -> ArrayVec<u8, BLOCK_SIZE>
+    requires { length bytes.now ≤ BLOCK_SIZE }
     ensures { result.items ≡ bytes.now }
 {
     let mut items = ArrayVec::new();

@@ -11,6 +11,7 @@ ghost use Rattle.order_modules.specs.Transactions.{targets_of};
 use crate::log::PatchLog;
 use crate::transactions::{Transaction, touched};
 use arrayvec::ArrayVec;
+use crash_model::disk_bytes::{BLOCK_SIZE, JOURNAL_AT};
 use crash_model::modules::Module;
 use crash_model::names::GroupName;
 use crash_model::operations::Op;
@@ -106,7 +107,7 @@ impl<'a, A: Allocator + Copy> Tracer<'a, A> {
             disk: base.try_copy()?,
             log: PatchLog::new(alloc, base, ordering)?,
             turn: 1,
-            next: 4,
+            next: JOURNAL_AT,
             current: None,
             opened: Vec::new(alloc),
             ended: Vec::new(alloc),
@@ -167,7 +168,7 @@ impl<'a, A: Allocator + Copy> Tracer<'a, A> {
     }
 
     /// The blocks that a transaction of the plan has copies of, ascending.
-    fn touched_by(&self, plan: &Plan) -> ArrayVec<u8, 128>
+    fn touched_by(&self, plan: &Plan) -> ArrayVec<u8, BLOCK_SIZE>
         ensures { result.items ≡ targets_of self.now.log.kind self.now.tracing.disk.blocks plan.now.items }
     {
         touched(self.log.module(), self.disk.blocks(), plan.as_slice())
@@ -185,7 +186,7 @@ impl<'a, A: Allocator + Copy> Tracer<'a, A> {
     {
         let targets = self.touched_by(plan);
         let next = self.next + 1 + targets.len();
-        if next > 4 + self.disk.journal() {
+        if next > JOURNAL_AT + self.disk.journal() {
             return Err(TraceFault::JournalFull { line });
         }
         if !self.log.has_room(plan.len() + targets.len() + 2) {

@@ -13,11 +13,12 @@ ghost use Rattle.order_modules.specs.Transactions.{targets_of, transaction_of};
 
 use crate::log::PatchLog;
 use arrayvec::ArrayVec;
-use crash_model::disk_bytes::{COMMITTED_MARK, DONE_MARK};
+use crash_model::disk_bytes::{BLOCK_SIZE, MOST_BLOCKS};
 use crash_model::modules::Module;
 use crash_model::plans::{Change, Role};
 use crash_model::rules::Part;
 use disk_image::Image;
+use patch_graph::MAX_PATCHES;
 use std::alloc::{AllocError, Allocator};
 use traced_patches::{Label, Origin};
 
@@ -29,8 +30,8 @@ pub fn is_ahead(module: Module, change: &Change) -> bool
 }
 
 /// The blocks that a transaction has copies of, ascending: those that its changes in place touch.
-pub fn touched(module: Module, blocks: usize, changes: &[Change]) -> ArrayVec<u8, 128>
-    requires { blocks ≤ 128 }
+pub fn touched(module: Module, blocks: usize, changes: &[Change]) -> ArrayVec<u8, BLOCK_SIZE>
+    requires { blocks ≤ MOST_BLOCKS }
     ensures { result.items ≡ targets_of «module» blocks changes.now }
 {
     let mut targets = ArrayVec::new();
@@ -88,11 +89,11 @@ impl<'a, A: Allocator + Copy> PatchLog<'a, A> {
         changes: &[Change],
     ) -> Result<(), AllocError>
         requires turn { transaction.turn < 256 }
-        requires few { self.old.base.blocks ≤ 128 }
+        requires few { self.old.base.blocks ≤ MOST_BLOCKS }
         requires inside { All (LiesInside self.old.base.blocks) changes.now }
         requires journal { transaction.header + 1 + length targets.now ≤ self.old.base.blocks }
         requires known { All (λ target. target < after.now.blocks) targets.now }
-        requires room { length self.old.emitted + (length changes.now + length targets.now + 2) ≤ 124 }
+        requires room { length self.old.emitted + (length changes.now + length targets.now + 2) ≤ MAX_PATCHES }
         ensures ok { OnOk result (Adds self.old self.new
             (transaction_of self.old.kind after.now transaction.entry.turn transaction.entry.header
             (origin_by transaction.entry.origin) targets.now changes.now)) }
@@ -114,7 +115,7 @@ impl<'a, A: Allocator + Copy> PatchLog<'a, A> {
         changes: &[Change],
     ) -> Result<(), AllocError>
         requires inside { All (LiesInside self.old.base.blocks) changes.now }
-        requires room { length self.old.emitted + length (changes_ahead self.old.kind changes.now) ≤ 124 }
+        requires room { length self.old.emitted + length (changes_ahead self.old.kind changes.now) ≤ MAX_PATCHES }
         ensures ok { OnOk result (Adds self.old self.new
             (map (file_data turn (origin_by origin.entry)) (changes_ahead self.old.kind changes.now))) }
         ensures kept { Keeps self.old self.new }
@@ -139,10 +140,10 @@ impl<'a, A: Allocator + Copy> PatchLog<'a, A> {
         after: &Image<A>,
         targets: &[u8],
     ) -> Result<(), AllocError>
-        requires few { self.old.base.blocks ≤ 128 }
+        requires few { self.old.base.blocks ≤ MOST_BLOCKS }
         requires journal { transaction.header + 1 + length targets.now ≤ self.old.base.blocks }
         requires known { All (λ target. target < after.now.blocks) targets.now }
-        requires room { length self.old.emitted + length targets.now ≤ 124 }
+        requires room { length self.old.emitted + length targets.now ≤ MAX_PATCHES }
         ensures ok { OnOk result (Adds self.old self.new
             (copies after.now transaction.entry.turn (transaction.entry.header + 1)
             (origin_by transaction.entry.origin) targets.now)) }
@@ -166,13 +167,13 @@ impl<'a, A: Allocator + Copy> PatchLog<'a, A> {
         requires turn { transaction.turn < 256 }
         requires block { transaction.header < self.old.base.blocks }
         requires fits { length targets.now ≤ 125 }
-        requires room { length self.old.emitted < 124 }
+        requires room { length self.old.emitted < MAX_PATCHES }
         ensures ok { OnOk result (Adds self.old self.new
             (part_of transaction.entry.turn (origin_by transaction.entry.origin) part.Commit transaction.entry.header 0
             (COMMITTED_MARK ∷ transaction.entry.turn ∷ length targets.now ∷ targets.now) ∷ [])) }
         ensures kept { Keeps self.old self.new }
     {
-        let mut bytes: ArrayVec<u8, 128> = ArrayVec::new();
+        let mut bytes: ArrayVec<u8, BLOCK_SIZE> = ArrayVec::new();
         bytes.push(COMMITTED_MARK);
         bytes.push(transaction.turn as u8);
         bytes.push(targets.len() as u8);
@@ -195,7 +196,7 @@ impl<'a, A: Allocator + Copy> PatchLog<'a, A> {
         changes: &[Change],
     ) -> Result<(), AllocError>
         requires inside { All (LiesInside self.old.base.blocks) changes.now }
-        requires room { length self.old.emitted + length (changes_in_place self.old.kind changes.now) ≤ 124 }
+        requires room { length self.old.emitted + length (changes_in_place self.old.kind changes.now) ≤ MAX_PATCHES }
         ensures ok { OnOk result (Adds self.old self.new
             (map (in_place_patch turn (origin_by origin.entry)) (changes_in_place self.old.kind changes.now))) }
         ensures kept { Keeps self.old self.new }
@@ -216,7 +217,7 @@ impl<'a, A: Allocator + Copy> PatchLog<'a, A> {
     /// Adds the mark that all is in place.
     fn emit_done(&mut self, transaction: Transaction<'a>) -> Result<(), AllocError>
         requires block { transaction.header < self.old.base.blocks }
-        requires room { length self.old.emitted < 124 }
+        requires room { length self.old.emitted < MAX_PATCHES }
         ensures ok { OnOk result (Adds self.old self.new
             (part_of transaction.entry.turn (origin_by transaction.entry.origin) part.Done transaction.entry.header 0
             (DONE_MARK ∷ []) ∷ [])) }

@@ -2,7 +2,7 @@
 use Rattle.std.specs.Prelude.{◌≡◌, ◌≢◌, ℕ, ◌<◌, ◌≤◌, ◌⊎◌, ◌↔◌, List, length, slice_index}
 use Rattle.patch_sets.specs.Sets.{Has, IsSubset}
 use Rattle.patch_sets.specs.Ends.{IsWithout}
-use Rattle.patch_graph.specs.declared.graph.TheConstants.{MAX_PATCHES}
+use Rattle.crash_model.specs.declared.patches.TheConstants.{MAX_PATCHES}
 
 -- Each id has a mask of the ids that do not rest on it. An id rests on itself; another rests on it if it depends
 -- on one that does. Where the graph lacks one of the two ids, the mask has the other.

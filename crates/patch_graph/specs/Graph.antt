@@ -1,9 +1,10 @@
 -- A graph of patches as the list of its patches. A patch's id is its place, from 0 on.
 use Rattle.std.specs.Prelude.{◌≡◌, ℕ, ◌+◌, ◌<◌, ◌≤◌, ◌⊎◌, ◌↔◌, List, length, Some, slice_get}
 use Rattle.std.specs.List.{All}
+use Rattle.crash_model.specs.declared.disk_bytes.TheConstants.{BLOCK_SIZE}
 use Rattle.patch_sets.specs.Sets.{Has}
 use Rattle.patch_sets.specs.Closed.{AreEarlier}
-use Rattle.patch_graph.specs.declared.graph.TheConstants.{MAX_PATCHES}
+use Rattle.crash_model.specs.declared.patches.TheConstants.{MAX_PATCHES}
 use Rattle.crash_model.specs.Patches.{deps_of}
 use Rattle.crash_model.specs.declared.patches.Patch.{Patch}
 
@@ -15,7 +16,7 @@ IsAt patches id patch = slice_get patches id ≡ Some patch
 pub record IsPatch (p : Patch) : Type 0 where
   pub some : 0 < length p.new.items
   pub undone : length p.undo.items ≡ length p.new.items
-  pub inside : p.offset + length p.new.items ≤ 128
+  pub inside : p.offset + length p.new.items ≤ BLOCK_SIZE
 
 -- two patches of one block whose ranges share a byte
 pub record Overlaps (p q : Patch) : Type 0 where

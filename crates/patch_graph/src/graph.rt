@@ -15,16 +15,13 @@ ghost use Rattle.patch_graph.specs.Leads.{IsLead};
 ghost use Rattle.patch_graph.specs.Graph.{IsAt, IsPatch, IsGraph, AddsOverlaps, Overlaps, OverlapsAt};
 
 use crate::fault::GraphFault;
-use crash_model::patches::Patch;
+use crash_model::patches::{MAX_PATCHES, Patch};
 use patch_sets::ends::{difference, highest, lowest, without};
 use patch_sets::leading::{below, below_lowest};
 use patch_sets::set::{has, is_below, is_subset, with};
 use patch_sets::write::BlockWrite;
 use std::alloc::{AllocError, Allocator};
 use std::marker::Model;
-
-/// How many patches a graph can have.
-pub const MAX_PATCHES: usize = 124;
 
 /// [`Graph::leading_writes`] cuts a set into parts of this many ids.
 const STRIDE: usize = 8;

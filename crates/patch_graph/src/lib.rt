@@ -8,7 +8,7 @@
 pub mod fault;
 pub mod graph;
 
-pub use crash_model::patches::Patch;
+pub use crash_model::patches::{MAX_PATCHES, Patch};
 pub use fault::GraphFault;
-pub use graph::{Graph, Lead, MAX_PATCHES, overlaps};
+pub use graph::{Graph, Lead, overlaps};
 pub use patch_sets::write::BlockWrite;

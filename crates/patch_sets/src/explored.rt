@@ -3,6 +3,7 @@ ghost use Rattle.std.specs.Prelude.{◌≡◌};
 ghost use Rattle.patch_sets.specs.declared.explored.ExploreFault.TheVariants as fault;
 
 use std::alloc::{AllocError, AllocFailed, Allocator};
+use std::fmt;
 use thiserror::Error;
 
 /// How many words are reached, and which of them are not good, in canonical order: fewer ids first, then the
@@ -17,10 +18,24 @@ pub struct Explored<A: Allocator> {
 #[derive(Clone, Copy, Debug, PartialEq, Eq, Error)]
 pub enum ExploreFault {
     /// More words are reached than the limit.
-    #[error("30 too many closed sets")]
     TooMany,
-    #[error("99 out of memory")]
     OutOfMemory,
+}
+
+impl ExploreFault {
+    /// The refusal's number and its text, with a space between them.
+    pub fn text(self) -> &'static str {
+        match self {
+            ExploreFault::TooMany => "30 too many closed sets",
+            ExploreFault::OutOfMemory => "99 out of memory",
+        }
+    }
+}
+
+impl fmt::Display for ExploreFault {
+    fn fmt<W: fmt::Write>(&self, f: &mut fmt::Formatter<W>) -> fmt::Result {
+        f.write_str(self.text())
+    }
 }
 
 impl From<AllocError> for ExploreFault {

@@ -1,6 +1,7 @@
 -- What a closed board holds.
 use Rattle.std.specs.Prelude.{◌≡◌, ◌⊎◌, ℕ, ◌+◌, ◌/◌, ◌%◌, ◌<◌, ◌≤◌, List, length, slice_index, cond, ◌==◌, Contains}
 use Rattle.std.specs.List.{concat}
+use Rattle.state_space.specs.declared.limits.TheConstants.{MAX_BOARD}
 use Rattle.board_rule.specs.declared.shards.TheConstants.{SHARDS}
 use Rattle.state_space.specs.Reach.{IsReached}
 use Rattle.state_space.specs.Counts.{IsSome, IsListOf}
@@ -39,7 +40,7 @@ life_in e p = life_of_entry e (p % SHARDS) (p / SHARDS)
 
 pub record IsReadable (places : ℕ) (words : List ℕ) : Type 0 where
   pub sized : length words ≡ size_for places
-  pub small : places ≤ 32768
+  pub small : places ≤ MAX_BOARD
   pub short : (q : ℕ) → q < SHARDS → slice_index words (length_word q) ≤ places
 
 -- the entries are the initial word and other words that are reached, none of them twice in all shards, and each in the

@@ -1,5 +1,6 @@
 -- What clauses see of a board and of a seat.
 use Rattle.std.specs.Prelude.{◌≡◌, ℕ, ◌<◌, ◌≤◌, List, [], length, slice_index}
+use Rattle.state_space.specs.declared.limits.TheConstants.{MAX_BOARD}
 use Rattle.board_rule.specs.declared.shards.TheConstants.{SHARDS}
 use Rattle.atomic_table.specs.Seated.{TableId}
 use Rattle.atomic_table.specs.Table.{Me}
@@ -73,7 +74,7 @@ Rests m = (m.1 ≡ []) × (0 < m.0.places) × IsIdle m.0
 
 -- how much of each row is seen
 pub record Counts (places : ℕ) (counts : List ℕ) (seen : List (List ℕ)) : Type 0 where
-  pub small : places ≤ 32768
+  pub small : places ≤ MAX_BOARD
   pub all : length seen ≡ SHARDS
   pub each : (q : ℕ) → q < SHARDS → slice_index counts q ≡ length (row_of seen q)
   pub short : (q : ℕ) → q < SHARDS → length (row_of seen q) ≤ places

@@ -12,7 +12,7 @@ use crate::seat::BoardSeat;
 use crate::steps::{About, Order};
 use atomic_table::Table;
 use board_rule::{SHARDS, View};
-use state_space::Space;
+use state_space::{MAX_BOARD, Space};
 use std::alloc::{AllocError, Allocator};
 use std::marker::Model;
 use std::snapshot::Snapshot;
@@ -42,8 +42,8 @@ impl<S: Space, A: Allocator> Model for Board<S, A> {
 
     ghost invariant = { λ b. (b.table.shared.table_id.words ≡ size_for b.layout.places)
         × (b.table.shared.table_id.slots ≡ 0) × (b.table.shared.key.places ≡ b.layout.places)
-        × (b.table.shared.key.limit ≡ b.limit) × (0 < b.layout.places) × (b.layout.places ≤ 32768) × (0 < b.limit)
-        × (b.limit ≤ 32768) };
+        × (b.table.shared.key.limit ≡ b.limit) × (0 < b.layout.places) × (b.layout.places ≤ MAX_BOARD) × (0 < b.limit)
+        × (b.limit ≤ MAX_BOARD) };
 }
 
 impl<S: Space, A: Allocator + Copy> Board<S, A> {
@@ -58,7 +58,7 @@ impl<S: Space, A: Allocator + Copy> Board<S, A> {
         limit: usize,
     ) -> Result<(Board<S, A>, BoardSeat, Place), AllocError>
         requires positive { 0 < limit }
-        requires small { limit ≤ 32768 }
+        requires small { limit ≤ MAX_BOARD }
         ensures board { IfOk result (λ t. (t.0.limit ≡ limit) × (t.0.places ≡ limit) × (t.0.space ≡ space.now)) }
         ensures seat { IfOk result (λ t. t.1 ≡ first_known t.0.board limit limit (S.initial space.now)) }
         ensures start { IfOk result (λ t. Names t.1.seen t.2 (S.initial space.now)) }
@@ -76,7 +76,7 @@ impl<S: Space, A: Allocator + Copy> Board<S, A> {
         places: usize,
     ) -> Result<(Board<S, A>, BoardSeat, Place), AllocError>
         requires positive { (0 < limit) × (0 < places) }
-        requires small { (limit ≤ 32768) × (places ≤ 32768) }
+        requires small { (limit ≤ MAX_BOARD) × (places ≤ MAX_BOARD) }
         ensures board { IfOk result (λ t. (t.0.limit ≡ limit) × (t.0.places ≡ places) × (t.0.space ≡ space.now)) }
         ensures seat { IfOk result (λ t. t.1 ≡ first_known t.0.board limit places (S.initial space.now)) }
         ensures start { IfOk result (λ t. Names t.1.seen t.2 (S.initial space.now)) }
@@ -113,7 +113,7 @@ impl<S: Space, A: Allocator + Copy> Board<S, A> {
     /// How many words the board may have, 1 to 32768.
     pub fn limit(&self) -> usize
         ensures limit { result ≡ self.now.limit }
-        ensures range { (0 < result) × (result ≤ 32768) }
+        ensures range { (0 < result) × (result ≤ MAX_BOARD) }
     {
         self.limit
     }

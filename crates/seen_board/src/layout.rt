@@ -7,6 +7,7 @@ ghost use Rattle.seen_board.specs.Seats.{IsProbe};
 
 use crate::entries::halves_of;
 use board_rule::SHARDS;
+use state_space::MAX_BOARD;
 
 /// The number of entries that are not settled, and of the words that are on their way.
 pub(crate) const PENDING: usize = 0;
@@ -47,7 +48,7 @@ pub(crate) struct Layout {
 impl Layout {
     /// How many words there are.
     pub fn size(&self) -> usize
-        requires small { self.now.places ≤ 32768 }
+        requires small { self.now.places ≤ MAX_BOARD }
         ensures { result ≡ size_for self.now.places }
     {
         BLOCKS + 4 * SHARDS * self.places
@@ -71,7 +72,7 @@ impl Layout {
 
     /// The low half of the entry at a place.
     pub fn low(&self, shard: u8, at: usize) -> usize
-        requires place { (shard < SHARDS) × (at < 65536) × (self.now.places ≤ 32768) }
+        requires place { (shard < SHARDS) × (at < 65536) × (self.now.places ≤ MAX_BOARD) }
         ensures { result ≡ low_word shard at }
     {
         BLOCKS + SHARDS * at + shard as usize
@@ -79,7 +80,7 @@ impl Layout {
 
     /// The high half of the entry at a place.
     pub fn high(&self, shard: u8, at: usize) -> usize
-        requires place { (shard < SHARDS) × (at < 65536) × (self.now.places ≤ 32768) }
+        requires place { (shard < SHARDS) × (at < 65536) × (self.now.places ≤ MAX_BOARD) }
         ensures { result ≡ high_word self.now.places shard at }
     {
         BLOCKS + SHARDS * self.places + SHARDS * at + shard as usize
@@ -87,7 +88,7 @@ impl Layout {
 
     /// The life of the entry at a place.
     pub fn life(&self, shard: u8, at: usize) -> usize
-        requires place { (shard < SHARDS) × (at < 65536) × (self.now.places ≤ 32768) }
+        requires place { (shard < SHARDS) × (at < 65536) × (self.now.places ≤ MAX_BOARD) }
         ensures { result ≡ life_word self.now.places shard at }
     {
         BLOCKS + 2 * SHARDS * self.places + SHARDS * at + shard as usize
@@ -95,7 +96,7 @@ impl Layout {
 
     /// A word of a shard's index, which has as many as the row has places.
     pub fn mark(&self, shard: u8, slot: usize) -> usize
-        requires place { (shard < SHARDS) × (slot < self.now.places) × (self.now.places ≤ 32768) }
+        requires place { (shard < SHARDS) × (slot < self.now.places) × (self.now.places ≤ MAX_BOARD) }
         ensures { result ≡ index_word self.now.places shard slot }
     {
         BLOCKS + 3 * SHARDS * self.places + SHARDS * slot + shard as usize
@@ -112,7 +113,7 @@ impl Layout {
 
     /// What is computed once for a word that is looked up.
     pub fn probe(&self, word: u128) -> Probe
-        requires places { (0 < self.now.places) × (self.now.places ≤ 32768) }
+        requires places { (0 < self.now.places) × (self.now.places ≤ MAX_BOARD) }
         ensures word { result.word ≡ word }
         ensures probe { IsProbe self.now.places result }
     {
@@ -133,7 +134,7 @@ impl Layout {
     /// The t-th index word of a word, counted from 0. After the last word of the index comes word 0.
     pub fn slot(&self, probe: Probe, t: usize) -> usize
         requires probe { IsProbe self.now.places probe }
-        requires range { (t ≤ self.now.places) × (self.now.places ≤ 32768) }
+        requires range { (t ≤ self.now.places) × (self.now.places ≤ MAX_BOARD) }
         ensures slot { result ≡ slot self.now.places probe.word t }
         ensures below { result < self.now.places }
     {

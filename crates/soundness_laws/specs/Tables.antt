@@ -1,8 +1,8 @@
 -- What an image says, as functions of numbers: no bytes and no offsets.
 use Rattle.std.specs.Prelude.{◌≡◌, ◌≢◌, ℕ, zero, suc, ◌+◌, ◌<◌, ◌≤◌, ◌↔◌, List, Bool, true, false, ◌&&◌, ◌==◌, not}
 use Rattle.std.specs.Prelude.{nat_lt, if◌then◌else◌}
-use Rattle.crash_model.specs.declared.disk_bytes.TheConstants.{FREE_KIND, FILE_KIND, DIRECTORY_KIND, FILE_MARK}
-use Rattle.crash_model.specs.declared.disk_bytes.TheConstants.{DIRECTORY_MARK}
+use Rattle.crash_model.specs.declared.disk_bytes.TheConstants.{JOURNAL_AT, INODES, SLOTS, ENTRIES, FREE_KIND}
+use Rattle.crash_model.specs.declared.disk_bytes.TheConstants.{FILE_KIND, DIRECTORY_KIND, FILE_MARK, DIRECTORY_MARK}
 use Rattle.crash_model.specs.Disk.{Disk, byte}
 use Rattle.crash_model.specs.Names.{IsName}
 use Rattle.crash_model.specs.Layout.{kind_of, links_of, pointer_of, map_of, is_data, counts, entry_of, spelling_of}
@@ -174,27 +174,27 @@ ReachedIn entry (suc n) i =
 
 pub record SoundBlocks (blocks journal : ℕ) (kind : ℕ → ℕ) (pointer : ℕ → ℕ → ℕ) (mark : ℕ → Mark)
     (used : ℕ → Bool) : Type 0 where
-  pub slots : (i s : ℕ) → pointer i s ≢ 0 → s < 4
+  pub slots : (i s : ℕ) → pointer i s ≢ 0 → s < SLOTS
   pub once : (b i s j r : ℕ) → HasPointer kind pointer i s b → HasPointer kind pointer j r b → (i ≡ j) × (s ≡ r)
   pub file_blocks : (i s b : ℕ) → HasPointer kind pointer i s b → kind i ≡ FILE_KIND → mark b ≡ FileOf i
   pub directory_blocks : (i s b : ℕ) → HasPointer kind pointer i s b → kind i ≡ DIRECTORY_KIND → mark b ≡ DirectoryOf i
-  pub in_data_area : (i s b : ℕ) → HasPointer kind pointer i s b → (4 + journal ≤ b) × (b < blocks)
-  pub root_block : pointer 0 0 ≡ 4 + journal
+  pub in_data_area : (i s b : ℕ) → HasPointer kind pointer i s b → (JOURNAL_AT + journal ≤ b) × (b < blocks)
+  pub root_block : pointer 0 0 ≡ JOURNAL_AT + journal
   pub one_block : (i : ℕ) → kind i ≡ DIRECTORY_KIND → (pointer i 0 ≢ 0) × ((s : ℕ) → s ≢ 0 → pointer i s ≡ 0)
   pub packed : (i s : ℕ) → kind i ≡ FILE_KIND → pointer i s ≡ 0 → pointer i (s + 1) ≡ 0
-  pub low_used : (b : ℕ) → b < 4 + journal → used b ≡ true
+  pub low_used : (b : ℕ) → b < JOURNAL_AT + journal → used b ≡ true
   pub named_used : (i s b : ℕ) → HasPointer kind pointer i s b → used b ≡ true
-  pub used_named : (b : ℕ) → 4 + journal ≤ b → used b ≡ true → (i : ℕ) × (s : ℕ) × HasPointer kind pointer i s b
+  pub used_named : (b : ℕ) → JOURNAL_AT + journal ≤ b → used b ≡ true → (i : ℕ) × (s : ℕ) × HasPointer kind pointer i s b
 
 pub record SoundInodes (kind links : ℕ → ℕ) : Type 0 where
-  pub below : (i : ℕ) → kind i ≢ FREE_KIND → i < 16
+  pub below : (i : ℕ) → kind i ≢ FREE_KIND → i < INODES
   pub root : (kind 0 ≡ DIRECTORY_KIND) × (links 0 ≡ 1)
   pub kinds : (i : ℕ) → kind i < 3
   pub one_name : (i : ℕ) → kind i ≡ DIRECTORY_KIND → links i ≡ 1
   pub few_names : (i : ℕ) → kind i ≡ FILE_KIND → (1 ≤ links i) × (links i ≤ 8)
 
 pub record SoundNames (kind : ℕ → ℕ) (entry : ℕ → ℕ → Place) : Type 0 where
-  pub places : (dir k i : ℕ) (spelling : List ℕ) → entry dir k ≡ Leads i spelling → (dir < 16) × (k < 10)
+  pub places : (dir k i : ℕ) (spelling : List ℕ) → entry dir k ≡ Leads i spelling → (dir < INODES) × (k < ENTRIES)
   pub parents : (dir k i : ℕ) (spelling : List ℕ) → entry dir k ≡ Leads i spelling → kind dir ≡ DIRECTORY_KIND
   pub no_dangling : (dir k i : ℕ) (spelling : List ℕ) → entry dir k ≡ Leads i spelling → kind i ≢ FREE_KIND
   pub no_way_up : (dir k i : ℕ) (spelling : List ℕ) → entry dir k ≡ Leads i spelling → i ≢ 0

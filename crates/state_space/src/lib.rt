@@ -5,7 +5,9 @@
 #![tactic(auto)]
 
 mod laws;
+mod limits;
 mod space;
 
 pub use laws::reach_has_one_size;
+pub use limits::MAX_BOARD;
 pub use space::Space;

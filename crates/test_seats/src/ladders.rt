@@ -3,6 +3,7 @@
 ghost use Rattle.std.specs.Prelude.{◌≡◌, ◌≤◌};
 
 use explorers::{ExploreFault, Gate, OpenGate, Room, explore};
+use state_space::MAX_BOARD;
 use std::alloc::{AllocError, Global};
 use std::process::Abort;
 use std::sync::Wait;
@@ -45,7 +46,7 @@ fn is_found<K: Shape + Sync, R: Threads + Wait + AllocGlobal + Sync>(
     workers: usize,
     broken: &[u128],
 ) -> Result<bool, Fail>
-    requires total { (1 ≤ total) × (total ≤ 32768) }
+    requires total { (1 ≤ total) × (total ≤ MAX_BOARD) }
     requires workers { (1 ≤ workers) × (workers ≤ 16) }
 {
     let found = explore(
@@ -66,7 +67,7 @@ fn is_refused<K: Shape + Sync, R: Threads + Wait + AllocGlobal + Sync>(
     limit: usize,
     workers: usize,
 ) -> bool
-    requires limit { (1 ≤ limit) × (limit ≤ 32768) }
+    requires limit { (1 ≤ limit) × (limit ≤ MAX_BOARD) }
     requires workers { (1 ≤ workers) × (workers ≤ 16) }
 {
     let refused = explore(

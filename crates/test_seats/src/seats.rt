@@ -6,7 +6,7 @@ ghost use Rattle.test_board.specs.Worker.{IsIdle};
 
 use crate::boards::{find_first, knows_first};
 use seen_board::{Board, BoardSeat, Contents, Got, Life, Place, Put};
-use state_space::Space;
+use state_space::{MAX_BOARD, Space};
 use std::alloc::Global;
 use std::process::Abort;
 use std::sync::Wait;
@@ -222,8 +222,8 @@ fn put_on<R: Abort + AllocGlobal>(
     after: &[u128],
     expected: &[Put],
 ) -> Result<(), Fail>
-    requires limit { (0 < limit) × (limit ≤ 32768) }
-    requires places { (0 < places) × (places ≤ 32768) }
+    requires limit { (0 < limit) × (limit ≤ MAX_BOARD) }
+    requires places { (0 < places) × (places ≤ MAX_BOARD) }
     requires after { length after.now < 4294967296 }
 {
     let fan = Small(Fan { after });

@@ -24,7 +24,7 @@ impl<'a, A: Allocator + Copy> Traced<'a, A> {
 
 /// How many pairs of an earlier and a later label a rule applies to.
 fn pairs_in(rule: &Rule, labels: &[Label<'_>]) -> usize
-    requires { length labels.now ≤ 124 }
+    requires { length labels.now ≤ MAX_PATCHES }
     ensures { result ≡ pairs_of rule.now (map emitted_of labels.now) }
 {
     let mut pairs = 0;

@@ -176,7 +176,7 @@ fn rules_between(
     later: &Label<'_>,
     earlier: &Label<'_>,
 ) -> ArrayVec<Rule, MAX_RULES>
-    requires { length rules.now ≤ 28 }
+    requires { length rules.now ≤ MAX_RULES }
     ensures { result.items ≡ rules_between rules.now (emitted_of later.now) (emitted_of earlier.now) }
 {
     let mut between = ArrayVec::new();
