@@ -115,9 +115,8 @@ fn push_dangling_of<A: Allocator + Copy>(
     ensures found { OnOk result (found.new.items ≡ found.old.items ++ some_below ENTRIES (dangling_at image.now dir)) }
     ensures led { OnOk result (IsTally ENTRIES (led_at image.now) (dir + 1) 0 led.new) }
 {
-    let block = image.pointer(dir, 0);
     for k in 0..ENTRIES {
-        let entry = image.byte(block as usize, 8 + 12 * k as usize);
+        let entry = image.entry(dir, k);
         if entry != 0 {
             let inode = entry - 1;
             if image.is_live(inode) {

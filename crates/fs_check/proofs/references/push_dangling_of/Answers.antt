@@ -1,6 +1,5 @@
-use Rattle.std.proofs.Common.{◌+◌, ◌*◌, ◌-◌, ◌<◌, ℕ, length, arith, refl, sym, ap, ◌∙◌}
+use Rattle.std.proofs.Common.{◌-◌, ◌<◌, ℕ, length, arith, refl, sym, ap, ◌∙◌}
 use Rattle.std.proofs.lemmas.List.{append-nil, length-set}
-use Rattle.crash_model.specs.Disk.{byte}
 use Rattle.crash_model.proofs.EachBelow.{some_below-zero}
 use Rattle.crash_model.specs.declared.fault.Fault.TheVariants.{Dangling}
 use Rattle.fs_check.specs.References.{dangling_at, led_at}
@@ -17,7 +16,7 @@ loop-k-init g c = record { found = rw (some_below-zero, append-nil) refl; size =
 
 pub overflow_add-led : goal.overflow_add-led
 overflow_add-led g c =
-    let inode : ℕ = c.byte-entry.result - 1 in
+    let inode : ℕ = c.entry-entry.result - 1 in
     let within : inode < length c.loop-k.led = omega (
       arith,
       live-below c.args.image.now inode (sym c.is_live.ensures ∙ c.if-is_live.true),
@@ -30,8 +29,8 @@ loop-k-preserved g c =
     let d = c.args.image.now in
     let dir = c.args.dir in
     let k = c.loop-k.k in
-    let entry = c.byte-entry.result in
-    let here = c.byte-entry.ensures ∙ ap (λ (b : ℕ). byte d b (8 + 12 * k)) c.pointer-block.ensures in
+    let entry = c.entry-entry.result in
+    let here = c.entry-entry.ensures in
     let led = c.loop-k.led in
     let old = c.args.found.now.items in
     let before = c.loop-k.found.items in
