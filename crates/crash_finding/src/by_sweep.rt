@@ -17,7 +17,7 @@ use crate::finder::Finder;
 use crate::watching::GateWatch;
 use crash_image::PatchSpace;
 use crash_model::refusals::RunFault;
-use explorers::{ExploreFault, Explored, Gate};
+use explorers::{Explored, Gate};
 use fault_deciding::dependencies::dependencies;
 use fault_summary::{
     CountVisitor, FailingCount, FaultVisitor, SweptFaults, sweep_count, sweep_faults,
@@ -59,11 +59,7 @@ where
         let space = PatchSpace::new(crashes.base, crashes.graph, crashes.demands);
         let (deps, limit) = (dependencies(crashes.graph), self.settings.limit);
         let watch = GateWatch { gate: self.gate };
-        match self.sweepers(&watch).sweep(&space, &deps, limit) {
-            Ok(found) => Ok(found),
-            Err(ExploreFault::TooMany) => Err(RunFault::TooMany),
-            Err(ExploreFault::OutOfMemory) => Err(RunFault::OutOfMemory),
-        }
+        Ok(self.sweepers(&watch).sweep(&space, &deps, limit)?)
     }
 
     /// How many sets there are, how many of them fail, and each fault once, in the order of faults. The memory that it
@@ -87,11 +83,7 @@ where
         let visitor = FaultVisitor::new(self.alloc, crashes.base, crashes.graph, crashes.demands);
         let (deps, limit) = (dependencies(crashes.graph), self.settings.limit);
         let watch = GateWatch { gate: self.gate };
-        match sweep_faults(&self.sweepers(&watch), &visitor, &deps, limit) {
-            Ok(found) => Ok(found),
-            Err(ExploreFault::TooMany) => Err(RunFault::TooMany),
-            Err(ExploreFault::OutOfMemory) => Err(RunFault::OutOfMemory),
-        }
+        Ok(sweep_faults(&self.sweepers(&watch), &visitor, &deps, limit)?)
     }
 
     /// How many sets there are, how many of them fail, and the first failing one that another graph prevents. The
@@ -120,10 +112,6 @@ where
         let visitor = CountVisitor::new(self.alloc, space, other);
         let (deps, limit) = (dependencies(crashes.graph), self.settings.limit);
         let watch = GateWatch { gate: self.gate };
-        match sweep_count(&self.sweepers(&watch), &visitor, &deps, limit) {
-            Ok(found) => Ok(found),
-            Err(ExploreFault::TooMany) => Err(RunFault::TooMany),
-            Err(ExploreFault::OutOfMemory) => Err(RunFault::OutOfMemory),
-        }
+        Ok(sweep_count(&self.sweepers(&watch), &visitor, &deps, limit)?)
     }
 }

@@ -11,7 +11,7 @@ use crate::finder::Finder;
 use crash_image::{PatchSpace, exploring_finds_the_failing_sets, reach_is_the_closed_sets};
 use crash_model::refusals::RunFault;
 use crash_model::settings::MAX_BOARD;
-use explorers::{ExploreFault, Explored, Gate, Room, SHARDS, explore, prime_at_least};
+use explorers::{Explored, Gate, Room, SHARDS, explore, prime_at_least};
 use fault_deciding::dependencies::dependencies;
 use set_sweep::{count_by_remainder, largest};
 use std::alloc::Allocator;
@@ -49,13 +49,8 @@ where
         };
         let limit = prime_at_least(sets, limit);
         let room = Room::for_fullest(limit, largest(&counts));
-        match explore(self.rt, self.alloc, &space, room, self.workers, self.gate) {
-            Ok(found) => {
-                self.gate.visited(found.total, found.broken.len());
-                Ok(found)
-            }
-            Err(ExploreFault::TooMany) => Err(RunFault::TooMany),
-            Err(ExploreFault::OutOfMemory) => Err(RunFault::OutOfMemory),
-        }
+        let found = explore(self.rt, self.alloc, &space, room, self.workers, self.gate)?;
+        self.gate.visited(found.total, found.broken.len());
+        Ok(found)
     }
 }

@@ -10,20 +10,21 @@ use Rattle.crash_model.specs.Replay.{image_after_replay}
 use Rattle.known_bytes.specs.Family.{Family, InEach, IsLike, HasValue}
 
 -- an inode's byte is one of its block
-pub pointer_value : (low high inode number slot at : ℕ) (f : Family) → number ≡ inode → at ≡ slot
-    → InEach f (λ d. HasValue low high (byte (image_after_replay d) (2 + number / 8) (16 * (number % 8) + 4 + at)))
+pub pointer_value : (low high inode slot block at : ℕ) (f : Family) → block ≡ 2 + inode / 8
+    → at ≡ 16 * (inode % 8) + 4 + slot
+    → InEach f (λ d. HasValue low high (byte (image_after_replay d) block at))
     → InEach f (λ d. HasValue low high (pointer_of (image_after_replay d) inode slot))
-pointer_value low high inode number slot at f is same has set m =
+pointer_value low high inode slot block at f holds starts has set m =
     let d : Disk = image_of f.base f.patches set in
-    let place : 128 * (2 + number / 8) + (16 * (number % 8) + 4 + at) ≡ 260 + 16 * inode + slot = omega arith in
+    let place : 128 * block + at ≡ 260 + 16 * inode + slot = omega arith in
     subst (λ (k : ℕ). HasValue low high (slice_index (image_after_replay d).bytes k)) place (has set m)
 
-pub links_value : (low high inode number : ℕ) (f : Family) → number ≡ inode
-    → InEach f (λ d. HasValue low high (byte (image_after_replay d) (2 + number / 8) (16 * (number % 8) + 1)))
+pub links_value : (low high inode block from : ℕ) (f : Family) → block ≡ 2 + inode / 8 → from ≡ 16 * (inode % 8)
+    → InEach f (λ d. HasValue low high (byte (image_after_replay d) block (from + 1)))
     → InEach f (λ d. HasValue low high (links_of (image_after_replay d) inode))
-links_value low high inode number f is has set m =
+links_value low high inode block from f holds starts has set m =
     let d : Disk = image_of f.base f.patches set in
-    let place : 128 * (2 + number / 8) + (16 * (number % 8) + 1) ≡ 257 + 16 * inode = omega arith in
+    let place : 128 * block + (from + 1) ≡ 257 + 16 * inode = omega arith in
     subst (λ (k : ℕ). HasValue low high (slice_index (image_after_replay d).bytes k)) place (has set m)
 
 -- of the first n blocks, those of the data area that a directory may have, with the values of a byte

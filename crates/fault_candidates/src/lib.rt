@@ -30,7 +30,8 @@ pub fn pointers<A: Allocator + Copy>(bytes: &KnownBytes<A>, inode: u8, slot: u8)
     // For the proof: how many blocks every image has at least.
     let _blocks = bytes.base().blocks();
     let (block, from) = inode_place(inode);
-    bytes.possible(usize::from(block), usize::from(from + POINTERS_FROM + slot))
+    let at = usize::from(from + POINTERS_FROM + slot);
+    bytes.possible(usize::from(block), at)
 }
 
 /// The link counts that an inode has on any of the disks after replay.

@@ -18,7 +18,7 @@ loop-block-preserved g c =
           let new = w.union-values.result in
           subst (λ v. AreGathered f blocks.low blocks.high (b + 1) (8 + 12 * k) v.low v.high) (sym w.values-is)
           (gathered_more f blocks.low blocks.high b (8 + 12 * k) old.low old.high new.low new.high w.from.result
-          (8 + 12 * w.from-then-has.result) w.from.ensures (ap (λ (n : ℕ). 8 + 12 * n) w.from-then-has.ensures)
+          w.from-then-has.result w.from.ensures (w.from-then-has.ensures ∙ w.entry_offset.ensures)
           w.union-values.ensures.first (λ set m. w.union-values.ensures.second _ (w.possible.ensures.replayed set m))
           c.loop-block.invariant)
       | else-is_data w ↦

@@ -1,4 +1,4 @@
-use Rattle.std.proofs.Common.{◌+◌, ◌*◌, ℕ, ◌&&◌, arith, subst}
+use Rattle.std.proofs.Common.{◌+◌, ◌*◌, ℕ, ◌&&◌, arith, subst, ◌∙◌}
 use Rattle.std.specs.Prelude.{◌==◌}
 use Rattle.crash_model.specs.Disk.{byte}
 use Rattle.crash_model.specs.Patches.{image_of}
@@ -30,10 +30,10 @@ loop-k-preserved g c =
     let k = c.loop-k.k in
     let n = c.with-count.result in
     let w = c.loop-k.invariant in
-    let one = subst (λ (n : ℕ). IsKnown r (λ d. byte d n (8 + 12 * c.from.result) == i + 1) c.byte_is-names.result)
+    let one = subst (λ (n : ℕ). IsKnown r (λ d. byte d n c.from.result == i + 1) c.byte_is-names.result)
     c.from-block.ensures c.byte_is-names.ensures in
-    let names = subst (λ (n : ℕ). IsKnown r (λ d. byte d block (8 + 12 * n) == i + 1) c.byte_is-names.result)
-    c.from.ensures one in
+    let names = subst (λ (n : ℕ). IsKnown r (λ d. byte d block n == i + 1) c.byte_is-names.result)
+    (c.from.ensures ∙ c.entry_offset.ensures) one in
     let leads = known_in r (λ d. counts_at dir block d && (byte d block (8 + 12 * k) == i + 1)) (λ d. leads_to d dir k i)
     c.both.result
     (λ set m. leads_is (disk_of r (image_of r.family.base r.family.patches set)) dir k block i (c.requires.found.its set m))
