@@ -66,10 +66,10 @@ begins_slash (c ∷ cs) ends = ends
 pub no_first_name : (text names : List ℕ) (n : ℕ) → names ≡ drop 1 text → n ≤ length names
     → ((k : ℕ) → k < n → get_or names k 0 ≢ 47) → (n < length names → get_or names n 0 ≡ 47) → ¬ (IsName (take n names))
     → ¬ (HasFirstName text)
-no_first_name text names n behind inside before found none first =
+no_first_name text names n after inside before found none first =
     let begins = first.2 in
     let parts : take n names ++ drop n names ≡ first.0 ++ first.1 = take-append-drop n names
-    ∙ (behind ∙ ap (drop 1) begins.whole) in
+    ∙ (after ∙ ap (drop 1) begins.whole) in
     let same = cut_once 47 (take n names) first.0 (drop n names) first.1 (front_lacks 47 names n inside before)
     (plain_lacks first.0 begins.is_name.plain) (rest_begins 47 names n inside found)
     (slash_begins first.1 begins.ends) parts in
@@ -129,13 +129,13 @@ path_goes_on text names rest are whole ends more (path, is, spelt) =
           omega arith,
         )
 
-pub slash_text-push : (names : List (List ℕ)) (name rest text behind : List ℕ) → text ≡ slash_text names ++ rest
-    → rest ≡ 47 ∷ (name ++ behind) → text ≡ slash_text (names ++ name ∷ []) ++ behind
-slash_text-push names name rest text behind whole begins =
+pub slash_text-push : (names : List (List ℕ)) (name rest text after : List ℕ) → text ≡ slash_text names ++ rest
+    → rest ≡ 47 ∷ (name ++ after) → text ≡ slash_text (names ++ name ∷ []) ++ after
+slash_text-push names name rest text after whole begins =
     let more = flat_map-append (λ (n : List ℕ). 47 ∷ n) names (name ∷ []) in
     whole ∙ (ap (λ (t : List ℕ). slash_text names ++ t) begins
-    ∙ (sym (append_assoc (slash_text names) (47 ∷ name) behind)
-    ∙ ap (λ (t : List ℕ). t ++ behind) (rest_same ∙ sym more)))
+    ∙ (sym (append_assoc (slash_text names) (47 ∷ name) after)
+    ∙ ap (λ (t : List ℕ). t ++ after) (rest_same ∙ sym more)))
   where
     rest_same : slash_text names ++ (47 ∷ name) ≡ slash_text names ++ slash_text (name ∷ [])
     rest_same = ap (λ (t : List ℕ). slash_text names ++ t) (sym (append-nil (47 ∷ name)))

@@ -131,10 +131,10 @@ AreSteps n (line ∷ lines) steps =
 -- lines for the base, the start line, and lines that are traced
 pub record IsScript (bytes : List ℕ) (base traced : List Step) : Type 0 where
   pub before : List (List ℕ)
-  pub behind : List (List ℕ)
-  pub lines : AreLines bytes (before ++ codes "start" ∷ behind)
+  pub after : List (List ℕ)
+  pub lines : AreLines bytes (before ++ codes "start" ∷ after)
   pub base_steps : AreSteps 1 before base
-  pub traced_steps : AreSteps (length before + 2) behind traced
+  pub traced_steps : AreSteps (length before + 2) after traced
 
 -- ---- refusals
 
@@ -148,8 +148,8 @@ pub record AreAccepted (lines : List (List ℕ)) : Type 0 where
 pub record IsFirstRefused (bytes : List ℕ) (n : ℕ) (P : List (List ℕ) → List ℕ → Type 0) : Type 0 where
   pub before : List (List ℕ)
   pub line : List ℕ
-  pub behind : List (List ℕ)
-  pub lines : AreLines bytes (before ++ line ∷ behind)
+  pub after : List (List ℕ)
+  pub lines : AreLines bytes (before ++ line ∷ after)
   pub accepted : AreAccepted before
   pub number : n ≡ length before + 1
   pub refused : P before line

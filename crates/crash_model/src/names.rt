@@ -98,9 +98,9 @@ impl Path {
             if through.is_full() {
                 return None;
             }
-            let (name, behind) = first_name(rest)?;
+            let (name, after) = first_name(rest)?;
             through.push(mem::replace(&mut last, name));
-            rest = behind;
+            rest = after;
         }
         Some(Path { through, last })
     }
@@ -139,8 +139,8 @@ fn first_name(text: &[u8]) -> Option<(Name, &[u8])>
     let [b'/', names @ ..] = text else {
         return None;
     };
-    let (name, behind) = names.split_at(first_slash(names));
-    Some((Name::read(name)?, behind))
+    let (name, after) = names.split_at(first_slash(names));
+    Some((Name::read(name)?, after))
 }
 
 /// The place of the first slash, or the length if there is none.

@@ -15,22 +15,22 @@ IsWhole (Some all) bytes = bytes ≡ all
 
 -- the whole report on the source's bytes
 pub record IsServed (coming : Option (List ℕ)) (request : Request) (number : ℕ)
-    (before behind : Option (List ℕ)) : Type 0 where
+    (before after : Option (List ℕ)) : Type 0 where
   pub bytes : List ℕ
   pub read : IsWhole coming bytes
   pub text : List ℕ
   pub answer : IsAnswerTo request.question bytes request.settings (Reported text number)
-  pub taken : Appends before behind text
+  pub taken : Appends before after text
 
 -- a beginning of it
-pub record IsCut (coming : Option (List ℕ)) (request : Request) (before behind : Option (List ℕ)) : Type 0 where
+pub record IsCut (coming : Option (List ℕ)) (request : Request) (before after : Option (List ℕ)) : Type 0 where
   pub bytes : List ℕ
   pub read : IsWhole coming bytes
   pub front : List ℕ
   pub rest : List ℕ
   pub number : ℕ
   pub answer : IsAnswerTo request.question bytes request.settings (Reported (front ++ rest) number)
-  pub taken : Appends before behind front
+  pub taken : Appends before after front
 
 -- a refusal that is not a device's, nor of a script too long, nor out of memory, is the answer on the source's bytes
 abbrev pub IsRefusedBy : Option (List ℕ) → Request → RunFault → Type 0

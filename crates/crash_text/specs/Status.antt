@@ -10,5 +10,5 @@ script_of call coming = elim call.script [ Some name ↦ None | None ↦ coming 
 
 -- the whole report on the script, with at least one failing set or fault
 abbrev pub IsServedFailing : Option (List ℕ) → Request → Option (List ℕ) → Option (List ℕ) → Type 0
-IsServedFailing script request before behind =
-    (number : ℕ) × (0 < number) × IsServed script request number before behind
+IsServedFailing script request before after =
+    (number : ℕ) × (0 < number) × IsServed script request number before after

@@ -7,9 +7,11 @@
 mod demands;
 mod format;
 mod image;
+mod inodes;
 mod layout;
 
 pub use demands::Demands;
 pub use format::ImageFault;
 pub use image::Image;
+pub use inodes::with_inode;
 pub use layout::{entry_offset, inode_place};

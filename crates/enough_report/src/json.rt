@@ -133,7 +133,7 @@ fn write_group<A: Allocator>(
 }
 
 /// The first keys of the object of a group of which one rule is needed: the first fault that a crash can leave without
-/// the group, the blocks that replay changes where these are told, and the rules of the group.
+/// the group, the blocks that replay changes where these are asked for, and the rules of the group.
 ///
 /// It fails only when out of memory.
 pub fn write_group_head<A: Allocator>(

@@ -18,6 +18,7 @@ pub(crate) struct Met<A: Allocator> {
 
 impl<A: Allocator> Model for Met<A> {
     ghost use Rattle.std.specs.Prelude.{ℕ, List, ◌<◌, ◌≤◌, length};
+    ghost use Rattle.state_space.specs.declared.limits.TheConstants.{MAX_BOARD};
 
     ghost Value = { List ℕ };
 

@@ -50,7 +50,7 @@ fn shows_any<A: Allocator + Copy>(image: &Image<A>, disks: &[Image<A>]) -> bool
 fn shows<A: Allocator + Copy>(image: &Image<A>, disk: &Image<A>) -> bool
     ensures { result ≡ shows image.now disk.now }
 {
-    // Most operations change an inode, so a disk that is not shown is mostly told by the first block of inodes.
+    // Most operations change an inode, so the first block of inodes mostly differs if a disk is not shown.
     let blocks = disk.blocks();
     if !has_block(image, disk, 2) {
         return false;

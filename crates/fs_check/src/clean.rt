@@ -1,7 +1,6 @@
 //! Whether an image has no fault.
 
 ghost use Rattle.std.specs.Prelude.{◌≡◌, ◌+◌, ◌<◌, ◌↔◌, IsTrue, MatchBool, MatchOption};
-ghost use Rattle.patch_sets.specs.Sets.{with_id};
 ghost use Rattle.crash_model.specs.Layout.{is_live, counts};
 ghost use Rattle.crash_model.specs.Faults.{IsClean};
 ghost use Rattle.fs_check.specs.Passed.{HasCleanPointers, HasCleanEntries, HavePassed, slots_of, entries_of, is_marked};
@@ -11,7 +10,7 @@ ghost use Rattle.fs_check.specs.Strict.{IsNamedBy, AreDirectories};
 use crash_model::disk_bytes::{
     DIRECTORY_KIND, DIRECTORY_MARK, ENTRIES, FILE_KIND, FILE_MARK, INODES, SLOTS,
 };
-use disk_image::Image;
+use disk_image::{Image, with_inode};
 use std::alloc::Allocator;
 
 /// Whether an image has no fault. It takes no memory, and ends at the first fault that it meets.
@@ -140,12 +139,4 @@ fn clean_directory<A: Allocator + Copy>(
         }
     }
     Some(named)
-}
-
-/// The set with one more inode.
-fn with_inode(set: u16, inode: u8) -> u16
-    requires { inode < INODES }
-    ensures { result ≡ with_id set inode }
-{
-    set | 1 << inode
 }

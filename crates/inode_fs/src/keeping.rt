@@ -1,7 +1,7 @@
 //! Which inodes a script keeps.
 
 ghost use Rattle.std.specs.Prelude.{◌≡◌, ℕ, ◌<◌, IfOk};
-ghost use Rattle.patch_sets.specs.Sets.{has, with_id};
+ghost use Rattle.patch_sets.specs.Sets.{has};
 ghost use Rattle.crash_model.specs.Layout.{is_live};
 ghost use Rattle.crash_model.specs.Strict.{disk_after, IsKept};
 
@@ -9,7 +9,7 @@ use crate::applying::apply;
 use crate::planning::plan;
 use crash_model::disk_bytes::INODES;
 use crash_model::steps::{Act, Step};
-use disk_image::Image;
+use disk_image::{Image, with_inode};
 use std::alloc::{AllocError, Allocator};
 
 /// The inodes that a script keeps, as a set: those that are live in an image and in the image after each of the steps.
@@ -49,12 +49,4 @@ fn live_inodes<A: Allocator + Copy>(image: &Image<A>) -> u16
         }
     }
     live
-}
-
-/// The set with one more inode.
-fn with_inode(set: u16, inode: u8) -> u16
-    requires { inode < INODES }
-    ensures { result ≡ with_id set inode }
-{
-    set | 1 << inode
 }

@@ -23,6 +23,7 @@ pub struct Header {
 
 impl Model for Header {
     ghost use Rattle.std.specs.Prelude.{◌≤◌, take};
+    ghost use Rattle.crash_model.specs.declared.disk_bytes.TheConstants.{MOST_TARGETS};
     ghost use Rattle.journal_replay.specs.Header.{Head};
 
     ghost Value = { Head };

@@ -22,8 +22,8 @@ IsFirst patches (Some section) (Some value) = IsWritten value (section_json patc
 
 -- the key of the first section, if there is one, and the keys after it
 abbrev pub first_members : Option Data → Members → Members
-first_members None behind = behind
-first_members (Some first) behind = member (codes "first") first behind
+first_members None after = after
+first_members (Some first) after = member (codes "first") first after
 
 abbrev pub usage_members : List ℕ → RuleUsage → Option Data → Members
 usage_members rule Unused first =

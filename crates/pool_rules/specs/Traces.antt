@@ -23,7 +23,7 @@ pub record IsTraceOf (s : Search) (steps : List Step) (t : TracedPatches) : Type
   pub of_it : IsTracingOf t last
   pub rules : t.rules ≡ s.rules
 
--- the answer tells whether a set of the patches by these rules fails
+-- the answer says whether a set of the patches by these rules fails
 pub record IsAnswerBy (demands : Demands) (base : Disk) (t : TracedPatches) (rules : List Rule)
     (fails : Bool) : Type 0 where
   pub patches : List Patch

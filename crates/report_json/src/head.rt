@@ -38,7 +38,7 @@ pub fn write_first_keys<A: Allocator + Copy>(
     write_explained_base(out, base, settings.explain)
 }
 
-/// The key of a run whose operations are to be atomic, with a comma behind it. It fails only when out of memory.
+/// The key of a run whose operations are to be atomic, with a comma after it. It fails only when out of memory.
 pub fn write_atomic_key(out: &mut String, atomic: bool) -> Result<(), AllocError>
     ensures { OnOk result (string_bytes out.new ≡ string_bytes out.old ++ atomic_json atomic) }
 {
@@ -48,7 +48,7 @@ pub fn write_atomic_key(out: &mut String, atomic: bool) -> Result<(), AllocError
     Ok(())
 }
 
-/// The key of the base with a comma behind it, where an explanation is asked for.
+/// The key of the base with a comma after it, where an explanation is asked for.
 fn write_explained_base<A: Allocator + Copy>(
     out: &mut String,
     base: &Image<A>,

@@ -67,7 +67,7 @@ rules_json key [] = []
 rules_json key (rule ∷ rules) =
     codes "," ++ json_string key ++ codes ":" ++ json_array (map (λ r. json_string (rule_text r)) (rule ∷ rules))
 
--- that operations are to be atomic, with a comma behind it, and behind that the base
+-- that operations are to be atomic, with a comma after it, and after that the base
 abbrev pub atomic_json : Bool → List ℕ
 atomic_json atomic = if atomic then codes "\"atomic\":true," else []
 

@@ -63,39 +63,39 @@ steps-said n (l ∷ ls) steps line act m (inr (a, rest, reads, more, whole)) sai
       ap (λ (ss : List Step). ss ++ record { line = m; act = act } ∷ []) whole,
     )
 
-pub lines-more : (bytes : List ℕ) (before : List (List ℕ)) (rest line behind : List ℕ)
-    → lines_of bytes ≡ before ++ lines_of rest → rest ≢ [] → IsFirstLine rest line behind
-    → lines_of bytes ≡ before ++ (line ∷ lines_of behind)
-lines-more bytes before rest line behind lines some first = lines
-    ∙ ap (λ (ls : List (List ℕ)). before ++ ls) (lines_of-first rest line behind some first)
+pub lines-more : (bytes : List ℕ) (before : List (List ℕ)) (rest line after : List ℕ)
+    → lines_of bytes ≡ before ++ lines_of rest → rest ≢ [] → IsFirstLine rest line after
+    → lines_of bytes ≡ before ++ (line ∷ lines_of after)
+lines-more bytes before rest line after lines some first = lines
+    ∙ ap (λ (ls : List (List ℕ)). before ++ ls) (lines_of-first rest line after some first)
 
-pub read_skipped : (bytes : List ℕ) (first : ℕ) (steps : List Step) (n : ℕ) (rest line behind : List ℕ)
-    → HaveRead bytes first steps n rest → rest ≢ [] → IsFirstLine rest line behind → Reads line Skipped
-    → HaveRead bytes first steps (n + 1) behind
-read_skipped bytes first steps n rest line behind read some cut skipped =
-    let shorter = first_line_shorter rest line behind some cut in
+pub read_skipped : (bytes : List ℕ) (first : ℕ) (steps : List Step) (n : ℕ) (rest line after : List ℕ)
+    → HaveRead bytes first steps n rest → rest ≢ [] → IsFirstLine rest line after → Reads line Skipped
+    → HaveRead bytes first steps (n + 1) after
+read_skipped bytes first steps n rest line after read some cut skipped =
+    let shorter = first_line_shorter rest line after some cut in
     let one_more = length_push read.before line in
     record {
       before = read.before ++ line ∷ [];
       says = steps-skipped first read.before steps line read.says skipped;
       number = let number = read.number in omega arith;
-      lines = lines-more bytes read.before rest line behind read.lines some cut
-          ∙ sym (append_assoc read.before (line ∷ []) (lines_of behind));
+      lines = lines-more bytes read.before rest line after read.lines some cut
+          ∙ sym (append_assoc read.before (line ∷ []) (lines_of after));
       room = let room = read.room in omega arith;
     }
 
-pub read_said : (bytes : List ℕ) (first : ℕ) (steps : List Step) (n : ℕ) (rest line behind : List ℕ) (act : Act)
-    → HaveRead bytes first steps n rest → rest ≢ [] → IsFirstLine rest line behind → Reads line (Says act)
-    → HaveRead bytes first (steps ++ record { line = n; act = act } ∷ []) (n + 1) behind
-read_said bytes first steps n rest line behind act read some cut said =
-    let shorter = first_line_shorter rest line behind some cut in
+pub read_said : (bytes : List ℕ) (first : ℕ) (steps : List Step) (n : ℕ) (rest line after : List ℕ) (act : Act)
+    → HaveRead bytes first steps n rest → rest ≢ [] → IsFirstLine rest line after → Reads line (Says act)
+    → HaveRead bytes first (steps ++ record { line = n; act = act } ∷ []) (n + 1) after
+read_said bytes first steps n rest line after act read some cut said =
+    let shorter = first_line_shorter rest line after some cut in
     let one_more = length_push read.before line in
     record {
       before = read.before ++ line ∷ [];
       says = steps-said first read.before steps line act n read.says said read.number;
       number = let number = read.number in omega arith;
-      lines = lines-more bytes read.before rest line behind read.lines some cut
-          ∙ sym (append_assoc read.before (line ∷ []) (lines_of behind));
+      lines = lines-more bytes read.before rest line after read.lines some cut
+          ∙ sym (append_assoc read.before (line ∷ []) (lines_of after));
       room = let room = read.room in omega arith;
     }
 
@@ -103,16 +103,16 @@ pub some_left : (xs : List ℕ) (empty : Bool) → empty ≡ eqb (length xs) 0 �
 some_left [] empty is false_is same = false≢true (sym false_is ∙ is)
 some_left (x ∷ xs) empty is false_is same = cc
 
-pub part_refused : (bytes : List ℕ) (first : ℕ) (steps : List Step) (n : ℕ) (rest line behind : List ℕ)
+pub part_refused : (bytes : List ℕ) (first : ℕ) (steps : List Step) (n : ℕ) (rest line after : List ℕ)
     (why : LineFault) (fault : ScriptFault) → HaveRead bytes first steps n rest → rest ≢ []
-    → IsFirstLine rest line behind → IsLineFault line why → fault ≡ line_fault n why → IsPartRefused bytes first fault
-part_refused bytes first steps n rest line behind why fault read some cut refused is = record {
+    → IsFirstLine rest line after → IsLineFault line why → fault ≡ line_fault n why → IsPartRefused bytes first fault
+part_refused bytes first steps n rest line after why fault read some cut refused is = record {
   before = read.before;
   line = line;
-  behind = lines_of behind;
+  after = lines_of after;
   steps = steps;
   why = why;
-  lines = lines-more bytes read.before rest line behind read.lines some cut;
+  lines = lines-more bytes read.before rest line after read.lines some cut;
   says = read.says;
   refused = refused;
   number = is ∙ ap (λ (k : ℕ). line_fault k why) read.number;

@@ -27,11 +27,11 @@ pub fn read_script<A: Allocator + Copy>(alloc: A, bytes: &[u8]) -> Result<Script
     ensures refused { IfErr result (λ fault. fault ≢ ScriptFault.OutOfMemory → IsScriptRefusal bytes.now fault) }
 {
     let base = read_steps(alloc, bytes, 1)?;
-    let Some(behind) = base.behind else {
+    let Some(after) = base.after else {
         return Err(ScriptFault::NoStart { line: base.line });
     };
-    let traced = read_steps(alloc, behind, base.line + 1)?;
-    if traced.behind.is_some() {
+    let traced = read_steps(alloc, after, base.line + 1)?;
+    if traced.after.is_some() {
         return Err(ScriptFault::BadLine { line: traced.line });
     }
     Ok(Script {
@@ -42,13 +42,13 @@ pub fn read_script<A: Allocator + Copy>(alloc: A, bytes: &[u8]) -> Result<Script
 
 /// The steps of lines up to a start line, or up to the end.
 ///
-/// `line` is the number of the start line, and `behind` the bytes after it; if there is none, `line` is one
+/// `line` is the number of the start line, and `after` the bytes after it; if there is none, `line` is one
 /// more than the number of the last line.
 #[derive(Drop)]
 struct Part<'a, A: Allocator> {
     steps: Vec<Step, A>,
     line: usize,
-    behind: Option<&'a [u8]>,
+    after: Option<&'a [u8]>,
 }
 
 /// The steps of these bytes up to a start line. The number of their first line is `first`.
@@ -58,34 +58,34 @@ fn read_steps<A: Allocator + Copy>(
     first: usize,
 ) -> Result<Part<'_, A>, ScriptFault>
     requires { first + length bytes.now < 2 ^ 64 }
-    ensures ok { IfOk result (λ part. IsPart bytes.now first part.steps.items part.line part.behind) }
+    ensures ok { IfOk result (λ part. IsPart bytes.now first part.steps.items part.line part.after) }
     ensures room { IfOk result (λ part.
-        IfSome part.behind (λ behind. part.line + length behind.now < first + length bytes.now)) }
+        IfSome part.after (λ after. part.line + length after.now < first + length bytes.now)) }
     ensures refused { IfErr result (λ fault. fault ≢ ScriptFault.OutOfMemory → IsPartRefused bytes.now first fault) }
 {
     let mut steps = Vec::new(alloc);
     let mut line = first;
     let mut rest = bytes;
     while !rest.is_empty() {
-        let (text, behind) = first_line(rest);
+        let (text, after) = first_line(rest);
         match read_line(text) {
             Ok(Line::Skipped) => {}
             Ok(Line::Start) => {
                 return Ok(Part {
                     steps,
                     line,
-                    behind: Some(behind),
+                    after: Some(after),
                 });
             }
             Ok(Line::Says(act)) => steps.push(Step { line, act })?,
             Err(fault) => return Err(fault.at(line)),
         }
         line += 1;
-        rest = behind;
+        rest = after;
     }
     Ok(Part {
         steps,
         line,
-        behind: None,
+        after: None,
     })
 }

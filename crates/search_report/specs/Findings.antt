@@ -57,7 +57,7 @@ ordering_keys settings =
     ++ rules_json (codes "with") (told_with settings)
     ++ rules_json (codes "without") (told_without settings)
 
--- the keys behind the module's, the object's end and a line feed; a pool has so many operations
+-- the keys after the module's, the object's end and a line feed; a pool has so many operations
 abbrev pub last_keys : Settings → ℕ → ℕ → Found → List ℕ
 last_keys settings most pool found =
     codes ",\"pool\":" ++ decimal pool

@@ -113,7 +113,7 @@ pub record IsSearchRulesReport (settings : Settings) (most : ℕ) (base : Disk) 
   pub whole : text ≡ search_rules_bytes settings most (length pool) found enough needs
   pub number_of : number ≡ (if found.failing == 0 then 0 else 1)
 
--- the report on a script whose steps behind the start line are a pool of operations; what refuses a search refuses
+-- the report on a script whose steps after the start line are a pool of operations; what refuses a search refuses
 -- this one
 pub record IsSearchedForRules (bytes : List ℕ) (settings : Settings) (most : ℕ) (text : List ℕ)
     (number : ℕ) : Type 0 where

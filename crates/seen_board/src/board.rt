@@ -27,6 +27,7 @@ pub struct Board<S: Space, A: Allocator> {
 
 impl<S: Space, A: Allocator> Model for Board<S, A> {
     ghost use Rattle.std.specs.Prelude.{◌≡◌, ◌<◌, ◌≤◌};
+    ghost use Rattle.state_space.specs.declared.limits.TheConstants.{MAX_BOARD};
     ghost use Rattle.board_rule.specs.Layout.{size_for};
     ghost use Rattle.seen_board.specs.Known.{Shown};
 

@@ -49,13 +49,13 @@ based_is d (Err fault) e = cc
 based_is d (Ok base) e = refl
 
 -- the disk at the start line, and the graph of the steps after it
-module _ (settings : Settings) (before behind : List Act) (read : are_acts before ≡ true)
-    (read_too : are_acts behind ≡ true) (geometry : is_geometry settings ≡ true) where
+module _ (settings : Settings) (before after : List Act) (read : are_acts before ≡ true)
+    (read_too : are_acts after ≡ true) (geometry : is_geometry settings ≡ true) where
   pub start : has_base (base_from (empty_disk settings.blocks settings.journal) (numbered_steps 1 before)) ≡ true
-      → HasBase (script before behind) settings (base_of settings before) (trace_steps before behind)
+      → HasBase (script before after) settings (base_of settings before) (trace_steps before after)
   start whole = record {
     before = numbered_steps 1 before;
-    read = script_is before behind read read_too;
+    read = script_is before after read read_too;
     geometry = geometry_if settings geometry;
     built = based_is (empty_disk settings.blocks settings.journal)
         (base_from (empty_disk settings.blocks settings.journal) (numbered_steps 1 before)) whole;
@@ -63,93 +63,93 @@ module _ (settings : Settings) (before behind : List Act) (read : are_acts befor
 
   pub has_graph : has_base (base_from (empty_disk settings.blocks settings.journal) (numbered_steps 1 before)) ≡ true
       → is_accepted (trace_from settings.module (trace_start settings.whole_blocks (base_of settings before))
-      (trace_steps before behind))
+      (trace_steps before after))
       ≡ true
-      → HasGraph (script before behind) settings (base_of settings before)
-      (trace_of settings.module settings.whole_blocks (base_of settings before) (trace_steps before behind))
-      (graph settings before behind)
+      → HasGraph (script before after) settings (base_of settings before)
+      (trace_of settings.module settings.whole_blocks (base_of settings before) (trace_steps before after))
+      (graph settings before after)
   has_graph whole run =
       let base = base_of settings before in
-      let last = trace_of settings.module settings.whole_blocks base (trace_steps before behind) in record {
-        steps = trace_steps before behind;
+      let last = trace_of settings.module settings.whole_blocks base (trace_steps before after) in record {
+        steps = trace_steps before after;
         start = start whole;
         run = accepted_is base (trace_from settings.module (trace_start settings.whole_blocks base)
-            (trace_steps before behind)) run;
+            (trace_steps before after)) run;
         graph = graph_is (ordering_rules settings) base last;
       }
 
 -- an act before the start line is refused
-pub refused_base : (settings : Settings) (before behind : List Act) (fault : TraceFault)
-    → are_acts before ≡ true → are_acts behind ≡ true → is_geometry settings ≡ true
+pub refused_base : (settings : Settings) (before after : List Act) (fault : TraceFault)
+    → are_acts before ≡ true → are_acts after ≡ true → is_geometry settings ≡ true
     → base_from (empty_disk settings.blocks settings.journal) (numbered_steps 1 before) ≡ Err fault
-    → IsAnswer (script before behind) settings (Refused (run_of_trace fault))
-refused_base settings before behind fault read read_too geometry is =
-    answers.bad_base (numbered_steps 1 before) (trace_steps before behind) fault (script_is before behind read read_too)
+    → IsAnswer (script before after) settings (Refused (run_of_trace fault))
+refused_base settings before after fault read read_too geometry is =
+    answers.bad_base (numbered_steps 1 before) (trace_steps before after) fault (script_is before after read read_too)
     (geometry_if settings geometry) is
 
 -- an act after it is refused
-pub refused_trace : (settings : Settings) (before behind : List Act) (fault : TraceFault)
-    → are_acts before ≡ true → are_acts behind ≡ true → is_geometry settings ≡ true
+pub refused_trace : (settings : Settings) (before after : List Act) (fault : TraceFault)
+    → are_acts before ≡ true → are_acts after ≡ true → is_geometry settings ≡ true
     → has_base (base_from (empty_disk settings.blocks settings.journal) (numbered_steps 1 before)) ≡ true
     → trace_from settings.module (trace_start settings.whole_blocks (base_of settings before))
-    (trace_steps before behind) ≡ Err fault
-    → IsAnswer (script before behind) settings (Refused (run_of_trace fault))
-refused_trace settings before behind fault read read_too geometry whole is =
-    answers.bad_trace (base_of settings before) (trace_steps before behind) fault
-    (start settings before behind read read_too geometry whole) is
+    (trace_steps before after) ≡ Err fault
+    → IsAnswer (script before after) settings (Refused (run_of_trace fault))
+refused_trace settings before after fault read read_too geometry whole is =
+    answers.bad_trace (base_of settings before) (trace_steps before after) fault
+    (start settings before after read read_too geometry whole) is
 
 -- how much is reported of a set
 abbrev pub told_detail : Settings → List Act → List Act → Detail
-told_detail settings before behind = detail_of settings
-    (demands_of settings.strict settings.atomic (base_of settings before) (trace_steps before behind))
+told_detail settings before after = detail_of settings
+    (demands_of settings.strict settings.atomic (base_of settings before) (trace_steps before after))
 
 -- the same test as `is_told`, in fewer steps
 abbrev pub is_told_quickly : Settings → List Act → List Act → ℕ → List ℕ → Bool
-is_told_quickly settings before behind closed failing =
+is_told_quickly settings before after closed failing =
     let base = base_of settings before in
-    let patches = graph settings before behind in
-    are_acts before && (are_acts behind && (is_geometry settings
+    let patches = graph settings before after in
+    are_acts before && (are_acts after && (is_geometry settings
     && (has_base (base_from (empty_disk settings.blocks settings.journal) (numbered_steps 1 before))
-    && (is_accepted (trace_from settings.module (trace_start settings.whole_blocks base) (trace_steps before behind))
+    && (is_accepted (trace_from settings.module (trace_start settings.whole_blocks base) (trace_steps before after))
     && ((length (closed_sets (deps_of patches)) == closed)
     && (are_in_order (length (deps_of patches)) failing
-    (failing_quickly_under (demands_of settings.strict settings.atomic base (trace_steps before behind)) base patches)
+    (failing_quickly_under (demands_of settings.strict settings.atomic base (trace_steps before after)) base patches)
     && (nat_le closed settings.limit && have_runs patches failing)))))))
 
-quickly_is : (settings : Settings) (before behind : List Act) (closed : ℕ) (failing : List ℕ)
-    → is_told_quickly settings before behind closed failing ≡ is_told settings before behind closed failing
-quickly_is settings before behind closed failing =
+quickly_is : (settings : Settings) (before after : List Act) (closed : ℕ) (failing : List ℕ)
+    → is_told_quickly settings before after closed failing ≡ is_told settings before after closed failing
+quickly_is settings before after closed failing =
     let base = base_of settings before in
-    rw (failing_under_are (demands_of settings.strict settings.atomic base (trace_steps before behind)) base
-    (graph settings before behind)) refl
+    rw (failing_under_are (demands_of settings.strict settings.atomic base (trace_steps before after)) base
+    (graph settings before after)) refl
 
 -- the report, of each failing set
-pub reported : (settings : Settings) (before behind : List Act) (closed : ℕ) (failing : List ℕ) (text : List ℕ)
-    → is_told_quickly settings before behind closed failing ≡ true
+pub reported : (settings : Settings) (before after : List Act) (closed : ℕ) (failing : List ℕ) (text : List ℕ)
+    → is_told_quickly settings before after closed failing ≡ true
     → settings.by ≡ BySet
     → text ≡ report settings (record {
-      patches = length (graph settings before behind);
+      patches = length (graph settings before after);
       closed = closed;
       failing = length failing;
       explanation = when settings.explain (explanation (ordering_rules settings) (base_of settings before)
-          (trace_of settings.module settings.whole_blocks (base_of settings before) (trace_steps before behind))
-          (graph settings before behind));
-      body = Sets (map (section_of (told_detail settings before behind) (base_of settings before)
-          (graph settings before behind)) failing);
+          (trace_of settings.module settings.whole_blocks (base_of settings before) (trace_steps before after))
+          (graph settings before after));
+      body = Sets (map (section_of (told_detail settings before after) (base_of settings before)
+          (graph settings before after)) failing);
     })
-    → IsAnswer (script before behind) settings (Reported text (length failing))
+    → IsAnswer (script before after) settings (Reported text (length failing))
 unfolding has_graph
-reported settings before behind closed failing text told_quickly by_set is =
-    let told : is_told settings before behind closed failing ≡ true =
-    sym (quickly_is settings before behind closed failing) ∙ told_quickly in
+reported settings before after closed failing text told_quickly by_set is =
+    let told : is_told settings before after closed failing ≡ true =
+    sym (quickly_is settings before after closed failing) ∙ told_quickly in
     let base = base_of settings before in
-    let steps = trace_steps before behind in
+    let steps = trace_steps before after in
     let last = trace_of settings.module settings.whole_blocks base steps in
     let demands = demands_of settings.strict settings.atomic base steps in
     let detail = detail_of settings demands in
-    let patches = graph settings before behind in
+    let patches = graph settings before after in
     let one = and_parts (are_acts before) _ told in
-    let two = and_parts (are_acts behind) _ one.1 in
+    let two = and_parts (are_acts after) _ one.1 in
     let three = and_parts (is_geometry settings) _ two.1 in
     let four = and_parts (has_base (base_from (empty_disk settings.blocks settings.journal) (numbered_steps 1 before)))
     _ three.1 in
@@ -164,7 +164,7 @@ reported settings before behind closed failing text told_quickly by_set is =
     let are_closed = failing_closed demands base patches failing exactly in
     let sections = sections_if detail base patches failing eight.1 in
     answers.reported demands base last patches text (length failing)
-    (has_graph settings before behind one.0 two.0 three.0 four.0 five.0)
+    (has_graph settings before after one.0 two.0 three.0 four.0 five.0)
     (are_demands settings.strict settings.atomic base steps) (record {
       total = closed;
       counted = counts_closed patches closed first (eq_from_true _ _ six.0);
@@ -196,29 +196,29 @@ no_geometry settings none g =
     (le-leb settings.blocks 128 g.most) (le-leb (settings.journal + 6) settings.blocks g.room)) in
     cc
 
-pub refused_geometry : (settings : Settings) (before behind : List Act) → are_acts before ≡ true
-    → are_acts behind ≡ true
-    → is_geometry settings ≡ false → IsAnswer (script before behind) settings (Refused BadGeometry)
-refused_geometry settings before behind read read_too none =
-    answers.bad_geometry (numbered_steps 1 before) (trace_steps before behind) (script_is before behind read read_too)
+pub refused_geometry : (settings : Settings) (before after : List Act) → are_acts before ≡ true
+    → are_acts after ≡ true
+    → is_geometry settings ≡ false → IsAnswer (script before after) settings (Refused BadGeometry)
+refused_geometry settings before after read read_too none =
+    answers.bad_geometry (numbered_steps 1 before) (trace_steps before after) (script_is before after read read_too)
     (no_geometry settings none)
 
 -- more closed sets than the limit
-pub refused_limit : (settings : Settings) (before behind : List Act)
-    → are_acts before ≡ true → are_acts behind ≡ true → is_geometry settings ≡ true
+pub refused_limit : (settings : Settings) (before after : List Act)
+    → are_acts before ≡ true → are_acts after ≡ true → is_geometry settings ≡ true
     → has_base (base_from (empty_disk settings.blocks settings.journal) (numbered_steps 1 before)) ≡ true
     → is_accepted (trace_from settings.module (trace_start settings.whole_blocks (base_of settings before))
-    (trace_steps before behind))
+    (trace_steps before after))
     ≡ true
-    → nat_lt settings.limit (length (closed_sets (deps_of (graph settings before behind)))) ≡ true
-    → IsAnswer (script before behind) settings (Refused TooMany)
-refused_limit settings before behind read read_too geometry whole run more =
+    → nat_lt settings.limit (length (closed_sets (deps_of (graph settings before after)))) ≡ true
+    → IsAnswer (script before after) settings (Refused TooMany)
+refused_limit settings before after read read_too geometry whole run more =
     let base = base_of settings before in
-    let patches = graph settings before behind in
-    let last = trace_of settings.module settings.whole_blocks base (trace_steps before behind) in
+    let patches = graph settings before after in
+    let last = trace_of settings.module settings.whole_blocks base (trace_steps before after) in
     let first = earlier (ordering_rules settings) base last in
     let all = counts_closed patches (length (closed_sets (deps_of patches))) first refl in
-    answers.too_many base last patches (has_graph settings before behind read read_too geometry whole run) (
+    answers.too_many base last patches (has_graph settings before after read read_too geometry whole run) (
       all.0,
       record { distinct = all.1.distinct; each = all.1.each },
       subst (λ (n : ℕ). settings.limit < n) (sym all.2) (ltb-true settings.limit

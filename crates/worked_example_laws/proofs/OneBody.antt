@@ -60,9 +60,9 @@ less_or_greater : Less ≡ Greater → ⊥
 less_or_greater e = cc
 
 not_both : (f g : Fault) → IsFaultBefore f g → IsFaultBefore g f → ⊥
-not_both f g before behind =
+not_both f g before after =
     less_or_greater (sym before ∙ (nat_list_cmp_total.antisymm (numbers_of f) (numbers_of g)
-    ∙ ap ordering_reverse behind))
+    ∙ ap ordering_reverse after))
 
 -- each row's fault comes before those of all rows after it
 abbrev Ascend : List FaultRow → Type 0
@@ -92,8 +92,8 @@ one_order (x ∷ xs) (y ∷ ys) up also to from =
   where
     by : (y ≡ x) ⊎ Contains ys x → (x ≡ y) ⊎ Contains xs y → x ≡ y
     by (inl e) other = sym e
-    by (inr behind) (inl e) = e
-    by (inr behind) (inr also_behind) = absurd (not_both y.fault x.fault (also.0 x behind) (up.0 y also_behind))
+    by (inr after) (inl e) = e
+    by (inr after) (inr also_behind) = absurd (not_both y.fault x.fault (also.0 x after) (up.0 y also_behind))
 
     alone : (z : FaultRow) → IsFaultBefore z.fault z.fault → ⊥
     alone z before = not_both z.fault z.fault before before
@@ -101,12 +101,12 @@ one_order (x ∷ xs) (y ∷ ys) up also to from =
     behind_y : x ≡ y → (z : FaultRow) → Contains xs z → (y ≡ z) ⊎ Contains ys z → Contains ys z
     behind_y front z is (inl e) = absurd (alone z (subst (λ (w : FaultRow). IsFaultBefore w.fault z.fault) (front ∙ e)
         (up.0 z is)))
-    behind_y front z is (inr behind) = behind
+    behind_y front z is (inr after) = after
 
     behind_x : x ≡ y → (z : FaultRow) → Contains ys z → (x ≡ z) ⊎ Contains xs z → Contains xs z
     behind_x front z is (inl e) = absurd (alone z (subst (λ (w : FaultRow). IsFaultBefore w.fault z.fault)
         (sym front ∙ e) (also.0 z is)))
-    behind_x front z is (inr behind) = behind
+    behind_x front z is (inr after) = after
 
 -- the row of a fault among rows whose faults have it
 row_at : (f : Fault) (rs : List FaultRow) → Contains (map (λ row. row.fault) rs) f → (r : FaultRow) × Contains rs r
@@ -114,7 +114,7 @@ row_at : (f : Fault) (rs : List FaultRow) → Contains (map (λ row. row.fault) 
 row_at f [] is = absurd (in_none f is)
 row_at f (r ∷ rs) is = elim (front_or_rest r.fault (map (λ row. row.fault) rs) f is) [
   | inl e ↦ (r, in_front r rs, e)
-  | inr behind ↦ let it = row_at f rs behind in (it.0, in_rest r rs it.0 it.1, it.2)
+  | inr after ↦ let it = row_at f rs after in (it.0, in_rest r rs it.0 it.1, it.2)
 ]
 
 module _ (has : Fault → ℕ → Type 0) where

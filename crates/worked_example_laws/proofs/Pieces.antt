@@ -97,13 +97,13 @@ pieces_joined s (x ∷ y ∷ ys) lacks some =
 pub pieces_slashed : (s : ℕ) (words : List (List ℕ)) → AreLacking s words
     → pieces s (flat_map (λ word. s ∷ word) words) ≡ [] ∷ words
 pieces_slashed s [] lacks = refl
-pieces_slashed s (x ∷ xs) lacks = rw (true_from_eq s s refl) (ap (λ ps. [] ∷ ps) (behind x xs lacks))
+pieces_slashed s (x ∷ xs) lacks = rw (true_from_eq s s refl) (ap (λ ps. [] ∷ ps) (after x xs lacks))
   where
-    behind : (x : List ℕ) (xs : List (List ℕ)) → AreLacking s (x ∷ xs)
+    after : (x : List ℕ) (xs : List (List ℕ)) → AreLacking s (x ∷ xs)
         → pieces s (x ++ flat_map (λ word. s ∷ word) xs) ≡ x ∷ xs
-    behind x [] lacks = ap (pieces s) (append-nil x) ∙ pieces_alone s x lacks.0
-    behind x (y ∷ ys) lacks = pieces_first s x (y ++ flat_map (λ word. s ∷ word) ys) lacks.0
-        ∙ ap (λ ps. x ∷ ps) (behind y ys lacks.1)
+    after x [] lacks = ap (pieces s) (append-nil x) ∙ pieces_alone s x lacks.0
+    after x (y ∷ ys) lacks = pieces_first s x (y ++ flat_map (λ word. s ∷ word) ys) lacks.0
+        ∙ ap (λ ps. x ∷ ps) (after y ys lacks.1)
 
 -- words with the byte after each, and one more
 pieces_ended : (s : ℕ) (words : List (List ℕ)) (last : List ℕ) → AreLacking s words → Lacks s last

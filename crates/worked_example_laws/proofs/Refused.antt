@@ -49,11 +49,11 @@ acts_accepted acts e = record {
       (get_contains (map line_of acts) i (codes "start") at_i));
 }
 
-pub started_accepted : (before behind : List Act) → are_acts before ≡ true → are_acts behind ≡ true
-    → AreAccepted (lines_of before behind)
-started_accepted before behind e f =
-    steps_accepted 1 1 (map line_of before) (map line_of behind) (numbered_steps 1 before) (numbered_steps 1 behind)
-    (steps_are 1 before e) (steps_are 1 behind f)
+pub started_accepted : (before after : List Act) → are_acts before ≡ true → are_acts after ≡ true
+    → AreAccepted (lines_of before after)
+started_accepted before after e f =
+    steps_accepted 1 1 (map line_of before) (map line_of after) (numbered_steps 1 before) (numbered_steps 1 after)
+    (steps_are 1 before e) (steps_are 1 after f)
 
 -- ---- what a line is not
 
@@ -115,24 +115,24 @@ bad_path_if line like words e cut fits =
 
 -- ---- the first refused line
 
-first_refused : (P : List (List ℕ) → List ℕ → Type 0) (before : List (List ℕ)) (line : List ℕ) (behind : List (List ℕ))
+first_refused : (P : List (List ℕ) → List ℕ → Type 0) (before : List (List ℕ)) (line : List ℕ) (after : List (List ℕ))
     → AreAccepted before
-    → list_all is_plain (before ++ line ∷ behind) ≡ true → P before line
-    → IsFirstRefused (text_of_lines (before ++ line ∷ behind)) (length before + 1) P
-first_refused P before line behind accepted plain is = record {
+    → list_all is_plain (before ++ line ∷ after) ≡ true → P before line
+    → IsFirstRefused (text_of_lines (before ++ line ∷ after)) (length before + 1) P
+first_refused P before line after accepted plain is = record {
   before = before;
   line = line;
-  behind = behind;
-  lines = ended_lines (before ++ line ∷ behind) plain;
+  after = after;
+  lines = ended_lines (before ++ line ∷ after) plain;
   accepted = accepted;
   number = refl;
   refused = is;
 }
 
-pub utf8_refused : (before : List (List ℕ)) (line : List ℕ) (behind : List (List ℕ)) → AreAccepted before
-    → list_all is_plain (before ++ line ∷ behind) ≡ true
-    → is_utf8 line ≡ false → IsScriptRefusal (text_of_lines (before ++ line ∷ behind)) (BadUtf8 (length before + 1))
-utf8_refused before line behind accepted plain e = first_refused (λ _ line. ¬ (IsUtf8 line)) before line behind accepted
+pub utf8_refused : (before : List (List ℕ)) (line : List ℕ) (after : List (List ℕ)) → AreAccepted before
+    → list_all is_plain (before ++ line ∷ after) ≡ true
+    → is_utf8 line ≡ false → IsScriptRefusal (text_of_lines (before ++ line ∷ after)) (BadUtf8 (length before + 1))
+utf8_refused before line after accepted plain e = first_refused (λ _ line. ¬ (IsUtf8 line)) before line after accepted
     plain (not_text line e)
 
 -- the last line, with no line feed after it
@@ -142,32 +142,32 @@ pub last_utf8_refused : (before : List (List ℕ)) (line : List ℕ) → AreAcce
 last_utf8_refused before line accepted plain some e = record {
   before = before;
   line = line;
-  behind = [];
+  after = [];
   lines = open_lines before line plain some;
   accepted = accepted;
   number = refl;
   refused = not_text line e;
 }
 
-pub line_refused : (before : List (List ℕ)) (line : List ℕ) (behind : List (List ℕ)) → AreAccepted before
-    → list_all is_plain (before ++ line ∷ behind) ≡ true
+pub line_refused : (before : List (List ℕ)) (line : List ℕ) (after : List (List ℕ)) → AreAccepted before
+    → list_all is_plain (before ++ line ∷ after) ≡ true
     → is_telling line ≡ true → are_formed (pieces 32 line) ≡ false
-    → IsScriptRefusal (text_of_lines (before ++ line ∷ behind)) (BadLine (length before + 1))
-line_refused before line behind accepted plain e none = first_refused IsBadLine before line behind accepted plain
+    → IsScriptRefusal (text_of_lines (before ++ line ∷ after)) (BadLine (length before + 1))
+line_refused before line after accepted plain e none = first_refused IsBadLine before line after accepted plain
     (bad_line_if before line e none)
 
 -- a second start line
-pub start_refused : (before : List (List ℕ)) (behind : List (List ℕ)) → AreAccepted before
-    → list_all is_plain (before ++ codes "start" ∷ behind) ≡ true
-    → Contains before (codes "start") → IsScriptRefusal (text_of_lines (before ++ codes "start" ∷ behind))
+pub start_refused : (before : List (List ℕ)) (after : List (List ℕ)) → AreAccepted before
+    → list_all is_plain (before ++ codes "start" ∷ after) ≡ true
+    → Contains before (codes "start") → IsScriptRefusal (text_of_lines (before ++ codes "start" ∷ after))
     (BadLine (length before + 1))
-start_refused before behind accepted plain first = first_refused IsBadLine before (codes "start") behind accepted plain
+start_refused before after accepted plain first = first_refused IsBadLine before (codes "start") after accepted plain
     (inr (refl, first))
 
-pub path_refused : (before : List (List ℕ)) (line : List ℕ) (behind : List (List ℕ)) → AreAccepted before
-    → list_all is_plain (before ++ line ∷ behind) ≡ true
-    → IsBadPath line → IsScriptRefusal (text_of_lines (before ++ line ∷ behind)) (BadPath (length before + 1))
-path_refused before line behind accepted plain is = first_refused (λ _ line. IsBadPath line) before line behind accepted
+pub path_refused : (before : List (List ℕ)) (line : List ℕ) (after : List (List ℕ)) → AreAccepted before
+    → list_all is_plain (before ++ line ∷ after) ≡ true
+    → IsBadPath line → IsScriptRefusal (text_of_lines (before ++ line ∷ after)) (BadPath (length before + 1))
+path_refused before line after accepted plain is = first_refused (λ _ line. IsBadPath line) before line after accepted
     plain is
 
 -- no start line

@@ -130,54 +130,54 @@ get_contains (y ∷ xs) zero x e = (zero, omega arith, (let same : y ≡ x = cc 
 get_contains (y ∷ xs) (suc k) x e = let it = get_contains xs k x e in (suc it.0, omega (arith, it.1), it.2)
 
 -- the one start line comes after the base
-start_place : (n m : ℕ) (before behind : List (List ℕ)) (base traced : List Step) → AreSteps n before base
-    → AreSteps m behind traced
-    → (i : ℕ) → slice_get (before ++ codes "start" ∷ behind) i ≡ Some (codes "start") → i ≡ length before
-start_place n m [] behind base traced first second zero e = refl
-start_place n m [] behind base traced first second (suc i) e =
-    absurd (no_start m behind traced second (get_contains behind i (codes "start") e))
-start_place n m (line ∷ before) behind base traced first second zero e =
+start_place : (n m : ℕ) (before after : List (List ℕ)) (base traced : List Step) → AreSteps n before base
+    → AreSteps m after traced
+    → (i : ℕ) → slice_get (before ++ codes "start" ∷ after) i ≡ Some (codes "start") → i ≡ length before
+start_place n m [] after base traced first second zero e = refl
+start_place n m [] after base traced first second (suc i) e =
+    absurd (no_start m after traced second (get_contains after i (codes "start") e))
+start_place n m (line ∷ before) after base traced first second zero e =
     absurd (no_start n (line ∷ before) base first (zero, omega arith, (let same : line ≡ codes "start" = cc in same)))
-start_place n m (line ∷ before) behind base traced (inl skipped) second (suc i) e =
-    ap suc (start_place (n + 1) m before behind base traced skipped.1 second i e)
-start_place n m (line ∷ before) behind base traced (inr act) second (suc i) e =
-    ap suc (start_place (n + 1) m before behind act.1 traced act.3 second i e)
+start_place n m (line ∷ before) after base traced (inl skipped) second (suc i) e =
+    ap suc (start_place (n + 1) m before after base traced skipped.1 second i e)
+start_place n m (line ∷ before) after base traced (inr act) second (suc i) e =
+    ap suc (start_place (n + 1) m before after act.1 traced act.3 second i e)
 
-pub steps_accepted : (n m : ℕ) (before behind : List (List ℕ)) (base traced : List Step) → AreSteps n before base
-    → AreSteps m behind traced
-    → AreAccepted (before ++ codes "start" ∷ behind)
-steps_accepted n m before behind base traced first second = record {
-  each = All-append (λ line. (says : Line) × Reads line says) before (codes "start" ∷ behind)
+pub steps_accepted : (n m : ℕ) (before after : List (List ℕ)) (base traced : List Step) → AreSteps n before base
+    → AreSteps m after traced
+    → AreAccepted (before ++ codes "start" ∷ after)
+steps_accepted n m before after base traced first second = record {
+  each = All-append (λ line. (says : Line) × Reads line says) before (codes "start" ∷ after)
       (each_reads n before base first)
-      (All-cons (λ line. (says : Line) × Reads line says) (codes "start") behind (Start, refl)
-      (each_reads m behind traced second));
-  one_start = λ i j at_i at_j. start_place n m before behind base traced first second i at_i
-      ∙ sym (start_place n m before behind base traced first second j at_j);
+      (All-cons (λ line. (says : Line) × Reads line says) (codes "start") after (Start, refl)
+      (each_reads m after traced second));
+  one_start = λ i j at_i at_j. start_place n m before after base traced first second i at_i
+      ∙ sym (start_place n m before after base traced first second j at_j);
 }
 
 script_accepted : (bytes : List ℕ) (base traced : List Step) (script : IsScript bytes base traced)
-    → AreAccepted (script.before ++ codes "start" ∷ script.behind)
+    → AreAccepted (script.before ++ codes "start" ∷ script.after)
 script_accepted bytes base traced script =
-    steps_accepted 1 (length script.before + 2) script.before script.behind base traced script.base_steps
+    steps_accepted 1 (length script.before + 2) script.before script.after base traced script.base_steps
     script.traced_steps
 
 pub script_one : (bytes : List ℕ) (base traced others more : List Step) → IsScript bytes base traced
     → IsScript bytes others more → (base ≡ others) × (traced ≡ more)
 script_one bytes base traced others more script other =
-    by_parts (parts_at script.before other.before script.behind other.behind (codes "start") (codes "start") same)
+    by_parts (parts_at script.before other.before script.after other.after (codes "start") (codes "start") same)
   where
-    same : script.before ++ codes "start" ∷ script.behind ≡ other.before ++ codes "start" ∷ other.behind
-    same = lines_one bytes (script.before ++ codes "start" ∷ script.behind)
-        (other.before ++ codes "start" ∷ other.behind) script.lines other.lines
+    same : script.before ++ codes "start" ∷ script.after ≡ other.before ++ codes "start" ∷ other.after
+    same = lines_one bytes (script.before ++ codes "start" ∷ script.after)
+        (other.before ++ codes "start" ∷ other.after) script.lines other.lines
 
     by_parts : Parts script.before other.before (codes "start") (codes "start") → (base ≡ others) × (traced ≡ more)
     by_parts (Same e s) =
-        let tails : script.behind ≡ other.behind = tail_same (codes "start") (codes "start") script.before other.before
-        script.behind other.behind e same in (
+        let tails : script.after ≡ other.after = tail_same (codes "start") (codes "start") script.before other.before
+        script.after other.after e same in (
           steps_one 1 other.before base others (subst (λ ls. AreSteps 1 ls base) e script.base_steps) other.base_steps,
-          steps_one (length other.before + 2) other.behind traced more
+          steps_one (length other.before + 2) other.after traced more
               (subst (λ ls. AreSteps (length other.before + 2) ls traced) tails
-              (subst (λ ls. AreSteps (length ls + 2) script.behind traced) e script.traced_steps))
+              (subst (λ ls. AreSteps (length ls + 2) script.after traced) e script.traced_steps))
               other.traced_steps,
         )
     by_parts (Earlier ms e) = absurd (no_start 1 other.before others other.base_steps
@@ -203,8 +203,8 @@ module _ (bytes : List ℕ) (n m : ℕ) (P Q : List (List ℕ) → List ℕ → 
     (bad_too : (before : List (List ℕ)) (line : List ℕ) → Q before line → IsRefusedLine before line)
     (first : IsFirstRefused bytes n P) (other : IsFirstRefused bytes m Q) where
   same_line : (first.before ≡ other.before) × (first.line ≡ other.line)
-  same_line = by_parts (parts_at first.before other.before first.behind other.behind first.line other.line
-      (lines_one bytes (first.before ++ first.line ∷ first.behind) (other.before ++ other.line ∷ other.behind)
+  same_line = by_parts (parts_at first.before other.before first.after other.after first.line other.line
+      (lines_one bytes (first.before ++ first.line ∷ first.after) (other.before ++ other.line ∷ other.after)
       first.lines other.lines))
     where
       by_parts : Parts first.before other.before first.line other.line → (first.before ≡ other.before)
@@ -236,8 +236,8 @@ accepted_not_refused : (bytes : List ℕ) (n : ℕ) (P : List (List ℕ) → Lis
     → ((before : List (List ℕ)) (line : List ℕ) → P before line → IsRefusedLine before line)
     → AreLines bytes lines → AreAccepted lines → IsFirstRefused bytes n P → ⊥
 accepted_not_refused bytes n P lines bad are accepted first =
-    none_refused first.before first.line first.behind
-    (subst AreAccepted (lines_one bytes lines (first.before ++ first.line ∷ first.behind) are first.lines) accepted)
+    none_refused first.before first.line first.after
+    (subst AreAccepted (lines_one bytes lines (first.before ++ first.line ∷ first.after) are first.lines) accepted)
     (bad first.before first.line first.refused)
 
 pub refusal_one : (bytes : List ℕ) (fault other : ScriptFault) → IsScriptRefusal bytes fault
@@ -278,15 +278,15 @@ refusal_one bytes OutOfMemory other is also = absurd is
 pub read_or_refused : (bytes : List ℕ) (base traced : List Step) (fault : ScriptFault) → IsScript bytes base traced
     → IsScriptRefusal bytes fault → ⊥
 read_or_refused bytes base traced (BadUtf8 n) script is =
-    accepted_not_refused bytes n _ (script.before ++ codes "start" ∷ script.behind) bad_utf8 script.lines
+    accepted_not_refused bytes n _ (script.before ++ codes "start" ∷ script.after) bad_utf8 script.lines
     (script_accepted bytes base traced script) is
 read_or_refused bytes base traced (BadLine n) script is =
-    accepted_not_refused bytes n _ (script.before ++ codes "start" ∷ script.behind) bad_line script.lines
+    accepted_not_refused bytes n _ (script.before ++ codes "start" ∷ script.after) bad_line script.lines
     (script_accepted bytes base traced script) is
 read_or_refused bytes base traced (BadPath n) script is =
-    accepted_not_refused bytes n _ (script.before ++ codes "start" ∷ script.behind) bad_path script.lines
+    accepted_not_refused bytes n _ (script.before ++ codes "start" ∷ script.after) bad_path script.lines
     (script_accepted bytes base traced script) is
 read_or_refused bytes base traced (NoStart n) script is =
-    is.3 (subst (λ ls. Contains ls (codes "start")) (lines_one bytes (script.before ++ codes "start" ∷ script.behind)
-    is.0 script.lines is.1) (in_middle script.before (codes "start") script.behind))
+    is.3 (subst (λ ls. Contains ls (codes "start")) (lines_one bytes (script.before ++ codes "start" ∷ script.after)
+    is.0 script.lines is.1) (in_middle script.before (codes "start") script.after))
 read_or_refused bytes base traced OutOfMemory script is = is

@@ -88,16 +88,16 @@ module _ (detail : Detail) (base : Disk) (patches : List Patch) (before : AreEar
       → IsFirst (HasFault detail.demands base patches f) x
   is_first f x rest e = record {
     among = has_at f x (subst (λ (some : List ℕ). Contains some x) (sym e) (in_front x rest));
-    first = λ other has behind. not_before other (front_or_rest x rest other
-        (subst (λ (some : List ℕ). Contains some other) e (at_has f other has))) behind;
+    first = λ other has after. not_before other (front_or_rest x rest other
+        (subst (λ (some : List ℕ). Contains some other) e (at_has f other has))) after;
   }
     where
       up_here : Ascends (x ∷ rest)
       up_here = subst Ascends e (ascends_filter (λ s. has_fault f (found s)) sets up)
 
       not_before : (other : ℕ) → (x ≡ other) ⊎ Contains rest other → IsBefore other x → ⊥
-      not_before other (inl same) behind = before_self x (subst (λ (n : ℕ). IsBefore n x) (sym same) behind)
-      not_before other (inr more) behind = before_self x (before_trans x other x (up_here.0 other more) behind)
+      not_before other (inl same) after = before_self x (subst (λ (n : ℕ). IsBefore n x) (sym same) after)
+      not_before other (inr more) after = before_self x (before_trans x other x (up_here.0 other more) after)
 
   -- what is reported of a fault
   record Tells (f : Fault) (t : ToldFault) : Type 0 where

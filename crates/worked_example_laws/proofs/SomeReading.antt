@@ -306,7 +306,7 @@ accepted_push before line accepted read only = record {
 -- all lines are accepted, or there is a first that is refused
 abbrev Scanned : List (List ℕ) → Type 0
 Scanned lines = AreAccepted lines
-    ⊎ ((before : List (List ℕ)) × (line : List ℕ) × (behind : List (List ℕ)) × (lines ≡ before ++ line ∷ behind)
+    ⊎ ((before : List (List ℕ)) × (line : List ℕ) × (after : List (List ℕ)) × (lines ≡ before ++ line ∷ after)
     × AreAccepted before × IsRefusedLine before line)
 
 scan_step : (line : List ℕ) (rest before : List (List ℕ)) → AreAccepted before → Judged line
@@ -330,7 +330,7 @@ scan (line ∷ rest) before accepted = scan_step line rest before accepted (judg
     (λ more good. scan rest more good)
 
 split_start : (lines : List (List ℕ)) → Contains lines (codes "start") → (before : List (List ℕ))
-    × (behind : List (List ℕ)) × (lines ≡ before ++ codes "start" ∷ behind)
+    × (after : List (List ℕ)) × (lines ≡ before ++ codes "start" ∷ after)
 split_start [] is = absurd (omega (arith, is.1))
 split_start (line ∷ lines) (zero, within, is) = ([], lines, ap (λ l. l ∷ lines) is)
 split_start (line ∷ lines) (suc k, within, is) = let it = split_start lines (k, omega arith, is) in
@@ -371,30 +371,30 @@ some_reading bytes = by_scan (some_lines bytes).0 (some_lines bytes).1 (scan (so
         none_there i e = cc
 
     from_split : (lines : List (List ℕ)) → AreLines bytes lines → AreAccepted lines → (before : List (List ℕ))
-        × (behind : List (List ℕ)) × (lines ≡ before ++ codes "start" ∷ behind)
+        × (after : List (List ℕ)) × (lines ≡ before ++ codes "start" ∷ after)
         → (base : List Step) × (traced : List Step) × IsScript bytes base traced
-    from_split lines are accepted (before, behind, e) =
-        let good : AreAccepted (before ++ codes "start" ∷ behind) = subst AreAccepted e accepted in
+    from_split lines are accepted (before, after, e) =
+        let good : AreAccepted (before ++ codes "start" ∷ after) = subst AreAccepted e accepted in
         let none_before : ¬ (Contains before (codes "start")) = λ is.
         let same : is.0 ≡ length before = good.one_start is.0 (length before)
-        (get_front before (codes "start" ∷ behind) is.0 (codes "start") is.1 is.2)
-        (get_middle before (codes "start") behind) in
+        (get_front before (codes "start" ∷ after) is.0 (codes "start") is.1 is.2)
+        (get_middle before (codes "start") after) in
         omega (arith, is.1, same) in
-        let none_behind : ¬ (Contains behind (codes "start")) = λ is.
-        let at = get_behind before (codes "start") behind is.0 (codes "start")
-        (slice_get-get_or behind is.0 (codes "start") is.1 ∙ ap Some is.2) in
+        let none_behind : ¬ (Contains after (codes "start")) = λ is.
+        let at = get_behind before (codes "start") after is.0 (codes "start")
+        (slice_get-get_or after is.0 (codes "start") is.1 ∙ ap Some is.2) in
         let same : at.0 ≡ length before = good.one_start at.0 (length before) at.2
-        (get_middle before (codes "start") behind) in
+        (get_middle before (codes "start") after) in
         omega (arith, at.1, same) in
-        let parts = reads_apart before (codes "start" ∷ behind) good.each in
+        let parts = reads_apart before (codes "start" ∷ after) good.each in
         let base = some_steps 1 before parts.0 none_before in
-        let traced = some_steps (length before + 2) behind (All-tail (λ line. (says : Line) × Reads line says)
-        (codes "start") behind parts.1) none_behind in (
+        let traced = some_steps (length before + 2) after (All-tail (λ line. (says : Line) × Reads line says)
+        (codes "start") after parts.1) none_behind in (
           base.0,
           traced.0,
           record {
             before = before;
-            behind = behind;
+            after = after;
             lines = subst (AreLines bytes) e are;
             base_steps = base.1;
             traced_steps = traced.1;
@@ -411,39 +411,39 @@ some_reading bytes = by_scan (some_lines bytes).0 (some_lines bytes).1 (scan (so
               rest.1,
             )
 
-    by_way : (lines before : List (List ℕ)) (line : List ℕ) (behind : List (List ℕ)) → AreLines bytes lines
-        → lines ≡ before ++ line ∷ behind → AreAccepted before → IsRefusedLine before line → (fault : ScriptFault)
+    by_way : (lines before : List (List ℕ)) (line : List ℕ) (after : List (List ℕ)) → AreLines bytes lines
+        → lines ≡ before ++ line ∷ after → AreAccepted before → IsRefusedLine before line → (fault : ScriptFault)
         × IsScriptRefusal bytes fault
-    by_way lines before line behind are e accepted (inl bad) = (
+    by_way lines before line after are e accepted (inl bad) = (
       BadUtf8 (length before + 1),
       record {
         before = before;
         line = line;
-        behind = behind;
+        after = after;
         lines = subst (AreLines bytes) e are;
         accepted = accepted;
         number = refl;
         refused = bad;
       },
     )
-    by_way lines before line behind are e accepted (inr (inl bad)) = (
+    by_way lines before line after are e accepted (inr (inl bad)) = (
       BadLine (length before + 1),
       record {
         before = before;
         line = line;
-        behind = behind;
+        after = after;
         lines = subst (AreLines bytes) e are;
         accepted = accepted;
         number = refl;
         refused = bad;
       },
     )
-    by_way lines before line behind are e accepted (inr (inr bad)) = (
+    by_way lines before line after are e accepted (inr (inr bad)) = (
       BadPath (length before + 1),
       record {
         before = before;
         line = line;
-        behind = behind;
+        after = after;
         lines = subst (AreLines bytes) e are;
         accepted = accepted;
         number = refl;
@@ -458,5 +458,5 @@ some_reading bytes = by_scan (some_lines bytes).0 (some_lines bytes).1 (scan (so
       | inl is ↦ inl (from_split lines are accepted (split_start lines is))
       | inr none ↦ inr (NoStart (length lines + 1), (lines, are, accepted, none, refl))
     ]
-    by_scan lines are (inr (before, line, behind, e, accepted, refused)) =
-        inr (by_way lines before line behind are e accepted refused)
+    by_scan lines are (inr (before, line, after, e, accepted, refused)) =
+        inr (by_way lines before line after are e accepted refused)

@@ -82,19 +82,19 @@ steps_are n (act ∷ acts) e =
     let mine = and_parts (is_act act) (is_plain (line_of act)) parts.0 in
     inr (act, numbered_steps (n + 1) acts, (lawful_if (said act).1 mine.0, refl), steps_are (n + 1) acts parts.1, refl)
 
-pub script_is : (before behind : List Act) → are_acts before ≡ true → are_acts behind ≡ true
-    → IsScript (script before behind) (numbered_steps 1 before)
-    (numbered_steps (length (map line_of before) + 2) behind)
-script_is before behind e f = record {
+pub script_is : (before after : List Act) → are_acts before ≡ true → are_acts after ≡ true
+    → IsScript (script before after) (numbered_steps 1 before)
+    (numbered_steps (length (map line_of before) + 2) after)
+script_is before after e f = record {
   before = map line_of before;
-  behind = map line_of behind;
+  after = map line_of after;
   lines = record {
-    plain = All-append (λ line. ¬ (Contains line 10)) (map line_of before) (codes "start" ∷ map line_of behind)
+    plain = All-append (λ line. ¬ (Contains line 10)) (map line_of before) (codes "start" ∷ map line_of after)
         (plain_lines before e)
-        (All-cons (λ line. ¬ (Contains line 10)) (codes "start") (map line_of behind) (lacks_if (codes "start") 10 refl)
-        (plain_lines behind f));
+        (All-cons (λ line. ¬ (Contains line 10)) (codes "start") (map line_of after) (lacks_if (codes "start") 10 refl)
+        (plain_lines after f));
     whole = inl refl;
   };
   base_steps = steps_are 1 before e;
-  traced_steps = steps_are (length (map line_of before) + 2) behind f;
+  traced_steps = steps_are (length (map line_of before) + 2) after f;
 }

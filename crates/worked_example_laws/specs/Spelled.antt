@@ -44,7 +44,7 @@ abbrev pub line_of : Act → List ℕ
 line_of act = join_of 32 (words_of act)
 
 abbrev pub lines_of : List Act → List Act → List (List ℕ)
-lines_of before behind = map line_of before ++ codes "start" ∷ map line_of behind
+lines_of before after = map line_of before ++ codes "start" ∷ map line_of after
 
 abbrev pub is_plain : List ℕ → Bool
 is_plain line = not (list_any (λ c. c == 10) line)
@@ -55,7 +55,7 @@ are_acts acts = list_all (λ act. is_act act && is_plain (line_of act)) acts
 
 -- the script's bytes
 abbrev pub script : List Act → List Act → List ℕ
-script before behind = text_of_lines (lines_of before behind)
+script before after = text_of_lines (lines_of before after)
 
 -- ---- answers
 
@@ -74,13 +74,13 @@ has_base (Err fault) = false
 has_base (Ok base) = true
 
 abbrev pub trace_steps : List Act → List Act → List Step
-trace_steps before behind = numbered_steps (length (map line_of before) + 2) behind
+trace_steps before after = numbered_steps (length (map line_of before) + 2) after
 
 -- the graph of the script
 abbrev pub graph : Settings → List Act → List Act → List Patch
-graph settings before behind =
+graph settings before after =
     graph_of (ordering_rules settings) (base_of settings before)
-    (trace_of settings.module settings.whole_blocks (base_of settings before) (trace_steps before behind))
+    (trace_of settings.module settings.whole_blocks (base_of settings before) (trace_steps before after))
 
 abbrev pub is_geometry : Settings → Bool
 is_geometry settings =
@@ -88,15 +88,15 @@ is_geometry settings =
 
 -- the script is read, its acts are accepted, these sets fail, and this many sets are closed
 abbrev pub is_told : Settings → List Act → List Act → ℕ → List ℕ → Bool
-is_told settings before behind closed failing =
+is_told settings before after closed failing =
     let base = base_of settings before in
-    let patches = graph settings before behind in
-    are_acts before && (are_acts behind && (is_geometry settings
+    let patches = graph settings before after in
+    are_acts before && (are_acts after && (is_geometry settings
     && (has_base (base_from (empty_disk settings.blocks settings.journal) (numbered_steps 1 before))
-    && (is_accepted (trace_from settings.module (trace_start settings.whole_blocks base) (trace_steps before behind))
+    && (is_accepted (trace_from settings.module (trace_start settings.whole_blocks base) (trace_steps before after))
     && ((length (closed_sets (deps_of patches)) == closed)
     && (are_in_order (length (deps_of patches)) failing
-    (failing_under (demands_of settings.strict settings.atomic base (trace_steps before behind)) base patches)
+    (failing_under (demands_of settings.strict settings.atomic base (trace_steps before after)) base patches)
     && (nat_le closed settings.limit && have_runs patches failing)))))))
 
 -- the settings of a module's own ordering, whose report lists each failing set

@@ -37,7 +37,7 @@ pub fn lines_of_no_form_are_bad_lines()
     ensures two { IsScriptRefusal (codes "create a b\n") (BadLine 1) }
     ensures group { IsScriptRefusal (codes "group ABCDEFGHIJK\n") (BadLine 1) }
     ensures end { IsScriptRefusal (codes "end x\n") (BadLine 1) }
-    ensures behind { IsScriptRefusal (codes "link /a \n") (BadLine 1) }
+    ensures after { IsScriptRefusal (codes "link /a \n") (BadLine 1) }
     ensures second { IsScriptRefusal (codes "start\nstart\n") (BadLine 2) }
 {}
 

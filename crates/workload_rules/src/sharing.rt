@@ -22,7 +22,7 @@ use std::thread::Threads;
 /// groups of which one rule is needed, each in canonical order. `passing` are these workloads, in order, and the workers
 /// share them.
 ///
-/// The answer is the same for each number of workers. The watch is told nothing.
+/// The answer is the same for each number of workers. It calls no method of the watch.
 ///
 /// # Errors
 ///

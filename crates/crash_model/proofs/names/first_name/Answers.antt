@@ -8,6 +8,6 @@ returns-in_err-read c =
     let text = c.args.text.now in
     let names = take (length text - 1) (drop 1 text) in
     let slash = c.first_slash.ensures in
-    let behind : names ≡ drop 1 text = grind (arith, common_steps) in
-    rw c.from_residual.ensures (no_first_name text names c.first_slash.result behind slash.inside slash.before
+    let after : names ≡ drop 1 text = grind (arith, common_steps) in
+    rw c.from_residual.ensures (no_first_name text names c.first_slash.result after slash.inside slash.before
     slash.found (rw c.split_at.ensures.front at c.in_err-read.ensures))

@@ -13,31 +13,31 @@ returns-in_err-base-clause-refused g c =
 pub returns-in_default-clause-refused : goal.returns-in_default-clause-refused
 returns-in_default-clause-refused g c memory =
     let base = c.in_ok-base.base in
-    let part = subst (λ (behind : Option (Bor (List ℕ))). IsPart c.args.bytes.now 1 base.steps.items base.line behind)
+    let part = subst (λ (after : Option (Bor (List ℕ))). IsPart c.args.bytes.now 1 base.steps.items base.line after)
     c.in_default.is c.in_ok-base.ensures.ok in
     no_start_line c.args.bytes.now base.steps.items base.line part
 
 pub returns-in_err-traced-clause-refused : goal.returns-in_err-traced-clause-refused
 returns-in_err-traced-clause-refused g c =
     let base = c.in_ok-base.base in
-    let part = subst (λ (behind : Option (Bor (List ℕ))). IsPart c.args.bytes.now 1 base.steps.items base.line behind)
+    let part = subst (λ (after : Option (Bor (List ℕ))). IsPart c.args.bytes.now 1 base.steps.items base.line after)
     c.in-Some.is c.in_ok-base.ensures.ok in
     let exit = err_from_is_err_and c.from_residual-in_err-traced.result c.from_residual-in_err-traced.ensures.1 in
-    rw (exit.1, exit.2) (λ other. trace_refused c.args.bytes.now base.steps.items base.line c.in-Some.behind _ part
+    rw (exit.1, exit.2) (λ other. trace_refused c.args.bytes.now base.steps.items base.line c.in-Some.after _ part
     (c.in_err-traced.ensures.refused other))
 
 pub returns-then-is_some-clause-refused : goal.returns-then-is_some-clause-refused
 returns-then-is_some-clause-refused g c memory =
     let base = c.in_ok-base.base in
-    let part = subst (λ (behind : Option (Bor (List ℕ))). IsPart c.args.bytes.now 1 base.steps.items base.line behind)
+    let part = subst (λ (after : Option (Bor (List ℕ))). IsPart c.args.bytes.now 1 base.steps.items base.line after)
     c.in-Some.is c.in_ok-base.ensures.ok in
-    stopped_at_start c.args.bytes.now base.steps.items base.line c.in-Some.behind _ _ _ part c.in_ok-traced.ensures.ok
+    stopped_at_start c.args.bytes.now base.steps.items base.line c.in-Some.after _ _ _ part c.in_ok-traced.ensures.ok
     c.if-is_some.ensures
 
 pub returns-clause-ok : goal.returns-clause-ok
 returns-clause-ok g c =
     let base = c.in_ok-base.base in
-    let part = subst (λ (behind : Option (Bor (List ℕ))). IsPart c.args.bytes.now 1 base.steps.items base.line behind)
+    let part = subst (λ (after : Option (Bor (List ℕ))). IsPart c.args.bytes.now 1 base.steps.items base.line after)
     c.in-Some.is c.in_ok-base.ensures.ok in
-    stopped_at_end c.args.bytes.now base.steps.items base.line c.in-Some.behind _ _ _ part c.in_ok-traced.ensures.ok
+    stopped_at_end c.args.bytes.now base.steps.items base.line c.in-Some.after _ _ _ part c.in_ok-traced.ensures.ok
     c.if-is_some.ensures

@@ -34,9 +34,9 @@ pub returns-clause-end : goal.returns-clause-end
 unfolding is_utf8 chars encode
 returns-clause-end c = line_refused [] (codes "end x") [] (acts_accepted [] refl) refl refl refl
 
-pub returns-clause-behind : goal.returns-clause-behind
+pub returns-clause-after : goal.returns-clause-after
 unfolding is_utf8 chars encode
-returns-clause-behind c = line_refused [] (codes "link /a ") [] (acts_accepted [] refl) refl refl refl
+returns-clause-after c = line_refused [] (codes "link /a ") [] (acts_accepted [] refl) refl refl refl
 
 pub returns-clause-second : goal.returns-clause-second
 unfolding is_utf8 chars encode

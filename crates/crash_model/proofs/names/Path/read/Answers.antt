@@ -45,7 +45,7 @@ loop-rest-preserved c =
     rw (through, last) (record {
       few = few;
       names = All-push IsName names c.in_ok-name.name kept.names first.is_name;
-      text = slash_text-push names c.in_ok-name.name loop.rest.now c.args.text.now c.in_ok-name.behind.now kept.text
+      text = slash_text-push names c.in_ok-name.name loop.rest.now c.args.text.now c.in_ok-name.after.now kept.text
           first.whole;
       ends = first.ends;
     })
