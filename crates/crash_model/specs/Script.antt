@@ -1,6 +1,7 @@
 -- Scripts: their lines, what a line says, and which line is refused first.
 use Rattle.std.specs.Prelude.{◌≡◌, ◌≢◌, ℕ, ◌+◌, ◌≤◌, ◌⊎◌, List, [], ◌∷◌, ◌++◌, length, codes, IsUtf8, Some, map}
 use Rattle.std.specs.Prelude.{flat_map, slice_get, All, Contains}
+use Rattle.crash_model.specs.declared.separators.TheConstants.{LINE_FEED, SPACE, SLASH}
 use Rattle.crash_model.specs.Lists.{join_of}
 use Rattle.crash_model.specs.Names.{IsName, IsGroupName}
 use Rattle.crash_model.specs.declared.names.Path.{Path}
@@ -15,11 +16,11 @@ use Rattle.crash_model.specs.declared.steps.Step.{Step}
 
 -- no line has a line feed
 abbrev pub ArePlain : List (List ℕ) → Type 0
-ArePlain lines = All (λ line. ¬ (Contains line 10)) lines
+ArePlain lines = All (λ line. ¬ (Contains line LINE_FEED)) lines
 
 -- each line followed by a line feed
 abbrev pub text_of_lines : List (List ℕ) → List ℕ
-text_of_lines lines = flat_map (λ line. line ++ 10 ∷ []) lines
+text_of_lines lines = flat_map (λ line. line ++ LINE_FEED ∷ []) lines
 
 -- the bytes are these lines, each ended by a line feed; the last one may go without, but then it is not empty
 pub record AreLines (bytes : List ℕ) (lines : List (List ℕ)) : Type 0 where
@@ -30,15 +31,15 @@ pub record AreLines (bytes : List ℕ) (lines : List (List ℕ)) : Type 0 where
 
 -- the text is these words with a space between two
 pub record AreWords (text : List ℕ) (words : List (List ℕ)) : Type 0 where
-  pub plain : All (λ word. ¬ (Contains word 32)) words
+  pub plain : All (λ word. ¬ (Contains word SPACE)) words
   pub some : words ≢ []
-  pub whole : text ≡ join_of 32 words
+  pub whole : text ≡ join_of SPACE words
 
 -- ---- words
 
 -- a slash before each name
 abbrev pub path_text : Path → List ℕ
-path_text path = flat_map (λ name. 47 ∷ name) (path.through.items ++ path.last ∷ [])
+path_text path = flat_map (λ name. SLASH ∷ name) (path.through.items ++ path.last ∷ [])
 
 -- one to four names
 pub record IsPath (path : Path) : Type 0 where
@@ -116,7 +117,7 @@ IsSkipped line = (line ≡ []) ⊎ (IsUtf8 line × ((rest : List ℕ) × (line �
 abbrev pub Reads : List ℕ → Line → Type 0
 Reads line Skipped = IsSkipped line
 Reads line Start = line ≡ codes "start"
-Reads line (Says act) = IsAct act × (line ≡ join_of 32 (words_of act))
+Reads line (Says act) = IsAct act × (line ≡ join_of SPACE (words_of act))
 
 -- ---- scripts
 

@@ -1,5 +1,6 @@
 -- The words for faults, modules and operations.
 use Rattle.std.specs.Prelude.{ℕ, List, ◌++◌, codes, decimal}
+use Rattle.crash_model.specs.declared.separators.TheConstants.{SPACE}
 use Rattle.crash_model.specs.Lists.{join_of}
 use Rattle.crash_model.specs.declared.fault.Fault.{Fault}
 use Rattle.crash_model.specs.declared.fault.Fault.TheVariants.{Dangling, Twice, Unwritten, LowLinks, MarkedFree, Wild}
@@ -34,4 +35,4 @@ module_text Full = codes "full"
 
 -- the words of an operation's line
 abbrev pub op_text : Op → List ℕ
-op_text op = join_of 32 (words_of (Do op))
+op_text op = join_of SPACE (words_of (Do op))

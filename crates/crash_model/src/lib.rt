@@ -16,5 +16,6 @@ pub mod plans;
 pub mod refusals;
 pub mod rule_lists;
 pub mod rules;
+pub mod separators;
 pub mod settings;
 pub mod steps;

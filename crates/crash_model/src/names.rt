@@ -8,6 +8,7 @@ ghost use Rattle.crash_model.specs.FirstNames.{IsShort, BeginsWith, HasFirstName
 ghost use Rattle.crash_model.specs.Plan.{name_spelling};
 
 use crate::disk_bytes::LONGEST_NAME;
+use crate::separators::SLASH;
 use arrayvec::ArrayVec;
 use std::marker::Model;
 use std::{fmt, mem, str};
@@ -146,10 +147,10 @@ fn first_name(text: &[u8]) -> Option<(Name, &[u8])>
 /// The place of the first slash, or the length if there is none.
 fn first_slash(text: &[u8]) -> usize
     ensures inside { result ≤ length text.now }
-    ensures before { (k : ℕ) → k < result → slice_index text.now k ≢ 47 }
-    ensures found { result < length text.now → slice_index text.now result ≡ 47 }
+    ensures before { (k : ℕ) → k < result → slice_index text.now k ≢ SLASH }
+    ensures found { result < length text.now → slice_index text.now result ≡ SLASH }
 {
-    let place = text.iter().position(|c| *c == b'/');
+    let place = text.iter().position(|c| *c == SLASH);
     place.unwrap_or(text.len())
 }
 

@@ -1,5 +1,6 @@
 -- What is written of a decision.
 use Rattle.std.specs.Prelude.{◌≡◌, ℕ, List, ◌++◌, length, map, codes, decimal}
+use Rattle.crash_model.specs.declared.separators.TheConstants.{COMMA}
 use Rattle.report_model.specs.Answer.{detail_of}
 use Rattle.crash_model.specs.Disk.{Disk}
 use Rattle.report_model.specs.Explain.{explanation_text}
@@ -59,4 +60,4 @@ head_lines settings base t closed =
 
 -- the objects of faults, with a comma between two, where patches are n in all
 abbrev pub fault_items : ℕ → List ToldDecided → List ℕ
-fault_items n told = join_of 44 (map (decided_json n) told)
+fault_items n told = join_of COMMA (map (decided_json n) told)

@@ -1,5 +1,6 @@
 -- What is found of the rules that a script needs, as the definition of the report sees it.
 use Rattle.std.specs.Prelude.{ℕ, List, ◌++◌, codes, length, map, flat_map, option_map}
+use Rattle.crash_model.specs.declared.separators.TheConstants.{COMMA}
 use Rattle.crash_model.specs.Lists.{join_of, when}
 use Rattle.crash_model.specs.Texts.{fault_text}
 use Rattle.report_model.specs.Report.{json_string, replay_json}
@@ -34,10 +35,10 @@ group_lines rules n groups = flat_map (λ needed. group_text rules n (told_group
 
 -- the arrays of sets and the objects of groups, with a comma between two
 abbrev pub set_items : List Rule → List ℕ → List ℕ
-set_items rules sets = join_of 44 (map (set_json rules) sets)
+set_items rules sets = join_of COMMA (map (set_json rules) sets)
 
 abbrev pub group_items : {A : Type 0} → List Rule → ℕ → List (NeededGroup A) → List ℕ
-group_items rules n groups = join_of 44 (map (λ needed. group_json rules n (told_group needed)) groups)
+group_items rules n groups = join_of COMMA (map (λ needed. group_json rules n (told_group needed)) groups)
 
 -- the keys of a group's object before the set
 abbrev pub group_head : List Rule → ℕ → ToldDecided → List ℕ

@@ -1,6 +1,7 @@
 -- What reports are made of: words, and the section of a set.
 use Rattle.std.specs.Prelude.{◌≡◌, ℕ, ◌∷◌, List, [], ◌++◌, map, flat_map, Bool, if◌then◌else◌, not, bytes_eq, Option}
 use Rattle.std.specs.Prelude.{Some, None, codes, decimal}
+use Rattle.crash_model.specs.declared.separators.TheConstants.{COMMA}
 use Rattle.hex.specs.Hex.{encode_lower}
 use Rattle.patch_sets.specs.Machine.{LeadTo}
 use Rattle.patch_sets.specs.Sets.{ids_of}
@@ -99,7 +100,7 @@ json_string text = codes "\"" ++ text ++ codes "\""
 
 -- the items with a comma between two
 abbrev pub json_array : List (List ℕ) → List ℕ
-json_array items = codes "[" ++ join_of 44 items ++ codes "]"
+json_array items = codes "[" ++ join_of COMMA items ++ codes "]"
 
 abbrev pub ids_json : ℕ → ℕ → List ℕ
 ids_json n set = json_array (map decimal (ids_of n set))

@@ -3,6 +3,7 @@
 use Rattle.std.specs.Prelude.{◌≡◌, ℕ, List, [], ◌∷◌, ◌++◌, length, map, flat_map, if◌then◌else◌, codes, decimal}
 use Rattle.std.specs.Prelude.{Bool, ◌==◌}
 use Rattle.std.specs.List.{All}
+use Rattle.crash_model.specs.declared.separators.TheConstants.{SPACE}
 use Rattle.report_model.specs.Answer.{HasBase, IsAnswer, Refused, ordering_rules}
 use Rattle.crash_model.specs.Checker.{Demands}
 use Rattle.crash_model.specs.Disk.{Disk}
@@ -53,7 +54,7 @@ refused_text t =
 
 -- the words of a step's line
 abbrev pub step_text : Step → List ℕ
-step_text step = join_of 32 (words_of step.act)
+step_text step = join_of SPACE (words_of step.act)
 
 abbrev pub kind_text : ToldKind → List ℕ
 kind_text t =

@@ -1,5 +1,6 @@
 -- What a search finds, as the definition of the report sees it.
 use Rattle.std.specs.Prelude.{ℕ, List, [], ◌++◌, map, flat_map, if◌then◌else◌, codes, decimal}
+use Rattle.crash_model.specs.declared.separators.TheConstants.{COMMA}
 use Rattle.crash_model.specs.Lists.{join_of}
 use Rattle.crash_model.specs.Texts.{fault_text}
 use Rattle.report_model.specs.Report.{json_array, json_string, replay_json}
@@ -39,7 +40,7 @@ kind_lines pool kinds = flat_map (λ k. kind_text (told_kind pool k)) kinds
 
 -- their objects, with a comma between two
 abbrev pub kind_items : {A : Type 0} → List Step → List (KindCrash A) → List ℕ
-kind_items pool kinds = join_of 44 (map (λ k. kind_json (told_kind pool k)) kinds)
+kind_items pool kinds = join_of COMMA (map (λ k. kind_json (told_kind pool k)) kinds)
 
 -- the keys of a kind's object before the set
 abbrev pub kind_head : {A : Type 0} → KindCrash A → List ℕ

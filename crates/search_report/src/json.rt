@@ -13,6 +13,7 @@ ghost use Rattle.search_report.specs.Findings.{told_kinds};
 use crate::findings::{KindCrash, SearchFindings};
 use crate::operations::operations_at;
 use crash_model::operations::Op;
+use crash_model::separators::COMMA;
 use crash_model::settings::Settings;
 use crash_model::steps::Step;
 use json_values::{KnownTexts, push_replay, push_set, write_comma};
@@ -99,7 +100,7 @@ fn write_ordering_keys(out: &mut String, settings: &Settings) -> Result<(), Allo
 /// The objects of the reasons for which operations are refused, with a comma between two.
 fn write_refused(out: &mut String, refused: &[RefusedCount]) -> Result<(), AllocError>
     ensures { OnOk result (string_bytes out.new
-        ≡ string_bytes out.old ++ join_of 44 (map refused_json refused.now)) }
+        ≡ string_bytes out.old ++ join_of COMMA (map refused_json refused.now)) }
 {
     for (at, refusal) in refused.iter().enumerate() {
         write_comma(out, at)?;
@@ -184,7 +185,7 @@ fn write_head<A: Allocator>(
 pub fn write_steps(out: &mut String, pool: &[Step], places: &[usize]) -> Result<(), AllocError>
     requires { All IsOperation pool.now }
     ensures { OnOk result (string_bytes out.new ≡ string_bytes out.old
-        ++ join_of 44 (map (λ step. json_string (step_text step)) (steps_at pool.now places.now))) }
+        ++ join_of COMMA (map (λ step. json_string (step_text step)) (steps_at pool.now places.now))) }
 {
     let ops = operations_at(*out.allocator(), pool, places)?;
     write_operations(out, &ops)?;
@@ -194,7 +195,7 @@ pub fn write_steps(out: &mut String, pool: &[Step], places: &[usize]) -> Result<
 /// The texts of the operations, with a comma between two.
 fn write_operations(out: &mut String, ops: &[&Op]) -> Result<(), AllocError>
     ensures { OnOk result (string_bytes out.new
-        ≡ string_bytes out.old ++ join_of 44 (map (λ op. json_string (op_text op.now)) ops.now)) }
+        ≡ string_bytes out.old ++ join_of COMMA (map (λ op. json_string (op_text op.now)) ops.now)) }
 {
     for (at, op) in ops.iter().enumerate() {
         write_comma(out, at)?;

@@ -1,5 +1,6 @@
 -- What a search finds of the rules that its workloads need, as the definition of the report sees it.
 use Rattle.std.specs.Prelude.{ℕ, List, map, flat_map}
+use Rattle.crash_model.specs.declared.separators.TheConstants.{COMMA}
 use Rattle.crash_model.specs.Lists.{join_of}
 use Rattle.crash_model.specs.declared.rules.Rule.{Rule}
 use Rattle.crash_model.specs.declared.steps.Step.{Step}
@@ -28,4 +29,4 @@ need_lines rules pool needs = flat_map (λ needed. need_text rules (told_need po
 
 -- their objects, with a comma between two
 abbrev pub need_items : {A : Type 0} → List Rule → List Step → List (NeededWorkload A) → List ℕ
-need_items rules pool needs = join_of 44 (map (λ needed. need_json rules (told_need pool needed)) needs)
+need_items rules pool needs = join_of COMMA (map (λ needed. need_json rules (told_need pool needed)) needs)

@@ -13,11 +13,11 @@ use state_space::Space;
 use std::alloc::Allocator;
 
 /// The life of an entry, as a word.
-const WAITING: u64 = 0;
+pub(crate) const WAITING: u64 = 0;
 
-const CLAIMED: u64 = 1;
+pub(crate) const CLAIMED: u64 = 1;
 
-const CLEAN: u64 = 2;
+pub(crate) const CLEAN: u64 = 2;
 
 const BROKEN: u64 = 3;
 

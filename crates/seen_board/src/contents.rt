@@ -5,6 +5,7 @@ ghost use Rattle.seen_board.specs.Clauses.{HasPlace, word_at};
 ghost use Rattle.seen_board.specs.Ended.{life_of_entry};
 
 use crate::answers::Place;
+use crate::claims::{CLAIMED, CLEAN, WAITING};
 use crate::entries::HALF;
 use crate::layout::Layout;
 use atomic_table::Closed;
@@ -58,9 +59,9 @@ impl<A: Allocator> Contents<A> {
     {
         let life = self.layout.life(place.shard, place.at as usize);
         match self.closed.word(life) {
-            0 => Life::Waiting,
-            1 => Life::Claimed,
-            2 => Life::Clean,
+            WAITING => Life::Waiting,
+            CLAIMED => Life::Claimed,
+            CLEAN => Life::Clean,
             _ => Life::Broken,
         }
     }

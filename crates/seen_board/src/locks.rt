@@ -15,7 +15,7 @@ use state_space::Space;
 use std::alloc::Allocator;
 
 /// A lock's word while a seat has the write right. Below it, the word is the number of readers.
-const WRITER: u64 = 4294967296;
+const WRITER: u64 = 1 << 32;
 
 impl<S: Space, A: Allocator> Board<S, A> {
     /// The length of the row, under a right of its shard.
