@@ -14,18 +14,18 @@ word-requires g c = let t = place_fits c.self.inside.layout.places (slots_items 
     c.args.self.now c.args.place.shard c.args.place.at c.self.view_is c.self.invariant.2 c.requires.0 c.requires.1 in
     (omega (arith, t.0, t.1, t.2, c.requires.0, c.life-life.ensures), c.self.invariant.0)
 
-pub returns-in-WAITING : goal.returns-in-WAITING
-returns-in-WAITING g c = ap life_of (sym c.in-WAITING.is) ∙ life_found c.self.inside.layout.places
+pub returns-in-0 : goal.returns-in-0
+returns-in-0 g c = ap life_of (sym c.in-0.is) ∙ life_found c.self.inside.layout.places
     (slots_items c.self.inside.closed.words) c.args.self.now c.args.place.shard c.args.place.at _ _ c.self.view_is
     c.requires.0 c.requires.1 c.life-life.ensures c.word.ensures
 
-pub returns-in-CLAIMED : goal.returns-in-CLAIMED
-returns-in-CLAIMED g c = ap life_of (sym c.in-CLAIMED.is) ∙ life_found c.self.inside.layout.places
+pub returns-in-1 : goal.returns-in-1
+returns-in-1 g c = ap life_of (sym c.in-1.is) ∙ life_found c.self.inside.layout.places
     (slots_items c.self.inside.closed.words) c.args.self.now c.args.place.shard c.args.place.at _ _ c.self.view_is
     c.requires.0 c.requires.1 c.life-life.ensures c.word.ensures
 
-pub returns-in-CLEAN : goal.returns-in-CLEAN
-returns-in-CLEAN g c = ap life_of (sym c.in-CLEAN.is) ∙ life_found c.self.inside.layout.places
+pub returns-in-2 : goal.returns-in-2
+returns-in-2 g c = ap life_of (sym c.in-2.is) ∙ life_found c.self.inside.layout.places
     (slots_items c.self.inside.closed.words) c.args.self.now c.args.place.shard c.args.place.at _ _ c.self.view_is
     c.requires.0 c.requires.1 c.life-life.ensures c.word.ensures
 
