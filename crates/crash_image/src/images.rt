@@ -5,7 +5,7 @@ ghost use Rattle.std.specs.List.{All};
 ghost use Rattle.patch_sets.specs.Sets.{Has};
 ghost use Rattle.crash_model.specs.Patches.{image_of};
 
-use crate::puts::redo;
+use crate::patching::redo;
 use disk_image::Image;
 use patch_graph::Graph;
 use std::alloc::{AllocError, Allocator};

@@ -9,7 +9,7 @@
 mod images;
 mod laws;
 mod mover;
-mod puts;
+mod patching;
 mod replayer;
 mod space;
 

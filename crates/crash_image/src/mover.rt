@@ -9,7 +9,7 @@ ghost use Rattle.crash_model.specs.Replay.{image_after_replay};
 ghost use Rattle.journal_replay.specs.Changed.{DifferAtMost};
 ghost use Rattle.crash_image.specs.Moves.{HasBlocks};
 
-use crate::puts::{redo, undo};
+use crate::patching::{redo, undo};
 use disk_image::Image;
 use journal_replay::replay;
 use patch_graph::Graph;

@@ -10,30 +10,30 @@ use Rattle.seen_board.specs.declared.answers.Put.{Put}
 use Rattle.seen_board.specs.declared.answers.Put.TheVariants.{Busy, Over}
 use Rattle.seen_board.proofs.Puts.{has_on, put_sees}
 use Rattle.explorers.proofs.Successors.{puts_in}
-use Rattle.explorers.specs.Met.{AreMet}
+use Rattle.explorers.specs.RecentlySeen.{AreMet}
 use Rattle.explorers.specs.Ready.{IsIdle, IsFree, IsReady}
 use Rattle.explorers.specs.declared.worker.Worker.{Worker}
 
 -- what was met stays so where more is seen
 pub met_on : (words : List ℕ) (seen rows : List (List ℕ)) → SeesOn seen rows → AreMet words seen → AreMet words rows
-met_on words seen rows sees met = record { has = λ word is. has_on seen rows word sees (met.has word is) }
+met_on words seen rows sees recent = record { has = λ word is. has_on seen rows word sees (recent.has word is) }
 
 -- and where a word is kept that was put in
 pub met_more : (words more : List ℕ) (word : ℕ) (s w : Known) → SeesOn s.seen w.seen → Has w.seen word
     → ((other : ℕ) → Contains more other → (other ≡ word) ⊎ Contains words other) → AreMet words s.seen
     → AreMet more w.seen
-met_more words more word s w sees has each met = record {
+met_more words more word s w sees has each recent = record {
   has = λ other is. elim (each other is) [
     | inl e ↦ subst (Has w.seen) (sym e) has
-    | inr old ↦ (met_on words s.seen w.seen sees met).has other old
+    | inr old ↦ (met_on words s.seen w.seen sees recent).has other old
   ];
 }
 
 -- a worker that put a word in, and keeps it
 pub free_after : {S C A : Type 0} (b : Shown S) (space : S) (is_own : S → C → Type 0) (before after : Worker C A)
     (word : ℕ) (put : Put) → IsFree b space is_own before → PutOk word before.seat after.seat put → put ≢ Over
-    → put ≢ Busy → is_own space after.scratch → ((other : ℕ) → Contains after.met other → (other ≡ word)
-    ⊎ Contains before.met other) → IsFree b space is_own after
+    → put ≢ Busy → is_own space after.scratch → ((other : ℕ) → Contains after.recent other → (other ≡ word)
+    ⊎ Contains before.recent other) → IsFree b space is_own after
 free_after b space is_own before after word put free ok not_over not_busy own each =
     let puts = puts_in word before.seat after.seat put ok not_over not_busy in
     record {
@@ -41,29 +41,29 @@ free_after b space is_own before after word put free ok not_over not_busy own ea
       of = (puts.board ∙ free.of.0, puts.limit ∙ free.of.1, puts.places ∙ free.of.2);
       free = puts.free;
       own = own;
-      met = met_more before.met after.met word before.seat after.seat (put_sees word before.seat after.seat put ok)
-          puts.has each free.met;
+      recent = met_more before.recent after.recent word before.seat after.seat (put_sees word before.seat after.seat put ok)
+          puts.has each free.recent;
     }
 
 -- a worker that is between two turns stays so where its seat is idle and sees on
 pub ready_on : {S C A : Type 0} (b : Shown S) (space : S) (is_own : S → C → Type 0) (seen : List (List ℕ))
-    (worker : Worker C A) → b.space ≡ space → is_own space worker.scratch → AreMet worker.met seen
+    (worker : Worker C A) → b.space ≡ space → is_own space worker.scratch → AreMet worker.recent seen
     → IsIdle b worker.seat → SeesOn seen worker.seat.seen → IsReady b space is_own worker
-ready_on b space is_own seen worker explored own met idle sees = record {
+ready_on b space is_own seen worker explored own recent idle sees = record {
   free = record {
     explored = explored;
     of = idle.0;
     free = idle.1;
     own = own;
-    met = met_on worker.met seen worker.seat.seen sees met;
+    recent = met_on worker.recent seen worker.seat.seen sees recent;
   };
   unclaimed = idle.2;
 }
 
 -- copies of one word
-pub met_copies : (words : List ℕ) (word : ℕ) (seen : List (List ℕ)) → All (λ met. met ≡ word) words → Has seen word
+pub met_copies : (words : List ℕ) (word : ℕ) (seen : List (List ℕ)) → All (λ recent. recent ≡ word) words → Has seen word
     → AreMet words seen
 met_copies words word seen all has = record {
   has = λ other is.
-      subst (Has seen) (sym (All-contains (λ met. met ≡ word) words other all is)) has;
+      subst (Has seen) (sym (All-contains (λ recent. recent ≡ word) words other all is)) has;
 }

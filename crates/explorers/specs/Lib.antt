@@ -1,5 +1,5 @@
 pub mod Entries
-pub mod Met
+pub mod RecentlySeen
 pub mod Primes
 pub mod Ready
 pub mod Tasks

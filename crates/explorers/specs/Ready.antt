@@ -4,7 +4,7 @@ use Rattle.board_rule.specs.Lists.{Has}
 use Rattle.seen_board.specs.Known.{Shown, Known}
 use Rattle.seen_board.specs.Clauses.{IsOf, SeesOn, HasClaim}
 use Rattle.seen_board.specs.declared.answers.Place.{Place}
-use Rattle.explorers.specs.Met.{AreMet}
+use Rattle.explorers.specs.RecentlySeen.{AreMet}
 use Rattle.explorers.specs.declared.exploration.Turn.{Turn}
 use Rattle.explorers.specs.declared.exploration.Turn.TheVariants.{Over}
 use Rattle.explorers.specs.declared.worker.Left.{Left}
@@ -21,7 +21,7 @@ pub record IsFree {S C A : Type 0} (b : Shown S) (s : S) (is_own : S → C → T
   pub of : IsOf b worker.seat
   pub free : worker.seat.right ≡ 0
   pub own : is_own s worker.scratch
-  pub met : AreMet worker.met worker.seat.seen
+  pub recent : AreMet worker.recent worker.seat.seen
 
 -- this holds between two rounds, when it has no claim
 pub record IsReady {S C A : Type 0} (b : Shown S) (s : S) (is_own : S → C → Type 0) (worker : Worker C A) : Type 0 where

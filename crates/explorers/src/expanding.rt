@@ -123,14 +123,14 @@ impl<S: Space, G: Gate, A: Allocator + Copy> Exploration<'_, S, G, A> {
         ensures within { IfOk result (λ t. t ≢ turn.Over → PutsIn word mine.old.seat mine.new.seat) }
         ensures over { IfOk result (λ t. t ≡ turn.Over → (mine.new.seat.claims ≡ 0) × (mine.new.seat.over ≡ 1)) }
     {
-        if mine.met.has(word) {
+        if mine.recent.has(word) {
             return Ok(Turn::Within);
         }
         let put = self.board.insert(rt, &mut mine.seat, word);
         if let Put::Over = put {
             return Ok(Turn::Over);
         }
-        mine.met.keep(word);
+        mine.recent.keep(word);
         match put {
             Put::New(place) => match mine.tasks.push(Task { word, place }) {
                 Ok(()) => Ok(Turn::Within),

@@ -10,7 +10,7 @@ ghost use Rattle.explorers.specs.Ready.{IsIdle, IsReady, IsLeft};
 use crate::answers::{answer, join_all};
 use crate::exploration::Exploration;
 use crate::gate::Gate;
-use crate::met::Met;
+use crate::recently_seen::RecentlySeen;
 use crate::rows::Room;
 use crate::tasks::{Task, Tasks};
 use crate::worker::{Left, ThreadJob, Worker};
@@ -25,7 +25,7 @@ use thread_jobs::run_on_threads;
 
 /// The most words that a worker keeps of those that it has met: 128 KB, which stay in its processor's cache. In a
 /// larger table more words are found, but looking for one costs what asking the board does.
-const MOST_MET: usize = 8192;
+const MOST_RECENT: usize = 8192;
 
 /// Explores a space from its initial word over one board with this room, by 1 to 16 workers.
 ///
@@ -171,6 +171,6 @@ fn new_worker<S: Space, A: Allocator + Copy>(
     ensures ready { IfOk result (IsReady board.now space.now S.is_own) }
 {
     let scratch = space.scratch()?;
-    let met = Met::new(alloc, space.start(), board.limit().min(MOST_MET))?;
-    Ok(Worker::new(board.split(seat), scratch, tasks, met))
+    let recent = RecentlySeen::new(alloc, space.start(), board.limit().min(MOST_RECENT))?;
+    Ok(Worker::new(board.split(seat), scratch, tasks, recent))
 }

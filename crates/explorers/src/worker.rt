@@ -4,7 +4,7 @@ ghost use Rattle.explorers.specs.Ready.{IsReady, KnowsOver};
 
 use crate::exploration::{Exploration, Turn};
 use crate::gate::Gate;
-use crate::met::Met;
+use crate::recently_seen::RecentlySeen;
 use crate::stealing::learn;
 use crate::tasks::Tasks;
 use seen_board::{BoardSeat, Place, SHARDS};
@@ -25,25 +25,30 @@ pub(crate) struct Worker<C, A: Allocator> {
     pub seat: BoardSeat,
     pub scratch: C,
     pub tasks: Tasks<A>,
-    pub met: Met<A>,
+    pub recent: RecentlySeen<A>,
     pub empty_rounds: u8,
     pub tried: [u16; SHARDS],
 }
 
 impl<C, A: Allocator> Worker<C, A> {
     /// A worker that has tried nothing.
-    pub fn new(seat: BoardSeat, scratch: C, tasks: Tasks<A>, met: Met<A>) -> Worker<C, A>
+    pub fn new(
+        seat: BoardSeat,
+        scratch: C,
+        tasks: Tasks<A>,
+        recent: RecentlySeen<A>,
+    ) -> Worker<C, A>
         ensures seat { result.seat ≡ seat }
         ensures scratch { result.scratch ≡ scratch }
         ensures tasks { result.tasks ≡ tasks }
-        ensures met { result.met ≡ met }
+        ensures recent { result.recent ≡ recent }
     {
         Worker {
             number: tasks.number(),
             seat,
             scratch,
             tasks,
-            met,
+            recent,
             empty_rounds: 0,
             tried: [0; SHARDS],
         }

@@ -15,28 +15,28 @@ use Rattle.fs_check.proofs.Counting.{tally-empty_row, tally-none, tally-one, cou
 
 -- ---- pointers
 
-module _ (d : Disk) (inode : ℕ) (named : List ℕ) where
+module _ (d : Disk) (inode : ℕ) (pointer_counts : List ℕ) where
   -- an inode that is not live has no pointers
-  pub named-dead : is_live d inode ≡ false → IsTally 4 (named_at d) inode 0 named
-      → IsTally 4 (named_at d) (inode + 1) 0 named
-  named-dead dead = tally-empty_row 4 (named_at d) inode named (λ block s. rw dead refl)
+  pub pointer_counts-dead : is_live d inode ≡ false → IsTally 4 (named_at d) inode 0 pointer_counts
+      → IsTally 4 (named_at d) (inode + 1) 0 pointer_counts
+  pointer_counts-dead dead = tally-empty_row 4 (named_at d) inode pointer_counts (λ block s. rw dead refl)
 
   module _ (slot : ℕ) where
-    pub named-none : pointer_of d inode slot ≡ 0 → IsTally 4 (named_at d) inode slot named
-        → IsTally 4 (named_at d) inode (slot + 1) named
-    named-none zero = tally-none 4 (named_at d) inode slot named
+    pub pointer_counts-none : pointer_of d inode slot ≡ 0 → IsTally 4 (named_at d) inode slot pointer_counts
+        → IsTally 4 (named_at d) inode (slot + 1) pointer_counts
+    pointer_counts-none zero = tally-none 4 (named_at d) inode slot pointer_counts
         (λ block b. rw (eq-eqb (pointer_of d inode slot) 0 zero, and_right (is_live d inode) false refl) refl)
 
-    pub named-wild : (block : ℕ) → pointer_of d inode slot ≡ block → is_data d block ≡ false
-        → IsTally 4 (named_at d) inode slot named → IsTally 4 (named_at d) inode (slot + 1) named
-    named-wild block points outside = tally-none 4 (named_at d) inode slot named
+    pub pointer_counts-wild : (block : ℕ) → pointer_of d inode slot ≡ block → is_data d block ≡ false
+        → IsTally 4 (named_at d) inode slot pointer_counts → IsTally 4 (named_at d) inode (slot + 1) pointer_counts
+    pointer_counts-wild block points outside = tally-none 4 (named_at d) inode slot pointer_counts
         (λ other b. rw (ap (is_data d) points ∙ outside, and_right (is_pointer d inode slot) false refl) refl)
 
-    pub named-tame : (block v : ℕ) → is_live d inode ≡ true → pointer_of d inode slot ≡ block → block ≢ 0
+    pub pointer_counts-tame : (block v : ℕ) → is_live d inode ≡ true → pointer_of d inode slot ≡ block → block ≢ 0
         → is_data d block ≡ true
-        → block < length named → v ≡ get_or named block 0 + 1
-        → IsTally 4 (named_at d) inode slot named → IsTally 4 (named_at d) inode (slot + 1) (set named block v)
-    named-tame block v live points some area within more = tally-one 4 (named_at d) inode slot named block v
+        → block < length pointer_counts → v ≡ get_or pointer_counts block 0 + 1
+        → IsTally 4 (named_at d) inode slot pointer_counts → IsTally 4 (named_at d) inode (slot + 1) (set pointer_counts block v)
+    pointer_counts-tame block v live points some area within more = tally-one 4 (named_at d) inode slot pointer_counts block v
         (inode, slot)
         (rw (live, points, ne_eqb block 0 some, area, eq-eqb block block refl) refl)
         (λ other differ. rw (
@@ -46,48 +46,48 @@ module _ (d : Disk) (inode : ℕ) (named : List ℕ) where
         within more
 
 -- a block in all rows
-named-all : (d : Disk) (block : ℕ) → count_before 4 (named_at d block) 16 0 ≡ length (namers d block)
+pointer_counts-all : (d : Disk) (block : ℕ) → count_before 4 (named_at d block) 16 0 ≡ length (namers d block)
 unfolding count_before each_slot namers
-named-all d block = omega (arith, ap length (some_below-zero (named_at d block 16)))
+pointer_counts-all d block = omega (arith, ap length (some_below-zero (named_at d block 16)))
 
 -- a block that two pointers name is listed
-pub twice-many : (d : Disk) (block : ℕ) (named : List ℕ) → block < length named → IsTally 4 (named_at d) 16 0 named
-    → 1 < get_or named block 0 → twice_at d block ≡ Some (Twice block)
-twice-many d block named within tally many = rw (lt-ltb 1 (length (namers d block))
-    (rw (← named-all d block, ← tally block within) many)) refl
+pub twice-many : (d : Disk) (block : ℕ) (pointer_counts : List ℕ) → block < length pointer_counts → IsTally 4 (named_at d) 16 0 pointer_counts
+    → 1 < get_or pointer_counts block 0 → twice_at d block ≡ Some (Twice block)
+twice-many d block pointer_counts within tally many = rw (lt-ltb 1 (length (namers d block))
+    (rw (← pointer_counts-all d block, ← tally block within) many)) refl
 
-pub twice-few : (d : Disk) (block : ℕ) (named : List ℕ) → block < length named → IsTally 4 (named_at d) 16 0 named
-    → get_or named block 0 ≤ 1 → twice_at d block ≡ None
-twice-few d block named within tally few = rw (le-ltb 1 (length (namers d block))
-    (rw (← named-all d block, ← tally block within) few)) refl
+pub twice-few : (d : Disk) (block : ℕ) (pointer_counts : List ℕ) → block < length pointer_counts → IsTally 4 (named_at d) 16 0 pointer_counts
+    → get_or pointer_counts block 0 ≤ 1 → twice_at d block ≡ None
+twice-few d block pointer_counts within tally few = rw (le-ltb 1 (length (namers d block))
+    (rw (← pointer_counts-all d block, ← tally block within) few)) refl
 
 -- if each count is small, no block is listed
-pub twice-never : (d : Disk) (named : List ℕ) → d.blocks ≤ length named → IsTally 4 (named_at d) 16 0 named
-    → ((at : ℕ) → at < d.blocks → get_or named at 0 ≤ 1)
+pub twice-never : (d : Disk) (pointer_counts : List ℕ) → d.blocks ≤ length pointer_counts → IsTally 4 (named_at d) 16 0 pointer_counts
+    → ((at : ℕ) → at < d.blocks → get_or pointer_counts at 0 ≤ 1)
     → some_below d.blocks (twice_at d) ≡ []
-twice-never d named most tally few = some_below-none d.blocks (twice_at d)
-    (λ block below. twice-few d block named (omega (arith, most)) tally (few block below))
+twice-never d pointer_counts most tally few = some_below-none d.blocks (twice_at d)
+    (λ block below. twice-few d block pointer_counts (omega (arith, most)) tally (few block below))
 
 -- ---- entries
 
-module _ (d : Disk) (dir : ℕ) (led : List ℕ) where
+module _ (d : Disk) (dir : ℕ) (entry_counts : List ℕ) where
   -- a directory that does not count has no entries
-  pub led-uncounted : counts d dir ≡ false → IsTally 10 (led_at d) dir 0 led → IsTally 10 (led_at d) (dir + 1) 0 led
-  led-uncounted uncounted = tally-empty_row 10 (led_at d) dir led
+  pub entry_counts-uncounted : counts d dir ≡ false → IsTally 10 (led_at d) dir 0 entry_counts → IsTally 10 (led_at d) (dir + 1) 0 entry_counts
+  entry_counts-uncounted uncounted = tally-empty_row 10 (led_at d) dir entry_counts
       (λ inode k. rw (uncounted, and_right (is_live d inode) false refl) refl)
 
   module _ (k : ℕ) where
-    pub led-none : entry_of d dir k ≡ 0 → IsTally 10 (led_at d) dir k led → IsTally 10 (led_at d) dir (k + 1) led
-    led-none zero = tally-none 10 (led_at d) dir k led
+    pub entry_counts-none : entry_of d dir k ≡ 0 → IsTally 10 (led_at d) dir k entry_counts → IsTally 10 (led_at d) dir (k + 1) entry_counts
+    entry_counts-none zero = tally-none 10 (led_at d) dir k entry_counts
         (λ inode b. rw (
           eq-eqb (entry_of d dir k) 0 zero,
           and_right (counts d dir) false refl,
           and_right (is_live d inode) false refl,
         ) refl)
 
-    pub led-dead : (inode : ℕ) → target_of d dir k ≡ inode → is_live d inode ≡ false
-        → IsTally 10 (led_at d) dir k led → IsTally 10 (led_at d) dir (k + 1) led
-    led-dead inode leads dead = tally-none 10 (led_at d) dir k led (λ other b. nowhere other)
+    pub entry_counts-dead : (inode : ℕ) → target_of d dir k ≡ inode → is_live d inode ≡ false
+        → IsTally 10 (led_at d) dir k entry_counts → IsTally 10 (led_at d) dir (k + 1) entry_counts
+    entry_counts-dead inode leads dead = tally-none 10 (led_at d) dir k entry_counts (λ other b. nowhere other)
       where
         nowhere : (other : ℕ) → led_at d other dir k ≡ None
         nowhere other = elim (cases_eq other inode) [
@@ -99,11 +99,11 @@ module _ (d : Disk) (dir : ℕ) (led : List ℕ) where
           ) refl
         ]
 
-    pub led-live : (inode v : ℕ) → counts d dir ≡ true → entry_of d dir k ≢ 0 → target_of d dir k ≡ inode
+    pub entry_counts-live : (inode v : ℕ) → counts d dir ≡ true → entry_of d dir k ≢ 0 → target_of d dir k ≡ inode
         → is_live d inode ≡ true
-        → inode < length led → v ≡ get_or led inode 0 + 1
-        → IsTally 10 (led_at d) dir k led → IsTally 10 (led_at d) dir (k + 1) (set led inode v)
-    led-live inode v counted some leads live within more = tally-one 10 (led_at d) dir k led inode v (dir, k)
+        → inode < length entry_counts → v ≡ get_or entry_counts inode 0 + 1
+        → IsTally 10 (led_at d) dir k entry_counts → IsTally 10 (led_at d) dir (k + 1) (set entry_counts inode v)
+    entry_counts-live inode v counted some leads live within more = tally-one 10 (led_at d) dir k entry_counts inode v (dir, k)
         (rw (live, counted, ne_eqb (entry_of d dir k) 0 some, eq-eqb (target_of d dir k) inode leads) refl)
         (λ other differ. rw (
           ne_eqb (target_of d dir k) other (λ e. differ (sym e ∙ leads)),
@@ -113,55 +113,55 @@ module _ (d : Disk) (dir : ℕ) (led : List ℕ) where
         within more
 
 -- an inode in all rows
-led-when : (d : Disk) (inode : ℕ) (live : Bool) → live ≡ true
+entry_counts-when : (d : Disk) (inode : ℕ) (live : Bool) → live ≡ true
     → count_before 10 (λ dir k. when {X = ℕ × ℕ} (live && leads_to d dir k inode) (dir, k)) 16 0
     ≡ length (entries_to d inode)
 unfolding count_before each_entry entries_to
-led-when d inode true e = omega (
+entry_counts-when d inode true e = omega (
   arith,
   ap length (some_below-zero
       (λ k. when {X = ℕ × ℕ} (leads_to d 16 k inode) (16, k))),
 )
-led-when d inode false e = absurd (false≢true e)
+entry_counts-when d inode false e = absurd (false≢true e)
 
-led-all : (d : Disk) (inode : ℕ) → is_live d inode ≡ true
+entry_counts-all : (d : Disk) (inode : ℕ) → is_live d inode ≡ true
     → count_before 10 (led_at d inode) 16 0 ≡ length (entries_to d inode)
-led-all d inode live = led-when d inode (is_live d inode) live
+entry_counts-all d inode live = entry_counts-when d inode (is_live d inode) live
 
-led-never : (d : Disk) (inode : ℕ) → is_live d inode ≡ false → count_before 10 (led_at d inode) 16 0 ≡ 0
+entry_counts-never : (d : Disk) (inode : ℕ) → is_live d inode ≡ false → count_before 10 (led_at d inode) 16 0 ≡ 0
 unfolding count_before
-led-never d inode dead = omega (
+entry_counts-never d inode dead = omega (
   arith,
   ap length (each_below-none 16 _ (λ dir a. some_below-none 10 (led_at d inode dir) (λ k b. rw dead refl))),
   ap length (some_below-zero (led_at d inode 16)),
 )
 
 -- more entries than links are listed only for a live inode
-pub low_links-many : (d : Disk) (inode links : ℕ) (led : List ℕ) → inode < length led → IsTally 10 (led_at d) 16 0 led
-    → links ≡ links_of d inode → links < get_or led inode 0
-    → low_links_at d inode ≡ Some (LowLinks inode (get_or led inode 0) links)
-low_links-many d inode links led within tally is many = elim (cases_Bool (is_live d inode)) [
+pub low_links-many : (d : Disk) (inode links : ℕ) (entry_counts : List ℕ) → inode < length entry_counts → IsTally 10 (led_at d) 16 0 entry_counts
+    → links ≡ links_of d inode → links < get_or entry_counts inode 0
+    → low_links_at d inode ≡ Some (LowLinks inode (get_or entry_counts inode 0) links)
+low_links-many d inode links entry_counts within tally is many = elim (cases_Bool (is_live d inode)) [
   | inl live ↦
-      let all : get_or led inode 0 ≡ length (entries_to d inode) = tally inode within ∙ led-all d inode live in
+      let all : get_or entry_counts inode 0 ≡ length (entries_to d inode) = tally inode within ∙ entry_counts-all d inode live in
       rw (live, lt-ltb (links_of d inode) (length (entries_to d inode)) (omega (arith, is, all, many)), is, all) refl
-  | inr dead ↦ absurd (omega (arith, tally inode within, led-never d inode dead))
+  | inr dead ↦ absurd (omega (arith, tally inode within, entry_counts-never d inode dead))
 ]
 
-pub low_links-few : (d : Disk) (inode : ℕ) (led : List ℕ) → inode < length led → IsTally 10 (led_at d) 16 0 led
-    → get_or led inode 0 ≤ links_of d inode → low_links_at d inode ≡ None
-low_links-few d inode led within tally few = elim (cases_Bool (is_live d inode)) [
+pub low_links-few : (d : Disk) (inode : ℕ) (entry_counts : List ℕ) → inode < length entry_counts → IsTally 10 (led_at d) 16 0 entry_counts
+    → get_or entry_counts inode 0 ≤ links_of d inode → low_links_at d inode ≡ None
+low_links-few d inode entry_counts within tally few = elim (cases_Bool (is_live d inode)) [
   | inl live ↦
-      let all : get_or led inode 0 ≡ length (entries_to d inode) = tally inode within ∙ led-all d inode live in
+      let all : get_or entry_counts inode 0 ≡ length (entries_to d inode) = tally inode within ∙ entry_counts-all d inode live in
       rw (live, le-ltb (links_of d inode) (length (entries_to d inode)) (rw (← all) few)) refl
   | inr dead ↦ rw dead refl
 ]
 
 -- no count is larger than the number of places before
-pub led-most : (d : Disk) (dir k inode : ℕ) (led : List ℕ) → inode < length led → IsTally 10 (led_at d) dir k led
-    → get_or led inode 0 ≤ 10 * dir + k
-led-most d dir k inode led within tally = omega (arith, tally inode within, count_before-most 10 (led_at d inode) dir k)
+pub entry_counts-most : (d : Disk) (dir k inode : ℕ) (entry_counts : List ℕ) → inode < length entry_counts → IsTally 10 (led_at d) dir k entry_counts
+    → get_or entry_counts inode 0 ≤ 10 * dir + k
+entry_counts-most d dir k inode entry_counts within tally = omega (arith, tally inode within, count_before-most 10 (led_at d inode) dir k)
 
-pub named-most : (d : Disk) (inode slot block : ℕ) (named : List ℕ) → block < length named
-    → IsTally 4 (named_at d) inode slot named → get_or named block 0 ≤ 4 * inode + slot
-named-most d inode slot block named within tally = omega
+pub pointer_counts-most : (d : Disk) (inode slot block : ℕ) (pointer_counts : List ℕ) → block < length pointer_counts
+    → IsTally 4 (named_at d) inode slot pointer_counts → get_or pointer_counts block 0 ≤ 4 * inode + slot
+pointer_counts-most d inode slot block pointer_counts within tally = omega
     (arith, tally block within, count_before-most 4 (named_at d block) inode slot)

@@ -38,14 +38,14 @@ fn list_faults<A: Allocator + Copy>(
     ensures { OnOk result (found.new.items ≡ faults image.now) }
 {
     let mut wrong = ArrayVec::new();
-    let mut named = [0; 128];
-    read_pointers(image, &mut wrong, &mut named);
+    let mut pointer_counts = [0; 128];
+    read_pointers(image, &mut wrong, &mut pointer_counts);
     found.clear();
-    let led = push_dangling(found, image)?;
-    push_twice(found, image, &named)?;
+    let entry_counts = push_dangling(found, image)?;
+    push_twice(found, image, &pointer_counts)?;
     let wrong = wrong.as_slice();
     push_wrong(found, image, Test::IsUnwritten, wrong)?;
-    push_low_links(found, image, &led)?;
+    push_low_links(found, image, &entry_counts)?;
     push_wrong(found, image, Test::IsMarkedFree, wrong)?;
     push_wrong(found, image, Test::IsWild, wrong)?;
     Ok(())
@@ -159,17 +159,17 @@ fn push_wrong<A: Allocator + Copy>(
 fn push_twice<A: Allocator + Copy>(
     found: &mut Vec<Fault, A>,
     image: &Image<A>,
-    named: &[u8; 128],
+    pointer_counts: &[u8; 128],
 ) -> Result<(), AllocError>
-    requires { IsTally SLOTS (named_at image.now) INODES 0 named.now }
+    requires { IsTally SLOTS (named_at image.now) INODES 0 pointer_counts.now }
     ensures { OnOk result (found.new.items ≡ found.old.items ++ some_below image.now.blocks (twice_at image.now)) }
 {
     let blocks = image.blocks() as u8;
-    if most(named) < 2 {
+    if most(pointer_counts) < 2 {
         return Ok(());
     }
     for block in 0..blocks {
-        if named[block as usize] > 1 {
+        if pointer_counts[block as usize] > 1 {
             found.push(Fault::Twice { block })?;
         }
     }
@@ -194,13 +194,13 @@ fn most(counts: &[u8; 128]) -> u8
 fn push_low_links<A: Allocator + Copy>(
     found: &mut Vec<Fault, A>,
     image: &Image<A>,
-    led: &[u8; 16],
+    entry_counts: &[u8; 16],
 ) -> Result<(), AllocError>
-    requires { IsTally ENTRIES (led_at image.now) INODES 0 led.now }
+    requires { IsTally ENTRIES (led_at image.now) INODES 0 entry_counts.now }
     ensures { OnOk result (found.new.items ≡ found.old.items ++ some_below INODES (low_links_at image.now)) }
 {
     for inode in 0..INODES {
-        let entries = led[inode as usize];
+        let entries = entry_counts[inode as usize];
         let links = image.links(inode);
         if links < entries {
             found.push(Fault::LowLinks {

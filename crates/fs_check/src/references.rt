@@ -28,16 +28,16 @@ pub(crate) struct Pointer {
 pub(crate) fn read_pointers<A: Allocator + Copy>(
     image: &Image<A>,
     wrong: &mut ArrayVec<Pointer, 64>,
-    named: &mut [u8; 128],
+    pointer_counts: &mut [u8; 128],
 )
     requires none { wrong.old.items ≡ [] }
-    requires zero { named.old ≡ replicate 128 0 }
+    requires zero { pointer_counts.old ≡ replicate 128 0 }
     ensures wrong { wrong.new.items ≡ wrong_pointers image.now }
-    ensures named { IsTally SLOTS (named_at image.now) INODES 0 named.new }
+    ensures pointer_counts { IsTally SLOTS (named_at image.now) INODES 0 pointer_counts.new }
 {
     for inode in 0..INODES {
         if image.is_live(inode) {
-            read_slots(image, inode, wrong, named);
+            read_slots(image, inode, wrong, pointer_counts);
         }
     }
 }
@@ -47,21 +47,21 @@ fn read_slots<A: Allocator + Copy>(
     image: &Image<A>,
     inode: u8,
     wrong: &mut ArrayVec<Pointer, 64>,
-    named: &mut [u8; 128],
+    pointer_counts: &mut [u8; 128],
 )
     requires inode { inode < INODES }
     requires live { IsTrue (is_live image.now inode) }
     requires room { array_vec_len wrong.old ≤ 4 * inode }
-    requires named { IsTally SLOTS (named_at image.now) inode 0 named.old }
+    requires pointer_counts { IsTally SLOTS (named_at image.now) inode 0 pointer_counts.old }
     ensures wrong { wrong.new.items ≡ wrong.old.items ++ some_below SLOTS (wrong_at image.now inode) }
     ensures room { array_vec_len wrong.new ≤ 4 * (inode + 1) }
-    ensures named { IsTally SLOTS (named_at image.now) (inode + 1) 0 named.new }
+    ensures pointer_counts { IsTally SLOTS (named_at image.now) (inode + 1) 0 pointer_counts.new }
 {
     for slot in 0..SLOTS {
         let block = image.pointer(inode, slot);
         if block != 0 {
             let pointer = Pointer { inode, slot, block };
-            count_pointer(image, pointer, named);
+            count_pointer(image, pointer, pointer_counts);
             if !is_right_block(image, inode, block) {
                 wrong.push(pointer);
             }
@@ -70,17 +70,21 @@ fn read_slots<A: Allocator + Copy>(
 }
 
 /// Counts one more pointer.
-fn count_pointer<A: Allocator + Copy>(image: &Image<A>, pointer: Pointer, named: &mut [u8; 128])
+fn count_pointer<A: Allocator + Copy>(
+    image: &Image<A>,
+    pointer: Pointer,
+    pointer_counts: &mut [u8; 128],
+)
     requires inode { pointer.inode < INODES }
     requires live { IsTrue (is_live image.now pointer.inode) }
     requires slot { pointer.slot < SLOTS }
     requires some { pointer.block ≢ 0 }
     requires block { pointer_of image.now pointer.inode pointer.slot ≡ pointer.block }
-    requires named { IsTally SLOTS (named_at image.now) pointer.inode pointer.slot named.old }
-    ensures { IsTally SLOTS (named_at image.now) pointer.inode (pointer.slot + 1) named.new }
+    requires pointer_counts { IsTally SLOTS (named_at image.now) pointer.inode pointer.slot pointer_counts.old }
+    ensures { IsTally SLOTS (named_at image.now) pointer.inode (pointer.slot + 1) pointer_counts.new }
 {
     if image.is_data(pointer.block) {
-        named[pointer.block as usize] += 1;
+        pointer_counts[pointer.block as usize] += 1;
     }
 }
 
@@ -91,15 +95,15 @@ pub(crate) fn push_dangling<A: Allocator + Copy>(
     image: &Image<A>,
 ) -> Result<[u8; 16], AllocError>
     ensures found { OnOk result (found.new.items ≡ found.old.items ++ dangling_entries image.now) }
-    ensures led { IfOk result (IsTally ENTRIES (led_at image.now) INODES 0) }
+    ensures entry_counts { IfOk result (IsTally ENTRIES (led_at image.now) INODES 0) }
 {
-    let mut led = [0; 16];
+    let mut entry_counts = [0; 16];
     for dir in 0..INODES {
         if image.counts(dir) {
-            push_dangling_of(found, image, dir, &mut led)?;
+            push_dangling_of(found, image, dir, &mut entry_counts)?;
         }
     }
-    Ok(led)
+    Ok(entry_counts)
 }
 
 /// The same of one directory's entries.
@@ -107,20 +111,20 @@ fn push_dangling_of<A: Allocator + Copy>(
     found: &mut Vec<Fault, A>,
     image: &Image<A>,
     dir: u8,
-    led: &mut [u8; 16],
+    entry_counts: &mut [u8; 16],
 ) -> Result<(), AllocError>
     requires dir { dir < INODES }
     requires counts { IsTrue (counts image.now dir) }
-    requires led { IsTally ENTRIES (led_at image.now) dir 0 led.old }
+    requires entry_counts { IsTally ENTRIES (led_at image.now) dir 0 entry_counts.old }
     ensures found { OnOk result (found.new.items ≡ found.old.items ++ some_below ENTRIES (dangling_at image.now dir)) }
-    ensures led { OnOk result (IsTally ENTRIES (led_at image.now) (dir + 1) 0 led.new) }
+    ensures entry_counts { OnOk result (IsTally ENTRIES (led_at image.now) (dir + 1) 0 entry_counts.new) }
 {
     for k in 0..ENTRIES {
         let entry = image.entry(dir, k);
         if entry != 0 {
             let inode = entry - 1;
             if image.is_live(inode) {
-                led[inode as usize] += 1;
+                entry_counts[inode as usize] += 1;
             } else {
                 found.push(Fault::Dangling {
                     dir,

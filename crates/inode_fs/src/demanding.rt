@@ -7,7 +7,7 @@ ghost use Rattle.crash_model.specs.Checker.{AreDemands};
 ghost use Rattle.crash_model.specs.Lists.{when};
 ghost use Rattle.crash_model.specs.Strict.{IsToldKept};
 
-use crate::keeping::{advance, kept};
+use crate::kept_inodes::{advance, kept};
 use crash_model::steps::Step;
 use disk_image::{Demands, Image};
 use std::alloc::{AllocError, Allocator};

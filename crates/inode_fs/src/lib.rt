@@ -8,8 +8,8 @@
 mod applying;
 mod changes;
 mod demanding;
-mod keeping;
-mod look;
+mod kept_inodes;
+mod lookup;
 mod planning;
 
 pub use applying::apply;

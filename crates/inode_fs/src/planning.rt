@@ -20,7 +20,9 @@ use crate::changes::{
     entry_clear, entry_set, init_block, inode_free, inode_init, link_count, map_clear, map_set,
     pointer_set,
 };
-use crate::look::{Entry, entry_named, find, free_block, free_inode, free_slot, has_entries, walk};
+use crate::lookup::{
+    Entry, entry_named, find, free_block, free_inode, free_slot, has_entries, walk,
+};
 use arrayvec::ArrayVec;
 use crash_model::disk_bytes::{
     DIRECTORY_KIND, DIRECTORY_MARK, ENTRIES, FILE_KIND, FILE_MARK, INODES, MOST_CHANGES,

@@ -25,7 +25,7 @@ returns-clause-ready g c =
         of = seat.0;
         free = seat.1;
         own = rw c.new-2.ensures.scratch c.in_ok-scratch.ensures;
-        met = rw c.new-2.ensures.met (met_copies c.in_ok-met.met c.start.result worker.seat.seen c.in_ok-met.ensures
+        recent = rw c.new-2.ensures.recent (met_copies c.in_ok-recent.recent c.start.result worker.seat.seen c.in_ok-recent.ensures
             (rw c.start.ensures has));
       };
       unclaimed = seat.2;

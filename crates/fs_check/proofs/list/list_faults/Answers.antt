@@ -31,7 +31,7 @@ returns g c =
     c.push_wrong.new.found.items
     c.push_low_links.new.found.items c.push_wrong-2.new.found.items c.push_wrong-3.new.found.items
     c.clear.ensures.items
-    c.in_ok-led.ensures.found
+    c.in_ok-entry_counts.ensures.found
     c.in_ok-push_twice.ensures
     (in_slice (fault_of d IsUnwritten) c.as_slice-wrong.result.now pointers (wrong_pointers d) _ _ slice same
     c.in_ok-push_wrong.ensures)

@@ -7,6 +7,6 @@ use Rattle.fs_check.proofs.references.push_dangling_of.Given as goal
 abbrev pub invariant-loop-k : goal.invariant-loop-k
 invariant-loop-k g l = record {
   found : l.found.items ≡ l.fn.found.items ++ some_below l.k (dangling_at l.image l.dir);
-  size : length l.led ≡ 16;
-  led : IsTally 10 (led_at l.image) l.dir l.k l.led;
+  size : length l.entry_counts ≡ 16;
+  entry_counts : IsTally 10 (led_at l.image) l.dir l.k l.entry_counts;
 }

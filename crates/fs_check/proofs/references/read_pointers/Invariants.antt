@@ -9,5 +9,5 @@ abbrev pub invariant-loop-inode : goal.invariant-loop-inode
 invariant-loop-inode g l = record {
   wrong : l.wrong.items ≡ each_below l.inode (λ inode. some_below 4 (wrong_at l.image inode));
   room : array_vec_len l.wrong ≤ 4 * l.inode;
-  named : IsTally 4 (named_at l.image) l.inode 0 l.named;
+  pointer_counts : IsTally 4 (named_at l.image) l.inode 0 l.pointer_counts;
 }

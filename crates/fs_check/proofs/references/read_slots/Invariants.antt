@@ -9,5 +9,5 @@ abbrev pub invariant-loop-slot : goal.invariant-loop-slot
 invariant-loop-slot g l = record {
   wrong : l.wrong.items ≡ l.fn.wrong.items ++ some_below l.slot (wrong_at l.image l.inode);
   room : array_vec_len l.wrong ≤ 4 * l.inode + l.slot;
-  named : IsTally 4 (named_at l.image) l.inode l.slot l.named;
+  pointer_counts : IsTally 4 (named_at l.image) l.inode l.slot l.pointer_counts;
 }

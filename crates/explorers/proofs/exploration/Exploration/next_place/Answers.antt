@@ -5,6 +5,6 @@ pub returns : goal.returns
 returns g c =
     let free = c.requires.ready.free in
     record {
-      ready = ready_on _ _ _ c.args.mine.now.seat.seen _ free.explored free.own free.met c.learn.ensures.idle
+      ready = ready_on _ _ _ c.args.mine.now.seat.seen _ free.explored free.own free.recent c.learn.ensures.idle
           c.learn.ensures.sees;
     }

@@ -12,7 +12,7 @@ returns-then-has-clause-within g c = λ _. record {
   free = c.requires.free.free;
   claims = refl;
   place = refl;
-  has = c.requires.free.met.has c.args.word (c.has.ensures c.if-has.true);
+  has = c.requires.free.recent.has c.args.word (c.has.ensures c.if-has.true);
 }
 
 pub returns-in-Over-clause-free : goal.returns-in-Over-clause-free
@@ -21,9 +21,9 @@ returns-in-Over-clause-free g c = record {
   of = search rules;
   free = search rules;
   own = c.requires.free.own;
-  met = met_on c.args.mine.now.met c.args.mine.now.seat.seen c.insert-put.new.seat.seen
+  recent = met_on c.args.mine.now.recent c.args.mine.now.seat.seen c.insert-put.new.seat.seen
       (put_sees c.args.word c.args.mine.now.seat c.insert-put.new.seat c.insert-put.result c.insert-put.ensures.put)
-      c.requires.free.met;
+      c.requires.free.recent;
 }
 
 pub returns-in-Ok : goal.returns-in-Ok
@@ -31,7 +31,7 @@ returns-in-Ok g c =
     let seat = c.args.mine.now.seat in
     record {
       free = free_after c.args.self.now.board.now c.args.self.now.space.now g.S.Space.is_own c.args.mine.now
-          (record c.args.mine.now { seat = c.insert-put.new.seat; tasks = c.push.new.self; met = c.keep.new.self })
+          (record c.args.mine.now { seat = c.insert-put.new.seat; tasks = c.push.new.self; recent = c.keep.new.self })
           c.args.word c.insert-put.result c.requires.free c.insert-put.ensures.put c.in_default.not-Over
           c.insert-put.ensures.done c.requires.free.own c.keep.ensures;
       sees = put_sees c.args.word seat c.insert-put.new.seat c.insert-put.result c.insert-put.ensures.put;
@@ -48,7 +48,7 @@ returns-in_default-put g c =
           (record c.args.mine.now {
             seat = c.insert-put.new.seat;
             tasks = c.args.mine.now.tasks;
-            met = c.keep.new.self;
+            recent = c.keep.new.self;
           }) c.args.word c.insert-put.result c.requires.free c.insert-put.ensures.put
           c.in_default.not-Over c.insert-put.ensures.done c.requires.free.own c.keep.ensures;
       sees = put_sees c.args.word seat c.insert-put.new.seat c.insert-put.result c.insert-put.ensures.put;
@@ -62,7 +62,7 @@ returns-in-Err g c =
     let seat = c.args.mine.now.seat in
     record {
       free = free_after c.args.self.now.board.now c.args.self.now.space.now g.S.Space.is_own c.args.mine.now
-          (record c.args.mine.now { seat = c.insert-put.new.seat; tasks = c.push.new.self; met = c.keep.new.self })
+          (record c.args.mine.now { seat = c.insert-put.new.seat; tasks = c.push.new.self; recent = c.keep.new.self })
           c.args.word c.insert-put.result c.requires.free c.insert-put.ensures.put c.in_default.not-Over
           c.insert-put.ensures.done c.requires.free.own c.keep.ensures;
       sees = put_sees c.args.word seat c.insert-put.new.seat c.insert-put.result c.insert-put.ensures.put;

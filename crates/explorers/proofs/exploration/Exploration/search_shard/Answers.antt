@@ -8,7 +8,7 @@ pub loop-at-init : goal.loop-at-init
 loop-at-init g c =
     let free = c.requires.ready.free in
     record {
-      ready = ready_on _ _ _ c.args.mine.now.seat.seen _ free.explored free.own free.met c.see_shard-count.ensures.idle
+      ready = ready_on _ _ _ c.args.mine.now.seat.seen _ free.explored free.own free.recent c.see_shard-count.ensures.idle
           c.see_shard-count.ensures.sees;
       seen = c.see_shard-count.ensures.seen;
     }

@@ -18,12 +18,12 @@ pub expand-requires-clause-free : goal.expand-requires-clause-free
 expand-requires-clause-free g c =
     let free = c.requires.ready.free in
     rw (c.at-word.ensures.same ∙ c.claim.ensures.yes (search rules))
-    (record { explored = free.explored; of = free.of; free = free.free; own = free.own; met = free.met })
+    (record { explored = free.explored; of = free.of; free = free.free; own = free.own; recent = free.recent })
 
 pub returns-in-Err-clause-ready : goal.returns-in-Err-clause-ready
 returns-in-Err-clause-ready g c =
     let free = c.expand.ensures.free in
     rw c.stop.ensures (record {
-      free = record { explored = free.explored; of = free.of; free = free.free; own = free.own; met = free.met };
+      free = record { explored = free.explored; of = free.of; free = free.free; own = free.own; recent = free.recent };
       unclaimed = refl;
     })

@@ -1,5 +1,0 @@
-use Rattle.inode_fs.proofs.StayLive.{AreLive}
-use Rattle.inode_fs.proofs.keeping.live_inodes.Given as goal
-
-abbrev pub invariant-loop-inode : goal.invariant-loop-inode
-invariant-loop-inode g l = AreLive l.image l.inode l.live
