@@ -27,6 +27,17 @@ trace_from-append kind s (x ∷ xs) ys = then_then kind ys (step kind s x.line x
     (λ next. trace_from kind next (xs ++ ys)) (λ next. trace_from kind next xs)
     (λ next. trace_from-append kind next xs ys)
 
+then_last : (kind : Module) (r : Result Tracing TraceFault) → then_ok r (λ next. trace_from kind next []) ≡ r
+then_last kind (Ok next) = refl
+then_last kind (Err e) = refl
+
+-- the trace of some steps and one more is that step after them
+pub trace_one_more : (kind : Module) (s t : Tracing) (xs : List Step) (x : Step) → trace_from kind s xs ≡ Ok t
+    → trace_from kind s (xs ++ x ∷ []) ≡ step kind t x.line x.act
+trace_one_more kind s t xs x is = trace_from-append kind s xs (x ∷ [])
+    ∙ ap (λ (r : Result Tracing TraceFault). then_ok r (λ next. trace_from kind next (x ∷ []))) is
+    ∙ then_last kind (step kind t x.line x.act)
+
 -- the trace so far, of the steps taken
 pub record IsTraced (kind : Module) (rules : List Rule) (whole : Bool) (base : Disk) (steps : List Step) (i : ℕ)
     (t : Trace) : Type 0 where

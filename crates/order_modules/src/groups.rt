@@ -13,7 +13,7 @@ use std::alloc::Allocator;
 
 impl<'a, A: Allocator + Copy> Tracer<'a, A> {
     /// Opens a group. No group may be open, and this one may not have been opened before.
-    pub fn open(&mut self, line: usize, name: &'a GroupName) -> Result<(), TraceFault>
+    pub(crate) fn open(&mut self, line: usize, name: &'a GroupName) -> Result<(), TraceFault>
         ensures ok { OnOk result (Moves self.old self.new
             (step_of self.old.log.kind self.old.tracing line (Group name.now))) }
         ensures refused { RefusesAs result (step_of self.old.log.kind self.old.tracing line (Group name.now)) }
@@ -27,7 +27,7 @@ impl<'a, A: Allocator + Copy> Tracer<'a, A> {
     }
 
     /// Ends the open group.
-    pub fn end(&mut self, line: usize) -> Result<(), TraceFault>
+    pub(crate) fn end(&mut self, line: usize) -> Result<(), TraceFault>
         ensures ok { OnOk result (Moves self.old self.new (step_of self.old.log.kind self.old.tracing line End)) }
         ensures refused { RefusesAs result (step_of self.old.log.kind self.old.tracing line End) }
     {
@@ -40,7 +40,7 @@ impl<'a, A: Allocator + Copy> Tracer<'a, A> {
     }
 
     /// Makes the patches that a group will get wait for those of an ended group.
-    pub fn depend(
+    pub(crate) fn depend(
         &mut self,
         line: usize,
         later: &'a GroupName,

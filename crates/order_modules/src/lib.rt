@@ -20,5 +20,5 @@ pub use crash_model::orderings::Ordering;
 pub use crash_model::refusals::TraceFault;
 pub use crash_model::steps::{Act, Step};
 pub use traced_patches::{Label, Origin, Reason, Reasons, Traced};
-pub use tracer::trace;
+pub use tracer::{Tracer, trace};
 pub use without_rule::{graph_by, graph_without};

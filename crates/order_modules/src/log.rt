@@ -68,6 +68,20 @@ impl<'a, A: Allocator + Copy> PatchLog<'a, A> {
         })
     }
 
+    /// The same log in memory of its own, over the same base. It fails only when out of memory.
+    pub fn try_copy(&self) -> Result<PatchLog<'a, A>, AllocError>
+        ensures { IfOk result (λ copy. copy ≡ self.now) }
+    {
+        Ok(PatchLog {
+            base: self.base,
+            written: self.written.try_copy()?,
+            ordering: self.ordering,
+            graph: self.graph.try_copy()?,
+            labels: self.labels.clone()?,
+            links: self.links.clone()?,
+        })
+    }
+
     /// How many patches there are.
     pub fn len(&self) -> usize
         ensures { result ≡ length self.now.emitted }

@@ -1,6 +1,6 @@
 //! The step that each act of a script is.
 
-ghost use Rattle.std.specs.Prelude.{◌<◌, ◌^◌, OnOk};
+ghost use Rattle.std.specs.Prelude.{◌<◌, ◌^◌, IfOk, OnOk};
 ghost use Rattle.crash_model.specs.Trace.{step as step_of};
 ghost use Rattle.order_modules.specs.Tracer.{GivesNameIfAny, Moves, RefusesAs};
 
@@ -24,5 +24,21 @@ impl<'a, A: Allocator + Copy> Tracer<'a, A> {
             Act::End => self.end(step.line),
             Act::Depend(later, earlier) => self.depend(step.line, later, earlier),
         }
+    }
+
+    /// The trace with a step more, in memory of its own. An operation that cannot be planned takes no memory.
+    pub fn with_step(&self, step: &'a Step) -> Result<Tracer<'a, A>, TraceFault>
+        requires { self.now.tracing.turn < 2 ^ 63 }
+        ensures ok { IfOk result (λ longer. Moves self.now longer
+            (step_of self.now.log.kind self.now.tracing step.now.line step.now.act)) }
+        ensures names { IfOk result (λ _. GivesNameIfAny step.now.act) }
+        ensures refused { RefusesAs result (step_of self.now.log.kind self.now.tracing step.now.line step.now.act) }
+    {
+        if let Act::Do(op) = &step.act {
+            return self.with_operation(step.line, op);
+        }
+        let mut longer = self.try_copy()?;
+        longer.step(step)?;
+        Ok(longer)
     }
 }

@@ -61,9 +61,9 @@ pub fn trace<'a, A: Allocator + Copy>(
     Ok(tracer.into_traced())
 }
 
-/// A trace under way.
+/// A trace under way: the patches of some steps, to which those of later steps can be added.
 #[derive(Drop)]
-pub(crate) struct Tracer<'a, A: Allocator + Copy> {
+pub struct Tracer<'a, A: Allocator + Copy> {
     /// The image after the operations so far; the journal is as at the beginning.
     pub(crate) disk: Image<A>,
     pub(crate) log: PatchLog<'a, A>,
@@ -114,6 +114,21 @@ impl<'a, A: Allocator + Copy> Tracer<'a, A> {
         })
     }
 
+    /// The same trace in memory of its own. It fails only when out of memory.
+    pub fn try_copy(&self) -> Result<Tracer<'a, A>, AllocError>
+        ensures { IfOk result (λ copy. copy ≡ self.now) }
+    {
+        Ok(Tracer {
+            disk: self.disk.try_copy()?,
+            log: self.log.try_copy()?,
+            turn: self.turn,
+            next: self.next,
+            current: self.current,
+            opened: self.opened.clone()?,
+            ended: self.ended.clone()?,
+        })
+    }
+
     /// The patches of what was traced.
     pub fn into_traced(self) -> Traced<'a, A>
         ensures graph { IsGraphOf self.entry.log.rules self.entry.log.base self.entry.tracing result.patches }
@@ -128,7 +143,7 @@ impl<'a, A: Allocator + Copy> Tracer<'a, A> {
     }
 
     /// Does an operation: plans it, and adds its patches by the ordering module.
-    pub fn operate(&mut self, line: usize, op: &'a Op) -> Result<(), TraceFault>
+    pub(crate) fn operate(&mut self, line: usize, op: &'a Op) -> Result<(), TraceFault>
         requires { self.old.tracing.turn < 2 ^ 63 }
         ensures ok { OnOk result (Moves self.old self.new
             (trace_of_plan self.old.log.kind line op.now self.old.tracing (plan_of self.old.tracing.disk op.now))) }
@@ -140,9 +155,43 @@ impl<'a, A: Allocator + Copy> Tracer<'a, A> {
             Ok(plan) => plan,
             Err(fault) => return Err(fault.at_line(line)),
         };
+        self.write(line, op, &plan)
+    }
+
+    /// A copy of the trace with an operation more. An operation that cannot be planned takes no memory.
+    pub(crate) fn with_operation(
+        &self,
+        line: usize,
+        op: &'a Op,
+    ) -> Result<Tracer<'a, A>, TraceFault>
+        requires { self.now.tracing.turn < 2 ^ 63 }
+        ensures ok { IfOk result (λ longer. Moves self.now longer
+            (trace_of_plan self.now.log.kind line op.now self.now.tracing (plan_of self.now.tracing.disk op.now))) }
+        ensures name { IfOk result (λ _. GivesName op.now) }
+        ensures refused { RefusesAs result
+            (trace_of_plan self.now.log.kind line op.now self.now.tracing (plan_of self.now.tracing.disk op.now)) }
+    {
+        let plan = match plan(&self.disk, op) {
+            Ok(plan) => plan,
+            Err(fault) => return Err(fault.at_line(line)),
+        };
+        let mut longer = self.try_copy()?;
+        longer.write(line, op, &plan)?;
+        Ok(longer)
+    }
+
+    /// Adds the changes of an operation by the ordering module.
+    fn write(&mut self, line: usize, op: &'a Op, plan: &Plan) -> Result<(), TraceFault>
+        requires few { self.old.tracing.turn < 2 ^ 63 }
+        requires inside { All (LiesInside self.old.tracing.disk.blocks) plan.now.items }
+        ensures ok { OnOk result (Moves self.old self.new
+            (trace_of_plan self.old.log.kind line op.now self.old.tracing (Ok plan.now.items))) }
+        ensures refused { RefusesAs result
+            (trace_of_plan self.old.log.kind line op.now self.old.tracing (Ok plan.now.items)) }
+    {
         match self.log.module() {
-            Module::Async | Module::Soft => self.write_in_place(line, op, &plan),
-            Module::Meta | Module::Full => self.write_journaled(line, op, &plan),
+            Module::Async | Module::Soft => self.write_in_place(line, op, plan),
+            Module::Meta | Module::Full => self.write_journaled(line, op, plan),
         }
     }
 

@@ -14,6 +14,7 @@ ghost use Rattle.patch_graph.specs.Fronts.{Leaves};
 ghost use Rattle.patch_graph.specs.Leads.{IsLead};
 ghost use Rattle.patch_graph.specs.Graph.{IsAt, IsPatch, IsGraph, AddsOverlaps, Overlaps, OverlapsAt};
 
+use crate::copying::patches_copy;
 use crate::fault::GraphFault;
 use crash_model::patches::{MAX_PATCHES, Patch};
 use patch_sets::ends::{difference, highest, lowest, without};
@@ -100,6 +101,17 @@ impl<A: Allocator + Copy> Graph<A> {
         take_out(&mut self.apart, id, deps);
         self.at_block[block] = with(self.at_block[block], id);
         Ok(())
+    }
+
+    /// The same graph in memory of its own. It fails only when out of memory.
+    pub fn try_copy(&self) -> Result<Graph<A>, AllocError>
+        ensures { IfOk result (λ copy. copy ≡ self.now) }
+    {
+        Ok(Graph {
+            patches: patches_copy(*self.patches.allocator(), self.patches.as_slice())?,
+            apart: self.apart,
+            at_block: self.at_block,
+        })
     }
 
     /// The number of patches. For the proof it also says what holds of every graph.

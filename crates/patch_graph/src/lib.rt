@@ -5,6 +5,7 @@
 //! of patches is the number with bit p for each id p in it.
 #![tactic(auto)]
 
+mod copying;
 pub mod fault;
 pub mod graph;
 
