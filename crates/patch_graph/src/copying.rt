@@ -3,6 +3,7 @@
 ghost use Rattle.std.specs.Prelude.{◌≡◌, IfOk};
 
 use arrayvec::ArrayVec;
+use crash_model::disk_bytes::BLOCK_SIZE;
 use crash_model::patches::Patch;
 use std::alloc::{AllocError, Allocator};
 
@@ -34,7 +35,7 @@ fn patch_copy(patch: &Patch) -> Patch
 }
 
 /// A copy of bytes of a block.
-fn bytes_copy(bytes: &ArrayVec<u8, 128>) -> ArrayVec<u8, 128>
+fn bytes_copy(bytes: &ArrayVec<u8, BLOCK_SIZE>) -> ArrayVec<u8, BLOCK_SIZE>
     ensures { result ≡ bytes.now }
 {
     let mut copy = ArrayVec::new();
