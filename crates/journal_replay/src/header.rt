@@ -6,7 +6,7 @@ ghost use Rattle.crash_model.specs.Disk.{block_of};
 ghost use Rattle.crash_model.specs.Replay.{is_ascending, is_header, is_target};
 ghost use Rattle.journal_replay.specs.Header.{IsHeaderAt};
 
-use crash_model::disk_bytes::{BLOCK_SIZE, COMMITTED_MARK, DONE_MARK, JOURNAL_AT};
+use crash_model::disk_bytes::{BLOCK_SIZE, COMMITTED_MARK, DONE_MARK, JOURNAL_AT, MOST_TARGETS};
 use disk_image::Image;
 use std::alloc::Allocator;
 use std::marker::Model;
