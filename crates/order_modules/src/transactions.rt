@@ -13,7 +13,7 @@ ghost use Rattle.order_modules.specs.Transactions.{targets_of, transaction_of};
 
 use crate::log::PatchLog;
 use arrayvec::ArrayVec;
-use crash_model::disk_bytes::{BLOCK_SIZE, MOST_BLOCKS};
+use crash_model::disk_bytes::{BLOCK_SIZE, COMMITTED_MARK, DONE_MARK, MOST_BLOCKS};
 use crash_model::modules::Module;
 use crash_model::plans::{Change, Role};
 use crash_model::rules::Part;
