@@ -13,7 +13,7 @@ ghost use Rattle.known_bytes.specs.Reading.{Reading, InEachDisk, IsKnown};
 use crate::answers::{both, negation, never_holds};
 use crate::directories::Directory;
 use crate::disk::KnownDisk;
-use crash_model::disk_bytes::INODES;
+use crash_model::disk_bytes::{DIRECTORY_KIND, INODES};
 use patch_sets::ends::{lowest, without};
 use patch_sets::set::{has, with};
 use std::alloc::Allocator;
