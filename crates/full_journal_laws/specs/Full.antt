@@ -40,7 +40,7 @@ after_ops d (op ∷ ops) = after_ops (with_plan d (plan_of d op)) ops
 
 -- a block outside of a journal of jl blocks
 abbrev pub IsOutside : ℕ → ℕ → Type 0
-IsOutside jl block = (block < 4) ⊎ (JOURNAL_AT + jl ≤ block)
+IsOutside jl block = (block < JOURNAL_AT) ⊎ (JOURNAL_AT + jl ≤ block)
 
 abbrev pub is_commit : Part → Bool
 is_commit Commit = true
