@@ -9,4 +9,4 @@ pub mod tally;
 pub use count::{Count, CountVisitor, FailingCount, sweep_count};
 pub use rows::fault_rows;
 pub use summary::Summary;
-pub use tally::{FaultVisitor, SweptFaults, Tally, sweep_faults};
+pub use tally::{FaultScratch, FaultVisitor, SweptFaults, Tally, sweep_faults};

@@ -10,7 +10,7 @@ use crate::summary::Summary;
 use crash_image::rebuild;
 use crash_model::fault::FaultRow;
 use disk_image::{Demands, Image};
-use fs_check::faults_under;
+use fs_check::list_faults_under;
 use journal_replay::replay;
 use patch_graph::Graph;
 use std::alloc::{AllocError, Allocator};
@@ -19,7 +19,8 @@ use std::alloc::{AllocError, Allocator};
 /// them is the first in canonical order.
 ///
 /// `sets` are the sets whose images fail by what is demanded of them; the patches change blocks of the base. Besides the
-/// rows it takes memory for one image and for the faults of one set. It fails only when out of memory.
+/// rows it takes memory for one image and for one list of faults, which serves all sets. It fails only when out of
+/// memory.
 pub fn fault_rows<A: Allocator + Copy>(
     alloc: A,
     base: &Image<A>,
@@ -32,11 +33,12 @@ pub fn fault_rows<A: Allocator + Copy>(
     ensures { IfOk result (λ rows. AreRows (HasFault demands.now base.now graph.now) rows.items) }
 {
     let mut image = base.try_copy()?;
+    let mut found = Vec::new(alloc);
     let mut summary = Summary::new(alloc);
     for set in sets {
         rebuild(&mut image, base, graph, *set);
         replay(&mut image);
-        let found = faults_under(alloc, &image, demands)?;
+        list_faults_under(&mut found, &image, demands)?;
         summary.add(*set, &found)?;
     }
     Ok(summary.into_rows())

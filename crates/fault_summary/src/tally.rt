@@ -9,15 +9,18 @@ ghost use Rattle.fault_summary.specs.Counted.{CountsFailing};
 
 use crate::summary::Summary;
 use crash_image::Replayer;
-use crash_model::fault::FaultRow;
+use crash_model::fault::{Fault, FaultRow};
 use disk_image::{Demands, Image};
-use fs_check::{faults_under, is_clean_under};
+use fs_check::{is_clean_under, list_faults_under};
 use patch_graph::Graph;
 use patch_sets::explored::ExploreFault;
 use set_sweep::{Visitor, Watch, Workers};
 use std::alloc::{AllocError, Allocator};
 use std::marker::Model;
 use std::thread::Threads;
+
+/// For how many faults of one set a list has room from the start.
+const ROOM: usize = 32;
 
 /// What a sweep found: how many sets a crash can leave, how many of them fail, and each fault once, in the order of
 /// faults.
@@ -69,6 +72,14 @@ where
 pub struct Tally<A: Allocator> {
     pub failing: usize,
     pub summary: Summary<A>,
+}
+
+/// What sets are visited in: the image of a set after replay, and the faults of the last set that failed, whose list
+/// each further one fills anew.
+#[derive(Drop)]
+pub struct FaultScratch<'a, A: Allocator + Copy> {
+    pub images: Replayer<'a, A>,
+    pub found: Vec<Fault, A>,
 }
 
 /// Tallies the faults of the sets of a graph that a crash can leave on a base, with what is demanded of their images.
@@ -126,19 +137,22 @@ impl<'a, A: Allocator + Copy> Visitor for FaultVisitor<'a, A> {
     ghost use Rattle.fault_summary.specs.Summed.{faults_after};
     ghost use Rattle.fault_summary.specs.Tallied.{IsTally};
 
-    type Scratch = Replayer<'a, A>;
+    type Scratch = FaultScratch<'a, A>;
 
     type Tally = Tally<A>;
 
     ghost is_lawful = { λ v. IsClosed (deps_of v.patches) };
 
-    ghost is_own = { λ v scratch. (scratch.base ≡ v.base) × (scratch.patches ≡ v.patches) };
+    ghost is_own = { λ v scratch. (scratch.images.base ≡ v.base) × (scratch.images.patches ≡ v.patches) };
 
     ghost tells = { λ v sets tally.
         IsTally (faults_after v.demands v.base v.patches) sets tally.failing tally.summary };
 
-    fn scratch(&self) -> Result<Replayer<'a, A>, AllocError> {
-        Ok(Replayer::new(self.base.try_copy()?, self.base.try_copy()?, self.graph))
+    fn scratch(&self) -> Result<FaultScratch<'a, A>, AllocError> {
+        Ok(FaultScratch {
+            images: Replayer::new(self.base.try_copy()?, self.base.try_copy()?, self.graph),
+            found: Vec::with_capacity(self.alloc, ROOM)?,
+        })
     }
 
     fn none(&self) -> Tally<A> {
@@ -150,17 +164,17 @@ impl<'a, A: Allocator + Copy> Visitor for FaultVisitor<'a, A> {
 
     fn visit(
         &self,
-        scratch: &mut Replayer<'a, A>,
+        scratch: &mut FaultScratch<'a, A>,
         tally: &mut Tally<A>,
         set: u128,
     ) -> Result<(), AllocError> {
-        scratch.move_to(set);
-        if is_clean_under(scratch.image(), self.demands) {
+        scratch.images.move_to(set);
+        if is_clean_under(scratch.images.image(), self.demands) {
             return Ok(());
         }
-        let found = faults_under(self.alloc, scratch.image(), self.demands)?;
+        list_faults_under(&mut scratch.found, scratch.images.image(), self.demands)?;
         tally.failing = tally.failing.wrapping_add(1);
-        tally.summary.add(set, &found)?;
+        tally.summary.add(set, &scratch.found)?;
         Ok(())
     }
 

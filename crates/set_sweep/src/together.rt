@@ -20,6 +20,10 @@ use thread_jobs::{Job, run_on_threads};
 /// How many parts there are for each worker: enough that all are busy to the end.
 const PARTS: usize = 64;
 
+/// For how many parts a worker's list has room from the start. Up to four workers have no more parts, so which of them
+/// draws which parts changes no request for memory.
+const ROOM: usize = 8 * PARTS;
+
 /// How many sets were visited, and what was kept of them.
 #[derive(Drop)]
 pub struct Swept<T> {
@@ -211,7 +215,7 @@ impl<V: Visitor, A: Allocator + Copy> Sweeping<'_, V, A> {
             self.now.sweeper.now.deps.now self.now.low self.now.roots.now) all.items) }
         ensures too_many { SaysTooMany self.now.sweeper.now.deps.now self.now.sweeper.now.limit result }
     {
-        let mut all = Vec::new(self.alloc);
+        let mut all = Vec::with_capacity(self.alloc, self.roots.len().min(ROOM))?;
         for _ in 0..self.roots.len() {
             let Some(done) = self.draw_part(&mut scratch)? else {
                 break;
@@ -257,7 +261,7 @@ impl<V: Visitor, A: Allocator + Copy> Sweeping<'_, V, A> {
             self.now.sweeper.now.deps.now self.now.low self.now.roots.now) all.items) }
         ensures too_many { SaysTooMany self.now.sweeper.now.deps.now self.now.sweeper.now.limit result }
     {
-        let mut all = Vec::new(self.alloc);
+        let mut all = Vec::with_capacity(self.alloc, self.roots.len())?;
         while let Some(left) = lefts.pop() {
             let mut left = left?;
             all.append(&mut left)?;

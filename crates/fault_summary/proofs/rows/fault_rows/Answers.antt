@@ -21,7 +21,7 @@ loop-set-preserved g c =
     let sets = c.args.sets.now in
     let set = get_or sets c.loop-set.set-index 0 in
     let short : length sets < 2 ^ 64 = omega arith in
-    let listed = c.deref.ensures.value ∙ c.in_ok-found.ensures in
+    let listed = c.deref.ensures.value ∙ c.in_ok-list_faults_under.ensures in
     let found : c.deref.result.now ≡ faults_after c.args.demands.now base patches set =
     found_faults c.args.demands.now base patches set c.rebuild.new.image c.replay.new.image c.deref.result.now
     c.rebuild.ensures c.replay.ensures.replayed listed in

@@ -11,7 +11,7 @@ loop-init g c =
     let sweeper = self.sweeper.now in
     record {
       own = c.requires.own;
-      done = rw c.new-all.ensures.items (All-nil (IsDone (g.V.Visitor.tells sweeper.visitor.now) sweeper.deps.now
+      done = rw c.in_ok-all.ensures.items (All-nil (IsDone (g.V.Visitor.tells sweeper.visitor.now) sweeper.deps.now
           self.low self.roots.now));
     }
 
@@ -42,5 +42,5 @@ pub returns-clause-done : goal.returns-clause-done
 returns-clause-done g c = c.loop.invariant.done
 
 pub returns-in_err-done-clause-too_many : goal.returns-in_err-done-clause-too_many
-returns-in_err-done-clause-too_many g c = let p = err_from_is_err_and c.from_residual.result
-    c.from_residual.ensures.1 in rw (p.1, p.2) (λ is. c.in_err-done.ensures.too_many cc)
+returns-in_err-done-clause-too_many g c = let p = err_from_is_err_and c.from_residual-in_err-done.result
+    c.from_residual-in_err-done.ensures.1 in rw (p.1, p.2) (λ is. c.in_err-done.ensures.too_many cc)

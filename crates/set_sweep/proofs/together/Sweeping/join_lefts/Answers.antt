@@ -29,7 +29,7 @@ loop-left-init g c =
     let self = c.args.self.now in
     let done = IsDone (g.V.Visitor.tells self.sweeper.now.visitor.now) self.sweeper.now.deps.now self.low
     self.roots.now in
-    record { all = rw c.new-all.ensures.items (All-nil done); lefts = c.requires }
+    record { all = rw c.in_ok-all.ensures.items (All-nil done); lefts = c.requires }
 
 pub returns-clause-done : goal.returns-clause-done
 returns-clause-done g c = c.loop-left.invariant.all
@@ -42,5 +42,5 @@ returns-in_err-left-clause-too_many g c =
     let popped = All-pop (λ left. IfOk left (λ some. All done some.items)
     × SaysTooMany deps self.sweeper.now.limit left) c.loop-left.lefts.items
     c.pop.new.self.items (Some c.in-Some.left) c.in-Some.ensures.items c.loop-left.invariant.lefts in
-    let p = err_from_is_err_and c.from_residual.result c.from_residual.ensures.1 in
+    let p = err_from_is_err_and c.from_residual-in_err-left.result c.from_residual-in_err-left.ensures.1 in
     rw (p.1, p.2) (subst (SaysTooMany deps self.sweeper.now.limit) c.in_err-left.was popped.1.1)
