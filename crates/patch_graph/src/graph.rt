@@ -169,41 +169,6 @@ impl<A: Allocator + Copy> Graph<A> {
         ready
     }
 
-    /// How many sets have one ready id more. For a closed set `degree` is faster.
-    pub fn ready_count(&self, set: u128) -> u32
-        ensures { result ≡ length (successors_of (deps_of self.now) set) }
-    {
-        // For the proof: how many patches every graph has at most.
-        let _len = self.len();
-        let mut left = self.ready(set);
-        let mut count = 0;
-        while let Some(id) = lowest(left) {
-            left = without(left, id);
-            count += 1;
-        }
-        count
-    }
-
-    /// The set with one ready id more, for the k-th of them, counted from 0 by ascending ids. For a closed set `next`
-    /// is faster.
-    pub fn successor(&self, set: u128, k: u32) -> u128
-        requires { k < length (successors_of (deps_of self.now) set) }
-        ensures { result ≡ slice_index (successors_of (deps_of self.now) set) k }
-    {
-        // For the proof: that patches depend on earlier ones.
-        let _len = self.len();
-        let mut left = self.ready(set);
-        let mut count = 0;
-        while let Some(id) = lowest(left) {
-            if count == k {
-                return with(set, id);
-            }
-            left = without(left, id);
-            count += 1;
-        }
-        unreachable!()
-    }
-
     /// The ids of the graph.
     fn ids(&self) -> u128
         ensures { (id : ℕ) → Has result id ↔ (id < length self.now) }

@@ -35,8 +35,6 @@ fn are_ready(graph: &Graph<Global>) -> bool {
         && graph.is_closed(0b0001)
         && graph.degree(0b0001) == 3
         && graph.next(0b0001, 2) == 0b1001
-        && graph.ready_count(0b1000) == 3
-        && graph.successor(0b1000, 0) == 0b1001
 }
 
 const WRITES: &[BlockWrite] = &[
