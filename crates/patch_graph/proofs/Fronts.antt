@@ -3,18 +3,15 @@ use Rattle.std.proofs.Common.{◌≡◌, ◌≢◌, ℕ, zero, suc, ◌+◌, ◌
 use Rattle.std.proofs.Common.{sym, subst, ap, ◌∙◌, inl, inr}
 use Rattle.std.specs.Prelude.{◌↔◌, slice_index, bit_and}
 use Rattle.std.specs.Int.{bit_at}
-use Rattle.std.proofs.lemmas.List.{length-map}
 use Rattle.std.proofs.lemmas.Nat.{and_le_l}
 use Rattle.std.proofs.lemmas.Nat.Bits.{bit_at_and, bit_at-lt}
 use Rattle.patch_sets.specs.Sets.{Has, with_id, ids_below}
 use Rattle.patch_sets.specs.Closed.{AreEarlier, IsClosed}
 use Rattle.patch_sets.specs.Ready.{IsReady, is_ready, successors_of}
-use Rattle.patch_sets.specs.Ends.{IsLowest, IsWithout, IsDifference}
+use Rattle.patch_sets.specs.Ends.{IsLowest}
 use Rattle.patch_sets.proofs.Bits.{eq_or_not, none_in_empty}
 use Rattle.patch_sets.proofs.Ids.{fewer_before}
 use Rattle.patch_sets.proofs.Successors.{ready_from_test, test_from_ready}
-use Rattle.crash_model.specs.declared.patches.Patch.{Patch}
-use Rattle.crash_model.specs.Patches.{deps_of}
 use Rattle.patch_graph.specs.Apart.{AreApart}
 use Rattle.patch_graph.specs.Fronts.{Leaves}
 use Rattle.patch_graph.proofs.Apart.{inside_apart}
