@@ -3,15 +3,18 @@ use Rattle.std.proofs.Common.{◌≡◌, ◌≢◌, ℕ, zero, suc, ◌+◌, ◌
 use Rattle.std.proofs.Common.{sym, subst, ap, ◌∙◌, inl, inr}
 use Rattle.std.specs.Prelude.{◌↔◌, slice_index, bit_and}
 use Rattle.std.specs.Int.{bit_at}
+use Rattle.std.proofs.lemmas.List.{length-map}
 use Rattle.std.proofs.lemmas.Nat.{and_le_l}
 use Rattle.std.proofs.lemmas.Nat.Bits.{bit_at_and, bit_at-lt}
 use Rattle.patch_sets.specs.Sets.{Has, with_id, ids_below}
 use Rattle.patch_sets.specs.Closed.{AreEarlier, IsClosed}
 use Rattle.patch_sets.specs.Ready.{IsReady, is_ready, successors_of}
-use Rattle.patch_sets.specs.Ends.{IsLowest}
+use Rattle.patch_sets.specs.Ends.{IsLowest, IsDifference}
 use Rattle.patch_sets.proofs.Bits.{eq_or_not, none_in_empty}
 use Rattle.patch_sets.proofs.Ids.{fewer_before}
 use Rattle.patch_sets.proofs.Successors.{ready_from_test, test_from_ready}
+use Rattle.crash_model.specs.declared.patches.Patch.{Patch}
+use Rattle.crash_model.specs.Patches.{deps_of}
 use Rattle.patch_graph.specs.Apart.{AreApart}
 use Rattle.patch_graph.specs.Fronts.{Leaves}
 use Rattle.patch_graph.proofs.Apart.{inside_apart}
@@ -158,3 +161,14 @@ module _ (deps : List ℕ) (set : ℕ) (earlier : AreEarlier deps) where
         (λ q from known. not_ready q known (λ ready. none_in_empty q
         (subst (λ f. Has f q) none (leaves.is.every q from ready)))) in
         leaves.counted ∙ (sym rest ∙ sym (count_successors deps set))
+
+-- at first those are left that are outside the set
+pub leaves_outside : (patches : List Patch) (set ids front : ℕ) → AreEarlier (deps_of patches)
+    → ((id : ℕ) → Has ids id ↔ (id < length patches)) → IsDifference ids set front
+    → Leaves (deps_of patches) set front 0
+leaves_outside patches set ids front earlier all difference =
+    let long : length (deps_of patches) ≡ length patches = length-map patches (λ p. p.deps) in
+    leaves_start (deps_of patches) set earlier front (λ id. (
+      λ is. let it = (difference.exactly id).0 is in let low = (all id).0 it.0 in (omega (arith, low, long), it.1),
+      λ it. (difference.exactly id).1 ((all id).1 (omega (arith, it.0, long)), it.1),
+    ))
