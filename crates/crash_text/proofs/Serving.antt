@@ -15,7 +15,7 @@ use Rattle.crash_model.specs.declared.refusals.ScriptFault.TheVariants as script
 use Rattle.crash_model.specs.declared.refusals.TraceFault.{TraceFault}
 use Rattle.crash_model.specs.declared.refusals.TraceFault.TheVariants as trace
 use Rattle.crash_model.specs.declared.settings.Settings.{Settings}
-use Rattle.devices.specs.Counted.{IsReadFault}
+use Rattle.byte_io.specs.Counted.{IsReadFault}
 use Rattle.questions.specs.Answers.{IsAnswerTo}
 use Rattle.questions.specs.declared.Question.{Question}
 use Rattle.questions.specs.declared.Question.TheVariants.{Visit, Decide, Enough, Search, SearchRules}

@@ -8,12 +8,12 @@ ghost use Rattle.crash_text.specs.Status.{IsServedFailing, script_of};
 
 use crate::host::Host;
 use crate::serve::serve_script;
+use byte_io::sink::Sink;
+use byte_io::source::{Source, read_to_end};
+use byte_io::standard::Counted;
 use clap::error::ErrorKind;
 use command_line::{Call, settings_of};
 use crash_model::refusals::RunFault;
-use devices::sink::Sink;
-use devices::source::{Source, read_to_end};
-use devices::standard::Counted;
 use explorers::{Gate, OpenGate};
 use hints::{Asked, hint_of, output_hint, warnings_of};
 use questions::Question;

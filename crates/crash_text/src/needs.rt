@@ -17,10 +17,10 @@ ghost use Rattle.crash_text.specs.Telling.{AreFindings, IsReportOf, IsTraceOf, I
 
 use crate::host::Host;
 use crate::telling::Findings;
-use crash_finding::{Crashes, Finder};
 use crash_model::refusals::RunFault;
 use crash_model::rules::Rule;
 use explorers::Gate;
+use failing_sets::{Crashes, Finder};
 use order_modules::graph_without;
 use patch_graph::Graph;
 use report_sections::{RuleUsage, Section, ToldRule};

@@ -6,7 +6,7 @@ ghost use Rattle.crash_model.specs.Sound.{IsSound, HasZeroJournal};
 ghost use Rattle.crash_model.specs.Trace.{base_from};
 ghost use Rattle.crash_model.specs.declared.modules.Module.TheVariants.{Full};
 ghost use Rattle.report_model.specs.Answer.{Reported, Refused};
-ghost use Rattle.crash_finding.specs.Limits.{IsExplorable};
+ghost use Rattle.failing_sets.specs.Limits.{IsExplorable};
 ghost use Rattle.questions.specs.Answers.{IsAnswerTo};
 ghost use Rattle.report_sections.specs.Bodies.{AreOnBase};
 ghost use Rattle.crash_text.specs.BaseRefusal.{IsBaseRefusal};

@@ -12,12 +12,12 @@ ghost use Rattle.crash_text.specs.Searching.{IsNoPool, IsSearchOf, IsReportBy, A
 
 use crate::host::Host;
 use crate::run::Outcome;
-use crash_finding::GateWatch;
 use crash_model::refusals::RunFault;
 use crash_model::settings::Settings;
 use crash_model::steps::{Act, Step};
 use disk_image::Image;
 use explorers::Gate;
+use failing_sets::GateWatch;
 use kind_sections::kind_section;
 use pool_judging::PoolJudge;
 use questions::Request;

@@ -19,10 +19,10 @@ ghost use Rattle.crash_text.specs.SearchingRules.{IsRuleSearchOf, IsRuleReportBy
 use crate::host::Host;
 use crate::run::Outcome;
 use crate::searching::{Pool, check_operations};
-use crash_finding::GateWatch;
 use crash_model::refusals::RunFault;
 use enough_rules::EnoughSets;
 use explorers::Gate;
+use failing_sets::GateWatch;
 use need_sections::needed_workloads;
 use pool_judging::PoolJudge;
 use pool_rules::PoolRules;

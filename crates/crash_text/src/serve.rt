@@ -3,15 +3,15 @@
 ghost use Rattle.std.specs.Prelude.{◌≡◌, ℕ, ◌+◌, ◌-◌, ◌^◌, ◌<◌, ◌≤◌, List, length, IfOk, IfErr, OnErr, IfSome, IsErrOf};
 ghost use Rattle.std.specs.Prelude.{IsErrAnd, Some};
 ghost use Rattle.std.specs.Io.KnownBytes.{Consumes, Keeps};
-ghost use Rattle.devices.specs.Counted.{IsReadFault};
-ghost use Rattle.crash_finding.specs.Limits.{IsExplorable};
+ghost use Rattle.byte_io.specs.Counted.{IsReadFault};
+ghost use Rattle.failing_sets.specs.Limits.{IsExplorable};
 ghost use Rattle.crash_text.specs.Served.{IsServed, IsCut, IsRefusedBy};
 
 use crate::host::Host;
 use crate::run::run;
+use byte_io::sink::{Sink, write_all};
+use byte_io::source::{MAX_SCRIPT_BYTES, Source, read_to_end};
 use crash_model::refusals::RunFault;
-use devices::sink::{Sink, write_all};
-use devices::source::{MAX_SCRIPT_BYTES, Source, read_to_end};
 use explorers::Gate;
 use questions::Request;
 use std::alloc::Allocator;

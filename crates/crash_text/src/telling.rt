@@ -14,10 +14,10 @@ ghost use Rattle.report_sections.specs.ToldRules.{told_rule};
 ghost use Rattle.crash_text.specs.Telling.{AreFindings, IsReportOf, IsTraceOf, Tells};
 
 use crate::host::Host;
-use crash_finding::Found;
 use crash_model::fault::FaultRow;
 use crash_model::settings::Settings;
 use disk_image::{Demands, Image};
+use failing_sets::Found;
 use report_json::report_json;
 use report_sections::{Body, Report, ToldRule};
 use report_text::report_text;

@@ -1,7 +1,7 @@
 //! A traced script, answered by a visit to each set that a crash can leave.
 
 ghost use Rattle.std.specs.Prelude.{◌≡◌, ◌≤◌, IfOk, IfErr, string_bytes};
-ghost use Rattle.crash_finding.specs.Limits.{IsExplorable, SaysTooMany};
+ghost use Rattle.failing_sets.specs.Limits.{IsExplorable, SaysTooMany};
 ghost use Rattle.questions.specs.declared.Question.TheVariants.{Visit};
 ghost use Rattle.report_sections.specs.Bodies.{AreOnBase};
 ghost use Rattle.crash_text.specs.Telling.{AreFindings, IsReportOf, IsReportOn, NoneFails};
@@ -11,9 +11,9 @@ use crate::needs::report_by_rule;
 use crate::run::Outcome;
 use crate::telling::Findings;
 use crate::traced_script::TracedScript;
-use crash_finding::{Crashes, Finder, Kept};
 use crash_model::refusals::RunFault;
 use explorers::Gate;
+use failing_sets::{Crashes, Finder, Kept};
 use questions::Request;
 use std::alloc::{AllocError, Allocator};
 use std::sync::Wait;

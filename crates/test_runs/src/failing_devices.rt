@@ -2,13 +2,13 @@
 
 ghost use Rattle.std.specs.Prelude.{◌≡◌, ◌-◌, ◌^◌, ◌<◌, None};
 
+use byte_io::memory::Taken;
+use byte_io::sink::Sink;
+use byte_io::source::{DeviceFault, Source};
 use crash_model::modules::Module;
 use crash_model::refusals::RunFault;
 use crash_text::host::Host;
 use crash_text::serve::serve;
-use devices::memory::Taken;
-use devices::sink::Sink;
-use devices::source::{DeviceFault, Source};
 use explorers::OpenGate;
 use questions::{Question, Request};
 use std::alloc::{Allocator, Global};

@@ -1,9 +1,9 @@
 //! Std's readers and writers as devices: what no clause says.
 
-use devices::memory::Taken;
-use devices::sink::{Sink, write_all};
-use devices::source::{DeviceFault, Source, read_to_end};
-use devices::standard::Counted;
+use byte_io::memory::Taken;
+use byte_io::sink::{Sink, write_all};
+use byte_io::source::{DeviceFault, Source, read_to_end};
+use byte_io::standard::Counted;
 use std::io::{self, Error, ErrorKind, Read, Write};
 use std::test::Fail;
 

@@ -1,6 +1,6 @@
 use Rattle.std.proofs.Common.{rules, ◌≡◌, ◌<◌, length, Some, Err, IfErr, subst, sym}
 use Rattle.std.specs.Prelude.{IsErrAnd}
-use Rattle.devices.specs.Counted.{IsReadFault}
+use Rattle.byte_io.specs.Counted.{IsReadFault}
 use Rattle.crash_text.specs.Served.{IsRefusedBy}
 use Rattle.crash_text.proofs.Serving.{whole, known-any, unread_refused, refused_on}
 use Rattle.crash_text.proofs.serve.serve.Goals as goal
