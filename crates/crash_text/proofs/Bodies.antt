@@ -30,7 +30,7 @@ use Rattle.report_sections.specs.declared.report.Body.TheVariants as code_body
 use Rattle.report_sections.specs.declared.report.Report as code_report
 use Rattle.report_sections.specs.ToldRules.{told_rule}
 use Rattle.report_sections.specs.declared.rules.ToldRule as code_rule
-use Rattle.failing_sets.specs.Kept.{AreTotals}
+use Rattle.failing_sets.specs.Retained.{AreTotals}
 use Rattle.crash_text.specs.Telling.{IsTraceOf, Tells, whole}
 
 -- what holds of each image holds of each item's image

@@ -24,7 +24,7 @@ use Rattle.questions.specs.declared.Question.TheVariants.{Visit, Decide, Enough,
 use Rattle.traced_patches.specs.Traced.{TracedPatches}
 use Rattle.report_sections.specs.Bodies.{AreOnBase, TellsBody, explanation_by}
 use Rattle.report_sections.specs.declared.report.Body as code
-use Rattle.failing_sets.specs.Kept.{AreFound}
+use Rattle.failing_sets.specs.Retained.{AreFound}
 use Rattle.crash_text.specs.declared.telling.Findings.{Findings}
 use Rattle.crash_text.specs.declared.traced_script.TracedScript.{TracedScript}
 

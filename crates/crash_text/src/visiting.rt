@@ -13,7 +13,7 @@ use crate::telling::Findings;
 use crate::traced_script::TracedScript;
 use crash_model::refusals::RunFault;
 use explorers::Gate;
-use failing_sets::{Crashes, Finder, Kept};
+use failing_sets::{Crashes, Finder, Retained};
 use questions::Request;
 use std::alloc::{AllocError, Allocator};
 use std::sync::Wait;
@@ -78,9 +78,9 @@ where
     requires found { AreFindings findings.now }
     ensures { IfOk result (λ text. IsReportOf findings.now (string_bytes text)) }
 {
-    match &findings.found.kept {
-        Kept::Sets(sets) => findings.by_set(host, sets, finder.workers),
-        Kept::Faults(rows) => findings.by_fault(host, rows, finder.workers),
-        Kept::Number => report_by_rule(host, finder, findings),
+    match &findings.found.retained {
+        Retained::Sets(sets) => findings.by_set(host, sets, finder.workers),
+        Retained::Faults(rows) => findings.by_fault(host, rows, finder.workers),
+        Retained::Number => report_by_rule(host, finder, findings),
     }
 }

@@ -1,3 +1,3 @@
-pub mod Kept
+pub mod Retained
 pub mod Limits
 pub mod Safe

@@ -1,7 +1,7 @@
 -- Whether any of the sets that a crash can leave fails.
 use Rattle.std.specs.Prelude.{ℕ, ◌≤◌}
 use Rattle.crash_model.specs.Patches.{CountsClosed}
-use Rattle.failing_sets.specs.Kept.{Fails}
+use Rattle.failing_sets.specs.Retained.{Fails}
 use Rattle.failing_sets.specs.declared.crashes.Crashes.{Crashes}
 
 -- a crash can leave a set that fails

@@ -9,7 +9,7 @@ ghost use Rattle.crash_model.specs.Patches.{deps_of, CountsClosed};
 ghost use Rattle.crash_model.specs.FaultRows.{HasFault, AreRows};
 ghost use Rattle.fault_summary.specs.Counted.{CountsFailing};
 ghost use Rattle.fault_summary.specs.Prevented.{IsFirstPrevented};
-ghost use Rattle.failing_sets.specs.Kept.{Fails};
+ghost use Rattle.failing_sets.specs.Retained.{Fails};
 ghost use Rattle.failing_sets.specs.Limits.{SaysTooMany};
 
 use crate::crashes::Crashes;

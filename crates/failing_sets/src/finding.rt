@@ -10,7 +10,7 @@ ghost use Rattle.patch_sets.specs.Sets.{AreAllInOrder, IsBefore};
 ghost use Rattle.crash_model.specs.Patches.{deps_of, CountsClosed};
 ghost use Rattle.crash_model.specs.declared.settings.ReportBy.TheVariants.{ByFault};
 ghost use Rattle.fault_summary.specs.Prevented.{IsFirstPrevented};
-ghost use Rattle.failing_sets.specs.Kept.{AreFound, Fails, IsCountWith};
+ghost use Rattle.failing_sets.specs.Retained.{AreFound, Fails, IsCountWith};
 ghost use Rattle.failing_sets.specs.Limits.{SaysTooMany};
 
 use crate::crashes::Crashes;
@@ -25,18 +25,18 @@ use std::alloc::Allocator;
 use std::sync::Wait;
 use std::thread::Threads;
 
-/// How many sets a crash can leave, how many of them fail, and what else is kept of them.
+/// How many sets a crash can leave, how many of them fail, and what else is retained of them.
 #[derive(Drop)]
 pub struct Found<A: Allocator> {
     pub closed: usize,
     pub failing: usize,
-    pub kept: Kept<A>,
+    pub retained: Retained<A>,
 }
 
-/// What is kept of the sets that fail: all of them in canonical order, each of their faults once, or no more than
+/// What is retained of the sets that fail: all of them in canonical order, each of their faults once, or no more than
 /// their number.
 #[derive(Drop)]
-pub enum Kept<A: Allocator> {
+pub enum Retained<A: Allocator> {
     Sets(Vec<u128, A>),
     Faults(Vec<FaultRow, A>),
     Number,
@@ -63,7 +63,7 @@ where
                 Ok(Found {
                     closed: found.total,
                     failing: found.broken.len(),
-                    kept: Kept::Sets(found.broken),
+                    retained: Retained::Sets(found.broken),
                 })
             }
             ReportBy::ByFault => self.find_faults(crashes),
@@ -72,7 +72,7 @@ where
                 Ok(Found {
                     closed: count.total,
                     failing: count.failing,
-                    kept: Kept::Number,
+                    retained: Retained::Number,
                 })
             }
         }
@@ -90,7 +90,7 @@ where
             return Ok(Found {
                 closed: swept.total,
                 failing: swept.failing,
-                kept: Kept::Faults(swept.rows),
+                retained: Retained::Faults(swept.rows),
             });
         }
         let found = self.explored_on_board(crashes)?;
@@ -104,7 +104,7 @@ where
         Ok(Found {
             closed: found.total,
             failing: found.broken.len(),
-            kept: Kept::Faults(rows),
+            retained: Retained::Faults(rows),
         })
     }
 

@@ -16,5 +16,5 @@ mod watching;
 
 pub use crashes::Crashes;
 pub use finder::Finder;
-pub use finding::{Found, Kept};
+pub use finding::{Found, Retained};
 pub use watching::GateWatch;

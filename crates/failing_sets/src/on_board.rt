@@ -3,7 +3,7 @@
 ghost use Rattle.std.specs.Prelude.{◌≤◌, IfOk, IfErr};
 ghost use Rattle.patch_sets.specs.Sets.{AreAllInOrder};
 ghost use Rattle.crash_model.specs.Patches.{CountsClosed};
-ghost use Rattle.failing_sets.specs.Kept.{Fails};
+ghost use Rattle.failing_sets.specs.Retained.{Fails};
 ghost use Rattle.failing_sets.specs.Limits.{SaysTooMany};
 
 use crate::crashes::Crashes;

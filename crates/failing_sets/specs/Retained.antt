@@ -13,8 +13,8 @@ use Rattle.fault_summary.specs.Prevented.{IsFirstPrevented}
 use Rattle.fault_summary.specs.declared.count.FailingCount.{FailingCount}
 use Rattle.failing_sets.specs.declared.crashes.Crashes.{Crashes}
 use Rattle.failing_sets.specs.declared.finding.Found.{Found}
-use Rattle.failing_sets.specs.declared.finding.Kept.{Kept}
-use Rattle.failing_sets.specs.declared.finding.Kept.TheVariants.{Sets, Faults, Number}
+use Rattle.failing_sets.specs.declared.finding.Retained.{Retained}
+use Rattle.failing_sets.specs.declared.finding.Retained.TheVariants.{Sets, Faults, Number}
 
 -- a crash can leave the set, and it fails
 abbrev pub Fails : {A : Type 0} → Crashes A → ℕ → Type 0
@@ -30,11 +30,11 @@ pub record AreTotals (limit : ℕ) (demands : Demands) (base : Disk) (patches : 
   pub number : failing ≡ length sets
 
 -- as much of the failing sets as the report asks for
-abbrev pub IsKept : {A : Type 0} → Settings → Demands → Disk → List Patch → List ℕ → Kept A → Type 0
-IsKept settings demands base patches sets (Sets all) = (settings.by ≡ BySet) × (all.items ≡ sets)
-IsKept settings demands base patches sets (Faults rows) =
+abbrev pub IsRetained : {A : Type 0} → Settings → Demands → Disk → List Patch → List ℕ → Retained A → Type 0
+IsRetained settings demands base patches sets (Sets all) = (settings.by ≡ BySet) × (all.items ≡ sets)
+IsRetained settings demands base patches sets (Faults rows) =
     (settings.by ≡ ByFault) × AreRows (HasFault demands base patches) rows.items
-IsKept settings demands base patches sets Number = settings.by ≡ ByRule
+IsRetained settings demands base patches sets Number = settings.by ≡ ByRule
 
 -- what is found of the sets that a crash can leave, by what is demanded of their images
 pub record AreFound {A : Type 0} (settings : Settings) (demands : Demands) (base : Disk) (patches : List Patch)
@@ -42,7 +42,7 @@ pub record AreFound {A : Type 0} (settings : Settings) (demands : Demands) (base
     : Type 0 where
   pub sets : List ℕ
   pub totals : AreTotals settings.limit demands base patches found.closed found.failing sets
-  pub kept : IsKept settings demands base patches sets found.kept
+  pub retained : IsRetained settings demands base patches sets found.retained
 
 -- the numbers alone, with the first failing set that the other patches prevent
 pub record IsCountWith (limit : ℕ) (demands : Demands) (base : Disk) (patches others : List Patch)
