@@ -9,6 +9,8 @@ mod answers;
 #[cfg(test)]
 mod boards;
 #[cfg(test)]
+mod growth;
+#[cfg(test)]
 mod pushes;
 #[cfg(test)]
 mod refuses;

@@ -1,6 +1,6 @@
 //! Calls that take no memory: after their set-up every request is refused, and none is made.
 
-ghost use Rattle.std.specs.Prelude.{◌≡◌, ◌<◌, IfOk};
+ghost use Rattle.std.specs.Prelude.{◌≡◌, ◌<◌, IfOk, OnOk};
 ghost use Rattle.std.specs.List.{All};
 ghost use Rattle.crash_model.specs.Patches.{AreUndo};
 
@@ -10,12 +10,14 @@ use crash_model::names::{GroupName, Path};
 use crash_model::operations::Op;
 use crash_model::steps::Step;
 use disk_image::{Demands, Image};
+use fault_summary::{FaultScratch, FaultVisitor, Tally};
 use fs_check::is_clean;
 use inode_fs::{apply, demands, plan};
 use journal_replay::replay;
 use order_modules::build_base;
 use patch_graph::Graph;
 use script_text::read_script;
+use set_sweep::Visitor;
 use state_space::Space;
 use std::alloc::{AllocError, Global};
 use std::process::Abort;
@@ -133,6 +135,44 @@ fn walking_a_graph_takes_none(rt: HostRuntime) -> Result<(), Fail> {
     assert!(rt; starts_with_four(&space) && has_five(&script.graph));
     assert!(rt; Graph::new(&memory).is_empty());
     assert!(rt; memory.gauge().asked() == 0);
+    Ok(())
+}
+
+/// Tallies the faults of each closed set of a graph.
+fn tally_closed<'s, 'm>(
+    visitor: &FaultVisitor<'s, Memory<'m>>,
+    scratch: &mut FaultScratch<'s, Memory<'m>>,
+    tally: &mut Tally<Memory<'m>>,
+    graph: &Graph<Memory<'_>>,
+) -> Result<(), AllocError>
+    requires graph { visitor.now.patches ≡ graph.now }
+    requires base { scratch.old.images.base ≡ visitor.now.base }
+    requires patches { scratch.old.images.patches ≡ visitor.now.patches }
+    ensures base { OnOk result (scratch.new.images.base ≡ visitor.now.base) }
+    ensures patches { OnOk result (scratch.new.images.patches ≡ visitor.now.patches) }
+{
+    for set in 0..1u128 << graph.len() {
+        if graph.is_closed(set) {
+            visitor.visit(scratch, tally, set)?;
+        }
+    }
+    Ok(())
+}
+
+/// Once each fault has its row and the list of faults its room, failing sets ask for nothing.
+#[test]
+fn tallying_again_takes_none(rt: HostRuntime) -> Result<(), Fail> {
+    let memory = Refusing::new(rt.alloc());
+    let script = traced(&memory, WRITE)?;
+    let demands = Demands::none();
+    let visitor = FaultVisitor::new(&memory, &script.base, &script.graph, &demands);
+    let mut scratch = visitor.scratch()?;
+    let mut tally = visitor.none();
+    tally_closed(&visitor, &mut scratch, &mut tally, &script.graph)?;
+    assert!(rt; tally.failing == 10 && memory.gauge().asked() > 0);
+    memory.gauge().refuse(1, u64::MAX);
+    tally_closed(&visitor, &mut scratch, &mut tally, &script.graph)?;
+    assert!(rt; tally.failing == 20 && memory.gauge().asked() == 0);
     Ok(())
 }
 
