@@ -59,7 +59,8 @@ where
         let space = PatchSpace::new(crashes.base, crashes.graph, crashes.demands);
         let (deps, limit) = (dependencies(crashes.graph), self.settings.limit);
         let watch = GateWatch { gate: self.gate };
-        Ok(self.sweepers(&watch).sweep(&space, &deps, limit)?)
+        let found = self.sweepers(&watch).sweep(&space, &deps, limit)?;
+        Ok(found)
     }
 
     /// How many sets there are, how many of them fail, and each fault once, in the order of faults. The memory that it
@@ -83,7 +84,8 @@ where
         let visitor = FaultVisitor::new(self.alloc, crashes.base, crashes.graph, crashes.demands);
         let (deps, limit) = (dependencies(crashes.graph), self.settings.limit);
         let watch = GateWatch { gate: self.gate };
-        Ok(sweep_faults(&self.sweepers(&watch), &visitor, &deps, limit)?)
+        let found = sweep_faults(&self.sweepers(&watch), &visitor, &deps, limit)?;
+        Ok(found)
     }
 
     /// How many sets there are, how many of them fail, and the first failing one that another graph prevents. The
@@ -112,6 +114,7 @@ where
         let visitor = CountVisitor::new(self.alloc, space, other);
         let (deps, limit) = (dependencies(crashes.graph), self.settings.limit);
         let watch = GateWatch { gate: self.gate };
-        Ok(sweep_count(&self.sweepers(&watch), &visitor, &deps, limit)?)
+        let found = sweep_count(&self.sweepers(&watch), &visitor, &deps, limit)?;
+        Ok(found)
     }
 }

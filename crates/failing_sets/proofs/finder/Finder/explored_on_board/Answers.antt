@@ -6,15 +6,15 @@ use Rattle.crash_model.specs.Checker.{IsFailingUnder}
 use Rattle.failing_sets.proofs.Rooms.{shard_within, not_overfilled}
 use Rattle.failing_sets.proofs.finder.Finder.explored_on_board.Goals as goal
 
-pub returns-in-Ok-clause-total : goal.returns-in-Ok-clause-total
-returns-in-Ok-clause-total g c =
-    subst (λ s. CountsClosed s.patches c.in-Ok.found.total) c.new-space.ensures
-    (c.exploring_finds_the_failing_sets.ensures.total c.in-Ok.found.total c.in-Ok.ensures.found.total)
+pub returns-clause-total : goal.returns-clause-total
+returns-clause-total g c =
+    subst (λ s. CountsClosed s.patches c.in_ok-found.found.total) c.new-space.ensures
+    (c.exploring_finds_the_failing_sets.ensures.total c.in_ok-found.found.total c.in_ok-found.ensures.found.total)
 
-pub returns-in-Ok-clause-failing : goal.returns-in-Ok-clause-failing
-returns-in-Ok-clause-failing g c =
-    subst (λ s. AreAllInOrder (IsFailingUnder s.demands s.base s.patches) c.in-Ok.found.broken.items) c.new-space.ensures
-    (c.exploring_finds_the_failing_sets.ensures.failing c.in-Ok.found.broken.items c.in-Ok.ensures.found.broken)
+pub returns-clause-failing : goal.returns-clause-failing
+returns-clause-failing g c =
+    subst (λ s. AreAllInOrder (IsFailingUnder s.demands s.base s.patches) c.in_ok-found.found.broken.items) c.new-space.ensures
+    (c.exploring_finds_the_failing_sets.ensures.failing c.in_ok-found.found.broken.items c.in_ok-found.ensures.found.broken)
 
 -- no shard has more sets than the limit
 pub for_fullest-room-requires-clause-within : goal.for_fullest-room-requires-clause-within

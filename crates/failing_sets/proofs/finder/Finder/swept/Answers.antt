@@ -12,17 +12,17 @@ sweep-requires-clause-lawful g c = λ _ _ set closed.
     subst (λ (s : Crashes). IsClosed (deps_of s.patches) set) (sym c.new-space.ensures)
     (subst (λ (ds : List ℕ). IsClosed ds set) (c.deref.ensures.0 ∙ c.dependencies-deps.ensures.exact) closed)
 
-pub returns-in-Ok-clause-total : goal.returns-in-Ok-clause-total
-returns-in-Ok-clause-total g c =
-    subst (λ (ds : List ℕ). HoldsOf (IsClosed ds) c.in-Ok.found.total)
-    (c.deref.ensures.0 ∙ c.dependencies-deps.ensures.exact) c.in-Ok.ensures.total
+pub returns-clause-total : goal.returns-clause-total
+returns-clause-total g c =
+    subst (λ (ds : List ℕ). HoldsOf (IsClosed ds) c.in_ok-found.found.total)
+    (c.deref.ensures.0 ∙ c.dependencies-deps.ensures.exact) c.in_ok-found.ensures.total
 
-pub returns-in-Ok-clause-failing : goal.returns-in-Ok-clause-failing
-returns-in-Ok-clause-failing g c =
+pub returns-clause-failing : goal.returns-clause-failing
+returns-clause-failing g c =
     let crashes = c.args.crashes.now in
-    let sets = c.in-Ok.found.broken.items in
+    let sets = c.in_ok-found.found.broken.items in
     all_failing crashes.demands.now crashes.base.now crashes.graph.now sets
     (subst (λ (s : Crashes). AreAllInOrder (λ set. IsClosed (deps_of crashes.graph.now) set × ¬ (IsGood s set)) sets)
     c.new-space.ensures
     (subst (λ (ds : List ℕ). AreAllInOrder (λ set. IsClosed ds set × ¬ (IsGood c.new-space.result set)) sets)
-    (c.deref.ensures.0 ∙ c.dependencies-deps.ensures.exact) c.in-Ok.ensures.broken))
+    (c.deref.ensures.0 ∙ c.dependencies-deps.ensures.exact) c.in_ok-found.ensures.broken))
