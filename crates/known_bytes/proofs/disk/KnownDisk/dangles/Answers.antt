@@ -1,4 +1,4 @@
-use Rattle.std.proofs.Common.{◌≡◌, ◌+◌, ◌*◌, ℕ, false, not, ◌&&◌, Option, subst}
+use Rattle.std.proofs.Common.{◌≡◌, ◌+◌, ◌*◌, ℕ, false, not, ◌&&◌, Option, subst, ◌∙◌}
 use Rattle.std.specs.Prelude.{◌==◌, MatchOption}
 use Rattle.crash_model.specs.Disk.{byte}
 use Rattle.crash_model.specs.Patches.{image_of}
@@ -19,10 +19,10 @@ returns g c =
     let block = c.in-Some.block in
     let its = subst (λ (o : Option ℕ). MatchOption o (InEachDisk r (λ d. counts d dir ≡ false))
     (λ block. InEachDisk r (IsItsBlock dir block))) c.in-Some.is c.in_ok-block.ensures.ok in
-    let one = subst (λ (n : ℕ). IsKnown r (λ d. byte d n (8 + 12 * c.from-2.result) == inode + 1) c.byte_is-names.result)
+    let one = subst (λ (n : ℕ). IsKnown r (λ d. byte d n c.from-2.result == inode + 1) c.byte_is-names.result)
     c.from.ensures c.byte_is-names.ensures in
-    let names = subst (λ (n : ℕ). IsKnown r (λ d. byte d block (8 + 12 * n) == inode + 1) c.byte_is-names.result)
-    c.from-2.ensures one in
+    let names = subst (λ (n : ℕ). IsKnown r (λ d. byte d block n == inode + 1) c.byte_is-names.result)
+    (c.from-2.ensures ∙ c.entry_offset.ensures) one in
     known_in r (λ d. counts_at dir block d && ((byte d block (8 + 12 * k) == inode + 1) && not (is_live d inode)))
     (λ d. is_dangling d dir k && target_of d dir k == inode) c.both-2.result
     (λ set m. dangling_is (disk_of r (image_of r.family.base r.family.patches set)) dir k block inode (its set m))
