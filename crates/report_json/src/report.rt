@@ -16,7 +16,7 @@ ghost use Rattle.report_json.specs.JsonReport.{WritesSections, WritesFaults, Wri
 use crate::head::{write_first_keys, write_from_strict, write_module};
 use crate::parts::write_together;
 use crash_model::fault::FaultRow;
-use json_values::{KnownTexts, told_fault_value, told_rule_value, write_comma, write_item};
+use json_values::{KnownTexts, write_comma};
 use report_sections::{Body, Report, ToldRule};
 use section_maker::SectionMaker;
 use std::alloc::{AllocError, Allocator, Global};
@@ -144,8 +144,7 @@ fn write_late<A: Allocator + Copy>(
     Ok(())
 }
 
-/// The objects of the sets, with a comma between two. The parts of each are values of their own, which are freed once
-/// they are written; the cached texts of block writes and faults serve later sets.
+/// The objects of the sets, with a comma between two. The cached texts of block writes and faults serve later sets.
 pub(crate) fn write_sections<A: Allocator + Copy>(
     out: &mut String,
     alloc: A,
@@ -221,6 +220,7 @@ fn write_faults<A: Allocator + Copy>(
         report.now.traced.now.patches rows.now (string_bytes out.old) (string_bytes out.new)) }
 {
     let graph = report.traced.graph();
+    let mut known = KnownTexts::new(*out.allocator(), graph.len())?;
     let mut maker = SectionMaker::new(
         alloc,
         report.base,
@@ -228,23 +228,23 @@ fn write_faults<A: Allocator + Copy>(
         report.settings.explain,
         report.demands,
     )?;
-    write_each_fault(out, &mut maker, graph.len(), rows)
+    write_each_fault(out, &mut known, &mut maker, rows)
 }
 
-/// The objects of the faults, with a comma between two, by a maker of their sections. The graph has `patches` patches.
+/// The objects of the faults, with a comma between two, by a maker of their sections.
 fn write_each_fault<A: Allocator + Copy>(
     out: &mut String,
+    known: &mut KnownTexts,
     maker: &mut SectionMaker<'_, A>,
-    patches: usize,
     rows: &[FaultRow],
 ) -> Result<(), AllocError>
-    requires patches { patches ≡ length maker.old.patches }
+    requires known { known.old ≡ length maker.old.patches }
     requires closed { AreClosed maker.old.patches (map (λ row. row.first) rows.now) }
     ensures { OnOk result (WritesFaults maker.old.detail maker.old.base maker.old.patches rows.now
         (string_bytes out.old) (string_bytes out.new)) }
 {
     for (at, row) in rows.iter().enumerate() {
-        write_fault(out, at, maker, patches, row)?;
+        write_fault(out, at, known, maker, row)?;
     }
     Ok(())
 }
@@ -253,20 +253,21 @@ fn write_each_fault<A: Allocator + Copy>(
 fn write_fault<A: Allocator + Copy>(
     out: &mut String,
     at: usize,
+    known: &mut KnownTexts,
     maker: &mut SectionMaker<'_, A>,
-    patches: usize,
     row: &FaultRow,
 ) -> Result<(), AllocError>
     requires { IsClosed (deps_of maker.old.patches) row.now.first }
     ensures told { OnOk result ((section : Section A)
         × IsSection maker.old.detail maker.old.base maker.old.patches row.now.first section
         × (string_bytes out.new ≡ string_bytes out.old ++ comma_before at
-        ++ told_fault_json patches (record { row = row.now; first = section_of section }))) }
+        ++ told_fault_json known.old (record { row = row.now; first = section_of section }))) }
+    ensures known { known.new ≡ known.old }
     ensures maker { maker.new ≡ maker.old }
 {
-    let first = maker.section(row.first)?;
-    let value = told_fault_value(*out.allocator(), patches, row, &first)?;
-    write_item(out, at, &value)
+    write_comma(out, at)?;
+    let section = maker.section(row.first)?;
+    known.push_fault_row(out, row, &section)
 }
 
 /// The objects of the rules, with a comma between two. The graph has `patches` patches.
@@ -277,10 +278,10 @@ fn write_rules<A: Allocator>(
 ) -> Result<(), AllocError>
     ensures { OnOk result (WritesRules patches rules.now (string_bytes out.old) (string_bytes out.new)) }
 {
-    let heap = *out.allocator();
+    let mut known = KnownTexts::new(*out.allocator(), patches)?;
     for (at, rule) in rules.iter().enumerate() {
-        let value = told_rule_value(heap, patches, rule)?;
-        write_item(out, at, &value)?;
+        write_comma(out, at)?;
+        known.push_rule(out, rule)?;
     }
     Ok(())
 }
