@@ -1,4 +1,4 @@
-use Rattle.std.proofs.Common.{string_bytes}
+use Rattle.std.proofs.Common.{string_bytes, ap, ◌∙◌}
 use Rattle.patch_sets.specs.Iter.{ids_left}
 use Rattle.patch_sets.specs.Sets.{ids_of}
 use Rattle.patch_sets.proofs.Stepped.{next_id, no_next_id}
@@ -7,7 +7,8 @@ use Rattle.json_values.proofs.sections.push_ids.Goals as goal
 
 pub loop-id-init : goal.loop-id-init
 loop-id-init c =
-    no_id_written (ids_of c.args.patches c.args.set) _ (string_bytes c.args.out.now) c.below-id-items.ensures
+    no_id_written (ids_of c.args.patches c.args.set) (ids_left c.into_iter-id-iterator.result)
+    (string_bytes c.args.out.now) (ap ids_left c.into_iter-id-iterator.ensures.into_iter_gives ∙ c.below-id-items.ensures)
 
 pub loop-id-preserved : goal.loop-id-preserved
 loop-id-preserved c =
