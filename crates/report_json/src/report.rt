@@ -1,6 +1,6 @@
 //! Whole reports.
 
-ghost use Rattle.std.specs.Prelude.{◌≡◌, ◌++◌, [], length, map, string_bytes, IfOk, OnOk};
+ghost use Rattle.std.specs.Prelude.{◌≡◌, ◌+◌, ◌^◌, ◌<◌, ◌++◌, [], length, map, string_bytes, IfOk, OnOk};
 ghost use Rattle.patch_sets.specs.Closed.{IsClosed};
 ghost use Rattle.crash_model.specs.Patches.{deps_of};
 ghost use Rattle.report_model.specs.Report.{section_json};
@@ -14,11 +14,11 @@ ghost use Rattle.report_json.specs.JsonReport.{WritesEarly, WritesLate, WritesFr
 ghost use Rattle.report_json.specs.JsonReport.{WritesSections, WritesFaults, WritesRules};
 
 use crate::head::{write_first_keys, write_from_strict, write_module};
-use crate::parts::write_together;
+use crate::parts::SectionObjects;
 use crash_model::fault::FaultRow;
 use json_values::{KnownTexts, write_comma};
 use report_sections::{Body, Report, ToldRule};
-use section_maker::SectionMaker;
+use section_maker::{SectionMaker, write_together};
 use std::alloc::{AllocError, Allocator, Global};
 use std::thread::Threads;
 
@@ -106,7 +106,7 @@ where
     match report.body {
         Body::Sets(sets) => {
             out.push_str(",\"failing\":[")?;
-            write_together(out, rt, alloc, report, sets, workers)?;
+            write_together(out, rt, &SectionObjects { alloc, report }, sets, workers)?;
             out.push_str("]")?;
         }
         Body::Faults(rows) => {
@@ -144,17 +144,20 @@ fn write_late<A: Allocator + Copy>(
     Ok(())
 }
 
-/// The objects of the sets, with a comma between two. The cached texts of block writes and faults serve later sets.
+/// The objects of the sets, the first of which has this place in an array, with a comma before each that is not the
+/// first there. The cached texts of block writes and faults serve later sets.
 pub(crate) fn write_sections<A: Allocator + Copy>(
     out: &mut String,
     alloc: A,
     report: &Report<'_, '_, '_, '_, A>,
+    place: usize,
     sets: &[u128],
 ) -> Result<(), AllocError>
     requires on_base { AreOnBase report.now.base.now report.now.traced.now.patches }
     requires closed { AreClosed report.now.traced.now.patches sets.now }
+    requires fits { place + length sets.now < 2 ^ 64 }
     ensures { OnOk result (WritesSections (detail_by report.now) report.now.base.now
-        report.now.traced.now.patches sets.now (string_bytes out.old) (string_bytes out.new)) }
+        report.now.traced.now.patches place sets.now (string_bytes out.old) (string_bytes out.new)) }
 {
     let graph = report.traced.graph();
     let mut known = KnownTexts::new(*out.allocator(), graph.len())?;
@@ -165,23 +168,25 @@ pub(crate) fn write_sections<A: Allocator + Copy>(
         report.settings.explain,
         report.demands,
     )?;
-    write_each_section(out, &mut known, &mut maker, sets)
+    write_each_section(out, &mut known, &mut maker, place, sets)
 }
 
-/// The objects of the sets, with a comma between two, by a maker of their sections.
+/// The objects of the sets, the first of which has this place in an array, by a maker of their sections.
 fn write_each_section<A: Allocator + Copy>(
     out: &mut String,
     known: &mut KnownTexts,
     maker: &mut SectionMaker<'_, A>,
+    place: usize,
     sets: &[u128],
 ) -> Result<(), AllocError>
     requires known { known.old ≡ length maker.old.patches }
     requires closed { AreClosed maker.old.patches sets.now }
-    ensures { OnOk result (WritesSections maker.old.detail maker.old.base maker.old.patches sets.now
+    requires fits { place + length sets.now < 2 ^ 64 }
+    ensures { OnOk result (WritesSections maker.old.detail maker.old.base maker.old.patches place sets.now
         (string_bytes out.old) (string_bytes out.new)) }
 {
     for (at, set) in sets.iter().enumerate() {
-        write_section(out, at, known, maker, *set)?;
+        write_section(out, place + at, known, maker, *set)?;
     }
     Ok(())
 }

@@ -3,6 +3,7 @@ use Rattle.report_model.specs.Whole as whole
 use Rattle.report_sections.specs.Bodies.{detail_by, TellsBody}
 use Rattle.report_sections.specs.ToldRules.{told_rule}
 use Rattle.report_sections.proofs.Pieces.{array_pieces}
+use Rattle.report_json.proofs.JoinedParts.{items_first}
 use Rattle.report_json.proofs.report.write_early.Goals as goal
 
 pub returns-in_ok-push_str-in-Sets-2 : goal.returns-in_ok-push_str-in-Sets-2
@@ -12,8 +13,8 @@ returns-in_ok-push_str-in-Sets-2 g c =
       whole.Sets wrote.sections,
       subst (λ b. TellsBody (detail_by report) report.base.now report.traced.now.patches b (whole.Sets wrote.sections))
           (sym c.in-Sets.is) (wrote.sections, wrote.are, refl),
-      array_pieces _ _ _ _ (codes ",\"failing\":") _ c.in_ok-push_str-in-Sets.ensures.bytes wrote.whole
-          c.in_ok-push_str-in-Sets-2.ensures.bytes,
+      array_pieces _ _ _ _ (codes ",\"failing\":") _ c.in_ok-push_str-in-Sets.ensures.bytes
+          (items_first _ _ _ wrote.whole) c.in_ok-push_str-in-Sets-2.ensures.bytes,
     )
 
 pub returns-in_ok-push_str-in-Faults-2 : goal.returns-in_ok-push_str-in-Faults-2
