@@ -10,6 +10,7 @@ use section_maker::WriteSets;
 use std::alloc::{AllocError, Allocator, Global};
 
 /// The objects of sets, by the report that they are of. Sections take their memory from `alloc`.
+#[derive(Drop)]
 pub(crate) struct SectionObjects<'a, 'found, 'steps, 'asked, 'body, A: Allocator + Copy> {
     pub alloc: A,
     pub report: &'a Report<'found, 'steps, 'asked, 'body, A>,
@@ -17,9 +18,6 @@ pub(crate) struct SectionObjects<'a, 'found, 'steps, 'asked, 'body, A: Allocator
 
 impl<'a, 'found, 'steps, 'asked, 'body, A: Allocator + Copy> WriteSets<Global>
     for SectionObjects<'a, 'found, 'steps, 'asked, 'body, A> {
-    ghost use Rattle.report_json.proofs.JoinedParts.{sections_none, sections_joined};
-    ghost use Rattle.section_maker.proofs.Closed.{part_closed};
-
     ghost can_write = { λ w sets. AreOnBase w.report.now.base.now w.report.now.traced.now.patches
         × AreClosed w.report.now.traced.now.patches sets };
 
@@ -29,12 +27,4 @@ impl<'a, 'found, 'steps, 'asked, 'body, A: Allocator + Copy> WriteSets<Global>
     fn write(&self, out: &mut String, place: usize, sets: &[u128]) -> Result<(), AllocError> {
         write_sections(out, self.alloc, self.report, place, sets)
     }
-
-    ghost part = { λ w sets size from can. (can.0, part_closed w.report.now.traced.now.patches sets size from can.1) };
-
-    ghost none = { λ w text. sections_none (detail_by w.report.now) w.report.now.base.now
-        w.report.now.traced.now.patches 0 text };
-
-    ghost more = { λ w. sections_joined (detail_by w.report.now) w.report.now.base.now
-        w.report.now.traced.now.patches };
 }

@@ -10,15 +10,13 @@ use section_maker::WriteSets;
 use std::alloc::{AllocError, Allocator};
 
 /// The lines of sets, by the report that they are of.
+#[derive(Drop)]
 pub(crate) struct SectionLines<'a, 'found, 'steps, 'asked, 'body, A: Allocator + Copy> {
     pub report: &'a Report<'found, 'steps, 'asked, 'body, A>,
 }
 
 impl<'a, 'found, 'steps, 'asked, 'body, A: Allocator + Copy> WriteSets<A>
     for SectionLines<'a, 'found, 'steps, 'asked, 'body, A> {
-    ghost use Rattle.report_text.proofs.JoinedParts.{sections_none, sections_joined};
-    ghost use Rattle.section_maker.proofs.Closed.{part_closed};
-
     ghost can_write = { λ w sets. AreOnBase w.report.now.base.now w.report.now.traced.now.patches
         × AreClosed w.report.now.traced.now.patches sets };
 
@@ -28,13 +26,4 @@ impl<'a, 'found, 'steps, 'asked, 'body, A: Allocator + Copy> WriteSets<A>
     fn write(&self, out: &mut String<A>, _place: usize, sets: &[u128]) -> Result<(), AllocError> {
         write_sections(out, *out.allocator(), self.report, sets)
     }
-
-    ghost part = { λ w sets size from can. (can.0, part_closed w.report.now.traced.now.patches sets size from can.1) };
-
-    ghost none = { λ w text. sections_none (detail_by w.report.now) w.report.now.base.now
-        w.report.now.traced.now.patches text };
-
-    ghost more = { λ w sets others old text part new first next is.
-        sections_joined (detail_by w.report.now) w.report.now.base.now w.report.now.traced.now.patches sets others old
-        text part new first next is };
 }

@@ -1,6 +1,14 @@
 -- Texts that are written of sets in parts.
-use Rattle.std.specs.Prelude.{ℕ, ◌*◌, ◌<◌, List, [], length, Result, IfOk, String, string_bytes, slice_index_or}
+use Rattle.std.specs.Prelude.{◌≡◌, ℕ, ◌*◌, ◌<◌, List, [], ◌++◌, length, Result, IfOk, String, string_bytes}
+use Rattle.std.specs.Prelude.{slice_index_or}
 use Rattle.std.specs.Fork.{slice_chunk}
+
+-- a text with no sets is as it was, and what is written of sets and then, as a text of its own, of those behind them is
+-- what is written of them all; sets have the place of the first of them, a text before them and the text after them
+pub record AreJoined (Writes : ℕ → List ℕ → List ℕ → List ℕ → Type 0) : Type 0 where
+  pub none : (text : List ℕ) → Writes 0 [] text text
+  pub more : (sets others old text part new : List ℕ) → Writes 0 sets old text → Writes (length sets) others [] part
+      → new ≡ text ++ part → Writes 0 (sets ++ others) old new
 
 -- each text is one of those that can be written of the part of that number, of this many sets
 abbrev pub ArePartTexts : {A E : Type 0} → (ℕ → List ℕ → List ℕ → List ℕ → Type 0) → List ℕ → ℕ

@@ -1,8 +1,8 @@
 //! Texts of sets, in parts that workers write side by side.
 
-ghost use Rattle.std.specs.Prelude.{◌≡◌, ℕ, ◌+◌, ◌/◌, ◌%◌, ◌^◌, ◌<◌, List, [], ◌++◌, length, min, take, drop};
+ghost use Rattle.std.specs.Prelude.{◌≡◌, ℕ, ◌+◌, ◌/◌, ◌%◌, ◌^◌, ◌<◌, List, [], length, min, take, drop};
 ghost use Rattle.std.specs.Prelude.{string_bytes, vec_len, IfOk, OnOk};
-ghost use Rattle.section_maker.specs.Parts.{ArePartTexts};
+ghost use Rattle.section_maker.specs.Parts.{AreJoined, ArePartTexts};
 
 use std::alloc::{AllocError, Allocator};
 use std::thread;
@@ -25,17 +25,6 @@ pub trait WriteSets<A: Allocator> {
         requires can { can_write self.now sets.now }
         requires fits { place + length sets.now < 2 ^ 64 }
         ensures { OnOk result (writes self.now place sets.now (string_bytes out.old) (string_bytes out.new)) };
-
-    /// A part of a list can be written too.
-    ghost part: { (w : Self) (sets : List ℕ) (size from : ℕ) → can_write w sets
-        → can_write w (take size (drop from sets)) };
-
-    /// No sets are no text.
-    ghost none: { (w : Self) (text : List ℕ) → writes w 0 [] text text };
-
-    /// The text of a list and then that of the sets behind it are the text of them all.
-    ghost more: { (w : Self) (sets others old text part new : List ℕ) → writes w 0 sets old text
-        → writes w (length sets) others [] part → new ≡ text ++ part → writes w 0 (sets ++ others) old new };
 }
 
 /// Adds what is written of each of the sets. With more than one worker each writes a part of them, and the parts are
@@ -51,7 +40,9 @@ where
     R: Threads + Sync,
     A: Allocator + Copy + Send + Sync,
     W: WriteSets<A> + Sync,
-    requires { W.can_write writer.now sets.now }
+    requires can { W.can_write writer.now sets.now }
+    requires parts { (size from : ℕ) → W.can_write writer.now (take size (drop from sets.now)) }
+    requires joined { AreJoined (W.writes writer.now) }
     ensures { OnOk result (W.writes writer.now 0 sets.now (string_bytes out.old) (string_bytes out.new)) }
 {
     if workers < 2 || sets.len() < SHARED {
@@ -81,7 +72,7 @@ where
     A: Allocator + Copy + Send + Sync,
     W: WriteSets<A> + Sync,
     requires size { 0 < size }
-    requires can { W.can_write writer.now sets.now }
+    requires parts { (from : ℕ) → W.can_write writer.now (take size (drop from sets.now)) }
     ensures len { IfOk result (λ texts. vec_len texts ≡ length sets.now / size + min 1 (length sets.now % size)) }
     ensures each { IfOk result (λ texts.
         ArePartTexts (W.writes writer.now) sets.now size texts.items) }

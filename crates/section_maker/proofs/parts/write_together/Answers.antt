@@ -18,16 +18,14 @@ pushed before text part after is same = is ∙ ap (λ (t : List ℕ). before ++ 
 
 pub loop-text-init : goal.loop-text-init
 loop-text-init g c =
-    let laws = g.met.W.WriteSets g.world.𝓛 g.world.𝓜 g.world.𝓡 ((λ s x. x), (λ x. x), (λ x. x), λ x. x) in
     let writer = c.args.writer.now in
     let sets = c.args.sets.now in
     let text = string_bytes c.args.out.now in
     before_parts sets (length sets / c.args.workers + 1) (λ xs. g.W.WriteSets.writes writer 0 xs text text)
-    (laws.none writer text)
+    (c.requires.joined.none text)
 
 pub loop-text-preserved : goal.loop-text-preserved
 loop-text-preserved g c =
-    let laws = g.met.W.WriteSets g.world.𝓛 g.world.𝓜 g.world.𝓡 ((λ s x. x), (λ x. x), (λ x. x), λ x. x) in
     let writer = c.args.writer.now in
     let sets = c.args.sets.now in
     let size = length sets / c.args.workers + 1 in
@@ -50,7 +48,7 @@ loop-text-preserved g c =
     (string_bytes c.in-Ok.text)) (sym place) told in
     part_more sets size (λ xs. g.W.WriteSets.writes writer 0 xs (string_bytes c.args.out.now)
     (string_bytes c.push_str.new.self)) n
-    (laws.more writer (take (n * size) sets) (slice_chunk sets size n) (string_bytes c.args.out.now)
+    (c.requires.joined.more (take (n * size) sets) (slice_chunk sets size n) (string_bytes c.args.out.now)
     (string_bytes c.loop-text.out) (string_bytes c.in-Ok.text) (string_bytes c.push_str.new.self)
     c.loop-text.invariant part
     (pushed (string_bytes c.loop-text.out) c.as_str.result.now (string_bytes c.in-Ok.text)
