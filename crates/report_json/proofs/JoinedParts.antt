@@ -20,10 +20,6 @@ items_joined [] = refl
 items_joined (x ∷ []) = append-nil x
 items_joined (x ∷ y ∷ ys) = ap (λ (t : List ℕ). x ++ t) (items_behind 0 y ys)
 
--- items from the first place on are the array's
-pub items_first : (old new : List ℕ) (xs : List (List ℕ)) → new ≡ old ++ items_from 0 xs → new ≡ old ++ join_of 44 xs
-items_first old new xs is = is ∙ ap (λ (t : List ℕ). old ++ t) (items_joined xs)
-
 -- items and then those behind them
 items_append : (place behind : ℕ) (xs ys : List (List ℕ)) → behind ≡ length xs + place
     → items_from place (xs ++ ys) ≡ items_from place xs ++ items_from behind ys
@@ -78,3 +74,9 @@ module _ (detail : Detail) (base : Disk) (patches : List Patch) where
           ≡ items_from 0 (map form first.sections) ++ items_from (length sets) (map form next.sections)
       both = ap (λ (ts : List (List ℕ)). items_from 0 ts) (map-append form first.sections next.sections)
           ∙ items_append 0 (length sets) (map form first.sections) (map form next.sections) count
+
+  -- objects from the first place on are those of an array
+  pub sections_whole : (sets old new : List ℕ) (wrote : WritesSections detail base patches 0 sets old new)
+      → new ≡ old ++ join_of 44 (map form wrote.sections)
+  sections_whole sets old new wrote = wrote.whole
+      ∙ ap (λ (t : List ℕ). old ++ t) (items_joined (map form wrote.sections))

@@ -6,11 +6,11 @@ use Rattle.crash_model.specs.Patches.{deps_of}
 use Rattle.report_sections.specs.Bodies.{AreClosed, detail_by, sets_of, TellsBody}
 use Rattle.report_sections.specs.ToldRules.{told_rule}
 use Rattle.report_sections.proofs.Pieces.{array_pieces}
-use Rattle.report_json.proofs.JoinedParts.{items_first, sections_none, sections_joined}
+use Rattle.report_json.proofs.JoinedParts.{sections_none, sections_joined, sections_whole}
 use Rattle.report_json.proofs.report.write_early.Goals as goal
 
 pub write_together-requires-clause-parts : goal.write_together-requires-clause-parts
-write_together-requires-clause-parts g c = λ size from.
+write_together-requires-clause-parts g c = λ _ _ size from.
     let patches = c.args.report.now.traced.now.patches in
     let closed = subst (λ b. AreClosed patches (sets_of b)) c.in-Sets.is c.requires.closed in (
       c.requires.on_base,
@@ -19,7 +19,7 @@ write_together-requires-clause-parts g c = λ size from.
     )
 
 pub write_together-requires-clause-joined : goal.write_together-requires-clause-joined
-write_together-requires-clause-joined g c =
+write_together-requires-clause-joined g c = λ _ _.
     let report = c.args.report.now in
     record {
       none = sections_none (detail_by report) report.base.now report.traced.now.patches;
@@ -34,7 +34,8 @@ returns-in_ok-push_str-in-Sets-2 g c =
       subst (λ b. TellsBody (detail_by report) report.base.now report.traced.now.patches b (whole.Sets wrote.sections))
           (sym c.in-Sets.is) (wrote.sections, wrote.are, refl),
       array_pieces _ _ _ _ (codes ",\"failing\":") _ c.in_ok-push_str-in-Sets.ensures.bytes
-          (items_first _ _ _ wrote.whole) c.in_ok-push_str-in-Sets-2.ensures.bytes,
+          (sections_whole (detail_by report) report.base.now report.traced.now.patches _ _ _ wrote)
+          c.in_ok-push_str-in-Sets-2.ensures.bytes,
     )
 
 pub returns-in_ok-push_str-in-Faults-2 : goal.returns-in_ok-push_str-in-Faults-2

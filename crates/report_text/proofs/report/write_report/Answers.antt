@@ -13,7 +13,7 @@ use Rattle.report_text.proofs.Reports.{whole_text}
 use Rattle.report_text.proofs.report.write_report.Goals as goal
 
 pub write_together-requires-clause-parts : goal.write_together-requires-clause-parts
-write_together-requires-clause-parts g c = λ size from.
+write_together-requires-clause-parts g c = λ _ _ size from.
     let patches = c.args.report.now.traced.now.patches in
     let closed = subst (λ b. AreClosed patches (sets_of b)) c.in-Sets.is c.requires.told.closed in (
       c.requires.told.on_base,
@@ -22,7 +22,7 @@ write_together-requires-clause-parts g c = λ size from.
     )
 
 pub write_together-requires-clause-joined : goal.write_together-requires-clause-joined
-write_together-requires-clause-joined g c =
+write_together-requires-clause-joined g c = λ _ _.
     let report = c.args.report.now in
     record {
       none = sections_none (detail_by report) report.base.now report.traced.now.patches;
