@@ -1,4 +1,7 @@
+pub mod Bytes
 pub mod Commas
-pub mod RuleBytes
+pub mod Ids
+pub mod ListedValues
+pub mod PatchBytes
+pub mod RuleTexts
 pub mod SectionPieces
-pub mod ToldFaults

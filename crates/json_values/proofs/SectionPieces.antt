@@ -1,8 +1,11 @@
 -- What is written of a section, a part at a time.
-use Rattle.std.proofs.Common.{◌≡◌, ℕ, List, ◌++◌, map, codes, ap, ◌∙◌, append_assoc}
+use Rattle.std.proofs.Common.{◌≡◌, ℕ, List, ◌++◌, map, codes, decimal, Some, ap, ◌∙◌, append_assoc}
 use Rattle.crash_model.specs.Lists.{join_of}
-use Rattle.report_model.specs.Report.{Section, ids_json, replay_json, section_json, write_json, writes_json}
-use Rattle.json_parts.specs.Values.{fault_json}
+use Rattle.crash_model.specs.declared.fault.FaultRow.{FaultRow}
+use Rattle.report_model.specs.Report.{Section, ReplayedBlock, ids_json, replayed_json, replay_json, section_json}
+use Rattle.report_model.specs.Report.{write_json, writes_json}
+use Rattle.report_model.specs.Summary.{told_fault_json}
+use Rattle.json_values.specs.Known.{fault_json}
 use Rattle.json_values.specs.Items.{crash_json, leading_json}
 
 pub three_pieces : (before one two after a b c : List ℕ) → one ≡ before ++ a → two ≡ one ++ b → after ≡ two ++ c
@@ -59,3 +62,53 @@ section_pieces patches s before one two three after first second third fourth =
         → before ++ (a ++ b) ++ c ++ (d ++ e) ++ (f ++ g ++ h ++ i ++ j ++ k)
         ≡ before ++ (a ++ (b ++ c ++ d) ++ e ++ f ++ g ++ h ++ i ++ j ++ k)
     regroup before a b c d e f g h i j k = simp append_assoc
+
+-- what replay changes
+pub replay_pieces : (replay : List ReplayedBlock) (before one two after : List ℕ)
+    → one ≡ before ++ codes "\"replay\":["
+    → two ≡ one ++ join_of 44 (map replayed_json replay)
+    → after ≡ two ++ codes "],"
+    → after ≡ before ++ replay_json (Some replay)
+replay_pieces replay before one two after first second third =
+    let blocks = join_of 44 (map replayed_json replay) in
+    three_pieces before one two after (codes "\"replay\":[") blocks (codes "],") first second third
+    ∙ ap (λ (t : List ℕ). before ++ t) (regroup (codes "\"replay\":") (codes "[") blocks (codes "]") (codes ","))
+  where
+    regroup : (a b c d e : List ℕ) → a ++ b ++ c ++ (d ++ e) ≡ a ++ (b ++ c ++ d) ++ e
+    regroup a b c d e = simp append_assoc
+
+-- the entry of a fault
+pub row_pieces : (patches : ℕ) (row : FaultRow) (s : Section)
+    (before one two three four five six seven eight after : List ℕ)
+    → one ≡ before ++ codes "{\"fault\":"
+    → two ≡ one ++ fault_json row.fault
+    → three ≡ two ++ codes ","
+    → four ≡ three ++ replay_json s.replay
+    → five ≡ four ++ codes "\"set\":"
+    → six ≡ five ++ ids_json patches s.set
+    → seven ≡ six ++ (codes ",\"sets\":" ++ (decimal row.sets ++ codes ",\"writes\":["))
+    → eight ≡ seven ++ join_of 44 (map (write_json patches) s.writes)
+    → after ≡ eight ++ codes "]}"
+    → after ≡ before ++ told_fault_json patches (record { row = row; first = s })
+row_pieces patches row s before one two three four five six seven eight after first second third fourth fifth sixth
+    seventh eighth ninth =
+    let fault = fault_json row.fault in
+    let replay = replay_json s.replay in
+    let ids = ids_json patches s.set in
+    let sets = codes ",\"sets\":" ++ (decimal row.sets ++ codes ",\"writes\":[") in
+    let writes = join_of 44 (map (write_json patches) s.writes) in
+    let head : three ≡ before ++ codes "{\"fault\":" ++ fault ++ codes "," =
+    third ∙ ap (λ (t : List ℕ). t ++ codes ",") (second ∙ ap (λ (t : List ℕ). t ++ fault) first) in
+    let set : six ≡ three ++ replay ++ codes "\"set\":" ++ ids =
+    sixth ∙ ap (λ (t : List ℕ). t ++ ids) (fifth ∙ ap (λ (t : List ℕ). t ++ codes "\"set\":") fourth) in
+    let end : after ≡ six ++ sets ++ writes ++ codes "]}" =
+    ninth ∙ ap (λ (t : List ℕ). t ++ codes "]}") (eighth ∙ ap (λ (t : List ℕ). t ++ writes) seventh) in
+    end ∙ (ap (λ (t : List ℕ). t ++ sets ++ writes ++ codes "]}")
+    (set ∙ ap (λ (t : List ℕ). t ++ replay ++ codes "\"set\":" ++ ids) head)
+    ∙ regroup before (codes "{\"fault\":") fault (codes ",") replay (codes "\"set\":") ids (codes ",\"sets\":")
+    (decimal row.sets) (codes ",\"writes\":") (codes "[") writes (codes "]") (codes "}"))
+  where
+    regroup : (o a b c d e f g h i j k l m : List ℕ)
+        → o ++ a ++ b ++ c ++ d ++ e ++ f ++ (g ++ (h ++ (i ++ j))) ++ k ++ (l ++ m)
+        ≡ o ++ (a ++ b ++ c ++ d ++ e ++ f ++ g ++ h ++ i ++ (j ++ k ++ l) ++ m)
+    regroup o a b c d e f g h i j k l m = simp append_assoc

@@ -1,10 +1,15 @@
 -- Texts of block writes and of faults that are kept.
 use Rattle.std.specs.Prelude.{◌≡◌, ℕ, List, length, Option, IfSome, string_bytes}
 use Rattle.std.specs.List.{All}
-use Rattle.report_model.specs.Report.{write_json}
-use Rattle.json_parts.specs.Values.{fault_json}
+use Rattle.crash_model.specs.Texts.{fault_text}
+use Rattle.crash_model.specs.declared.fault.Fault.{Fault}
+use Rattle.report_model.specs.Report.{json_string, write_json}
 use Rattle.json_values.specs.declared.known.KnownWrite.{KnownWrite}
 use Rattle.json_values.specs.declared.known.KnownFault.{KnownFault}
+
+-- the text of a fault, in quotes
+abbrev pub fault_json : Fault → List ℕ
+fault_json f = json_string (fault_text f)
 
 -- what is kept at a place is the object of its block write
 abbrev pub IsKnownWrite : ℕ → Option KnownWrite → Type 0

@@ -1,4 +1,4 @@
 pub mod Items
 pub mod Known
-pub mod RuleValues
-pub mod ToldFaults
+pub mod Patches
+pub mod Written

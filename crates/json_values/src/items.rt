@@ -15,17 +15,8 @@ pub fn write_item(out: &mut String, at: usize, value: &Value) -> Result<(), Allo
     ensures { OnOk result (string_bytes out.new
         ≡ string_bytes out.old ++ comma_before at ++ compact_text (view value.now)) }
 {
+    let text = value.to_string(*out.allocator())?;
     write_comma(out, at)?;
-    write_value(out, value)
-}
-
-/// A value, compact.
-pub(crate) fn write_value(out: &mut String, value: &Value) -> Result<(), AllocError>
-    requires { has_float (view value.now) ≡ false }
-    ensures { OnOk result (string_bytes out.new ≡ string_bytes out.old ++ compact_text (view value.now)) }
-{
-    let heap = *out.allocator();
-    let text = value.to_string(heap)?;
     out.push_str(text.as_str())?;
     Ok(())
 }

@@ -4,10 +4,10 @@
 ghost use Rattle.std.specs.Prelude.{◌≡◌, ◌++◌, ℕ, length, string_bytes, IfOk, IfSome, None, OnOk};
 ghost use Rattle.std.specs.List.{All};
 ghost use Rattle.report_model.specs.Report.{write_json};
-ghost use Rattle.json_parts.specs.Values.{fault_json};
+ghost use Rattle.json_values.specs.Known.{fault_json};
 
+use crate::sections::push_set;
 use crash_model::fault::Fault;
-use json_parts::values::{fault_value, write_value};
 use patch_sets::write::BlockWrite;
 use report_sections::places::{FAULT_PLACES, place_of_fault};
 use std::alloc::{AllocError, Global};
@@ -31,7 +31,7 @@ struct KnownFault {
     text: String,
 }
 
-/// A cache of the texts of block writes and faults, so that one that comes again is not made a value again.
+/// A cache of the texts of block writes and faults, so that one that comes again is not written anew.
 ///
 /// Each text has one place in a table, and a later text with the same place replaces it.
 /// Contracts see the number of patches of the graph.
@@ -167,14 +167,19 @@ impl KnownTexts {
 fn write_text(heap: Global, patches: usize, write: BlockWrite) -> Result<String, AllocError>
     ensures { IfOk result (λ text. string_bytes text ≡ write_json patches write) }
 {
-    let value = write_value(heap, patches, write)?;
-    value.to_string(heap)
+    let mut text = String::new(heap);
+    let block = write.block;
+    write!(text, "{{\"block\":{block},\"patches\":")?;
+    push_set(&mut text, patches, write.ids)?;
+    text.push_str("}")?;
+    Ok(text)
 }
 
 /// The text of a fault, in quotes.
 fn fault_text(heap: Global, fault: Fault) -> Result<String, AllocError>
     ensures { IfOk result (λ text. string_bytes text ≡ fault_json fault) }
 {
-    let value = fault_value(heap, fault)?;
-    value.to_string(heap)
+    let mut text = String::new(heap);
+    write!(text, "\"{fault}\"")?;
+    Ok(text)
 }

@@ -1,14 +1,15 @@
-//! JSON for reports: values of faults with their rows and of rules, and the texts of failing sets.
+//! JSON for reports: the texts of failing sets, of the entries of faults and of rules, and the values of the patches of
+//! a trace.
 #![tactic(auto)]
 
+mod faults;
 mod items;
 mod known;
+mod patches;
 mod rules;
 mod sections;
-mod summary;
 
 pub use items::{write_comma, write_item};
 pub use known::KnownTexts;
-pub use rules::told_rule_value;
-pub use sections::{push_replay, push_set};
-pub use summary::told_fault_value;
+pub use patches::patch_value;
+pub use sections::{push_hex, push_replay, push_set};

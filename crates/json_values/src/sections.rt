@@ -1,24 +1,26 @@
 //! Sections, written a part at a time.
 
-ghost use Rattle.std.specs.Prelude.{◌≡◌, ◌++◌, map, string_bytes, OnOk};
+ghost use Rattle.std.specs.Prelude.{◌≡◌, ◌++◌, decimal, map, string_bytes, OnOk};
 ghost use Rattle.crash_model.specs.Lists.{join_of};
-ghost use Rattle.report_model.specs.Report.{ids_json, replay_json, section_json, write_json};
-ghost use Rattle.json_parts.specs.Values.{fault_json};
+ghost use Rattle.hex.specs.Hex.{encode_lower};
+ghost use Rattle.patch_sets.specs.Sets.{ids_of};
+ghost use Rattle.report_model.specs.Report.{ids_json, json_string, replay_json, replayed_json, section_json};
+ghost use Rattle.report_model.specs.Report.{write_json};
+ghost use Rattle.json_values.specs.Known.{fault_json};
 ghost use Rattle.json_values.specs.Items.{crash_json, leading_json};
-ghost use Rattle.report_sections.specs.Replay.{told_replay};
+ghost use Rattle.report_sections.specs.Replay.{told_block, told_replay};
 ghost use Rattle.report_sections.specs.Sections.{section_of};
 
-use crate::items::{write_comma, write_value};
+use crate::items::write_comma;
 use crate::known::KnownTexts;
 use crash_model::fault::Fault;
-use json_parts::values::{ids_value, replay_value};
+use patch_sets::iter::Ids;
 use patch_sets::write::BlockWrite;
 use report_sections::{ReplayedBlock, Section};
 use std::alloc::{AllocError, Allocator};
 
 impl KnownTexts {
-    /// Adds a failing set, by its section. Its parts are values of their own: its ids, the blocks that replay changes,
-    /// and each block write and fault that is not known. It fails only when out of memory.
+    /// Adds a failing set, by its section. It fails only when out of memory.
     pub fn push_section<A: Allocator>(
         &mut self,
         out: &mut String,
@@ -95,12 +97,27 @@ impl KnownTexts {
     }
 }
 
-/// The ids of the set below `patches`, ascending. It fails only when out of memory.
+/// The array of the ids of the set below `patches`, ascending. It fails only when out of memory.
 pub fn push_set(out: &mut String, patches: usize, set: u128) -> Result<(), AllocError>
     ensures { OnOk result (string_bytes out.new ≡ string_bytes out.old ++ ids_json patches set) }
 {
-    let value = ids_value(*out.allocator(), patches, set)?;
-    write_value(out, &value)
+    out.push_str("[")?;
+    push_ids(out, patches, set)?;
+    out.push_str("]")?;
+    Ok(())
+}
+
+/// The ids of the set below `patches`, ascending, with a comma between two.
+fn push_ids(out: &mut String, patches: usize, set: u128) -> Result<(), AllocError>
+    ensures { OnOk result (string_bytes out.new
+        ≡ string_bytes out.old ++ join_of 44 (map decimal (ids_of patches set))) }
+{
+    let mut comma = "";
+    for id in Ids::below(set, patches) {
+        write!(out, "{comma}{id}")?;
+        comma = ",";
+    }
+    Ok(())
 }
 
 /// The key of the blocks that replay changes, and a comma after it, if the section has them. It fails only when out of
@@ -114,9 +131,43 @@ pub fn push_replay<A: Allocator>(
     let Some(blocks) = replay else {
         return Ok(());
     };
-    out.push_str("\"replay\":")?;
-    let value = replay_value(*out.allocator(), blocks)?;
-    write_value(out, &value)?;
-    out.push_str(",")?;
+    out.push_str("\"replay\":[")?;
+    push_replayed_blocks(out, blocks)?;
+    out.push_str("],")?;
+    Ok(())
+}
+
+/// The objects of the blocks that replay changes, with a comma between two.
+fn push_replayed_blocks(out: &mut String, replay: &[ReplayedBlock]) -> Result<(), AllocError>
+    ensures { OnOk result (string_bytes out.new
+        ≡ string_bytes out.old ++ join_of 44 (map replayed_json (map told_block replay.now))) }
+{
+    for (at, replayed) in replay.iter().enumerate() {
+        write_comma(out, at)?;
+        push_replayed(out, replayed)?;
+    }
+    Ok(())
+}
+
+/// The object of a block that replay changes: its number, and its bytes after replay.
+fn push_replayed(out: &mut String, replayed: &ReplayedBlock) -> Result<(), AllocError>
+    ensures { OnOk result (string_bytes out.new
+        ≡ string_bytes out.old ++ replayed_json (told_block replayed.now)) }
+{
+    let block = replayed.block;
+    write!(out, "{{\"block\":{block},\"bytes\":")?;
+    push_hex(out, replayed.bytes.as_slice())?;
+    out.push_str("}")?;
+    Ok(())
+}
+
+/// Bytes as two hexadecimal digits each, in quotes. It fails only when out of memory.
+pub fn push_hex(out: &mut String, bytes: &[u8]) -> Result<(), AllocError>
+    ensures { OnOk result (string_bytes out.new ≡ string_bytes out.old ++ json_string (encode_lower bytes.now)) }
+{
+    let text = hex::encode(*out.allocator(), bytes)?;
+    out.push_str("\"")?;
+    out.push_str(text.as_str())?;
+    out.push_str("\"")?;
     Ok(())
 }

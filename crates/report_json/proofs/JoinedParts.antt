@@ -1,97 +1,82 @@
--- Parts of an array's items, joined in order.
-use Rattle.std.proofs.Common.{◌≡◌, ℕ, zero, suc, ◌+◌, ◌*◌, ◌/◌, ◌%◌, ◌<◌, ◌≤◌, min, List, [], ◌∷◌, ◌++◌, length, map}
-use Rattle.std.proofs.Common.{take, drop, refl, sym, ap, arith, ◌∙◌, append_assoc, length-take}
-use Rattle.std.specs.Fork.{slice_chunk}
-use Rattle.std.proofs.Math.Nat.{suc-mul, zero-mul}
-use Rattle.std.proofs.lemmas.List.{append-nil, length-map, length-drop, map-append}
+-- Items of an array in parts, and the objects of a list of sets with those of the sets behind it.
+use Rattle.std.proofs.Common.{◌≡◌, ℕ, suc, ◌+◌, List, [], ◌∷◌, ◌++◌, length, map, refl, sym, ap, arith, ◌∙◌, append_assoc}
+use Rattle.std.proofs.lemmas.List.{append-nil, length-map, map-append}
 use Rattle.crash_model.specs.Disk.{Disk}
 use Rattle.crash_model.specs.Lists.{join_of}
 use Rattle.report_model.specs.Report.{Detail, Section, section_json}
 use Rattle.crash_model.specs.declared.patches.Patch.{Patch}
-use Rattle.report_sections.proofs.Joined.{sections_join, before_parts, part_more, all_parts}
+use Rattle.report_sections.proofs.Joined.{sections_join}
 use Rattle.report_sections.proofs.Pushed.{length-sections}
 use Rattle.json_values.specs.Items.{comma_before}
-use Rattle.report_json.specs.JsonReport.{WritesSections}
+use Rattle.report_json.specs.JsonReport.{WritesSections, items_from}
 
--- there is a comma between two parts
-joined_behind : (x : List ℕ) (xs : List (List ℕ)) (y : List ℕ) (ys : List (List ℕ))
-    → join_of 44 (x ∷ xs ++ y ∷ ys) ≡ join_of 44 (x ∷ xs) ++ (44 ∷ join_of 44 (y ∷ ys))
-joined_behind x [] y ys = refl
-joined_behind x (z ∷ zs) y ys = ap (λ (t : List ℕ). x ++ (44 ∷ t)) (joined_behind z zs y ys)
-    ∙ sym (append_assoc x (44 ∷ join_of 44 (z ∷ zs)) (44 ∷ join_of 44 (y ∷ ys)))
+-- a comma comes before each item behind the first
+items_behind : (n : ℕ) (x : List ℕ) (xs : List (List ℕ)) → items_from (suc n) (x ∷ xs) ≡ 44 ∷ join_of 44 (x ∷ xs)
+items_behind n x [] = ap (λ (t : List ℕ). 44 ∷ t) (append-nil x)
+items_behind n x (y ∷ ys) = ap (λ (t : List ℕ). 44 ∷ (x ++ t)) (items_behind (suc n) y ys)
 
-joined_parts : (at : ℕ) (xs ys : List (List ℕ)) → (at ≡ 0 → length xs ≡ 0) → (0 < at → 0 < length xs) → 0 < length ys
-    → join_of 44 (xs ++ ys) ≡ join_of 44 xs ++ (comma_before at ++ join_of 44 ys)
-joined_parts zero [] ys none some more = refl
-joined_parts zero (x ∷ xs) ys none some more = absurd (omega (arith, none refl))
-joined_parts (suc n) [] ys none some more = absurd (omega (arith, some (omega arith)))
-joined_parts (suc n) (x ∷ xs) [] none some more = absurd (omega (arith, more))
-joined_parts (suc n) (x ∷ xs) (y ∷ ys) none some more = joined_behind x xs y ys
+items_joined : (xs : List (List ℕ)) → items_from 0 xs ≡ join_of 44 xs
+items_joined [] = refl
+items_joined (x ∷ []) = append-nil x
+items_joined (x ∷ y ∷ ys) = ap (λ (t : List ℕ). x ++ t) (items_behind 0 y ys)
 
-module _ (detail : Detail) (base : Disk) (patches : List Patch) (sets : List ℕ) (size : ℕ) where
+-- items and then those behind them
+items_append : (place behind : ℕ) (xs ys : List (List ℕ)) → behind ≡ length xs + place
+    → items_from place (xs ++ ys) ≡ items_from place xs ++ items_from behind ys
+items_append place behind [] ys e =
+    let same : place ≡ behind = omega (arith, e) in ap (λ (n : ℕ). items_from n ys) same
+items_append place behind (x ∷ xs) ys e =
+    ap (λ (t : List ℕ). comma_before place ++ x ++ t) (items_append (suc place) behind xs ys (omega (arith, e)))
+    ∙ sym (append_assoc (comma_before place ++ x) (items_from (suc place) xs) (items_from behind ys))
+
+regroup : (a b c d : List ℕ) → a ++ b ++ c ++ d ≡ a ++ (b ++ (c ++ d))
+regroup a b c d = simp append_assoc
+
+-- one item more
+pub placed_more : (items : List (List ℕ)) (place at : ℕ) (old so_far after item : List ℕ) → at ≡ length items + place
+    → so_far ≡ old ++ items_from place items → after ≡ so_far ++ comma_before at ++ item
+    → after ≡ old ++ items_from place (items ++ item ∷ [])
+placed_more items place at old so_far after item e told more =
+    more ∙ (ap (λ (t : List ℕ). t ++ comma_before at ++ item) told
+    ∙ (regroup old (items_from place items) (comma_before at) item ∙ ap (λ (t : List ℕ). old ++ t)
+    (sym (items_append place at items (item ∷ []) e
+    ∙ ap (λ (t : List ℕ). items_from place items ++ t) (append-nil (comma_before at ++ item))))))
+
+module _ (detail : Detail) (base : Disk) (patches : List Patch) where
   abbrev form : Section → List ℕ
   form = section_json (length patches)
 
-  -- before the first part
-  pub parts_none : (text : List ℕ) → WritesSections detail base patches (take (0 * size) sets) text text
-  parts_none text =
-      before_parts sets size (λ (xs : List ℕ). WritesSections detail base patches xs text text)
-      record { sections = []; are = refl; whole = sym (append-nil text) }
+  -- no objects
+  pub sections_none : (text : List ℕ) → WritesSections detail base patches 0 [] text text
+  sections_none text = record { sections = []; are = refl; whole = sym (append-nil text) }
 
-  -- how many sets there are in the first parts, and in the next
-  none_before : (n : ℕ) → n ≡ 0 → length (take (n * size) sets) ≡ 0
-  none_before n e = omega (arith, ap (λ (k : ℕ). k * size) e, zero-mul size, length-take (n * size) sets)
-
-  some_before : (n : ℕ) → 0 < size → 0 < length (slice_chunk sets size n) → 0 < n → 0 < length (take (n * size) sets)
-  some_before zero some full positive = absurd (omega arith)
-  some_before (suc n) some full positive =
-      omega (
+  -- objects after objects, which are in a text of their own
+  pub sections_joined : (sets others old text part new : List ℕ) → WritesSections detail base patches 0 sets old text
+      → WritesSections detail base patches (length sets) others [] part → new ≡ text ++ part
+      → WritesSections detail base patches 0 (sets ++ others) old new
+  sections_joined sets others old text part new first next more = record {
+    sections = first.sections ++ next.sections;
+    are = sections_join detail base patches sets others first.sections next.sections first.are next.are;
+    whole = more ∙ (ap (λ (t : List ℕ). t ++ part) first.whole
+        ∙ (ap (λ (t : List ℕ). old ++ items_from 0 (map form first.sections) ++ t) next.whole
+        ∙ (append_assoc old (items_from 0 (map form first.sections))
+        (items_from (length sets) (map form next.sections)) ∙ ap (λ (t : List ℕ). old ++ t) (sym both))));
+  }
+    where
+      count : length sets ≡ length (map form first.sections) + 0
+      count = omega (
         arith,
-        some,
-        suc-mul n size,
-        length-take (suc n * size) sets,
-        full,
-        length-take size (drop (suc n * size) sets),
-        length-drop (suc n * size) sets,
+        length-map first.sections form,
+        length-sections detail base patches sets first.sections first.are,
       )
 
-  -- one part more
-  pub parts_more : (n : ℕ) (head text part after : List ℕ) → 0 < size → 0 < length (slice_chunk sets size n)
-      → WritesSections detail base patches (take (n * size) sets) head text
-      → WritesSections detail base patches (slice_chunk sets size n) [] part → after ≡ text ++ comma_before n ++ part
-      → WritesSections detail base patches (take ((n + 1) * size) sets) head after
-  parts_more n head text part after some full so_far one more =
-      part_more sets size (λ (xs : List ℕ). WritesSections detail base patches xs head after) n record {
-        sections = so_far.sections ++ one.sections;
-        are = sections_join detail base patches (take (n * size) sets) (slice_chunk sets size n) so_far.sections
-            one.sections so_far.are one.are;
-        whole = more ∙ (ap (λ (t : List ℕ). t ++ comma_before n ++ part) so_far.whole
-            ∙ (ap (λ (t : List ℕ). head ++ join_of 44 (map form so_far.sections) ++ comma_before n ++ t) one.whole
-            ∙ (regroup head (join_of 44 (map form so_far.sections)) (comma_before n)
-            (join_of 44 (map form one.sections)) ∙ ap (λ (t : List ℕ). head ++ t) (sym both))));
-      }
-    where
-      before : length (map form so_far.sections) ≡ length (take (n * size) sets)
-      before = length-map so_far.sections form ∙ length-sections detail base patches (take (n * size) sets)
-          so_far.sections so_far.are
+      both : items_from 0 (map form (first.sections ++ next.sections))
+          ≡ items_from 0 (map form first.sections) ++ items_from (length sets) (map form next.sections)
+      both = ap (λ (ts : List (List ℕ)). items_from 0 ts) (map-append form first.sections next.sections)
+          ∙ items_append 0 (length sets) (map form first.sections) (map form next.sections) count
 
-      behind : length (map form one.sections) ≡ length (slice_chunk sets size n)
-      behind = length-map one.sections form ∙ length-sections detail base patches (slice_chunk sets size n) one.sections
-          one.are
-
-      both : join_of 44 (map form (so_far.sections ++ one.sections)) ≡ join_of 44 (map form so_far.sections)
-          ++ (comma_before n ++ join_of 44 (map form one.sections))
-      both = ap (λ (ts : List (List ℕ)). join_of 44 ts) (map-append form so_far.sections one.sections)
-          ∙ joined_parts n (map form so_far.sections) (map form one.sections) (λ e. before ∙ none_before n e)
-          (λ positive. omega (arith, before, some_before n some full positive)) (omega (arith, behind, full))
-
-      regroup : (a b c d : List ℕ) → a ++ b ++ c ++ d ≡ a ++ (b ++ (c ++ d))
-      regroup a b c d = simp append_assoc
-
-  -- all parts
-  pub parts_all : (count n : ℕ) (head text : List ℕ) → 0 < size
-      → count ≡ length sets / size + min 1 (length sets % size) → count ≤ n → n ≤ count
-      → WritesSections detail base patches (take (n * size) sets) head text
-      → WritesSections detail base patches sets head text
-  parts_all count n head text = all_parts sets size (λ (xs : List ℕ). WritesSections detail base patches xs head text)
-      count n
+  -- objects from the first place on are those of an array
+  pub sections_whole : (sets old new : List ℕ) (wrote : WritesSections detail base patches 0 sets old new)
+      → new ≡ old ++ join_of 44 (map form wrote.sections)
+  sections_whole sets old new wrote = wrote.whole
+      ∙ ap (λ (t : List ℕ). old ++ t) (items_joined (map form wrote.sections))

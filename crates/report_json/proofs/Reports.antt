@@ -1,7 +1,7 @@
 -- The objects of sets, faults and rules, one after another, and the report around them.
-use Rattle.std.proofs.Common.{◌≡◌, ℕ, ◌+◌, ◌<◌, List, [], ◌∷◌, ◌++◌, length, get_or, take, codes}
+use Rattle.std.proofs.Common.{◌≡◌, ℕ, ◌+◌, ◌<◌, List, [], ◌∷◌, ◌++◌, length, get_or, map, take, codes}
 use Rattle.std.proofs.Common.{decimal, refl, sym, ap, ◌∙◌, arith, append_assoc, length-take}
-use Rattle.std.proofs.lemmas.List.{length-map}
+use Rattle.std.proofs.lemmas.List.{length-map, map-append}
 use Rattle.crash_model.specs.Lists.{when}
 use Rattle.report_model.specs.Explain.{trace_json}
 use Rattle.crash_model.specs.Disk.{Disk}
@@ -18,28 +18,35 @@ use Rattle.report_sections.specs.declared.section.Section as code
 use Rattle.report_sections.specs.Sections.{section_of, IsSection}
 use Rattle.report_sections.proofs.Joined.{rows_more, firsts_more}
 use Rattle.report_sections.proofs.Pushed.{sections_more, length-sections}
-use Rattle.report_json.specs.JsonReport.{WritesSections, WritesFaults, module_key, strict_key, whole_key}
+use Rattle.report_json.specs.JsonReport.{WritesSections, WritesFaults, items_from, module_key, strict_key, whole_key}
 use Rattle.report_json.specs.JsonReport.{from_module, from_strict}
+use Rattle.report_json.proofs.JoinedParts.{placed_more}
 use Rattle.json_values.specs.Items.{comma_before}
 use Rattle.json_values.proofs.Commas.{mapped_more}
 use Rattle.json_values.proofs.SectionPieces.{three_pieces}
 
-pub section_more : {A : Type 0} (detail : Detail) (base : Disk) (patches : List Patch) (sets : List ℕ) (i n : ℕ)
+pub section_more : {A : Type 0} (detail : Detail) (base : Disk) (patches : List Patch) (sets : List ℕ) (place i n : ℕ)
     (old so_far after text : List ℕ) (s : code.Section A) → i < length sets → n ≡ length patches
-    → WritesSections detail base patches (take i sets) old so_far → IsSection detail base patches (get_or sets i 0) s
-    → text ≡ section_json n (section_of s) → after ≡ so_far ++ comma_before i ++ text
-    → WritesSections detail base patches (take (i + 1) sets) old after
-section_more detail base patches sets i n old so_far after text s within number tells is written more = record {
+    → WritesSections detail base patches place (take i sets) old so_far
+    → IsSection detail base patches (get_or sets i 0) s → text ≡ section_json n (section_of s)
+    → after ≡ so_far ++ comma_before (place + i) ++ text
+    → WritesSections detail base patches place (take (i + 1) sets) old after
+section_more detail base patches sets place i n old so_far after text s within number tells is written more = record {
   sections = tells.sections ++ section_of s ∷ [];
   are = sections_more detail base patches sets i tells.sections s within tells.are is;
-  whole = mapped_more (section_json (length patches)) tells.sections (section_of s) i old so_far after text place
-      tells.whole (written ∙ ap (λ (k : ℕ). section_json k (section_of s)) number) more;
+  whole = placed_more (map (section_json (length patches)) tells.sections) place (place + i) old so_far after
+      (section_json (length patches) (section_of s)) at tells.whole
+      (more ∙ ap (λ (t : List ℕ). so_far ++ comma_before (place + i) ++ t)
+      (written ∙ ap (λ (k : ℕ). section_json k (section_of s)) number))
+      ∙ ap (λ (ts : List (List ℕ)). old ++ items_from place ts)
+      (sym (map-append (section_json (length patches)) tells.sections (section_of s ∷ [])));
 }
   where
-    place : i ≡ length tells.sections
-    place = omega (
+    at : place + i ≡ length (map (section_json (length patches)) tells.sections) + place
+    at = omega (
       arith,
       within,
+      length-map tells.sections (section_json (length patches)),
       length-sections detail base patches (take i sets) tells.sections tells.are,
       length-take i sets,
     )

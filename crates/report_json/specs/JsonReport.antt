@@ -1,5 +1,5 @@
 -- Reports as JSON.
-use Rattle.std.specs.Prelude.{◌≡◌, ℕ, List, [], ◌++◌, length, map, if◌then◌else◌, Bool, codes, decimal}
+use Rattle.std.specs.Prelude.{◌≡◌, ℕ, suc, List, [], ◌∷◌, ◌++◌, length, map, if◌then◌else◌, Bool, codes, decimal}
 use Rattle.crash_model.specs.Lists.{join_of, when}
 use Rattle.crash_model.specs.Disk.{Disk}
 use Rattle.crash_model.specs.Reasons.{Explanation, blocks_of, told_patches}
@@ -17,6 +17,7 @@ use Rattle.crash_model.specs.declared.settings.Settings.{Settings}
 use Rattle.traced_patches.specs.Traced.{TracedPatches}
 use Rattle.report_sections.specs.Bodies.{detail_by, TellsBody, explanation_by}
 use Rattle.report_sections.specs.ToldRules.{told_rule}
+use Rattle.json_values.specs.Items.{comma_before}
 use Rattle.report_sections.specs.declared.report.Report.{Report}
 use Rattle.report_sections.specs.declared.rules.ToldRule.{ToldRule}
 
@@ -74,13 +75,19 @@ WritesFromModule report old new =
     (body : whole.Body) → TellsBody (detail_by report) report.base.now report.traced.now.patches report.body body
     → new ≡ old ++ from_module report body
 
--- the text has the objects of these sets appended, separated by commas
-pub record WritesSections (detail : Detail) (base : Disk) (patches : List Patch) (sets old new : List ℕ) : Type 0 where
+-- items of an array, the first of them at this place, with a comma before each that is not the first of all
+abbrev pub items_from : ℕ → List (List ℕ) → List ℕ
+items_from place [] = []
+items_from place (item ∷ items) = comma_before place ++ item ++ items_from (suc place) items
+
+-- the text has the objects of these sets appended, the first of them at this place of an array
+pub record WritesSections (detail : Detail) (base : Disk) (patches : List Patch) (place : ℕ)
+    (sets old new : List ℕ) : Type 0 where
   pub sections : List Section
   pub are : AreSections detail base patches sets sections
-  pub whole : new ≡ old ++ join_of 44 (map (section_json (length patches)) sections)
+  pub whole : new ≡ old ++ items_from place (map (section_json (length patches)) sections)
 
--- the same of the objects of these rows
+-- the text has the objects of these rows appended, separated by commas
 pub record WritesFaults (detail : Detail) (base : Disk) (patches : List Patch) (rows : List FaultRow)
     (old new : List ℕ) : Type 0 where
   pub told : List ToldFault

@@ -1,2 +1,1 @@
 pub mod JsonReport
-pub mod PartTexts

@@ -8,9 +8,7 @@ ghost use Rattle.traced_patches.specs.Traced.{told_at};
 ghost use Rattle.report_json.specs.JsonReport.{base_key, trace_key};
 
 use disk_image::Image;
-use json_parts::patch_value;
-use json_parts::values::hex_value;
-use json_values::write_item;
+use json_values::{patch_value, push_hex, write_comma, write_item};
 use std::alloc::{AllocError, Allocator};
 use traced_patches::Traced;
 
@@ -32,10 +30,9 @@ fn write_blocks<A: Allocator + Copy>(out: &mut String, base: &Image<A>) -> Resul
     ensures { OnOk result (string_bytes out.new
         ≡ string_bytes out.old ++ join_of 44 (map hex_json (blocks_of base.now))) }
 {
-    let heap = *out.allocator();
     for block in 0..base.blocks() {
-        let value = hex_value(heap, base.block(block))?;
-        write_item(out, block, &value)?;
+        write_comma(out, block)?;
+        push_hex(out, base.block(block))?;
     }
     Ok(())
 }

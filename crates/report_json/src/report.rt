@@ -1,6 +1,6 @@
 //! Whole reports.
 
-ghost use Rattle.std.specs.Prelude.{◌≡◌, ◌++◌, [], length, map, string_bytes, IfOk, OnOk};
+ghost use Rattle.std.specs.Prelude.{◌≡◌, ◌+◌, ◌^◌, ◌<◌, ◌++◌, [], length, map, string_bytes, IfOk, OnOk};
 ghost use Rattle.patch_sets.specs.Closed.{IsClosed};
 ghost use Rattle.crash_model.specs.Patches.{deps_of};
 ghost use Rattle.report_model.specs.Report.{section_json};
@@ -14,11 +14,11 @@ ghost use Rattle.report_json.specs.JsonReport.{WritesEarly, WritesLate, WritesFr
 ghost use Rattle.report_json.specs.JsonReport.{WritesSections, WritesFaults, WritesRules};
 
 use crate::head::{write_first_keys, write_from_strict, write_module};
-use crate::parts::write_together;
+use crate::parts::SectionObjects;
 use crash_model::fault::FaultRow;
-use json_values::{KnownTexts, told_fault_value, told_rule_value, write_comma, write_item};
+use json_values::{KnownTexts, write_comma};
 use report_sections::{Body, Report, ToldRule};
-use section_maker::SectionMaker;
+use section_maker::{SectionMaker, write_together};
 use std::alloc::{AllocError, Allocator, Global};
 use std::thread::Threads;
 
@@ -106,7 +106,7 @@ where
     match report.body {
         Body::Sets(sets) => {
             out.push_str(",\"failing\":[")?;
-            write_together(out, rt, alloc, report, sets, workers)?;
+            write_together(out, rt, &SectionObjects { alloc, report }, sets, workers)?;
             out.push_str("]")?;
         }
         Body::Faults(rows) => {
@@ -144,18 +144,20 @@ fn write_late<A: Allocator + Copy>(
     Ok(())
 }
 
-/// The objects of the sets, with a comma between two. The parts of each are values of their own, which are freed once
-/// they are written; the cached texts of block writes and faults serve later sets.
+/// The objects of the sets, the first of which has this place in an array, with a comma before each that is not the
+/// first there. The cached texts of block writes and faults serve later sets.
 pub(crate) fn write_sections<A: Allocator + Copy>(
     out: &mut String,
     alloc: A,
     report: &Report<'_, '_, '_, '_, A>,
+    place: usize,
     sets: &[u128],
 ) -> Result<(), AllocError>
     requires on_base { AreOnBase report.now.base.now report.now.traced.now.patches }
     requires closed { AreClosed report.now.traced.now.patches sets.now }
+    requires fits { place + length sets.now < 2 ^ 64 }
     ensures { OnOk result (WritesSections (detail_by report.now) report.now.base.now
-        report.now.traced.now.patches sets.now (string_bytes out.old) (string_bytes out.new)) }
+        report.now.traced.now.patches place sets.now (string_bytes out.old) (string_bytes out.new)) }
 {
     let graph = report.traced.graph();
     let mut known = KnownTexts::new(*out.allocator(), graph.len())?;
@@ -166,23 +168,25 @@ pub(crate) fn write_sections<A: Allocator + Copy>(
         report.settings.explain,
         report.demands,
     )?;
-    write_each_section(out, &mut known, &mut maker, sets)
+    write_each_section(out, &mut known, &mut maker, place, sets)
 }
 
-/// The objects of the sets, with a comma between two, by a maker of their sections.
+/// The objects of the sets, the first of which has this place in an array, by a maker of their sections.
 fn write_each_section<A: Allocator + Copy>(
     out: &mut String,
     known: &mut KnownTexts,
     maker: &mut SectionMaker<'_, A>,
+    place: usize,
     sets: &[u128],
 ) -> Result<(), AllocError>
     requires known { known.old ≡ length maker.old.patches }
     requires closed { AreClosed maker.old.patches sets.now }
-    ensures { OnOk result (WritesSections maker.old.detail maker.old.base maker.old.patches sets.now
+    requires fits { place + length sets.now < 2 ^ 64 }
+    ensures { OnOk result (WritesSections maker.old.detail maker.old.base maker.old.patches place sets.now
         (string_bytes out.old) (string_bytes out.new)) }
 {
     for (at, set) in sets.iter().enumerate() {
-        write_section(out, at, known, maker, *set)?;
+        write_section(out, place + at, known, maker, *set)?;
     }
     Ok(())
 }
@@ -221,6 +225,7 @@ fn write_faults<A: Allocator + Copy>(
         report.now.traced.now.patches rows.now (string_bytes out.old) (string_bytes out.new)) }
 {
     let graph = report.traced.graph();
+    let mut known = KnownTexts::new(*out.allocator(), graph.len())?;
     let mut maker = SectionMaker::new(
         alloc,
         report.base,
@@ -228,23 +233,23 @@ fn write_faults<A: Allocator + Copy>(
         report.settings.explain,
         report.demands,
     )?;
-    write_each_fault(out, &mut maker, graph.len(), rows)
+    write_each_fault(out, &mut known, &mut maker, rows)
 }
 
-/// The objects of the faults, with a comma between two, by a maker of their sections. The graph has `patches` patches.
+/// The objects of the faults, with a comma between two, by a maker of their sections.
 fn write_each_fault<A: Allocator + Copy>(
     out: &mut String,
+    known: &mut KnownTexts,
     maker: &mut SectionMaker<'_, A>,
-    patches: usize,
     rows: &[FaultRow],
 ) -> Result<(), AllocError>
-    requires patches { patches ≡ length maker.old.patches }
+    requires known { known.old ≡ length maker.old.patches }
     requires closed { AreClosed maker.old.patches (map (λ row. row.first) rows.now) }
     ensures { OnOk result (WritesFaults maker.old.detail maker.old.base maker.old.patches rows.now
         (string_bytes out.old) (string_bytes out.new)) }
 {
     for (at, row) in rows.iter().enumerate() {
-        write_fault(out, at, maker, patches, row)?;
+        write_fault(out, at, known, maker, row)?;
     }
     Ok(())
 }
@@ -253,20 +258,21 @@ fn write_each_fault<A: Allocator + Copy>(
 fn write_fault<A: Allocator + Copy>(
     out: &mut String,
     at: usize,
+    known: &mut KnownTexts,
     maker: &mut SectionMaker<'_, A>,
-    patches: usize,
     row: &FaultRow,
 ) -> Result<(), AllocError>
     requires { IsClosed (deps_of maker.old.patches) row.now.first }
     ensures told { OnOk result ((section : Section A)
         × IsSection maker.old.detail maker.old.base maker.old.patches row.now.first section
         × (string_bytes out.new ≡ string_bytes out.old ++ comma_before at
-        ++ told_fault_json patches (record { row = row.now; first = section_of section }))) }
+        ++ told_fault_json known.old (record { row = row.now; first = section_of section }))) }
+    ensures known { known.new ≡ known.old }
     ensures maker { maker.new ≡ maker.old }
 {
-    let first = maker.section(row.first)?;
-    let value = told_fault_value(*out.allocator(), patches, row, &first)?;
-    write_item(out, at, &value)
+    write_comma(out, at)?;
+    let section = maker.section(row.first)?;
+    known.push_fault_row(out, row, &section)
 }
 
 /// The objects of the rules, with a comma between two. The graph has `patches` patches.
@@ -277,10 +283,10 @@ fn write_rules<A: Allocator>(
 ) -> Result<(), AllocError>
     ensures { OnOk result (WritesRules patches rules.now (string_bytes out.old) (string_bytes out.new)) }
 {
-    let heap = *out.allocator();
+    let mut known = KnownTexts::new(*out.allocator(), patches)?;
     for (at, rule) in rules.iter().enumerate() {
-        let value = told_rule_value(heap, patches, rule)?;
-        write_item(out, at, &value)?;
+        write_comma(out, at)?;
+        known.push_rule(out, rule)?;
     }
     Ok(())
 }

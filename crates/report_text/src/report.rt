@@ -11,7 +11,7 @@ ghost use Rattle.report_sections.specs.declared.section.Section.{Section};
 ghost use Rattle.report_text.specs.TextReport.{WritesSections, WritesFaults};
 
 use crate::head::write_head;
-use crate::parts::write_together;
+use crate::parts::SectionLines;
 use crate::patches::write_explanation;
 use crate::rules::write_rules;
 use crate::summary::write_told_fault;
@@ -19,7 +19,7 @@ use crash_model::fault::FaultRow;
 use report_sections::{Body, Outcome, Report};
 use section_lines::LineCache;
 use section_lines::lines::{write_replay, write_set};
-use section_maker::SectionMaker;
+use section_maker::{SectionMaker, write_together};
 use std::alloc::{AllocError, Allocator};
 use std::thread::Threads;
 
@@ -68,7 +68,7 @@ where
     write_head(out, report.settings, patches, report.closed, report.failing)?;
     write_explanation(out, report.traced, report.settings.explain)?;
     match report.body {
-        Body::Sets(sets) => write_together(out, rt, report, sets, workers)?,
+        Body::Sets(sets) => write_together(out, rt, &SectionLines { report }, sets, workers)?,
         Body::Faults(rows) => write_faults(out, report, rows)?,
         Body::Rules(rules) => write_rules(out, patches, rules)?,
     }

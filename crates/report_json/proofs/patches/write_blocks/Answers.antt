@@ -5,14 +5,8 @@ use Rattle.std.proofs.lemmas.List.FromFn.{map-range_with_len_more, length-map-ra
 use Rattle.crash_model.specs.Disk.{block_of}
 use Rattle.report_model.specs.Explain.{hex_json}
 use Rattle.crash_model.specs.Lists.{join_of}
-use Rattle.serde_json.specs.Written.{compact_text, has_float}
-use Rattle.json_values.specs.Items.{comma_before}
-use Rattle.json_parts.proofs.Bytes.{hex_bytes}
 use Rattle.json_values.proofs.Commas.{item_more}
 use Rattle.report_json.proofs.patches.write_blocks.Goals as goal
-
-pub write_item-requires : goal.write_item-requires
-write_item-requires g c = ap has_float c.in_ok-value.ensures.value
 
 pub loop-block-preserved : goal.loop-block-preserved
 loop-block-preserved g c =
@@ -26,11 +20,12 @@ loop-block-preserved g c =
       length-map blocks hex_json,
       length-map-range_with_len (block_of base) 0 n,
     ) in
-    let is : compact_text _ ≡ hex_json (block_of base n) = ap compact_text c.in_ok-value.ensures.value
-    ∙ (hex_bytes c.block.result.now c.in_ok-value.ensures.bytes ∙ ap hex_json c.block.ensures.bytes) in
+    let comma = string_bytes c.write_comma.new.out in
+    let text : string_bytes c.push_hex.new.out ≡ comma ++ hex_json (block_of base n) = c.in_ok-push_hex.ensures
+    ∙ ap (λ (bytes : List ℕ). comma ++ hex_json bytes) c.block.ensures.bytes in
     item_more (map hex_json blocks) n (string_bytes c.args.out.now) (string_bytes c.loop-block.out)
-    (string_bytes c.write_item.new.out) (hex_json (block_of base n)) place all
-    (c.in_ok-write_item.ensures ∙ ap (λ (t : List ℕ). string_bytes c.loop-block.out ++ comma_before n ++ t) is)
+    (string_bytes c.push_hex.new.out) (hex_json (block_of base n)) place all
+    (text ∙ ap (λ (t : List ℕ). t ++ hex_json (block_of base n)) c.in_ok-write_comma.ensures)
     ∙ ap (λ (ts : List (List ℕ)). string_bytes c.args.out.now ++ join_of 44 ts)
     (sym (ap (map hex_json) (map-range_with_len_more (block_of base) 0 n n (omega arith))
     ∙ map-append hex_json blocks _))

@@ -26,7 +26,8 @@ loop-at-preserved g c =
     let is = subst (λ (m : Reported). IsSection m.detail m.base m.patches (get_or rows c.loop-at.at no_row).first
     told.0) before.maker told.1 in
     record {
-      told = fault_more maker.detail maker.base maker.patches rows c.loop-at.at c.args.patches no_row _ _ _ _ told.0
-          c.loop-at-test.true c.requires.patches before.told is refl told.2;
+      told = fault_more maker.detail maker.base maker.patches rows c.loop-at.at c.loop-at.known no_row _ _ _ _ told.0
+          c.loop-at-test.true (before.known ∙ c.requires.known) before.told is refl told.2;
       maker = wrote.maker ∙ before.maker;
+      known = wrote.known ∙ before.known;
     }

@@ -7,4 +7,5 @@ invariant-loop-at g l = record {
   told : WritesFaults l.initial.maker.detail l.initial.maker.base l.initial.maker.patches (take l.at l.rows)
       (string_bytes l.initial.out) (string_bytes l.out);
   maker : l.maker ≡ l.initial.maker;
+  known : l.known ≡ l.initial.known;
 }

@@ -13,8 +13,8 @@ loop-at-preserved g c =
     let is = subst (λ (m : Reported). IsSection m.detail m.base m.patches (get_or c.args.sets.now c.loop-at.at 0)
     told.0) before.maker told.1 in
     record {
-      told = section_more maker.detail maker.base maker.patches c.args.sets.now c.loop-at.at c.loop-at.known
-          _ _ _ _ told.0 c.loop-at-test.true (before.known ∙ c.requires.known) before.told is refl told.2;
+      told = section_more maker.detail maker.base maker.patches c.args.sets.now c.args.place c.loop-at.at
+          c.loop-at.known _ _ _ _ told.0 c.loop-at-test.true (before.known ∙ c.requires.known) before.told is refl told.2;
       maker = wrote.maker ∙ before.maker;
       known = wrote.known ∙ before.known;
     }

@@ -1,9 +1,30 @@
-use Rattle.std.proofs.Common.{map, codes, refl, sym, subst}
+use Rattle.std.proofs.Common.{codes, drop, map, refl, sym, subst}
 use Rattle.report_model.specs.Whole as whole
-use Rattle.report_sections.specs.Bodies.{detail_by, TellsBody}
+use Rattle.std.proofs.lemmas.List.Elements.{All-take, All-drop}
+use Rattle.patch_sets.specs.Closed.{IsClosed}
+use Rattle.crash_model.specs.Patches.{deps_of}
+use Rattle.report_sections.specs.Bodies.{AreClosed, detail_by, sets_of, TellsBody}
 use Rattle.report_sections.specs.ToldRules.{told_rule}
 use Rattle.report_sections.proofs.Pieces.{array_pieces}
+use Rattle.report_json.proofs.JoinedParts.{sections_none, sections_joined, sections_whole}
 use Rattle.report_json.proofs.report.write_early.Goals as goal
+
+pub write_together-requires-clause-parts : goal.write_together-requires-clause-parts
+write_together-requires-clause-parts g c = λ _ _ size from.
+    let patches = c.args.report.now.traced.now.patches in
+    let closed = subst (λ b. AreClosed patches (sets_of b)) c.in-Sets.is c.requires.closed in (
+      c.requires.on_base,
+      All-take (IsClosed (deps_of patches)) size (drop from c.in-Sets.sets.now)
+          (All-drop (IsClosed (deps_of patches)) from c.in-Sets.sets.now closed),
+    )
+
+pub write_together-requires-clause-joined : goal.write_together-requires-clause-joined
+write_together-requires-clause-joined g c = λ _ _.
+    let report = c.args.report.now in
+    record {
+      none = sections_none (detail_by report) report.base.now report.traced.now.patches;
+      more = sections_joined (detail_by report) report.base.now report.traced.now.patches;
+    }
 
 pub returns-in_ok-push_str-in-Sets-2 : goal.returns-in_ok-push_str-in-Sets-2
 returns-in_ok-push_str-in-Sets-2 g c =
@@ -12,7 +33,8 @@ returns-in_ok-push_str-in-Sets-2 g c =
       whole.Sets wrote.sections,
       subst (λ b. TellsBody (detail_by report) report.base.now report.traced.now.patches b (whole.Sets wrote.sections))
           (sym c.in-Sets.is) (wrote.sections, wrote.are, refl),
-      array_pieces _ _ _ _ (codes ",\"failing\":") _ c.in_ok-push_str-in-Sets.ensures.bytes wrote.whole
+      array_pieces _ _ _ _ (codes ",\"failing\":") _ c.in_ok-push_str-in-Sets.ensures.bytes
+          (sections_whole (detail_by report) report.base.now report.traced.now.patches _ _ _ wrote)
           c.in_ok-push_str-in-Sets-2.ensures.bytes,
     )
 

@@ -5,5 +5,8 @@ use Rattle.report_sections.specs.ToldRules.{told_rule}
 use Rattle.report_json.proofs.report.write_rules.Given as goal
 
 abbrev pub invariant-loop-at : goal.invariant-loop-at
-invariant-loop-at g l = string_bytes l.out ≡ string_bytes l.initial.out
-    ++ join_of 44 (map (λ rule. told_rule_json l.patches (told_rule rule)) (take l.at l.rules))
+invariant-loop-at g l = record {
+  text : string_bytes l.out ≡ string_bytes l.fn.out
+      ++ join_of 44 (map (λ rule. told_rule_json l.fn.patches (told_rule rule)) (take l.at l.rules));
+  known : l.known ≡ l.fn.patches;
+}

@@ -1,12 +1,33 @@
-use Rattle.std.proofs.Common.{◌≡◌, ◌++◌, List, ℕ, length, map, string_bytes, refl, sym, subst, ap, ◌∙◌}
+use Rattle.std.proofs.Common.{◌≡◌, ◌++◌, List, ℕ, drop, length, map, string_bytes, refl, sym, subst, ap, ◌∙◌}
 use Rattle.std.specs.List.{flat_map}
 use Rattle.std.proofs.lemmas.List.Folds.{flat_map-map}
 use Rattle.report_model.specs.Needs.{told_rule_text}
 use Rattle.report_model.specs.Whole as whole
-use Rattle.report_sections.specs.Bodies.{detail_by, TellsBody}
+use Rattle.std.proofs.lemmas.List.Elements.{All-take, All-drop}
+use Rattle.patch_sets.specs.Closed.{IsClosed}
+use Rattle.crash_model.specs.Patches.{deps_of}
+use Rattle.report_sections.specs.Bodies.{AreClosed, detail_by, sets_of, TellsBody}
 use Rattle.report_sections.specs.ToldRules.{told_rule}
+use Rattle.report_text.proofs.JoinedParts.{sections_none, sections_joined}
 use Rattle.report_text.proofs.Reports.{whole_text}
 use Rattle.report_text.proofs.report.write_report.Goals as goal
+
+pub write_together-requires-clause-parts : goal.write_together-requires-clause-parts
+write_together-requires-clause-parts g c = λ _ _ size from.
+    let patches = c.args.report.now.traced.now.patches in
+    let closed = subst (λ b. AreClosed patches (sets_of b)) c.in-Sets.is c.requires.told.closed in (
+      c.requires.told.on_base,
+      All-take (IsClosed (deps_of patches)) size (drop from c.in-Sets.sets.now)
+          (All-drop (IsClosed (deps_of patches)) from c.in-Sets.sets.now closed),
+    )
+
+pub write_together-requires-clause-joined : goal.write_together-requires-clause-joined
+write_together-requires-clause-joined g c = λ _ _.
+    let report = c.args.report.now in
+    record {
+      none = sections_none (detail_by report) report.base.now report.traced.now.patches;
+      more = sections_joined (detail_by report) report.base.now report.traced.now.patches;
+    }
 
 pub returns-in_ok-write_together-in-Sets : goal.returns-in_ok-write_together-in-Sets
 returns-in_ok-write_together-in-Sets g c =

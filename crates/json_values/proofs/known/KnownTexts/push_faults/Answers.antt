@@ -1,7 +1,7 @@
 use Rattle.std.proofs.Common.{◌≡◌, ◌++◌, List, ℕ, get_or, string_bytes, refl, ap, ◌∙◌}
 use Rattle.crash_model.specs.declared.fault.Fault.{Fault}
 use Rattle.crash_model.specs.declared.fault.Fault.TheVariants.{Dangling}
-use Rattle.json_parts.specs.Values.{fault_json}
+use Rattle.json_values.specs.Known.{fault_json}
 use Rattle.json_values.proofs.Commas.{taken_more}
 use Rattle.json_values.proofs.known.KnownTexts.push_faults.Goals as goal
 

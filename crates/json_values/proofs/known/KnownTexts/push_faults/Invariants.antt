@@ -1,6 +1,6 @@
 use Rattle.std.proofs.Common.{◌≡◌, ◌++◌, map, string_bytes, take}
 use Rattle.crash_model.specs.Lists.{join_of}
-use Rattle.json_parts.specs.Values.{fault_json}
+use Rattle.json_values.specs.Known.{fault_json}
 use Rattle.json_values.proofs.known.KnownTexts.push_faults.Given as goal
 
 abbrev pub invariant-loop-at : goal.invariant-loop-at

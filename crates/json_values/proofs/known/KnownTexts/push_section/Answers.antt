@@ -4,7 +4,7 @@ use Rattle.crash_model.specs.Lists.{join_of}
 use Rattle.report_model.specs.Report.{section_json}
 use Rattle.crash_model.specs.declared.fault.Fault.{Fault}
 use Rattle.report_sections.specs.Sections.{section_of}
-use Rattle.json_parts.specs.Values.{fault_json}
+use Rattle.json_values.specs.Known.{fault_json}
 use Rattle.json_values.specs.Items.{crash_json}
 use Rattle.json_values.proofs.SectionPieces.{section_pieces}
 use Rattle.json_values.proofs.known.KnownTexts.push_section.Goals as goal

@@ -1,0 +1,38 @@
+//! The entries of faults.
+
+ghost use Rattle.std.specs.Prelude.{◌≡◌, ◌++◌, string_bytes, OnOk};
+ghost use Rattle.report_model.specs.Summary.{told_fault_json};
+ghost use Rattle.report_sections.specs.Sections.{section_of};
+
+use crate::known::KnownTexts;
+use crate::sections::{push_replay, push_set};
+use crash_model::fault::FaultRow;
+use report_sections::Section;
+use std::alloc::{AllocError, Allocator};
+
+impl KnownTexts {
+    /// Adds the entry of a fault: its text, how many failing sets have it, and the first of them, which is the set of
+    /// the section. It fails only when out of memory.
+    pub fn push_fault_row<A: Allocator>(
+        &mut self,
+        out: &mut String,
+        row: &FaultRow,
+        first: &Section<A>,
+    ) -> Result<(), AllocError>
+        ensures text { OnOk result (string_bytes out.new ≡ string_bytes out.old
+            ++ told_fault_json self.old (record { row = row.now; first = section_of first.now })) }
+        ensures kept { self.new ≡ self.old }
+    {
+        out.push_str("{\"fault\":")?;
+        self.push_fault(out, row.fault)?;
+        out.push_str(",")?;
+        push_replay(out, &first.replay)?;
+        out.push_str("\"set\":")?;
+        push_set(out, self.patches(), first.set)?;
+        let sets = row.sets;
+        write!(out, ",\"sets\":{sets},\"writes\":[")?;
+        self.push_writes(out, &first.writes)?;
+        out.push_str("]}")?;
+        Ok(())
+    }
+}
