@@ -14,6 +14,7 @@ ghost use Rattle.report_sections.specs.Sections.{section_of};
 use crate::items::write_comma;
 use crate::known::KnownTexts;
 use crash_model::fault::Fault;
+use crash_model::separators::COMMA;
 use patch_sets::iter::Ids;
 use patch_sets::write::BlockWrite;
 use report_sections::{ReplayedBlock, Section};
@@ -73,7 +74,7 @@ impl KnownTexts {
     /// Adds the texts of the faults, with a comma between two. It fails only when out of memory.
     pub fn push_faults(&mut self, out: &mut String, faults: &[Fault]) -> Result<(), AllocError>
         ensures text { OnOk result (string_bytes out.new
-            ≡ string_bytes out.old ++ join_of 44 (map fault_json faults.now)) }
+            ≡ string_bytes out.old ++ join_of COMMA (map fault_json faults.now)) }
         ensures kept { self.new ≡ self.old }
     {
         for (at, fault) in faults.iter().enumerate() {
@@ -86,7 +87,7 @@ impl KnownTexts {
     /// Adds the objects of the block writes, with a comma between two. It fails only when out of memory.
     pub fn push_writes(&mut self, out: &mut String, writes: &[BlockWrite]) -> Result<(), AllocError>
         ensures text { OnOk result (string_bytes out.new
-            ≡ string_bytes out.old ++ join_of 44 (map (write_json self.old) writes.now)) }
+            ≡ string_bytes out.old ++ join_of COMMA (map (write_json self.old) writes.now)) }
         ensures kept { self.new ≡ self.old }
     {
         for (at, write) in writes.iter().enumerate() {
@@ -110,7 +111,7 @@ pub fn push_set(out: &mut String, patches: usize, set: u128) -> Result<(), Alloc
 /// The ids of the set below `patches`, ascending, with a comma between two.
 fn push_ids(out: &mut String, patches: usize, set: u128) -> Result<(), AllocError>
     ensures { OnOk result (string_bytes out.new
-        ≡ string_bytes out.old ++ join_of 44 (map decimal (ids_of patches set))) }
+        ≡ string_bytes out.old ++ join_of COMMA (map decimal (ids_of patches set))) }
 {
     let mut comma = "";
     for id in Ids::below(set, patches) {
@@ -140,7 +141,7 @@ pub fn push_replay<A: Allocator>(
 /// The objects of the blocks that replay changes, with a comma between two.
 fn push_replayed_blocks(out: &mut String, replay: &[ReplayedBlock]) -> Result<(), AllocError>
     ensures { OnOk result (string_bytes out.new
-        ≡ string_bytes out.old ++ join_of 44 (map replayed_json (map told_block replay.now))) }
+        ≡ string_bytes out.old ++ join_of COMMA (map replayed_json (map told_block replay.now))) }
 {
     for (at, replayed) in replay.iter().enumerate() {
         write_comma(out, at)?;

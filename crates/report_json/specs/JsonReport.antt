@@ -1,5 +1,6 @@
 -- Reports as JSON.
 use Rattle.std.specs.Prelude.{◌≡◌, ℕ, suc, List, [], ◌∷◌, ◌++◌, length, map, if◌then◌else◌, Bool, codes, decimal}
+use Rattle.crash_model.specs.declared.separators.TheConstants.{COMMA}
 use Rattle.crash_model.specs.Lists.{join_of, when}
 use Rattle.crash_model.specs.Disk.{Disk}
 use Rattle.crash_model.specs.Reasons.{Explanation, blocks_of, told_patches}
@@ -93,8 +94,8 @@ pub record WritesFaults (detail : Detail) (base : Disk) (patches : List Patch) (
   pub told : List ToldFault
   pub of_rows : map (λ t. t.row) told ≡ rows
   pub firsts : AreSections detail base patches (map (λ row. row.first) rows) (map (λ t. t.first) told)
-  pub whole : new ≡ old ++ join_of 44 (map (told_fault_json (length patches)) told)
+  pub whole : new ≡ old ++ join_of COMMA (map (told_fault_json (length patches)) told)
 
 -- and of the objects of these rules, of n patches
 abbrev pub WritesRules : {A : Type 0} → ℕ → List (ToldRule A) → List ℕ → List ℕ → Type 0
-WritesRules n rules old new = new ≡ old ++ join_of 44 (map (λ rule. told_rule_json n (told_rule rule)) rules)
+WritesRules n rules old new = new ≡ old ++ join_of COMMA (map (λ rule. told_rule_json n (told_rule rule)) rules)

@@ -15,6 +15,7 @@ ghost use Rattle.report_json.specs.JsonReport.{module_key, strict_key, whole_key
 use crate::patches::{write_base, write_trace};
 use crash_model::modules::Module;
 use crash_model::rules::Rule;
+use crash_model::separators::COMMA;
 use crash_model::settings::Settings;
 use disk_image::Image;
 use json_values::write_comma;
@@ -155,7 +156,7 @@ pub fn write_rule_key(out: &mut String, key: &str, rules: &[Rule]) -> Result<(),
 /// The texts of the rules, with a comma between two. It fails only when out of memory.
 pub fn write_rule_texts(out: &mut String, rules: &[Rule]) -> Result<(), AllocError>
     ensures { OnOk result (string_bytes out.new
-        ≡ string_bytes out.old ++ join_of 44 (map (λ r. json_string (rule_text r)) rules.now)) }
+        ≡ string_bytes out.old ++ join_of COMMA (map (λ r. json_string (rule_text r)) rules.now)) }
 {
     for (at, rule) in rules.iter().enumerate() {
         let rule = *rule;

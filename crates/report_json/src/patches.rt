@@ -7,6 +7,7 @@ ghost use Rattle.crash_model.specs.Lists.{join_of, some_below};
 ghost use Rattle.traced_patches.specs.Traced.{told_at};
 ghost use Rattle.report_json.specs.JsonReport.{base_key, trace_key};
 
+use crash_model::separators::COMMA;
 use disk_image::Image;
 use json_values::{patch_value, push_hex, write_comma, write_item};
 use std::alloc::{AllocError, Allocator};
@@ -28,7 +29,7 @@ pub(crate) fn write_base<A: Allocator + Copy>(
 /// The bytes of each block, with a comma between two.
 fn write_blocks<A: Allocator + Copy>(out: &mut String, base: &Image<A>) -> Result<(), AllocError>
     ensures { OnOk result (string_bytes out.new
-        ≡ string_bytes out.old ++ join_of 44 (map hex_json (blocks_of base.now))) }
+        ≡ string_bytes out.old ++ join_of COMMA (map hex_json (blocks_of base.now))) }
 {
     for block in 0..base.blocks() {
         write_comma(out, block)?;
@@ -57,7 +58,7 @@ fn write_patches<A: Allocator + Copy>(
     traced: &Traced<'_, A>,
 ) -> Result<(), AllocError>
     ensures { OnOk result (string_bytes out.new
-        ≡ string_bytes out.old ++ join_of 44 (map told_json
+        ≡ string_bytes out.old ++ join_of COMMA (map told_json
         (some_below (length traced.now.patches) (told_at traced.now)))) }
 {
     let heap = *out.allocator();

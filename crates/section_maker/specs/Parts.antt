@@ -4,7 +4,7 @@ use Rattle.std.specs.Prelude.{slice_index_or}
 use Rattle.std.specs.Fork.{slice_chunk}
 
 -- texts of sets can be joined: with no sets a text is as it was, and a text with some sets, and then with the text of
--- those behind them, has them all; `Writes` takes the place of the first set, the sets, and the text before and after
+-- those after them, has them all; `Writes` takes the place of the first set, the sets, and the text before and after
 pub record AreJoined (Writes : ℕ → List ℕ → List ℕ → List ℕ → Type 0) : Type 0 where
   pub none : (text : List ℕ) → Writes 0 [] text text
   pub more : (sets others old text part new : List ℕ) → Writes 0 sets old text → Writes (length sets) others [] part
