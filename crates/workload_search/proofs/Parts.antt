@@ -61,18 +61,6 @@ one_room s keeps pool sequences front n batch is low room = record {
   );
 }
 
--- a beginning followed by an operation is a sequence of the pool
-pub longer_some : (front : List ℕ) (place : ℕ) (longer : List ℕ) → longer ≡ front ++ place ∷ [] → longer ≢ []
-longer_some front place longer whole none =
-    let long = ap length (sym whole ∙ none) in omega (arith, length-append front (place ∷ []))
-
-pub longer_among : (pool known : ℕ) (front : ArrayVec ℕ) (place : ℕ) (longer : List ℕ) → IsExtendable pool front
-    → place < pool → pool ≡ known → longer ≡ front.items ++ place ∷ [] → All (λ place. place < known) longer
-longer_among pool known front place longer is low same whole =
-    subst (λ (n : ℕ). All (λ place. place < n) longer) same
-    (subst (All (λ place. place < pool)) (sym whole)
-    (All-push (λ place. place < pool) front.items place is.among low))
-
 -- ---- what a worker is given
 
 pub chunk_room : (pool : ℕ) (xs ys : List (ArrayVec ℕ)) (size start : ℕ) → IsChunk xs size start ys
