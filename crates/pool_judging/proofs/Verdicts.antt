@@ -3,7 +3,7 @@ use Rattle.std.proofs.Common.{◌≡◌, ℕ, List, subst}
 use Rattle.std.specs.Prelude.{Bool, Result, Ok, Err, IfOk}
 use Rattle.crash_model.specs.Disk.{Disk, IsDisk}
 use Rattle.crash_model.specs.Checker.{Demands, AreDemands}
-use Rattle.crash_model.specs.Trace.{Tracing}
+use Rattle.crash_model.specs.Trace.{Tracing, IsGraphOf}
 use Rattle.crash_model.specs.declared.patches.Patch.{Patch}
 use Rattle.crash_model.specs.declared.refusals.TraceFault.{TraceFault}
 use Rattle.crash_model.specs.declared.steps.Step.{Step}
