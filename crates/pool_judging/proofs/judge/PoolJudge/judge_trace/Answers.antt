@@ -1,9 +1,8 @@
-use Rattle.std.proofs.Common.{◌<◌, ℕ, List, sym, subst}
+use Rattle.std.proofs.Common.{◌<◌, List, sym, subst}
 use Rattle.std.specs.Prelude.{IfOk}
 use Rattle.std.specs.List.{All}
 use Rattle.std.proofs.lemmas.Result.{IfOk-weaker}
 use Rattle.std.proofs.Math.Logic.{∥∥₁_elim}
-use Rattle.crash_model.specs.Disk.{Disk}
 use Rattle.crash_model.specs.declared.patches.Patch.{Patch}
 use Rattle.full_journal_laws.proofs.Safe.{traced_is_safe}
 use Rattle.search_model.specs.Workloads.{steps_at}
