@@ -2,4 +2,5 @@ pub mod Least
 pub mod Refusals
 pub mod Pools
 pub mod Verdicts
+pub mod Beginnings
 pub mod Full

@@ -21,13 +21,18 @@ module _ (pool : List Step) where
   one_step : (place : ℕ) (d : Step) → place < length pool → step_of place ≡ get_or pool place d ∷ []
   one_step place d below = ap option_to_list (slice_get-get_or pool place d below)
 
+  -- the steps of a sequence with one operation more
+  pub steps_more : (front : List ℕ) (place : ℕ) (step d : Step) → place < length pool → step ≡ get_or pool place d
+      → steps_at pool (front ++ place ∷ []) ≡ steps_at pool front ++ step ∷ []
+  steps_more front place step d below is = flat_map-append step_of front (place ∷ [])
+      ∙ ap (λ (xs : List Step). steps_at pool front ++ xs) (append-nil (step_of place)
+      ∙ (one_step place d below ∙ ap (λ (x : Step). x ∷ []) (sym is)))
+
   next_step : (places : List ℕ) (i : ℕ) (step d : Step) → i < length places → get_or places i 0 < length pool
       → step ≡ get_or pool (get_or places i 0) d
       → steps_at pool (take i places) ++ step ∷ [] ≡ steps_at pool (take (i + 1) places)
   next_step places i step d within below is = sym (ap (steps_at pool) (take_more places i 0 within)
-      ∙ (flat_map-append step_of (take i places) (get_or places i 0 ∷ [])
-      ∙ ap (λ (xs : List Step). steps_at pool (take i places) ++ xs) (append-nil (step_of (get_or places i 0))
-      ∙ (one_step (get_or places i 0) d below ∙ ap (λ (x : Step). x ∷ []) (sym is)))))
+      ∙ steps_more (take i places) (get_or places i 0) step d below is)
 
   -- one place more
   pub step_more : (places : List ℕ) (i : ℕ) (before after : List Step) (step d : Step) → i < length places
@@ -38,7 +43,7 @@ module _ (pool : List Step) where
       more ∙ (ap (λ (steps : List Step). steps ++ step ∷ []) so_far ∙ next_step places i step d within below is)
 
   -- what holds of each step of the pool holds of each at some places
-  all_at : (P : Step → Type 0) → All P pool → (places : List ℕ)
+  pub all_at : (P : Step → Type 0) → All P pool → (places : List ℕ)
       → All (λ place. place < length pool) places → All P (steps_at pool places)
   all_at P all [] below = All-nil P
   all_at P all (place ∷ places) below =
@@ -46,7 +51,3 @@ module _ (pool : List Step) where
       subst (λ (xs : List Step). All P (xs ++ steps_at pool places)) (sym (one_step place some_step here))
       (All-cons P (get_or pool place some_step) (steps_at pool places) (all place some_step here)
       (all_at P all places (All-tail (λ p. p < length pool) place places below)))
-
-  pub all_made : (P : Step → Type 0) → All P pool → (places : List ℕ) → All (λ place. place < length pool) places
-      → (made steps : List Step) → made ≡ steps_at pool places → steps ≡ made → All P steps
-  all_made P all places below made steps are same = subst (All P) (sym (same ∙ are)) (all_at P all places below)

@@ -1,18 +1,16 @@
 -- What is found of one graph of a sequence holds of each, since a sequence has only one.
 use Rattle.std.proofs.Common.{◌≡◌, ℕ, List, subst}
-use Rattle.std.specs.Prelude.{Some, Bool, Result, Ok, Err, IfOk}
+use Rattle.std.specs.Prelude.{Bool, Result, Ok, Err, IfOk}
 use Rattle.crash_model.specs.Disk.{Disk, IsDisk}
 use Rattle.crash_model.specs.Checker.{Demands, AreDemands}
-use Rattle.crash_model.specs.Trace.{Tracing, IsGraphOf, trace_start, trace_from}
+use Rattle.crash_model.specs.Trace.{Tracing, IsGraphOf}
 use Rattle.crash_model.specs.declared.patches.Patch.{Patch}
 use Rattle.crash_model.specs.declared.refusals.TraceFault.{TraceFault}
 use Rattle.crash_model.specs.declared.steps.Step.{Step}
 use Rattle.full_journal_laws.specs.Full.{IsFullSafe}
 use Rattle.full_journal_laws.proofs.Failing.{none_fails}
-use Rattle.search_model.specs.Refused.{refusal_of}
-use Rattle.search_model.specs.Verdict.{IsRefusal, IsVerdict}
+use Rattle.search_model.specs.Verdict.{IsVerdict}
 use Rattle.search_model.specs.Workloads.{Search, HasPatches, steps_at, trace_at}
-use Rattle.search_model.specs.declared.refusal.Refusal.{Refusal}
 use Rattle.search_model.specs.declared.verdict.Verdict.{Verdict}
 use Rattle.search_model.specs.declared.verdict.Verdict.TheVariants.{Refused, Passes, Fails}
 use Rattle.worked_example_laws.proofs.Keeping.{one_demands}
@@ -22,28 +20,6 @@ use Rattle.pool_judging.specs.Judging.{SomeFails, IsVerdictOn, IsNoFailure}
 
 one_ok : (r : Result Tracing TraceFault) (a b : Tracing) → r ≡ Ok a → r ≡ Ok b → a ≡ b
 one_ok r a b e f = cc
-
--- the patches of the steps at some places are those of the sequence
-pub patches_at : (s : Search) (places : List ℕ) (steps : List Step) (demands : Demands) (last : Tracing)
-    (patches : List Patch) → steps ≡ steps_at s.pool places
-    → trace_from s.ordering (trace_start s.whole s.base) steps ≡ Ok last → IsGraphOf s.rules s.base last patches
-    → AreDemands s.strict s.atomic s.base steps demands → HasPatches s places demands patches
-patches_at s places steps demands last patches are run graph told = record {
-  last = last;
-  traced = subst (λ (xs : List Step). trace_from s.ordering (trace_start s.whole s.base) xs ≡ Ok last) are run;
-  graph = graph;
-  told = subst (λ (xs : List Step). AreDemands s.strict s.atomic s.base xs demands) are told;
-}
-
--- what refuses the steps refuses the sequence
-pub refusal_at : (s : Search) (places : List ℕ) (steps : List Step) (fault : TraceFault) (reason : Refusal)
-    → steps ≡ steps_at s.pool places → trace_from s.ordering (trace_start s.whole s.base) steps ≡ Err fault
-    → refusal_of fault ≡ Some reason → IsRefusal s places reason
-refusal_at s places steps fault reason are run because = record {
-  fault = fault;
-  refused = subst (λ (xs : List Step). trace_from s.ordering (trace_start s.whole s.base) xs ≡ Err fault) are run;
-  because = because;
-}
 
 -- a sequence has one graph, and demands one thing
 module _ (s : Search) (places : List ℕ) (demands other : Demands) (patches others : List Patch)

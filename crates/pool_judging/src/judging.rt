@@ -1,13 +1,15 @@
 //! How sequences of operations of a pool are judged.
 
-ghost use Rattle.std.specs.Prelude.{◌≡◌, ◌≢◌, ◌<◌, ℕ, Err, IfOk, None, List, length};
+ghost use Rattle.std.specs.Prelude.{◌≡◌, ◌≢◌, ◌<◌, ◌++◌, ◌∷◌, ℕ, [], Err, IfOk, None, List, length};
 ghost use Rattle.std.specs.List.{All};
 ghost use Rattle.crash_model.specs.Checker.{AreDemands};
 ghost use Rattle.search_model.specs.Verdict.{IsVerdict};
 ghost use Rattle.search_model.specs.Refused.{refusal_of};
-ghost use Rattle.search_model.specs.Workloads.{Search, IsOperation, steps_at, trace_at};
+ghost use Rattle.search_model.specs.Workloads.{Search, steps_at, trace_at};
+ghost use Rattle.pool_judging.specs.Beginnings.{IsBegun, IsTraceAt};
 ghost use Rattle.pool_judging.specs.Judging.{search_by, IsVerdictOn, IsNoFailure, IsFullJournal};
 
+use crate::begun::Begun;
 use crate::copying::step_copy;
 use crate::firsts::firsts;
 use crate::judge::PoolJudge;
@@ -16,13 +18,14 @@ use crash_model::steps::Step;
 use disk_image::Demands;
 use fault_deciding::Decider;
 use inode_fs::demands;
-use order_modules::trace;
+use order_modules::Tracer;
 use patch_graph::Graph;
 use search_model::{Places, Refusal, Verdict};
 use std::alloc::{AllocError, Allocator};
 use workload_search::Judge;
+use workload_search::places::extended;
 
-impl<A: Allocator + Copy> PoolJudge<'_, A> {
+impl<'a, A: Allocator + Copy> PoolJudge<'a, A> {
     /// The steps at these places of the pool. It fails only when out of memory.
     pub fn steps_at(&self, places: &Places) -> Result<Vec<Step, A>, AllocError>
         requires { All (λ place. place < length self.now.pool.now) places.now.items }
@@ -43,34 +46,51 @@ impl<A: Allocator + Copy> PoolJudge<'_, A> {
         Ok(demands)
     }
 
-    /// The verdict on the operations at these places of the pool, one after another. It fails only when out of memory.
-    ///
-    /// Under the full journal with all its rules, and with any others put in, none fails.
-    pub fn verdict_on(&self, places: &Places) -> Result<Verdict, AllocError>
+    /// What the operations at these places of the pool demand of an image that they leave. It fails only when out of
+    /// memory.
+    fn demands_at(&self, places: &Places) -> Result<Demands<A>, AllocError>
         requires { All (λ place. place < length self.now.pool.now) places.now.items }
-        ensures verdict { IfOk result (IsVerdict (search_by self.now) places.now.items) }
-        ensures full { IsFullJournal (search_by self.now) → IfOk result IsNoFailure }
+        ensures { IfOk result (AreDemands self.now.strict self.now.atomic self.now.base.now
+            (steps_at self.now.pool.now places.now.items)) }
     {
+        // Most checkers demand nothing, and need no steps.
+        if !self.strict && !self.atomic {
+            return Ok(Demands::none());
+        }
         let steps = self.steps_at(places)?;
-        self.judge_steps(&steps)
+        self.demands(&steps)
     }
 
-    /// The verdict on operations, one after another. It fails only when out of memory.
-    fn judge_steps(&self, steps: &[Step]) -> Result<Verdict, AllocError>
-        requires { ∥ All IsOperation steps.now ∥₁ }
-        ensures verdict { (places : List ℕ) → steps.now ≡ steps_at self.now.pool.now places
-            → IfOk result (IsVerdict (search_by self.now) places) }
+    /// The verdict on the operations of a beginning, followed by the one at this place of the pool. It fails only when
+    /// out of memory.
+    ///
+    /// Under the full journal with all its rules, and with any others put in, none fails.
+    pub fn verdict_on(&self, begun: &Begun<'a, A>, place: usize) -> Result<Verdict, AllocError>
+        requires begun { (front : List ℕ) × IsBegun (search_by self.now) front begun.now }
+        requires among { place < length self.now.pool.now }
+        ensures verdict { (front : List ℕ) → IsBegun (search_by self.now) front begun.now
+            → IfOk result (IsVerdict (search_by self.now) (front ++ place ∷ [])) }
+        ensures full { IsFullJournal (search_by self.now) → IfOk result IsNoFailure }
+    {
+        match begun.tracer.with_step(&self.pool[place]) {
+            Ok(longer) => self.judge_trace(&extended(&begun.places, place), longer),
+            Err(fault) => refused(fault),
+        }
+    }
+
+    /// The verdict on the operations at these places of the pool, which have this trace. It fails only when out of
+    /// memory.
+    fn judge_trace(&self, places: &Places, tracer: Tracer<'a, A>) -> Result<Verdict, AllocError>
+        requires among { All (λ place. place < length self.now.pool.now) places.now.items }
+        requires trace { IsTraceAt (search_by self.now) places.now.items tracer }
+        ensures verdict { IfOk result (IsVerdict (search_by self.now) places.now.items) }
         ensures full { IsFullJournal (search_by self.now) → IfOk result IsNoFailure }
     {
         // For the proof: what holds of every image.
         let _blocks = self.base.blocks();
-        match trace(self.alloc, self.base, steps, self.ordering) {
-            Ok(traced) => {
-                let demands = self.demands(steps)?;
-                self.judge_graph(traced.graph(), &demands)
-            }
-            Err(fault) => refused(fault),
-        }
+        let demands = self.demands_at(places)?;
+        let traced = tracer.into_traced();
+        self.judge_graph(traced.graph(), &demands)
     }
 
     /// The verdict on the operations with these patches, none of which is refused, by what they demand of images. It
@@ -93,11 +113,19 @@ impl<A: Allocator + Copy> PoolJudge<'_, A> {
     }
 }
 
-impl<A: Allocator + Copy> Judge for PoolJudge<'_, A> {
+impl<'a, A: Allocator + Copy> Judge for PoolJudge<'a, A> {
+    type Begun = Begun<'a, A>;
+
     ghost search = { λ j. search_by j };
 
-    fn judge(&self, places: &Places) -> Result<Verdict, AllocError> {
-        self.verdict_on(places)
+    ghost is_begun = { λ j front begun. IsBegun (search_by j) front begun };
+
+    fn begin(&self, places: &Places) -> Result<Begun<'a, A>, AllocError> {
+        self.begun(places)
+    }
+
+    fn judge_longer(&self, begun: &Begun<'a, A>, place: usize) -> Result<Verdict, AllocError> {
+        self.verdict_on(begun, place)
     }
 }
 

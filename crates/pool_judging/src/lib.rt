@@ -5,10 +5,12 @@
 //! more crash states than can be visited is judged too.
 #![tactic(auto)]
 
+mod begun;
 mod copying;
 mod firsts;
 mod judge;
 mod judging;
 pub mod laws;
 
+pub use begun::Begun;
 pub use judge::PoolJudge;

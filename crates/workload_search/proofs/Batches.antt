@@ -56,6 +56,10 @@ kept_none keeps v places (inr passes) =
     by true = refl
     by false = refl
 
+verdict_at : (s : Search) (places longer : List ℕ) (v : Verdict) → places ≡ longer → IsVerdict s longer v
+    → IsVerdict s places v
+verdict_at s places longer v whole right = subst (λ (xs : List ℕ). IsVerdict s xs v) (sym whole) right
+
 module _ {A : Type 0} (s : Search) (keeps : Bool) where
   pub batch_none : (batch : Batch A) → IsTally [] batch.tally → batch.passing.items ≡ [] → IsBatch s keeps [] batch
   batch_none batch tally none = record {
@@ -102,12 +106,12 @@ module _ {A : Type 0} (s : Search) (keeps : Bool) where
 
   -- a sequence that passes is kept where they are to be
   pub batch_kept : (sequences : List (List ℕ)) (places : ArrayVec ℕ) (longer : List ℕ) (v : Verdict)
-      (old new : Batch A) (is : IsBatch s keeps sequences old) → places.items ≡ longer → IsVerdict s places.items v
+      (old new : Batch A) (is : IsBatch s keeps sequences old) → places.items ≡ longer → IsVerdict s longer v
       → IsTally (is.tried ++ tried_as places.items v ∷ []) new.tally → keeps ≡ true → is_passing v ≡ true
       → new.passing.items ≡ old.passing.items ++ places ∷ [] → IsBatch s keeps (sequences ++ longer ∷ []) new
   batch_kept sequences places longer v old new is whole right tally keep passes more =
       subst (λ (xs : List ℕ). IsBatch s keeps (sequences ++ xs ∷ []) new) whole
-      (batch_added sequences places.items v old new is right tally
+      (batch_added sequences places.items v old new is (verdict_at s places.items longer v whole right) tally
       (ap (map items_of) more
       ∙ (map-append items_of old.passing.items (places ∷ [])
       ∙ ap (λ (a : List (List ℕ)). map items_of old.passing.items ++ a)
@@ -115,12 +119,12 @@ module _ {A : Type 0} (s : Search) (keeps : Bool) where
 
   -- no other is
   pub batch_left : (sequences : List (List ℕ)) (places longer : List ℕ) (v : Verdict) (old new : Batch A)
-      (is : IsBatch s keeps sequences old) → places ≡ longer → IsVerdict s places v
+      (is : IsBatch s keeps sequences old) → places ≡ longer → IsVerdict s longer v
       → IsTally (is.tried ++ tried_as places v ∷ []) new.tally → (keeps ≡ false) ⊎ (is_passing v ≡ false)
       → new.passing.items ≡ old.passing.items → IsBatch s keeps (sequences ++ longer ∷ []) new
   batch_left sequences places longer v old new is whole right tally none same =
       subst (λ (xs : List ℕ). IsBatch s keeps (sequences ++ xs ∷ []) new) whole
-      (batch_added sequences places v old new is right tally
+      (batch_added sequences places v old new is (verdict_at s places longer v whole right) tally
       (ap (map items_of) same
       ∙ (sym (append-nil (map items_of old.passing.items))
       ∙ ap (λ (a : List (List ℕ)). map items_of old.passing.items ++ a) (sym (kept_none keeps v places none)))))

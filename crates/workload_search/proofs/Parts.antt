@@ -1,5 +1,5 @@
 -- The parts of a level, joined in order.
-use Rattle.std.proofs.Common.{◌≡◌, ◌≢◌, ℕ, zero, suc, ◌+◌, ◌*◌, ◌/◌, ◌%◌, ◌<◌, ◌≤◌, ◌^◌, min, List, [], ◌∷◌, ◌++◌}
+use Rattle.std.proofs.Common.{◌≡◌, ℕ, zero, suc, ◌+◌, ◌*◌, ◌/◌, ◌%◌, ◌<◌, ◌≤◌, ◌^◌, min, List, [], ◌∷◌, ◌++◌}
 use Rattle.std.proofs.Common.{length, map, take, drop, get_or, Bool, Result, Ok, IfOk, refl, sym, subst, ap, ◌∙◌}
 use Rattle.std.proofs.Common.{arith, suc-mul, zero-mul, mul-le-mul_right, append-nil, append_assoc, length-append}
 use Rattle.std.specs.Fork.{slice_chunk, IsChunk}
@@ -8,12 +8,12 @@ use Rattle.std.proofs.Math.Nat.{mod-lt}
 use Rattle.std.proofs.lemmas.List.{map-append, take-append-drop, drop-drop, drop_all, take_more, length-map}
 use Rattle.std.proofs.lemmas.List.{length-drop, length_push, get_or_push, get_or_append_left}
 use Rattle.std.proofs.lemmas.List.Concat.{flat_map-append}
-use Rattle.std.proofs.lemmas.List.Elements.{All-push, All-take, All-drop}
+use Rattle.std.proofs.lemmas.List.Elements.{All-take, All-drop}
 use Rattle.std.proofs.lemmas.List.FromFn.{length-map-range_with_len, map-range_with_len_more}
 use Rattle.std.proofs.lemmas.Nat.{div-add-mod'}
 use Rattle.arrayvec.specs.ArrayVec.{ArrayVec}
 use Rattle.search_model.specs.Workloads.{Search}
-use Rattle.workload_search.specs.Tries.{IsBatch, BatchHasRoom, HaveRoomFor, ArePartsOf, IsExtendable, extensions_of}
+use Rattle.workload_search.specs.Tries.{IsBatch, BatchHasRoom, HaveRoomFor, ArePartsOf, extensions_of}
 use Rattle.workload_search.specs.Tries.{extensions, items_of}
 use Rattle.workload_search.specs.declared.batch.Batch.{Batch}
 use Rattle.workload_search.proofs.Extended.{length_extensions}
@@ -60,18 +60,6 @@ one_room s keeps pool sequences front n batch is low room = record {
     length-map-range_with_len (λ place. front ++ place ∷ []) 0 n,
   );
 }
-
--- a beginning followed by an operation is a sequence of the pool
-pub longer_some : (front : List ℕ) (place : ℕ) (longer : List ℕ) → longer ≡ front ++ place ∷ [] → longer ≢ []
-longer_some front place longer whole none =
-    let long = ap length (sym whole ∙ none) in omega (arith, length-append front (place ∷ []))
-
-pub longer_among : (pool known : ℕ) (front : ArrayVec ℕ) (place : ℕ) (longer : List ℕ) → IsExtendable pool front
-    → place < pool → pool ≡ known → longer ≡ front.items ++ place ∷ [] → All (λ place. place < known) longer
-longer_among pool known front place longer is low same whole =
-    subst (λ (n : ℕ). All (λ place. place < n) longer) same
-    (subst (All (λ place. place < pool)) (sym whole)
-    (All-push (λ place. place < pool) front.items place is.among low))
 
 -- ---- what a worker is given
 

@@ -14,7 +14,7 @@ use Rattle.workload_search.proofs.Counted.{AreAllTried, places_of}
 use Rattle.workload_search.proofs.Extended.{AreBeginnings, AreLevel, next_level, next_beginnings, first_beginnings}
 use Rattle.workload_search.proofs.Extended.{no_levels, one_level_more, length_extensions}
 use Rattle.workload_search.proofs.Lists.{in_map, all_from}
-use Rattle.workload_search.proofs.Sequences.{beginning_among}
+use Rattle.workload_search.proofs.Sequences.{beginning_among, beginning_accepted}
 
 -- all sequences of up to this number of operations are tried and counted, and the beginnings for longer ones are there
 pub record IsSearchedTo {A : Type 0} (s : Search) (pool made : ℕ) (tally : Tally A) (beginnings : List (ArrayVec ℕ))
@@ -28,12 +28,13 @@ pub record IsSearchedTo {A : Type 0} (s : Search) (pool made : ℕ) (tally : Tal
 module _ (s : Search) (pool : ℕ) where
   -- each beginning can be made longer
   pub all_extendable : (number : ℕ) (beginnings : List (ArrayVec ℕ)) → pool ≡ length s.pool → number < 8
-      → AreBeginnings s number (map items_of beginnings) → All (IsExtendable pool) beginnings
-  all_extendable number beginnings same low are = all_from (IsExtendable pool) beginnings (λ places there.
+      → AreBeginnings s number (map items_of beginnings) → All (IsExtendable s pool) beginnings
+  all_extendable number beginnings same low are = all_from (IsExtendable s pool) beginnings (λ places there.
       let it = (are.exactly places.items).0 (in_map items_of beginnings places there) in
       record {
         short = omega (arith, it.0, low);
         among = subst (λ n. All (λ place. place < n) places.items) (sym same) (beginning_among s places.items it.1);
+        accepted = beginning_accepted s places.items it.1;
       })
 
 -- how many sequences a level has

@@ -3,6 +3,7 @@ use Rattle.std.proofs.Common.{◌≡◌, ◌≢◌, ℕ, zero, suc, ◌<◌, ◌
 use Rattle.std.proofs.Common.{sym, ap, subst, ◌∙◌, inl, inr, length-append, append_assoc, append-nil}
 use Rattle.std.specs.List.{All}
 use Rattle.std.proofs.lemmas.List.Elements.{All-push, All-nil, All-cons}
+use Rattle.crash_model.specs.Trace.{trace_start}
 use Rattle.search_model.specs.Workloads.{Search, IsWorkload, IsBeginning, IsRefusedFor, Fails}
 use Rattle.search_model.specs.declared.refusal.Refusal.{Refusal}
 use Rattle.search_model.specs.Verdict.{IsAccepted, IsRefusal}
@@ -91,6 +92,11 @@ pub beginning_among : (s : Search) (front : List ℕ) → IsBeginning s front �
 beginning_among s front (inl none) = subst (All (λ place. place < length s.pool)) (sym none)
     (All-nil (λ place. place < length s.pool))
 beginning_among s front (inr w) = w.0.among
+
+-- the operations of a beginning are accepted
+pub beginning_accepted : (s : Search) (front : List ℕ) → IsBeginning s front → IsAccepted s front
+beginning_accepted s front (inl none) = subst (IsAccepted s) (sym none) (trace_start s.whole s.base, refl)
+beginning_accepted s front (inr w) = w.0.accepted
 
 pub tried_among : (s : Search) (places : List ℕ) → IsTriedSequence s places
     → All (λ place. place < length s.pool) places

@@ -5,7 +5,7 @@ use Rattle.std.specs.Fork.{slice_chunk}
 use Rattle.std.specs.List.{All, filter, flat_map, range_with_len}
 use Rattle.arrayvec.specs.ArrayVec.{ArrayVec}
 use Rattle.search_model.specs.Workloads.{Search}
-use Rattle.search_model.specs.Verdict.{IsVerdict}
+use Rattle.search_model.specs.Verdict.{IsAccepted, IsVerdict}
 use Rattle.workload_search.specs.Tallies.{Tried, IsTally, is_passing}
 use Rattle.workload_search.specs.declared.batch.Batch.{Batch}
 
@@ -24,10 +24,11 @@ extensions pool fronts = flat_map (extensions_of pool) fronts
 abbrev pub passing_of : List Tried → List (List ℕ)
 passing_of tried = map (λ t. t.places) (filter (λ t. is_passing t.verdict) tried)
 
--- a sequence of operations of the pool that can get one more
-pub record IsExtendable (pool : ℕ) (places : ArrayVec ℕ) : Type 0 where
+-- a sequence of operations of the pool that can get one more, and none of which is refused
+pub record IsExtendable (s : Search) (pool : ℕ) (places : ArrayVec ℕ) : Type 0 where
   pub short : length places.items < 8
   pub among : All (λ place. place < pool) places.items
+  pub accepted : IsAccepted s places.items
 
 -- each of the sequences was tried, in order, and counted; those that pass are kept if they will be made longer
 pub record IsBatch {A : Type 0} (s : Search) (keeps : Bool) (sequences : List (List ℕ)) (batch : Batch A) : Type 0 where

@@ -1,24 +1,45 @@
 //! Judging sequences of operations.
-ghost use Rattle.std.specs.Prelude.{◌≢◌, ◌<◌, [], length, IfOk};
+ghost use Rattle.std.specs.Prelude.{ℕ, List, ◌<◌, ◌++◌, ◌∷◌, [], length, IfOk};
 ghost use Rattle.std.specs.List.{All};
 ghost use Rattle.search_model.specs.Workloads.{Search};
-ghost use Rattle.search_model.specs.Verdict.{IsVerdict};
+ghost use Rattle.search_model.specs.Verdict.{IsAccepted, IsVerdict};
 
 use search_model::{Places, Verdict};
 use std::alloc::AllocError;
 
 /// Judges the sequences of a search.
+///
+/// A sequence is judged as a beginning and one operation more, so that the work on a beginning is done once for all
+/// operations that follow it.
 pub trait Judge {
+    /// What is made of a beginning before an operation follows it.
+    type Begun: Drop;
+
     /// The search.
     ghost search: { Self → Search };
 
-    /// The verdict on the operations at these places of the pool, one after another.
+    /// What is made of the beginning with these operations.
+    ghost is_begun: { Self → List ℕ → Self.Begun → Type 0 };
+
+    /// Begins with the operations at these places of the pool, one after another, of which none is refused.
+    ///
+    /// # Errors
+    ///
+    /// There is not enough memory.
+    fn begin(&self, places: &Places) -> Result<Self::Begun, AllocError>
+        requires short { length places.now.items < 8 }
+        requires among { All (λ place. place < length (search self.now).pool) places.now.items }
+        requires accepted { IsAccepted (search self.now) places.now.items }
+        ensures { IfOk result (is_begun self.now places.now.items) };
+
+    /// The verdict on the operations of a beginning, followed by the one at this place of the pool.
     ///
     /// # Errors
     ///
     /// There is not enough memory to find out.
-    fn judge(&self, places: &Places) -> Result<Verdict, AllocError>
-        requires some { places.now.items ≢ [] }
-        requires among { All (λ place. place < length (search self.now).pool) places.now.items }
-        ensures { IfOk result (IsVerdict (search self.now) places.now.items) };
+    fn judge_longer(&self, begun: &Self::Begun, place: usize) -> Result<Verdict, AllocError>
+        requires begun { (front : List ℕ) × is_begun self.now front begun.now }
+        requires among { place < length (search self.now).pool }
+        ensures { (front : List ℕ) → is_begun self.now front begun.now
+            → IfOk result (IsVerdict (search self.now) (front ++ place ∷ [])) };
 }

@@ -15,6 +15,7 @@ use std::thread::Threads;
 impl<J, A, W> Trying<'_, J, A, W>
 where
     J: Judge + Sync,
+    J::Begun: Send,
     A: Allocator + Copy + Send + Sync,
     W: Watch + Sync,
 {
@@ -28,7 +29,7 @@ where
     ) -> Result<Batch<A>, AllocError>
         requires some { 0 < workers }
         requires room { length beginnings.now * self.now.pool < 2 ^ 128 }
-        requires short { All (IsExtendable self.now.pool) beginnings.now }
+        requires short { All (IsExtendable (J.search self.now.judge.now) self.now.pool) beginnings.now }
         ensures { IfOk result (IsBatch (J.search self.now.judge.now) self.now.keeps
             (extensions self.now.pool (map items_of beginnings.now))) }
     {
@@ -49,7 +50,7 @@ where
     ) -> Result<Vec<Result<Batch<A>, AllocError>, A>, AllocError>
         requires size { 0 < size }
         requires room { length beginnings.now * self.now.pool < 2 ^ 128 }
-        requires short { All (IsExtendable self.now.pool) beginnings.now }
+        requires short { All (IsExtendable (J.search self.now.judge.now) self.now.pool) beginnings.now }
         ensures len { IfOk result (λ parts.
             vec_len parts ≡ length beginnings.now / size + min 1 (length beginnings.now % size)) }
         ensures each { IfOk result (λ parts. ArePartsOf (J.search self.now.judge.now) self.now.keeps self.now.pool
@@ -61,7 +62,8 @@ where
             beginnings,
             size,
             &|_, part|
-                requires { (length part.now * self.now.pool < 2 ^ 128) × All (IsExtendable self.now.pool) part.now }
+                requires { (length part.now * self.now.pool < 2 ^ 128)
+                    × All (IsExtendable (J.search self.now.judge.now) self.now.pool) part.now }
             { self.try_beginnings(part) },
         )
     }

@@ -33,6 +33,7 @@ pub fn search_passing<J, R, A, W>(
 ) -> Result<FoundWorkloads<A>, AllocError>
 where
     J: Judge + Sync,
+    J::Begun: Send,
     R: Threads + Sync,
     A: Allocator + Copy + Send + Sync,
     W: Watch + Sync,

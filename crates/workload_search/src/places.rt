@@ -15,7 +15,7 @@ pub fn copied(places: &Places) -> Places
 }
 
 /// The places, followed by one more.
-pub(crate) fn extended(places: &Places, place: usize) -> Places
+pub fn extended(places: &Places, place: usize) -> Places
     requires { length places.now.items < 8 }
     ensures { result.items ≡ places.now.items ++ place ∷ [] }
 {

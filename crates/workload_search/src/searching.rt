@@ -30,6 +30,7 @@ pub fn search<J, R, A, W>(
 ) -> Result<Found, AllocError>
 where
     J: Judge + Sync,
+    J::Begun: Send,
     R: Threads + Sync,
     A: Allocator + Copy + Send + Sync,
     W: Watch + Sync,

@@ -27,7 +27,7 @@ impl<J: Judge, A: Allocator + Copy, W: Watch> Trying<'_, J, A, W> {
     /// Tries each beginning, in order, followed by each operation of the pool.
     pub(crate) fn try_beginnings(&self, beginnings: &[Places]) -> Result<Batch<A>, AllocError>
         requires room { length beginnings.now * self.now.pool < 2 ^ 128 }
-        requires short { All (IsExtendable self.now.pool) beginnings.now }
+        requires short { All (IsExtendable (J.search self.now.judge.now) self.now.pool) beginnings.now }
         ensures { IfOk result (IsBatch (J.search self.now.judge.now) self.now.keeps
             (extensions self.now.pool (map items_of beginnings.now))) }
     {
@@ -38,39 +38,42 @@ impl<J: Judge, A: Allocator + Copy, W: Watch> Trying<'_, J, A, W> {
         Ok(batch)
     }
 
-    /// Tries a beginning followed by each operation of the pool, in order.
+    /// Tries a beginning followed by each operation of the pool, in order. The judge begins once for all of them.
     fn try_places(&self, batch: &mut Batch<A>, beginning: &Places) -> Result<(), AllocError>
         requires room { BatchHasRoom (J.search self.now.judge.now) self.now.keeps self.now.pool batch.old }
-        requires short { IsExtendable self.now.pool beginning.now }
+        requires short { IsExtendable (J.search self.now.judge.now) self.now.pool beginning.now }
         ensures { (sequences : List (List ℕ))
             → IsBatch (J.search self.now.judge.now) self.now.keeps sequences batch.old
             → OnOk result (IsBatch (J.search self.now.judge.now) self.now.keeps
             (sequences ++ extensions_of self.now.pool beginning.now.items) batch.new) }
     {
+        let begun = self.judge.begin(beginning)?;
         for place in 0..self.pool {
-            self.try_one(batch, beginning, place)?;
+            self.try_one(batch, beginning, &begun, place)?;
         }
         Ok(())
     }
 
-    /// Tries a beginning followed by one operation.
+    /// Tries a beginning, of which this was made, followed by one operation.
     fn try_one(
         &self,
         batch: &mut Batch<A>,
         beginning: &Places,
+        begun: &J::Begun,
         place: usize,
     ) -> Result<(), AllocError>
         requires room { BatchHasRoom (J.search self.now.judge.now) self.now.keeps 1 batch.old }
-        requires short { IsExtendable self.now.pool beginning.now }
+        requires short { length beginning.now.items < 8 }
+        requires begun { J.is_begun self.now.judge.now beginning.now.items begun.now }
         requires among { place < self.now.pool }
         ensures { (sequences : List (List ℕ))
             → IsBatch (J.search self.now.judge.now) self.now.keeps sequences batch.old
             → OnOk result (IsBatch (J.search self.now.judge.now) self.now.keeps
             (sequences ++ (beginning.now.items ++ place ∷ []) ∷ []) batch.new) }
     {
-        let places = extended(beginning, place);
-        let verdict = self.judge.judge(&places)?;
+        let verdict = self.judge.judge_longer(begun, place)?;
         self.tell(&verdict);
+        let places = extended(beginning, place);
         batch.tally.add(&places, &verdict);
         if self.keeps && passes(&verdict) {
             batch.passing.push(places)?;

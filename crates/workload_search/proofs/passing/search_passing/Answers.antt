@@ -16,7 +16,7 @@ pub try_level-requires-clause-short : goal.try_level-requires-clause-short
 try_level-requires-clause-short g c κs within =
     let beginnings = c.loop-made.beginnings in
     let pool = c.args.pool in
-    subst (All (IsExtendable pool)) (sym c.deref.ensures.value)
+    subst (All (IsExtendable (g.J.Judge.search c.args.judge.now) pool)) (sym c.deref.ensures.value)
     (all_extendable (g.J.Judge.search c.args.judge.now) pool c.loop-made.made beginnings.items c.requires.pool
     (omega (arith, c.loop-made-test.true, c.requires.range.1))
     (c.loop-made.invariant.searched.fronts (omega (arith, c.loop-made-test.true, c.requires.most))))

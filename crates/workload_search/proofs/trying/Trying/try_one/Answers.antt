@@ -1,22 +1,11 @@
-use Rattle.std.proofs.Common.{length, sym, ◌∙◌, ◌++◌, ◌∷◌, [], inl, inr, refl}
+use Rattle.std.proofs.Common.{sym, ◌∙◌, ◌++◌, ◌∷◌, [], inl, inr, refl}
 use Rattle.workload_search.proofs.Batches.{tally_room, batch_kept, batch_left}
-use Rattle.workload_search.proofs.Parts.{longer_some, longer_among}
 use Rattle.workload_search.proofs.trying.Trying.try_one.Goals as goal
 use Rattle.workload_search.proofs.trying.Trying.try_one.Goals.{else-self-via-then-self+else-passes}
 use Rattle.workload_search.proofs.trying.Trying.try_one.Goals.{else-self-via-else-self}
 
-pub extended-places-requires : goal.extended-places-requires
-extended-places-requires g c = c.requires.short.short
-
-pub judge-requires-clause-some : goal.judge-requires-clause-some
-judge-requires-clause-some g c =
-    longer_some c.args.beginning.now.items c.args.place c.extended-places.result.items c.extended-places.ensures
-
-pub judge-requires-clause-among : goal.judge-requires-clause-among
-judge-requires-clause-among g c =
-    longer_among c.args.self.now.pool (length (g.J.Judge.search c.args.self.now.judge.now).pool) c.args.beginning.now
-    c.args.place c.extended-places.result.items c.requires.short c.requires.among c.args.self.now.whole
-    c.extended-places.ensures
+pub judge_longer-requires-clause-begun : goal.judge_longer-requires-clause-begun
+judge_longer-requires-clause-begun g c = (c.args.beginning.now.items, c.requires.begun)
 
 pub add-requires : goal.add-requires
 add-requires g c = tally_room (g.J.Judge.search c.args.self.now.judge.now) c.args.self.now.keeps 1 c.args.batch.now
@@ -26,14 +15,15 @@ pub returns-in_ok-push : goal.returns-in_ok-push
 returns-in_ok-push g c = λ sequences is.
     batch_kept (g.J.Judge.search c.args.self.now.judge.now) c.args.self.now.keeps sequences c.extended-places.result
     (c.args.beginning.now.items ++ c.args.place ∷ []) c.in_ok-verdict.verdict c.args.batch.now _ is
-    c.extended-places.ensures c.in_ok-verdict.ensures (c.add.ensures is.tried is.tally) c.if-self.true
-    (sym c.passes.ensures ∙ c.if-passes.true) c.in_ok-push.ensures.items
+    c.extended-places.ensures (c.in_ok-verdict.ensures c.args.beginning.now.items c.requires.begun)
+    (c.add.ensures is.tried is.tally) c.if-self.true (sym c.passes.ensures ∙ c.if-passes.true) c.in_ok-push.ensures.items
 
 pub returns-else-self : goal.returns-else-self
 returns-else-self g c = λ sequences is.
     batch_left (g.J.Judge.search c.args.self.now.judge.now) c.args.self.now.keeps sequences
     c.extended-places.result.items (c.args.beginning.now.items ++ c.args.place ∷ []) c.in_ok-verdict.verdict
-    c.args.batch.now _ is c.extended-places.ensures c.in_ok-verdict.ensures (c.add.ensures is.tried is.tally)
+    c.args.batch.now _ is c.extended-places.ensures
+    (c.in_ok-verdict.ensures c.args.beginning.now.items c.requires.begun) (c.add.ensures is.tried is.tally)
     (elim c.else-self.branch [
       | else-self-via-then-self+else-passes w ↦ inr (sym w.passes.ensures ∙ w.if-passes.false)
       | else-self-via-else-self w ↦ inl w.if-self.false

@@ -1,0 +1,51 @@
+use Rattle.std.proofs.Common.{◌<◌, List, sym, subst}
+use Rattle.std.specs.Prelude.{IfOk}
+use Rattle.std.specs.List.{All}
+use Rattle.std.proofs.lemmas.Result.{IfOk-weaker}
+use Rattle.std.proofs.Math.Logic.{∥∥₁_elim}
+use Rattle.crash_model.specs.declared.patches.Patch.{Patch}
+use Rattle.full_journal_laws.proofs.Safe.{traced_is_safe}
+use Rattle.search_model.specs.Workloads.{steps_at}
+use Rattle.pool_judging.specs.Judging.{search_by, IsVerdictOn}
+use Rattle.pool_judging.proofs.Beginnings.{graph_at, fits_at, patches_of}
+use Rattle.pool_judging.proofs.Verdicts.{verdict_on, never_fails, no_failure_prop}
+use Rattle.pool_judging.proofs.judge.PoolJudge.judge_trace.Goals as goal
+
+pub judge_graph-requires : goal.judge_graph-requires
+judge_graph-requires g c =
+    let s = search_by c.args.self.now in
+    subst (All (λ patch. patch.block < s.base.blocks)) (sym c.graph.ensures)
+    (fits_at s c.args.places.now.items c.args.tracer c.into_traced-traced.result.patches c.requires.trace
+    c.into_traced-traced.ensures.fits)
+
+pub returns-clause-verdict : goal.returns-clause-verdict
+returns-clause-verdict g c =
+    let s = search_by c.args.self.now in
+    let places = c.args.places.now.items in
+    let patches = c.into_traced-traced.result.patches in
+    let demands = c.in_ok-demands.demands in
+    let is = patches_of s places c.args.tracer demands patches c.requires.trace c.into_traced-traced.ensures.graph
+    c.in_ok-demands.ensures in
+    IfOk-weaker c.judge_graph.result _ _ (λ verdict on. verdict_on s places demands patches verdict is on)
+    (subst (λ (ps : List Patch). IfOk c.judge_graph.result (IsVerdictOn demands s.base ps)) c.graph.ensures
+    c.judge_graph.ensures)
+
+pub returns-clause-full : goal.returns-clause-full
+returns-clause-full g c = λ is.
+    let j = c.args.self.now in
+    let s = search_by j in
+    let places = c.args.places.now.items in
+    let steps = steps_at s.pool places in
+    let t = c.args.tracer in
+    let patches = c.into_traced-traced.result.patches in
+    let demands = c.in_ok-demands.demands in
+    let disk = c.blocks-blocks.ensures.disk in
+    let trace = c.requires.trace in
+    let graph = graph_at s places t patches trace c.into_traced-traced.ensures.graph in
+    let on = subst (λ (ps : List Patch). IfOk c.judge_graph.result (IsVerdictOn demands s.base ps)) c.graph.ensures
+    c.judge_graph.ensures in
+    ∥∥₁_elim j.sound (no_failure_prop c.judge_graph.result)
+    (λ sound. let safe = traced_is_safe s.ordering s.rules s.whole s.base steps t.tracing patches is.full is.all disk
+    sound.0 sound.1 trace.names trace.traced graph in
+    IfOk-weaker c.judge_graph.result _ _ (λ verdict is_on. never_fails s.strict s.atomic s.whole demands s.base steps
+    patches verdict disk c.in_ok-demands.ensures safe is_on) on)

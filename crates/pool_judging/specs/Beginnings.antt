@@ -1,0 +1,22 @@
+-- The traces of sequences of operations of a pool.
+use Rattle.std.specs.Prelude.{◌≡◌, ℕ, ◌+◌, ◌<◌, ◌≤◌, List, length, Ok}
+use Rattle.std.specs.List.{All}
+use Rattle.order_modules.specs.Tracer.{Trace, GivesNames}
+use Rattle.search_model.specs.Workloads.{Search, steps_at, trace_at}
+use Rattle.pool_judging.specs.declared.begun.Begun.{Begun}
+
+-- the trace of the operations at these places
+pub record IsTraceAt (s : Search) (places : List ℕ) (t : Trace) : Type 0 where
+  pub base : t.log.base ≡ s.base
+  pub kind : t.log.kind ≡ s.ordering
+  pub rules : t.log.rules ≡ s.rules
+  pub turns : t.tracing.turn ≤ length places + 1
+  pub traced : trace_at s places ≡ Ok t.tracing
+  pub names : All GivesNames (steps_at s.pool places)
+
+-- what is made of the beginning with the operations at these places
+pub record IsBegun {A : Type 0} (s : Search) (places : List ℕ) (begun : Begun A) : Type 0 where
+  pub same : begun.places.items ≡ places
+  pub short : length places < 8
+  pub among : All (λ place. place < length s.pool) places
+  pub is : IsTraceAt s places begun.tracer
