@@ -1,12 +1,19 @@
 -- Rows that hold the sets of the fullest shard do not overfill.
-use Rattle.std.proofs.Common.{◌≡◌, ℕ, ◌+◌, ◌<◌, ◌≤◌, ◌%◌, List, length, get_or, All, arith, inl, inr, sym, subst}
+use Rattle.std.proofs.Common.{◌≡◌, ℕ, ◌+◌, ◌<◌, ◌≤◌, ◌%◌, List, length, get_or, All, arith, inl, inr, refl, sym, subst}
+use Rattle.std.specs.Prelude.{Result, Ok, Err, IfErr, IsErrAnd}
 use Rattle.std.proofs.Math.Nat.{lt_of_not-le, mod-lt}
 use Rattle.std.proofs.lemmas.List.Elements.{All-weaker}
 use Rattle.state_space.specs.Counts.{HoldsOf, Outnumbers}
 use Rattle.state_space.proofs.Counting.{not_more}
 use Rattle.board_rule.specs.Rule.{Overfills}
 use Rattle.patch_sets.specs.Closed.{IsClosed}
+use Rattle.patch_sets.specs.declared.explored.ExploreFault.{ExploreFault}
+use Rattle.patch_sets.specs.declared.explored.ExploreFault.TheVariants as explore
+use Rattle.crash_model.specs.ExploreRefusals.{run_of_explore}
+use Rattle.crash_model.specs.declared.patches.Patch.{Patch}
+use Rattle.crash_model.specs.declared.refusals.RunFault.{RunFault}
 use Rattle.set_sweep.specs.Sweeps.{AreCountsByRemainder}
+use Rattle.failing_sets.specs.Limits.{SaysTooMany}
 
 -- where more words than the limit have a property, more have one that follows from it
 more_of : (P Q : ℕ → Type 0) → ((word : ℕ) → P word → Q word) → (limit : ℕ) → Outnumbers P limit → Outnumbers Q limit
@@ -41,3 +48,11 @@ module _ (deps counts : List ℕ) (sets : ℕ) (counted : HoldsOf (IsClosed deps
         not_more (InShard q) (get_or counts q 0) places (shards q near) (rows q near)
         (more_of (λ w. P w × (w % 13 ≡ q)) (InShard q) (λ w both. (to w both.0, at w both.1)) places more)
   ]
+
+-- a refusal that is not for too many sets is that memory ran out
+pub refused_otherwise : {A : Type 0} (patches : List Patch) (limit : ℕ) (fault : ExploreFault) (result : Result A RunFault)
+    → IsErrAnd result (λ refusal. refusal ≡ run_of_explore fault) → (fault ≡ explore.TooMany → ⊥)
+    → IfErr result (SaysTooMany patches limit)
+refused_otherwise patches limit fault (Ok x) is never = absurd is
+refused_otherwise patches limit explore.TooMany (Err e) is never = absurd (never refl)
+refused_otherwise patches limit explore.OutOfMemory (Err e) is never = λ other. absurd (other is)
