@@ -52,4 +52,4 @@ acts_of n (line ∷ lines) steps (inr (act, later, says, are, is)) =
 pub are_acts : (bytes : List ℕ) (before steps : List Step) → IsScript bytes before steps
     → All (λ step. IsAct step.act) steps
 are_acts bytes before steps script =
-    acts_of (length script.before + 2) script.behind steps script.traced_steps
+    acts_of (length script.before + 2) script.after steps script.traced_steps
