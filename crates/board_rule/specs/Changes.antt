@@ -1,5 +1,5 @@
 -- What steps make of a view.
-use Rattle.std.specs.Prelude.{ℕ, ◌+◌, max, List, [], ◌∷◌, ◌++◌, length, slice_set, replicate, cond, ◌==◌, ◌/◌, ◌%◌}
+use Rattle.std.specs.Prelude.{ℕ, ◌+◌, max, List, [], ◌∷◌, ◌++◌, length, slice_set, replicate, if◌then◌else◌, ◌==◌, ◌/◌, ◌%◌}
 use Rattle.board_rule.specs.declared.shards.TheConstants.{SHARDS}
 use Rattle.board_rule.specs.Layout.{half, length_word, low_word, high_word, index_word, size_for, place_of, slot}
 use Rattle.board_rule.specs.Lists.{row_of, longer_rows, agree}
@@ -125,7 +125,7 @@ abbrev pub spent_view : View
 spent_view = idle_view 0 0 (replicate SHARDS []) 0
 
 abbrev pub either_one : ℕ → ℕ → ℕ
-either_one a b = cond (a == 1) a b
+either_one a b = if a == 1 then a else b
 
 -- what two seats know together. Where what they have seen disagrees the seat would be at a shard 13, which the rule
 -- excludes
@@ -133,7 +133,7 @@ abbrev pub both_views : View → View → View
 both_views v w = record v {
   rows = record v.rows {
     seen = longer_rows v.rows.seen w.rows.seen;
-    held = cond (agree v.rows.seen w.rows.seen) v.rows.held SHARDS;
+    held = if agree v.rows.seen w.rows.seen then v.rows.held else SHARDS;
     added = v.rows.added ++ w.rows.added;
   };
   lives = record v.lives {

@@ -3,7 +3,7 @@
 -- their rows, each of them 8 words after the one before, so that no two share a cache line; then four blocks
 -- with a word for each place of each shard: the low halves of the entries, their high halves, their lives, and the
 -- index. In a block the shards take turns, so that each address is linear in the place.
-use Rattle.std.specs.Prelude.{ℕ, ◌+◌, ◌*◌, ◌/◌, ◌%◌, cond, nat_lt}
+use Rattle.std.specs.Prelude.{ℕ, ◌+◌, ◌*◌, ◌/◌, ◌%◌, if◌then◌else◌, nat_lt}
 use Rattle.board_rule.specs.declared.shards.TheConstants.{SHARDS}
 
 -- a lock's word while a seat has the write right: 2 ^ 32
@@ -51,4 +51,4 @@ slot places x t = (x / SHARDS + t) % places
 
 -- how many index words a word has
 abbrev pub window : ℕ → ℕ
-window places = cond (nat_lt places 8) places 8
+window places = if nat_lt places 8 then places else 8

@@ -1,6 +1,6 @@
 -- Rows of words, and sums over lists.
 use Rattle.std.specs.Prelude.{◌≡◌, ℕ, zero, suc, ◌+◌, ◌%◌, ◌<◌, Bool, true, false, List, [], ◌∷◌, ◌++◌, length}
-use Rattle.std.specs.Prelude.{slice_index, slice_index_or, cond, ◌==◌, nat_lt}
+use Rattle.std.specs.Prelude.{slice_index, slice_index_or, if◌then◌else◌, ◌==◌, nat_lt}
 use Rattle.board_rule.specs.declared.shards.TheConstants.{SHARDS}
 
 -- the row of shard q
@@ -28,11 +28,11 @@ first_values f (suc n) = f 0 ∷ first_values (λ k. f (suc k)) n
 abbrev pub is_start : List ℕ → List ℕ → Bool
 is_start [] bs = true
 is_start (a ∷ xs) [] = false
-is_start (a ∷ xs) (b ∷ bs) = cond (a == b) (is_start xs bs) false
+is_start (a ∷ xs) (b ∷ bs) = if a == b then is_start xs bs else false
 
 -- the longer list
 abbrev pub longer_row : List ℕ → List ℕ → List ℕ
-longer_row a b = cond (nat_lt (length a) (length b)) b a
+longer_row a b = if nat_lt (length a) (length b) then b else a
 
 abbrev pub longer_rows : List (List ℕ) → List (List ℕ) → List (List ℕ)
 longer_rows [] bs = []
@@ -43,4 +43,5 @@ longer_rows (a ∷ xs) (b ∷ bs) = longer_row a b ∷ longer_rows xs bs
 abbrev pub agree : List (List ℕ) → List (List ℕ) → Bool
 agree [] bs = true
 agree (a ∷ xs) [] = true
-agree (a ∷ xs) (b ∷ bs) = cond (cond (nat_lt (length a) (length b)) (is_start a b) (is_start b a)) (agree xs bs) false
+agree (a ∷ xs) (b ∷ bs) =
+    if (if nat_lt (length a) (length b) then is_start a b else is_start b a) then agree xs bs else false

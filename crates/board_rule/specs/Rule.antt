@@ -1,5 +1,5 @@
 -- The rule of a board's table: one fact for each subject.
-use Rattle.std.specs.Prelude.{◌≡◌, ℕ, ◌+◌, ◌*◌, ◌/◌, ◌%◌, ◌^◌, ◌<◌, ◌≤◌, ◌⊎◌, List, [], ◌∷◌, length, slice_index, cond}
+use Rattle.std.specs.Prelude.{◌≡◌, ℕ, ◌+◌, ◌*◌, ◌/◌, ◌%◌, ◌^◌, ◌<◌, ◌≤◌, ◌⊎◌, List, [], ◌∷◌, length, slice_index, if◌then◌else◌}
 use Rattle.std.specs.Prelude.{◌==◌, nat_lt, Contains}
 use Rattle.std.specs.List.{All}
 use Rattle.board_rule.specs.declared.shards.TheConstants.{SHARDS}
@@ -21,7 +21,7 @@ EachSeat F views = (j : ℕ) (v : View) → get_elem? views j ≡ some v → F v
 
 -- what a seat weighs in the lock of shard q
 abbrev pub weight : ℕ → View → ℕ
-weight q v = cond (v.rows.held == q) v.rows.right 0
+weight q v = if v.rows.held == q then v.rows.right else 0
 
 -- Locks: all rights of a shard weigh no more than its lock word, and the lock word no more than one writer.
 abbrev pub LocksOk : List ℕ → List View → Type 0
@@ -64,7 +64,7 @@ pub record SeatOk (places : ℕ) (rows : List (List ℕ)) (words : List ℕ) (r 
 
 -- how often the place p is among these
 abbrev pub times_among : ℕ → List ℕ → ℕ
-times_among p places = total (λ x. cond (x == p) 1 0) places
+times_among p places = total (λ x. if x == p then 1 else 0) places
 
 -- how often a seat has published the place p
 abbrev pub times : ℕ → View → ℕ
@@ -72,7 +72,7 @@ times p v = times_among p v.rows.added
 
 -- 1 for a place that is published, else 0
 abbrev pub is_published : List (List ℕ) → ℕ → ℕ
-is_published rows p = cond (nat_lt (p / SHARDS) (length (row_of rows (p % SHARDS)))) 1 0
+is_published rows p = if nat_lt (p / SHARDS) (length (row_of rows (p % SHARDS))) then 1 else 0
 
 -- the place of the start
 abbrev pub start_place : ℕ → ℕ
@@ -81,12 +81,12 @@ start_place origin = place_of (origin % SHARDS) 0
 -- Authors: each place that is published but the start's was published by one seat, once, and no other place was. So
 -- there is one entry more than there are such places.
 pub record AddedOk (origin : ℕ) (rows : List (List ℕ)) (views : List View) : Type 0 where
-  pub once : (p : ℕ) → total (times p) views + cond (p == start_place origin) 1 0 ≡ is_published rows p
+  pub once : (p : ℕ) → total (times p) views + (if p == start_place origin then 1 else 0) ≡ is_published rows p
   pub many : total length rows ≡ total (λ v. length v.rows.added) views + 1
 
 -- what a seat has of the claim on the place p
 abbrev pub claims_at : ℕ → View → ℕ
-claims_at p v = cond (v.lives.place == p) v.lives.claims 0
+claims_at p v = if v.lives.place == p then v.lives.claims else 0
 
 -- with the claims that it has given up
 abbrev pub claims_on : ℕ → View → ℕ

@@ -1,5 +1,5 @@
 -- What clauses say of seats and places.
-use Rattle.std.specs.Prelude.{◌≡◌, ◌≢◌, ◌⊎◌, ℕ, ◌+◌, ◌<◌, Bool, cond, List, [], ◌∷◌, ◌++◌, length, slice_index}
+use Rattle.std.specs.Prelude.{◌≡◌, ◌≢◌, ◌⊎◌, ℕ, ◌+◌, ◌<◌, Bool, if◌then◌else◌, List, [], ◌∷◌, ◌++◌, length, slice_index}
 use Rattle.std.specs.Prelude.{replicate, ◌%◌, Contains}
 use Rattle.board_rule.specs.declared.shards.TheConstants.{SHARDS}
 use Rattle.board_rule.specs.Layout.{writer, place_of}
@@ -63,7 +63,7 @@ abbrev pub with_met : Known → Place → Life → Known
 with_met s place life = record s { learned = s.learned ++ (number place, life) ∷ [] }
 
 abbrev pub verdict_life : Bool → Life
-verdict_life good = cond good Clean Broken
+verdict_life good = if good then Clean else Broken
 
 -- what two seats know together, with what they have seen
 abbrev pub both_known : Known → Known → List (List ℕ) → Known

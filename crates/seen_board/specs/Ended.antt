@@ -1,5 +1,5 @@
 -- What a closed board holds.
-use Rattle.std.specs.Prelude.{◌≡◌, ◌⊎◌, ℕ, ◌+◌, ◌/◌, ◌%◌, ◌<◌, ◌≤◌, List, length, slice_index, cond, ◌==◌, Contains}
+use Rattle.std.specs.Prelude.{◌≡◌, ◌⊎◌, ℕ, ◌+◌, ◌/◌, ◌%◌, ◌<◌, ◌≤◌, List, length, slice_index, if◌then◌else◌, ◌==◌, Contains}
 use Rattle.std.specs.List.{concat}
 use Rattle.state_space.specs.declared.limits.TheConstants.{MAX_BOARD}
 use Rattle.board_rule.specs.declared.shards.TheConstants.{SHARDS}
@@ -75,11 +75,11 @@ pub record IsDone (next : ℕ → List ℕ) (origin : ℕ) (e : Ended) : Type 0 
 -- what one seat with the whole board knows is all that happened
 pub record Accounts (origin : ℕ) (s : Known) (e : Ended) : Type 0 where
   -- the places of its answers New and the start's are, each once, the places of the entries
-  pub places : (p : ℕ) → times_among p s.added + cond (p == start_place origin) 1 0 ≡ is_published e.rows p
+  pub places : (p : ℕ) → times_among p s.added + (if p == start_place origin then 1 else 0) ≡ is_published e.rows p
   pub entries : total length e.rows ≡ length s.added + 1
   pub count : e.count ≡ length s.added + 1
   -- an entry is claimed exactly if its claim is held or given up, and by one call
-  pub claimed : (q k : ℕ) → q < SHARDS → cond (s.place == place_of q k) s.claims 0
+  pub claimed : (q k : ℕ) → q < SHARDS → (if s.place == place_of q k then s.claims else 0)
       + times_among (place_of q k) s.given_up ≡ is_claimed (slice_index (row_of e.lives q) k)
   -- as many are settled as it has settled, and pending is the number of the others
   pub settled : total (total is_settled) e.lives ≡ s.verdicts

@@ -1,5 +1,5 @@
-use Rattle.std.specs.Prelude.{ℕ, List, [], ◌∷◌, cond, ◌==◌, nat_lt}
+use Rattle.std.specs.Prelude.{ℕ, List, [], ◌∷◌, if◌then◌else◌, ◌==◌, nat_lt}
 
 -- the successors of the four words
 abbrev pub diamond : ℕ → List ℕ
-diamond word = cond (word == 0) (1 ∷ 2 ∷ []) (cond (nat_lt word 3) (3 ∷ []) [])
+diamond word = if word == 0 then 1 ∷ 2 ∷ [] else if nat_lt word 3 then 3 ∷ [] else []
