@@ -1,6 +1,7 @@
 pub mod Lists
 pub mod Needs
 pub mod Parts
+pub mod PartsOfNumbers
 pub mod Picks
 pub mod Roots
 pub mod Shares

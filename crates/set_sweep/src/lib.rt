@@ -7,6 +7,7 @@
 #![tactic(auto)]
 
 mod closing;
+mod dividing;
 mod failing;
 mod joining;
 mod ordering;

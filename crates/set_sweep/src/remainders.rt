@@ -6,6 +6,7 @@ ghost use Rattle.patch_sets.specs.Closed.{AreEarlier, IsClosed};
 ghost use Rattle.set_sweep.specs.Sweeps.{AreClosures, IsRoot, AreSwept, AreShares, AreCountsByRemainder, part_end};
 
 use crate::closing::{closures, next_out};
+use crate::dividing::Divisor;
 
 /// The number of closed sets of a graph, at most the limit; `None` exactly where they outnumber it.
 ///
@@ -26,7 +27,7 @@ pub fn count_by_remainder(deps: &[u128], limit: usize, counts: &mut [usize]) -> 
         deps,
         closures: &closures,
         limit,
-        places: counts.len(),
+        divisor: Divisor::new(counts.len()),
     };
     counter.count_from(deps.len(), 0, 0, counts)
 }
@@ -37,10 +38,9 @@ struct RemainderCounter<'a> {
     deps: &'a [u128],
     closures: &'a [u128],
     limit: usize,
-    places: usize,
+    divisor: Divisor,
     ghost few: { length deps.now < 127 },
     ghost each: { AreClosures deps.now closures.now },
-    ghost some: { 0 < places },
 }
 
 impl RemainderCounter<'_> {
@@ -50,11 +50,11 @@ impl RemainderCounter<'_> {
         requires known { k ≤ length self.now.deps.now }
         requires root { IsRoot self.now.deps.now k set }
         requires within { count ≤ self.now.limit }
-        requires long { length counts.old ≡ self.now.places }
-        requires counted { AreSwept (AreShares self.now.places) self.now.deps.now 0 set count counts.old }
+        requires long { length counts.old ≡ self.now.divisor.by }
+        requires counted { AreSwept (AreShares self.now.divisor.by) self.now.deps.now 0 set count counts.old }
         ensures long { length counts.new ≡ length counts.old }
         ensures counted { MatchOption result (Outnumbers (IsClosed self.now.deps.now) self.now.limit) (λ after.
-            AreSwept (AreShares self.now.places) self.now.deps.now 0 (part_end set k) after counts.new
+            AreSwept (AreShares self.now.divisor.by) self.now.deps.now 0 (part_end set k) after counts.new
             × (after ≤ self.now.limit)) }
     {
         if count == self.limit {
@@ -74,14 +74,13 @@ impl RemainderCounter<'_> {
     fn count_set(&self, set: u128, count: usize, counts: &mut [usize])
         requires closed { IsClosed self.now.deps.now set }
         requires below { count < self.now.limit }
-        requires long { length counts.old ≡ self.now.places }
-        requires counted { AreSwept (AreShares self.now.places) self.now.deps.now 0 set count counts.old }
+        requires long { length counts.old ≡ self.now.divisor.by }
+        requires counted { AreSwept (AreShares self.now.divisor.by) self.now.deps.now 0 set count counts.old }
         ensures long { length counts.new ≡ length counts.old }
-        ensures counted { AreSwept (AreShares self.now.places) self.now.deps.now 0 (set + 1) (count + 1)
+        ensures counted { AreSwept (AreShares self.now.divisor.by) self.now.deps.now 0 (set + 1) (count + 1)
             counts.new }
     {
-        let place = (set % self.places as u128) as usize;
-        counts[place] += 1;
+        counts[self.divisor.remainder(set)] += 1;
     }
 }
 

@@ -9,9 +9,9 @@ decreases-count_from l = l.k
 abbrev pub invariant-loop-id : goal.invariant-loop-id
 invariant-loop-id l = record {
   within : l.count ≤ l.self.limit;
-  long : length l.counts ≡ l.self.places;
+  long : length l.counts ≡ l.self.divisor.by;
   at : IsOutside l.set l.k l.id;
-  counted : AreSwept (AreShares l.self.places) l.self.deps.now 0 (part_end l.set l.id) l.count l.counts;
+  counted : AreSwept (AreShares l.self.divisor.by) l.self.deps.now 0 (part_end l.set l.id) l.count l.counts;
 }
 
 abbrev pub decreases-loop-id : goal.decreases-loop-id
